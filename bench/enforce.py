@@ -1,0 +1,133 @@
+#!/usr/bin/env python3
+"""Times `enforce` on a made-up capture and reports packets per second and the peak of memory.
+
+    bench/enforce.py PROGRAM [--packets N] [--rules N] [--runs N] [--keep DIR]
+
+One peer announces 192.0.2.0/24 and flow rules under it, each for one destination port of TCP. Every other packet goes
+to the prefix, to a port that is drawn from twice as many as there are rules; the rest go elsewhere. The draw is the
+same in each run, so that results compare.
+"""
+
+import argparse
+import os
+import pathlib
+import resource
+import struct
+import subprocess
+import sys
+import tempfile
+import time
+
+CONFIG = """local_as = 65000
+local_id = "192.0.2.254"
+[[peer]]
+number = 1
+address = "198.51.100.1"
+as = 65001
+"""
+
+MARKER = b"\xff" * 16
+PATH = bytes.fromhex("40010100 400206 02010000fde9")
+OPEN = bytes.fromhex("04 fde9 00b4 c6336401 08 0206 41040000fde9")
+UNICAST = bytes.fromhex("0000 0014 40010100 400206 02010000fde9 400304c6336401 18c00002")
+FIRST_PORT = 1000
+
+
+def message(kind, body):
+    return MARKER + struct.pack(">HB", 19 + len(body), kind) + body
+
+
+def flow_update(port):
+    """An UPDATE that discards TCP to one port of 192.0.2.0/24."""
+    nlri = bytes.fromhex("0118c00002 038106 0591") + struct.pack(">H", port)
+    reach = bytes.fromhex("0001 85 00 00") + bytes([len(nlri)]) + nlri
+    attributes = (
+        b"\x80\x0e" + bytes([len(reach)]) + reach + PATH + bytes.fromhex("c01008 8006fde900000000")
+    )
+    return message(2, b"\0\0" + struct.pack(">H", len(attributes)) + attributes)
+
+
+def record(kind, peer, payload=b""):
+    return struct.pack(">BHI", kind, peer, len(payload)) + payload
+
+
+def tape(rules):
+    parts = [b"FSTAPE1\n", record(1, 1), record(2, 1, message(1, OPEN) + message(4, b""))]
+    parts.append(record(2, 1, message(2, UNICAST)))
+    parts += [record(2, 1, flow_update(FIRST_PORT + rule)) for rule in range(rules)]
+    return b"".join(parts)
+
+
+def draws():
+    """A linear congruential generator."""
+    state = 1
+    while True:
+        state = (state * 6364136223846793005 + 1442695040888963407) % 2**64
+        yield state >> 33
+
+
+def packet(destination, port):
+    ip = bytes.fromhex("45000028 00000000 40060000 cb007105") + destination
+    return ip + struct.pack(">HH", 50000, port) + bytes.fromhex("00000000 00000000 50022000 00000000")
+
+
+def write_capture(path, packets, rules):
+    drawn = draws()
+    with open(path, "wb") as out:
+        out.write(struct.pack("<IHHIIII", 0xA1B2C3D4, 2, 4, 0, 0, 262144, 101))
+        for number in range(packets):
+            port = FIRST_PORT + next(drawn) % (2 * rules)
+            prefix = b"\xc0\x00\x02" if number % 2 == 0 else b"\xcb\x00\x71"
+            octets = packet(prefix + bytes([next(drawn) % 256]), port)
+            out.write(struct.pack("<IIII", number // 1000, number % 1000, len(octets), len(octets)))
+            out.write(octets)
+
+
+def run_once(command, folder):
+    start = time.monotonic()
+    with open(folder / "lines", "wb") as lines:
+        status = subprocess.run(command, stdout=lines, check=False).returncode
+    return status, time.monotonic() - start
+
+
+def main():
+    parser = argparse.ArgumentParser(description=__doc__.split("\n", 1)[0])
+    parser.add_argument("program", type=pathlib.Path)
+    parser.add_argument("--packets", type=int, default=1_000_000)
+    parser.add_argument("--rules", type=int, default=100)
+    parser.add_argument("--runs", type=int, default=3)
+    parser.add_argument("--keep", type=pathlib.Path, help="make the files here and leave them")
+    options = parser.parse_args()
+    if not 1 <= options.rules <= 64000:
+        parser.error("--rules is from 1 to 64000")
+
+    with tempfile.TemporaryDirectory() as made:
+        folder = options.keep or pathlib.Path(made)
+        folder.mkdir(parents=True, exist_ok=True)
+        (folder / "config").write_text(CONFIG)
+        (folder / "tape").write_bytes(tape(options.rules))
+        write_capture(folder / "capture", options.packets, options.rules)
+        words = [str(folder / name) for name in ("config", "tape", "capture")]
+        best = None
+        for _ in range(options.runs):
+            status, seconds = run_once([str(options.program.resolve()), "enforce", *words], folder)
+            if status != 0:
+                sys.exit(f"enforce ended with status {status}")
+            best = seconds if best is None else min(best, seconds)
+        with open(folder / "lines", "rb") as lines:
+            text = lines.read()
+        size = os.path.getsize(folder / "capture")
+
+    count = text.count(b"\n")
+    discarded = text.count(b" discard")
+    if count != options.packets:
+        sys.exit(f"{count} lines for {options.packets} packets")
+    peak = resource.getrusage(resource.RUSAGE_CHILDREN).ru_maxrss
+    print(f"packets {options.packets}, rules {options.rules}, discarded {discarded}")
+    print(f"seconds {best:.3f} (best of {options.runs})")
+    print(f"packets per second {options.packets / best:,.0f}, capture MB per second {size / best / 1e6:,.1f}")
+    print(f"peak memory {peak / 1024:.1f} MB")
+
+
+if __name__ == "__main__":
+    main()

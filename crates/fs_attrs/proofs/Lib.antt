@@ -1,0 +1,5 @@
+mod Fields
+mod Gathering
+mod Outcome
+mod Scanning
+pub mod Shrinking

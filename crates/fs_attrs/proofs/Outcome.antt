@@ -1,0 +1,37 @@
+-- What is read of a field of frames is its one outcome.
+use Rattle.std.proofs.Common.{◌≡◌, ℕ, List, Option, Some, Result, Ok, Err, sym, ap}
+use Rattle.fs_base.specs.declared.prefix.Family.{Family}
+use Rattle.fs_nlri.specs.declared.fault.Reason.{Reason}
+use Rattle.fs_nlri.specs.Parts.{Ruled}
+use Rattle.fs_nlri.specs.Feeding.{Frames}
+use Rattle.fs_nlri.specs.Outcome.{AreBadFrames}
+use Rattle.fs_nlri.proofs.Every.{every_field}
+use Rattle.fs_nlri.proofs.OneOutcome.{one_field_outcome}
+use Rattle.fs_base.specs.Language.{IsOctets}
+use Rattle.fs_attrs.specs.declared.update.Routes.{Routes}
+use Rattle.fs_attrs.specs.declared.update.Routes.TheVariants.{Flow}
+use Rattle.fs_nlri.specs.declared.fault.NlriFault.{NlriFault}
+use Rattle.fs_nlri.specs.declared.fault.NlriFault.TheVariants.{Bad, Memory as NoMemory}
+use Rattle.fs_attrs.specs.Reading.{ReadsAs, field_fault}
+use Rattle.fs_attrs.specs.Rules.{rules_of, IsFieldFault}
+use Rattle.fs_attrs.specs.Update.{Wrong, flow_routes}
+
+abbrev routes_at : Family → Result (List Ruled) (Reason × ℕ) → Result (Option Routes) Wrong
+routes_at family found = elim found [ Ok rules ↦ Ok (Some (Flow family rules)) | Err bad ↦ Err (Some bad) ]
+
+outcome_is : (family : Family) (octets : List ℕ) (rules : List Ruled) → IsOctets octets → Frames family octets rules → rules_of family octets ≡ Ok rules
+unfolding rules_of
+outcome_is family octets rules small frames = one_field_outcome family octets (every_field family octets).result (Ok rules) small (every_field family octets).holds frames
+
+fault_is : (family : Family) (octets : List ℕ) (reason : Reason) (place : ℕ) → IsOctets octets → AreBadFrames family octets reason place → rules_of family octets ≡ Err (reason, place)
+unfolding rules_of
+fault_is family octets reason place small bad =
+    one_field_outcome family octets (every_field family octets).result (Err (reason, place)) small (every_field family octets).holds bad
+
+pub flow_found : (family : Family) (octets : List ℕ) (rules : List Ruled) → IsOctets octets → Frames family octets rules → flow_routes family octets ≡ Ok (Some (Flow family rules))
+flow_found family octets rules small frames = ap (routes_at family) (outcome_is family octets rules small frames)
+
+pub flow_bad : (family : Family) (octets : List ℕ) (fault : NlriFault) → IsOctets octets → IsFieldFault family octets fault
+    → ReadsAs (Err (field_fault fault)) (flow_routes family octets)
+flow_bad family octets (Bad reason place) small bad = ap (routes_at family) (fault_is family octets reason place small bad)
+flow_bad family octets NoMemory small bad = tt

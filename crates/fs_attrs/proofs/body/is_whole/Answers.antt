@@ -1,0 +1,12 @@
+use Rattle.std.proofs.Common.{◌≡◌, ◌==◌, Bool, true, false, not, ◌&&◌, nat_le, ℕ, List, [], ◌∷◌, ◌++◌, Option, Some, None, length, refl, sym, ap, ◌∙◌, arith}
+use Rattle.std.proofs.lemmas.Bool.Decides.{nat_tests}
+use Rattle.fs_attrs.specs.Reading.{lent}
+use Rattle.fs_attrs.proofs.Scanning.{whole_more, whole_end}
+use Rattle.fs_attrs.proofs.body.is_whole.Goals as goal
+
+pub loop-behind-preserved : goal.loop-behind-preserved
+loop-behind-preserved c =
+    sym (whole_more c.loop-behind.rest.now (lent c.in-Some.field-0-0, c.in-Some.behind.now) (sym c.in-Some.ensures)) ∙ c.loop-behind.invariant
+
+pub returns : goal.returns
+returns c = c.is_empty.ensures ∙ sym (whole_end c.loop-behind.rest.now (sym c.in_default.ensures)) ∙ c.loop-behind.invariant

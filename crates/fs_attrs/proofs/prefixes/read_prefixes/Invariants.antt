@@ -1,0 +1,13 @@
+use Rattle.std.proofs.Common.{◌≡◌, ℕ, length}
+use Rattle.std.specs.Prelude.{map}
+use Rattle.fs_base.specs.Parts.{parts_of}
+use Rattle.fs_nlri.specs.Rule.{shown}
+use Rattle.fs_attrs.specs.Prefixes.{first_prefix}
+use Rattle.fs_attrs.proofs.Gathering.{behind}
+use Rattle.fs_attrs.proofs.prefixes.read_prefixes.Given as goal
+
+abbrev pub invariant-loop-prefix : goal.invariant-loop-prefix
+invariant-loop-prefix l = behind (map shown l.prefixes.items) (parts_of (first_prefix l.family) l.rest) ≡ parts_of (first_prefix l.family) l.octets
+
+abbrev pub decreases-loop-prefix : goal.decreases-loop-prefix
+decreases-loop-prefix l = length l.rest

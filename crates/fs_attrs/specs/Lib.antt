@@ -1,0 +1,6 @@
+pub mod Attributes
+pub mod Prefixes
+pub mod Paths
+pub mod Rules
+pub mod Update
+pub mod Reading

@@ -1,0 +1,16 @@
+//! The bodies of UPDATE messages (RFC 4271, RFC 4760, RFC 7606, RFC 8955, RFC 8956).
+#![tactic(auto)]
+
+mod body;
+mod lists;
+mod path;
+mod prefixes;
+mod read;
+mod routes;
+#[cfg(test)]
+mod tests;
+mod update;
+
+pub use lists::{PrefixList, RuleList};
+pub use read::read_update;
+pub use update::{Routes, Terms, Update, UpdateFault, WriteFault};

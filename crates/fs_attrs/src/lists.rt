@@ -1,0 +1,91 @@
+//! Lists of routes, which contracts see as lists.
+
+ghost use Rattle.std.specs.Prelude.{◌≡◌, ◌==◌, length, map};
+ghost use Rattle.fs_nlri.specs.Rule.{shown};
+
+use fs_base::Prefix;
+use fs_nlri::Rule;
+use std::marker::Model;
+
+/// Unicast prefixes. A contract sees each as its family, bits and length.
+#[derive(Drop)]
+pub struct PrefixList {
+    items: Vec<Prefix>,
+}
+
+impl Model for PrefixList {
+    ghost use Rattle.std.specs.Prelude.{ℕ, List, map};
+    ghost use Rattle.fs_base.specs.declared.prefix.Family.{Family};
+    ghost use Rattle.fs_nlri.specs.Rule.{shown};
+
+    ghost Value = { List (Family × ℕ × ℕ) };
+
+    ghost view = { λ a. map shown a.items.items };
+}
+
+impl PrefixList {
+    pub fn new(items: Vec<Prefix>) -> PrefixList
+        ensures { result ≡ map shown items.items }
+    {
+        PrefixList { items }
+    }
+
+    pub fn is_empty(&self) -> bool
+        ensures { result ≡ (length self.now == 0) }
+    {
+        self.items.is_empty()
+    }
+
+    pub fn as_slice(&self) -> &[Prefix]
+        ensures { map shown result.now ≡ self.now }
+    {
+        self.items.as_slice()
+    }
+
+    pub fn into_vec(self) -> Vec<Prefix>
+        ensures { map shown result.items ≡ self }
+    {
+        self.items
+    }
+}
+
+/// Rules, as an UPDATE lists them.
+#[derive(Drop)]
+pub struct RuleList {
+    items: Vec<Rule>,
+}
+
+impl Model for RuleList {
+    ghost use Rattle.std.specs.Prelude.{List};
+    ghost use Rattle.fs_nlri.specs.Parts.{Ruled};
+
+    ghost Value = { List Ruled };
+
+    ghost view = { λ a. a.items.items };
+}
+
+impl RuleList {
+    pub fn new(items: Vec<Rule>) -> RuleList
+        ensures { result ≡ items.items }
+    {
+        RuleList { items }
+    }
+
+    pub fn is_empty(&self) -> bool
+        ensures { result ≡ (length self.now == 0) }
+    {
+        self.items.is_empty()
+    }
+
+    pub fn as_slice(&self) -> &[Rule]
+        ensures { result.now ≡ self.now }
+    {
+        self.items.as_slice()
+    }
+
+    pub fn into_vec(self) -> Vec<Rule>
+        ensures { result.items ≡ self }
+    {
+        self.items
+    }
+}

@@ -1,0 +1,71 @@
+//! Unicast prefixes (RFC 4271, section 4.3).
+
+ghost use Rattle.std.specs.Prelude.{◌≡◌, ◌==◌, ◌+◌, ◌-◌, ◌*◌, ◌^◌, ◌≤◌, length, map, Some, None, if◌then◌else◌, option_map, IfOk};
+ghost use Rattle.byteorder.specs.Endian.{big_number};
+ghost use Rattle.fs_nlri.specs.Rule.{shown};
+ghost use Rattle.fs_attrs.specs.Prefixes.{first_prefix, are_prefixes, prefixes_of};
+
+use crate::lists::PrefixList;
+use byteorder::{BigEndian, ByteOrder};
+use fs_base::{Family, Memory, Prefix};
+use std::alloc::Global;
+
+/// The prefixes of a field, or None where one is malformed.
+pub(crate) fn read_prefixes(
+    alloc: Global,
+    family: Family,
+    octets: &[u8],
+) -> Result<Option<PrefixList>, Memory>
+    ensures { IfOk result (λ found. found ≡ (if are_prefixes family octets.now then Some (prefixes_of family octets.now) else None)) }
+{
+    let mut prefixes = Vec::new(alloc);
+    let mut rest = octets;
+    while let Some((prefix, behind)) = next_prefix(family, rest) {
+        prefixes.push(prefix)?;
+        rest = behind;
+    }
+    Ok(list_at_end(prefixes, rest))
+}
+
+/// The list, where nothing but prefixes stood there.
+fn list_at_end(prefixes: Vec<Prefix>, rest: &[u8]) -> Option<PrefixList>
+    ensures { result ≡ (if length rest.now == 0 then Some (map shown prefixes.items) else None) }
+{
+    if rest.is_empty() {
+        return Some(PrefixList::new(prefixes));
+    }
+    None
+}
+
+/// The prefix at the front, and what follows it.
+fn next_prefix(family: Family, octets: &[u8]) -> Option<(Prefix, &[u8])>
+    ensures { option_map (λ found. (shown found.0, found.1.now)) result ≡ first_prefix family octets.now }
+{
+    let [length, rest @ ..] = octets else {
+        return None;
+    };
+    let count = (usize::from(*length) + 7) / 8;
+    if *length > family.width() || rest.len() < count {
+        return None;
+    }
+    let Some(prefix) = Prefix::new(
+        family,
+        left_aligned(&rest[..count], family.width()),
+        *length,
+    ) else {
+        return None;
+    };
+    Some((prefix, &rest[count..]))
+}
+
+/// The octets as the highest of a number of `width` bits.
+fn left_aligned(octets: &[u8], width: u8) -> u128
+    requires fits { 8 * length octets.now ≤ width }
+    requires width { width ≤ 128 }
+    ensures { result ≡ big_number (length octets.now) octets.now * 2 ^ (width - 8 * length octets.now) }
+{
+    if octets.is_empty() {
+        return 0;
+    }
+    BigEndian::read_uint128(octets, octets.len()) << (usize::from(width) - 8 * octets.len())
+}

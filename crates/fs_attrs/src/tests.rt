@@ -1,0 +1,168 @@
+use super::*;
+use fs_base::{Address, Family};
+use fs_nlri::Reason;
+use std::test::Fail;
+
+const EXTERNAL: Terms = Terms {
+    external: true,
+    four: true,
+    address: Address::V4(0xc6336401),
+};
+
+/// 192.0.2.0/24 of AS 65001, with a next hop and without.
+const UNICAST: &str = "0000001440010100400206020100 00fde9400304c633640118c00002";
+
+/// The rule of 192.0.2.0/24, protocol 6 and port 25, of AS 65001, with a rate of 0.
+const FLOW: &str =
+    "0000002c800e110001850000 0b0118c00002038106048119 400101004002060201 0000fde9c010088006fde900000000";
+
+fn octets(rt: &HostRuntime, text: &str) -> Result<Vec<u8>, Fail> {
+    let mut digits = String::new(rt.alloc());
+    for part in text.split_whitespace() {
+        digits.push_str(part)?;
+    }
+    Ok(hex::decode(rt.alloc(), digits.as_str())?)
+}
+
+fn read(rt: &HostRuntime, text: &str, terms: &Terms) -> Result<Result<Update, UpdateFault>, Fail> {
+    let body = octets(rt, text)?;
+    Ok(read_update(rt.alloc(), &body, terms))
+}
+
+#[test]
+fn reads_a_unicast_route(rt: HostRuntime) -> Result<(), Fail> {
+    let update = read(&rt, UNICAST, &EXTERNAL)?.ok().ok_or("a fault")?;
+    assert_eq!(rt; update.classic_in.as_slice().len(), 1);
+    let prefix = update.classic_in.as_slice()[0];
+    assert_eq!(rt;
+        (prefix.family, prefix.bits, prefix.length),
+        (Family::V4, 0xc0000200, 24)
+    );
+    assert!(rt; update.classic_out.is_empty());
+    assert!(rt; update.reach.is_none());
+    assert!(rt; update.unreach.is_none());
+    assert!(rt; !update.as_withdraw);
+    let path = update.path.ok_or("no path")?;
+    assert_eq!(rt; path.origin, 0);
+    assert_eq!(rt; path.local_pref, 100);
+    assert!(rt; path.external);
+    assert_eq!(rt; path.segments.as_slice().len(), 1);
+    let segment = &path.segments.as_slice()[0];
+    assert_eq!(rt; segment.form, 2);
+    assert_eq!(rt; segment.numbers.as_slice(), [65001].as_slice());
+    Ok(())
+}
+
+#[test]
+fn reads_a_flow_route(rt: HostRuntime) -> Result<(), Fail> {
+    let update = read(&rt, FLOW, &EXTERNAL)?.ok().ok_or("a fault")?;
+    assert!(rt; !update.as_withdraw);
+    assert!(rt; update.path.is_some());
+    assert_eq!(rt; update.actions.as_slice().len(), 1);
+    let Some(Routes::Flow(family, rules)) = &update.reach else {
+        return Err("no flow routes".into());
+    };
+    assert_eq!(rt; *family, Family::V4);
+    assert_eq!(rt; rules.as_slice().len(), 1);
+    assert_eq!(rt; rules.as_slice()[0].components().len(), 3);
+    Ok(())
+}
+
+#[test]
+fn tells_the_first_fault(rt: HostRuntime) -> Result<(), Fail> {
+    let order = UpdateFault::Optional(Some((Reason::Order, 3)));
+    let cut = UpdateFault::Optional(Some((Reason::Length, 3)));
+    let rows = [
+        ("", UpdateFault::List),
+        ("0001", UpdateFault::List),
+        ("0000 0004 40010200", UpdateFault::List),
+        ("0000 000c 800f03000101 800f03000101", UpdateFault::List),
+        ("0001 21 0006 800f03000101 21", UpdateFault::Network),
+        ("0000 0000 18c000", UpdateFault::Network),
+        ("0000 0005 800f020001", UpdateFault::Optional(None)),
+        ("0000 0006 800e03000101", UpdateFault::Optional(None)),
+        ("0000 0008 800e050001010100", UpdateFault::Optional(None)),
+        ("0000 0007 800f0400010121", UpdateFault::Optional(None)),
+        ("0000 0007 800f0400020181", UpdateFault::Optional(None)),
+        ("0000 0011 800e0e0001850000 080381060118c00002", order),
+        (
+            "0000 0015 800f06000185 0b0118 800e09000185 0000 03030106",
+            cut,
+        ),
+    ];
+    for (text, fault) in rows {
+        let found = read(&rt, text, &EXTERNAL)?.err();
+        assert_eq!(rt; found, Some(fault), "{text}");
+    }
+    Ok(())
+}
+
+#[test]
+fn withdraws_what_malformed_attributes_give(rt: HostRuntime) -> Result<(), Fail> {
+    let rows = [
+        // ORIGIN 3; AS_PATH with form 5, with a count of 0, cut; communities of 12 octets; a confederation
+        // segment; no AS_PATH.
+        "0000 000d 40010103 400206 02010000fde9 18c00002",
+        "0000 000d 40010100 400206 05010000fde9 18c00002",
+        "0000 0009 40010100 400202 0200 18c00002",
+        "0000 000c 40010100 400205 02010000fd 18c00002",
+        "0000 001c 40010100 400206 02010000fde9 c0100c 8006fde900000000 8006fde9 18c00002",
+        "0000 000d 40010100 400206 03010000fde9 18c00002",
+        "0000 0004 40010100 18c00002",
+    ];
+    for text in rows {
+        let update = read(&rt, text, &EXTERNAL)?.ok().ok_or("a fault")?;
+        assert!(rt; update.as_withdraw, "{text}");
+        assert!(rt; update.path.is_none(), "{text}");
+        assert_eq!(rt; update.classic_in.as_slice().len(), 1, "{text}");
+    }
+    Ok(())
+}
+
+#[test]
+fn reads_on_the_terms_of_the_session(rt: HostRuntime) -> Result<(), Fail> {
+    // LOCAL_PREF 200, ORIGINATOR_ID 9.9.9.9, a second ORIGIN, and an AS of two octets
+    let text = "0000 001d 40010101 40010102 400204 0201fde9 400504000000c8 80090409090909 18c00002";
+    let two = Terms {
+        four: false,
+        ..EXTERNAL
+    };
+    let update = read(&rt, text, &two)?.ok().ok_or("a fault")?;
+    let path = update.path.ok_or("no path")?;
+    assert_eq!(rt; path.origin, 1);
+    assert_eq!(rt; (path.local_pref, path.originator), (100, None));
+    assert_eq!(rt; path.segments.as_slice().len(), 1);
+    assert_eq!(rt;
+        path.segments.as_slice()[0].numbers.as_slice(),
+        [65001].as_slice()
+    );
+
+    let internal = Terms {
+        external: false,
+        ..two
+    };
+    let update = read(&rt, text, &internal)?.ok().ok_or("a fault")?;
+    let path = update.path.ok_or("no path")?;
+    assert_eq!(rt; (path.local_pref, path.originator), (200, Some(0x09090909)));
+    Ok(())
+}
+
+#[test]
+fn reads_ipv6_routes_and_skips_other_families(rt: HostRuntime) -> Result<(), Fail> {
+    let update = read(&rt, "0000 000e 800f0b 000201 2020010db8 08ff 00", &EXTERNAL)?
+        .ok()
+        .ok_or("a fault")?;
+    let Some(Routes::Unicast(family, prefixes)) = &update.unreach else {
+        return Err("no unicast routes".into());
+    };
+    assert_eq!(rt; *family, Family::V6);
+    assert_eq!(rt; prefixes.as_slice().len(), 3);
+    let prefix = prefixes.as_slice()[1];
+    assert_eq!(rt; (prefix.bits, prefix.length), (0xff << 120, 8));
+
+    let update = read(&rt, "0000 0007 800e04 00018600", &EXTERNAL)?
+        .ok()
+        .ok_or("a fault")?;
+    assert!(rt; update.reach.is_none());
+    Ok(())
+}

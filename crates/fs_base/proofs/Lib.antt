@@ -1,0 +1,16 @@
+pub mod Languages
+pub mod Octets
+pub mod Parts
+pub mod Blocks
+pub mod Grew
+pub mod Writing
+pub mod Filled
+pub mod Covers
+pub mod Nesting
+pub mod Alike
+pub mod Precede
+pub mod Held
+pub mod Records
+pub mod Listing
+pub mod Seeking
+pub mod Same

@@ -1,0 +1,76 @@
+-- The order of prefixes is what its words say.
+use Rattle.std.proofs.Common.{ℕ, ◌≡◌, ◌≢◌, ◌+◌, ◌-◌, ◌^◌, ◌<◌, ◌≤◌, ◌⊎◌, inl, inr, refl, sym, ap, ◌∙◌, subst, arith, true, false, Bool, ◌&&◌, ◌==◌, nat_cmp, is_eq, is_lt, is_le, Ordering, Less, Equal, Greater, pow_pos, true≢false}
+use Rattle.std.specs.Ordering.{ordering_then}
+use Rattle.std.proofs.lemmas.Bool.{cases_lt}
+use Rattle.std.proofs.lemmas.Bool.Decides.{nat_tests}
+use Rattle.fs_base.specs.declared.prefix.Family.TheVariants.{V4, V6}
+use Rattle.fs_base.specs.declared.prefix.Prefix.{Prefix}
+use Rattle.fs_base.specs.Bits.{width_of, afi_of}
+use Rattle.fs_base.specs.Prefix.{covers, prefix_cmp, last_address}
+use Rattle.fs_base.specs.PrefixOrder.{prefix_total}
+use Rattle.fs_base.specs.Precedence.{IsPrecedence}
+use Rattle.fs_base.proofs.Covers.{Covers, covers_fact, meeting_covers, same_width, covered_before}
+use Rattle.fs_base.proofs.Nesting.{Alike, alike, alike_test}
+
+first_family : (f g a b m n : ℕ) → f < g → ordering_then (nat_cmp f g) (ordering_then (nat_cmp a b) (nat_cmp n m)) ≡ Less
+first_family f g a b m n h = grind (arith, nat_tests)
+
+first_last : (f g a b m n : ℕ) → f ≡ g → a < b → ordering_then (nat_cmp f g) (ordering_then (nat_cmp a b) (nat_cmp n m)) ≡ Less
+first_last f g a b m n h k = grind (arith, nat_tests)
+
+longer_first : (f g a b m n : ℕ) → f ≡ g → a ≤ b → n < m → ordering_then (nat_cmp f g) (ordering_then (nat_cmp a b) (nat_cmp n m)) ≡ Less
+longer_first f g a b m n h k l = grind (arith, nat_tests)
+
+equal_is : (o : Ordering) → is_eq o ≡ true → o ≡ Equal
+equal_is Less h = cc
+equal_is Equal h = refl
+equal_is Greater h = cc
+
+pub precedence_law : IsPrecedence prefix_cmp
+precedence_law = record { total = prefix_total; families = families; nested = nested; apart = apart; same = same } where
+  families : (p q : Prefix) → p.family ≡ V4 → q.family ≡ V6 → prefix_cmp p q ≡ Less
+  families p q h k = first_family (afi_of p.family) (afi_of q.family) (last_address p) (last_address q) p.length q.length (let e : afi_of p.family ≡ 1 = ap afi_of h in let f : afi_of q.family ≡ 2 = ap afi_of k in omega arith)
+
+  nested : (p q : Prefix) → covers p q ≡ true → p.length < q.length → prefix_cmp q p ≡ Less
+  nested p q h shorter = longer_first (afi_of q.family) (afi_of p.family) (last_address q) (last_address p) q.length p.length (sym (covers_fact p q h).family) ends shorter where
+    fact : Covers p q
+    fact = covers_fact p q h
+
+    ends : last_address q ≤ last_address p
+    ends = let e : last_address q ≡ q.bits + 2 ^ (width_of p.family - q.length) - 1 = ap (λ w. q.bits + 2 ^ (w - q.length) - 1) (sym (same_width p.family q.family fact.family)) in omega (arith, fact.ends)
+
+  apart : (p q : Prefix) → p.family ≡ q.family → covers p q ≡ false → covers q p ≡ false → p.bits < q.bits → prefix_cmp p q ≡ Less
+  apart p q family h k lower = first_last (afi_of p.family) (afi_of q.family) (last_address p) (last_address q) p.length q.length (ap afi_of family) (at (cases_lt (last_address p) (last_address q))) where
+    width : width_of q.family ≡ width_of p.family
+    width = ap width_of (sym family)
+
+    last_q : last_address q ≡ q.bits + 2 ^ (width_of p.family - q.length) - 1
+    last_q = ap (λ w. q.bits + 2 ^ (w - q.length) - 1) width
+
+    size_p : 0 < 2 ^ (width_of p.family - p.length)
+    size_p = pow_pos (width_of p.family - p.length)
+
+    size_q : 0 < 2 ^ (width_of p.family - q.length)
+    size_q = pow_pos (width_of p.family - q.length)
+
+    size_same : 2 ^ (width_of q.family - q.length) ≡ 2 ^ (width_of p.family - q.length)
+    size_same = ap (λ w. 2 ^ (w - q.length)) width
+
+    size_back : 2 ^ (width_of q.family - p.length) ≡ 2 ^ (width_of p.family - p.length)
+    size_back = ap (λ w. 2 ^ (w - p.length)) width
+
+    meets : last_address q ≤ last_address p → (q.length < p.length) ⊎ (p.length ≤ q.length) → last_address p < last_address q
+    meets over (inl shorter) = absurd (true≢false (sym (meeting_covers q p (ap afi_of (sym family)) (omega arith) (omega (arith, over, last_q, size_p, size_q, size_back)) (omega (arith, lower, size_same, size_q))) ∙ k))
+    meets over (inr longer) = absurd (true≢false (sym (meeting_covers p q (ap afi_of family) longer (omega (arith, lower, size_q)) (omega (arith, over, last_q, size_p, size_q))) ∙ h))
+
+    at : (last_address p < last_address q) ⊎ (last_address q ≤ last_address p) → last_address p < last_address q
+    at (inl less) = less
+    at (inr over) = meets over (cases_lt q.length p.length)
+
+  same : (p q : Prefix) → (prefix_cmp p q ≡ Equal → (p.family ≡ q.family) × (p.bits ≡ q.bits) × (p.length ≡ q.length)) × ((p.family ≡ q.family) × (p.bits ≡ q.bits) × (p.length ≡ q.length) → prefix_cmp p q ≡ Equal)
+  same p q = (there, back) where
+    there : prefix_cmp p q ≡ Equal → (p.family ≡ q.family) × (p.bits ≡ q.bits) × (p.length ≡ q.length)
+    there h = let e : Alike p q = alike p q (ap is_eq h) in (e.family, e.bits, e.length)
+
+    back : (p.family ≡ q.family) × (p.bits ≡ q.bits) × (p.length ≡ q.length) → prefix_cmp p q ≡ Equal
+    back h = equal_is (prefix_cmp p q) (alike_test p q (record { family = h.0; length = h.2; bits = h.1 }))

@@ -1,0 +1,76 @@
+-- The longest prefix that covers another, found by the order: where the first prefix from `low` on doesn't cover
+-- it, each that does covers what the two have in common.
+use Rattle.std.proofs.Common.{ℕ, ◌≡◌, ◌<◌, ◌≤◌, ◌⊎◌, inl, inr, refl, sym, ap, subst, ◌∙◌, Bool, true, false, List, true≢false, Option, Some, None, IfSome, Ordering, is_eq, is_le, arith}
+use Rattle.std.specs.List.{AllByRecursion, list_any}
+use Rattle.std.proofs.lemmas.Bool.{cases_lt}
+use Rattle.fs_base.specs.declared.prefix.Prefix.{Prefix}
+use Rattle.fs_base.specs.Prefix.{covers, prefix_cmp}
+use Rattle.fs_base.specs.Seek.{IsFirst, IsLongest}
+use Rattle.fs_base.proofs.Covers.{covers_fact, covered_before, between_covered, Covers, same_family}
+use Rattle.fs_base.proofs.Nesting.{covers_self, covers_nested, covers_trans, covers_same_length, alike_covers, covered_back}
+use Rattle.fs_base.proofs.Listing.{each, each_weaker, each_both}
+
+module _ {X : Type 0} (at : X → Prefix) (held : List X) where
+  -- the search for the covers of d has come to low: each of them covers low
+  pub record Seeking (d low : Prefix) : Type 0 where
+    pub over : covers low d ≡ true
+    pub each_covers : AllByRecursion (λ x. covers (at x) d ≡ true → covers (at x) low ≡ true) held
+
+  pub seeking_starts : (d : Prefix) → Seeking d d
+  seeking_starts d = record { over = covers_self d; each_covers = each (λ x. covers (at x) d ≡ true → covers (at x) d ≡ true) (λ x h. h) held }
+
+  -- nothing from low on: no cover
+  pub seeking_ends : (d low : Prefix) → Seeking d low → AllByRecursion (λ x. is_le (prefix_cmp low (at x)) ≡ false) held → AllByRecursion (λ x. covers (at x) d ≡ false) held
+  seeking_ends d low h none = each_both (λ x. covers (at x) d ≡ true → covers (at x) low ≡ true) (λ x. is_le (prefix_cmp low (at x)) ≡ false) (λ x. covers (at x) d ≡ false)
+      (λ x k l. not_true (covers (at x) d) (λ e. true≢false (sym (covered_before (at x) low (k e)) ∙ l))) held h.each_covers none where
+        not_true : (b : Bool) → (b ≡ true → ⊥) → b ≡ false
+        not_true true f = absurd (f refl)
+        not_true false f = refl
+
+  -- the first from low on covers d: it is the longest
+  pub seeking_found : (d low q : Prefix) → Seeking d low → IsFirst at held low q → covers q d ≡ true → IsLongest at held d q
+  seeking_found d low q h first covered = record {
+    there = first.there;
+    over = covered;
+    longest = each_both (λ x. covers (at x) d ≡ true → covers (at x) low ≡ true) (λ x. is_le (prefix_cmp low (at x)) ≡ true → is_le (prefix_cmp q (at x)) ≡ true) (λ x. covers (at x) d ≡ true → (at x).length ≤ q.length) longest held h.each_covers first.least;
+  } where
+    longest : (x : X) → (covers (at x) d ≡ true → covers (at x) low ≡ true) → (is_le (prefix_cmp low (at x)) ≡ true → is_le (prefix_cmp q (at x)) ≡ true) → covers (at x) d ≡ true → (at x).length ≤ q.length
+    longest x k l e = (covers_fact (at x) q (between_covered (at x) low q (k e) first.from (l (covered_before (at x) low (k e))))).longer
+
+  -- else the search goes on from what low and the first have in common, which is shorter than low
+  pub seeking_more : (d low q both : Prefix) → Seeking d low → IsFirst at held low q → covers both low ≡ true → ((p : Prefix) → covers p low ≡ true → covers p q ≡ true → covers p both ≡ true) → Seeking d both
+  seeking_more d low q both h first over longest = record {
+    over = covers_trans both low d over h.over;
+    each_covers = each_both (λ x. covers (at x) d ≡ true → covers (at x) low ≡ true) (λ x. is_le (prefix_cmp low (at x)) ≡ true → is_le (prefix_cmp q (at x)) ≡ true) (λ x. covers (at x) d ≡ true → covers (at x) both ≡ true) step held h.each_covers first.least;
+  } where
+    step : (x : X) → (covers (at x) d ≡ true → covers (at x) low ≡ true) → (is_le (prefix_cmp low (at x)) ≡ true → is_le (prefix_cmp q (at x)) ≡ true) → covers (at x) d ≡ true → covers (at x) both ≡ true
+    step x k l e = longest (at x) (k e) (between_covered (at x) low q (k e) first.from (l (covered_before (at x) low (k e))))
+
+  pub seeking_shorter : (d low q both : Prefix) → Seeking d low → IsFirst at held low q → covers q d ≡ false → covers both low ≡ true → covers both q ≡ true → both.length < low.length
+  seeking_shorter d low q both h first apart over other = go (cases_lt both.length low.length) where
+    fact : Covers both low
+    fact = covers_fact both low over
+
+    -- of the same length, low itself covers the first, which comes from low on
+    same : both.length ≡ low.length → covers q d ≡ true
+    same e = let alike : is_eq (prefix_cmp both low) ≡ true = covers_same_length both low over e in
+        let under : covers low q ≡ true = sym (alike_covers both low q alike) ∙ other in
+        covers_from_order under (covered_before low q under) where
+          covers_from_order : covers low q ≡ true → is_le (prefix_cmp q low) ≡ true → covers q d ≡ true
+          covers_from_order under back = covers_trans q low d (back_covers under) h.over where
+            back_covers : covers low q ≡ true → covers q low ≡ true
+            back_covers k = between_covered q q low (covers_self q) back first.from
+
+    go : (both.length < low.length) ⊎ (low.length ≤ both.length) → both.length < low.length
+    go (inl less) = less
+    go (inr more) = absurd (true≢false (sym (same (omega (arith, fact.longer))) ∙ apart))
+
+  -- no family in common: nothing from low on covers d
+  pub seeking_apart : (d low q : Prefix) → Seeking d low → IsFirst at held low q → (low.family ≡ q.family → ⊥) → AllByRecursion (λ x. covers (at x) d ≡ false) held
+  seeking_apart d low q h first apart = each_both (λ x. covers (at x) d ≡ true → covers (at x) low ≡ true) (λ x. is_le (prefix_cmp low (at x)) ≡ true → is_le (prefix_cmp q (at x)) ≡ true) (λ x. covers (at x) d ≡ false) step held h.each_covers first.least where
+    not_true : (b : Bool) → (b ≡ true → ⊥) → b ≡ false
+    not_true true f = absurd (f refl)
+    not_true false f = refl
+
+    step : (x : X) → (covers (at x) d ≡ true → covers (at x) low ≡ true) → (is_le (prefix_cmp low (at x)) ≡ true → is_le (prefix_cmp q (at x)) ≡ true) → covers (at x) d ≡ false
+    step x k l = not_true (covers (at x) d) (λ e. apart (same_family low.family q.family (sym (covers_fact (at x) low (k e)).family ∙ (covers_fact (at x) q (between_covered (at x) low q (k e) first.from (l (covered_before (at x) low (k e))))).family)))

@@ -1,0 +1,23 @@
+use Rattle.std.proofs.Common.{◌≡◌, ◌≢◌, ◌≤◌, ◌+◌, ◌-◌, ℕ, length, IsTrue}
+use Rattle.fs_base.proofs.Filled.{Filled}
+use Rattle.fs_base.proofs.filling.fill.Given as goal
+
+abbrev pub invariant-loop-at : goal.invariant-loop-at
+invariant-loop-at g l = record {
+  within : l.at ≤ length l.into;
+  size : length l.into ≡ length l.initial.into;
+  slot : l.counted.slot ≡ l.fn.counted.slot;
+  limit : l.counted.limit ≡ l.fn.counted.limit;
+  taken : l.counted.taken ≡ l.fn.counted.taken + l.at;
+  later : g.F.Files.faults l.fn.files ≤ g.F.Files.faults l.files;
+  filled :
+      IsTrue g.F.Files.tells
+      → Filled (g.F.Files.left l.fn.files l.fn.counted.slot) (g.F.Files.left l.files l.fn.counted.slot) l.into l.at;
+  others :
+      IsTrue g.F.Files.tells
+      → (other : ℕ) → other ≢ l.fn.counted.slot → g.F.Files.left l.files other ≡ g.F.Files.left l.fn.files other;
+  holds : IsTrue g.F.Files.tells → g.F.Files.holds l.files ≡ g.F.Files.holds l.fn.files;
+}
+
+abbrev pub decreases-loop-at : goal.decreases-loop-at
+decreases-loop-at g l = length l.into - l.at

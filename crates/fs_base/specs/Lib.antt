@@ -1,0 +1,17 @@
+pub mod Peers
+pub mod Language
+pub mod Parts
+pub mod Bits
+pub mod Prefix
+pub mod PrefixOrder
+pub mod Outside
+pub mod Ends
+pub mod Limited
+pub mod Precedence
+pub mod Shelf
+pub mod MemoryFiles
+pub mod MemorySinks
+pub mod Records
+pub mod Seek
+pub mod Made
+pub mod Cleared

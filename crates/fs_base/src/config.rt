@@ -1,0 +1,83 @@
+//! Who the program is and which peers it speaks to.
+
+ghost use Rattle.std.specs.Prelude.{◌≡◌, ◌==◌};
+ghost use Rattle.std.specs.Option.{option_copied};
+ghost use Rattle.fs_base.specs.Peers.{peer_of};
+
+use std::marker::Model;
+
+/// An address in host order: of IPv4 32 bits, of IPv6 128.
+#[derive(Clone, Copy, Debug, PartialEq, Eq, Drop)]
+pub enum Address {
+    V4(u32),
+    V6(u128),
+}
+
+/// A BGP speaker that the configuration names: its number, which tells it apart on a tape, its address
+/// and its AS.
+#[derive(Clone, Copy, Debug, PartialEq, Eq, Drop)]
+pub struct Peer {
+    pub number: u16,
+    pub address: Address,
+    pub asn: u32,
+}
+
+/// The peers in the order of the configuration.
+#[derive(Drop)]
+pub struct Peers {
+    items: Vec<Peer>,
+}
+
+impl Model for Peers {
+    ghost use Rattle.std.specs.Prelude.{List};
+    ghost use Rattle.fs_base.specs.declared.config.Peer.{Peer};
+
+    ghost Value = { List Peer };
+
+    ghost view = { λ a. a.items.items };
+}
+
+impl Peers {
+    pub fn new(items: Vec<Peer>) -> Peers
+        ensures { result ≡ items.items }
+    {
+        Peers { items }
+    }
+
+    pub fn into_vec(self) -> Vec<Peer>
+        ensures { result.items ≡ self }
+    {
+        self.items
+    }
+
+    pub fn as_slice(&self) -> &[Peer]
+        ensures { result.now ≡ self.now }
+    {
+        self.items.as_slice()
+    }
+}
+
+/// The configuration. `local_id` is the local BGP identifier in host order. A peer is external where its
+/// AS isn't `local_as`. `allow_no_destination` takes flow routes without a destination prefix (RFC 9117
+/// section 4.1, rule a); `empty_path_valid` takes those that originate in the local AS (RFC 9117 section
+/// 4.1, rule b.2).
+#[derive(Drop)]
+pub struct Config {
+    pub local_as: u32,
+    pub local_id: u32,
+    pub allow_no_destination: bool,
+    pub empty_path_valid: bool,
+    pub peers: Peers,
+}
+
+impl Config {
+    /// The peer of that number, or None where the configuration names none.
+    pub fn peer(&self, number: u16) -> Option<&Peer>
+        ensures { option_copied result ≡ peer_of number self.now.peers }
+    {
+        self.peers
+            .as_slice()
+            .iter()
+            .find(|peer| peer.number == number)
+    }
+}

@@ -1,0 +1,79 @@
+ghost use Rattle.std.specs.Prelude.{◌≡◌, ◌≢◌, ◌↔◌, ◌≤◌, ℕ, IsTrue};
+ghost use Rattle.std.specs.Result.{IsErrOf};
+ghost use Rattle.std.specs.Io.{ReadsAtMost};
+ghost use Rattle.fs_base.specs.Outside.{ReadTakes, Rose};
+ghost use Rattle.fs_base.specs.Limited.{taken_after};
+
+use super::{Failed, Files};
+
+/// Why a counted read gave no octets.
+#[derive(Clone, Copy, Debug, PartialEq, Eq, Drop)]
+pub enum Stop {
+    /// The files failed.
+    Failed,
+    /// The limit was reached before.
+    Limit,
+}
+
+/// A slot that is read up to a limit of octets.
+#[derive(Clone, Copy, Debug, PartialEq, Eq, Drop)]
+pub struct Counted {
+    /// The slot of the files, 0 to 2.
+    pub slot: u8,
+    /// At most so many octets are taken.
+    pub limit: u64,
+    /// So many octets were taken.
+    pub taken: u64,
+    pub ghost slots: { slot ≤ 2 },
+    pub ghost within: { taken ≤ limit },
+}
+
+impl Counted {
+    /// A slot of which nothing was taken yet.
+    pub fn new(slot: u8, limit: u64) -> Counted
+        requires { slot ≤ 2 }
+        ensures slot { result.slot ≡ slot }
+        ensures limit { result.limit ≡ limit }
+        ensures taken { result.taken ≡ 0 }
+    {
+        Counted {
+            slot,
+            limit,
+            taken: 0,
+        }
+    }
+
+    /// Reads octets into the front of `into`, never past the limit, and answers how many: 0 only at the end of the
+    /// input or where `into` has no room.
+    ///
+    /// # Errors
+    ///
+    /// `Limit` exactly where `limit` octets were taken before; `Failed` where the files failed. Nothing was taken
+    /// then.
+    pub fn read<F: Files>(&mut self, files: &mut F, into: &mut [u8]) -> Result<usize, Stop>
+        ensures limit { IsErrOf result Stop.Limit ↔ (self.old.taken ≡ self.old.limit) }
+        ensures failed { IsErrOf result Stop.Failed → Rose (F.faults files.old) (F.faults files.new) }
+        ensures later { F.faults files.old ≤ F.faults files.new }
+        ensures bound { ReadsAtMost result into.new }
+        ensures taken { self.new.taken ≡ taken_after self.old.taken result }
+        ensures kept_slot { self.new.slot ≡ self.old.slot }
+        ensures kept_limit { self.new.limit ≡ self.old.limit }
+
+        ensures left { IsTrue F.tells → ReadTakes (F.left files.old self.old.slot) (F.left files.new self.old.slot) result into.new }
+        ensures others { IsTrue F.tells → (other : ℕ) → other ≢ self.old.slot → F.left files.new other ≡ F.left files.old other }
+        ensures holds { IsTrue F.tells → F.holds files.new ≡ F.holds files.old }
+    {
+        let room = self.limit - self.taken;
+        if room == 0 {
+            return Err(Stop::Limit);
+        }
+        let most = into.len().min(room as usize);
+        match files.read(self.slot, &mut into[..most]) {
+            Ok(count) => {
+                self.taken += count as u64;
+                Ok(count)
+            }
+            Err(Failed) => Err(Stop::Failed),
+        }
+    }
+}

@@ -1,0 +1,45 @@
+ghost use Rattle.std.specs.Prelude.{◌≡◌, ◌≢◌, ◌≤◌, ◌+◌, ℕ, IsTrue, IfOk, OnErr, length};
+ghost use Rattle.fs_base.specs.Outside.{Rose};
+ghost use Rattle.fs_base.specs.Parts.{window};
+ghost use Rattle.fs_base.specs.Limited.{Fills};
+
+use super::{Counted, Failed, Files, Stop};
+
+/// Fills `into` from the front, as far as the input and its limit reach, and answers how many octets it got. Where
+/// they are fewer than `into` has room for, the limit was reached if `counted.taken` is `counted.limit`, else the
+/// input ended.
+///
+/// # Errors
+///
+/// `Failed` where the files failed.
+pub fn fill<F: Files>(
+    counted: &mut Counted,
+    files: &mut F,
+    into: &mut [u8],
+) -> Result<usize, Failed>
+    ensures failed { OnErr result (Rose (F.faults files.old) (F.faults files.new)) }
+    ensures later { F.faults files.old ≤ F.faults files.new }
+    ensures bound { IfOk result (λ n. n ≤ length into.new) }
+    ensures taken { IfOk result (λ n. counted.new.taken ≡ counted.old.taken + n) }
+    ensures kept_slot { counted.new.slot ≡ counted.old.slot }
+    ensures kept_limit { counted.new.limit ≡ counted.old.limit }
+
+    ensures filled { IsTrue F.tells
+        → IfOk result (Fills
+        (window counted.old.limit counted.old.taken (F.left files.old counted.old.slot))
+        (F.left files.old counted.old.slot)
+        (F.left files.new counted.old.slot)
+        into.new) }
+    ensures others { IsTrue F.tells → (other : ℕ) → other ≢ counted.old.slot → F.left files.new other ≡ F.left files.old other }
+    ensures holds { IsTrue F.tells → F.holds files.new ≡ F.holds files.old }
+{
+    let mut at = 0;
+    while at < into.len() {
+        match counted.read(files, &mut into[at..]) {
+            Ok(0) | Err(Stop::Limit) => break,
+            Ok(count) => at += count,
+            Err(Stop::Failed) => return Err(Failed),
+        }
+    }
+    Ok(at)
+}

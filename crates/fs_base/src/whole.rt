@@ -1,0 +1,67 @@
+ghost use Rattle.std.specs.Prelude.{◌≡◌, ◌≢◌, ◌≤◌, ℕ, IsTrue, IfOk};
+ghost use Rattle.std.specs.Result.{IsErrOf};
+ghost use Rattle.fs_base.specs.Limited.{IsWhole};
+ghost use Rattle.fs_base.specs.Outside.{Rose};
+
+use super::{Counted, Files, Stop};
+use std::alloc::{AllocError, Global};
+
+/// What a slot had left.
+#[derive(Debug, Drop)]
+pub enum Whole {
+    /// All of it, fewer octets than the limit.
+    Content(Vec<u8>),
+    /// It has at least as many octets as the limit.
+    AtLimit,
+}
+
+/// Why a slot could not be read to its end.
+#[derive(Clone, Copy, Debug, PartialEq, Eq, Drop)]
+pub enum ReadStop {
+    /// The files failed.
+    Failed,
+    /// The machine refused memory.
+    Memory,
+}
+
+impl From<AllocError> for ReadStop {
+    ghost use Rattle.std.specs.Prelude.{◌≡◌};
+    ghost use Rattle.fs_base.specs.declared.whole.ReadStop.TheVariants.{Memory};
+
+    ghost from_gives = { λ e r. r ≡ Memory };
+
+    fn from(_error: AllocError) -> ReadStop {
+        ReadStop::Memory
+    }
+}
+
+/// Reads what `slot` has left, up to `limit` octets.
+///
+/// # Errors
+///
+/// `Failed` where the files failed; `Memory` where the machine refused memory.
+pub fn read_whole<F: Files>(
+    alloc: Global,
+    files: &mut F,
+    slot: u8,
+    limit: u64,
+) -> Result<Whole, ReadStop>
+    requires { slot ≤ 2 }
+    ensures failed { IsErrOf result ReadStop.Failed → Rose (F.faults files.old) (F.faults files.new) }
+    ensures later { F.faults files.old ≤ F.faults files.new }
+    ensures content { IsTrue F.tells → IfOk result (IsWhole limit (F.left files.old slot)) }
+    ensures others { IsTrue F.tells → (other : ℕ) → other ≢ slot → F.left files.new other ≡ F.left files.old other }
+    ensures holds { IsTrue F.tells → F.holds files.new ≡ F.holds files.old }
+{
+    let mut counted = Counted::new(slot, limit);
+    let mut octets = Vec::new(alloc);
+    let mut buffer = [0u8; 4096];
+    loop {
+        match counted.read(files, &mut buffer) {
+            Ok(0) => return Ok(Whole::Content(octets)),
+            Ok(count) => octets.extend_from_slice(&buffer[..count])?,
+            Err(Stop::Limit) => return Ok(Whole::AtLimit),
+            Err(Stop::Failed) => return Err(ReadStop::Failed),
+        }
+    }
+}

@@ -1,0 +1,15 @@
+pub mod EntryLists
+pub mod Following
+pub mod Judging
+pub mod Kept
+pub mod LastLemmas
+pub mod LifeLemmas
+pub mod Listed
+pub mod PlaceKeys
+pub mod Playing
+pub mod Receiving
+pub mod Stepped
+pub mod TableTurns
+pub mod TapeLoop
+pub mod Turned
+pub mod WalkText

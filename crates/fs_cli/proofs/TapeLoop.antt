@@ -1,0 +1,102 @@
+-- A tape that is played item by item.
+use Rattle.std.proofs.Common.{◌≡◌, inl, inr, ◌≤◌, ℕ, List, [], ◌∷◌, ◌++◌, Option, Some, None, refl, ap, sym, ◌∙◌, subst, append_assoc, append-nil, arith, nat_le, length, take, drop}
+use Rattle.fs_base.specs.Outside.{Rose}
+use Rattle.fs_base.specs.Parts.{with_part}
+use Rattle.fs_base.specs.Records.{End, done, limited, bad}
+use Rattle.fs_base.specs.declared.config.Config.{Config}
+use Rattle.fs_tape.specs.Tape.{Item, opening, items_to_come, tape_of}
+use Rattle.fs_tape.specs.Turn.{TapeState, coming}
+use Rattle.fs_tape.specs.declared.fault.TapeReason.{TapeReason}
+use Rattle.fs_cli.specs.declared.refusal.Refusal.{Refusal}
+use Rattle.fs_cli.specs.Stage.{Stage, Found, Stopped, and_then, or_stop, status_of, HasReason}
+use Rattle.fs_cli.specs.Files.{Names}
+use Rattle.fs_cli.specs.Inputs.{played_to, tape_stage}
+use Rattle.fs_cli.specs.Desk.{Desked, Played}
+use Rattle.fs_cli.specs.Tapes.{PlaysOn, IsPlayed}
+
+-- of all items some were played, and the rest is to come
+pub record Playing (config : Config) (all rest : List Item × End TapeReason) (old now : Desked) : Type 0 where
+  pub gone : List Item
+  pub parts : all.0 ≡ gone ++ rest.0
+  pub end_is : all.1 ≡ rest.1
+  pub played : (items : List Item) → Played config items old → Played config (items ++ gone) now
+
+pub playing_none : (config : Config) (all : List Item × End TapeReason) (desk : Desked) → Playing config all all desk desk
+playing_none config all desk = record {
+  gone = [];
+  parts = refl;
+  end_is = refl;
+  played = λ items p. subst (λ (z : List Item). Played config z desk) (sym (append-nil items)) p;
+}
+
+pub playing_more : (config : Config) (all rest rest' : List Item × End TapeReason) (old now now' : Desked) (item : Item)
+    → Playing config all rest old now → rest ≡ with_part item rest' → ((items : List Item) → Played config items now → Played config (items ++ item ∷ []) now')
+    → Playing config all rest' old now'
+playing_more config all rest rest' old now now' item p e f = record {
+  gone = p.gone ++ item ∷ [];
+  parts = p.parts ∙ ap (λ (r : List Item × End TapeReason). p.gone ++ r.0) e ∙ sym (append_assoc p.gone (item ∷ []) rest'.0);
+  end_is = p.end_is ∙ ap (λ (r : List Item × End TapeReason). r.1) e;
+  played = λ items q. subst (λ (z : List Item). Played config z now') (append_assoc items p.gone (item ∷ [])) (f (items ++ p.gone) (p.played items q));
+}
+
+pub playing_done : (config : Config) (all rest : List Item × End TapeReason) (old now : Desked) → Playing config all rest old now → rest ≡ ([], done) → PlaysOn config all old now
+playing_done config all rest old now p e = record {
+  done_is = p.end_is ∙ ap (λ (r : List Item × End TapeReason). r.1) e;
+  played = λ items q. subst (λ (z : List Item). Played config (items ++ z) now)
+      (sym (p.parts ∙ ap (λ (r : List Item × End TapeReason). p.gone ++ r.0) e ∙ append-nil p.gone)) (p.played items q);
+}
+
+same_stop : (items items' : List Item) (end : End TapeReason) (status : ℕ) → played_to (items, end) ≡ Stopped status → played_to (items', end) ≡ Stopped status
+same_stop items items' done status h = absurd cc
+same_stop items items' limited status h = h
+same_stop items items' (bad reason place) status h = h
+
+rose_before : (old mid now : ℕ) → old ≤ mid → Rose mid now → Rose old now
+rose_before old mid now l r = omega (arith, l, r)
+
+-- the reason for which the rest is refused is one of the whole
+pub refused_all : (config : Config) (all rest : List Item × End TapeReason) (old now : Desked) (before mid after : ℕ) (refusal : Refusal)
+    → Playing config all rest old now → before ≤ mid → HasReason (played_to rest) (Rose mid after) refusal → HasReason (played_to all) (Rose before after) refusal
+refused_all config all rest old now before mid after refusal p l (inl h) =
+    inl (subst (λ (e : End TapeReason). played_to (all.0, e) ≡ Stopped (status_of refusal)) (sym p.end_is) (same_stop rest.0 all.0 rest.1 (status_of refusal) h))
+refused_all config all rest old now before mid after refusal p l (inr (inl h)) = inr (inl h)
+refused_all config all rest old now before mid after refusal p l (inr (inr h)) = inr (inr (h.0, rose_before before mid after l h.1))
+
+-- a tape that was played to its end
+pub all_played : (config : Config) (all : List Item × End TapeReason) (old new : Desked) → PlaysOn config all old new → played_to all ≡ Found all.0
+all_played config all old new p = subst (λ (e : End TapeReason). played_to (all.0, e) ≡ Found all.0) (sym p.done_is) refl
+
+-- an opened tape's items are all to come
+pub tape_opened : (config : Config) (limit : ℕ) (holds : Names) (name octets left : List ℕ) (tape : TapeState) (slot counted : ℕ)
+    → holds name ≡ Some octets → counted ≡ limit → (opening (nat_le counted (length octets)) (take 8 (take counted octets)) ≡ None) × (left ≡ drop 8 octets)
+    → tape ≡ record { slot = slot; limit = counted; place = 8; end = None } → tape_stage config limit holds name ≡ played_to (coming config tape left)
+tape_opened config limit holds name octets left tape slot counted h l o s =
+    ap (λ (content : Option (List ℕ)). and_then (or_stop 1 content) (λ z. played_to (tape_of config limit z))) h
+    ∙ ap (λ (n : ℕ). played_to (tape_of config n octets)) (sym l)
+    ∙ ap (λ (e : Option (End TapeReason)). played_to (elim e [ Some end ↦ ([], end) | None ↦ items_to_come config counted 8 (drop 8 octets) ])) o.0
+    ∙ ap (λ (z : List ℕ). played_to (items_to_come config counted 8 z)) (sym o.1)
+    ∙ ap (λ (t : TapeState). played_to (coming config t left)) (sym s)
+
+-- read from a slot of the files
+pub tape_read : (config : Config) (limit : ℕ) (holds : Names) (name : List ℕ) (before after : ℕ → List ℕ) (tape : TapeState) (slot counted : ℕ)
+    → slot ≡ 1 → holds name ≡ Some (before 1) → counted ≡ limit
+    → (opening (nat_le counted (length (before slot))) (take 8 (take counted (before slot))) ≡ None) × (after slot ≡ drop 8 (before slot))
+    → tape ≡ record { slot = slot; limit = counted; place = 8; end = None } → tape_stage config limit holds name ≡ played_to (coming config tape (after tape.slot))
+tape_read config limit holds name before after tape slot counted one h l o s =
+    tape_opened config limit holds name (before slot) (after tape.slot) tape slot counted
+    (h ∙ ap (λ (n : ℕ). Some (before n)) (sym one)) l (o.0, ap (λ (t : TapeState). after t.slot) s ∙ o.1) s
+
+-- the whole tape was played
+pub played_whole : (config : Config) (stage : Stage (List Item)) (all : List Item × End TapeReason) (first new : Desked)
+    → stage ≡ played_to all → PlaysOn config all first new → Played config [] first → IsPlayed config stage new
+played_whole config stage all first new e p f = record {
+  items = all.0;
+  found = e ∙ all_played config all first new p;
+  played = p.played [] f;
+}
+
+pub refused_whole : (stage : Stage (List Item)) (all : List Item × End TapeReason) (before mid after : ℕ) (refusal : Refusal)
+    → stage ≡ played_to all → before ≤ mid → HasReason (played_to all) (Rose mid after) refusal → HasReason stage (Rose before after) refusal
+refused_whole stage all before mid after refusal e l (inl h) = inl (e ∙ h)
+refused_whole stage all before mid after refusal e l (inr (inl h)) = inr (inl h)
+refused_whole stage all before mid after refusal e l (inr (inr h)) = inr (inr (h.0, rose_before before mid after l h.1))

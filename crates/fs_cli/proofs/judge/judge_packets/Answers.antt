@@ -1,0 +1,49 @@
+use Rattle.std.proofs.Common.{◌≡◌, ◌∙◌, ◌≤◌, ◌<◌, ◌^◌, ◌+◌, ℕ, subst, sym, arith, rules}
+use Rattle.fs_base.specs.Parts.{with_part}
+use Rattle.fs_pcap.specs.Turn.{coming, shown}
+use Rattle.fs_cli.proofs.Judging.{judging_more, judging_ceased, judging_stopped, match_err}
+use Rattle.fs_cli.proofs.judge.judge_packets.Goals as goal
+
+pub overflow_add-number : goal.overflow_add-number
+overflow_add-number g c = search (below c.packets.number c.packets.capture.place c.next_packet.new.capture.place c.next_packet.new.capture.limit
+    c.packets.invariant.number (rw c.in-Some.is at c.in_ok-caught.ensures.grows).0 (rw c.in-Some.is at c.in_ok-caught.ensures.grows).1
+    (subst (λ (n : ℕ). n < 2 ^ 64) (sym (c.in_ok-caught.ensures.limit ∙ c.packets.invariant.limit)) c.requires.fits))
+  where
+    below : (number place next limit : ℕ) → number ≤ place → place < next → next ≤ limit → limit < 2 ^ 64 → number + 1 < 2 ^ 64
+    below number place next limit a b d e = omega (arith, a, b, d, e)
+
+pub packets-preserved : goal.packets-preserved
+packets-preserved g c = record {
+  room = search rules;
+  unended = rw c.in-Some.is at c.in_ok-caught.ensures.open;
+  slot = c.in_ok-caught.ensures.slot ∙ c.packets.invariant.slot;
+  limit = c.in_ok-caught.ensures.limit ∙ c.packets.invariant.limit;
+  within = (rw c.in-Some.is at c.in_ok-caught.ensures.grows).1;
+  number = omega (arith, c.packets.invariant.number, (rw c.in-Some.is at c.in_ok-caught.ensures.grows).0);
+  v4 = search rules;
+  v6 = search rules;
+  files_later = omega (arith, c.packets.invariant.files_later, c.in_ok-caught.ensures.later);
+  sink_later = omega (arith, c.packets.invariant.sink_later, c.in_ok-judge_packet.ensures.cause.later);
+  judging = λ told held four six.
+      judging_more held c.args.link _ _ _ _ _ _ _ _ _ c.packets.number (shown c.in-Some.caught c.next_packet.new.buffer) (c.packets.invariant.judging told held four six)
+      (subst (λ (slot : ℕ).
+      coming c.packets.capture (g.F.Files.left c.packets.files c.packets.capture.slot)
+      ≡ with_part (shown c.in-Some.caught c.next_packet.new.buffer) (coming c.next_packet.new.capture (g.F.Files.left c.next_packet.new.files slot)))
+      (sym c.in_ok-caught.ensures.slot) (rw c.in-Some.is at (c.in_ok-caught.ensures.gives told)))
+      (c.in_ok-judge_packet.ensures.ok held four six);
+}
+
+pub returns-in_err-caught-clause-judged : goal.returns-in_err-caught-clause-judged
+returns-in_err-caught-clause-judged g c = λ told held four six. match_err _ _ c.from_residual.result c.from_residual.ensures.1 (λ refusal same.
+    judging_ceased held c.args.link _ _ _ _ _ _ c.packets.number (g.F.Files.faults c.args.files.now) (g.F.Files.faults c.packets.files) (g.F.Files.faults c.next_packet.new.files) _ c.in_err-caught.field-0.0 refusal
+    (c.packets.invariant.judging told held four six) c.packets.invariant.files_later same (c.in_err-caught.ensures.gives told))
+
+pub returns-in_err-judge_packet-clause-judged : goal.returns-in_err-judge_packet-clause-judged
+returns-in_err-judge_packet-clause-judged g c = λ told held four six. match_err _ _ c.from_residual-in_err-judge_packet.result c.from_residual-in_err-judge_packet.ensures.1 (λ refusal same.
+    judging_stopped held c.args.link _ _ _ _ _ _ _ _ _ c.packets.number (shown c.in-Some.caught c.next_packet.new.buffer) _ (g.S.Sink.faults c.args.sink.now) (g.S.Sink.faults c.packets.sink) (g.S.Sink.faults c.judge_packet.new.sink) refusal
+    (c.packets.invariant.judging told held four six)
+    (subst (λ (slot : ℕ).
+    coming c.packets.capture (g.F.Files.left c.packets.files c.packets.capture.slot)
+    ≡ with_part (shown c.in-Some.caught c.next_packet.new.buffer) (coming c.next_packet.new.capture (g.F.Files.left c.next_packet.new.files slot)))
+    (sym c.in_ok-caught.ensures.slot) (rw c.in-Some.is at (c.in_ok-caught.ensures.gives told)))
+    (c.in_err-judge_packet.ensures.err held four six) c.in_err-judge_packet.ensures.dropped c.packets.invariant.sink_later c.in_err-judge_packet.ensures.cause.failed same)

@@ -1,0 +1,38 @@
+-- What the desk keeps, and what the items that were played make of it.
+use Rattle.std.specs.Prelude.{◌≡◌, ℕ, List, [], Option, Some, None}
+use Rattle.std.specs.Ordering.{nat_cmp}
+use Rattle.std.specs.List.Sorted.{IsStrictlySortedBy}
+use Rattle.std.specs.Map.{lookup, keys_of}
+use Rattle.std.specs.BTreeMap.{is_at}
+use Rattle.fs_base.specs.Peers.{peer_of}
+use Rattle.fs_base.specs.declared.config.Config.{Config}
+use Rattle.fs_base.specs.declared.config.Peer.{Peer}
+use Rattle.fs_rules.specs.Held.{Held}
+use Rattle.fs_speaker.specs.Steps.{Live}
+use Rattle.fs_tape.specs.Tape.{Item}
+use Rattle.fs_cli.specs.Life.{life}
+use Rattle.fs_cli.specs.Held.{IsListed}
+use Rattle.fs_cli.specs.Keeping.{Keeps, Stands}
+
+-- the configuration, the routes held, and the sessions of the peers that are up
+pub record Desked : Type 0 where
+  pub config : Config
+  pub held : Held
+  pub sessions : List (ℕ × Live)
+
+abbrev pub session_at : ℕ → List (ℕ × Live) → Option Live
+session_at number sessions = lookup (is_at (nat_cmp number)) sessions
+
+-- a peer that is down holds nothing; one that is up is configured, and its session has been fed with its life's octets
+abbrev pub PeerIs : Config → Option Peer → Option (List ℕ) → Option Live → ℕ → Held → Type 0
+PeerIs config peer None None number held = Keeps number [] held
+PeerIs config (Some peer) (Some octets) (Some session) number held = Stands config peer number octets session held
+PeerIs config _ _ _ number held = ⊥
+
+-- the desk stands as these items leave it
+pub record Played (config : Config) (items : List Item) (desk : Desked) : Type 0 where
+  pub config_is : desk.config ≡ config
+  pub held_is : desk.held.config ≡ config
+  pub listed : IsListed desk.held
+  pub sessions : IsStrictlySortedBy nat_cmp (keys_of desk.sessions)
+  pub each : (number : ℕ) → PeerIs config (peer_of number config.peers) (life number items) (session_at number desk.sessions) number desk.held

@@ -1,0 +1,71 @@
+//! Why a run ends before its job is done.
+
+ghost use Rattle.std.specs.Prelude.{◌≡◌};
+
+use fs_base::{Failed, Memory};
+use std::alloc::AllocError;
+
+/// Why a run ends before its job is done.
+#[derive(Clone, Copy, Debug, PartialEq, Eq, Drop)]
+pub enum Refusal {
+    /// A call on the outside failed, or a file that the words name isn't there.
+    Outside,
+    /// The configuration isn't accepted.
+    Config,
+    /// The tape has a fault.
+    Tape,
+    /// The capture has a fault.
+    Capture,
+    /// The machine refused memory.
+    Memory,
+    /// An input has at least as many octets as the limit allows.
+    Limit,
+}
+
+impl Refusal {
+    ghost use Rattle.fs_cli.specs.Stage.{status_of};
+
+    /// The status with which the process ends.
+    pub fn status(self) -> u8
+        ensures { result ≡ status_of self }
+    {
+        match self {
+            Refusal::Outside => 1,
+            Refusal::Config => 3,
+            Refusal::Tape => 4,
+            Refusal::Capture => 5,
+            Refusal::Memory => 6,
+            Refusal::Limit => 7,
+        }
+    }
+}
+
+impl From<Memory> for Refusal {
+    ghost use Rattle.fs_cli.specs.declared.refusal.Refusal.TheVariants.{Memory};
+
+    ghost from_gives = { λ e r. r ≡ Memory };
+
+    fn from(_error: Memory) -> Refusal {
+        Refusal::Memory
+    }
+}
+
+impl From<AllocError> for Refusal {
+    ghost use Rattle.fs_cli.specs.declared.refusal.Refusal.TheVariants.{Memory};
+
+    ghost from_gives = { λ e r. r ≡ Memory };
+
+    fn from(_error: AllocError) -> Refusal {
+        Refusal::Memory
+    }
+}
+
+impl From<Failed> for Refusal {
+    ghost use Rattle.fs_cli.specs.declared.refusal.Refusal.TheVariants.{Outside};
+
+    ghost from_gives = { λ e r. r ≡ Outside };
+
+    fn from(_error: Failed) -> Refusal {
+        Refusal::Outside
+    }
+}

@@ -1,0 +1,6 @@
+-- A map's look-up is the tree's.
+use Rattle.toml.proofs.Views.{table_get}
+use Rattle.fs_conf.proofs.fields.value_at.Goals as goal
+
+pub returns : goal.returns
+returns c = table_get c.get.result c.args.key.now c.args.table.now.entries c.get.ensures.value

@@ -1,0 +1,110 @@
+-- The configuration file: a TOML document with these keys and no others.
+use Rattle.std.specs.Prelude.{ℕ, pos, ◌==◌, nat_le, Bool, true, false, not, ◌&&◌, if◌then◌else◌, List, [], ◌∷◌, length, codes, Option, Some, None, option_map, option_and_then}
+use Rattle.std.specs.List.{list_any}
+use Rattle.std.specs.Str.{is_utf8, bytes_eq}
+use Rattle.toml.specs.Data.{Data, integer, boolean, as_str, as_array, as_table, Items, no_items, item, Members, no_members, member, get_member}
+use Rattle.toml.specs.Parse.{parse_document}
+use Rattle.fs_base.specs.declared.config.Config.{Config}
+use Rattle.fs_base.specs.declared.config.Peer.{Peer}
+use Rattle.fs_conf.specs.Address.{ipv4_of, address_of}
+
+infixl 10 ◌>>=◌
+abbrev ◌>>=◌ : {A B : Type 0} → Option A → (A → Option B) → Option B
+o >>= f = option_and_then f o
+
+-- the value, where the test holds of it
+abbrev pub kept_if : {A : Type 0} → (A → Bool) → A → Option A
+kept_if test value = if test value then Some value else None
+
+-- an integer from low to high
+abbrev pub number_in : ℕ → ℕ → Option Data → Option ℕ
+number_in low high (Some (integer (pos n))) = if nat_le low n && nat_le n high then Some n else None
+number_in low high _ = None
+
+-- a boolean, and this one where the key is missing
+abbrev pub flag_or : Bool → Option Data → Option Bool
+flag_or default None = Some default
+flag_or default (Some (boolean flag)) = Some flag
+flag_or default (Some _) = None
+
+-- what a string writes
+abbrev pub written : {A : Type 0} → (List ℕ → Option A) → Option Data → Option A
+written read found = (found >>= as_str) >>= read
+
+-- each key of the members is one of these
+abbrev pub keys_among : List (List ℕ) → Members → Bool
+keys_among names no_members = true
+keys_among names (member key value rest) =
+    list_any (λ name. bytes_eq name key) names && keys_among names rest
+
+-- an AS number, which isn't 0 (RFC 7607)
+abbrev pub as_number : Option Data → Option ℕ
+as_number = number_in 1 4294967295
+
+-- a BGP identifier: dotted IPv4, not 0.0.0.0 (RFC 4271, section 4.2)
+abbrev pub identifier : Option Data → Option ℕ
+identifier value = written ipv4_of value >>= kept_if (λ id. not (id == 0))
+
+-- a peer is a table with these three keys and no others
+abbrev pub peer_keys : List (List ℕ)
+peer_keys = codes "number" ∷ codes "address" ∷ codes "as" ∷ []
+
+abbrev pub peer_of_members : Members → Option Peer
+peer_of_members members = do
+  number ← number_in 1 65535 (get_member (codes "number") members)
+  address ← written address_of (get_member (codes "address") members)
+  asn ← as_number (get_member (codes "as") members)
+  Some (record { number = number; address = address; asn = asn })
+
+abbrev pub peer_of_table : Members → Option Peer
+peer_of_table members = if keys_among peer_keys members then peer_of_members members else None
+
+abbrev pub peer_of_data : Data → Option Peer
+peer_of_data value = as_table value >>= peer_of_table
+
+-- a peer for each item
+abbrev pub peers_of_items : Items → Option (List Peer)
+peers_of_items no_items = Some []
+peers_of_items (item value rest) = do
+  peer ← peer_of_data value
+  option_map (λ peers. peer ∷ peers) (peers_of_items rest)
+
+-- no two peers have one number
+abbrev pub are_distinct : List Peer → Bool
+are_distinct [] = true
+are_distinct (peer ∷ peers) =
+    not (list_any (λ other. other.number == peer.number) peers) && are_distinct peers
+
+-- 1 to 1024 peers, no two of one number
+abbrev pub are_peers : List Peer → Bool
+are_peers peers = (nat_le 1 (length peers) && nat_le (length peers) 1024) && are_distinct peers
+
+abbrev pub peers_in : Option Data → Option (List Peer)
+peers_in found = ((found >>= as_array) >>= peers_of_items) >>= kept_if are_peers
+
+abbrev pub config_keys : List (List ℕ)
+config_keys =
+    codes "local_as" ∷ codes "local_id" ∷ codes "allow_no_destination" ∷ codes "empty_path_valid"
+    ∷ codes "peer" ∷ []
+
+abbrev pub config_of_members : Members → Option Config
+config_of_members members = do
+  local_as ← as_number (get_member (codes "local_as") members)
+  local_id ← identifier (get_member (codes "local_id") members)
+  allow_no_destination ← flag_or false (get_member (codes "allow_no_destination") members)
+  empty_path_valid ← flag_or true (get_member (codes "empty_path_valid") members)
+  peers ← peers_in (get_member (codes "peer") members)
+  Some (record {
+    local_as = local_as;
+    local_id = local_id;
+    allow_no_destination = allow_no_destination;
+    empty_path_valid = empty_path_valid;
+    peers = peers;
+  })
+
+abbrev pub config_of_document : Members → Option Config
+config_of_document members = if keys_among config_keys members then config_of_members members else None
+
+-- the configuration that the octets write
+abbrev pub config_of : List ℕ → Option Config
+config_of octets = if is_utf8 octets then parse_document octets >>= config_of_document else None

@@ -1,0 +1,160 @@
+//! The configuration file.
+
+ghost use Rattle.std.specs.Prelude.{◌≡◌, ◌==◌, Some, None, IfOk, IsErrOf};
+ghost use Rattle.std.specs.List.{list_any};
+ghost use Rattle.toml.specs.Data.{get_member};
+ghost use Rattle.toml.specs.View.{view, items_view, table_view};
+ghost use Rattle.fs_conf.specs.Config.{peer_of_data, peers_of_items, peers_in, are_distinct, identifier, config_of, config_of_document};
+
+use crate::address::{read_address, read_ipv4};
+use crate::fields::{array_at, flag_at, has_only, number_at, text_at};
+use fs_base::{Config, Peer, Peers};
+use std::alloc::{AllocFailed, Global};
+use std::str;
+use toml::{Table, Value};
+
+/// Why a configuration file wasn't taken.
+#[derive(Clone, Copy, Debug, PartialEq, Eq, Drop)]
+pub enum ConfFault {
+    /// The octets aren't such a file.
+    Refused,
+    /// The machine refused memory.
+    Memory,
+}
+
+impl From<AllocFailed<Peer>> for ConfFault {
+    ghost use Rattle.std.specs.Prelude.{◌≡◌};
+    ghost use Rattle.fs_conf.specs.declared.config.ConfFault.TheVariants.{Memory};
+
+    ghost from_gives = { λ e r. r ≡ Memory };
+
+    fn from(_error: AllocFailed<Peer>) -> ConfFault {
+        ConfFault::Memory
+    }
+}
+
+const PEER_LIMIT: usize = 1024;
+
+// The peer of one item of `[[peer]]`.
+fn read_peer(value: &Value) -> Option<Peer>
+    ensures { result ≡ peer_of_data (view value.now) }
+{
+    let table = value.as_table()?;
+    if !has_only(table, &["number", "address", "as"]) {
+        return None;
+    }
+    let number = number_at(table, "number", 1, 65535)? as u16;
+    let address = read_address(text_at(table, "address")?)?;
+    let asn = number_at(table, "as", 1, u32::MAX)?;
+    Some(Peer {
+        number,
+        address,
+        asn,
+    })
+}
+
+// A peer for each item.
+fn read_peers(alloc: Global, items: &[Value]) -> Result<Vec<Peer>, ConfFault>
+    ensures ok { IfOk result (λ peers. peers_of_items (items_view items.now) ≡ Some peers.items) }
+    ensures refused { IsErrOf result ConfFault.Refused → peers_of_items (items_view items.now) ≡ None }
+{
+    let mut peers = Vec::new(alloc);
+    for item in items {
+        let Some(peer) = read_peer(item) else {
+            return Err(ConfFault::Refused);
+        };
+        peers.push(peer)?;
+    }
+    Ok(peers)
+}
+
+// Whether a peer has this number.
+fn is_numbered(peers: &[Peer], number: u16) -> bool
+    ensures { result ≡ list_any (λ peer. peer.number == number) peers.now }
+{
+    peers.iter().any(|peer| peer.number == number)
+}
+
+// Whether no two peers have one number.
+fn have_distinct_numbers(peers: &[Peer]) -> bool
+    ensures { result ≡ are_distinct peers.now }
+{
+    let mut rest = peers;
+    while let [first, others @ ..] = rest {
+        if is_numbered(others, first.number) {
+            return false;
+        }
+        rest = others;
+    }
+    true
+}
+
+// The local BGP identifier.
+fn identifier_at(table: &Table, key: &str) -> Option<u32>
+    ensures { result ≡ identifier (get_member (key.now) (table_view table.now)) }
+{
+    match read_ipv4(text_at(table, key)?) {
+        Some(id) if id != 0 => Some(id),
+        _ => None,
+    }
+}
+
+// The peers of the array at a key.
+fn peers_at(alloc: Global, table: &Table, key: &str) -> Result<Peers, ConfFault>
+    ensures ok { IfOk result (λ peers. peers_in (get_member key.now (table_view table.now)) ≡ Some peers) }
+    ensures refused { IsErrOf result ConfFault.Refused → peers_in (get_member key.now (table_view table.now)) ≡ None }
+{
+    let Some(items) = array_at(table, key) else {
+        return Err(ConfFault::Refused);
+    };
+    let peers = read_peers(alloc, items)?;
+    if 1 <= peers.len() && peers.len() <= PEER_LIMIT && have_distinct_numbers(&peers) {
+        Ok(Peers::new(peers))
+    } else {
+        Err(ConfFault::Refused)
+    }
+}
+
+// The configuration that a document's table is.
+fn config_from(alloc: Global, table: &Table) -> Result<Config, ConfFault>
+    ensures ok { IfOk result (λ config. config_of_document (table_view table.now) ≡ Some config) }
+    ensures refused { IsErrOf result ConfFault.Refused → config_of_document (table_view table.now) ≡ None }
+{
+    let names = [
+        "local_as",
+        "local_id",
+        "allow_no_destination",
+        "empty_path_valid",
+        "peer",
+    ];
+    if !has_only(table, &names) {
+        return Err(ConfFault::Refused);
+    }
+    let refused = ConfFault::Refused;
+    Ok(Config {
+        local_as: number_at(table, "local_as", 1, u32::MAX).ok_or(refused)?,
+        local_id: identifier_at(table, "local_id").ok_or(refused)?,
+        allow_no_destination: flag_at(table, "allow_no_destination", false).ok_or(refused)?,
+        empty_path_valid: flag_at(table, "empty_path_valid", true).ok_or(refused)?,
+        peers: peers_at(alloc, table, "peer")?,
+    })
+}
+
+/// Reads a configuration file: a TOML document with `local_as` (1 to 4294967295), `local_id` (dotted IPv4,
+/// not 0.0.0.0), `allow_no_destination` (false where it is missing), `empty_path_valid` (true where it is
+/// missing) and 1 to 1024 tables `[[peer]]`, each with `number` (1 to 65535, no two the same), `address`
+/// (dotted IPv4, or IPv6 in the forms 1 and 2 of RFC 4291 section 2.2) and `as` (1 to 4294967295). A file
+/// with any other key is refused.
+pub fn read_config(alloc: Global, octets: &[u8]) -> Result<Config, ConfFault>
+    ensures ok { IfOk result (λ config. config_of octets.now ≡ Some config) }
+    ensures refused { IsErrOf result ConfFault.Refused → config_of octets.now ≡ None }
+{
+    let Ok(text) = str::from_utf8(octets) else {
+        return Err(ConfFault::Refused);
+    };
+    match toml::table_from_str(alloc, text) {
+        Ok(table) => config_from(alloc, &table),
+        Err(error) if error.is_memory() => Err(ConfFault::Memory),
+        Err(_) => Err(ConfFault::Refused),
+    }
+}

@@ -1,0 +1,10 @@
+//! The configuration file, read from its octets.
+#![tactic(auto)]
+
+mod address;
+mod config;
+mod fields;
+#[cfg(test)]
+mod tests;
+
+pub use config::{ConfFault, read_config};

@@ -1,0 +1,72 @@
+-- The lines that `enforce` writes for the packets of a capture.
+use Rattle.std.specs.Prelude.{ℕ, ◌+◌, List, [], ◌∷◌, ◌++◌, map, flat_map, filter_map, if◌then◌else◌, codes, decimal}
+use Rattle.std.specs.Option.{option_map_or}
+use Rattle.std.specs.List.{join_with_byte, list_any, slice_index_or}
+use Rattle.std.specs.Int.{to_be_bytes, w32}
+use Rattle.hex.specs.Hex.{encode_lower}
+use Rattle.fs_actions.specs.Actions.{first_of, has_flag, is_discard, limit_of, mark_of, redirect_of}
+use Rattle.fs_actions.specs.declared.community.Rate.{Rate}
+use Rattle.fs_actions.specs.declared.community.Rate.TheVariants.{Bytes, Packets}
+use Rattle.fs_actions.specs.declared.community.Redirect.{Redirect}
+use Rattle.fs_actions.specs.declared.community.Redirect.TheVariants.{As2, Ip4, As4}
+
+-- the rules at these places, counted from 0: each one's number, from 1, and its actions
+abbrev pub rules_at : List (List (List ℕ)) → List ℕ → List (ℕ × List (List ℕ))
+rules_at actions places = map (λ place. (place + 1, slice_index_or actions place [])) places
+
+-- all actions of the rules that a packet has walked, in the order of the walk and within a rule in list order
+abbrev pub actions_walked : List (ℕ × List (List ℕ)) → List (List ℕ)
+actions_walked rules = flat_map (λ rule. rule.1) rules
+
+-- a packet passes unless a rate lets nothing pass (RFC 8955 sections 7.1 and 7.2)
+abbrev pub verdict_text : List (List ℕ) → List ℕ
+verdict_text actions = if list_any is_discard actions then codes " discard" else codes " pass"
+
+-- a word, and a number directly after it
+abbrev pub numbered : List ℕ → ℕ → List ℕ
+numbered word number = word ++ decimal number
+
+-- the numbers of the rules walked, with commas between them
+abbrev pub numbers_text : List ℕ → List ℕ
+numbers_text [] = []
+numbers_text (first ∷ others) = numbered (codes " rules ") first ++ flat_map (numbered (codes ",")) others
+
+-- a DSCP value, in decimal (RFC 8955 section 7.5)
+abbrev pub mark_text : ℕ → List ℕ
+mark_text mark = numbered (codes " mark ") mark
+
+-- an IPv4 address, its four octets in decimal with dots between them
+abbrev pub address_text : ℕ → List ℕ
+address_text address = join_with_byte 46 (map decimal (to_be_bytes w32 address))
+
+-- a route target, by the form of its community (RFC 8955 section 7.4)
+abbrev pub target_text : Redirect → List ℕ
+target_text (As2 asn number) = numbered (codes "as2:") asn ++ numbered (codes ":") number
+target_text (Ip4 address number) = (codes "ip4:" ++ address_text address) ++ numbered (codes ":") number
+target_text (As4 asn number) = numbered (codes "as4:") asn ++ numbered (codes ":") number
+
+abbrev pub redirect_text : Redirect → List ℕ
+redirect_text target = codes " redirect " ++ target_text target
+
+-- a rate that lets something pass, by its four octets, in bytes or in packets (RFC 8955 sections 7.1 and 7.2)
+abbrev pub rate_text : Rate → List ℕ
+rate_text (Bytes figure) = codes " bytes " ++ encode_lower (to_be_bytes w32 figure)
+rate_text (Packets figure) = codes " packets " ++ encode_lower (to_be_bytes w32 figure)
+
+-- what the actions of a walk say beside the verdict: the first marking, the first redirect, sampling by the S bit of any
+-- traffic-action (RFC 8955 section 7.3), and each rate that lets something pass
+abbrev pub effects_text : List (List ℕ) → List ℕ
+effects_text actions =
+    option_map_or mark_text (first_of mark_of actions) []
+    ++ (option_map_or redirect_text (first_of redirect_of actions) []
+    ++ ((if list_any (has_flag 2) actions then codes " sample" else [])
+    ++ flat_map rate_text (filter_map limit_of actions)))
+
+-- the line of a packet that was judged: the record's number, from 1, and the rules walked
+abbrev pub line_of : ℕ → List (ℕ × List (List ℕ)) → List ℕ
+line_of number rules =
+    decimal number ++ (verdict_text (actions_walked rules) ++ (numbers_text (map (λ rule. rule.0) rules) ++ (effects_text (actions_walked rules) ++ codes "\n")))
+
+-- the line of a packet that can't be judged, with the number of the reason
+abbrev pub unread_line_of : ℕ → ℕ → List ℕ
+unread_line_of number reason = decimal number ++ (numbered (codes " unread ") reason ++ codes "\n")

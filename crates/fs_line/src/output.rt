@@ -1,0 +1,99 @@
+ghost use Rattle.std.specs.Prelude.{◌≡◌, ◌+◌, ◌≤◌, [], ◌++◌, length, IfOk, IsOk, OnErr, OnOk};
+ghost use Rattle.fs_base.specs.Outside.{HasCause, Grew, GrewPart};
+ghost use Rattle.fs_line.specs.Output.{Goes, Stops};
+
+use fs_base::{Failed, Memory, Sink, write_all};
+use std::alloc::Global;
+use std::marker::Model;
+
+/// How many octets an `Output` keeps back.
+const CAPACITY: usize = 65536;
+
+/// Text on its way to a sink. Small pieces are kept back, in a buffer that is made once, and leave together.
+///
+/// Contracts see the octets that are kept back.
+#[derive(Drop)]
+pub struct Output {
+    pending: Vec<u8>,
+}
+
+impl Model for Output {
+    ghost use Rattle.std.specs.Prelude.{ℕ, ◌≤◌, List, vec_capacity, vec_len};
+
+    ghost Value = { List ℕ };
+
+    ghost view = { λ a. a.pending.items };
+
+    ghost invariant = { λ a. (65536 ≤ vec_capacity a.pending) × (vec_len a.pending ≤ 65536) };
+}
+
+impl Output {
+    /// An output with nothing pending. Takes the 65536 octets of its buffer; no other call takes memory.
+    pub fn new(alloc: Global) -> Result<Output, Memory>
+        ensures { IfOk result (λ output. output ≡ []) }
+    {
+        Ok(Output {
+            pending: Vec::with_capacity(alloc, CAPACITY)?,
+        })
+    }
+
+    /// Sends a piece after what is pending. A piece that fits is kept back; otherwise what is pending is
+    /// written out first, and a piece as large as the buffer is then written as it is.
+    ///
+    /// Answers Failed where the sink fails. A part of what was to go may then be written, and nothing is
+    /// pending.
+    pub fn put<S: Sink>(&mut self, sink: &mut S, piece: &[u8]) -> Result<(), Failed>
+        ensures ok { OnOk result (Goes (S.written sink.old) (S.written sink.new) self.old self.new piece.now) }
+        ensures err { OnErr result (Stops (S.written sink.old) (S.written sink.new) self.old piece.now) }
+        ensures dropped { OnErr result (self.new ≡ []) }
+        ensures cause { HasCause (S.faults sink.old) (S.faults sink.new) result }
+
+        // The sink isn't called for a piece that fits.
+        ensures kept_back { length self.old + length piece.now ≤ 65536 → IsOk result × (self.new ≡ self.old ++ piece.now) × (sink.new ≡ sink.old) }
+    {
+        if piece.len() <= self.room() {
+            self.keep_back(piece);
+            return Ok(());
+        }
+        self.flush(sink)?;
+        if piece.len() < CAPACITY {
+            self.keep_back(piece);
+            Ok(())
+        } else {
+            write_all(sink, piece)
+        }
+    }
+
+    /// Writes out what is pending. Answers Failed where the sink fails; a part of it may then be written.
+    /// Nothing is pending afterwards.
+    pub fn flush<S: Sink>(&mut self, sink: &mut S) -> Result<(), Failed>
+        ensures ok { OnOk result (Grew (S.written sink.old) (S.written sink.new) self.old) }
+        ensures err { OnErr result (GrewPart (S.written sink.old) (S.written sink.new) self.old) }
+        ensures empty { self.new ≡ [] }
+        ensures cause { HasCause (S.faults sink.old) (S.faults sink.new) result }
+    {
+        if self.pending.is_empty() {
+            return Ok(());
+        }
+        let outcome = write_all(sink, &self.pending);
+        self.pending.clear();
+        outcome
+    }
+
+    /// How many more octets the buffer takes.
+    fn room(&self) -> usize
+        ensures { result + length self.now ≡ CAPACITY }
+    {
+        CAPACITY - self.pending.len()
+    }
+
+    /// Adds a piece that fits to the octets that are kept back.
+    fn keep_back(&mut self, piece: &[u8])
+        requires { length self.old + length piece.now ≤ CAPACITY }
+        ensures { self.new ≡ self.old ++ piece.now }
+    {
+        let Ok(()) = self.pending.extend_from_slice(piece) else {
+            unreachable!()
+        };
+    }
+}

@@ -1,0 +1,3 @@
+mod Begun
+mod Gathering
+pub mod Staying

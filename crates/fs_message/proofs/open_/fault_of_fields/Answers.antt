@@ -1,0 +1,11 @@
+use Rattle.std.proofs.Common.{◌≡◌, sym, arith}
+use Rattle.std.proofs.lemmas.Bool.Decides.{nat_tests}
+use Rattle.std.proofs.lemmas.Grind.{common_steps}
+use Rattle.fs_message.proofs.Gathering.{fields_right, fields_sized}
+use Rattle.fs_message.proofs.open_.fault_of_fields.Goals as goal
+
+pub returns-then-body : goal.returns-then-body
+returns-then-body c = sym (fields_sized _ _ _ _ _ (grind (arith, nat_tests, common_steps)) (grind (arith, nat_tests, common_steps)) (grind (arith, nat_tests, common_steps)) (grind (arith, nat_tests, common_steps)) (grind (arith, nat_tests, common_steps)))
+
+pub returns : goal.returns
+returns c = sym (fields_right _ _ _ _ _ (grind (arith, nat_tests, common_steps)) (grind (arith, nat_tests, common_steps)) (grind (arith, nat_tests, common_steps)) (grind (arith, nat_tests, common_steps)) (grind (arith, nat_tests, common_steps)))

@@ -1,0 +1,13 @@
+//! Laws of the definitions.
+
+ghost use Rattle.fs_base.specs.Parts.{Shrinks, Stable};
+ghost use Rattle.fs_message.specs.Stream.{first_message};
+ghost use Rattle.fs_message.specs.Framing.{FaultStays};
+
+/// A message of a stream has octets, and it stands there whatever follows it; so does a fault. So the
+/// messages and the fault of a stream are those of its pieces, one after the other.
+pub fn messages_stay()
+    ensures shrinks { Shrinks first_message }
+    ensures stable { Stable first_message }
+    ensures fault { FaultStays }
+{}

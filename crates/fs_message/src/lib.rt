@@ -1,0 +1,21 @@
+//! BGP messages: framing of an octet stream, OPEN and NOTIFICATION, and the texts of messages (RFC 4271).
+#![tactic(auto)]
+
+mod capabilities;
+mod deframer;
+mod fault;
+mod header;
+mod laws;
+mod notice;
+mod open_;
+#[cfg(test)]
+mod tests;
+mod write;
+
+pub use deframer::{Deframer, Frame};
+pub use fault::MessageFault;
+pub use header::{KEEPALIVE, NOTIFICATION, OPEN, ROUTE_REFRESH, UPDATE};
+pub use laws::messages_stay;
+pub use notice::Notice;
+pub use open_::Open;
+pub use write::{write_keepalive, write_notice, write_open, write_update_frame};

@@ -1,0 +1,263 @@
+-- What stands behind a type: of each form one body at most stands at the front, and what reading finds says what is wrong.
+use Rattle.std.proofs.Common.{◌≡◌, ℕ, zero, suc, ◌+◌, ◌-◌, ◌<◌, ◌≤◌, inl, inr, List, [], ◌∷◌, ◌++◌, Option, length, take, drop, replicate, refl, ap, sym, subst, ◌∙◌, arith, length-append}
+use Rattle.std.proofs.lemmas.List.{append-nil, length-replicate, take_all, take-append-drop}
+use Rattle.std.proofs.lemmas.List.Elements.{All-replicate}
+use Rattle.fs_base.specs.declared.prefix.Family.TheVariants.{V4}
+use Rattle.fs_base.specs.Language.{IsOctets, Begins, NoFront, IsCut, IsFirstFault}
+use Rattle.fs_base.proofs.Octets.{append_same, octets_cons}
+use Rattle.fs_ops.specs.declared.kind.Kind.{Kind}
+use Rattle.fs_ops.proofs.Grammar.{same_list}
+use Rattle.fs_nlri.specs.Forms.{Form, V4Form, V6Form, ListForm, kept_bits}
+use Rattle.fs_nlri.specs.Parts.{Body, V4Body, V6Body, ListBody}
+use Rattle.fs_nlri.specs.Spelling.{SpellsV4, SpellsV6, SpellsList, SpellsBody, IsRange, octets_for, first_bits}
+use Rattle.fs_nlri.specs.Reading.{IsBody}
+
+-- two bodies at the front of one list are one
+pub record SameBody (a b : List ℕ) (p q : Body) (s t : List ℕ) : Type 0 where
+  pub octets : a ≡ b
+  pub body : p ≡ q
+  pub rest : s ≡ t
+
+opened : (a front s : List ℕ) → a ≡ front → a ++ s ≡ front ++ s
+opened a front s split = ap (λ (l : List ℕ). l ++ s) split
+
+same_v4 : (a b s t : List ℕ) (p q : Body) → SpellsV4 a p → SpellsV4 b q → a ++ s ≡ b ++ t → SameBody a b p q s t
+same_v4 a b s t p q one other same =
+    let joined : one.len ∷ (one.address ++ s) ≡ other.len ∷ (other.address ++ t) =
+    sym (opened a (one.len ∷ one.address) s one.split) ∙ same ∙ opened b (other.len ∷ other.address) t other.split in
+    let lens : one.len ≡ other.len = cc in
+    let tails : one.address ++ s ≡ other.address ++ t = cc in
+    let sizes : length one.address ≡ length other.address = one.size ∙ ap octets_for lens ∙ sym other.size in
+    let found = append_same one.address s other.address t sizes tails in
+    let addresses : one.address ≡ other.address = found.0 in
+    let texts : one.len ∷ one.address ≡ other.len ∷ other.address = cc in
+    record {
+      octets = one.split ∙ texts ∙ sym other.split;
+      body =
+          one.says
+          ∙ ap (λ (len : ℕ). V4Body V4 len (first_bits 32 len one.address)) lens
+          ∙ ap (λ (address : List ℕ). V4Body V4 other.len (first_bits 32 other.len address)) addresses
+          ∙ sym other.says;
+      rest = found.1;
+    }
+
+same_v6 : (a b s t : List ℕ) (p q : Body) → SpellsV6 a p → SpellsV6 b q → a ++ s ≡ b ++ t → SameBody a b p q s t
+same_v6 a b s t p q one other same =
+    let joined : one.len ∷ one.offset ∷ (one.pattern ++ s) ≡ other.len ∷ other.offset ∷ (other.pattern ++ t) =
+    sym (opened a (one.len ∷ one.offset ∷ one.pattern) s one.split) ∙ same ∙ opened b (other.len ∷ other.offset ∷ other.pattern) t other.split in
+    let lens : one.len ≡ other.len = cc in
+    let offsets : one.offset ≡ other.offset = cc in
+    let tails : one.pattern ++ s ≡ other.pattern ++ t = cc in
+    let counts : one.len - one.offset ≡ other.len - other.offset = ap (λ (len : ℕ). len - one.offset) lens ∙ ap (λ (offset : ℕ). other.len - offset) offsets in
+    let sizes : length one.pattern ≡ length other.pattern = one.size ∙ ap octets_for counts ∙ sym other.size in
+    let found = append_same one.pattern s other.pattern t sizes tails in
+    let patterns : one.pattern ≡ other.pattern = found.0 in
+    let texts : one.len ∷ one.offset ∷ one.pattern ≡ other.len ∷ other.offset ∷ other.pattern = cc in
+    record {
+      octets = one.split ∙ texts ∙ sym other.split;
+      body =
+          one.says
+          ∙ ap (λ (len : ℕ). V6Body len one.offset (first_bits 128 (len - one.offset) one.pattern)) lens
+          ∙ ap (λ (offset : ℕ). V6Body other.len offset (first_bits 128 (other.len - offset) one.pattern)) offsets
+          ∙ ap (λ (pattern : List ℕ). V6Body other.len other.offset (first_bits 128 (other.len - other.offset) pattern)) patterns
+          ∙ sym other.says;
+      rest = found.1;
+    }
+
+same_lists : (kind : Kind) (widths : List ℕ) (bits : Option ℕ) (a b s t : List ℕ) (p q : Body) → SpellsList kind widths bits a p → SpellsList kind widths bits b q → a ++ s ≡ b ++ t → SameBody a b p q s t
+same_lists kind widths bits a b s t p q one other same =
+    let found = same_list kind widths a b s t one.pairs other.pairs one.spells other.spells same in
+    record {
+      octets = found.octets;
+      body = one.says ∙ ap (λ (pairs : List (ℕ × ℕ)). ListBody (kept_bits bits pairs)) found.pairs ∙ sym other.says;
+      rest = found.rest;
+    }
+
+pub same_body : (form : Form) (a b s t : List ℕ) (p q : Body) → SpellsBody form a p → SpellsBody form b q → a ++ s ≡ b ++ t → SameBody a b p q s t
+same_body V4Form a b s t p q one other same = same_v4 a b s t p q one other same
+same_body V6Form a b s t p q one other same = same_v6 a b s t p q one other same
+same_body (ListForm kind widths bits) a b s t p q one other same = same_lists kind widths bits a b s t p q one other same
+
+-- IPv4
+
+not_empty : (octet : ℕ) (octets : List ℕ) → [] ≡ octet ∷ octets → ⊥
+not_empty octet octets same = cc
+
+-- what a length at the front of a prefix's octets promises
+record V4Opening (len : ℕ) (tail : List ℕ) : Type 0 where
+  short : len ≤ 32
+  room : octets_for len ≤ length tail
+
+v4_opening : (octets more tail : List ℕ) (body : Body) (len : ℕ) → SpellsV4 octets body → octets ++ more ≡ len ∷ tail → V4Opening len tail
+v4_opening octets more tail body len spells same =
+    let joined : spells.len ∷ (spells.address ++ more) ≡ len ∷ tail = sym (opened octets (spells.len ∷ spells.address) more spells.split) ∙ same in
+    let lens : spells.len ≡ len = cc in
+    let tails : spells.address ++ more ≡ tail = cc in
+    let counts : octets_for spells.len ≡ octets_for len = ap octets_for lens in
+    let whole : length spells.address + length more ≡ length tail = sym (length-append spells.address more) ∙ ap length tails in
+    let size : length spells.address ≡ octets_for spells.len = spells.size in
+    let short : spells.len ≤ 32 = spells.short in
+    record { short = omega arith; room = omega arith }
+
+abbrev IsV4 : List ℕ → Type 0
+IsV4 = IsBody V4Form
+
+v4_is : (len : ℕ) (address : List ℕ) → len ≤ 32 → length address ≡ octets_for len → IsV4 (len ∷ address)
+v4_is len address short size =
+    record { body = V4Body V4 len (first_bits 32 len address); spells = record { len = len; address = address; split = refl; short = short; size = size; says = refl } }
+
+zeros_are_octets : (n : ℕ) → IsOctets (replicate n 0)
+zeros_are_octets n = All-replicate (λ octet. octet < 256) n 0 (omega arith)
+
+v4_begins_empty : Begins IsV4 []
+v4_begins_empty = record { more = 0 ∷ []; are_octets = zeros_are_octets 1; whole = v4_is 0 [] (omega arith) refl }
+
+no_v4_empty : NoFront IsV4 []
+no_v4_empty n whole =
+    not_empty whole.spells.len whole.spells.address (sym (take_all n [] (omega arith)) ∙ whole.spells.split)
+
+no_v4 : (len : ℕ) (tail : List ℕ) → (V4Opening len tail → ⊥) → NoFront IsV4 (len ∷ tail)
+no_v4 len tail none n whole =
+    none (v4_opening (take n (len ∷ tail)) (drop n (len ∷ tail)) tail whole.body len whole.spells (take-append-drop n (len ∷ tail)))
+
+pub v4_empty : NoFront IsV4 [] × IsCut IsV4 [] 0
+v4_empty = (no_v4_empty, record { at_end = refl; begins = v4_begins_empty })
+
+pub v4_length : (len : ℕ) (tail : List ℕ) → 32 < len → NoFront IsV4 (len ∷ tail) × IsFirstFault IsV4 (len ∷ tail) 0 × ◌≡◌ {A = ℕ} 0 0
+v4_length len tail long =
+    let bad : (rest : List ℕ) → V4Opening len rest → ⊥ = λ rest given. absurd (let short : len ≤ 32 = given.short in omega arith) in (
+      no_v4 len tail (bad tail),
+      record {
+        inside = omega arith;
+        before = v4_begins_empty;
+        at = λ begins. bad begins.more (v4_opening (len ∷ begins.more) [] begins.more begins.whole.body len begins.whole.spells (append-nil (len ∷ begins.more)));
+      },
+      refl,
+    )
+
+pub v4_cut : (len : ℕ) (tail : List ℕ) → len ≤ 32 → length tail < octets_for len → NoFront IsV4 (len ∷ tail) × IsCut IsV4 (len ∷ tail) (1 + length tail)
+v4_cut len tail short few =
+    let count = octets_for len - length tail in
+    let size : length (tail ++ replicate count 0) ≡ octets_for len = length-append tail (replicate count 0) ∙ omega (arith, length-replicate {A = ℕ} count 0) in (
+      no_v4 len tail (λ given. let room : octets_for len ≤ length tail = given.room in omega arith),
+      record {
+        at_end = omega arith;
+        begins = record { more = replicate count 0; are_octets = zeros_are_octets count; whole = v4_is len (tail ++ replicate count 0) short size };
+      },
+    )
+
+-- IPv6
+
+record V6Opening (len : ℕ) (tail : List ℕ) : Type 0 where
+  short : len ≤ 128
+  offset : ℕ
+  pattern : List ℕ
+  behind : tail ≡ offset ∷ pattern
+  range : IsRange len offset
+  room : octets_for (len - offset) ≤ length pattern
+
+v6_opening : (octets more tail : List ℕ) (body : Body) (len : ℕ) → SpellsV6 octets body → octets ++ more ≡ len ∷ tail → V6Opening len tail
+v6_opening octets more tail body len spells same =
+    let joined : spells.len ∷ spells.offset ∷ (spells.pattern ++ more) ≡ len ∷ tail =
+    sym (opened octets (spells.len ∷ spells.offset ∷ spells.pattern) more spells.split) ∙ same in
+    let lens : spells.len ≡ len = cc in
+    let tails : spells.offset ∷ (spells.pattern ++ more) ≡ tail = cc in
+    let range : IsRange len spells.offset = subst (λ (l : ℕ). IsRange l spells.offset) lens spells.range in
+    let size : length spells.pattern ≡ octets_for (len - spells.offset) = spells.size ∙ ap (λ (l : ℕ). octets_for (l - spells.offset)) lens in
+    record {
+      short = range.0;
+      offset = spells.offset;
+      pattern = spells.pattern ++ more;
+      behind = sym tails;
+      range = range;
+      room = omega (arith, length-append spells.pattern more, size);
+    }
+
+abbrev IsV6 : List ℕ → Type 0
+IsV6 = IsBody V6Form
+
+v6_is : (len offset : ℕ) (pattern : List ℕ) → IsRange len offset → length pattern ≡ octets_for (len - offset) → IsV6 (len ∷ offset ∷ pattern)
+v6_is len offset pattern range size =
+    record {
+      body = V6Body len offset (first_bits 128 (len - offset) pattern);
+      spells = record { len = len; offset = offset; pattern = pattern; split = refl; range = range; size = size; says = refl };
+    }
+
+-- an offset of 0 goes with each length
+from_zero : (len : ℕ) → len ≤ 128 → IsRange len 0
+from_zero zero short = (short, inr (refl, refl))
+from_zero (suc len) short = (short, inl (omega arith))
+
+v6_begins_length : (len : ℕ) → len ≤ 128 → Begins IsV6 (len ∷ [])
+v6_begins_length len short =
+    let count = octets_for (len - 0) in
+    record {
+      more = 0 ∷ replicate count 0;
+      are_octets = octets_cons 0 (replicate count 0) (omega arith) (zeros_are_octets count);
+      whole = v6_is len 0 (replicate count 0) (from_zero len short) (length-replicate {A = ℕ} count 0);
+    }
+
+v6_begins_empty : Begins IsV6 []
+v6_begins_empty = record { more = 0 ∷ 0 ∷ []; are_octets = zeros_are_octets 2; whole = v6_is 0 0 [] (from_zero 0 (omega arith)) refl }
+
+no_v6 : (len : ℕ) (tail : List ℕ) → (V6Opening len tail → ⊥) → NoFront IsV6 (len ∷ tail)
+no_v6 len tail none n whole =
+    none (v6_opening (take n (len ∷ tail)) (drop n (len ∷ tail)) tail whole.body len whole.spells (take-append-drop n (len ∷ tail)))
+
+no_v6_empty : NoFront IsV6 []
+no_v6_empty n whole =
+    not_empty whole.spells.len (whole.spells.offset ∷ whole.spells.pattern) (sym (take_all n [] (omega arith)) ∙ whole.spells.split)
+
+pub v6_empty : NoFront IsV6 [] × IsCut IsV6 [] 0
+v6_empty = (no_v6_empty, record { at_end = refl; begins = v6_begins_empty })
+
+pub v6_length : (len : ℕ) (tail : List ℕ) → 128 < len → NoFront IsV6 (len ∷ tail) × IsFirstFault IsV6 (len ∷ tail) 0 × ◌≡◌ {A = ℕ} 0 0
+v6_length len tail long =
+    let bad : (rest : List ℕ) → V6Opening len rest → ⊥ = λ rest given. absurd (let short : len ≤ 128 = given.short in omega arith) in (
+      no_v6 len tail (bad tail),
+      record {
+        inside = omega arith;
+        before = v6_begins_empty;
+        at = λ begins. bad begins.more (v6_opening (len ∷ begins.more) [] begins.more begins.whole.body len begins.whole.spells (append-nil (len ∷ begins.more)));
+      },
+      refl,
+    )
+
+pub v6_one : (len : ℕ) → len ≤ 128 → NoFront IsV6 (len ∷ []) × IsCut IsV6 (len ∷ []) 1
+v6_one len short = (
+  no_v6 len [] (λ given. let none : [] ≡ given.offset ∷ given.pattern = given.behind in cc),
+  record { at_end = refl; begins = v6_begins_length len short },
+)
+
+-- the offset of an opening is the one that stands there
+at_offset : (len offset : ℕ) (pattern : List ℕ) (given : V6Opening len (offset ∷ pattern)) → IsRange len offset × (octets_for (len - offset) ≤ length pattern)
+at_offset len offset pattern given =
+    let same : offset ∷ pattern ≡ given.offset ∷ given.pattern = given.behind in
+    let offsets : given.offset ≡ offset = cc in
+    let patterns : given.pattern ≡ pattern = cc in (
+      subst (λ (o : ℕ). IsRange len o) offsets given.range,
+      subst (λ (p : List ℕ). octets_for (len - offset) ≤ length p) patterns (subst (λ (o : ℕ). octets_for (len - o) ≤ length given.pattern) offsets given.room),
+    )
+
+pub v6_offset : (len offset : ℕ) (tail : List ℕ) → len ≤ 128 → (IsRange len offset → ⊥) → NoFront IsV6 (len ∷ offset ∷ tail) × IsFirstFault IsV6 (len ∷ offset ∷ tail) 1 × ◌≡◌ {A = ℕ} 1 1
+v6_offset len offset tail short bad = (
+  no_v6 len (offset ∷ tail) (λ given. bad (at_offset len offset tail given).0),
+  record {
+    inside = omega arith;
+    before = v6_begins_length len short;
+    at = λ begins. bad (at_offset len offset begins.more
+        (v6_opening (len ∷ offset ∷ begins.more) [] (offset ∷ begins.more) begins.whole.body len begins.whole.spells (append-nil (len ∷ offset ∷ begins.more)))).0;
+  },
+  refl,
+)
+
+pub v6_cut : (len offset : ℕ) (tail : List ℕ) → IsRange len offset → length tail < octets_for (len - offset) → NoFront IsV6 (len ∷ offset ∷ tail) × IsCut IsV6 (len ∷ offset ∷ tail) (2 + length tail)
+v6_cut len offset tail range few =
+    let count = octets_for (len - offset) - length tail in
+    let size : length (tail ++ replicate count 0) ≡ octets_for (len - offset) = length-append tail (replicate count 0) ∙ omega (arith, length-replicate {A = ℕ} count 0) in (
+      no_v6 len (offset ∷ tail) (λ given. let room : octets_for (len - offset) ≤ length tail = (at_offset len offset tail given).1 in omega arith),
+      record {
+        at_end = omega arith;
+        begins = record { more = replicate count 0; are_octets = zeros_are_octets count; whole = v6_is len offset (tail ++ replicate count 0) range size };
+      },
+    )

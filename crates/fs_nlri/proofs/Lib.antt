@@ -1,0 +1,13 @@
+pub mod Bodies
+pub mod BodyReaders
+pub mod Fronts
+pub mod ValueFaults
+pub mod ValueSteps
+pub mod Made
+pub mod NormalForm
+pub mod Frames
+pub mod Writable
+pub mod Every
+pub mod Fed
+pub mod OneOutcome
+pub mod Again

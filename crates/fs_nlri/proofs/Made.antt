@@ -1,0 +1,75 @@
+-- That components which are the family's, by rising types, are in normal form once the bits that it clears are cleared.
+use Rattle.std.proofs.Common.{◌≡◌, ℕ, ◌-◌, ◌≤◌, ◌==◌, Bool, true, ◌&&◌, ◌||◌, List, [], ◌∷◌, Option, Some, None, map, bit_and, refl, ap, sym, subst, ◌∙◌, arith, inl, inr, length, nat_le, nat_lt}
+use Rattle.std.specs.List.{AllByRecursion, list_any}
+use Rattle.std.specs.Int.Bits.{and_self}
+use Rattle.std.proofs.lemmas.Nat.{and_assoc}
+use Rattle.std.proofs.lemmas.Bool.{false≢true, and_parts, or_cases, ltb-true, leb-true, eqb-true}
+use Rattle.fs_base.specs.declared.prefix.Family.{Family}
+use Rattle.fs_base.specs.declared.prefix.Family.TheVariants.{V4, V6}
+use Rattle.fs_base.proofs.Blocks.{cleared_again}
+use Rattle.fs_ops.specs.Operator.{width_code}
+use Rattle.fs_ops.proofs.Normal.{with_bits, kept_is_normal}
+use Rattle.fs_nlri.specs.Forms.{Form, V4Form, V6Form, ListForm, form_of, all_allowed}
+use Rattle.fs_nlri.specs.Parts.{Body, V4Body, V6Body, ListBody, Part, ruled}
+use Rattle.fs_nlri.specs.Spelling.{IsRange}
+use Rattle.fs_nlri.specs.Rule.{IsNormalBody, IsNormalAt, AreNormal, IsRule, is_range, body_given, given_at, part_given, all_given, rises, cleared_body, cleared_at, cleared_parts, canonical_value}
+use Rattle.fs_nlri.specs.Making.{IsSoundBody, IsSoundAt, IsSound}
+
+range_of : (len offset : ℕ) → is_range len offset ≡ true → IsRange len offset
+range_of len offset is =
+    let parts = and_parts (nat_le len 128) (nat_lt offset len || ((len == 0) && (offset == 0))) is in (
+      leb-true len 128 parts.0,
+      elim (or_cases (nat_lt offset len) ((len == 0) && (offset == 0)) parts.1) [
+        | inl below ↦ inl (ltb-true offset len below)
+        | inr zeros ↦ let both = and_parts (len == 0) (offset == 0) zeros in inr (eqb-true len 0 both.0, eqb-true offset 0 both.1)
+      ],
+    )
+
+-- clearing the same bits again changes nothing
+kept_again : (bits : ℕ) (pairs : List (ℕ × ℕ)) → map (with_bits bits) pairs ≡ map (with_bits bits) (map (with_bits bits) pairs)
+kept_again bits [] = refl
+kept_again bits (pair ∷ pairs) =
+    ap (λ (n : ℕ). let all : List (ℕ × ℕ) = (pair.0, n) ∷ map (with_bits bits) pairs in all) (sym (and_assoc bits pair.1 bits ∙ ap (λ (n : ℕ). bit_and pair.1 n) (and_self bits)))
+    ∙ ap (λ (l : List (ℕ × ℕ)). with_bits bits (with_bits bits pair) ∷ l) (kept_again bits pairs)
+
+allowed_kept : (widths : List ℕ) (bits : ℕ) (pairs : List (ℕ × ℕ)) → all_allowed widths (map (with_bits bits) pairs) ≡ all_allowed widths pairs
+allowed_kept widths bits [] = refl
+allowed_kept widths bits (pair ∷ pairs) = ap (λ (b : Bool). list_any (λ (width : ℕ). width == width_code pair.0) widths && b) (allowed_kept widths bits pairs)
+
+normal_list : (form : Form) (pairs : List (ℕ × ℕ)) → body_given form (ListBody pairs) ≡ true → IsSoundBody form (ListBody pairs) → IsNormalBody form (cleared_body form (ListBody pairs))
+normal_list V4Form pairs given sound = absurd (false≢true given)
+normal_list V6Form pairs given sound = absurd (false≢true given)
+normal_list (ListForm kind widths None) pairs given sound = (sound, given, refl)
+normal_list (ListForm kind widths (Some bits)) pairs given sound =
+    (kept_is_normal kind bits pairs sound, allowed_kept widths bits pairs ∙ given, kept_again bits pairs)
+
+normal_body : (form : Form) (body : Body) → body_given form body ≡ true → IsSoundBody form body → IsNormalBody form (cleared_body form body)
+normal_body form (ListBody pairs) given sound = normal_list form pairs given sound
+normal_body V4Form (V4Body V4 len bits) given sound = (refl, sound.0, sound.1)
+normal_body V4Form (V4Body V6 len bits) given sound = absurd (false≢true given)
+normal_body V4Form (V6Body len offset pattern) given sound = absurd (false≢true given)
+normal_body V6Form (V4Body family len bits) given sound = absurd (false≢true given)
+normal_body V6Form (V6Body len offset pattern) given sound =
+    let range = range_of len offset given in
+    let whole : len ≤ 128 = range.0 in
+    (range, cleared_again 128 (len - offset) pattern (omega arith))
+normal_body (ListForm kind widths bits) (V4Body family len address) given sound = absurd (false≢true given)
+normal_body (ListForm kind widths bits) (V6Body len offset pattern) given sound = absurd (false≢true given)
+
+normal_at : (form : Option Form) (body : Body) → given_at form body ≡ true → IsSoundAt form body → IsNormalAt form (cleared_at form body)
+normal_at None body given sound = absurd (false≢true given)
+normal_at (Some form) body given sound = normal_body form body given sound
+
+are_normal : (family : Family) (last : ℕ) (parts : List Part) → all_given family parts ≡ true → rises last parts ≡ true → AllByRecursion (IsSound family) parts → AreNormal family last (cleared_parts family parts)
+are_normal family last [] given rising sound = tt
+are_normal family last (part ∷ parts) given rising sound =
+    let own = and_parts (part_given family part) (all_given family parts) given in
+    let above = and_parts (nat_lt last part.kind) (rises part.kind parts) rising in
+    (ltb-true last part.kind above.0, normal_at (form_of family part.kind) part.body own.0 sound.0, are_normal family part.kind parts own.1 above.1 sound.1)
+
+-- what is made is a rule
+pub made_rule : (family : Family) (parts made : List Part) → made ≡ cleared_parts family parts → all_given family parts ≡ true → rises 0 parts ≡ true → AllByRecursion (IsSound family) parts → nat_le (length (canonical_value made)) 4095 ≡ true → IsRule (ruled family made)
+made_rule family parts made is given rising sound fits = record {
+  normal = subst (AreNormal family 0) (sym is) (are_normal family 0 parts given rising sound);
+  fits = leb-true (length (canonical_value made)) 4095 fits;
+}

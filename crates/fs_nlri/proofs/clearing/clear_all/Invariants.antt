@@ -1,0 +1,7 @@
+use Rattle.std.proofs.Common.{◌≡◌}
+use Rattle.fs_nlri.specs.Components.{parts_of}
+use Rattle.fs_nlri.specs.Rule.{cleared_parts}
+use Rattle.fs_nlri.proofs.clearing.clear_all.Given as goal
+
+abbrev pub invariant-loop-component : goal.invariant-loop-component
+invariant-loop-component l = parts_of l.list.items ≡ cleared_parts l.family (parts_of l.yielded)

@@ -1,0 +1,6 @@
+use Rattle.std.proofs.Common.{◌≡◌, drop}
+use Rattle.fs_nlri.specs.Forms.{all_allowed}
+use Rattle.fs_nlri.proofs.given.are_allowed.Given as goal
+
+abbrev pub invariant-loop-operator : goal.invariant-loop-operator
+invariant-loop-operator l = all_allowed l.widths (drop l.operator-index l.pairs) ≡ all_allowed l.widths l.pairs

@@ -1,0 +1,7 @@
+use Rattle.std.proofs.Common.{◌≡◌, drop}
+use Rattle.fs_nlri.specs.Components.{parts_of}
+use Rattle.fs_nlri.specs.Rule.{rises}
+use Rattle.fs_nlri.proofs.given.rise.Given as goal
+
+abbrev pub invariant-loop-component : goal.invariant-loop-component
+invariant-loop-component l = rises l.last (parts_of (drop l.component-index l.components)) ≡ rises 0 (parts_of l.components)

@@ -1,0 +1,10 @@
+use Rattle.std.proofs.Common.{length}
+use Rattle.fs_nlri.specs.Components.{parts_of}
+use Rattle.fs_nlri.proofs.ValueSteps.{HasRead}
+use Rattle.fs_nlri.proofs.value.read_components.Given as goal
+
+abbrev pub invariant-loop-rest : goal.invariant-loop-rest
+invariant-loop-rest l = HasRead l.family l.octets l.rest l.last (parts_of l.components.items)
+
+abbrev pub decreases-loop-rest : goal.decreases-loop-rest
+decreases-loop-rest l = length l.rest

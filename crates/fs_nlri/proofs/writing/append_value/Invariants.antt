@@ -1,0 +1,7 @@
+use Rattle.std.proofs.Common.{◌≡◌, ◌++◌, take}
+use Rattle.fs_nlri.specs.Components.{parts_of}
+use Rattle.fs_nlri.specs.Rule.{canonical_value}
+use Rattle.fs_nlri.proofs.writing.append_value.Given as goal
+
+abbrev pub invariant-loop-component : goal.invariant-loop-component
+invariant-loop-component l = l.out.items ≡ l.initial.out.items ++ canonical_value (parts_of (take l.component-index l.components))

@@ -1,0 +1,23 @@
+-- Laws of frames. They speak of the rules of one family, since a frame doesn't say its own.
+use Rattle.std.specs.Prelude.{◌≡◌, ◌↔◌, ℕ, List, [], ◌++◌}
+use Rattle.fs_base.specs.Language.{IsOctets}
+use Rattle.fs_nlri.specs.Parts.{Ruled}
+use Rattle.fs_nlri.specs.Spelling.{IsFrame}
+use Rattle.fs_nlri.specs.Rule.{IsRule, canonical_frame}
+
+-- no frame is a proper prefix of another
+abbrev pub NoFrameGoesOn : Type 0
+NoFrameGoesOn = (one other : Ruled) (frame more : List ℕ) → one.family ≡ other.family → IsFrame frame one → IsFrame (frame ++ more) other → more ≡ []
+
+-- the canonical frame of a rule is a frame of it
+abbrev pub CanonicalIsFrame : Type 0
+CanonicalIsFrame = (rule : Ruled) → IsRule rule → IsFrame (canonical_frame rule) rule
+
+-- and of no other rule
+abbrev pub CanonicalIsOwn : Type 0
+CanonicalIsOwn = (rule other : Ruled) → IsRule rule → rule.family ≡ other.family → IsFrame (canonical_frame rule) other → rule ≡ other
+
+-- two frames are those of one rule exactly where their canonical frames are equal
+abbrev pub CanonicalTells : Type 0
+CanonicalTells =
+    (one other : Ruled) (frame also : List ℕ) → one.family ≡ other.family → IsOctets frame → IsOctets also → IsFrame frame one → IsFrame also other → (one ≡ other) ↔ (canonical_frame one ≡ canonical_frame other)

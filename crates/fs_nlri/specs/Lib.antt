@@ -1,0 +1,11 @@
+pub mod Forms
+pub mod Parts
+pub mod Components
+pub mod Spelling
+pub mod Fault
+pub mod Reading
+pub mod Rule
+pub mod Feeding
+pub mod Outcome
+pub mod Making
+pub mod Laws

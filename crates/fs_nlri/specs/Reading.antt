@@ -1,0 +1,49 @@
+-- What the readers of a component's parts answer.
+use Rattle.std.specs.Prelude.{ℕ, ◌+◌, List, Option, Some, None}
+use Rattle.fs_base.specs.Language.{NoFront, IsCut, IsFirstFault}
+use Rattle.fs_ops.specs.declared.error.OpsFault.{OpsFault}
+use Rattle.fs_ops.specs.declared.error.OpsFault.TheVariants.{Cut as ListCut, Width as ListWidth, Memory as ListMemory}
+use Rattle.fs_nlri.specs.declared.fault.Reason.{Reason}
+use Rattle.fs_nlri.specs.declared.fault.Reason.TheVariants.{Cut, NoType, Order, Width, Length}
+use Rattle.fs_nlri.specs.declared.fault.NlriFault.{NlriFault}
+use Rattle.fs_nlri.specs.declared.fault.NlriFault.TheVariants.{Bad, Memory}
+use Rattle.fs_nlri.specs.Forms.{Form}
+use Rattle.fs_nlri.specs.Parts.{Body}
+use Rattle.fs_nlri.specs.Spelling.{SpellsBody}
+use Rattle.fs_nlri.specs.Fault.{IsRole}
+
+-- the octets are a body of the form
+pub record IsBody (form : Form) (octets : List ℕ) : Type 0 where
+  pub body : Body
+  pub spells : SpellsBody form octets body
+
+-- no body stands at the front: the octets end within one, or an octet is the first with which none goes on
+abbrev pub IsBodyBad : Form → List ℕ → Reason → ℕ → Type 0
+IsBodyBad form octets Cut place = NoFront (IsBody form) octets × IsCut (IsBody form) octets place
+IsBodyBad form octets NoType place = ⊥
+IsBodyBad form octets Order place = ⊥
+IsBodyBad form octets Length place = ⊥
+IsBodyBad form octets reason place = NoFront (IsBody form) octets × IsFirstFault (IsBody form) octets place × IsRole reason form octets place
+
+abbrev pub IsBodyFault : Form → List ℕ → NlriFault → Type 0
+IsBodyFault form octets (Bad reason place) = IsBodyBad form octets reason place
+IsBodyFault form octets Memory = Unit {0}
+
+abbrev pub IsFaultAt : Option Form → List ℕ → NlriFault → Type 0
+IsFaultAt None octets fault = ⊥
+IsFaultAt (Some form) octets fault = IsBodyFault form octets fault
+
+-- a fault of a list as one of the component
+abbrev pub list_fault : OpsFault → NlriFault
+list_fault (ListCut place) = Bad Cut place
+list_fault (ListWidth place) = Bad Width place
+list_fault ListMemory = Memory
+
+-- the same fault where count octets stand before
+abbrev pub moved : ℕ → NlriFault → NlriFault
+moved count (Bad reason place) = Bad reason (count + place)
+moved count Memory = Memory
+
+abbrev pub place_of : NlriFault → ℕ
+place_of (Bad reason place) = place
+place_of Memory = 0

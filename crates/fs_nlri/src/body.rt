@@ -1,0 +1,176 @@
+//! What stands behind a component's type, by its form.
+
+ghost use Rattle.std.specs.Prelude.{◌≡◌, ◌+◌, ◌-◌, ◌*◌, ◌/◌, ◌^◌, ◌<◌, ◌≤◌, ◌↔◌, length, take, IfOk, IfErr, IsTrue};
+ghost use Rattle.byteorder.specs.Endian.{big_number};
+ghost use Rattle.fs_nlri.specs.Forms.{V4Form, V6Form, prefix_form, number_form, tcp_flags_form, dscp_form, fragment_form, fragment_bits};
+ghost use Rattle.fs_nlri.specs.Parts.{ListBody};
+ghost use Rattle.fs_nlri.specs.Components.{body_of};
+ghost use Rattle.fs_nlri.specs.Spelling.{SpellsBody, octets_for};
+ghost use Rattle.fs_nlri.specs.Reading.{IsBodyFault};
+
+use crate::component::PrefixForm;
+use crate::fault::{NlriFault, Reason};
+use crate::given::has_range;
+use crate::size::octets_for_bits;
+use byteorder::{BigEndian, ByteOrder};
+use fs_base::{Family, Prefix};
+use fs_ops::{MaskList, NumList};
+use std::alloc::Global;
+
+/// The octets as the highest of a number of `width` bits.
+fn left_aligned(octets: &[u8], width: usize) -> u128
+    requires fits { 8 * length octets.now ≤ width }
+    requires width { width ≤ 128 }
+    ensures { result ≡ big_number (length octets.now) octets.now * 2 ^ (width - 8 * length octets.now) }
+{
+    if octets.is_empty() {
+        return 0;
+    }
+    BigEndian::read_uint128(octets, octets.len()) << (width - 8 * octets.len())
+}
+
+/// Reads a prefix of either family and answers the count of its octets.
+pub(crate) fn read_prefix(family: Family, octets: &[u8]) -> Result<(PrefixForm, usize), NlriFault>
+    ensures taken { IfOk result (λ read. read.1 ≤ length octets.now) }
+    ensures found { IfOk result (λ read. SpellsBody (prefix_form family) (take read.1 octets.now) (body_of read.0)) }
+    ensures fault { IfErr result (IsBodyFault (prefix_form family) octets.now) }
+{
+    match family {
+        Family::V4 => read_v4(octets),
+        Family::V6 => read_v6(octets),
+    }
+}
+
+fn read_v4(octets: &[u8]) -> Result<(PrefixForm, usize), NlriFault>
+    ensures taken { IfOk result (λ read. read.1 ≤ length octets.now) }
+    ensures found { IfOk result (λ read. SpellsBody V4Form (take read.1 octets.now) (body_of read.0)) }
+    ensures fault { IfErr result (IsBodyFault V4Form octets.now) }
+{
+    let [length, tail @ ..] = octets else {
+        return Err(NlriFault::Bad {
+            reason: Reason::Cut,
+            place: 0,
+        });
+    };
+    if *length > 32 {
+        return Err(NlriFault::Bad {
+            reason: Reason::PrefixLength,
+            place: 0,
+        });
+    }
+    let count = octets_for_bits(*length);
+    if tail.len() < count {
+        return Err(NlriFault::Bad {
+            reason: Reason::Cut,
+            place: octets.len(),
+        });
+    }
+    match Prefix::new(Family::V4, left_aligned(&tail[..count], 32), *length) {
+        Some(prefix) => Ok((PrefixForm::V4(prefix), 1 + count)),
+        None => unreachable!(),
+    }
+}
+
+fn read_v6(octets: &[u8]) -> Result<(PrefixForm, usize), NlriFault>
+    ensures taken { IfOk result (λ read. read.1 ≤ length octets.now) }
+    ensures found { IfOk result (λ read. SpellsBody V6Form (take read.1 octets.now) (body_of read.0)) }
+    ensures fault { IfErr result (IsBodyFault V6Form octets.now) }
+{
+    let [length, ..] = octets else {
+        return Err(NlriFault::Bad {
+            reason: Reason::Cut,
+            place: 0,
+        });
+    };
+    if *length > 128 {
+        return Err(NlriFault::Bad {
+            reason: Reason::PrefixLength,
+            place: 0,
+        });
+    }
+    let [_, offset, tail @ ..] = octets else {
+        return Err(NlriFault::Bad {
+            reason: Reason::Cut,
+            place: 1,
+        });
+    };
+    if !has_range(*length, *offset) {
+        return Err(NlriFault::Bad {
+            reason: Reason::Offset,
+            place: 1,
+        });
+    }
+    let bits = *length - *offset;
+    let count = octets_for_bits(bits);
+    if tail.len() < count {
+        return Err(NlriFault::Bad {
+            reason: Reason::Cut,
+            place: octets.len(),
+        });
+    }
+    match Prefix::new(Family::V6, left_aligned(&tail[..count], 128), bits) {
+        Some(pattern) => Ok((
+            PrefixForm::V6 {
+                length: *length,
+                offset: *offset,
+                pattern: pattern.bits,
+            },
+            2 + count,
+        )),
+        None => unreachable!(),
+    }
+}
+
+/// Reads a list of numbers of 1, 2, 4 or 8 octets.
+pub(crate) fn read_numbers(alloc: Global, octets: &[u8]) -> Result<(NumList, usize), NlriFault>
+    ensures taken { IfOk result (λ read. read.1 ≤ length octets.now) }
+    ensures found { IfOk result (λ read. SpellsBody number_form (take read.1 octets.now) (ListBody read.0)) }
+    ensures fault { IfErr result (IsBodyFault number_form octets.now) }
+{
+    Ok(NumList::decode(alloc, octets)?)
+}
+
+/// Reads a list of DSCP values, and clears the two bits above them.
+pub(crate) fn read_dscp(alloc: Global, octets: &[u8]) -> Result<(NumList, usize), NlriFault>
+    ensures taken { IfOk result (λ read. read.1 ≤ length octets.now) }
+    ensures found { IfOk result (λ read. SpellsBody dscp_form (take read.1 octets.now) (ListBody read.0)) }
+    ensures fault { IfErr result (IsBodyFault dscp_form octets.now) }
+{
+    let (mut list, taken) = NumList::decode_within(alloc, octets, &[0])?;
+    list.keep_bits(0x3f);
+    Ok((list, taken))
+}
+
+/// Reads a list of TCP flags of 1 or 2 octets.
+pub(crate) fn read_tcp_flags(alloc: Global, octets: &[u8]) -> Result<(MaskList, usize), NlriFault>
+    ensures taken { IfOk result (λ read. read.1 ≤ length octets.now) }
+    ensures found { IfOk result (λ read. SpellsBody tcp_flags_form (take read.1 octets.now) (ListBody read.0)) }
+    ensures fault { IfErr result (IsBodyFault tcp_flags_form octets.now) }
+{
+    Ok(MaskList::decode(alloc, octets, &[0, 1])?)
+}
+
+/// The fragment bits that the family has.
+pub(crate) fn bits_of_fragment(family: Family) -> u64
+    ensures { result ≡ fragment_bits family }
+{
+    match family {
+        Family::V4 => 0x0f,
+        Family::V6 => 0x0e,
+    }
+}
+
+/// Reads a list of fragment bits, and clears those that the family doesn't have.
+pub(crate) fn read_fragment(
+    alloc: Global,
+    family: Family,
+    octets: &[u8],
+) -> Result<(MaskList, usize), NlriFault>
+    ensures taken { IfOk result (λ read. read.1 ≤ length octets.now) }
+    ensures found { IfOk result (λ read. SpellsBody (fragment_form family) (take read.1 octets.now) (ListBody read.0)) }
+    ensures fault { IfErr result (IsBodyFault (fragment_form family) octets.now) }
+{
+    let (mut list, taken) = MaskList::decode(alloc, octets, &[0])?;
+    list.keep_bits(bits_of_fragment(family));
+    Ok((list, taken))
+}

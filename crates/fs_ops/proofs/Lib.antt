@@ -1,0 +1,6 @@
+pub mod Canonical
+pub mod Every
+pub mod Found
+pub mod Grammar
+pub mod Groups
+pub mod Normal

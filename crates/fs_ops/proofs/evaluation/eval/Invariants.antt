@@ -1,0 +1,8 @@
+use Rattle.std.proofs.Common.{◌≡◌, drop}
+use Rattle.fs_ops.specs.Evaluation.{holds, test_of}
+use Rattle.fs_ops.proofs.Groups.{answers}
+use Rattle.fs_ops.proofs.evaluation.eval.Given as goal
+
+-- what is left answers for the whole list
+abbrev pub invariant-loop-operator : goal.invariant-loop-operator
+invariant-loop-operator l = answers (test_of l.kind l.datum) l.all (drop l.operator-index l.pairs) ≡ holds (test_of l.kind l.datum) l.pairs

@@ -1,0 +1,47 @@
+use Rattle.std.proofs.Common.{get_or, sym, subst, ◌∙◌, arith, Contains}
+use Rattle.std.proofs.lemmas.Bool.{both_ways}
+use Rattle.std.proofs.lemmas.List.{nil_from_length}
+use Rattle.fs_ops.proofs.Found.{first_and_tail, cut_between, cut_within, bad_width, next_found, goes_on, ends_here}
+use Rattle.fs_ops.proofs.reading.read.Goals as goal
+
+pub returns-then-not-allows-clause-fault : goal.returns-then-not-allows-clause-fault
+returns-then-not-allows-clause-fault c =
+    let rest = c.loop-rest.rest.now in
+    bad_width c.args.kind c.args.widths.now c.args.octets.now rest c.loop-rest.pairs.items (get_or rest 0 0) _ c.requires c.loop-rest.invariant
+    (first_and_tail rest c.in-len1-up.len_at_least)
+    (λ allowed. both_ways c.allows.result c.if-not-allows.true (c.allows.ensures.1 (subst (Contains c.args.widths.now) (sym c.width_code_of.ensures.value) allowed)))
+
+pub returns-then-tail-len-clause-fault : goal.returns-then-tail-len-clause-fault
+returns-then-tail-len-clause-fault c =
+    let rest = c.loop-rest.rest.now in
+    cut_within c.args.kind c.args.widths.now c.args.octets.now rest c.loop-rest.pairs.items (get_or rest 0 0) _ c.requires c.loop-rest.invariant
+    (first_and_tail rest c.in-len1-up.len_at_least)
+    (subst (Contains c.args.widths.now) c.width_code_of.ensures.value (c.allows.ensures.0 c.if-not-allows.false))
+    (rw (← c.value_len-len.ensures.value) c.if-tail-len.true)
+
+pub returns-then-is_last-clause-found : goal.returns-then-is_last-clause-found
+returns-then-is_last-clause-found c =
+    let rest = c.loop-rest.rest.now in
+    ends_here c.args.kind c.args.widths.now c.args.octets.now rest c.split_at.result.1.now c.push.new.self.items (get_or rest 0 0)
+    (next_found c.args.kind c.args.widths.now c.args.octets.now rest _ c.split_at.result.0.now c.split_at.result.1.now c.loop-rest.pairs.items c.push.new.self.items (get_or rest 0 0)
+    c.value_len-len.result c.read_uint-number.result c.loop-rest.pairs.len c.clear_ignored.result c.is_empty.result c.loop-rest.invariant
+    (first_and_tail rest c.in-len1-up.len_at_least)
+    (subst (Contains c.args.widths.now) c.width_code_of.ensures.value (c.allows.ensures.0 c.if-not-allows.false))
+    c.value_len-len.ensures.value c.if-tail-len.false c.split_at.ensures.front c.split_at.ensures.back c.read_uint-number.ensures c.loop-rest.pairs.ok.0 c.is_empty.ensures c.clear_ignored.ensures c.in_ok-push.ensures.items)
+    (sym c.is_last.ensures ∙ c.if-is_last.true)
+
+pub loop-rest-preserved : goal.loop-rest-preserved
+loop-rest-preserved c =
+    let rest = c.loop-rest.rest.now in
+    goes_on c.args.kind c.args.widths.now c.args.octets.now rest c.split_at.result.1.now c.push.new.self.items (get_or rest 0 0)
+    (next_found c.args.kind c.args.widths.now c.args.octets.now rest _ c.split_at.result.0.now c.split_at.result.1.now c.loop-rest.pairs.items c.push.new.self.items (get_or rest 0 0)
+    c.value_len-len.result c.read_uint-number.result c.loop-rest.pairs.len c.clear_ignored.result c.is_empty.result c.loop-rest.invariant
+    (first_and_tail rest c.in-len1-up.len_at_least)
+    (subst (Contains c.args.widths.now) c.width_code_of.ensures.value (c.allows.ensures.0 c.if-not-allows.false))
+    c.value_len-len.ensures.value c.if-tail-len.false c.split_at.ensures.front c.split_at.ensures.back c.read_uint-number.ensures c.loop-rest.pairs.ok.0 c.is_empty.ensures c.clear_ignored.ensures c.in_ok-push.ensures.items)
+    (sym c.is_last.ensures ∙ c.if-is_last.false)
+
+pub returns-clause-fault : goal.returns-clause-fault
+returns-clause-fault c =
+    cut_between c.args.kind c.args.widths.now c.args.octets.now c.loop-rest.rest.now c.loop-rest.pairs.items c.requires c.loop-rest.invariant
+    (nil_from_length c.loop-rest.rest.now (omega (arith, c.in_default.len_below)))

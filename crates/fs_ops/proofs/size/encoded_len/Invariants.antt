@@ -1,0 +1,9 @@
+use Rattle.std.proofs.Common.{◌≡◌, ◌*◌, ◌≤◌, length, take}
+use Rattle.fs_ops.specs.OperatorList.{canonical}
+use Rattle.fs_ops.proofs.size.encoded_len.Given as goal
+
+abbrev pub invariant-loop-operator : goal.invariant-loop-operator
+invariant-loop-operator l = record {
+  value : l.len ≡ length (canonical (take l.operator-index l.pairs));
+  small : l.len ≤ 9 * l.operator-index;
+}

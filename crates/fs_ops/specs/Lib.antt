@@ -1,0 +1,4 @@
+pub mod Evaluation
+pub mod Fault
+pub mod Operator
+pub mod OperatorList

@@ -1,0 +1,40 @@
+ghost use Rattle.std.specs.Prelude.{◌≡◌};
+ghost use Rattle.fs_ops.specs.declared.error.OpsFault.TheVariants.{Memory as OutOfMemory};
+
+use fs_base::Memory;
+use std::alloc::{AllocError, AllocFailed};
+
+/// Why octets aren't the front of a list. A place counts octets from the list's first one, from 0.
+#[derive(Clone, Copy, Debug, PartialEq, Eq, Drop)]
+pub enum OpsFault {
+    /// The octets end within a list; the place is their number.
+    Cut { place: usize },
+    /// The operator at the place gives its value a length that isn't allowed.
+    Width { place: usize },
+    /// The machine refused memory.
+    Memory,
+}
+
+impl From<Memory> for OpsFault {
+    ghost from_gives = { λ e fault. fault ≡ OutOfMemory };
+
+    fn from(_error: Memory) -> OpsFault {
+        OpsFault::Memory
+    }
+}
+
+impl From<AllocError> for OpsFault {
+    ghost from_gives = { λ e fault. fault ≡ OutOfMemory };
+
+    fn from(_error: AllocError) -> OpsFault {
+        OpsFault::Memory
+    }
+}
+
+impl<T: Drop> From<AllocFailed<T>> for OpsFault {
+    ghost from_gives = { λ e fault. fault ≡ OutOfMemory };
+
+    fn from(_error: AllocFailed<T>) -> OpsFault {
+        OpsFault::Memory
+    }
+}

@@ -1,0 +1,22 @@
+//! Lists of operators and values in the components of a flow specification (RFC 8955 section 4.2.1):
+//! reading with exact faults, writing, and evaluation.
+#![tactic(auto)]
+
+mod error;
+mod evaluation;
+mod kind;
+mod mask_list;
+mod num_list;
+mod operator;
+mod reading;
+mod size;
+mod values;
+mod writing;
+
+pub use error::OpsFault;
+pub use kind::Kind;
+pub use mask_list::MaskList;
+pub use num_list::NumList;
+
+#[cfg(test)]
+mod tests;

@@ -1,0 +1,96 @@
+ghost use Rattle.std.specs.Prelude.{◌≡◌, ◌≤◌, ◌<◌, ◌^◌, ◌++◌, List, length, take, map, bit_and, Any, IfOk, IfErr, OnOk, OnErr};
+ghost use Rattle.fs_ops.specs.Operator.{Kind, Bitmask};
+ghost use Rattle.fs_ops.specs.OperatorList.{Spells, IsNormal, canonical, first_joins};
+ghost use Rattle.fs_ops.specs.Fault.{IsFault, all_widths};
+ghost use Rattle.fs_ops.specs.Evaluation.{holds, masks};
+
+use crate::error::OpsFault;
+use crate::kind::Kind;
+use crate::{evaluation, reading, size, values, writing};
+use fs_base::Memory;
+use std::alloc::Global;
+use std::marker::Model;
+
+/// A list of bitmask operators and values in normal form: reserved bits and the first operator's AND bit
+/// are clear. It is never empty.
+#[derive(Drop)]
+pub struct MaskList {
+    list: Vec<(u8, u64)>,
+}
+
+impl Model for MaskList {
+    ghost use Rattle.std.specs.Prelude.{ℕ, List};
+    ghost use Rattle.fs_ops.specs.Operator.{Bitmask};
+    ghost use Rattle.fs_ops.specs.OperatorList.{IsNormal};
+
+    ghost Value = { List (ℕ × ℕ) };
+
+    ghost view = { λ a. a.list.items };
+
+    ghost invariant = { λ a. IsNormal Bitmask a.list.items };
+}
+
+impl MaskList {
+    /// Reads the list that stands at the front of the octets, and answers how many octets it takes. The
+    /// width codes allowed are those of `widths`: code 0 is one octet, 1 two, 2 four, 3 eight.
+    pub fn decode(
+        alloc: Global,
+        octets: &[u8],
+        widths: &[u8],
+    ) -> Result<(MaskList, usize), OpsFault>
+        requires { Any (λ code. code < 4) widths.now }
+        ensures taken { IfOk result (λ read. read.1 ≤ length octets.now) }
+        ensures found { IfOk result (λ read. Spells Bitmask widths.now (take read.1 octets.now) read.0) }
+        ensures fault { IfErr result (IsFault widths.now octets.now) }
+    {
+        let (list, taken) = reading::read(alloc, Kind::Bitmask, octets, widths)?;
+        Ok((MaskList { list }, taken))
+    }
+
+    /// The operator octets, each with its value.
+    pub fn pairs(&self) -> &[(u8, u64)]
+        ensures value { result.now ≡ self.now }
+        ensures normal { IsNormal Bitmask self.now }
+    {
+        self.list.as_slice()
+    }
+
+    /// How many octets `encode` appends.
+    pub fn encoded_len(&self) -> usize
+        ensures value { result ≡ length (canonical self.now) }
+        ensures small { result < 2 ^ 63 }
+    {
+        size::encoded_len(&self.list)
+    }
+
+    /// Appends the list's octets; after want of memory `out` is as it was.
+    pub fn encode(&self, out: &mut Vec<u8>) -> Result<(), Memory>
+        ensures ok { OnOk result (out.new.items ≡ out.old.items ++ canonical self.now) }
+        ensures err { OnErr result (out.new.items ≡ out.old.items) }
+    {
+        writing::write(&self.list, out)
+    }
+
+    /// Whether the list holds of the number: it is an OR of groups, each an AND of its pairs.
+    pub fn eval(&self, datum: u64) -> bool
+        ensures { result ≡ holds (masks datum) self.now }
+    {
+        evaluation::eval(&self.list, Kind::Bitmask, datum)
+    }
+
+    /// Clears the other bits of each value.
+    pub fn keep_bits(&mut self, bits: u64)
+        ensures { self.new ≡ map (λ pair. (pair.0, bit_and pair.1 bits)) self.old }
+    {
+        values::keep_bits(&mut self.list, bits);
+    }
+
+    /// An equal list.
+    pub fn copy(&self) -> Result<MaskList, Memory>
+        ensures { IfOk result (λ list. list ≡ self.now) }
+    {
+        Ok(MaskList {
+            list: self.list.clone()?,
+        })
+    }
+}

@@ -1,0 +1,6 @@
+pub mod First
+pub mod Normal
+pub mod Pairs
+pub mod Precede
+pub mod Same
+pub mod Steps

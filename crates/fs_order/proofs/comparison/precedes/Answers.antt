@@ -1,0 +1,7 @@
+use Rattle.std.proofs.Common.{ap, ◌∙◌}
+use Rattle.std.specs.Ordering.{is_lt}
+use Rattle.fs_order.proofs.Precede.{before_test}
+use Rattle.fs_order.proofs.comparison.precedes.Goals as goal
+
+pub returns-clause-before : goal.returns-clause-before
+returns-clause-before c = before_test c.args.a.now c.args.b.now c.is_lt.result c.compare.ensures.rules (c.is_lt.ensures ∙ ap is_lt c.compare.ensures.value)

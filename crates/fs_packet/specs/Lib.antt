@@ -1,0 +1,7 @@
+pub mod Link
+pub mod Chain
+pub mod Fields
+pub mod View
+pub mod Matches
+pub mod Sound
+pub mod Reading

@@ -1,0 +1,201 @@
+//! The fields of a packet.
+
+ghost use Rattle.std.specs.Prelude.{◌≡◌};
+ghost use Rattle.fs_packet.specs.Fields.{has_ports, is_icmp, is_tcp};
+
+use byteorder::{BigEndian, ByteOrder};
+use fs_base::{Address, Family};
+use std::marker::Model;
+
+/// Why a record isn't read: the first test of its headers that fails.
+#[derive(Clone, Copy, Debug, PartialEq, Eq, Drop)]
+pub enum Unread {
+    /// The EtherType is neither IPv4's nor IPv6's.
+    Foreign,
+    /// The record ends within the headers.
+    Short,
+    /// The IP version isn't the one that should stand here.
+    Version,
+    /// The IPv4 header length is below 20 octets.
+    Header,
+    /// The IPv4 total length is below the header's, or the IPv6 packet is a jumbogram.
+    Length,
+}
+
+impl Unread {
+    ghost use Rattle.fs_packet.specs.Link.{unread_number};
+
+    /// The number that a line for the record prints, 1 to 5.
+    pub fn number(self) -> u8
+        ensures { result ≡ unread_number self }
+    {
+        match self {
+            Unread::Foreign => 1,
+            Unread::Short => 2,
+            Unread::Version => 3,
+            Unread::Header => 4,
+            Unread::Length => 5,
+        }
+    }
+}
+
+/// A packet's fields, read from the octets of the record where they are asked for. Numbers are in host order.
+#[derive(Drop)]
+pub struct View<'a> {
+    pub(crate) family: Family,
+    /// The record's octets from the network header on.
+    pub(crate) packet: &'a [u8],
+    pub(crate) length: u32,
+    pub(crate) protocol: Option<u8>,
+    pub(crate) fragment: u8,
+    /// The octets of the upper layer's header and of what follows it, as far as both the record and the packet's
+    /// length hold them; none in a fragment other than the first.
+    pub(crate) transport: &'a [u8],
+}
+
+impl<'a> Model for View<'a> {
+    ghost use Rattle.fs_packet.specs.Fields.{Viewed, viewed, HasHeader};
+
+    ghost Value = { Viewed };
+
+    ghost view = { λ v. viewed v.family v.packet.now v.length v.protocol v.fragment v.transport.now };
+
+    ghost invariant = { λ v. HasHeader v.family v.packet.now };
+}
+
+impl<'a> View<'a> {
+    /// The address family.
+    pub fn family(&self) -> Family
+        ensures { result ≡ self.now.family }
+    {
+        self.family
+    }
+
+    /// The source address.
+    pub fn source(&self) -> Address
+        ensures { result ≡ self.now.source }
+    {
+        match self.family {
+            Family::V4 => Address::V4(BigEndian::read_u32(&self.packet[12..])),
+            Family::V6 => Address::V6(BigEndian::read_u128(&self.packet[8..])),
+        }
+    }
+
+    /// The destination address.
+    pub fn destination(&self) -> Address
+        ensures { result ≡ self.now.destination }
+    {
+        match self.family {
+            Family::V4 => Address::V4(BigEndian::read_u32(&self.packet[16..])),
+            Family::V6 => Address::V6(BigEndian::read_u128(&self.packet[24..])),
+        }
+    }
+
+    /// The protocol; of IPv6 the upper layer's, None where a header before it isn't held whole.
+    pub fn protocol(&self) -> Option<u8>
+        ensures { result ≡ self.now.protocol }
+    {
+        self.protocol
+    }
+
+    /// The ICMP type, of ICMP in IPv4 and of ICMPv6 in IPv6.
+    pub fn icmp_type(&self) -> Option<u8>
+        ensures { result ≡ self.now.icmp_type }
+    {
+        if !is_icmp(self.family, self.protocol) {
+            return None;
+        }
+        self.transport.first().copied()
+    }
+
+    /// The ICMP code, of ICMP in IPv4 and of ICMPv6 in IPv6.
+    pub fn icmp_code(&self) -> Option<u8>
+        ensures { result ≡ self.now.icmp_code }
+    {
+        if !is_icmp(self.family, self.protocol) {
+            return None;
+        }
+        self.transport.get(1).copied()
+    }
+
+    /// The source port of TCP or UDP, where the record holds both ports.
+    pub fn source_port(&self) -> Option<u16>
+        ensures { result ≡ self.now.source_port }
+    {
+        if !has_ports(self.protocol) || self.transport.len() < 4 {
+            return None;
+        }
+        Some(BigEndian::read_u16(self.transport))
+    }
+
+    /// The destination port of TCP or UDP, where the record holds both ports.
+    pub fn destination_port(&self) -> Option<u16>
+        ensures { result ≡ self.now.destination_port }
+    {
+        if !has_ports(self.protocol) || self.transport.len() < 4 {
+            return None;
+        }
+        Some(BigEndian::read_u16(&self.transport[2..]))
+    }
+
+    /// The octets of the TCP header at 12 and 13: the data offset in the high four bits, and the flags.
+    pub fn tcp_octets(&self) -> Option<u16>
+        ensures { result ≡ self.now.tcp_octets }
+    {
+        if self.protocol != Some(6) || self.transport.len() < 14 {
+            return None;
+        }
+        Some(BigEndian::read_u16(&self.transport[12..]))
+    }
+
+    /// The packet's length in octets: the total length of IPv4; of IPv6 the payload's and the header's 40.
+    pub fn length(&self) -> u32
+        ensures { result ≡ self.now.length }
+    {
+        self.length
+    }
+
+    /// The six bits of the DSCP.
+    pub fn dscp(&self) -> u8
+        ensures { result ≡ self.now.dscp }
+    {
+        match self.family {
+            Family::V4 => self.packet[1] >> 2,
+            Family::V6 => ((BigEndian::read_u16(self.packet) >> 6) & 0x3f) as u8,
+        }
+    }
+
+    /// The fragment bits of a rule: DF 1, of IPv4 alone; IsF 2; FF 4; LF 8.
+    pub fn fragment(&self) -> u8
+        ensures { result ≡ self.now.fragment }
+    {
+        self.fragment
+    }
+
+    /// The 20 bits of the flow label of IPv6.
+    pub fn flow_label(&self) -> Option<u32>
+        ensures { result ≡ self.now.flow_label }
+    {
+        match self.family {
+            Family::V4 => None,
+            Family::V6 => Some(BigEndian::read_u32(self.packet) & 0xf_ffff),
+        }
+    }
+}
+
+/// Whether the protocol has ports: TCP and UDP.
+fn has_ports(protocol: Option<u8>) -> bool
+    ensures { result ≡ has_ports protocol }
+{
+    matches!(protocol, Some(6 | 17))
+}
+
+/// Whether the protocol is ICMP in the family.
+fn is_icmp(family: Family, protocol: Option<u8>) -> bool
+    ensures { result ≡ is_icmp family protocol }
+{
+    match family {
+        Family::V4 => protocol == Some(1),
+        Family::V6 => protocol == Some(58),
+    }
+}

@@ -1,0 +1,245 @@
+//! Reading of a record's headers.
+
+ghost use Rattle.std.specs.Prelude.{◌≡◌, ◌≤◌, ◌+◌, ◌==◌, ◌&&◌, [], length, if◌then◌else◌};
+ghost use Rattle.fs_base.specs.declared.prefix.Family.{Family};
+ghost use Rattle.fs_packet.specs.Link.{behind_tags, behind_type, family_of_type, is_tag, number_at};
+ghost use Rattle.fs_packet.specs.View.{fragment_of, held_from, packet_view, raw_view, v4_fragment, v4_starts, v4_view, v6_fragment, v6_view, view_of};
+ghost use Rattle.fs_packet.specs.Reading.{found_in};
+
+use crate::chain::walk;
+use crate::fields::{Unread, View};
+use crate::link::Link;
+use byteorder::{BigEndian, ByteOrder};
+use fs_base::Family;
+
+/// EtherTypes.
+const IPV4: u16 = 0x0800;
+
+const IPV6: u16 = 0x86dd;
+
+const CUSTOMER_TAG: u16 = 0x8100;
+
+const SERVICE_TAG: u16 = 0x88a8;
+
+/// The view of the packet in a record's octets, or the first test of its headers that fails (RFC 791 section 3.1,
+/// RFC 8200 sections 3 and 4).
+pub fn view(link: Link, octets: &[u8]) -> Result<View<'_>, Unread>
+    ensures { result ≡ view_of link octets.now }
+{
+    match link {
+        Link::Ethernet => {
+            let (family, packet) = behind_tags(octets)?;
+            packet_view(family, packet)
+        }
+        Link::Raw => raw_view(octets),
+        Link::Cooked => {
+            let (family, packet) = behind_type(octets, 14, 16)?;
+            packet_view(family, packet)
+        }
+        Link::CookedTwo => {
+            let (family, packet) = behind_type(octets, 0, 20)?;
+            packet_view(family, packet)
+        }
+        Link::V4 => v4_view(octets),
+        Link::V6 => v6_view(octets),
+    }
+}
+
+/// The packet behind an Ethernet header with at most two tags.
+fn behind_tags(octets: &[u8]) -> Result<(Family, &[u8]), Unread>
+    ensures { found_in result ≡ behind_tags 2 12 octets.now }
+{
+    let mut place = 12;
+    let mut tags = 2u8;
+    while tags > 0 {
+        if octets.len() < place + 2 {
+            return Err(Unread::Short);
+        }
+        if !is_tag(number_at(octets, place)) {
+            return behind_type(octets, place, place + 2);
+        }
+        place += 4;
+        tags -= 1;
+    }
+    behind_type(octets, place, place + 2)
+}
+
+/// The packet behind a link header of `size` octets, whose EtherType stands at `place`.
+fn behind_type(octets: &[u8], place: usize, size: usize) -> Result<(Family, &[u8]), Unread>
+    requires { place + 2 ≤ size }
+    ensures { found_in result ≡ behind_type place size octets.now }
+{
+    if octets.len() < size {
+        return Err(Unread::Short);
+    }
+    match family_of_type(number_at(octets, place)) {
+        Some(family) => Ok((family, &octets[size..])),
+        None => Err(Unread::Foreign),
+    }
+}
+
+/// The number in the two octets at a place.
+fn number_at(octets: &[u8], place: usize) -> u16
+    requires { place + 2 ≤ length octets.now }
+    ensures { result ≡ number_at 2 octets.now place }
+{
+    BigEndian::read_u16(&octets[place..])
+}
+
+fn is_tag(number: u16) -> bool
+    ensures { result ≡ is_tag number }
+{
+    matches!(number, CUSTOMER_TAG | SERVICE_TAG)
+}
+
+fn family_of_type(number: u16) -> Option<Family>
+    ensures { result ≡ family_of_type number }
+{
+    match number {
+        IPV4 => Some(Family::V4),
+        IPV6 => Some(Family::V6),
+        _ => None,
+    }
+}
+
+fn packet_view(family: Family, packet: &[u8]) -> Result<View<'_>, Unread>
+    ensures { result ≡ packet_view family packet.now }
+{
+    match family {
+        Family::V4 => v4_view(packet),
+        Family::V6 => v6_view(packet),
+    }
+}
+
+/// The packet says its version itself.
+fn raw_view(packet: &[u8]) -> Result<View<'_>, Unread>
+    ensures { result ≡ raw_view packet.now }
+{
+    match packet {
+        [] => Err(Unread::Short),
+        [first, ..] if first >> 4 == 6 => v6_view(packet),
+        [..] => v4_view(packet),
+    }
+}
+
+fn v4_view(packet: &[u8]) -> Result<View<'_>, Unread>
+    ensures { result ≡ v4_view packet.now }
+{
+    let [first, ..] = packet else {
+        return Err(Unread::Short);
+    };
+    if first >> 4 != 4 {
+        return Err(Unread::Version);
+    }
+    let size = (first & 0x0f) as usize * 4;
+    if size < 20 {
+        return Err(Unread::Header);
+    }
+    if packet.len() < size {
+        return Err(Unread::Short);
+    }
+    let length = number_at(packet, 2);
+    if (length as usize) < size {
+        return Err(Unread::Length);
+    }
+    let field = number_at(packet, 6);
+    Ok(View {
+        family: Family::V4,
+        packet,
+        length: length.into(),
+        protocol: Some(packet[9]),
+        fragment: v4_fragment(field),
+        transport: v4_transport(packet, size, length as usize, field),
+    })
+}
+
+/// The octets of the upper layer, by the header's octets, the packet's and the flags and offset.
+fn v4_transport(packet: &[u8], size: usize, count: usize, field: u16) -> &[u8]
+    requires captured { size ≤ length packet.now }
+    requires counted { size ≤ count }
+    ensures { result.now ≡ (if v4_starts field then held_from size count packet.now else []) }
+{
+    if v4_starts(field) {
+        held_from(size, count, packet)
+    } else {
+        &[]
+    }
+}
+
+fn v6_view(packet: &[u8]) -> Result<View<'_>, Unread>
+    ensures { result ≡ v6_view packet.now }
+{
+    let [first, ..] = packet else {
+        return Err(Unread::Short);
+    };
+    if first >> 4 != 6 {
+        return Err(Unread::Version);
+    }
+    if packet.len() < 40 {
+        return Err(Unread::Short);
+    }
+    let payload = number_at(packet, 4);
+    let next = packet[6];
+    if is_jumbogram(payload, next) {
+        return Err(Unread::Length);
+    }
+    let length = 40 + payload as u32;
+    let chain = walk(next, held_from(40, length as usize, packet));
+    Ok(View {
+        family: Family::V6,
+        packet,
+        length,
+        protocol: chain.protocol,
+        fragment: v6_fragment(chain.field),
+        transport: chain.behind,
+    })
+}
+
+/// Whether the length stands in a hop-by-hop option (RFC 2675 section 3).
+fn is_jumbogram(payload: u16, next: u8) -> bool
+    ensures { result ≡ ((payload == 0) && (next == 0)) }
+{
+    payload == 0 && next == 0
+}
+
+/// The octets from a place on that the packet's length holds too.
+fn held_from(place: usize, count: usize, packet: &[u8]) -> &[u8]
+    requires captured { place ≤ length packet.now }
+    requires counted { place ≤ count }
+    ensures { result.now ≡ held_from place count packet.now }
+{
+    &packet[..count.min(packet.len())][place..]
+}
+
+/// Whether the flags and offset of an IPv4 header are those of a packet's start.
+fn v4_starts(field: u16) -> bool
+    ensures { result ≡ v4_starts field }
+{
+    field & 0x1fff == 0
+}
+
+fn v4_fragment(field: u16) -> u8
+    ensures { result ≡ v4_fragment field }
+{
+    let bits = fragment_bits(v4_starts(field), field & 0x2000 != 0);
+    if field & 0x4000 == 0 { bits } else { bits + 1 }
+}
+
+fn v6_fragment(field: u16) -> u8
+    ensures { result ≡ v6_fragment field }
+{
+    fragment_bits(field >> 3 == 0, field & 1 != 0)
+}
+
+/// The bits IsF, FF and LF (RFC 8955 section 4.2.2.12).
+fn fragment_bits(at_start: bool, more: bool) -> u8
+    ensures value { result ≡ fragment_of at_start more }
+    ensures bits { result ≤ 10 }
+{
+    match (at_start, more) {
+        (true, true) => 0x04,
+        (true, false) => 0,
+        (false, true) => 0x02,
+        (false, false) => 0x0a,
+    }
+}

@@ -1,0 +1,3 @@
+pub mod Capture
+pub mod Turn
+pub mod Written

@@ -1,0 +1,186 @@
+-- Where a key stands in the order, and that the routes of a rule stand next to each other.
+use Rattle.std.proofs.Common.{ℕ, zero, suc, ◌≡◌, ◌+◌, ◌<◌, ◌≤◌, refl, sym, ap, subst, ◌∙◌, Bool, true, false, true≢false, not, ◌&&◌, ◌||◌, cond, List, [], ◌∷◌, length, get_or, drop, take, ◌-◌, length-drop, take_all, Ordering, Less, Equal, Greater, is_eq, nat_cmp, arith}
+use Rattle.std.specs.List.{list_any, AllByRecursion, AllWithin}
+use Rattle.std.specs.List.Sorted.{IsPartitionedBy}
+use Rattle.std.specs.Ordering.{match_ordering, ordering_then, ordering_reverse, is_gt}
+use Rattle.std.specs.Cmp.{IsTotalOrder, on_total, then_total, nat_cmp_total, tied_back}
+use Rattle.std.proofs.lemmas.Bool.Decides.{nat_tests}
+use Rattle.fs_base.proofs.Listing.{each_weaker, each_both}
+use Rattle.fs_nlri.specs.Parts.{Ruled}
+use Rattle.fs_order.specs.Order.{rule_cmp}
+use Rattle.fs_order.specs.Total.{rule_total}
+use Rattle.fs_validate.specs.declared.route.FlowRoute.{FlowRoute}
+use Rattle.fs_unicast.specs.Preference.{preferred}
+use Rattle.fs_rules.specs.declared.group.Kept.{Kept}
+use Rattle.fs_rules.specs.Held.{key_cmp}
+use Rattle.fs_rules.specs.Admitted.{is_valid, same_rule, beats}
+use Rattle.fs_rules.specs.Kept.{routes_of, AreSorted, place_in, is_beaten}
+
+-- the order of keys
+abbrev pair_cmp : Ruled × ℕ → Ruled × ℕ → Ordering
+pair_cmp a b = ordering_then (rule_cmp a.0 b.0) (nat_cmp a.1 b.1)
+
+pair_total : IsTotalOrder pair_cmp
+pair_total = then_total (on_total (λ (a : Ruled × ℕ). a.0) rule_total) (on_total (λ (a : Ruled × ℕ). a.1) nat_cmp_total)
+
+abbrev pub is_after : Ruled → ℕ → Kept → Bool
+is_after rule peer k = is_gt (key_cmp rule peer k.route)
+
+greater_is : (o : Ordering) → is_gt o ≡ true → o ≡ Greater
+greater_is Less h = absurd (true≢false (sym h))
+greater_is Equal h = absurd (true≢false (sym h))
+greater_is Greater h = refl
+
+-- what stands before something before a key stands before the key
+after_earlier : (rule : Ruled) (peer : ℕ) (x y : FlowRoute) → key_cmp x.rule x.peer y ≡ Less → is_gt (key_cmp rule peer y) ≡ true → is_gt (key_cmp rule peer x) ≡ true
+after_earlier rule peer x y h k = ap is_gt (pair_total.antisymm (rule, peer) (x.rule, x.peer) ∙ ap ordering_reverse (pair_total.trans (x.rule, x.peer) (y.rule, y.peer) (rule, peer) h (pair_total.antisymm (y.rule, y.peer) (rule, peer) ∙ ap ordering_reverse (greater_is (key_cmp rule peer y) k))))
+
+each_at : (P : FlowRoute → Type 0) (xs : List Kept) (j : ℕ) (d : Kept) → AllByRecursion P (routes_of xs) → j < length xs → P (get_or xs j d).route
+each_at P [] j d h k = absurd (omega arith)
+each_at P (x ∷ xs) zero d h k = h.0
+each_at P (x ∷ xs) (suc j) d h k = each_at P xs j d h.1 (omega arith)
+
+pub partitioned : (rule : Ruled) (peer : ℕ) (xs : List Kept) → AreSorted (routes_of xs) → IsPartitionedBy (is_after rule peer) xs
+partitioned rule peer [] sorted i j d h k = absurd (omega arith)
+partitioned rule peer (x ∷ xs) sorted zero zero d h k = λ e. e
+partitioned rule peer (x ∷ xs) sorted zero (suc j) d h k = λ e. after_earlier rule peer x.route (get_or xs j d).route (each_at (λ s. key_cmp x.route.rule x.route.peer s ≡ Less) xs j d sorted.0 (omega arith)) e
+partitioned rule peer (x ∷ xs) sorted (suc i) zero d h k = absurd (omega arith)
+partitioned rule peer (x ∷ xs) sorted (suc i) (suc j) d h k = partitioned rule peer xs sorted.1 i j d (omega arith) (omega arith)
+
+pub place_from : (rule : Ruled) (peer : ℕ) (xs : List Kept) (i : ℕ) → i ≤ length xs → AllWithin (λ y. is_after rule peer y ≡ true) xs 0 i → AllWithin (λ y. is_after rule peer y ≡ false) xs i (length xs) → i ≡ place_in rule peer xs
+place_from rule peer [] i h front back = omega arith
+place_from rule peer (x ∷ xs) zero h front back = at (key_cmp rule peer x.route) refl where
+  at : (o : Ordering) → key_cmp rule peer x.route ≡ o → 0 ≡ match_ordering o 0 0 (1 + place_in rule peer xs)
+  at Less e = refl
+  at Equal e = refl
+  at Greater e = absurd (true≢false (sym (ap is_gt e) ∙ back 0 x (omega arith) (omega arith)))
+place_from rule peer (x ∷ xs) (suc i) h front back = at (key_cmp rule peer x.route) refl (place_from rule peer xs i (omega arith) (λ k d low high. front (suc k) d (omega arith) (omega arith)) (λ k d low high. back (suc k) d (omega arith) (omega arith))) where
+  at : (o : Ordering) → key_cmp rule peer x.route ≡ o → i ≡ place_in rule peer xs → suc i ≡ match_ordering o 0 0 (1 + place_in rule peer xs)
+  at Less e rest = absurd (true≢false (sym (front 0 x (omega arith) (omega arith)) ∙ ap is_gt e))
+  at Equal e rest = absurd (true≢false (sym (front 0 x (omega arith) (omega arith)) ∙ ap is_gt e))
+  at Greater e rest = omega arith
+
+-- The routes of a rule.
+-- before the least key of a rule stands no route of it
+least_after : (o : Ordering) (n : ℕ) → ordering_then o (nat_cmp 0 n) ≡ Greater → o ≡ Greater
+least_after Less n h = cc
+least_after Equal n h = absurd (grind (arith, nat_tests))
+least_after Greater n h = refl
+
+turned_away : (r s : FlowRoute) → rule_cmp r.rule s.rule ≡ Greater → same_rule s r ≡ false
+turned_away r s h = ap is_eq (rule_total.antisymm s.rule r.rule ∙ ap ordering_reverse h)
+
+no_rival : (k x : Kept) (rest : Bool) → same_rule x.route k.route ≡ false → ((is_valid x.mark && beats x.route k.route) || rest) ≡ rest
+no_rival k x rest h = at (is_valid x.mark) (same_rule x.route k.route) h where
+  at : (a b : Bool) → b ≡ false → ((a && (b && preferred (x.route.peer, x.route.path) (k.route.peer, k.route.path))) || rest) ≡ rest
+  at true true e = absurd (true≢false e)
+  at false true e = refl
+  at true false e = refl
+  at false false e = refl
+
+pub beaten_from : (k : Kept) (xs : List Kept) → is_beaten (drop (place_in k.route.rule 0 xs) xs) k ≡ is_beaten xs k
+beaten_from k [] = refl
+beaten_from k (x ∷ xs) = at (key_cmp k.route.rule 0 x.route) refl (beaten_from k xs) where
+  at : (o : Ordering) → key_cmp k.route.rule 0 x.route ≡ o → is_beaten (drop (place_in k.route.rule 0 xs) xs) k ≡ is_beaten xs k
+      → is_beaten (drop (match_ordering o 0 0 (1 + place_in k.route.rule 0 xs)) (x ∷ xs)) k ≡ is_beaten (x ∷ xs) k
+  at Less e ih = refl
+  at Equal e ih = refl
+  at Greater e ih = ap (λ n. is_beaten (drop n (x ∷ xs)) k) next ∙ ih ∙ sym (no_rival k x (is_beaten xs k) (turned_away k.route x.route (least_after (rule_cmp k.route.rule x.route.rule) x.route.peer e))) where
+    next : 1 + place_in k.route.rule 0 xs ≡ suc (place_in k.route.rule 0 xs)
+    next = omega arith
+
+-- from the place on no route stands before the key
+abbrev pub NotBefore : Kept → Kept → Type 0
+NotBefore k s = is_after k.route.rule 0 s ≡ false
+
+not_after_later : (k x y : Kept) → NotBefore k x → key_cmp x.route.rule x.route.peer y.route ≡ Less → NotBefore k y
+not_after_later k x y h less = at (is_after k.route.rule 0 y) refl where
+  at : (b : Bool) → is_after k.route.rule 0 y ≡ b → is_after k.route.rule 0 y ≡ false
+  at true e = absurd (true≢false (sym (after_earlier k.route.rule 0 x.route y.route less e) ∙ h))
+  at false e = e
+
+each_of_routes : (P : FlowRoute → Type 0) (xs : List Kept) → AllByRecursion P (routes_of xs) → AllByRecursion (λ s. P s.route) xs
+each_of_routes P [] h = tt
+each_of_routes P (x ∷ xs) h = (h.0, each_of_routes P xs h.1)
+
+pub not_before : (k : Kept) (xs : List Kept) → AreSorted (routes_of xs) → AllByRecursion (NotBefore k) (drop (place_in k.route.rule 0 xs) xs)
+not_before k [] sorted = tt
+not_before k (x ∷ xs) sorted = at (key_cmp k.route.rule 0 x.route) refl (not_before k xs sorted.1) where
+  all : NotBefore k x → AllByRecursion (NotBefore k) (x ∷ xs)
+  all h = (h, each_weaker (λ s. key_cmp x.route.rule x.route.peer s.route ≡ Less) (NotBefore k) (λ s less. not_after_later k x s h less) xs (each_of_routes (λ s. key_cmp x.route.rule x.route.peer s ≡ Less) xs sorted.0))
+
+  at : (o : Ordering) → key_cmp k.route.rule 0 x.route ≡ o → AllByRecursion (NotBefore k) (drop (place_in k.route.rule 0 xs) xs)
+      → AllByRecursion (NotBefore k) (drop (match_ordering o 0 0 (1 + place_in k.route.rule 0 xs)) (x ∷ xs))
+  at Less e ih = all (ap is_gt e)
+  at Equal e ih = all (ap is_gt e)
+  at Greater e ih = subst (λ n. AllByRecursion (NotBefore k) (drop n (x ∷ xs))) (sym next) ih where
+    next : 1 + place_in k.route.rule 0 xs ≡ suc (place_in k.route.rule 0 xs)
+    next = omega arith
+
+pub each-drop : (P : Kept → Type 0) (xs : List Kept) (n : ℕ) → AllByRecursion P xs → AllByRecursion P (drop n xs)
+each-drop P [] zero h = tt
+each-drop P [] (suc n) h = tt
+each-drop P (x ∷ xs) zero h = h
+each-drop P (x ∷ xs) (suc n) h = each-drop P xs n h.1
+
+pub sorted-drop : (xs : List Kept) (n : ℕ) → AreSorted (routes_of xs) → AreSorted (routes_of (drop n xs))
+sorted-drop [] zero h = tt
+sorted-drop [] (suc n) h = tt
+sorted-drop (x ∷ xs) zero h = h
+sorted-drop (x ∷ xs) (suc n) h = sorted-drop xs n h.1
+
+-- a rule that isn't before the key's, nor the key's, is after it, and so are those behind
+rule_after : (k s : Kept) → NotBefore k s → same_rule s.route k.route ≡ false → rule_cmp k.route.rule s.route.rule ≡ Less
+rule_after k s h other = at (rule_cmp k.route.rule s.route.rule) refl h where
+  at : (o : Ordering) → rule_cmp k.route.rule s.route.rule ≡ o → is_gt (ordering_then o (nat_cmp 0 s.route.peer)) ≡ false → rule_cmp k.route.rule s.route.rule ≡ Less
+  at Less e g = e
+  at Equal e g = absurd (true≢false (sym (ap is_eq (tied_back rule_total k.route.rule s.route.rule e)) ∙ other))
+  at Greater e g = absurd (true≢false g)
+
+later_rule : (k s t : Kept) → rule_cmp k.route.rule s.route.rule ≡ Less → key_cmp s.route.rule s.route.peer t.route ≡ Less → same_rule t.route k.route ≡ false
+later_rule k s t h less = at (rule_cmp s.route.rule t.route.rule) refl less where
+  away : rule_cmp k.route.rule t.route.rule ≡ Less → same_rule t.route k.route ≡ false
+  away e = ap is_eq (rule_total.antisymm t.route.rule k.route.rule ∙ ap ordering_reverse e)
+
+  at : (o : Ordering) → rule_cmp s.route.rule t.route.rule ≡ o → ordering_then o (nat_cmp s.route.peer t.route.peer) ≡ Less → same_rule t.route k.route ≡ false
+  at Less e g = away (rule_total.trans k.route.rule s.route.rule t.route.rule h e)
+  at Equal e g = away (rule_total.antisymm k.route.rule t.route.rule ∙ ap ordering_reverse (sym (rule_total.congr s.route.rule t.route.rule k.route.rule e) ∙ rule_total.antisymm s.route.rule k.route.rule ∙ ap ordering_reverse h))
+  at Greater e g = cc
+
+none_beats : (k : Kept) (xs : List Kept) → AllByRecursion (λ s. same_rule s.route k.route ≡ false) xs → is_beaten xs k ≡ false
+none_beats k [] h = refl
+none_beats k (x ∷ xs) h = no_rival k x (is_beaten xs k) h.0 ∙ none_beats k xs h.1
+
+-- behind the first route of another rule stands none of the rule
+pub run_ends : (k s : Kept) (rest : List Kept) → AllByRecursion (NotBefore k) (s ∷ rest) → AreSorted (routes_of (s ∷ rest)) → same_rule s.route k.route ≡ false → is_beaten (s ∷ rest) k ≡ false
+run_ends k s rest h sorted other = none_beats k (s ∷ rest) (other, each_weaker (λ t. key_cmp s.route.rule s.route.peer t.route ≡ Less) (λ t. same_rule t.route k.route ≡ false) (λ t less. later_rule k s t (rule_after k s h.0 other) less) rest (each_of_routes (λ t. key_cmp s.route.rule s.route.peer t ≡ Less) rest sorted.0))
+
+-- one more of the rule
+pub run_hits : (k s : Kept) (rest : List Kept) → same_rule s.route k.route ≡ true → (is_valid s.mark && preferred (s.route.peer, s.route.path) (k.route.peer, k.route.path)) ≡ true → is_beaten (s ∷ rest) k ≡ true
+run_hits k s rest same better = at (is_valid s.mark) (same_rule s.route k.route) same better where
+  at : (a b : Bool) → b ≡ true → (a && preferred (s.route.peer, s.route.path) (k.route.peer, k.route.path)) ≡ true → ((a && (b && preferred (s.route.peer, s.route.path) (k.route.peer, k.route.path))) || is_beaten rest k) ≡ true
+  at true true e h = ap (λ c. c || is_beaten rest k) h
+  at false true e h = absurd (true≢false (sym h))
+  at true false e h = absurd (true≢false (sym e))
+  at false false e h = absurd (true≢false (sym e))
+
+pub run_misses : (k s : Kept) (rest : List Kept) → (is_valid s.mark && preferred (s.route.peer, s.route.path) (k.route.peer, k.route.path)) ≡ false → is_beaten (s ∷ rest) k ≡ is_beaten rest k
+run_misses k s rest better = at (is_valid s.mark) (same_rule s.route k.route) better where
+  at : (a b : Bool) → (a && preferred (s.route.peer, s.route.path) (k.route.peer, k.route.path)) ≡ false → ((a && (b && preferred (s.route.peer, s.route.path) (k.route.peer, k.route.path))) || is_beaten rest k) ≡ is_beaten rest k
+  at true true h = ap (λ c. c || is_beaten rest k) h
+  at true false h = refl
+  at false true h = refl
+  at false false h = refl
+
+-- a slice from a place on
+pub tail_is : (xs : List Kept) (n : ℕ) → take (length xs - n) (drop n xs) ≡ drop n xs
+tail_is xs n = take_all (length xs - n) (drop n xs) (omega (arith, length-drop n xs))
+
+-- the loop over a run
+pub run_starts : (k : Kept) (xs items : List Kept) (n : ℕ) → items ≡ drop n xs → n ≡ place_in k.route.rule 0 xs → is_beaten items k ≡ is_beaten xs k
+run_starts k xs items n e h = ap (λ ys. is_beaten ys k) (e ∙ ap (λ m. drop m xs) h) ∙ beaten_from k xs
+
+pub run_over : (k s : Kept) (xs items rest : List Kept) (n i : ℕ) → AreSorted (routes_of xs) → items ≡ drop n xs → n ≡ place_in k.route.rule 0 xs → drop i items ≡ s ∷ rest → same_rule s.route k.route ≡ false → is_beaten (drop i items) k ≡ false
+run_over k s xs items rest n i sorted e h d other = ap (λ ys. is_beaten ys k) d ∙ run_ends k s rest (subst (AllByRecursion (NotBefore k)) d (each-drop (NotBefore k) items i (subst (AllByRecursion (NotBefore k)) (sym same) (not_before k xs sorted)))) (subst (λ ys. AreSorted (routes_of ys)) d (sorted-drop items i (subst (λ ys. AreSorted (routes_of ys)) (sym same) (sorted-drop xs (place_in k.route.rule 0 xs) sorted)))) other where
+  same : items ≡ drop (place_in k.route.rule 0 xs) xs
+  same = e ∙ ap (λ m. drop m xs) h

@@ -1,0 +1,13 @@
+-- What the marks of kept routes tell.
+use Rattle.std.specs.Prelude.{List, map, filter}
+use Rattle.fs_base.specs.declared.prefix.Family.{Family}
+use Rattle.fs_validate.specs.declared.route.FlowRoute.{FlowRoute}
+use Rattle.fs_rules.specs.declared.group.Kept.{Kept}
+use Rattle.fs_rules.specs.Kept.{routes_of, chosen}
+use Rattle.fs_rules.specs.Lent.{Judged}
+
+abbrev pub marked : Kept → Judged
+marked k = record { rule = k.route.rule; peer = k.route.peer; mark = k.mark }
+
+abbrev pub routes_chosen : Family → List Kept → List FlowRoute
+routes_chosen family kept = routes_of (chosen family kept)

@@ -1,0 +1,210 @@
+//! Flow routes with their marks, in the order of rules and then by peer.
+
+ghost use Rattle.std.specs.Prelude.{◌≡◌, ◌≤◌, ◌+◌, ◌<◌, ◌==◌, not, OnOk, OnErr, IfOk, map, filter, length, option_map, slice_get, [], position, drop};
+ghost use Rattle.std.specs.List.{list_any};
+ghost use Rattle.std.specs.Option.{option_copied};
+ghost use Rattle.fs_rules.specs.Held.{is_key, key_cmp};
+ghost use Rattle.fs_unicast.specs.Shown.{shown};
+ghost use Rattle.std.specs.Prelude.{◌∷◌, ◌&&◌};
+ghost use Rattle.fs_rules.specs.Related.{has_related};
+ghost use Rattle.fs_rules.specs.Admitted.{is_of_family, is_valid, same_rule};
+ghost use Rattle.fs_unicast.specs.Preference.{preferred};
+ghost use Rattle.fs_rules.specs.Kept.{put_kept, place_in, mended, related_kept, is_related_kept, is_beaten, is_chosen, has_key_at, AreSorted, routes_of};
+
+use fs_base::{Config, Family, Memory, Prefix, Steps};
+use fs_nlri::Rule;
+use fs_order::compare;
+use fs_unicast::{Held, Unicast};
+use fs_validate::{FlowRoute, Validity, destination, valid};
+use std::alloc::Global;
+use std::cmp::Ordering;
+use std::marker::Model;
+use std::sync::ledger::Ledger;
+
+/// A flow route and its validity.
+#[derive(Drop)]
+pub(crate) struct Kept {
+    pub route: FlowRoute,
+    pub mark: Validity,
+}
+
+/// How a rule and a peer are ordered to a route's.
+fn compare_key(rule: &Rule, peer: u16, route: &FlowRoute) -> Ordering
+    ensures { result ≡ key_cmp rule.now peer route.now }
+{
+    compare(rule, &route.rule).then(peer.cmp(&route.peer))
+}
+
+/// How many routes stand before the key.
+fn place_of(kept: &[Kept], rule: &Rule, peer: u16) -> usize
+    requires { AreSorted (routes_of kept.now) }
+    ensures place { result ≡ place_in rule.now peer kept.now }
+    ensures within { result ≤ length kept.now }
+{
+    kept.partition_point(|k| compare_key(rule, peer, &k.route).is_gt())
+}
+
+/// Whether the route at the place, if there is one, has the key.
+fn is_at(kept: &[Kept], place: usize, rule: &Rule, peer: u16) -> bool
+    ensures { result ≡ has_key_at rule.now peer (slice_get kept.now place) }
+{
+    match kept.get(place) {
+        Some(k) => compare_key(rule, peer, &k.route).is_eq(),
+        None => false,
+    }
+}
+
+/// Keeps the route in its place, instead of one of its key. Where memory is refused nothing changes.
+pub(crate) fn put(kept: &mut Vec<Kept>, k: Kept) -> Result<(), Memory>
+    requires { AreSorted (routes_of kept.old.items) }
+    ensures ok { OnOk result (kept.new.items ≡ put_kept k kept.old.items) }
+    ensures err { OnErr result (kept.new.items ≡ kept.old.items) }
+{
+    let place = place_of(kept, &k.route.rule, k.route.peer);
+    if is_at(kept, place, &k.route.rule, k.route.peer) {
+        kept[place] = k;
+        return Ok(());
+    }
+    kept.insert(place, k)?;
+    Ok(())
+}
+
+fn has_key(rule: &Rule, peer: u16, route: &FlowRoute) -> bool
+    ensures { result ≡ is_key rule.now peer route.now }
+{
+    compare_key(rule, peer, route).is_eq()
+}
+
+/// Takes the route of the key away, and tells whether there was one.
+pub(crate) fn take(kept: &mut Vec<Kept>, rule: &Rule, peer: u16) -> bool
+    ensures taken { kept.new.items ≡ filter (λ k. not (is_key rule.now peer k.route)) kept.old.items }
+    ensures held { result ≡ list_any (λ k. is_key rule.now peer k.route) kept.old.items }
+{
+    let held = kept.iter().any(|k| has_key(rule, peer, &k.route));
+    kept.retain(|k| !has_key(rule, peer, &k.route));
+    held
+}
+
+/// Takes away what the peer gave.
+pub(crate) fn forget(kept: &mut Vec<Kept>, peer: u16)
+    ensures { kept.new.items ≡ filter (λ k. not (k.route.peer == peer)) kept.old.items }
+{
+    kept.retain(|k| k.route.peer != peer);
+}
+
+/// Whether the destination covers the prefix or is covered by it.
+fn is_related(prefix: &Prefix, destination: Option<Prefix>) -> bool
+    ensures { result ≡ has_related prefix.now destination }
+{
+    match destination {
+        Some(destination) => prefix.covers(&destination) || destination.covers(prefix),
+        None => false,
+    }
+}
+
+/// Validates the route anew where it is related to the prefix. At most one step, and none where it isn't.
+fn mend_one<L: Ledger>(
+    k: &mut Kept,
+    prefix: &Prefix,
+    unicast: &Unicast,
+    config: &Config,
+    steps: &mut Steps<L>,
+)
+    ensures mended { k.new ≡ mended prefix.now unicast.now config.now k.old }
+    ensures later { steps.old ≤ steps.new }
+    ensures steps { steps.new ≤ steps.old + related_kept prefix.now (k.old ∷ []) }
+{
+    if is_related(prefix, destination(&k.route.rule)) {
+        k.mark = valid(unicast, config, &k.route, steps);
+    }
+}
+
+/// Validates the routes anew that are related to the prefix.
+pub(crate) fn mend<L: Ledger>(
+    kept: &mut Vec<Kept>,
+    prefix: &Prefix,
+    unicast: &Unicast,
+    config: &Config,
+    steps: &mut Steps<L>,
+)
+    ensures mended { kept.new.items ≡ map (mended prefix.now unicast.now config.now) kept.old.items }
+    ensures later { steps.old ≤ steps.new }
+    ensures steps { steps.new ≤ steps.old + related_kept prefix.now kept.old.items }
+{
+    mend_each(kept, prefix, unicast, config, steps);
+}
+
+fn mend_each<L: Ledger>(
+    kept: &mut [Kept],
+    prefix: &Prefix,
+    unicast: &Unicast,
+    config: &Config,
+    steps: &mut Steps<L>,
+)
+    ensures mended { kept.new ≡ map (mended prefix.now unicast.now config.now) kept.old }
+    ensures later { steps.old ≤ steps.new }
+    ensures steps { steps.new ≤ steps.old + related_kept prefix.now kept.old }
+{
+    for k in kept.iter_mut() {
+        mend_one(k, prefix, unicast, config, steps);
+    }
+}
+
+fn stands(mark: Validity) -> bool
+    ensures { result ≡ is_valid mark }
+{
+    mark == Validity::Valid
+}
+
+fn is_same_rule(s: &FlowRoute, r: &FlowRoute) -> bool
+    ensures { result ≡ same_rule s.now r.now }
+{
+    compare(&s.rule, &r.rule).is_eq()
+}
+
+/// Whether `s` is valid and preferred to `k`.
+fn is_better(s: &Kept, k: &Kept) -> bool
+    ensures { result ≡ (is_valid s.now.mark && preferred (s.now.route.peer, s.now.route.path) (k.now.route.peer, k.now.route.path)) }
+{
+    stands(s.mark) && seen(&s.route).is_preferred(&seen(&k.route))
+}
+
+fn seen(route: &FlowRoute) -> Held<'_>
+    ensures { shown result ≡ (route.now.peer, route.now.path) }
+{
+    Held {
+        peer: route.peer,
+        path: &route.path,
+    }
+}
+
+/// Whether a valid route of the same rule is preferred. The routes of a rule stand next to each other.
+fn is_beaten(kept: &[Kept], k: &Kept) -> bool
+    requires { AreSorted (routes_of kept.now) }
+    ensures { result ≡ is_beaten kept.now k.now }
+{
+    let start = place_of(kept, &k.route.rule, 0);
+    for s in &kept[start..] {
+        if !is_same_rule(&s.route, &k.route) {
+            return false;
+        }
+        if is_better(s, k) {
+            return true;
+        }
+    }
+    false
+}
+
+/// Whether the route is that of an admitted rule of the family.
+pub(crate) fn is_chosen(family: Family, kept: &[Kept], k: &Kept) -> bool
+    requires { AreSorted (routes_of kept.now) }
+    ensures { result ≡ is_chosen family kept.now k.now }
+{
+    is_of_family(family, &k.route) && stands(k.mark) && !is_beaten(kept, k)
+}
+
+pub(crate) fn is_of_family(family: Family, route: &FlowRoute) -> bool
+    ensures { result ≡ is_of_family family route.now }
+{
+    route.rule.family() == family
+}

@@ -1,0 +1,21 @@
+//! What the table lends of its routes.
+
+use fs_actions::Actions;
+use fs_nlri::Rule;
+use fs_validate::Validity;
+
+/// An admitted rule, with the peer and the actions of its most preferred valid route.
+#[derive(Clone, Copy, Drop)]
+pub struct Admitted<'a> {
+    pub rule: &'a Rule,
+    pub peer: u16,
+    pub actions: &'a Actions,
+}
+
+/// A held flow route, valid or not.
+#[derive(Clone, Copy, Drop)]
+pub struct HeldFlow<'a> {
+    pub rule: &'a Rule,
+    pub peer: u16,
+    pub validity: Validity,
+}

@@ -1,0 +1,211 @@
+//! The table.
+
+ghost use Rattle.std.specs.Prelude.{◌≡◌, ◌≤◌, ◌+◌, [], IfOk, OnOk, OnErr, is_some, option_map, length, map, slice_get};
+ghost use Rattle.std.specs.BTreeMap.{insert_entry, is_at};
+ghost use Rattle.std.specs.Map.{remove_entry, lookup};
+ghost use Rattle.fs_unicast.specs.Places.{place_cmp};
+ghost use Rattle.fs_rules.specs.Held.{put_route, without_route, has_route, without_peer_unicast, without_peer_flows};
+ghost use Rattle.fs_rules.specs.Related.{related_count, related_sum};
+ghost use Rattle.fs_rules.specs.Admitted.{admitted, IsAdmitted};
+ghost use Rattle.fs_rules.specs.Lent.{listed, shown_admitted, shown_held, held_flows};
+ghost use Rattle.fs_rules.specs.Walk.{next_match};
+ghost use Rattle.fs_unicast.specs.Best.{held_by};
+
+use crate::group::{Kept, forget, mend, put, take};
+use crate::lent::{Admitted, HeldFlow};
+use crate::lists::{admitted_at, count_admitted, held_at, list_admitted, list_held, next_match};
+use fs_actions::Actions;
+use fs_base::{Config, Family, Memory, Path, Prefix, Steps};
+use fs_nlri::Rule;
+use fs_order::Ranked;
+use fs_packet::View;
+use fs_unicast::Unicast;
+use fs_validate::{FlowRoute, valid};
+use std::alloc::Global;
+use std::marker::Model;
+use std::sync::ledger::Ledger;
+
+/// All routes that peers hold. A flow route is kept with its validity, which each call leaves as it is over all
+/// held unicast routes.
+#[derive(Drop)]
+pub struct Table<'a> {
+    config: &'a Config,
+    unicast: Unicast,
+    flows: Vec<Kept>,
+}
+
+impl<'a> Model for Table<'a> {
+    ghost use Rattle.fs_rules.specs.Held.{Held};
+    ghost use Rattle.fs_rules.specs.Kept.{routes_of, Keeps};
+
+    ghost Value = { Held };
+
+    ghost view = { λ a. record { config = a.config.now; unicast = a.unicast; flows = routes_of a.flows.items } };
+
+    ghost invariant = { λ a. Keeps a.config.now a.unicast a.flows.items };
+}
+
+impl<'a> Table<'a> {
+    /// A table that holds nothing.
+    pub fn new(alloc: Global, config: &'a Config) -> Table<'a>
+        ensures { result ≡ record { config = config.now; unicast = []; flows = [] } }
+    {
+        Table {
+            config,
+            unicast: Unicast::new(alloc),
+            flows: Vec::new(alloc),
+        }
+    }
+
+    /// Keeps the route as the peer's route of the rule, in place of one that it holds. Where memory is refused
+    /// nothing changes. At most one step.
+    pub fn put_flow<L: Ledger>(
+        &mut self,
+        peer: u16,
+        rule: Rule,
+        path: Path,
+        actions: Actions,
+        steps: &mut Steps<L>,
+    ) -> Result<(), Memory>
+        ensures ok { OnOk result (self.new ≡ record self.old { flows = put_route (record { peer = peer; rule = rule; path = path; actions = actions }) self.old.flows }) }
+        ensures err { OnErr result (self.new ≡ self.old) }
+        ensures later { steps.old ≤ steps.new }
+        ensures steps { steps.new ≤ steps.old + 1 }
+    {
+        let route = FlowRoute {
+            peer,
+            rule,
+            path,
+            actions,
+        };
+        let mark = valid(&self.unicast, self.config, &route, steps);
+        put(&mut self.flows, Kept { route, mark })?;
+        Ok(())
+    }
+
+    /// Keeps the path as the peer's unicast route at the prefix, in place of one that it holds, and validates the
+    /// related flow routes anew. Where memory is refused nothing changes. At most as many steps as there are flow
+    /// routes whose destination covers the prefix or is covered by it.
+    pub fn put_unicast<L: Ledger>(
+        &mut self,
+        peer: u16,
+        prefix: Prefix,
+        path: Path,
+        steps: &mut Steps<L>,
+    ) -> Result<(), Memory>
+        ensures ok { OnOk result (self.new ≡ record self.old { unicast = insert_entry place_cmp self.old.unicast (record { prefix = prefix; peer = peer }) path }) }
+        ensures err { OnErr result (self.new ≡ self.old) }
+        ensures later { steps.old ≤ steps.new }
+        ensures steps { steps.new ≤ steps.old + related_count prefix self.old.flows }
+    {
+        self.unicast.put(peer, prefix, path)?;
+        mend(&mut self.flows, &prefix, &self.unicast, self.config, steps);
+        Ok(())
+    }
+
+    /// Takes the peer's route of the rule away, and tells whether there was one. No step.
+    pub fn withdraw_flow<L: Ledger>(
+        &mut self,
+        peer: u16,
+        rule: &Ranked,
+        steps: &mut Steps<L>,
+    ) -> bool
+        ensures removed { self.new ≡ record self.old { flows = without_route rule.now.rule peer self.old.flows } }
+        ensures held { result ≡ has_route rule.now.rule peer self.old.flows }
+        ensures steps { steps.new ≡ steps.old }
+    {
+        take(&mut self.flows, &rule.rule, peer)
+    }
+
+    /// Takes the peer's unicast route at the prefix away, validates the related flow routes anew, and tells whether
+    /// there was one. At most as many steps as there are flow routes whose destination covers the prefix or is
+    /// covered by it.
+    pub fn withdraw_unicast<L: Ledger>(
+        &mut self,
+        peer: u16,
+        prefix: &Prefix,
+        steps: &mut Steps<L>,
+    ) -> bool
+        ensures removed { self.new ≡ record self.old { unicast = remove_entry (is_at (place_cmp (record { prefix = prefix.now; peer = peer }))) self.old.unicast } }
+        ensures held { result ≡ is_some (lookup (is_at (place_cmp (record { prefix = prefix.now; peer = peer }))) self.old.unicast) }
+        ensures later { steps.old ≤ steps.new }
+        ensures steps { steps.new ≤ steps.old + related_count prefix.now self.old.flows }
+    {
+        if !self.unicast.remove(peer, prefix) {
+            return false;
+        }
+        mend(&mut self.flows, prefix, &self.unicast, self.config, steps);
+        true
+    }
+
+    /// Takes away all that the peer holds. At most as many steps as all withdrawals of its unicast routes would take.
+    pub fn lose<L: Ledger>(&mut self, peer: u16, steps: &mut Steps<L>)
+        ensures removed { self.new ≡ record self.old { unicast = without_peer_unicast peer self.old.unicast; flows = without_peer_flows peer self.old.flows } }
+        ensures later { steps.old ≤ steps.new }
+        ensures steps { steps.new ≤ steps.old + related_sum peer self.old.unicast self.old.flows }
+    {
+        self.lose_unicast(peer, steps);
+        forget(&mut self.flows, peer);
+    }
+
+    /// Takes the peer's unicast routes away, one after the other.
+    fn lose_unicast<L: Ledger>(&mut self, peer: u16, steps: &mut Steps<L>)
+        ensures removed { self.new ≡ record self.old { unicast = without_peer_unicast peer self.old.unicast } }
+        ensures later { steps.old ≤ steps.new }
+        ensures steps { steps.new ≤ steps.old + related_sum peer self.old.unicast self.old.flows }
+    {
+        while let Some(prefix) = self.held_by(peer) {
+            self.withdraw_unicast(peer, &prefix, steps);
+        }
+    }
+
+    /// A prefix at which the peer holds a unicast route.
+    fn held_by(&self, peer: u16) -> Option<Prefix>
+        ensures { result ≡ held_by self.now.unicast peer None }
+    {
+        self.unicast.held_by(peer, None)
+    }
+
+    /// The admitted rules of the family in order: each rule that has a valid route, with the most preferred one.
+    pub fn admitted(&self, family: Family) -> Result<Vec<Admitted<'_>>, Memory>
+        ensures list { IfOk result (λ list. map shown_admitted list.items ≡ map listed (admitted family self.now)) }
+        ensures admitted { IsAdmitted family self.now (admitted family self.now) }
+    {
+        list_admitted(*self.flows.allocator(), family, self.flows.as_slice())
+    }
+
+    /// All held flow routes of the family with their validity, in the order of rules, then by peer.
+    pub fn held(&self, family: Family) -> Result<Vec<HeldFlow<'_>>, Memory>
+        ensures { IfOk result (λ list. map shown_held list.items ≡ held_flows family self.now) }
+    {
+        list_held(*self.flows.allocator(), family, self.flows.as_slice())
+    }
+
+    /// How many rules of the family are admitted.
+    pub fn count(&self, family: Family) -> usize
+        ensures { result ≡ length (admitted family self.now) }
+    {
+        count_admitted(family, self.flows.as_slice())
+    }
+
+    /// The admitted rule of that number, from 0, in the family's order. None exactly from `count` on.
+    pub fn rule(&self, family: Family, n: usize) -> Option<Admitted<'_>>
+        ensures { option_map shown_admitted result ≡ option_map listed (slice_get (admitted family self.now) n) }
+    {
+        admitted_at(family, self.flows.as_slice(), n)
+    }
+
+    /// The held flow route of that number, from 0, in the order of rules, then by peer.
+    pub fn held_flow(&self, family: Family, n: usize) -> Option<HeldFlow<'_>>
+        ensures { option_map shown_held result ≡ slice_get (held_flows family self.now) n }
+    {
+        held_at(family, self.flows.as_slice(), n)
+    }
+
+    /// The least number from `n` on of an admitted rule of the packet's family that matches it.
+    pub fn walk(&self, view: &View<'_>, n: usize) -> Option<usize>
+        ensures { result ≡ next_match view.now n (admitted view.now.family self.now) }
+    {
+        next_match(view.family(), self.flows.as_slice(), view, n)
+    }
+}

@@ -1,0 +1,3 @@
+pub mod Difference
+pub mod Advancing
+pub mod Written

@@ -1,0 +1,7 @@
+use Rattle.std.proofs.Common.{◌≡◌, drop}
+use Rattle.fs_tape.specs.Tape.{difference_from}
+use Rattle.fs_tape.proofs.magic.wrong_octet.Given as goal
+
+abbrev pub invariant-loop-place : goal.invariant-loop-place
+invariant-loop-place l =
+    difference_from 0 l.octet-items l.front ≡ difference_from l.place (drop l.place l.octet-items) (drop l.place l.front)

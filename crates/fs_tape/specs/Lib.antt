@@ -1,0 +1,3 @@
+pub mod Tape
+pub mod Turn
+pub mod Written

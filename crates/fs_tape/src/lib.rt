@@ -1,0 +1,14 @@
+//! Tapes: what peers sent, and when they came and went, as records behind a magic.
+#![tactic(auto)]
+
+mod fault;
+mod header;
+mod item;
+mod magic;
+mod tape;
+#[cfg(test)]
+mod tests;
+
+pub use fault::{Ended, TapeFault, TapeReason};
+pub use item::TapeItem;
+pub use tape::{Tape, reads_back};

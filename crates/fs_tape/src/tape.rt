@@ -1,0 +1,248 @@
+//! A tape, read record by record.
+ghost use Rattle.std.specs.Prelude.{◌≡◌, ◌≢◌, ◌≤◌, ◌+◌, ℕ, None, IsSome, IsTrue, IfOk, IfSome, OnErr, List, length, take};
+ghost use Rattle.std.specs.Result.{IsErrOf};
+ghost use Rattle.fs_base.specs.Outside.{Rose};
+ghost use Rattle.fs_base.specs.Peers.{peer_of};
+ghost use Rattle.fs_base.specs.declared.config.Config.{Config};
+ghost use Rattle.fs_tape.specs.Tape.{item_of, items_to_come};
+ghost use Rattle.fs_tape.specs.Written.{ReadsBack};
+ghost use Rattle.fs_tape.specs.Turn.{Advances, Grows, IsItem, Opens, answer_of, ended_after, short_answer, short_fault, shown};
+
+use crate::fault::{Ended, TapeFault, TapeReason};
+use crate::header::{HEAD, Header, read_head};
+use crate::item::{Kind, TapeItem};
+use crate::magic::wrong_octet;
+use fs_base::{Config, Counted, Failed, Files, fill};
+use std::marker::Model;
+
+/// A tape that is read from a slot.
+#[derive(Drop)]
+pub struct Tape {
+    counted: Counted,
+    end: Option<Ended>,
+}
+
+impl Model for Tape {
+    ghost use Rattle.fs_tape.specs.Turn.{TapeState};
+
+    ghost Value = { TapeState };
+
+    ghost view = { λ tape. record { slot = tape.counted.slot; limit = tape.counted.limit; place = tape.counted.taken; end = tape.end } };
+}
+
+impl Tape {
+    ghost use Rattle.fs_tape.specs.Turn.{coming};
+
+    /// Reads the magic, up to the limit.
+    ///
+    /// # Errors
+    ///
+    /// `Bad` with `Magic`, or with `Cut` where there are fewer than eight octets; `Limit` where these are all that the
+    /// limit allows; `Read` where the files failed.
+    pub fn begin<F: Files>(mut counted: Counted, files: &mut F) -> Result<Tape, TapeFault>
+        requires { counted.taken ≡ 0 }
+        ensures later { F.faults files.old ≤ F.faults files.new }
+        ensures read { IsErrOf result TapeFault.Read → Rose (F.faults files.old) (F.faults files.new) }
+        ensures state { IfOk result (λ tape. tape ≡ record { slot = counted.slot; limit = counted.limit; place = 8; end = None }) }
+        ensures within { IfOk result (λ tape. tape.place ≤ tape.limit) }
+
+        ensures opens { IsTrue F.tells → Opens counted.limit (F.left files.old counted.slot) (F.left files.new counted.slot) result }
+        ensures others { IsTrue F.tells → (other : ℕ) → other ≢ counted.slot → F.left files.new other ≡ F.left files.old other }
+        ensures holds { IsTrue F.tells → F.holds files.new ≡ F.holds files.old }
+    {
+        let mut front = [0u8; 8];
+        let Ok(count) = fill(&mut counted, files, &mut front) else {
+            return Err(TapeFault::Read);
+        };
+        if count < front.len() {
+            return Err(short(&counted));
+        }
+        if let Some(place) = wrong_octet(&front) {
+            return Err(TapeFault::Bad {
+                reason: TapeReason::Magic,
+                place: place as u64,
+            });
+        }
+        Ok(Tape { counted, end: None })
+    }
+
+    /// Reads the next record. The payload of octets received stands at the front of `into`. `None`: the tape ended
+    /// behind its last record. After that, and after any fault, each call answers the same again and reads nothing.
+    ///
+    /// # Errors
+    ///
+    /// The first field that stands whole and is wrong, as soon as it is read; `Cut` where the tape ends within a record;
+    /// `Limit` where the limit is reached and no field before it is wrong; `Read` where the files failed.
+    pub fn next<F: Files>(
+        &mut self,
+        files: &mut F,
+        config: &Config,
+        into: &mut [u8],
+    ) -> Result<Option<TapeItem>, TapeFault>
+        requires { 65536 ≤ length into.old }
+        ensures later { F.faults files.old ≤ F.faults files.new }
+        ensures read { self.old.end ≡ None → IsErrOf result TapeFault.Read → Rose (F.faults files.old) (F.faults files.new) }
+        ensures slot { self.new.slot ≡ self.old.slot }
+        ensures limit { self.new.limit ≡ self.old.limit }
+        ensures again { IfSome self.old.end (λ ended. (result ≡ answer_of ended) × (self.new ≡ self.old) × (files.new ≡ files.old)) }
+        ensures ended { self.new.end ≡ ended_after result }
+        ensures grows { Grows self.old.place self.new.place self.new.limit result }
+        ensures known { IfOk result (λ found. IfSome found (IsItem config.now)) }
+
+        ensures advances { IsTrue F.tells
+            → self.old.end ≡ None
+            → Advances
+            (coming config.now self.old (F.left files.old self.old.slot))
+            (coming config.now self.new (F.left files.new self.old.slot))
+            into.new
+            result }
+        ensures others { IsTrue F.tells → (other : ℕ) → other ≢ self.old.slot → F.left files.new other ≡ F.left files.old other }
+        ensures holds { IsTrue F.tells → F.holds files.new ≡ F.holds files.old }
+    {
+        turn(&mut self.counted, &mut self.end, files, config, into)
+    }
+}
+
+/// The fault of a tape that has no octet left to be taken, within its magic or a record.
+fn short(counted: &Counted) -> TapeFault
+    ensures { result ≡ short_fault counted.now.taken counted.now.limit }
+{
+    if counted.taken == counted.limit {
+        return TapeFault::Limit;
+    }
+    TapeFault::Bad {
+        reason: TapeReason::Cut,
+        place: counted.taken,
+    }
+}
+
+/// What a tape answers of which so many octets of a head were the last to be taken, and no field in them is wrong.
+fn stopped(counted: &Counted, count: usize) -> Result<Option<TapeItem>, TapeFault>
+    ensures { result ≡ short_answer counted.now.taken counted.now.limit count }
+{
+    if count == 0 && counted.taken != counted.limit {
+        return Ok(None);
+    }
+    Err(short(counted))
+}
+
+/// What `next` does to the fields of a tape.
+fn turn<F: Files>(
+    counted: &mut Counted,
+    end: &mut Option<Ended>,
+    files: &mut F,
+    config: &Config,
+    into: &mut [u8],
+) -> Result<Option<TapeItem>, TapeFault>
+    requires { 65536 ≤ length into.old }
+    ensures later { F.faults files.old ≤ F.faults files.new }
+    ensures read { end.old ≡ None → IsErrOf result TapeFault.Read → Rose (F.faults files.old) (F.faults files.new) }
+    ensures slot { counted.new.slot ≡ counted.old.slot }
+    ensures limit { counted.new.limit ≡ counted.old.limit }
+    ensures again { IfSome end.old (λ ended. (result ≡ answer_of ended) × (counted.new ≡ counted.old) × (end.new ≡ end.old) × (files.new ≡ files.old)) }
+    ensures ended { end.new ≡ ended_after result }
+    ensures grows { Grows counted.old.taken counted.new.taken counted.new.limit result }
+    ensures known { IfOk result (λ found. IfSome found (IsItem config.now)) }
+
+    ensures advances { IsTrue F.tells
+        → end.old ≡ None
+        → Advances
+        (items_to_come config.now counted.old.limit counted.old.taken (F.left files.old counted.old.slot))
+        (items_to_come config.now counted.new.limit counted.new.taken (F.left files.new counted.old.slot))
+        into.new
+        result }
+    ensures others { IsTrue F.tells → (other : ℕ) → other ≢ counted.old.slot → F.left files.new other ≡ F.left files.old other }
+    ensures holds { IsTrue F.tells → F.holds files.new ≡ F.holds files.old }
+{
+    if let Some(ended) = *end {
+        return answer(ended);
+    }
+    let found = advance(counted, files, config, into);
+    *end = ended_by(&found);
+    found
+}
+
+/// What a tape that ended answers.
+fn answer(ended: Ended) -> Result<Option<TapeItem>, TapeFault>
+    ensures { result ≡ answer_of ended }
+{
+    match ended {
+        Ended::Done => Ok(None),
+        Ended::Fault(fault) => Err(fault),
+    }
+}
+
+/// How a tape stands ended behind an answer.
+fn ended_by(found: &Result<Option<TapeItem>, TapeFault>) -> Option<Ended>
+    ensures { result ≡ ended_after found.now }
+{
+    match found {
+        Ok(Some(_)) => None,
+        Ok(None) => Some(Ended::Done),
+        Err(fault) => Some(Ended::Fault(*fault)),
+    }
+}
+
+/// Reads one record of a tape that hasn't ended.
+fn advance<F: Files>(
+    counted: &mut Counted,
+    files: &mut F,
+    config: &Config,
+    into: &mut [u8],
+) -> Result<Option<TapeItem>, TapeFault>
+    requires { 65536 ≤ length into.old }
+    ensures later { F.faults files.old ≤ F.faults files.new }
+    ensures read { IsErrOf result TapeFault.Read → Rose (F.faults files.old) (F.faults files.new) }
+    ensures slot { counted.new.slot ≡ counted.old.slot }
+    ensures limit { counted.new.limit ≡ counted.old.limit }
+    ensures grows { Grows counted.old.taken counted.new.taken counted.new.limit result }
+    ensures known { IfOk result (λ found. IfSome found (IsItem config.now)) }
+
+    ensures advances { IsTrue F.tells
+        → Advances
+        (items_to_come config.now counted.old.limit counted.old.taken (F.left files.old counted.old.slot))
+        (items_to_come config.now counted.new.limit counted.new.taken (F.left files.new counted.old.slot))
+        into.new
+        result }
+    ensures others { IsTrue F.tells → (other : ℕ) → other ≢ counted.old.slot → F.left files.new other ≡ F.left files.old other }
+    ensures holds { IsTrue F.tells → F.holds files.new ≡ F.holds files.old }
+{
+    let mut head = [0u8; HEAD];
+    let Ok(count) = fill(counted, files, &mut head) else {
+        return Err(TapeFault::Read);
+    };
+    let place = counted.taken - count as u64;
+    match read_head(config, &head[..count]) {
+        Header::Wrong { reason, offset } => Err(TapeFault::Bad {
+            reason,
+            place: place + offset as u64,
+        }),
+        Header::Partial => stopped(counted, count),
+        Header::Whole { kind, peer, size } => {
+            let Ok(count) = fill(counted, files, &mut into[..size]) else {
+                return Err(TapeFault::Read);
+            };
+            if count < size {
+                return Err(short(counted));
+            }
+            Ok(Some(item(kind, peer, size)))
+        }
+    }
+}
+
+fn item(kind: Kind, peer: u16, size: usize) -> TapeItem
+    ensures shown { (into : List ℕ) → shown result into ≡ item_of (record { kind = kind; peer = peer }) (take size into) }
+    ensures known { (config : Config) → IsSome (peer_of peer config.peers) → size ≤ 65536 → IsItem config result }
+{
+    match kind {
+        Kind::Up => TapeItem::Up(peer),
+        Kind::Received => TapeItem::Octets(peer, size),
+        Kind::Lost => TapeItem::Lost(peer),
+    }
+}
+
+/// What is written of items is read back as these items: of each peer that is configured, with payloads of at most 65536
+/// octets, below the limit.
+pub fn reads_back()
+    ensures { ReadsBack }
+{}

@@ -1,0 +1,179 @@
+-- The ranges of places that a look-up goes over.
+use Rattle.std.proofs.Common.{ℕ, ◌≡◌, ◌<◌, ◌≤◌, ◌^◌, refl, sym, ap, subst, ◌∙◌, Bool, true, false, true≢false, not, ◌&&◌, ◌||◌, nat_le, ◌==◌, find, option_map, List, [], ◌∷◌, Some, None, filter, map, Option, Ordering, Less, Equal, Greater, is_eq, is_le, is_lt, nat_cmp, arith}
+use Rattle.std.specs.List.{AllByRecursion, list_any, list_all}
+use Rattle.std.specs.List.Sorted.{IsStrictlySortedBy}
+use Rattle.std.specs.Map.{keys_of}
+use Rattle.std.specs.Ordering.{ordering_then, ordering_reverse}
+use Rattle.std.specs.Cmp.{tied_itself, nat_cmp_total}
+use Rattle.std.proofs.lemmas.Bool.Decides.{nat_tests}
+use Rattle.std.specs.BTreeMap.Range.{range_contains, entries_between}
+use Rattle.std.specs.declared.ops.Bound.TheVariants.{Included, Excluded, Unbounded}
+use Rattle.fs_base.specs.declared.prefix.Prefix.{Prefix}
+use Rattle.fs_base.specs.declared.path.Path.{Path}
+use Rattle.fs_base.specs.Prefix.{covers, prefix_cmp}
+use Rattle.fs_base.specs.PrefixOrder.{prefix_total}
+use Rattle.fs_base.proofs.Listing.{filter_on, filter_none, filter_first, filter_empty, find_filter, find_on, IsLeast, each, each_weaker, each_all, all_each, any_each, any_filter, any_on, any_weaker}
+use Rattle.fs_base.proofs.Nesting.{alike, alike_covers, covers_nested, covers_same_length}
+use Rattle.fs_base.specs.Seek.{IsFirst, IsLongest}
+use Rattle.fs_unicast.specs.declared.unicast.Place.{Place}
+use Rattle.fs_unicast.specs.Places.{Route, place_cmp}
+use Rattle.fs_unicast.specs.Small.{HasSmallPeers}
+use Rattle.fs_unicast.specs.Best.{is_same_prefix, is_strictly_under, is_other, others_under, best_at, best_match_of, is_longest, is_from, held_by, candidate}
+use Rattle.fs_unicast.specs.Start.{start_of}
+use Rattle.fs_unicast.specs.Preference.{best_of}
+
+abbrev pub place : Prefix → ℕ → Place
+place p n = record { prefix = p; peer = n }
+
+at_tests : (o : Ordering) (n : ℕ) → n < 2 ^ 16 → (is_le (ordering_then o (nat_cmp 0 n)) && not (is_lt (ordering_then o (nat_cmp 65535 n)))) ≡ is_eq o
+at_tests Less n h = refl
+at_tests Equal n h = grind (arith, nat_tests)
+at_tests Greater n h = refl
+
+-- the places of one prefix
+pub at_range : (p : Prefix) (held : List Route) → HasSmallPeers held
+    → filter (λ r. range_contains place_cmp (Included (place p 0)) (Included (place p 65535)) r.0) held ≡ filter (λ r. is_same_prefix p r.0.prefix) held
+at_range p held small = filter_on (λ r. range_contains place_cmp (Included (place p 0)) (Included (place p 65535)) r.0) (λ r. is_same_prefix p r.0.prefix) held
+    (each_weaker (λ r. r.0.peer < 2 ^ 16) (λ r. range_contains place_cmp (Included (place p 0)) (Included (place p 65535)) r.0 ≡ is_same_prefix p r.0.prefix) (λ r h. at_tests (prefix_cmp p r.0.prefix) r.0.peer h) held small)
+
+pub best_in_range : (p : Prefix) (held found : List Route) → HasSmallPeers held → found ≡ entries_between place_cmp (Included (place p 0)) (Included (place p 65535)) held
+    → best_of (map candidate found) ≡ best_at held p
+best_in_range p held found small e = ap (λ rs. best_of (map candidate rs)) (e ∙ at_range p held small)
+
+under_tests : (a o : Ordering) (n : ℕ) → (is_le (ordering_then a (nat_cmp 0 n)) && not (is_le (ordering_then o (nat_cmp 0 n)))) ≡ ((is_le a && is_le (ordering_reverse o)) && not (is_eq o))
+under_tests Less Less n = refl
+under_tests Less Equal n = grind (arith, nat_tests)
+under_tests Less Greater n = refl
+under_tests Equal Less n = grind (arith, nat_tests)
+under_tests Equal Equal n = grind (arith, nat_tests)
+under_tests Equal Greater n = grind (arith, nat_tests)
+under_tests Greater Less n = refl
+under_tests Greater Equal n = refl
+under_tests Greater Greater n = refl
+
+-- the places strictly under a prefix, of which `first` is the first
+pub under_range : (d first : Prefix) (q : Place) → ((p : Prefix) → covers d p ≡ (is_le (prefix_cmp first p) && is_le (prefix_cmp p d)))
+    → range_contains place_cmp (Included (place first 0)) (Excluded (place d 0)) q ≡ is_strictly_under d q.prefix
+under_range d first q law = under_tests (prefix_cmp first q.prefix) (prefix_cmp d q.prefix) q.peer
+    ∙ ap (λ o. (is_le (prefix_cmp first q.prefix) && is_le o) && not (is_eq (prefix_cmp d q.prefix))) (sym (prefix_total.antisymm q.prefix d))
+    ∙ ap (λ b. b && not (is_eq (prefix_cmp d q.prefix))) (sym (law q.prefix))
+
+pub others_in_range : (d first : Prefix) (local_as : ℕ) (asn : Option ℕ) (held found : List Route) → ((p : Prefix) → covers d p ≡ (is_le (prefix_cmp first p) && is_le (prefix_cmp p d)))
+    → found ≡ entries_between place_cmp (Included (place first 0)) (Excluded (place d 0)) held
+    → list_any (λ r. is_other local_as asn r.1) found ≡ others_under held d local_as asn
+others_in_range d first local_as asn held found law e = ap (list_any (λ r. is_other local_as asn r.1)) e
+    ∙ any_filter (λ r. range_contains place_cmp (Included (place first 0)) (Excluded (place d 0)) r.0) (λ r. is_other local_as asn r.1) held
+    ∙ any_on (λ r. range_contains place_cmp (Included (place first 0)) (Excluded (place d 0)) r.0 && is_other local_as asn r.1) (λ r. is_strictly_under d r.0.prefix && is_other local_as asn r.1) held
+    (each (λ r. (range_contains place_cmp (Included (place first 0)) (Excluded (place d 0)) r.0 && is_other local_as asn r.1) ≡ (is_strictly_under d r.0.prefix && is_other local_as asn r.1)) (λ r. ap (λ b. b && is_other local_as asn r.1) (under_range d first r.0 law)) held)
+
+from_test : (o : Ordering) (n : ℕ) → (is_le (ordering_then o (nat_cmp 0 n)) && true) ≡ is_le o
+from_test Less n = refl
+from_test Equal n = grind (arith, nat_tests)
+from_test Greater n = refl
+
+first_equal : (o p : Ordering) → is_eq (ordering_then o p) ≡ true → is_eq o ≡ true
+first_equal Less p h = h
+first_equal Equal p h = refl
+first_equal Greater p h = h
+
+first_le : (o p : Ordering) → is_le (ordering_then o p) ≡ true → is_le o ≡ true
+first_le Less p h = refl
+first_le Equal p h = refl
+first_le Greater p h = h
+
+equal_then : (o p : Ordering) → o ≡ Equal → p ≡ Equal → ordering_then o p ≡ Equal
+equal_then o p h k = ap (λ a. ordering_then a p) h ∙ k
+
+pub place_itself : (q : Place) → place_cmp q q ≡ Equal
+place_itself q = equal_then (prefix_cmp q.prefix q.prefix) (nat_cmp q.peer q.peer) (tied_itself prefix_total q.prefix) (tied_itself nat_cmp_total q.peer)
+
+-- the first place from low on has the first prefix from low on
+pub first_in_range : (low : Prefix) (held : List Route) → IsStrictlySortedBy place_cmp (keys_of held) → (found : List Route) (x : Route) (rest : List Route)
+    → found ≡ entries_between place_cmp (Included (place low 0)) Unbounded held → found ≡ x ∷ rest → IsFirst (λ r. r.0.prefix) held low x.0.prefix
+first_in_range low held sorted found x rest e k = record {
+  there = any_weaker (λ r. is_eq (place_cmp x.0 r.0)) (λ r. is_eq (prefix_cmp x.0.prefix r.0.prefix)) (λ r. first_equal (prefix_cmp x.0.prefix r.0.prefix) (nat_cmp x.0.peer r.0.peer)) held first.there;
+  from = sym (from_test (prefix_cmp low x.0.prefix) x.0.peer) ∙ first.passes;
+  least = each_weaker (λ r. range_contains place_cmp (Included (place low 0)) Unbounded r.0 ≡ true → is_le (place_cmp x.0 r.0) ≡ true) (λ r. is_le (prefix_cmp low r.0.prefix) ≡ true → is_le (prefix_cmp x.0.prefix r.0.prefix) ≡ true)
+      (λ r h f. first_le (prefix_cmp x.0.prefix r.0.prefix) (nat_cmp x.0.peer r.0.peer) (h (from_test (prefix_cmp low r.0.prefix) r.0.peer ∙ f))) held first.least;
+} where
+  first : IsLeast place_cmp (range_contains place_cmp (Included (place low 0)) Unbounded) held x.0
+  first = filter_first place_cmp place_itself (range_contains place_cmp (Included (place low 0)) Unbounded) held sorted x rest (sym e ∙ k)
+
+pub none_in_range : (low : Prefix) (held found : List Route) → found ≡ entries_between place_cmp (Included (place low 0)) Unbounded held → found ≡ []
+    → AllByRecursion (λ r. is_le (prefix_cmp low r.0.prefix) ≡ false) held
+none_in_range low held found e k = each_weaker (λ r. range_contains place_cmp (Included (place low 0)) Unbounded r.0 ≡ false) (λ r. is_le (prefix_cmp low r.0.prefix) ≡ false)
+    (λ r h. sym (from_test (prefix_cmp low r.0.prefix) r.0.peer) ∙ h) held (filter_empty (λ r. range_contains place_cmp (Included (place low 0)) Unbounded r.0) held (sym e ∙ k))
+
+-- a test that holds where another does, and not where it doesn't
+two_tests : (a b : Bool) → (a ≡ true → b ≡ true) → (b ≡ true → a ≡ true) → a ≡ b
+two_tests true b there back = sym (there refl)
+two_tests false true there back = back refl
+two_tests false false there back = refl
+
+split_and : (a b : Bool) → (a && b) ≡ true → (a ≡ true) × (b ≡ true)
+split_and true b h = (refl, h)
+split_and false b h = absurd (true≢false (sym h))
+
+join_and : (a b : Bool) → a ≡ true → b ≡ true → (a && b) ≡ true
+join_and true b h k = k
+join_and false b h k = h
+
+join_or : (a b : Bool) → (a ≡ true → b ≡ true) → (not a || b) ≡ true
+join_or true b h = h refl
+join_or false b h = refl
+
+split_or : (a b : Bool) → (not a || b) ≡ true → a ≡ true → b ≡ true
+split_or true b h k = h
+split_or false b h k = absurd (true≢false (sym k))
+
+-- where q is the longest prefix that covers d and has a route, the routes at q are those that the best match is of
+pub longest_at : (held : List Route) (d q : Prefix) → IsLongest (λ r. r.0.prefix) held d q
+    → filter (λ r. is_same_prefix q r.0.prefix) held ≡ filter (is_longest held d) held
+longest_at held d q h = filter_on (λ r. is_same_prefix q r.0.prefix) (is_longest held d) held (each_weaker (λ r. covers r.0.prefix d ≡ true → r.0.prefix.length ≤ q.length) (λ r. is_same_prefix q r.0.prefix ≡ is_longest held d r) same held h.longest) where
+  not_longer : Route → Route → Bool
+  not_longer r s = not (covers s.0.prefix d) || nat_le s.0.prefix.length r.0.prefix.length
+
+  there : (r : Route) → is_same_prefix q r.0.prefix ≡ true → is_longest held d r ≡ true
+  there r e = join_and (covers r.0.prefix d) (list_all (λ s. not (covers s.0.prefix d) || nat_le s.0.prefix.length r.0.prefix.length) held) (sym (alike_covers q r.0.prefix d e) ∙ h.over)
+      (each_all (λ s. not (covers s.0.prefix d) || nat_le s.0.prefix.length r.0.prefix.length) held (each_weaker (λ s. covers s.0.prefix d ≡ true → s.0.prefix.length ≤ q.length) (λ s. (not (covers s.0.prefix d) || nat_le s.0.prefix.length r.0.prefix.length) ≡ true) (λ s k. join_or (covers s.0.prefix d) (nat_le s.0.prefix.length r.0.prefix.length) (λ c. le-leb_true s.0.prefix.length r.0.prefix.length (subst (λ n. s.0.prefix.length ≤ n) (alike q r.0.prefix e).length (k c)))) held h.longest)) where
+        le-leb_true : (m n : ℕ) → m ≤ n → nat_le m n ≡ true
+        le-leb_true m n k = grind (arith, nat_tests)
+
+  back : (r : Route) → (covers r.0.prefix d ≡ true → r.0.prefix.length ≤ q.length) → is_longest held d r ≡ true → is_same_prefix q r.0.prefix ≡ true
+  back r short e = any_each (λ s. is_same_prefix q s.0.prefix) (λ s. (not (covers s.0.prefix d) || nat_le s.0.prefix.length r.0.prefix.length) ≡ true) (is_same_prefix q r.0.prefix ≡ true) held h.there (all_each (λ s. not (covers s.0.prefix d) || nat_le s.0.prefix.length r.0.prefix.length) held parts.1) at where
+    parts : (covers r.0.prefix d ≡ true) × (list_all (λ s. not (covers s.0.prefix d) || nat_le s.0.prefix.length r.0.prefix.length) held ≡ true)
+    parts = split_and (covers r.0.prefix d) (list_all (λ s. not (covers s.0.prefix d) || nat_le s.0.prefix.length r.0.prefix.length) held) e
+
+    leb_le : (m n : ℕ) → nat_le m n ≡ true → m ≤ n
+    leb_le m n k = grind (arith, nat_tests)
+
+    at : (s : Route) → is_same_prefix q s.0.prefix ≡ true → (not (covers s.0.prefix d) || nat_le s.0.prefix.length r.0.prefix.length) ≡ true → is_same_prefix q r.0.prefix ≡ true
+    at s k l = let longer : s.0.prefix.length ≤ r.0.prefix.length = leb_le s.0.prefix.length r.0.prefix.length (split_or (covers s.0.prefix d) (nat_le s.0.prefix.length r.0.prefix.length) l (sym (alike_covers q s.0.prefix d k) ∙ h.over)) in
+        let same_length : q.length ≡ s.0.prefix.length = (alike q s.0.prefix k).length in
+        let shorter : r.0.prefix.length ≤ q.length = short parts.0 in
+        covers_same_length q r.0.prefix (covers_nested q r.0.prefix d h.over parts.0 (omega arith)) (omega arith)
+
+  same : (r : Route) → (covers r.0.prefix d ≡ true → r.0.prefix.length ≤ q.length) → is_same_prefix q r.0.prefix ≡ is_longest held d r
+  same r short = two_tests (is_same_prefix q r.0.prefix) (is_longest held d r) (there r) (back r short)
+
+pub best_at_longest : (held : List Route) (d q : Prefix) → IsLongest (λ r. r.0.prefix) held d q → best_at held q ≡ best_match_of held d
+best_at_longest held d q h = ap (λ rs. best_of (map candidate rs)) (longest_at held d q h)
+
+-- where no route's prefix covers d there is no best match
+pub no_best : (held : List Route) (d : Prefix) → AllByRecursion (λ r. covers r.0.prefix d ≡ false) held → None ≡ best_match_of held d
+no_best held d h = ap (λ rs. best_of (map candidate rs)) (sym (filter_none (is_longest held d) held (each_weaker (λ r. covers r.0.prefix d ≡ false) (λ r. is_longest held d r ≡ false) (λ r k. ap (λ b. b && list_all (λ s. not (covers s.0.prefix d) || nat_le s.0.prefix.length r.0.prefix.length) held) k) held h)))
+
+pub best_between : (p : Prefix) (held found : List Route) (low high : Place) → low ≡ place p 0 → high ≡ place p 65535 → HasSmallPeers held → found ≡ entries_between place_cmp (Included low) (Included high) held
+    → best_of (map candidate found) ≡ best_at held p
+best_between p held found low high l h small e = best_in_range p held found small (e ∙ ap (λ q. entries_between place_cmp (Included q) (Included high) held) l ∙ ap (λ q. entries_between place_cmp (Included (place p 0)) (Included q) held) h)
+
+from_start : (from : Option Prefix) (q : Place) → range_contains place_cmp (start_of from) Unbounded q ≡ is_from from q.prefix
+from_start None q = refl
+from_start (Some low) q = from_test (prefix_cmp low q.prefix) q.peer
+
+pub held_in_range : (held found : List Route) (peer : ℕ) (from : Option Prefix) → found ≡ entries_between place_cmp (start_of from) Unbounded held
+    → option_map (λ r. r.0.prefix) (find (λ r. r.0.peer == peer) found) ≡ held_by held peer from
+held_in_range held found peer from e = ap (option_map (λ r. r.0.prefix)) (ap (find (λ r. r.0.peer == peer)) e
+    ∙ find_filter (λ r. range_contains place_cmp (start_of from) Unbounded r.0) (λ r. r.0.peer == peer) held
+    ∙ find_on (λ r. range_contains place_cmp (start_of from) Unbounded r.0 && (r.0.peer == peer)) (λ r. is_from from r.0.prefix && (r.0.peer == peer)) held
+    (each (λ r. (range_contains place_cmp (start_of from) Unbounded r.0 && (r.0.peer == peer)) ≡ (is_from from r.0.prefix && (r.0.peer == peer))) (λ r. ap (λ b. b && (r.0.peer == peer)) (from_start from r.0)) held))

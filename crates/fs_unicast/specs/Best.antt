@@ -1,0 +1,49 @@
+-- The best route at a prefix, the best match of a prefix, and the routes under it, over one list of held routes.
+use Rattle.std.specs.Prelude.{ℕ, Bool, not, ◌&&◌, ◌||◌, ◌==◌, true, Option, Some, None, List, filter, map, nat_le, find, option_map}
+use Rattle.std.specs.List.{list_any, list_all}
+use Rattle.std.specs.Ordering.{is_eq, is_le}
+use Rattle.fs_base.specs.Prefix.{covers, prefix_cmp}
+use Rattle.fs_base.specs.declared.prefix.Prefix.{Prefix}
+use Rattle.fs_base.specs.declared.path.Path.{Path}
+use Rattle.fs_unicast.specs.Neighbour.{neighbour_as}
+use Rattle.fs_unicast.specs.Places.{Route}
+use Rattle.fs_unicast.specs.Preference.{best_of}
+
+abbrev pub candidate : Route → ℕ × Path
+candidate r = (r.0.peer, r.1)
+
+abbrev pub is_same_prefix : Prefix → Prefix → Bool
+is_same_prefix p q = is_eq (prefix_cmp p q)
+
+-- the most preferred route at p
+abbrev pub best_at : List Route → Prefix → Option (ℕ × Path)
+best_at held p = best_of (map candidate (filter (λ r. is_same_prefix p r.0.prefix) held))
+
+-- its prefix covers d, and no route has a longer one that does
+abbrev pub is_longest : List Route → Prefix → Route → Bool
+is_longest held d r = covers r.0.prefix d && list_all (λ s. not (covers s.0.prefix d) || nat_le s.0.prefix.length r.0.prefix.length) held
+
+-- the most preferred route at the longest prefix that covers d and has one
+abbrev pub best_match_of : List Route → Prefix → Option (ℕ × Path)
+best_match_of held d = best_of (map candidate (filter (is_longest held d) held))
+
+-- whether the path has another neighbouring AS than this; without one, always
+abbrev pub is_other : ℕ → Option ℕ → Path → Bool
+is_other local_as None path = true
+is_other local_as (Some asn) path = not (neighbour_as local_as path.segments == asn)
+
+abbrev pub is_strictly_under : Prefix → Prefix → Bool
+is_strictly_under d p = covers d p && not (is_same_prefix d p)
+
+-- whether a route strictly under d has another neighbouring AS than `asn`
+abbrev pub others_under : List Route → Prefix → ℕ → Option ℕ → Bool
+others_under held d local_as asn = list_any (λ r. is_strictly_under d r.0.prefix && is_other local_as asn r.1) held
+
+-- from a prefix on, or from the start
+abbrev pub is_from : Option Prefix → Prefix → Bool
+is_from None p = true
+is_from (Some low) p = is_le (prefix_cmp low p)
+
+-- the first prefix from there on at which the peer holds a route
+abbrev pub held_by : List Route → ℕ → Option Prefix → Option Prefix
+held_by held peer from = option_map (λ r. r.0.prefix) (find (λ r. is_from from r.0.prefix && (r.0.peer == peer)) held)

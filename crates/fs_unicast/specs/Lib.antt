@@ -1,0 +1,7 @@
+pub mod Neighbour
+pub mod Preference
+pub mod Places
+pub mod Best
+pub mod Shown
+pub mod Small
+pub mod Start

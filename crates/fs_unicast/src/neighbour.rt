@@ -1,0 +1,57 @@
+//! The ASes that a path names first.
+
+ghost use Rattle.std.specs.Prelude.{◌≡◌};
+ghost use Rattle.std.specs.Option.{option_copied};
+ghost use Rattle.fs_unicast.specs.Neighbour.{is_confederation, leading, first_number, first_as, neighbour_as};
+
+use fs_base::Segment;
+
+/// An AS_SEQUENCE (RFC 4271 section 4.3).
+const SEQUENCE: u8 = 2;
+/// An AS_CONFED_SEQUENCE and an AS_CONFED_SET (RFC 5065 section 3).
+const CONFED_SEQUENCE: u8 = 3;
+
+const CONFED_SET: u8 = 4;
+
+/// The leftmost AS of a path: the first number of its leading sequence, where confederation segments don't
+/// count. None for a path that has no other segment or begins with a set.
+pub fn first_as(segments: &[Segment]) -> Option<u32>
+    ensures { result ≡ first_as segments.now }
+{
+    first_number(leading(segments)?)
+}
+
+/// The neighbouring AS of a path: its leftmost AS; `local_as` where only confederation segments stand in it;
+/// 0 where a set comes first.
+pub fn neighbour_as(segments: &[Segment], local_as: u32) -> u32
+    ensures { result ≡ neighbour_as local_as segments.now }
+{
+    match leading(segments) {
+        None => local_as,
+        Some(segment) => first_number(segment).unwrap_or(0),
+    }
+}
+
+/// The first segment that isn't a confederation's.
+fn leading(segments: &[Segment]) -> Option<&Segment>
+    ensures { option_copied result ≡ leading segments.now }
+{
+    segments.iter().find(|segment| !is_confederation(segment))
+}
+
+fn is_confederation(segment: &Segment) -> bool
+    ensures { result ≡ is_confederation segment.now }
+{
+    segment.form == CONFED_SEQUENCE || segment.form == CONFED_SET
+}
+
+/// The first number of a sequence; a set has none.
+fn first_number(segment: &Segment) -> Option<u32>
+    ensures { result ≡ first_number segment.now }
+{
+    if segment.form == SEQUENCE {
+        segment.numbers.as_slice().first().copied()
+    } else {
+        None
+    }
+}

@@ -1,0 +1,152 @@
+//! Look-ups in the ordered map of routes.
+
+ghost use Rattle.std.specs.Prelude.{◌≡◌, ◌<◌, ◌^◌, option_map};
+ghost use Rattle.fs_unicast.specs.Best.{best_at, best_match_of, is_other, others_under, held_by};
+ghost use Rattle.fs_unicast.specs.Preference.{better};
+ghost use Rattle.fs_unicast.specs.Shown.{shown};
+ghost use Rattle.fs_unicast.specs.Small.{HasSmallPeers};
+ghost use Rattle.fs_unicast.specs.Start.{start_of};
+ghost use Rattle.std.specs.Option.{option_copied};
+ghost use Rattle.fs_base.specs.Seek.{IsFirstFrom, IsLongestCover};
+
+use crate::neighbour::neighbour_as;
+use crate::preference::Held;
+use crate::unicast::Place;
+use fs_base::{Path, Prefix};
+use std::collections::BTreeMap;
+use std::ops::Bound;
+
+/// The most preferred route at the prefix.
+pub fn best_at<'a>(routes: &'a BTreeMap<Place, Path>, prefix: &Prefix) -> Option<Held<'a>>
+    requires { HasSmallPeers routes.now.entries }
+    ensures { option_map shown result ≡ best_at routes.now.entries prefix.now }
+{
+    let low = Place {
+        prefix: *prefix,
+        peer: 0,
+    };
+    let high = Place {
+        prefix: *prefix,
+        peer: u16::MAX,
+    };
+    let mut best = None;
+    for (place, path) in routes.range(low..=high) {
+        let route = Held {
+            peer: place.peer,
+            path,
+        };
+        best = Some(better(best, route));
+    }
+    best
+}
+
+fn better<'a>(best: Option<Held<'a>>, route: Held<'a>) -> Held<'a>
+    ensures { Some (shown result) ≡ better (option_map shown best.entry) (shown route.entry) }
+{
+    match best {
+        Some(best) if !route.is_preferred(&best) => best,
+        _ => route,
+    }
+}
+
+/// The most preferred route at the longest prefix that covers this one and has a route.
+pub fn best_match<'a>(routes: &'a BTreeMap<Place, Path>, prefix: &Prefix) -> Option<Held<'a>>
+    requires { HasSmallPeers routes.now.entries }
+    ensures { option_map shown result ≡ best_match_of routes.now.entries prefix.now }
+{
+    match longest_cover(routes, prefix) {
+        Some(longest) => best_at(routes, &longest),
+        None => None,
+    }
+}
+
+/// The longest prefix that covers this one and has a route.
+fn longest_cover(routes: &BTreeMap<Place, Path>, prefix: &Prefix) -> Option<Prefix>
+    ensures { IsLongestCover (λ r. r.0.prefix) routes.now.entries prefix.now result }
+{
+    let mut low = *prefix;
+    loop {
+        let Some(first) = first_from(routes, &low) else {
+            return None;
+        };
+        if first.covers(prefix) {
+            return Some(first);
+        }
+        let Some(both) = low.common(&first) else {
+            return None;
+        };
+        low = both;
+    }
+}
+
+/// The first prefix in order, from `low` on, that has a route.
+fn first_from(routes: &BTreeMap<Place, Path>, low: &Prefix) -> Option<Prefix>
+    ensures { IsFirstFrom (λ r. r.0.prefix) routes.now.entries low.now result }
+{
+    let low = Place {
+        prefix: *low,
+        peer: 0,
+    };
+    match routes.range(low..).next() {
+        Some((place, _)) => Some(place.prefix),
+        None => None,
+    }
+}
+
+/// Whether a route strictly under the prefix has another neighbouring AS.
+pub fn others_under(
+    routes: &BTreeMap<Place, Path>,
+    prefix: &Prefix,
+    local_as: u32,
+    asn: Option<u32>,
+) -> bool
+    ensures { result ≡ others_under routes.now.entries prefix.now local_as asn }
+{
+    let low = Place {
+        prefix: prefix.first_under(),
+        peer: 0,
+    };
+    let high = Place {
+        prefix: *prefix,
+        peer: 0,
+    };
+    for (_, path) in routes.range(low..high) {
+        if is_other(path, local_as, asn) {
+            return true;
+        }
+    }
+    false
+}
+
+fn is_other(path: &Path, local_as: u32, asn: Option<u32>) -> bool
+    ensures { result ≡ is_other local_as asn path.now }
+{
+    match asn {
+        None => true,
+        Some(asn) => neighbour_as(path.segments.as_slice(), local_as) != asn,
+    }
+}
+
+/// The first prefix in order, from `from` on or from the start, at which the peer holds a route.
+pub fn held_by(routes: &BTreeMap<Place, Path>, peer: u16, from: Option<&Prefix>) -> Option<Prefix>
+    ensures { result ≡ held_by routes.now.entries peer (option_copied from.entry) }
+{
+    for (place, _) in routes.range((start(from), Bound::Unbounded)) {
+        if place.peer == peer {
+            return Some(place.prefix);
+        }
+    }
+    None
+}
+
+fn start(from: Option<&Prefix>) -> Bound<Place>
+    ensures { result ≡ start_of (option_copied from.entry) }
+{
+    match from {
+        Some(prefix) => Bound::Included(Place {
+            prefix: *prefix,
+            peer: 0,
+        }),
+        None => Bound::Unbounded,
+    }
+}

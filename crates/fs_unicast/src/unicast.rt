@@ -1,0 +1,108 @@
+//! The table of unicast routes.
+
+ghost use Rattle.std.specs.Prelude.{◌≡◌, [], OnOk, OnErr, is_some, option_map, ◌+◌};
+ghost use Rattle.std.specs.BTreeMap.{insert_entry, is_at};
+ghost use Rattle.std.specs.Map.{remove_entry, lookup};
+ghost use Rattle.fs_unicast.specs.Places.{place_cmp};
+ghost use Rattle.fs_unicast.specs.Best.{best_at, best_match_of, others_under, held_by};
+ghost use Rattle.fs_unicast.specs.Shown.{shown};
+ghost use Rattle.std.specs.Option.{option_copied};
+
+use crate::preference::Held;
+use crate::search;
+use fs_base::{Memory, Path, Prefix, Steps};
+use std::alloc::Global;
+use std::collections::BTreeMap;
+use std::marker::Model;
+use std::sync::ledger::Ledger;
+
+/// Where a route is kept: by its prefix, then by the number of the peer that gave it.
+#[derive(Clone, Copy, Debug, PartialEq, Eq, PartialOrd, Ord)]
+pub struct Place {
+    pub prefix: Prefix,
+    pub peer: u16,
+}
+
+/// The unicast routes of both families that peers hold, at most one of a peer at a prefix.
+#[derive(Drop)]
+pub struct Unicast {
+    routes: BTreeMap<Place, Path>,
+}
+
+impl Model for Unicast {
+    ghost use Rattle.std.specs.Prelude.{List};
+    ghost use Rattle.fs_base.specs.declared.path.Path.{Path};
+    ghost use Rattle.fs_unicast.specs.declared.unicast.Place.{Place};
+    ghost use Rattle.fs_unicast.specs.Small.{HasSmallPeers};
+
+    ghost Value = { List (Place × Path) };
+
+    ghost view = { λ a. a.routes.entries };
+
+    ghost invariant = { λ a. HasSmallPeers a.routes.entries };
+}
+
+impl Unicast {
+    pub fn new(alloc: Global) -> Unicast
+        ensures { result ≡ [] }
+    {
+        Unicast {
+            routes: BTreeMap::new(alloc),
+        }
+    }
+
+    /// Keeps the path as the peer's route at the prefix, in place of one that it holds there. Where memory is
+    /// refused nothing changes.
+    pub fn put(&mut self, peer: u16, prefix: Prefix, path: Path) -> Result<(), Memory>
+        ensures ok { OnOk result (self.new ≡ insert_entry place_cmp self.old (record { prefix = prefix; peer = peer }) path) }
+        ensures err { OnErr result (self.new ≡ self.old) }
+    {
+        self.routes.insert(Place { prefix, peer }, path)?;
+        Ok(())
+    }
+
+    /// Takes the peer's route at the prefix away, and tells whether there was one.
+    pub fn remove(&mut self, peer: u16, prefix: &Prefix) -> bool
+        ensures removed { self.new ≡ remove_entry (is_at (place_cmp (record { prefix = prefix.now; peer = peer }))) self.old }
+        ensures held { result ≡ is_some (lookup (is_at (place_cmp (record { prefix = prefix.now; peer = peer }))) self.old) }
+    {
+        let place = Place {
+            prefix: *prefix,
+            peer,
+        };
+        self.routes.remove(&place).is_some()
+    }
+
+    /// The most preferred route at the prefix. One step.
+    pub fn best<L: Ledger>(&self, prefix: &Prefix, steps: &mut Steps<L>) -> Option<Held<'_>>
+        ensures best { option_map shown result ≡ best_at self.now prefix.now }
+        ensures step { steps.new ≡ steps.old + 1 }
+    {
+        steps.take();
+        search::best_at(&self.routes, prefix)
+    }
+
+    /// The most preferred route at the longest prefix that covers this one and has a route. One step.
+    pub fn best_match<L: Ledger>(&self, prefix: &Prefix, steps: &mut Steps<L>) -> Option<Held<'_>>
+        ensures best { option_map shown result ≡ best_match_of self.now prefix.now }
+        ensures step { steps.new ≡ steps.old + 1 }
+    {
+        steps.take();
+        search::best_match(&self.routes, prefix)
+    }
+
+    /// The first prefix in order, from `from` on or from the start, at which the peer holds a route.
+    pub fn held_by(&self, peer: u16, from: Option<&Prefix>) -> Option<Prefix>
+        ensures { result ≡ held_by self.now peer (option_copied from.entry) }
+    {
+        search::held_by(&self.routes, peer, from)
+    }
+
+    /// Whether a route of any peer strictly under the prefix has another neighbouring AS than `asn`; of None,
+    /// whether there is any route. A path with only confederation segments has the neighbouring AS `local_as`.
+    pub fn others_under(&self, prefix: &Prefix, local_as: u32, asn: Option<u32>) -> bool
+        ensures { result ≡ others_under self.now prefix.now local_as asn }
+    {
+        search::others_under(&self.routes, prefix, local_as, asn)
+    }
+}

@@ -1,0 +1,5 @@
+use Rattle.fs_validate.proofs.Local.{validity_agrees}
+use Rattle.fs_validate.proofs.locality.agree.Goals as goal
+
+pub returns : goal.returns
+returns c = validity_agrees

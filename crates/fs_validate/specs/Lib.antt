@@ -1,0 +1,3 @@
+pub mod Destination
+pub mod Validity
+pub mod Locality

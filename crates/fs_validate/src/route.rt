@@ -1,0 +1,24 @@
+//! Flow specification routes.
+
+ghost use Rattle.std.specs.Prelude.{◌≡◌};
+ghost use Rattle.fs_validate.specs.Destination.{destination_prefix};
+
+use fs_actions::Actions;
+use fs_base::{Path, Prefix};
+use fs_nlri::Rule;
+
+/// A rule that a peer gave, with the path and the actions of its UPDATE.
+#[derive(Drop)]
+pub struct FlowRoute {
+    pub peer: u16,
+    pub rule: Rule,
+    pub path: Path,
+    pub actions: Actions,
+}
+
+/// The rule's destination prefix; None where it has none, or in IPv6 none with offset 0.
+pub fn destination(rule: &Rule) -> Option<Prefix>
+    ensures { result ≡ destination_prefix rule.now }
+{
+    rule.destination()
+}

@@ -1,0 +1,128 @@
+//! Whether a flow route may be used.
+
+ghost use Rattle.std.specs.Prelude.{◌≡◌, ◌≤◌, ◌+◌, option_map};
+ghost use Rattle.fs_unicast.specs.Shown.{shown};
+ghost use Rattle.fs_validate.specs.Validity.{validity, validity_at, has_originator, has_leftmost, neighbour_of_best, validity_without, same_as};
+
+use crate::originator::{is_local, is_same_originator, originator};
+use crate::route::{FlowRoute, destination};
+use fs_base::{Config, Prefix, Steps};
+use fs_unicast::{Held, Unicast, first_as, neighbour_as};
+use std::sync::ledger::Ledger;
+
+/// Valid, or the first rule of validation that the route breaks.
+#[derive(Clone, Copy, Debug, PartialEq, Eq, Drop)]
+pub enum Validity {
+    Valid,
+    /// The rule has no destination prefix (IPv6: none with offset 0), and the configuration doesn't allow that.
+    NoDestination,
+    /// The originator isn't that of the best match of the destination (RFC 9117 section 4.1, rule b).
+    Originator,
+    /// A unicast route strictly under the destination has another neighbouring AS than the best match, or there is
+    /// no best match (rule c).
+    MoreSpecific,
+    /// The leftmost AS of an external peer's route isn't that of the best match (RFC 9117 section 4.2).
+    LeftAs,
+}
+
+/// Validates a route against the unicast routes. At most one step.
+pub fn valid<L: Ledger>(
+    unicast: &Unicast,
+    config: &Config,
+    route: &FlowRoute,
+    steps: &mut Steps<L>,
+) -> Validity
+    ensures validity { result ≡ validity unicast.now config.now route.now }
+    ensures later { steps.old ≤ steps.new }
+    ensures step { steps.new ≤ steps.old + 1 }
+{
+    let Some(destination) = destination(&route.rule) else {
+        return without_destination(config);
+    };
+    let best = unicast.best_match(&destination, steps);
+    valid_at(unicast, config, route, &destination, best)
+}
+
+fn without_destination(config: &Config) -> Validity
+    ensures { result ≡ validity_without config.now }
+{
+    if config.allow_no_destination {
+        Validity::Valid
+    } else {
+        Validity::NoDestination
+    }
+}
+
+/// Validates a route whose rule has this destination, of which `best` is the best match.
+fn valid_at(
+    unicast: &Unicast,
+    config: &Config,
+    route: &FlowRoute,
+    destination: &Prefix,
+    best: Option<Held<'_>>,
+) -> Validity
+    ensures { result ≡ validity_at unicast.now config.now route.now destination.now (option_map shown best.entry) }
+{
+    if !has_originator(config, route, best) {
+        return Validity::Originator;
+    }
+    if unicast.others_under(destination, config.local_as, neighbour_of(config, best)) {
+        return Validity::MoreSpecific;
+    }
+    if !has_leftmost(route, best) {
+        return Validity::LeftAs;
+    }
+    Validity::Valid
+}
+
+/// Rule b: the best match has the same originator, or the route began in the local AS and that is allowed.
+fn has_originator(config: &Config, route: &FlowRoute, best: Option<Held<'_>>) -> bool
+    ensures { result ≡ has_originator config.now route.now (option_map shown best.entry) }
+{
+    if config.empty_path_valid && is_local(route.path.segments.as_slice()) {
+        return true;
+    }
+    match best {
+        Some(best) => is_same_originator(
+            originator(config, route.peer, &route.path),
+            originator(config, best.peer, best.path),
+        ),
+        None => false,
+    }
+}
+
+/// The neighbouring AS of the best match.
+fn neighbour_of(config: &Config, best: Option<Held<'_>>) -> Option<u32>
+    ensures { result ≡ neighbour_of_best config.now (option_map shown best.entry) }
+{
+    match best {
+        Some(best) => Some(neighbour_as(best.path.segments.as_slice(), config.local_as)),
+        None => None,
+    }
+}
+
+/// Rule d: of a route from an external peer the leftmost AS is that of the best match.
+fn has_leftmost(route: &FlowRoute, best: Option<Held<'_>>) -> bool
+    ensures { result ≡ has_leftmost route.now (option_map shown best.entry) }
+{
+    if !route.path.external {
+        return true;
+    }
+    match best {
+        Some(best) => is_same_as(
+            first_as(route.path.segments.as_slice()),
+            first_as(best.path.segments.as_slice()),
+        ),
+        None => false,
+    }
+}
+
+/// Whether both are there and the same.
+fn is_same_as(a: Option<u32>, b: Option<u32>) -> bool
+    ensures { result ≡ same_as a b }
+{
+    match (a, b) {
+        (Some(a), Some(b)) => a == b,
+        _ => false,
+    }
+}
