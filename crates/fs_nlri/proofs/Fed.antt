@@ -10,7 +10,7 @@ use Rattle.fs_nlri.specs.Feeding.{Frames, Appends, Stops}
 pub none_taken : (family : Family) (octets : List ℕ) (old : List Ruled) → Appends family octets octets old old
 none_taken family octets old = record { front = []; rules = []; frames = refl; parts = refl; added = sym (append-nil old) }
 
-frames_more : (family : Family) (front frame : List ℕ) (rules : List Ruled) (rule : Ruled) → Frames family front rules → rule.family ≡ family → IsFrame frame rule → Frames family (front ++ frame) (rules ++ rule ∷ [])
+pub frames_more : (family : Family) (front frame : List ℕ) (rules : List Ruled) (rule : Ruled) → Frames family front rules → rule.family ≡ family → IsFrame frame rule → Frames family (front ++ frame) (rules ++ rule ∷ [])
 frames_more family front frame [] rule frames own is =
     (frame, [], ap (λ (l : List ℕ). l ++ frame) frames ∙ sym (append-nil frame), own, is, refl)
 frames_more family front frame (first ∷ rules) rule (head, rest, split, family_is, spelled, frames) own is =

@@ -396,12 +396,6 @@ one_field_outcome family octets one other are first second =
 
 -- What the reader of a field has found: the rules of the frames before what is left
 
-pub frames_more : (family : Family) (front frame : List ℕ) (rules : List Ruled) (rule : Ruled) → Frames family front rules → rule.family ≡ family → IsFrame frame rule → Frames family (front ++ frame) (rules ++ rule ∷ [])
-frames_more family front frame [] rule frames families is =
-    (frame, [], ap (λ (l : List ℕ). l ++ frame) frames ∙ sym (append-nil frame), families, is, refl)
-frames_more family front frame (first ∷ rules) rule (own, rest, split, own_families, own_is, frames) families is =
-    (own, rest ++ frame, ap (λ (l : List ℕ). l ++ frame) split ∙ append_assoc own rest frame, own_families, own_is, frames_more family rest frame rules rule frames families is)
-
 pub all_frames : (family : Family) (octets front : List ℕ) (rules : List Ruled) → Frames family front rules → octets ≡ front ++ [] → IsFieldOutcome family octets (Ok rules)
 all_frames family octets front rules frames split = subst (λ (l : List ℕ). Frames family l rules) (sym (split ∙ append-nil front)) frames
 
