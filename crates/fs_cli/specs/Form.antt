@@ -1,19 +1,29 @@
 -- What the command line may say.
-use Rattle.std.specs.Prelude.{◌==◌, ◌&&◌, ℕ, List, [], ◌∷◌, Bool, false, not, Option, Some, None, if◌then◌else◌, codes}
+use Rattle.std.specs.Prelude.{◌==◌, ◌&&◌, ℕ, List, [], ◌∷◌, Bool, false, not, Option, Some, None, if◌then◌else◌, codes, option_map}
 use Rattle.std.specs.Str.{bytes_eq}
+use Rattle.fs_base.specs.declared.prefix.Family.{Family}
+use Rattle.fs_base.specs.declared.prefix.Family.TheVariants.{V4, V6}
 
--- a command, with the names of the files that it is to read
+-- a command, with the names of the files that it is to read, or the family and the word that it is to say of
 pub data Form : Type 0 where
   Enforce : (config tape capture : List ℕ) → Form
+  Check : Family → (word : List ℕ) → Form
 
 -- a word that can name a file: it isn't empty, and doesn't begin with '-'
 abbrev pub is_name : List ℕ → Bool
 is_name [] = false
 is_name (first ∷ rest) = not (first == 45)
 
+abbrev pub family_of : List ℕ → Option Family
+family_of word = if bytes_eq word (codes "v4") then Some V4 else if bytes_eq word (codes "v6") then Some V6 else None
+
+abbrev pub check_form : (family word : List ℕ) → Option Form
+check_form family word = if is_name word then option_map (λ f. Check f word) (family_of family) else None
+
 -- the command of these words, or none
 abbrev pub form_of : List (List ℕ) → Option Form
 form_of (word ∷ config ∷ tape ∷ capture ∷ []) =
     if bytes_eq word (codes "enforce") && (is_name config && (is_name tape && is_name capture))
     then Some (Enforce config tape capture) else None
+form_of (word ∷ family ∷ text ∷ []) = if bytes_eq word (codes "check") then check_form family text else None
 form_of _ = None

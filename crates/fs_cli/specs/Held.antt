@@ -48,3 +48,8 @@ pub record Leaves (config : Config) (items : List Item) (held : Held) : Type 0 w
   pub listed : IsListed held
   pub unicast : (place : Place) → unicast_at place held.unicast ≡ unicast_left place.prefix (updates_of config items place.peer)
   pub flows : (rule : Ruled) (peer : ℕ) → flow_at rule peer held.flows ≡ flow_left rule (updates_of config items peer)
+
+-- at each key of each peer both tapes leave the same
+pub record LeaveSame (config : Config) (items other : List Item) : Type 0 where
+  pub unicast : (place : Place) → unicast_left place.prefix (updates_of config items place.peer) ≡ unicast_left place.prefix (updates_of config other place.peer)
+  pub flows : (rule : Ruled) (peer : ℕ) → flow_left rule (updates_of config items peer) ≡ flow_left rule (updates_of config other peer)

@@ -36,12 +36,18 @@ pub record Inputs : Type 0 where
 abbrev pub inputs : Config → List Item → Recorded → Inputs
 inputs config items capture = record { config = config; items = items; capture = capture }
 
-abbrev pub inputs_stage : ℕ → Names → (config tape capture : List ℕ) → Stage Inputs
-inputs_stage limit holds config tape capture =
+-- the configuration and the tape are accepted
+abbrev pub accepted_stage : ℕ → Names → (config tape : List ℕ) → Stage (Config × List Item)
+accepted_stage limit holds config tape =
     and_then (config_stage limit holds config) (λ accepted.
     and_then (tape_stage accepted limit holds tape) (λ items.
+    Found (accepted, items)))
+
+abbrev pub inputs_stage : ℕ → Names → (config tape capture : List ℕ) → Stage Inputs
+inputs_stage limit holds config tape capture =
+    and_then (accepted_stage limit holds config tape) (λ accepted.
     and_then (capture_stage limit holds capture) (λ found.
-    Found (inputs accepted items found))))
+    Found (inputs accepted.0 accepted.1 found)))
 
 -- the status that the inputs call for
 abbrev pub status_for : Stage Inputs → ℕ

@@ -7,7 +7,7 @@ use Rattle.fs_pcap.specs.Capture.{Recorded}
 use Rattle.fs_pcap.specs.declared.fault.CaptureReason.{CaptureReason}
 use Rattle.fs_rules.specs.Held.{Held}
 use Rattle.fs_cli.specs.declared.refusal.Refusal.{Refusal}
-use Rattle.fs_cli.specs.declared.refusal.Refusal.TheVariants.{Outside}
+use Rattle.fs_cli.specs.declared.refusal.Refusal.TheVariants.{Outside, Config, Tape}
 use Rattle.fs_cli.specs.Stage.{Stage, Found, Stopped, status_of}
 use Rattle.fs_cli.specs.Inputs.{status_at}
 use Rattle.fs_cli.specs.Output.{output_of}
@@ -49,3 +49,7 @@ pub record Answers (verdict : Verdict) (failed : Type 0) (before now : Option (L
   pub status_is : (answer ≡ verdict.status) ⊎ (answer ≡ 6) ⊎ ((answer ≡ 1) × failed)
   pub part : GrewPart before now verdict.text
   pub whole : answer ≢ 6 → answer ≢ 1 → Grew before now verdict.text
+
+-- a refusal that isn't of an input read before the capture
+abbrev pub IsLate : Refusal → Type 0
+IsLate refusal = (refusal ≢ Config) × (refusal ≢ Tape)

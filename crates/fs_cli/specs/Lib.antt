@@ -1,7 +1,9 @@
 pub mod Applied
 pub mod Captures
+pub mod Checked
 pub mod Command
 pub mod Desk
+pub mod Enforced
 pub mod Feeding
 pub mod Files
 pub mod Following
@@ -18,5 +20,6 @@ pub mod Places
 pub mod Received
 pub mod Stage
 pub mod Tapes
+pub mod Top
 pub mod Turning
 pub mod Updates

@@ -1,10 +1,12 @@
 //! What the words of the command line ask for.
 
-ghost use Rattle.std.specs.Prelude.{◌≡◌, ℕ, map, option_map, string_bytes};
-ghost use Rattle.fs_cli.specs.Form.{form_of, is_name};
+ghost use Rattle.std.specs.Prelude.{◌≡◌, ◌∷◌, [], ℕ, map, option_map, string_bytes};
+ghost use Rattle.fs_cli.specs.Form.{family_of, form_of, is_name};
 ghost use Rattle.fs_cli.specs.Command.{form_shown};
 
-/// A command and the names of the files that it reads.
+use fs_base::Family;
+
+/// A command, and what it is to read.
 #[derive(Clone, Copy, Drop)]
 pub enum Command<'w> {
     /// Plays a tape, and judges the packets of a capture by the rules that it leaves.
@@ -13,17 +15,33 @@ pub enum Command<'w> {
         tape: &'w str,
         capture: &'w str,
     },
+    /// Says what a word in hexadecimal is as NLRI of the family.
+    Check {
+        family: Family,
+        word: &'w str,
+    },
 }
 
 /// The command that the words after the program's name ask for, or None where they ask for none.
 pub fn parse(words: &[String]) -> Option<Command<'_>>
     ensures { option_map form_shown result ≡ form_of (map string_bytes words.now) }
 {
-    let [word, config, tape, capture] = words else {
-        return None;
-    };
-    let (config, tape, capture) = (config.as_str(), tape.as_str(), capture.as_str());
-    if word.as_str() == "enforce" && is_name(config) && is_name(tape) && is_name(capture) {
+    match words {
+        [word, config, tape, capture] => parse_enforce(word, config, tape, capture),
+        [word, family, text] => parse_check(word, family, text),
+        _ => None,
+    }
+}
+
+fn parse_enforce<'w>(
+    word: &str,
+    config: &'w str,
+    tape: &'w str,
+    capture: &'w str,
+) -> Option<Command<'w>>
+    ensures { option_map form_shown result ≡ form_of (word.now ∷ config.entry.now ∷ tape.entry.now ∷ capture.entry.now ∷ []) }
+{
+    if word == "enforce" && is_name(config) && is_name(tape) && is_name(capture) {
         Some(Command::Enforce {
             config,
             tape,
@@ -31,6 +49,28 @@ pub fn parse(words: &[String]) -> Option<Command<'_>>
         })
     } else {
         None
+    }
+}
+
+fn parse_check<'w>(word: &str, family: &str, text: &'w str) -> Option<Command<'w>>
+    ensures { option_map form_shown result ≡ form_of (word.now ∷ family.now ∷ text.entry.now ∷ []) }
+{
+    if word != "check" || !is_name(text) {
+        return None;
+    }
+    match family_of(family) {
+        Some(family) => Some(Command::Check { family, word: text }),
+        None => None,
+    }
+}
+
+fn family_of(word: &str) -> Option<Family>
+    ensures { result ≡ family_of word.now }
+{
+    match word {
+        "v4" => Some(Family::V4),
+        "v6" => Some(Family::V6),
+        _ => None,
     }
 }
 

@@ -1,11 +1,12 @@
 //! The packets of a capture, judged by the admitted rules.
 
-ghost use Rattle.std.specs.Prelude.{◌≡◌, ◌≤◌, ◌<◌, ◌^◌, ◌⊎◌, [], Some, None, IsTrue, IfOk, IfSome, OnOk, OnErr, MatchResult, length, map, take};
+ghost use Rattle.std.specs.Prelude.{◌≡◌, ◌≤◌, ◌<◌, ◌^◌, ◌⊎◌, [], Some, None, IsTrue, IfErr, IfOk, IfSome, OnOk, OnErr, MatchResult, length, map, take};
 ghost use Rattle.fs_base.specs.declared.prefix.Family.TheVariants.{V4, V6};
 ghost use Rattle.fs_base.specs.Outside.{HasCause, Rose};
 ghost use Rattle.fs_base.specs.Records.{done};
 ghost use Rattle.fs_pcap.specs.Turn.{coming};
-ghost use Rattle.fs_cli.specs.Judged.{Breaks};
+ghost use Rattle.fs_cli.specs.Inputs.{capture_stage};
+ghost use Rattle.fs_cli.specs.Judged.{Answers, Breaks, IsLate, answered, verdict_of};
 ghost use Rattle.fs_cli.specs.Captures.{Yields, Ceases, refused_by};
 ghost use Rattle.fs_line.specs.Output.{Goes, Stops};
 ghost use Rattle.fs_rules.specs.Held.{Held};
@@ -46,7 +47,19 @@ pub fn judge<F: Files, S: Sink>(
     table: &Table<'_>,
     name: &str,
     limit: u64,
-) -> Result<(), Refusal> {
+) -> Result<(), Refusal>
+    ensures files_later { F.faults files.old ≤ F.faults files.new }
+    ensures sink_later { S.faults sink.old ≤ S.faults sink.new }
+    ensures late { IfErr result IsLate }
+
+    ensures answers { IsTrue F.tells
+        → Answers
+        (verdict_of table.now (capture_stage limit (F.holds files.old) name.now))
+        (Rose (F.faults files.old) (F.faults files.new) ⊎ Rose (S.faults sink.old) (S.faults sink.new))
+        (S.written sink.old)
+        (S.written sink.new)
+        (answered result) }
+{
     open(files, CAPTURE_SLOT, name)?;
     let mut capture = match Capture::begin(Counted::new(CAPTURE_SLOT, limit), files) {
         Ok(capture) => capture,
@@ -95,6 +108,7 @@ fn judge_packets<F: Files, S: Sink>(
     requires v6 { length v6.now.rules.items ≤ length walked.old }
     requires v4_paired { length v4.now.actions.items ≡ length v4.now.rules.items }
     requires v6_paired { length v6.now.actions.items ≡ length v6.now.rules.items }
+    ensures late { IfErr result IsLate }
     ensures files_later { F.faults files.old ≤ F.faults files.new }
     ensures sink_later { S.faults sink.old ≤ S.faults sink.new }
 
@@ -127,6 +141,7 @@ fn next_packet<F: Files>(
 ) -> Result<Option<Caught>, Refusal>
     requires room { 262144 ≤ length buffer.old }
     requires open { capture.old.end ≡ None }
+    ensures late { IfErr result IsLate }
     ensures later { F.faults files.old ≤ F.faults files.new }
     ensures holds { IsTrue F.tells → F.holds files.new ≡ F.holds files.old }
     ensures slot { capture.new.slot ≡ capture.old.slot }
@@ -147,7 +162,8 @@ fn next_packet<F: Files>(
 
 /// The refusal for a capture's fault.
 fn refusal_of(fault: CaptureFault) -> Refusal
-    ensures { result ≡ refused_by fault }
+    ensures result { result ≡ refused_by fault }
+    ensures late { IsLate result }
 {
     match fault {
         CaptureFault::Read => Refusal::Outside,

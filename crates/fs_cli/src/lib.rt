@@ -6,8 +6,11 @@ mod command;
 mod desk;
 mod enforce;
 mod judge;
+mod law;
 mod load;
 mod play;
+mod program;
 mod refusal;
 
-pub use enforce::{run, run_within};
+pub use law::same_routes;
+pub use program::{run, run_within};

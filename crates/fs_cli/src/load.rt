@@ -1,7 +1,8 @@
 //! Opening files, and reading the configuration.
 
-ghost use Rattle.std.specs.Prelude.{◌≡◌, ◌≢◌, ◌≤◌, ℕ, IsTrue, Some, MatchResult};
+ghost use Rattle.std.specs.Prelude.{◌≡◌, ◌≢◌, ◌≤◌, ℕ, IfErr, IsTrue, Some, MatchResult};
 ghost use Rattle.fs_base.specs.Outside.{Rose};
+ghost use Rattle.fs_cli.specs.Judged.{IsLate};
 ghost use Rattle.fs_cli.specs.Stage.{HasReason, Reaches, or_stop};
 ghost use Rattle.fs_cli.specs.Files.{config_stage};
 
@@ -20,6 +21,7 @@ const CONFIG_SLOT: u8 = 0;
 /// `Outside` where no file has the name, or the files failed.
 pub fn open<F: Files>(files: &mut F, slot: u8, name: &str) -> Result<(), Refusal>
     requires { slot ≤ 2 }
+    ensures late { IfErr result IsLate }
     ensures later { F.faults files.old ≤ F.faults files.new }
     ensures holds { IsTrue F.tells → F.holds files.new ≡ F.holds files.old }
 

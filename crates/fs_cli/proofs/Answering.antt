@@ -1,0 +1,305 @@
+-- How the answer of a run follows from what its parts did.
+use Rattle.std.proofs.Common.{◌≡◌, ◌≢◌, ◌⊎◌, inl, inr, ◌≤◌, ◌+◌, ◌-◌, ◌^◌, min, arith, ◌%◌, ◌==◌, ◌||◌, ◌∙◌, ℕ, List, [], ◌++◌, Bool, true, false, not, Option, Some, None, Result, Ok, Err, if◌then◌else◌, length, take, drop, refl, ap, sym, subst, append-nil, nat_lt, nat_le, option_and_then}
+use Rattle.std.specs.Result.{MatchResult, IfErr, IsErrAnd, IsErrOf}
+use Rattle.std.proofs.lemmas.Grind.{common_steps}
+use Rattle.fs_base.specs.Outside.{Grew, GrewPart, Rose}
+use Rattle.fs_base.specs.Records.{Head, whole, wrong, partial, End, done, limited, bad}
+use Rattle.fs_base.proofs.Grew.{Grew-refl, Grew-trans, part_whole, part_none, part_more}
+use Rattle.fs_line.specs.Output.{Goes, Stops}
+use Rattle.fs_line.proofs.Outputs.{goes_flush, goes_flush_part}
+use Rattle.fs_packet.specs.Link.{link_of}
+use Rattle.fs_packet.specs.declared.link.Link.{Link}
+use Rattle.fs_pcap.specs.Capture.{Captured, Heading, Recorded, recorded, number, order_of, is_link, header_of, ordered_header, opened_by, opening, capture_of, packets_to_come}
+use Rattle.fs_pcap.specs.Turn.{Opens, CaptureState, coming}
+use Rattle.fs_pcap.specs.declared.order.Endian.{Endian}
+use Rattle.fs_pcap.specs.declared.fault.CaptureReason.{CaptureReason}
+use Rattle.fs_pcap.specs.declared.fault.CaptureReason.TheVariants.{Magic, Link as WrongLink}
+use Rattle.fs_pcap.specs.declared.fault.CaptureFault.{CaptureFault}
+use Rattle.fs_pcap.specs.declared.fault.CaptureFault.TheVariants.{Read, Limit, Bad}
+use Rattle.fs_rules.specs.Held.{Held}
+use Rattle.fs_cli.specs.Captures.{refused_by}
+use Rattle.fs_cli.specs.Files.{Names}
+use Rattle.fs_cli.specs.Inputs.{capture_stage, status_at}
+use Rattle.fs_cli.specs.Judged.{GoesPart, Partly, Breaks, Verdict, verdict_of, answered, Answers, IsLate}
+use Rattle.fs_cli.specs.Output.{lines_from, lines_of, output_of}
+use Rattle.fs_cli.specs.Stage.{Stage, Found, Stopped, and_then, or_stop, status_of, HasReason}
+use Rattle.fs_cli.specs.declared.refusal.Refusal.{Refusal}
+use Rattle.fs_cli.specs.declared.refusal.Refusal.TheVariants.{Outside, Memory}
+
+-- a stage that ends the run ends it for all that would follow
+pub reason_then : {A B : Type 0} (stage : Stage A) (next : A → Stage B) (failed : Type 0) (refusal : Refusal)
+    → HasReason stage failed refusal → HasReason (and_then stage next) failed refusal
+reason_then stage next failed refusal (inl h) = inl (ap (λ s. and_then s next) h)
+reason_then stage next failed refusal (inr h) = inr h
+
+-- want of memory answers 6, and a failure outside 1, before anything is written
+answers_memory : (verdict : Verdict) (failed : Type 0) (a : Option (List ℕ)) (refusal : Refusal) → refusal ≡ Memory → Answers verdict failed a a (status_of refusal)
+answers_memory verdict failed a refusal e = record {
+  status_is = inr (inl (ap status_of e));
+  part = part_none a a verdict.text (Grew-refl a);
+  whole = λ six one. absurd (six (ap status_of e));
+}
+
+answers_outside : (verdict : Verdict) (failed : Type 0) (a : Option (List ℕ)) (refusal : Refusal) → refusal ≡ Outside → failed → Answers verdict failed a a (status_of refusal)
+answers_outside verdict failed a refusal e f = record {
+  status_is = inr (inr (ap status_of e, f));
+  part = part_none a a verdict.text (Grew-refl a);
+  whole = λ six one. absurd (one (ap status_of e));
+}
+
+pub answers_stopped : (held : Held) (stage : Stage Recorded) (failed : Type 0) (a : Option (List ℕ)) (refusal : Refusal)
+    → HasReason stage failed refusal → Answers (verdict_of held stage) failed a a (status_of refusal)
+answers_stopped held stage failed a refusal (inl h) =
+    subst (λ (s : Stage Recorded). Answers (verdict_of held s) failed a a (status_of refusal)) (sym h)
+    (record { status_is = inl refl; part = part_none a a [] (Grew-refl a); whole = λ six one. Grew-refl a })
+answers_stopped held stage failed a refusal (inr (inl e)) = answers_memory (verdict_of held stage) failed a refusal e
+answers_stopped held stage failed a refusal (inr (inr h)) = answers_outside (verdict_of held stage) failed a refusal h.0 h.1
+
+-- the capture's stage, where the file is there
+found_capture : (limit : ℕ) (holds : Names) (name octets : List ℕ) → holds name ≡ Some octets → capture_stage limit holds name ≡ Found (capture_of limit octets)
+found_capture limit holds name octets h = ap (λ (c : Option (List ℕ)). and_then (or_stop 1 c) (λ z. Found (capture_of limit z))) h
+
+abbrev opens_to : (limit : ℕ) (octets : List ℕ) → Result Heading (End CaptureReason) → Recorded
+opens_to limit octets o = elim o [
+  | Ok heading ↦ recorded heading.link (packets_to_come heading.order limit 24 (drop 24 octets))
+  | Err end ↦ record { link = None; packets = []; end = end }
+]
+
+-- a capture whose header has a fault
+answers_ended : (held : Held) (limit : ℕ) (holds : Names) (name octets : List ℕ) (failed : Type 0) (a : Option (List ℕ)) (end : End CaptureReason) (refusal : Refusal)
+    → holds name ≡ Some octets → opening limit octets ≡ Err end → status_of refusal ≡ status_at end
+    → Answers (verdict_of held (capture_stage limit holds name)) failed a a (status_of refusal)
+answers_ended held limit holds name octets failed a end refusal h o e =
+    subst (λ (s : Stage Recorded). Answers (verdict_of held s) failed a a (status_of refusal))
+    (sym (found_capture limit holds name octets h ∙ ap (λ (r : Result Heading (End CaptureReason)). Found (opens_to limit octets r)) o))
+    (record { status_is = inl e; part = part_none a a [] (Grew-refl a); whole = λ six one. Grew-refl a })
+
+pub answers_fault : {T : Type 0} (held : Held) (limit : ℕ) (holds : Names) (name octets left : List ℕ) (failed : Type 0) (a : Option (List ℕ)) (heading : T → Heading) (fault : CaptureFault)
+    → holds name ≡ Some octets → Opens heading limit octets left (Err fault) → (fault ≡ Read → failed)
+    → Answers (verdict_of held (capture_stage limit holds name)) failed a a (status_of (refused_by fault))
+answers_fault held limit holds name octets left failed a heading Read h o f = answers_outside (verdict_of held (capture_stage limit holds name)) failed a Outside refl (f refl)
+answers_fault held limit holds name octets left failed a heading Limit h o f = answers_ended held limit holds name octets failed a limited (refused_by Limit) h o refl
+answers_fault held limit holds name octets left failed a heading (Bad reason place) h o f = answers_ended held limit holds name octets failed a (bad reason place) (refused_by (Bad reason place)) h o refl
+
+abbrev no_octets : List ℕ
+no_octets = []
+
+take_nothing : (n : ℕ) → take n no_octets ≡ []
+take_nothing n = grind (arith, common_steps)
+
+-- a front, and then nothing
+part_nothing : (a b c : Option (List ℕ)) (xs : List ℕ) → GrewPart a b xs → GrewPart b c no_octets → GrewPart a c xs
+part_nothing a b c xs part more =
+    let grew : Grew b c [] = subst (λ (l : List ℕ). Grew b c l) (take_nothing more.0) more.1 in
+    (part.0, subst (λ (l : List ℕ). Grew a c l) (append-nil (take part.0 xs)) (Grew-trans a b c (take part.0 xs) [] part.1 grew))
+
+-- What judging the packets did, before what is pending is written out: the whole text went on, or judging broke off.
+abbrev pub Went : (end : End CaptureReason) (before mid : Option (List ℕ)) (pending text : List ℕ) (failed : Type 0) → {T : Type 0} → Result T Refusal → Type 0
+Went end before mid pending text failed result =
+    MatchResult result (λ _. (end ≡ done) × Goes before mid [] pending text) (Breaks end before mid [] pending text failed)
+
+partly_flushed : (before mid now : Option (List ℕ)) (pending text : List ℕ) → Partly before mid [] pending text → GrewPart mid now pending → GrewPart before now text
+partly_flushed before mid now pending text (inl p) grew =
+    subst (λ (l : List ℕ). GrewPart before now l) (sym p.parts) (part_more before now p.front p.rest (goes_flush_part now p.goes grew))
+partly_flushed before mid now pending text (inr h) grew =
+    part_nothing before mid now text h.1.part (subst (λ (l : List ℕ). GrewPart mid now l) h.0 grew)
+
+text_whole : (end : End CaptureReason) (text : List ℕ) (failed : Type 0) (before now : Option (List ℕ)) (answer : ℕ)
+    → answer ≡ status_at end → Grew before now text → Answers (record { status = status_at end; text = text }) failed before now answer
+text_whole end text failed before now answer e grew = record {
+  status_is = inl e;
+  part = part_whole before now text grew;
+  whole = λ six one. grew;
+}
+
+text_broken : (end : End CaptureReason) (text : List ℕ) (failed : Type 0) (before now : Option (List ℕ)) (refusal : Refusal)
+    → refusal ≡ Outside → failed → GrewPart before now text → Answers (record { status = status_at end; text = text }) failed before now (status_of refusal)
+text_broken end text failed before now refusal e f part = record {
+  status_is = inr (inr (ap status_of e, f));
+  part = part;
+  whole = λ six one. absurd (one (ap status_of e));
+}
+
+-- what is pending was written out
+answers_flushed : {T : Type 0} (end : End CaptureReason) (before mid now : Option (List ℕ)) (pending text : List ℕ) (failed : Type 0) (result : Result T Refusal)
+    → Went end before mid pending text failed result → Grew mid now pending
+    → Answers (record { status = status_at end; text = text }) failed before now (answered result)
+answers_flushed end before mid now pending text failed (Ok value) went grew =
+    text_whole end text failed before now 0 (sym (ap status_at went.0)) (goes_flush now went.1 grew)
+answers_flushed end before mid now pending text failed (Err refusal) (inl h) grew =
+    text_whole end text failed before now (status_of refusal) (sym h.0) (goes_flush now h.1 grew)
+answers_flushed end before mid now pending text failed (Err refusal) (inr h) grew =
+    text_broken end text failed before now refusal h.0 h.1.0 (partly_flushed before mid now pending text h.1.1 (part_whole mid now pending grew))
+
+-- under these routes, of a capture's packets and its end
+abbrev under : Held → Option Link → List Captured × End CaptureReason → Verdict
+under held link found = record { status = status_at found.1; text = lines_of held link found.0 }
+
+-- of an opened capture
+opened_verdict : (held : Held) (limit : ℕ) (holds : Names) (name octets left : List ℕ) (heading : Heading) (link : Link)
+    → holds name ≡ Some octets → (opening limit octets ≡ Ok heading) × (left ≡ drop 24 octets) → Some link ≡ link_of heading.link
+    → verdict_of held (capture_stage limit holds name)
+    ≡ record { status = status_at (packets_to_come heading.order limit 24 left).1; text = lines_from 0 held link (packets_to_come heading.order limit 24 left).0 }
+opened_verdict held limit holds name octets left heading link h o l =
+    ap (verdict_of held) (found_capture limit holds name octets h ∙ ap (λ (r : Result Heading (End CaptureReason)). Found (opens_to limit octets r)) o.0)
+    ∙ ap (λ (z : List ℕ). verdict_of held (Found (recorded heading.link (packets_to_come heading.order limit 24 z)))) (sym o.1)
+    ∙ ap (λ (k : Option Link). under held k (packets_to_come heading.order limit 24 left)) (sym l)
+
+-- what is said where one call failed is said where that or another did
+pub answers_for : (verdict : Verdict) (failed failed' : Type 0) (before now : Option (List ℕ)) (answer : ℕ) → Answers verdict failed before now answer → (failed → failed') → Answers verdict failed' before now answer
+answers_for verdict failed failed' before now answer a f = record { status_is = at a.status_is; part = a.part; whole = a.whole }
+  where
+    at : (answer ≡ verdict.status) ⊎ (answer ≡ 6) ⊎ ((answer ≡ 1) × failed) → (answer ≡ verdict.status) ⊎ (answer ≡ 6) ⊎ ((answer ≡ 1) × failed')
+    at (inl h) = inl h
+    at (inr (inl h)) = inr (inl h)
+    at (inr (inr h)) = inr (inr (h.0, f h.1))
+
+-- a count that rose in a part rose in the whole
+pub rose_later : (before mid now : ℕ) → Rose before mid → mid ≤ now → Rose before now
+rose_later before mid now r l = omega (arith, r, l)
+
+pub rose_earlier : (before mid now : ℕ) → before ≤ mid → Rose mid now → Rose before now
+rose_earlier before mid now l r = omega (arith, l, r)
+
+pub either_rose : (before mid now : ℕ) (other : Type 0) → before ≤ mid → Rose mid now ⊎ other → Rose before now ⊎ other
+either_rose before mid now other l (inl r) = inl (rose_earlier before mid now l r)
+either_rose before mid now other l (inr h) = inr h
+
+-- a count that rose in a later part rose in the whole
+pub reason_later : {A : Type 0} (stage : Stage A) (before mid now : ℕ) (refusal : Refusal) → before ≤ mid → HasReason stage (Rose mid now) refusal → HasReason stage (Rose before now) refusal
+reason_later stage before mid now refusal l (inl h) = inl h
+reason_later stage before mid now refusal l (inr (inl h)) = inr (inl h)
+reason_later stage before mid now refusal l (inr (inr h)) = inr (inr (h.0, rose_earlier before mid now l h.1))
+
+-- a refusal that a `?` hands on is late where its cause is
+pub late_err : {T : Type 0} (r : Result T Refusal) (cause : Refusal) → IsErrAnd r (λ e. e ≡ cause) → IsLate cause → IfErr r IsLate
+late_err (Ok t) cause h l = absurd h
+late_err (Err e) cause h l = subst IsLate (sym h) l
+
+-- of a call that answered this
+pub err_of : {T E : Type 0} (r : Result T E) (cause wanted : E) → r ≡ Err cause → cause ≡ wanted → IsErrOf r wanted
+err_of r cause wanted e f = e ∙ ap Err f
+
+-- A capture that was opened in a slot of the files.
+
+-- its header has a fault
+pub answers_unopened : {T : Type 0} (held : Held) (limit : ℕ) (holds : Names) (name : List ℕ) (before after : ℕ → List ℕ) (slot counted : ℕ) (failed : Type 0) (a : Option (List ℕ)) (heading : T → Heading) (fault : CaptureFault)
+    → slot ≡ 2 → holds name ≡ Some (before 2) → counted ≡ limit → Opens heading counted (before slot) (after slot) (Err fault) → (fault ≡ Read → failed)
+    → Answers (verdict_of held (capture_stage limit holds name)) failed a a (status_of (refused_by fault))
+answers_unopened held limit holds name before after slot counted failed a heading fault two h l o f =
+    answers_fault held limit holds name (before slot) (after slot) failed a heading fault
+    (h ∙ ap (λ (n : ℕ). Some (before n)) (sym two)) (subst (λ (n : ℕ). Opens heading n (before slot) (after slot) (Err fault)) l o) f
+
+pub answers_early : (held : Held) (stage : Stage Recorded) (failed : Type 0) (a : Option (List ℕ)) {T : Type 0} (r : Result T Refusal) → IsErrAnd r (λ e. e ≡ Memory) → Answers (verdict_of held stage) failed a a (answered r)
+answers_early held stage failed a (Ok t) h = absurd h
+answers_early held stage failed a (Err e) h = answers_memory (verdict_of held stage) failed a e h
+
+-- what it is to answer and write
+pub read_verdict : (held : Held) (limit : ℕ) (holds : Names) (name : List ℕ) (before after : ℕ → List ℕ) (slot counted : ℕ) (capture : CaptureState) (link : Link)
+    → slot ≡ 2 → holds name ≡ Some (before 2) → counted ≡ limit → (opening counted (before slot) ≡ Ok capture.heading) × (after slot ≡ drop 24 (before slot))
+    → capture.slot ≡ slot → capture.limit ≡ counted → capture.place ≡ 24 → Some link ≡ link_of capture.heading.link
+    → verdict_of held (capture_stage limit holds name)
+    ≡ record { status = status_at (coming capture (after capture.slot)).1; text = lines_from 0 held link (coming capture (after capture.slot)).0 }
+read_verdict held limit holds name before after slot counted capture link two h l o s c p known =
+    opened_verdict held limit holds name (before slot) (after slot) capture.heading link (h ∙ ap (λ (n : ℕ). Some (before n)) (sym two))
+    (subst (λ (n : ℕ). opening n (before slot) ≡ Ok capture.heading) l o.0, o.1) known
+    ∙ ap (λ (n : ℕ). under held (Some link) (packets_to_come capture.heading.order n 24 (after slot))) (sym (c ∙ l))
+    ∙ ap (λ (n : ℕ). under held (Some link) (packets_to_come capture.heading.order capture.limit n (after slot))) (sym p)
+    ∙ ap (λ (n : ℕ). under held (Some link) (packets_to_come capture.heading.order capture.limit capture.place (after n))) (sym s)
+
+-- An opened capture has one of the known link types.
+
+opened_ok : (reached : Bool) (size : ℕ) (head : Head Heading CaptureReason) (heading : Heading) → opened_by reached size head ≡ Ok heading → (n : ℕ) × (head ≡ whole heading n)
+opened_ok reached size (whole found n) heading e = (n, ap (λ (h : Heading). whole h n) cc)
+opened_ok reached size (wrong reason place) heading e = absurd cc
+opened_ok reached size partial heading e = absurd cc
+
+past_partial : (b : Bool) (rest : Head Heading CaptureReason) (heading : Heading) (n : ℕ) → (if b then partial else rest) ≡ whole heading n → rest ≡ whole heading n
+past_partial true rest heading n e = absurd cc
+past_partial false rest heading n e = e
+
+past_wrong : (b : Bool) (reason : CaptureReason) (place : ℕ) (rest : Head Heading CaptureReason) (heading : Heading) (n : ℕ) → (if b then wrong reason place else rest) ≡ whole heading n → rest ≡ whole heading n
+past_wrong true reason place rest heading n e = absurd cc
+past_wrong false reason place rest heading n e = e
+
+last_link : (b : Bool) (found heading : Heading) (n : ℕ) → (if not b then wrong WrongLink 20 else whole found 0) ≡ whole heading n → (b ≡ true) × (found ≡ heading)
+last_link true found heading n e = (refl, cc)
+last_link false found heading n e = absurd cc
+
+ordered_link : (order : Endian) (header : List ℕ) (heading : Heading) (n : ℕ) → ordered_header order header ≡ whole heading n → is_link heading.link ≡ true
+ordered_link order header heading n e =
+    let a = past_partial (nat_lt (length header) 6) _ heading n e in
+    let b = past_wrong (not (number order 2 (drop 4 header) == 2)) _ _ _ heading n a in
+    let c = past_partial (nat_lt (length header) 8) _ heading n b in
+    let d = past_wrong (not (number order 2 (drop 6 header) == 4)) _ _ _ heading n c in
+    let f = past_partial (nat_lt (length header) 24) _ heading n d in
+    let g = last_link (is_link (number order 4 (drop 20 header) % 65536)) _ heading n f in
+    subst (λ (h : Heading). is_link h.link ≡ true) g.1 g.0
+
+by_order : (order : Option Endian) (header : List ℕ) (heading : Heading) (n : ℕ)
+    → (let found : Head Heading CaptureReason = elim order [ None ↦ wrong Magic 0 | Some o ↦ ordered_header o header ] in found ≡ whole heading n)
+    → is_link heading.link ≡ true
+by_order None header heading n e = absurd cc
+by_order (Some order) header heading n e = ordered_link order header heading n e
+
+header_link : (header : List ℕ) (heading : Heading) (n : ℕ) → header_of header ≡ whole heading n → is_link heading.link ≡ true
+header_link header heading n e = by_order _ header heading n (past_partial (nat_lt (length header) 4) _ heading n e)
+
+one_of : (a b c d e f : Bool) (u v w x y z : Link) → (a || b || c || d || e || f) ≡ true
+    → (if a then Some u else if b then Some v else if c then Some w else if d then Some x else if e then Some y else if f then Some z else None) ≡ None → ⊥
+one_of true b c d e f u v w x y z h n = absurd cc
+one_of false true c d e f u v w x y z h n = absurd cc
+one_of false false true d e f u v w x y z h n = absurd cc
+one_of false false false true e f u v w x y z h n = absurd cc
+one_of false false false false true f u v w x y z h n = absurd cc
+one_of false false false false false true u v w x y z h n = absurd cc
+one_of false false false false false false u v w x y z h n = absurd cc
+
+known_link : (link : ℕ) → is_link link ≡ true → link_of link ≡ None → ⊥
+known_link link h n = one_of (link == 1) (link == 101) (link == 113) (link == 276) (link == 228) (link == 229) _ _ _ _ _ _ h n
+
+pub opened_link : (limit : ℕ) (octets : List ℕ) (heading : Heading) → opening limit octets ≡ Ok heading → link_of heading.link ≡ None → ⊥
+opened_link limit octets heading o n =
+    let found = opened_ok (nat_le limit (length octets)) (length (take 24 (take limit octets))) (header_of (take 24 (take limit octets))) heading o in
+    known_link heading.link (header_link (take 24 (take limit octets)) heading found.0 found.1) n
+
+-- What judging the packets did and what writing out did, as the answer of the whole.
+
+went_from : {T : Type 0} (end : End CaptureReason) (before mid : Option (List ℕ)) (first pending text : List ℕ) (failed : Type 0) (result : Result T Refusal) → first ≡ []
+    → MatchResult result (λ _. (end ≡ done) × Goes before mid first pending text) (Breaks end before mid first pending text failed)
+    → Went end before mid pending text failed result
+went_from end before mid first pending text failed result e w =
+    subst (λ (p : List ℕ). MatchResult result (λ _. (end ≡ done) × Goes before mid p pending text) (Breaks end before mid p pending text failed)) e w
+
+pub judge_flushed : {T : Type 0} (held : Held) (stage : Stage Recorded) (end : End CaptureReason) (text first pending : List ℕ) (before mid now : Option (List ℕ)) (f f1 f2 s s1 s2 : ℕ) (result : Result T Refusal)
+    → verdict_of held stage ≡ record { status = status_at end; text = text } → first ≡ []
+    → MatchResult result (λ _. (end ≡ done) × Goes before mid first pending text) (Breaks end before mid first pending text (Rose f1 f2 ⊎ Rose s s1))
+    → f ≤ f1 → s1 ≤ s2 → Grew mid now pending
+    → Answers (verdict_of held stage) (Rose f f2 ⊎ Rose s s2) before now (answered result)
+judge_flushed {T} held stage end text first pending before mid now f f1 f2 s s1 s2 result e none w l m grew =
+    subst (λ (v : Verdict). Answers v (Rose f f2 ⊎ Rose s s2) before now (answered result)) (sym e)
+    (answers_for (record { status = status_at end; text = text }) (Rose f1 f2 ⊎ Rose s s1) (Rose f f2 ⊎ Rose s s2) before now (answered result)
+    (answers_flushed end before mid now pending text (Rose f1 f2 ⊎ Rose s s1) result (went_from end before mid first pending text (Rose f1 f2 ⊎ Rose s s1) result none w) grew) wider)
+  where
+    wider : Rose f1 f2 ⊎ Rose s s1 → Rose f f2 ⊎ Rose s s2
+    wider (inl r) = inl (rose_earlier f f1 f2 l r)
+    wider (inr r) = inr (rose_later s s1 s2 r m)
+
+unflushed : {T : Type 0} (end : End CaptureReason) (text first pending : List ℕ) (before mid now : Option (List ℕ)) (failed other : Type 0) (result : Result T Refusal) (refusal : Refusal)
+    → Went end before mid pending text other result → GrewPart mid now pending → failed → refusal ≡ Outside
+    → Answers (record { status = status_at end; text = text }) failed before now (status_of refusal)
+unflushed end text first pending before mid now failed other (Ok value) refusal w part f e = text_broken end text failed before now refusal e f (goes_flush_part now w.1 part)
+unflushed end text first pending before mid now failed other (Err cause) refusal (inl h) part f e = text_broken end text failed before now refusal e f (goes_flush_part now h.1 part)
+unflushed end text first pending before mid now failed other (Err cause) refusal (inr h) part f e =
+    text_broken end text failed before now refusal e f (partly_flushed before mid now pending text h.1.1 part)
+
+pub judge_unflushed : {T U : Type 0} (held : Held) (stage : Stage Recorded) (end : End CaptureReason) (text first pending : List ℕ) (before mid now : Option (List ℕ)) (f f1 f2 s s1 s2 : ℕ) (result : Result T Refusal) (answer : Result U Refusal)
+    → verdict_of held stage ≡ record { status = status_at end; text = text } → first ≡ []
+    → MatchResult result (λ _. (end ≡ done) × Goes before mid first pending text) (Breaks end before mid first pending text (Rose f1 f2 ⊎ Rose s s1))
+    → s ≤ s1 → Rose s1 s2 → GrewPart mid now pending → IsErrAnd answer (λ e. e ≡ Outside)
+    → Answers (verdict_of held stage) (Rose f f2 ⊎ Rose s s2) before now (answered answer)
+judge_unflushed held stage end text first pending before mid now f f1 f2 s s1 s2 result (Ok value) e none w l r part h = absurd h
+judge_unflushed held stage end text first pending before mid now f f1 f2 s s1 s2 result (Err refusal) e none w l r part h =
+    subst (λ (v : Verdict). Answers v (Rose f f2 ⊎ Rose s s2) before now (status_of refusal)) (sym e)
+    (unflushed end text first pending before mid now (Rose f f2 ⊎ Rose s s2) (Rose f1 f2 ⊎ Rose s s1) result refusal
+    (went_from end before mid first pending text (Rose f1 f2 ⊎ Rose s s1) result none w) part (inr (rose_earlier s s1 s2 l r)) h)

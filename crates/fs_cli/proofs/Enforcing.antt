@@ -1,0 +1,79 @@
+-- How the answer of `enforce` follows from those of its stages.
+use Rattle.std.proofs.Common.{◌≡◌, ◌⊎◌, inl, inr, ◌≤◌, ◌<◌, ◌∙◌, ◌^◌, ◌-◌, ◌+◌, ℕ, List, [], Option, Some, None, Result, Ok, Err, refl, ap, sym, subst, arith, true, false, Bool, if◌then◌else◌, length, nat_le, min}
+use Rattle.std.specs.Result.{IsErrAnd}
+use Rattle.std.proofs.lemmas.Bool.Decides.{nat_tests}
+use Rattle.fs_base.specs.Outside.{Grew, Rose}
+use Rattle.fs_base.specs.Records.{End, done, limited, bad}
+use Rattle.fs_base.specs.declared.config.Config.{Config}
+use Rattle.fs_base.proofs.Grew.{Grew-refl}
+use Rattle.fs_conf.specs.Config.{config_of}
+use Rattle.fs_pcap.specs.Capture.{Recorded, capture_of}
+use Rattle.fs_rules.specs.Held.{Held}
+use Rattle.fs_tape.specs.Tape.{Item, tape_of}
+use Rattle.fs_tape.specs.declared.fault.TapeReason.{TapeReason}
+use Rattle.fs_cli.specs.Desk.{Desked}
+use Rattle.fs_cli.specs.Enforced.{EndsEarly, Judges, Enforces, Enforced}
+use Rattle.fs_cli.specs.Files.{Names, fetch, config_stage}
+use Rattle.fs_cli.specs.Held.{Leaves}
+use Rattle.fs_cli.specs.Inputs.{Inputs, inputs, played_to, tape_stage, capture_stage, accepted_stage, inputs_stage, status_at, status_for}
+use Rattle.fs_cli.specs.Judged.{Verdict, verdict_of, answered, Answers}
+use Rattle.fs_cli.specs.Output.{output_of}
+use Rattle.fs_cli.specs.Stage.{Stage, Found, Stopped, and_then, or_stop, status_of, HasReason}
+use Rattle.fs_cli.specs.Tapes.{IsPlayed}
+use Rattle.fs_cli.specs.declared.refusal.Refusal.{Refusal}
+use Rattle.fs_cli.proofs.Answering.{reason_then, answers_for}
+use Rattle.fs_cli.proofs.Leaving.{played_leaves}
+
+-- what is answered for a refusal that a `?` hands on
+pub answered_err : {T : Type 0} (P : ℕ → Type 0) (r : Result T Refusal) (cause : Refusal) → IsErrAnd r (λ e. e ≡ cause) → P (status_of cause) → P (answered r)
+answered_err P (Ok t) cause h p = absurd h
+answered_err P (Err e) cause h p = subst (λ (x : Refusal). P (status_of x)) (sym h) p
+
+ends_early : {A : Type 0} (stage : Stage A) (failed failed' : Type 0) (a : Option (List ℕ)) (refusal : Refusal)
+    → HasReason stage failed refusal → (failed → failed') → EndsEarly stage failed' a a (status_of refusal)
+ends_early stage failed failed' a refusal (inl h) f = record { reason = inl h; nothing = Grew-refl a }
+ends_early stage failed failed' a refusal (inr (inl h)) f = record { reason = inr (inl (ap status_of h)); nothing = Grew-refl a }
+ends_early stage failed failed' a refusal (inr (inr h)) f = record { reason = inr (inr (ap status_of h.0, f h.1)); nothing = Grew-refl a }
+
+-- the configuration ended the run
+pub config_ends : (limit : ℕ) (holds : Names) (config tape capture : List ℕ) (failed failed' : Type 0) (a : Option (List ℕ)) (refusal : Refusal)
+    → HasReason (config_stage limit holds config) failed refusal → (failed → failed') → Enforces limit holds config tape capture failed' a a (status_of refusal)
+config_ends limit holds config tape capture failed failed' a refusal h f =
+    inl (ends_early (accepted_stage limit holds config tape) failed failed' a refusal
+    (reason_then (config_stage limit holds config) (λ accepted. and_then (tape_stage accepted limit holds tape) (λ items. Found (accepted, items))) failed refusal h) f)
+
+-- the stage of configuration and tape, where the configuration is accepted
+accepted_with : (limit : ℕ) (holds : Names) (config tape : List ℕ) (accepted : Config) → config_stage limit holds config ≡ Found accepted
+    → accepted_stage limit holds config tape ≡ and_then (tape_stage accepted limit holds tape) (λ items. Found (accepted, items))
+accepted_with limit holds config tape accepted e =
+    ap (λ (s : Stage Config). and_then s (λ accepted. and_then (tape_stage accepted limit holds tape) (λ items. Found (accepted, items)))) e
+
+-- the tape ended the run
+pub tape_ends : (limit : ℕ) (holds holds' : Names) (config tape capture : List ℕ) (accepted : Config) (failed failed' : Type 0) (a : Option (List ℕ)) (refusal : Refusal)
+    → config_stage limit holds config ≡ Found accepted → holds' ≡ holds → HasReason (tape_stage accepted limit holds' tape) failed refusal → (failed → failed')
+    → Enforces limit holds config tape capture failed' a a (status_of refusal)
+tape_ends limit holds holds' config tape capture accepted failed failed' a refusal e same h f =
+    let told : HasReason (tape_stage accepted limit holds tape) failed refusal = subst (λ (names : Names). HasReason (tape_stage accepted limit names tape) failed refusal) same h in
+    let whole : HasReason (accepted_stage limit holds config tape) failed refusal =
+    subst (λ (s : Stage (Config × List Item)). HasReason s failed refusal) (sym (accepted_with limit holds config tape accepted e))
+    (reason_then (tape_stage accepted limit holds tape) (λ items. Found (accepted, items)) failed refusal told) in
+    inl (ends_early (accepted_stage limit holds config tape) failed failed' a refusal whole f)
+
+-- the capture was judged
+pub capture_judged : (limit : ℕ) (holds tape_holds capture_holds : Names) (config tape capture : List ℕ) (accepted : Config) (desk : Desked) (table : Held) (failed failed' : Type 0) (before now : Option (List ℕ)) (answer : ℕ)
+    → config_stage limit holds config ≡ Found accepted → tape_holds ≡ holds → capture_holds ≡ tape_holds
+    → IsPlayed accepted (tape_stage accepted limit tape_holds tape) desk
+    → desk.held ≡ table → Answers (verdict_of table (capture_stage limit capture_holds capture)) failed before now answer → (failed → failed')
+    → Enforces limit holds config tape capture failed' before now answer
+capture_judged limit holds tape_holds capture_holds config tape capture accepted desk table failed failed' before now answer e same same' p t a f =
+    let found : tape_stage accepted limit holds tape ≡ Found p.items = subst (λ (names : Names). tape_stage accepted limit names tape ≡ Found p.items) same p.found in
+    inr (record {
+      accepted = accepted;
+      items = p.items;
+      held = table;
+      found = accepted_with limit holds config tape accepted e ∙ ap (λ (s : Stage (List Item)). and_then s (λ items. Found (accepted, items))) found;
+      leaves = subst (λ (h : Held). Leaves accepted p.items h) t (played_leaves accepted p.items desk p.played);
+      answers =
+          answers_for (verdict_of table (capture_stage limit holds capture)) failed failed' before now answer
+          (subst (λ (names : Names). Answers (verdict_of table (capture_stage limit names capture)) failed before now answer) (same' ∙ same) a) f;
+    })
