@@ -1,6 +1,6 @@
 use super::*;
 use fs_base::{Address, Family};
-use fs_nlri::Reason;
+use fs_nlri::{Reason, encode};
 use std::test::Fail;
 
 const EXTERNAL: Terms = Terms {
@@ -100,21 +100,96 @@ fn tells_the_first_fault(rt: HostRuntime) -> Result<(), Fail> {
 #[test]
 fn withdraws_what_malformed_attributes_give(rt: HostRuntime) -> Result<(), Fail> {
     let rows = [
-        // ORIGIN 3; AS_PATH with form 5, with a count of 0, cut; communities of 12 octets; a confederation
-        // segment; no AS_PATH.
+        // ORIGIN 3, of two octets, missing
         "0000 000d 40010103 400206 02010000fde9 18c00002",
+        "0000 000e 4001020000 400206 02010000fde9 18c00002",
+        "0000 0009 400206 02010000fde9 18c00002",
+        // AS_PATH with form 5, with a count of 0, too short for its count, cut, missing
         "0000 000d 40010100 400206 05010000fde9 18c00002",
         "0000 0009 40010100 400202 0200 18c00002",
+        "0000 000d 40010100 400206 02020000fde9 18c00002",
         "0000 000c 40010100 400205 02010000fd 18c00002",
-        "0000 001c 40010100 400206 02010000fde9 c0100c 8006fde900000000 8006fde9 18c00002",
-        "0000 000d 40010100 400206 03010000fde9 18c00002",
         "0000 0004 40010100 18c00002",
+        // AS_PATH with a segment of a confederation
+        "0000 000d 40010100 400206 03010000fde9 18c00002",
+        // extended communities of 12 octets and of none
+        "0000 001c 40010100 400206 02010000fde9 c0100c 8006fde900000000 8006fde9 18c00002",
+        "0000 0010 40010100 400206 02010000fde9 c01000 18c00002",
     ];
     for text in rows {
         let update = read(&rt, text, &EXTERNAL)?.ok().ok_or("a fault")?;
         assert!(rt; update.as_withdraw, "{text}");
         assert!(rt; update.path.is_none(), "{text}");
         assert_eq!(rt; update.classic_in.as_slice().len(), 1, "{text}");
+    }
+    Ok(())
+}
+
+#[test]
+fn withdraws_a_rule_with_communities_of_12_octets(rt: HostRuntime) -> Result<(), Fail> {
+    let text = "0000 0030 800e11 0001850000 0b0118c00002038106048119 40010100 400206 02010000fde9 \
+                c0100c 8006fde900000000 8006fde9";
+    let update = read(&rt, text, &EXTERNAL)?.ok().ok_or("a fault")?;
+    assert!(rt; update.as_withdraw);
+    assert!(rt; update.path.is_none());
+    assert!(rt; update.actions.as_slice().is_empty());
+    assert!(rt; matches!(&update.reach, Some(Routes::Flow(Family::V4, _))));
+    Ok(())
+}
+
+#[test]
+fn judges_local_pref_and_originator_of_internal_peers(rt: HostRuntime) -> Result<(), Fail> {
+    let internal = Terms {
+        external: false,
+        ..EXTERNAL
+    };
+    let rows = [
+        // LOCAL_PREF of three octets, ORIGINATOR_ID of five
+        "0000 0013 40010100 400206 02010000fde9 400503 0000c8 18c00002",
+        "0000 0015 40010100 400206 02010000fde9 800905 0909090909 18c00002",
+    ];
+    for text in rows {
+        let update = read(&rt, text, &internal)?.ok().ok_or("a fault")?;
+        assert!(rt; update.as_withdraw, "{text}");
+        let update = read(&rt, text, &EXTERNAL)?.ok().ok_or("a fault")?;
+        assert!(rt; !update.as_withdraw, "{text}");
+    }
+    let confederation = "0000 000d 40010100 400206 03010000fde9 18c00002";
+    let update = read(&rt, confederation, &internal)?.ok().ok_or("a fault")?;
+    assert!(rt; !update.as_withdraw);
+    Ok(())
+}
+
+#[test]
+fn asks_for_no_path_where_nothing_is_given(rt: HostRuntime) -> Result<(), Fail> {
+    let update = read(&rt, "0004 18c00002 0000", &EXTERNAL)?
+        .ok()
+        .ok_or("a fault")?;
+    assert!(rt; !update.as_withdraw);
+    assert!(rt; update.path.is_none());
+    assert_eq!(rt; update.classic_out.as_slice().len(), 1);
+    Ok(())
+}
+
+#[test]
+fn withdraws_a_rule_by_either_form_of_its_length(rt: HostRuntime) -> Result<(), Fail> {
+    let rows = [
+        "0000 0012 800f0f 000185 0b0118c00002038106048119",
+        "0000 0013 800f10 000185 f00b0118c00002038106048119",
+        // the attribute's own length in two octets
+        "0000 0013 900f000f 000185 0b0118c00002038106048119",
+    ];
+    let canonical = octets(&rt, "0b0118c00002038106048119")?;
+    for text in rows {
+        let update = read(&rt, text, &EXTERNAL)?.ok().ok_or("a fault")?;
+        let Some(Routes::Flow(family, rules)) = &update.unreach else {
+            return Err("no flow routes".into());
+        };
+        assert_eq!(rt; *family, Family::V4, "{text}");
+        assert_eq!(rt; rules.as_slice().len(), 1, "{text}");
+        let mut frame = Vec::new(rt.alloc());
+        encode(&rules.as_slice()[0], &mut frame)?;
+        assert_eq!(rt; frame.as_slice(), canonical.as_slice(), "{text}");
     }
     Ok(())
 }
