@@ -4,3 +4,5 @@ pub mod Paths
 pub mod Rules
 pub mod Update
 pub mod Reading
+pub mod Writing
+pub mod Writable
