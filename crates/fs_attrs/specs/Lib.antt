@@ -6,3 +6,4 @@ pub mod Update
 pub mod Reading
 pub mod Writing
 pub mod Writable
+pub mod Sound

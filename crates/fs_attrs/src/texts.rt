@@ -4,8 +4,9 @@ ghost use Rattle.std.specs.Prelude.{◌≡◌, ◌+◌, ◌-◌, ◌*◌, ◌^�
 ghost use Rattle.byteorder.specs.Endian.{big_bytes};
 ghost use Rattle.fs_base.specs.Bits.{width_of};
 ghost use Rattle.fs_nlri.specs.Spelling.{octets_for};
-ghost use Rattle.fs_nlri.specs.Rule.{shown, first_octets};
+ghost use Rattle.fs_nlri.specs.Rule.{IsRule, shown, first_octets};
 ghost use Rattle.fs_attrs.specs.Attributes.{attribute};
+ghost use Rattle.fs_attrs.specs.Sound.{AreNumbers};
 ghost use Rattle.fs_attrs.specs.Writing.{long_text, prefix_text, prefixes_text, rules_text, as_text, segment_text, segments_text, flags_of, attribute_text, next_hop};
 
 use crate::body::{EXTENDED_COMMUNITIES, EXTENDED_LENGTH, MP_REACH, MP_UNREACH, ORIGINATOR_ID};
@@ -136,7 +137,8 @@ fn append_bits(number: u128, width: u8, length: u8, out: &mut Vec<u8>) -> Result
 
 /// Appends rules, each as its canonical frame.
 pub(crate) fn append_rules(rules: &[Rule], out: &mut Vec<u8>) -> Result<(), Memory>
-    ensures { OnOk result (out.new.items ≡ out.old.items ++ rules_text rules.now) }
+    ensures appended { OnOk result (out.new.items ≡ out.old.items ++ rules_text rules.now) }
+    ensures rules { OnOk result (All IsRule rules.now) }
 {
     for rule in rules {
         encode(rule, out)?;
@@ -151,7 +153,8 @@ pub(crate) fn append_segments(
     out: &mut Vec<u8>,
 ) -> Result<(), Memory>
     requires { All (λ segment. length segment.numbers ≤ 255) segments.now }
-    ensures { OnOk result (out.new.items ≡ out.old.items ++ segments_text four segments.now) }
+    ensures appended { OnOk result (out.new.items ≡ out.old.items ++ segments_text four segments.now) }
+    ensures sound { OnOk result (All AreNumbers segments.now) }
 {
     for segment in segments {
         append_segment(segment, four, out)?;
@@ -161,7 +164,8 @@ pub(crate) fn append_segments(
 
 fn append_segment(segment: &Segment, four: bool, out: &mut Vec<u8>) -> Result<(), Memory>
     requires { length segment.now.numbers ≤ 255 }
-    ensures { OnOk result (out.new.items ≡ out.old.items ++ segment_text four segment.now) }
+    ensures appended { OnOk result (out.new.items ≡ out.old.items ++ segment_text four segment.now) }
+    ensures sound { OnOk result (AreNumbers segment.now) }
 {
     let numbers = segment.numbers.as_slice();
     out.extend_from_slice(&[segment.form, numbers.len() as u8])?;
@@ -169,7 +173,8 @@ fn append_segment(segment: &Segment, four: bool, out: &mut Vec<u8>) -> Result<()
 }
 
 fn append_numbers(numbers: &[u32], four: bool, out: &mut Vec<u8>) -> Result<(), Memory>
-    ensures { OnOk result (out.new.items ≡ out.old.items ++ flat_map (as_text four) numbers.now) }
+    ensures appended { OnOk result (out.new.items ≡ out.old.items ++ flat_map (as_text four) numbers.now) }
+    ensures sound { OnOk result (All (λ asn. asn < 2 ^ 32) numbers.now) }
 {
     for number in numbers {
         append_as(*number, four, out)?;
