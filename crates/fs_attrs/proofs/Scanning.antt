@@ -51,7 +51,7 @@ doubled_more kind octets found h other =
     ap (is_doubled kind) (attributes_more octets found h)
     ∙ ap (λ (b : Bool). doubled_here b found.0 (filter (λ attribute. attribute.kind == kind) (attributes_of found.1))) other
 
-above_one : (n : ℕ) → nat_lt 1 (suc n) ≡ nat_lt 0 n
+pub above_one : (n : ℕ) → nat_lt 1 (suc n) ≡ nat_lt 0 n
 above_one n = grind (arith, nat_tests)
 
 there_here : (here : Bool) (first : Attribute) (later : Option Attribute) (rest : List Attribute)
@@ -61,7 +61,7 @@ there_here true first later rest h = grind (arith, nat_tests)
 there_here false first later rest h = h
 
 -- a type stands where it has a value
-there : (kind : ℕ) (attributes : List Attribute) → nat_lt 0 (length (filter (λ attribute. attribute.kind == kind) attributes)) ≡ is_some (value_of kind attributes)
+pub there : (kind : ℕ) (attributes : List Attribute) → nat_lt 0 (length (filter (λ attribute. attribute.kind == kind) attributes)) ≡ is_some (value_of kind attributes)
 there kind [] = refl
 there kind (first ∷ rest) =
     there_here (first.kind == kind) first (find (λ attribute. attribute.kind == kind) rest) (filter (λ attribute. attribute.kind == kind) rest) (there kind rest)

@@ -4,3 +4,6 @@ pub mod Paths
 pub mod Rules
 pub mod Update
 pub mod Reading
+pub mod Writing
+pub mod Writable
+pub mod Sound

@@ -6,10 +6,12 @@ ghost use Rattle.fs_attrs.specs.Reading.{lent, fields_shown};
 
 use byteorder::{BigEndian, ByteOrder};
 
-/// The types of path attributes that are read (RFC 4271, RFC 4456, RFC 4760, RFC 4360).
+/// The types of path attributes that are read or written (RFC 4271, RFC 4456, RFC 4760, RFC 4360).
 pub(crate) const ORIGIN: u8 = 1;
 
 pub(crate) const AS_PATH: u8 = 2;
+
+pub(crate) const NEXT_HOP: u8 = 3;
 
 pub(crate) const LOCAL_PREF: u8 = 5;
 
@@ -22,7 +24,7 @@ pub(crate) const MP_UNREACH: u8 = 15;
 pub(crate) const EXTENDED_COMMUNITIES: u8 = 16;
 
 /// The flag of an attribute whose length has two octets.
-const EXTENDED_LENGTH: u8 = 0x10;
+pub(crate) const EXTENDED_LENGTH: u8 = 0x10;
 
 /// The three fields of a body.
 #[derive(Clone, Copy, Drop)]

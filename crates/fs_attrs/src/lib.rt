@@ -9,8 +9,12 @@ mod read;
 mod routes;
 #[cfg(test)]
 mod tests;
+mod texts;
 mod update;
+mod writable;
+mod write;
 
 pub use lists::{PrefixList, RuleList};
 pub use read::read_update;
 pub use update::{Routes, Terms, Update, UpdateFault, WriteFault};
+pub use write::write_update;

@@ -24,6 +24,9 @@ impl Model for PrefixList {
 }
 
 impl PrefixList {
+    ghost use Rattle.std.specs.Prelude.{All};
+    ghost use Rattle.fs_attrs.specs.Sound.{IsPrefix};
+
     pub fn new(items: Vec<Prefix>) -> PrefixList
         ensures { result ≡ map shown items.items }
     {
@@ -36,8 +39,10 @@ impl PrefixList {
         self.items.is_empty()
     }
 
+    /// The prefixes; each has no bits past its length.
     pub fn as_slice(&self) -> &[Prefix]
-        ensures { map shown result.now ≡ self.now }
+        ensures value { map shown result.now ≡ self.now }
+        ensures prefixes { All IsPrefix self.now }
     {
         self.items.as_slice()
     }

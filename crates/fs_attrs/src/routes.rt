@@ -17,9 +17,9 @@ use fs_nlri::{NlriFault, decode};
 use std::alloc::Global;
 
 /// The subsequent address families that are read (RFC 4760; RFC 8955, section 4).
-const UNICAST: u8 = 1;
+pub(crate) const UNICAST: u8 = 1;
 
-const FLOW: u8 = 133;
+pub(crate) const FLOW: u8 = 133;
 
 /// The routes that are reached and those that are withdrawn. The attribute that stands first is judged first.
 pub(crate) fn read_optional(

@@ -73,3 +73,14 @@ impl From<Memory> for UpdateFault {
         UpdateFault::Memory
     }
 }
+
+impl From<Memory> for WriteFault {
+    ghost use Rattle.std.specs.Prelude.{◌≡◌};
+    ghost use Rattle.fs_attrs.specs.declared.update.WriteFault.TheVariants.{Memory};
+
+    ghost from_gives = { λ e r. r ≡ Memory };
+
+    fn from(_error: fs_base::Memory) -> WriteFault {
+        WriteFault::Memory
+    }
+}

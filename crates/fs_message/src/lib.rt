@@ -18,4 +18,4 @@ pub use header::{KEEPALIVE, NOTIFICATION, OPEN, ROUTE_REFRESH, UPDATE};
 pub use laws::messages_stay;
 pub use notice::Notice;
 pub use open_::Open;
-pub use write::{write_keepalive, write_notice, write_open, write_update_frame};
+pub use write::{as_in_two, write_keepalive, write_notice, write_open, write_update_frame};

@@ -77,7 +77,7 @@ fn open_octets(asn: u32, id: u32) -> [u8; 42]
 }
 
 /// The AS in two octets: AS_TRANS where it needs four (RFC 6793, section 4.1).
-fn as_in_two(asn: u32) -> u16
+pub fn as_in_two(asn: u32) -> u16
     ensures { result ≡ as_field asn }
 {
     match u16::try_from(asn) {

@@ -32,7 +32,7 @@ put_back j k bits le whole =
     ap (λ (n : ℕ). n / 2 ^ k * 2 ^ k) split ∙ ap (λ (n : ℕ). n * 2 ^ k) (shl-shr (bits / 2 ^ j * 2 ^ (j - k)) k) ∙ sym split
 
 -- the octets of a number's first bits give these bits back
-octets_back : (width count bits : ℕ) → count ≤ width → 8 * octets_for count ≤ width → bits ≡ cleared width count bits → first_bits width count (first_octets width count bits) ≡ bits
+pub octets_back : (width count bits : ℕ) → count ≤ width → 8 * octets_for count ≤ width → bits ≡ cleared width count bits → first_bits width count (first_octets width count bits) ≡ bits
 octets_back width count bits short room clear =
     let size : length (first_octets width count bits) ≡ octets_for count = length-bytes_high_first (octets_for count) (bits / 2 ^ (width - 8 * octets_for count)) in
     let below : bits < 2 ^ width = block_below width count bits (block_of width count bits short clear) in

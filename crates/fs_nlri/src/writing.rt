@@ -5,7 +5,7 @@ ghost use Rattle.std.specs.Vec.{vec_len};
 ghost use Rattle.fs_nlri.specs.Spelling.{octets_for};
 ghost use Rattle.fs_nlri.specs.Components.{body_of, part_of, parts_of};
 ghost use Rattle.fs_nlri.specs.Making.{IsWritable};
-ghost use Rattle.fs_nlri.specs.Rule.{first_octets, canonical_body, canonical_part, canonical_value, canonical_length, canonical_frame};
+ghost use Rattle.fs_nlri.specs.Rule.{IsRule, first_octets, canonical_body, canonical_part, canonical_value, canonical_length, canonical_frame};
 
 use crate::component::{Component, PrefixForm};
 use crate::given::kind_of;
@@ -17,6 +17,7 @@ use fs_base::Memory;
 /// Appends the canonical frame of the rule: the length in its short form below 240, and every ignored bit 0
 /// (RFC 8955 section 4.1). After `Memory` `out` is as before.
 pub fn encode(rule: &Rule, out: &mut Vec<u8>) -> Result<(), Memory>
+    ensures rule { IsRule rule.now }
     ensures ok { OnOk result (out.new.items ≡ out.old.items ++ canonical_frame rule.now) }
     ensures err { OnErr result (out.new.items ≡ out.old.items) }
 {

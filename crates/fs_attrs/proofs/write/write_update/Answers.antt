@@ -1,0 +1,22 @@
+use Rattle.std.proofs.Common.{rules, ◌≡◌, ◌≤◌, ◌+◌, ℕ, List, length, Ok, Err, OnOk, subst}
+use Rattle.std.specs.Prelude.{Result}
+use Rattle.fs_base.specs.Language.{IsOctets}
+use Rattle.fs_attrs.specs.declared.update.WriteFault.{WriteFault}
+use Rattle.fs_attrs.specs.declared.update.WriteFault.TheVariants.{TooLong, Memory}
+use Rattle.fs_attrs.specs.Writing.{update_text}
+use Rattle.fs_attrs.specs.Writable.{Writes}
+use Rattle.fs_attrs.proofs.ReadBack.{read_back}
+use Rattle.fs_attrs.proofs.write.write_update.Goals as goal
+
+-- what holds of a body that fits a message
+where_written : (result : Result (Unit {0}) WriteFault) (body old new : List ℕ) (Law : Type 0) → Writes result body old new → (19 + length body ≤ 4096 → Law) → OnOk result Law
+where_written (Ok _) body old new Law written law = law written.0
+where_written (Err TooLong) body old new Law written law = tt
+where_written (Err Memory) body old new Law written law = tt
+
+pub returns-clause-read_back : goal.returns-clause-read_back
+returns-clause-read_back c =
+    let body : c.deref.result.now ≡ update_text c.args.terms.now c.args.update.now = search rules in
+    where_written c.append_message.result c.deref.result.now _ _ _ c.append_message.ensures.written
+    (λ small. read_back c.args.terms.now c.args.update.now c.requires c.in_ok-append_body.ensures.sound
+    (subst IsOctets body c.append_message.ensures.octets) (subst (λ (z : List ℕ). 19 + length z ≤ 4096) body small))

@@ -1,0 +1,192 @@
+//! What is written of routes, segments and attributes.
+
+ghost use Rattle.std.specs.Prelude.{◌≡◌, ◌+◌, ◌-◌, ◌*◌, ◌^◌, ◌<◌, ◌≤◌, ◌++◌, [], ◌∷◌, length, map, flat_map, All, OnOk};
+ghost use Rattle.byteorder.specs.Endian.{big_bytes};
+ghost use Rattle.fs_base.specs.Bits.{width_of};
+ghost use Rattle.fs_nlri.specs.Spelling.{octets_for};
+ghost use Rattle.fs_nlri.specs.Rule.{IsRule, shown, first_octets};
+ghost use Rattle.fs_attrs.specs.Attributes.{attribute};
+ghost use Rattle.fs_attrs.specs.Sound.{AreNumbers};
+ghost use Rattle.fs_attrs.specs.Writing.{long_text, prefix_text, prefixes_text, rules_text, as_text, segment_text, segments_text, flags_of, attribute_text, next_hop};
+
+use crate::body::{EXTENDED_COMMUNITIES, EXTENDED_LENGTH, MP_REACH, MP_UNREACH, ORIGINATOR_ID};
+use byteorder::{BigEndian, ByteOrder};
+use fs_base::{Address, Family, Memory, Prefix, Segment};
+use fs_message::as_in_two;
+use fs_nlri::{Rule, encode};
+
+/// The flags of attributes: well-known ones are transitive (RFC 4271, section 4.3).
+const OPTIONAL: u8 = 0x80;
+
+const TRANSITIVE: u8 = 0x40;
+
+/// Appends an attribute; a value of more than 255 octets has its length in two octets.
+pub(crate) fn append_attribute(kind: u8, value: &[u8], out: &mut Vec<u8>) -> Result<(), Memory>
+    ensures { OnOk result (out.new.items ≡ out.old.items ++ flat_map attribute_text (attribute kind value.now ∷ [])) }
+{
+    if value.len() > 255 {
+        out.extend_from_slice(&[flags(kind) | EXTENDED_LENGTH, kind])?;
+        return append_long(value, out);
+    }
+    out.extend_from_slice(&[flags(kind), kind, value.len() as u8])?;
+    out.extend_from_slice(value)?;
+    Ok(())
+}
+
+fn flags(kind: u8) -> u8
+    ensures { result ≡ flags_of kind }
+{
+    match kind {
+        EXTENDED_COMMUNITIES => OPTIONAL | TRANSITIVE,
+        ORIGINATOR_ID | MP_REACH | MP_UNREACH => OPTIONAL,
+        _ => TRANSITIVE,
+    }
+}
+
+/// Appends a length in two octets and then so many. Of a length that two octets can't say the low ones are
+/// written: no message is as long.
+pub(crate) fn append_long(octets: &[u8], out: &mut Vec<u8>) -> Result<(), Memory>
+    ensures { OnOk result (out.new.items ≡ out.old.items ++ long_text octets.now) }
+{
+    append_u16((octets.len() % 65536) as u16, out)?;
+    out.extend_from_slice(octets)?;
+    Ok(())
+}
+
+pub(crate) fn append_u16(number: u16, out: &mut Vec<u8>) -> Result<(), Memory>
+    ensures { OnOk result (out.new.items ≡ out.old.items ++ big_bytes 2 number) }
+{
+    let mut octets = [0; 2];
+    BigEndian::write_u16(&mut octets, number);
+    out.extend_from_slice(&octets)?;
+    Ok(())
+}
+
+pub(crate) fn append_u32(number: u32, out: &mut Vec<u8>) -> Result<(), Memory>
+    ensures { OnOk result (out.new.items ≡ out.old.items ++ big_bytes 4 number) }
+{
+    let mut octets = [0; 4];
+    BigEndian::write_u32(&mut octets, number);
+    out.extend_from_slice(&octets)?;
+    Ok(())
+}
+
+/// Appends the address as the next hop of a family: zeros where it is of the other one.
+pub(crate) fn append_next_hop(
+    family: Family,
+    address: Address,
+    out: &mut Vec<u8>,
+) -> Result<(), Memory>
+    ensures { OnOk result (out.new.items ≡ out.old.items ++ next_hop family address) }
+{
+    match (family, address) {
+        (Family::V4, Address::V4(bits)) => append_u32(bits, out),
+        (Family::V4, Address::V6(_)) => append_u32(0, out),
+        (Family::V6, Address::V4(_)) => append_u128(0, out),
+        (Family::V6, Address::V6(bits)) => append_u128(bits, out),
+    }
+}
+
+fn append_u128(number: u128, out: &mut Vec<u8>) -> Result<(), Memory>
+    ensures { OnOk result (out.new.items ≡ out.old.items ++ big_bytes 16 number) }
+{
+    let mut octets = [0; 16];
+    BigEndian::write_u128(&mut octets, number);
+    out.extend_from_slice(&octets)?;
+    Ok(())
+}
+
+/// Appends unicast prefixes.
+pub(crate) fn append_prefixes(prefixes: &[Prefix], out: &mut Vec<u8>) -> Result<(), Memory>
+    ensures { OnOk result (out.new.items ≡ out.old.items ++ prefixes_text (map shown prefixes.now)) }
+{
+    for prefix in prefixes {
+        append_prefix(prefix, out)?;
+    }
+    Ok(())
+}
+
+/// Appends a length and the least octets that hold so many bits.
+fn append_prefix(prefix: &Prefix, out: &mut Vec<u8>) -> Result<(), Memory>
+    ensures { OnOk result (out.new.items ≡ out.old.items ++ prefix_text (shown prefix.now)) }
+{
+    out.push(prefix.length)?;
+    append_bits(prefix.bits, prefix.family.width(), prefix.length, out)
+}
+
+/// Appends the octets that hold the first bits of a number of `width` bits.
+fn append_bits(number: u128, width: u8, length: u8, out: &mut Vec<u8>) -> Result<(), Memory>
+    requires width { width ≤ 128 }
+    requires room { 8 * octets_for length ≤ width }
+    requires fits { number < 2 ^ width }
+    ensures { OnOk result (out.new.items ≡ out.old.items ++ first_octets width length number) }
+{
+    let count = (usize::from(length) + 7) / 8;
+    if count == 0 {
+        return Ok(());
+    }
+    let mut octets = [0; 16];
+    BigEndian::write_uint128(
+        &mut octets,
+        number >> (usize::from(width) - 8 * count),
+        count,
+    );
+    out.extend_from_slice(&octets[..count])?;
+    Ok(())
+}
+
+/// Appends rules, each as its canonical frame.
+pub(crate) fn append_rules(rules: &[Rule], out: &mut Vec<u8>) -> Result<(), Memory>
+    ensures appended { OnOk result (out.new.items ≡ out.old.items ++ rules_text rules.now) }
+    ensures rules { OnOk result (All IsRule rules.now) }
+{
+    for rule in rules {
+        encode(rule, out)?;
+    }
+    Ok(())
+}
+
+/// Appends the segments of an AS_PATH.
+pub(crate) fn append_segments(
+    segments: &[Segment],
+    four: bool,
+    out: &mut Vec<u8>,
+) -> Result<(), Memory>
+    requires { All (λ segment. length segment.numbers ≤ 255) segments.now }
+    ensures appended { OnOk result (out.new.items ≡ out.old.items ++ segments_text four segments.now) }
+    ensures sound { OnOk result (All AreNumbers segments.now) }
+{
+    for segment in segments {
+        append_segment(segment, four, out)?;
+    }
+    Ok(())
+}
+
+fn append_segment(segment: &Segment, four: bool, out: &mut Vec<u8>) -> Result<(), Memory>
+    requires { length segment.now.numbers ≤ 255 }
+    ensures appended { OnOk result (out.new.items ≡ out.old.items ++ segment_text four segment.now) }
+    ensures sound { OnOk result (AreNumbers segment.now) }
+{
+    let numbers = segment.numbers.as_slice();
+    out.extend_from_slice(&[segment.form, numbers.len() as u8])?;
+    append_numbers(numbers, four, out)
+}
+
+fn append_numbers(numbers: &[u32], four: bool, out: &mut Vec<u8>) -> Result<(), Memory>
+    ensures appended { OnOk result (out.new.items ≡ out.old.items ++ flat_map (as_text four) numbers.now) }
+    ensures sound { OnOk result (All (λ asn. asn < 2 ^ 32) numbers.now) }
+{
+    for number in numbers {
+        append_as(*number, four, out)?;
+    }
+    Ok(())
+}
+
+fn append_as(asn: u32, four: bool, out: &mut Vec<u8>) -> Result<(), Memory>
+    ensures { OnOk result (out.new.items ≡ out.old.items ++ as_text four asn) }
+{
+    if four {
+        return append_u32(asn, out);
+    }
+    append_u16(as_in_two(asn), out)
+}
