@@ -5,6 +5,7 @@ pub mod Kept
 pub mod LastLemmas
 pub mod LifeLemmas
 pub mod Listed
+pub mod PeerLines
 pub mod PlaceKeys
 pub mod Playing
 pub mod Receiving

@@ -48,9 +48,13 @@ standing_text (Ended Memory) = codes "closed"
 abbrev pub peer_line : ℕ → Standing → List ℕ
 peer_line number standing = codes "peer " ++ (decimal number ++ (codes " " ++ (standing_text standing ++ codes "\n")))
 
--- the numbers of the configured peers, each once, by size
+-- the numbers below a bound that peers have, each once, by size
+unfoldable pub numbers_below : ℕ → List Peer → List ℕ
+numbers_below bound peers = filter (λ number. is_some (peer_of number peers)) (range_with_len 0 bound)
+
+-- the numbers of the configured peers, which have sixteen bits
 abbrev pub numbers_of : List Peer → List ℕ
-numbers_of peers = filter (λ number. is_some (peer_of number peers)) (range_with_len 0 65536)
+numbers_of peers = numbers_below 65536 peers
 
 abbrev pub peers_text : List ℕ → (ℕ → Standing) → List ℕ
 peers_text numbers standing = flat_map (λ number. peer_line number (standing number)) numbers
