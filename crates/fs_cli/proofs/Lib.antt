@@ -11,6 +11,7 @@ pub mod Leaving
 pub mod Listed
 pub mod OneHeld
 pub mod OneList
+pub mod PeerLines
 pub mod PlaceKeys
 pub mod Playing
 pub mod Receiving

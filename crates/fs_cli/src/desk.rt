@@ -4,6 +4,7 @@ ghost use Rattle.std.specs.Prelude.{◌≡◌, ◌≤◌, ◌<◌, ◌++◌, ℕ
 
 use crate::apply::apply;
 use fs_base::{Config, Memory, Steps};
+use fs_listing::Standing;
 use fs_rules::Table;
 use fs_speaker::{Closed, Session};
 use std::alloc::Global;
@@ -33,6 +34,7 @@ impl<'a> Desk<'a> {
     ghost use Rattle.fs_base.specs.Peers.{peer_of};
     ghost use Rattle.fs_tape.specs.Tape.{Item, came_up, received, was_lost};
     ghost use Rattle.fs_cli.specs.Desk.{Played};
+    ghost use Rattle.fs_cli.specs.Listing.{standing_at_desk};
 
     /// Every configured peer is down, and nothing is held.
     pub fn new(alloc: Global, config: &'a Config) -> Desk<'a>
@@ -86,6 +88,23 @@ impl<'a> Desk<'a> {
         }
     }
 
+    /// The configuration.
+    pub fn config(&self) -> &'a Config
+        ensures { result.now ≡ self.now.config }
+    {
+        self.config
+    }
+
+    /// How it stands with a peer.
+    pub fn state(&self, peer: u16) -> Standing
+        ensures { result ≡ standing_at_desk self.now peer }
+    {
+        match self.sessions.get(&peer) {
+            None => Standing::Down,
+            Some(session) => standing(session),
+        }
+    }
+
     /// The table of the routes that peers hold.
     pub fn table(&self) -> &Table<'a>
         ensures { result.now ≡ self.now.held }
@@ -100,7 +119,18 @@ ghost use Rattle.fs_rules.specs.Held.{without_peer_unicast, without_peer_flows};
 ghost use Rattle.fs_cli.specs.Held.{IsListed};
 ghost use Rattle.fs_cli.specs.Keeping.{Spares, Stands};
 ghost use Rattle.fs_cli.specs.Feeding.{FeedsAll};
+ghost use Rattle.fs_cli.specs.Listing.{standing_by};
 ghost use Rattle.fs_cli.specs.Memories.{wants_memory};
+
+/// How it stands with the peer of a session.
+fn standing(session: &Session<'_>) -> Standing
+    ensures { result ≡ standing_by (Some session.now) }
+{
+    match session.closed() {
+        Some(why) => Standing::Ended(why),
+        None => Standing::Live(session.state()),
+    }
+}
 
 /// Takes all that the peer holds out of the table.
 fn lose<L: Ledger>(blank: Blank, table: &mut Table<'_>, peer: u16)

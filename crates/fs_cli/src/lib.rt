@@ -7,6 +7,7 @@ mod desk;
 mod enforce;
 mod judge;
 mod law;
+mod listing;
 mod load;
 mod play;
 mod program;

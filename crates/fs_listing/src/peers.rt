@@ -1,0 +1,71 @@
+//! The lines of peers.
+
+ghost use Rattle.std.specs.Prelude.{◌≡◌, ◌++◌, OnOk};
+ghost use Rattle.fs_listing.specs.Listing.{codes_text, standing_text, state_name, peer_line};
+
+use crate::pieces::{append, append_decimal};
+use fs_base::Memory;
+use fs_speaker::{Closed, State};
+
+/// How it stands with a peer.
+#[derive(Clone, Copy, Debug, PartialEq, Eq, Drop)]
+pub enum Standing {
+    /// The peer isn't up.
+    Down,
+    /// Its session is open.
+    Live(State),
+    /// Its session was closed.
+    Ended(Closed),
+}
+
+/// Appends the line of a peer: its number and how it stands with it. After `Memory` a part of the line may stand.
+pub fn append_peer(number: u16, standing: Standing, text: &mut Vec<u8>) -> Result<(), Memory>
+    ensures { OnOk result (text.new.items ≡ text.old.items ++ peer_line number standing) }
+{
+    append(b"peer ", text)?;
+    append_decimal(number, text)?;
+    append(b" ", text)?;
+    append_standing(standing, text)?;
+    append(b"\n", text)
+}
+
+fn append_standing(standing: Standing, text: &mut Vec<u8>) -> Result<(), Memory>
+    ensures { OnOk result (text.new.items ≡ text.old.items ++ standing_text standing) }
+{
+    match standing {
+        Standing::Down => append(b"down", text),
+        Standing::Live(state) => append(state_name(state), text),
+        Standing::Ended(Closed::Fault { code, subcode }) => append_codes(
+            b"closed ", code, subcode, text,
+        ),
+        Standing::Ended(Closed::Notified { code, subcode }) => append_codes(
+            b"notified ",
+            code,
+            subcode,
+            text,
+        ),
+        Standing::Ended(Closed::NoFamily | Closed::Memory) => append(b"closed", text),
+    }
+}
+
+/// Appends a word and the two codes of a NOTIFICATION (RFC 4271 section 4.5).
+fn append_codes(word: &[u8], code: u8, subcode: u8, text: &mut Vec<u8>) -> Result<(), Memory>
+    ensures { OnOk result (text.new.items ≡ text.old.items ++ codes_text word.now code subcode) }
+{
+    append(word, text)?;
+    append_decimal(code, text)?;
+    append(b"/", text)?;
+    append_decimal(subcode, text)
+}
+
+/// The name of an open session's state.
+fn state_name(state: State) -> &'static [u8]
+    ensures { result.now ≡ state_name state }
+{
+    match state {
+        State::WaitOpen => b"wait-open",
+        State::WaitKeep => b"wait-keepalive",
+        State::Established => b"established",
+        State::Closed => b"closed",
+    }
+}

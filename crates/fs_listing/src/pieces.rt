@@ -1,0 +1,43 @@
+//! Numbers, hexadecimal and families, as pieces of lines.
+
+ghost use Rattle.std.specs.Prelude.{◌≡◌, ◌++◌, OnOk};
+ghost use Rattle.hex.specs.Hex.{encode_lower};
+ghost use Rattle.fs_listing.specs.Listing.{family_name};
+
+use fs_base::{Family, Memory};
+use itoa::{Buffer, Integer};
+use std::alloc::Global;
+
+/// Appends a piece.
+pub(crate) fn append(piece: &[u8], text: &mut Vec<u8>) -> Result<(), Memory>
+    ensures { OnOk result (text.new.items ≡ text.old.items ++ piece.now) }
+{
+    text.extend_from_slice(piece)?;
+    Ok(())
+}
+
+/// Appends a number in decimal.
+pub(crate) fn append_decimal<N: Integer>(number: N, text: &mut Vec<u8>) -> Result<(), Memory>
+    ensures { OnOk result (text.new.items ≡ text.old.items ++ N.text number) }
+{
+    let mut buffer = Buffer::new();
+    append(buffer.format(number).as_bytes(), text)
+}
+
+/// Appends octets in hexadecimal.
+pub(crate) fn append_hex(alloc: Global, octets: &[u8], text: &mut Vec<u8>) -> Result<(), Memory>
+    ensures { OnOk result (text.new.items ≡ text.old.items ++ encode_lower octets.now) }
+{
+    let digits = hex::encode(alloc, octets)?;
+    append(digits.as_bytes(), text)
+}
+
+/// The name of a family.
+pub(crate) fn family_name(family: Family) -> &'static [u8]
+    ensures { result.now ≡ family_name family }
+{
+    match family {
+        Family::V4 => b"v4",
+        Family::V6 => b"v6",
+    }
+}
