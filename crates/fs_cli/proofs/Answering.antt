@@ -57,7 +57,7 @@ answers_stopped held stage failed a refusal (inr (inr h)) = answers_outside (ver
 
 -- the capture's stage, where the file is there
 found_capture : (limit : ℕ) (holds : Names) (name octets : List ℕ) → holds name ≡ Some octets → capture_stage limit holds name ≡ Found (capture_of limit octets)
-found_capture limit holds name octets h = ap (λ (c : Option (List ℕ)). and_then (or_stop 1 c) (λ z. Found (capture_of limit z))) h
+found_capture limit holds name octets h = ap (λ (c : Option (List ℕ)). and_then (or_stop Outside c) (λ z. Found (capture_of limit z))) h
 
 abbrev opens_to : (limit : ℕ) (octets : List ℕ) → Result Heading (End CaptureReason) → Recorded
 opens_to limit octets o = elim o [
@@ -84,7 +84,7 @@ answers_fault held limit holds name octets left failed a heading (Bad reason pla
 abbrev no_octets : List ℕ
 no_octets = []
 
-take_nothing : (n : ℕ) → take n no_octets ≡ []
+pub take_nothing : (n : ℕ) → take n no_octets ≡ []
 take_nothing n = grind (arith, common_steps)
 
 -- a front, and then nothing

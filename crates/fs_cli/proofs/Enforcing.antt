@@ -31,7 +31,7 @@ answered_err P (Err e) cause h p = subst (λ (x : Refusal). P (status_of x)) (sy
 
 ends_early : {A : Type 0} (stage : Stage A) (failed failed' : Type 0) (a : Option (List ℕ)) (refusal : Refusal)
     → HasReason stage failed refusal → (failed → failed') → EndsEarly stage failed' a a (status_of refusal)
-ends_early stage failed failed' a refusal (inl h) f = record { reason = inl h; nothing = Grew-refl a }
+ends_early stage failed failed' a refusal (inl h) f = record { reason = inl (refusal, h, refl); nothing = Grew-refl a }
 ends_early stage failed failed' a refusal (inr (inl h)) f = record { reason = inr (inl (ap status_of h)); nothing = Grew-refl a }
 ends_early stage failed failed' a refusal (inr (inr h)) f = record { reason = inr (inr (ap status_of h.0, f h.1)); nothing = Grew-refl a }
 
@@ -43,7 +43,7 @@ config_ends limit holds config tape capture failed failed' a refusal h f =
     (reason_then (config_stage limit holds config) (λ accepted. and_then (tape_stage accepted limit holds tape) (λ items. Found (accepted, items))) failed refusal h) f)
 
 -- the stage of configuration and tape, where the configuration is accepted
-accepted_with : (limit : ℕ) (holds : Names) (config tape : List ℕ) (accepted : Config) → config_stage limit holds config ≡ Found accepted
+pub accepted_with : (limit : ℕ) (holds : Names) (config tape : List ℕ) (accepted : Config) → config_stage limit holds config ≡ Found accepted
     → accepted_stage limit holds config tape ≡ and_then (tape_stage accepted limit holds tape) (λ items. Found (accepted, items))
 accepted_with limit holds config tape accepted e =
     ap (λ (s : Stage Config). and_then s (λ accepted. and_then (tape_stage accepted limit holds tape) (λ items. Found (accepted, items)))) e

@@ -15,6 +15,7 @@ pub mod PeerLines
 pub mod PlaceKeys
 pub mod Playing
 pub mod Receiving
+pub mod Ruling
 pub mod Running
 pub mod Stepped
 pub mod TableTurns

@@ -113,6 +113,14 @@ peer_stands config number held None (Some octets) None is own = absurd is
 peer_stands config number held (Some peer) (Some octets) None is own = absurd is
 peer_stands config number held None (Some octets) (Some session) is own = absurd is
 
+-- how it stands with a peer is what the items that were played make of it
+pub desk_stands : (config : Config) (items : List Item) (desk : Desked) (number : ℕ) → Played config items desk → standing_at_desk desk number ≡ standing_of config items number
+desk_stands config items desk number played =
+    peer_stands config number desk.held (peer_of number config.peers) (life number items) (session_at number desk.sessions) (played.each number) refl
+
+pub standing_played : (config : Config) (items : List Item) (desk : Desked) (number : ℕ) (at : Standing) → at ≡ standing_at_desk desk number → Played config items desk → at ≡ standing_of config items number
+standing_played config items desk number at e played = e ∙ desk_stands config items desk number played
+
 peers_same : (numbers : List ℕ) (a b : ℕ → Standing) → ((n : ℕ) → a n ≡ b n) → peers_text numbers a ≡ peers_text numbers b
 peers_same [] a b same = refl
 peers_same (n ∷ numbers) a b same =
@@ -125,4 +133,4 @@ desk_lists config items desk played =
     ap (λ (c : Config). listing_of c (standing_at_desk desk) desk.held) played.config_is
     ∙ ap (λ (l : List ℕ). l ++ (family_text V4 desk.held ++ family_text V6 desk.held))
     (peers_same (numbers_of config.peers) (standing_at_desk desk) (standing_of config items)
-    (λ number. peer_stands config number desk.held (peer_of number config.peers) (life number items) (session_at number desk.sessions) (played.each number) refl))
+    (λ number. desk_stands config items desk number played))

@@ -8,6 +8,7 @@ use Rattle.fs_tape.specs.Tape.{Item, opening, items_to_come, tape_of}
 use Rattle.fs_tape.specs.Turn.{TapeState, coming}
 use Rattle.fs_tape.specs.declared.fault.TapeReason.{TapeReason}
 use Rattle.fs_cli.specs.declared.refusal.Refusal.{Refusal}
+use Rattle.fs_cli.specs.declared.refusal.Refusal.TheVariants.{Outside}
 use Rattle.fs_cli.specs.Stage.{Stage, Found, Stopped, and_then, or_stop, status_of, HasReason}
 use Rattle.fs_cli.specs.Files.{Names}
 use Rattle.fs_cli.specs.Inputs.{played_to, tape_stage}
@@ -46,10 +47,10 @@ playing_done config all rest old now p e = record {
       (sym (p.parts ∙ ap (λ (r : List Item × End TapeReason). p.gone ++ r.0) e ∙ append-nil p.gone)) (p.played items q);
 }
 
-same_stop : (items items' : List Item) (end : End TapeReason) (status : ℕ) → played_to (items, end) ≡ Stopped status → played_to (items', end) ≡ Stopped status
-same_stop items items' done status h = absurd cc
-same_stop items items' limited status h = h
-same_stop items items' (bad reason place) status h = h
+same_stop : (items items' : List Item) (end : End TapeReason) (refusal : Refusal) → played_to (items, end) ≡ Stopped refusal → played_to (items', end) ≡ Stopped refusal
+same_stop items items' done refusal h = absurd cc
+same_stop items items' limited refusal h = h
+same_stop items items' (bad reason place) refusal h = h
 
 rose_before : (old mid now : ℕ) → old ≤ mid → Rose mid now → Rose old now
 rose_before old mid now l r = omega (arith, l, r)
@@ -58,7 +59,7 @@ rose_before old mid now l r = omega (arith, l, r)
 pub refused_all : (config : Config) (all rest : List Item × End TapeReason) (old now : Desked) (before mid after : ℕ) (refusal : Refusal)
     → Playing config all rest old now → before ≤ mid → HasReason (played_to rest) (Rose mid after) refusal → HasReason (played_to all) (Rose before after) refusal
 refused_all config all rest old now before mid after refusal p l (inl h) =
-    inl (subst (λ (e : End TapeReason). played_to (all.0, e) ≡ Stopped (status_of refusal)) (sym p.end_is) (same_stop rest.0 all.0 rest.1 (status_of refusal) h))
+    inl (subst (λ (e : End TapeReason). played_to (all.0, e) ≡ Stopped refusal) (sym p.end_is) (same_stop rest.0 all.0 rest.1 refusal h))
 refused_all config all rest old now before mid after refusal p l (inr (inl h)) = inr (inl h)
 refused_all config all rest old now before mid after refusal p l (inr (inr h)) = inr (inr (h.0, rose_before before mid after l h.1))
 
@@ -71,7 +72,7 @@ pub tape_opened : (config : Config) (limit : ℕ) (holds : Names) (name octets l
     → holds name ≡ Some octets → counted ≡ limit → (opening (nat_le counted (length octets)) (take 8 (take counted octets)) ≡ None) × (left ≡ drop 8 octets)
     → tape ≡ record { slot = slot; limit = counted; place = 8; end = None } → tape_stage config limit holds name ≡ played_to (coming config tape left)
 tape_opened config limit holds name octets left tape slot counted h l o s =
-    ap (λ (content : Option (List ℕ)). and_then (or_stop 1 content) (λ z. played_to (tape_of config limit z))) h
+    ap (λ (content : Option (List ℕ)). and_then (or_stop Outside content) (λ z. played_to (tape_of config limit z))) h
     ∙ ap (λ (n : ℕ). played_to (tape_of config n octets)) (sym l)
     ∙ ap (λ (e : Option (End TapeReason)). played_to (elim e [ Some end ↦ ([], end) | None ↦ items_to_come config counted 8 (drop 8 octets) ])) o.0
     ∙ ap (λ (z : List ℕ). played_to (items_to_come config counted 8 z)) (sym o.1)

@@ -12,12 +12,13 @@ use Rattle.fs_cli.specs.Held.{Leaves}
 use Rattle.fs_cli.specs.Inputs.{accepted_stage, capture_stage}
 use Rattle.fs_cli.specs.Judged.{Answers, verdict_of}
 use Rattle.fs_cli.specs.Output.{output_of}
-use Rattle.fs_cli.specs.Stage.{Stage, Found, Stopped}
+use Rattle.fs_cli.specs.Stage.{Stage, Found, Stopped, status_of}
+use Rattle.fs_cli.specs.declared.refusal.Refusal.{Refusal}
 
 -- The run ended before the capture was read, and nothing was written: a stage ended it, memory was wanting, or a call on
 -- the outside failed.
 pub record EndsEarly {A : Type 0} (stage : Stage A) (failed : Type 0) (before now : Option (List ℕ)) (answer : ℕ) : Type 0 where
-  pub reason : (stage ≡ Stopped answer) ⊎ (answer ≡ 6) ⊎ ((answer ≡ 1) × failed)
+  pub reason : ((refusal : Refusal) × (stage ≡ Stopped refusal) × (answer ≡ status_of refusal)) ⊎ (answer ≡ 6) ⊎ ((answer ≡ 1) × failed)
   pub nothing : Grew before now []
 
 -- The configuration and the tape are accepted, the tape leaves these routes held, and under them the capture was judged.

@@ -7,6 +7,7 @@ use Rattle.fs_base.specs.declared.prefix.Family.TheVariants.{V4, V6}
 -- a command, with the names of the files that it is to read, or the family and the word that it is to say of
 pub data Form : Type 0 where
   Enforce : (config tape capture : List ℕ) → Form
+  Rules : (config tape : List ℕ) → Form
   Check : Family → (word : List ℕ) → Form
 
 -- a word that can name a file: it isn't empty, and doesn't begin with '-'
@@ -25,5 +26,8 @@ abbrev pub form_of : List (List ℕ) → Option Form
 form_of (word ∷ config ∷ tape ∷ capture ∷ []) =
     if bytes_eq word (codes "enforce") && (is_name config && (is_name tape && is_name capture))
     then Some (Enforce config tape capture) else None
-form_of (word ∷ family ∷ text ∷ []) = if bytes_eq word (codes "check") then check_form family text else None
+form_of (word ∷ first ∷ second ∷ []) =
+    if bytes_eq word (codes "check") then check_form first second
+    else if bytes_eq word (codes "rules") && (is_name first && is_name second) then Some (Rules first second)
+    else None
 form_of _ = None

@@ -6,21 +6,22 @@ use Rattle.fs_tape.specs.Tape.{Item, tape_of}
 use Rattle.fs_tape.specs.declared.fault.TapeReason.{TapeReason}
 use Rattle.fs_pcap.specs.Capture.{Recorded, capture_of}
 use Rattle.fs_pcap.specs.declared.fault.CaptureReason.{CaptureReason}
-use Rattle.fs_cli.specs.Stage.{Stage, Found, Stopped, and_then, or_stop}
+use Rattle.fs_cli.specs.Stage.{Stage, Found, Stopped, and_then, or_stop, status_of}
+use Rattle.fs_cli.specs.declared.refusal.Refusal.TheVariants.{Outside, Tape, Limit}
 use Rattle.fs_cli.specs.Files.{Names, config_stage}
 
 -- a tape without a fault
 abbrev pub played_to : List Item × End TapeReason → Stage (List Item)
 played_to (items, done) = Found items
-played_to (items, limited) = Stopped 7
-played_to (items, bad reason place) = Stopped 4
+played_to (items, limited) = Stopped Limit
+played_to (items, bad reason place) = Stopped (Tape reason place)
 
 abbrev pub tape_stage : Config → ℕ → Names → List ℕ → Stage (List Item)
-tape_stage config limit holds name = and_then (or_stop 1 (holds name)) (λ octets. played_to (tape_of config limit octets))
+tape_stage config limit holds name = and_then (or_stop Outside (holds name)) (λ octets. played_to (tape_of config limit octets))
 
 -- a capture's packets are judged up to its end, whatever that is
 abbrev pub capture_stage : ℕ → Names → List ℕ → Stage Recorded
-capture_stage limit holds name = and_then (or_stop 1 (holds name)) (λ octets. Found (capture_of limit octets))
+capture_stage limit holds name = and_then (or_stop Outside (holds name)) (λ octets. Found (capture_of limit octets))
 
 -- the status at the end of a capture
 abbrev pub status_at : End CaptureReason → ℕ
@@ -52,4 +53,4 @@ inputs_stage limit holds config tape capture =
 -- the status that the inputs call for
 abbrev pub status_for : Stage Inputs → ℕ
 status_for (Found given) = status_at given.capture.end
-status_for (Stopped status) = status
+status_for (Stopped refusal) = status_of refusal

@@ -7,7 +7,7 @@ use Rattle.fs_pcap.specs.Capture.{Recorded}
 use Rattle.fs_pcap.specs.declared.fault.CaptureReason.{CaptureReason}
 use Rattle.fs_rules.specs.Held.{Held}
 use Rattle.fs_cli.specs.declared.refusal.Refusal.{Refusal}
-use Rattle.fs_cli.specs.declared.refusal.Refusal.TheVariants.{Outside, Config, Tape}
+use Rattle.fs_cli.specs.declared.refusal.Refusal.TheVariants.{Outside}
 use Rattle.fs_cli.specs.Stage.{Stage, Found, Stopped, status_of}
 use Rattle.fs_cli.specs.Inputs.{status_at}
 use Rattle.fs_cli.specs.Output.{output_of}
@@ -37,7 +37,7 @@ pub record Verdict : Type 0 where
 -- of a capture, under the routes that are held
 abbrev pub verdict_of : Held → Stage Recorded → Verdict
 verdict_of held (Found capture) = record { status = status_at capture.end; text = output_of held capture }
-verdict_of held (Stopped status) = record { status = status; text = [] }
+verdict_of held (Stopped refusal) = record { status = status_of refusal; text = [] }
 
 abbrev pub answered : {T : Type 0} → Result T Refusal → ℕ
 answered (Ok t) = 0
@@ -52,4 +52,4 @@ pub record Answers (verdict : Verdict) (failed : Type 0) (before now : Option (L
 
 -- a refusal that isn't of an input read before the capture
 abbrev pub IsLate : Refusal → Type 0
-IsLate refusal = (refusal ≢ Config) × (refusal ≢ Tape)
+IsLate refusal = (status_of refusal ≢ 3) × (status_of refusal ≢ 4)

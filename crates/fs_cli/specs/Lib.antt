@@ -14,6 +14,7 @@ pub mod Judged
 pub mod Keeping
 pub mod Last
 pub mod Life
+pub mod Listed
 pub mod Listing
 pub mod Memories
 pub mod Output

@@ -23,7 +23,7 @@ pub record IsPlayed (config : Config) (stage : Stage (List Item)) (desk : Desked
 abbrev pub refused_by : TapeFault → Refusal
 refused_by Read = Outside
 refused_by Limit = AtLimit
-refused_by (Bad reason place) = TapeRefusal
+refused_by (Bad reason place) = TapeRefusal reason place
 
 -- an item was given, and these are the items to come behind it; or the tape is done
 abbrev pub Gives : List Item × End TapeReason → List Item × End TapeReason → List ℕ → Option TapeItem → Type 0

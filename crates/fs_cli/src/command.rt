@@ -1,7 +1,7 @@
 //! What the words of the command line ask for.
 
 ghost use Rattle.std.specs.Prelude.{◌≡◌, ◌∷◌, [], ℕ, map, option_map, string_bytes};
-ghost use Rattle.fs_cli.specs.Form.{family_of, form_of, is_name};
+ghost use Rattle.fs_cli.specs.Form.{check_form, family_of, form_of, is_name};
 ghost use Rattle.fs_cli.specs.Command.{form_shown};
 
 use fs_base::Family;
@@ -15,6 +15,8 @@ pub enum Command<'w> {
         tape: &'w str,
         capture: &'w str,
     },
+    /// Plays a tape, and lists the peers and the rules that it leaves.
+    Rules { config: &'w str, tape: &'w str },
     /// Says what a word in hexadecimal is as NLRI of the family.
     Check {
         family: Family,
@@ -28,7 +30,7 @@ pub fn parse(words: &[String]) -> Option<Command<'_>>
 {
     match words {
         [word, config, tape, capture] => parse_enforce(word, config, tape, capture),
-        [word, family, text] => parse_check(word, family, text),
+        [word, first, second] => parse_two(word, first, second),
         _ => None,
     }
 }
@@ -52,10 +54,26 @@ fn parse_enforce<'w>(
     }
 }
 
-fn parse_check<'w>(word: &str, family: &str, text: &'w str) -> Option<Command<'w>>
-    ensures { option_map form_shown result ≡ form_of (word.now ∷ family.now ∷ text.entry.now ∷ []) }
+fn parse_two<'w>(word: &str, first: &'w str, second: &'w str) -> Option<Command<'w>>
+    ensures { option_map form_shown result ≡ form_of (word.now ∷ first.entry.now ∷ second.entry.now ∷ []) }
 {
-    if word != "check" || !is_name(text) {
+    if word == "check" {
+        return parse_check(first, second);
+    }
+    if word == "rules" && is_name(first) && is_name(second) {
+        Some(Command::Rules {
+            config: first,
+            tape: second,
+        })
+    } else {
+        None
+    }
+}
+
+fn parse_check<'w>(family: &str, text: &'w str) -> Option<Command<'w>>
+    ensures { option_map form_shown result ≡ check_form family.now text.entry.now }
+{
+    if !is_name(text) {
         return None;
     }
     match family_of(family) {

@@ -34,7 +34,8 @@ impl<'a> Desk<'a> {
     ghost use Rattle.fs_base.specs.Peers.{peer_of};
     ghost use Rattle.fs_tape.specs.Tape.{Item, came_up, received, was_lost};
     ghost use Rattle.fs_cli.specs.Desk.{Played};
-    ghost use Rattle.fs_cli.specs.Listing.{standing_at_desk};
+    ghost use Rattle.fs_cli.specs.Held.{Leaves};
+    ghost use Rattle.fs_cli.specs.Listing.{standing_at_desk, standing_of};
 
     /// Every configured peer is down, and nothing is held.
     pub fn new(alloc: Global, config: &'a Config) -> Desk<'a>
@@ -95,9 +96,10 @@ impl<'a> Desk<'a> {
         self.config
     }
 
-    /// How it stands with a peer.
+    /// How it stands with a peer: it is down, or its session is open in a state, or its session has closed.
     pub fn state(&self, peer: u16) -> Standing
-        ensures { result ≡ standing_at_desk self.now peer }
+        ensures state { result ≡ standing_at_desk self.now peer }
+        ensures played { (config : Config) (items : List Item) → Played config items self.now → result ≡ standing_of config items peer }
     {
         match self.sessions.get(&peer) {
             None => Standing::Down,
@@ -107,7 +109,8 @@ impl<'a> Desk<'a> {
 
     /// The table of the routes that peers hold.
     pub fn table(&self) -> &Table<'a>
-        ensures { result.now ≡ self.now.held }
+        ensures table { result.now ≡ self.now.held }
+        ensures left { (config : Config) (items : List Item) → Played config items self.now → Leaves config items result.now }
     {
         &self.table
     }

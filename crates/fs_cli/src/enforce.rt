@@ -1,6 +1,6 @@
 //! The command `enforce`.
 
-ghost use Rattle.std.specs.Prelude.{◌≡◌, ◌≤◌, ◌⊎◌, [], IsTrue, IsErrOf};
+ghost use Rattle.std.specs.Prelude.{◌≡◌, ◌≤◌, ◌⊎◌, [], IsTrue};
 ghost use Rattle.fs_base.specs.Outside.{Grew, Rose};
 ghost use Rattle.fs_cli.specs.Enforced.{Enforces};
 ghost use Rattle.fs_cli.specs.Judged.{answered};
@@ -30,7 +30,7 @@ pub fn enforce<F: Files, S: Sink>(
     ensures files_later { F.faults files.old ≤ F.faults files.new }
     ensures sink_later { S.faults sink.old ≤ S.faults sink.new }
 
-    ensures quiet { IsErrOf result Refusal.Config ⊎ IsErrOf result Refusal.Tape → Grew (S.written sink.old) (S.written sink.new) [] }
+    ensures quiet { (answered result ≡ 3) ⊎ (answered result ≡ 4) → Grew (S.written sink.old) (S.written sink.new) [] }
 
     ensures enforces { IsTrue F.tells
         → Enforces limit (F.holds files.old) config.now tape.now capture.now

@@ -12,6 +12,9 @@ mod load;
 mod play;
 mod program;
 mod refusal;
+mod rules;
 
+pub use desk::Desk;
+pub use fs_listing::Standing;
 pub use law::same_routes;
 pub use program::{run, run_within};

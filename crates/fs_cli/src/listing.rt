@@ -1,11 +1,12 @@
 //! The listing of the peers and the rules, as a tape leaves them.
 
-ghost use Rattle.std.specs.Prelude.{◌≡◌, ◌≤◌, ◌++◌, IfOk, List, OnOk};
+ghost use Rattle.std.specs.Prelude.{◌≡◌, ◌≤◌, ◌++◌, IfErr, IfOk, List, OnOk};
 ghost use Rattle.fs_base.specs.Outside.{Rose};
 ghost use Rattle.fs_base.specs.declared.config.Config.{Config};
 ghost use Rattle.fs_tape.specs.Tape.{Item};
 ghost use Rattle.fs_listing.specs.Listing.{numbers_of, peers_text, tape_fault_line};
 ghost use Rattle.fs_cli.specs.Desk.{Played};
+ghost use Rattle.fs_cli.specs.Judged.{IsLate};
 ghost use Rattle.fs_cli.specs.Listing.{desk_text, listing, standing_at_desk, Writes};
 
 use crate::desk::Desk;
@@ -23,6 +24,7 @@ use std::alloc::Global;
 /// `Memory` where the machine refused memory, and then nothing is written; `Outside` where the sink failed, and then a
 /// front of the listing is.
 pub fn list_desk<S: Sink>(alloc: Global, desk: &Desk<'_>, sink: &mut S) -> Result<(), Refusal>
+    ensures late { IfErr result IsLate }
     ensures later { S.faults sink.old ≤ S.faults sink.new }
 
     ensures listed { (config : Config)

@@ -3,6 +3,7 @@
 ghost use Rattle.std.specs.Prelude.{◌≡◌, ◌≢◌, ◌≤◌, ℕ, IfErr, IsTrue, Some, MatchResult};
 ghost use Rattle.fs_base.specs.Outside.{Rose};
 ghost use Rattle.fs_cli.specs.Judged.{IsLate};
+ghost use Rattle.fs_cli.specs.declared.refusal.Refusal.TheVariants.{Outside};
 ghost use Rattle.fs_cli.specs.Stage.{HasReason, Reaches, or_stop};
 ghost use Rattle.fs_cli.specs.Files.{config_stage};
 
@@ -28,7 +29,7 @@ pub fn open<F: Files>(files: &mut F, slot: u8, name: &str) -> Result<(), Refusal
     ensures opened { IsTrue F.tells
         → MatchResult result
         (λ _. F.holds files.old name.now ≡ Some (F.left files.new slot))
-        (HasReason (or_stop 1 (F.holds files.old name.now)) (Rose (F.faults files.old) (F.faults files.new))) }
+        (HasReason (or_stop Outside (F.holds files.old name.now)) (Rose (F.faults files.old) (F.faults files.new))) }
 {
     match files.open_file(slot, name) {
         Ok(true) => Ok(()),

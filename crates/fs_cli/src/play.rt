@@ -143,6 +143,6 @@ fn refusal_of(fault: TapeFault) -> Refusal
     match fault {
         TapeFault::Read => Refusal::Outside,
         TapeFault::Limit => Refusal::Limit,
-        TapeFault::Bad { .. } => Refusal::Tape,
+        TapeFault::Bad { reason, place } => Refusal::Tape { reason, place },
     }
 }

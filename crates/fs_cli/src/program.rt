@@ -5,11 +5,13 @@ ghost use Rattle.fs_base.specs.Outside.{Grew, Rose};
 ghost use Rattle.fs_cli.specs.Checked.{Checks};
 ghost use Rattle.fs_cli.specs.Command.{form_shown};
 ghost use Rattle.fs_cli.specs.Enforced.{Enforced};
-ghost use Rattle.fs_cli.specs.Form.{Enforce, form_of};
+ghost use Rattle.fs_cli.specs.Form.{Enforce, Rules, form_of};
+ghost use Rattle.fs_cli.specs.Listed.{Listed};
 ghost use Rattle.fs_cli.specs.Top.{Does, Runs, HasStatus};
 
 use crate::command::{Command, parse};
 use crate::enforce::enforce;
+use crate::rules::list_rules;
 use fs_base::{Family, Files, Sink, Wire};
 use fs_check::{CheckFault, check};
 use std::alloc::Global;
@@ -36,7 +38,8 @@ pub fn run<F: Files, S: Sink, W: Wire>(
         (Rose (F.faults files.old) (F.faults files.new)) (Rose (S.faults sink.old) (S.faults sink.new))
         (S.written sink.old) (S.written sink.new) result }
     ensures words { (result ≡ 2) ↔ (form_of (map string_bytes words.now) ≡ None) }
-    ensures quiet { (result ≡ 2) ⊎ (result ≡ 3) ⊎ (result ≡ 4) → Grew (S.written sink.old) (S.written sink.new) [] }
+    ensures quiet { (result ≡ 2) ⊎ (result ≡ 3) → Grew (S.written sink.old) (S.written sink.new) [] }
+    ensures still { result ≡ 4 → (config tape capture : List ℕ) → form_of (map string_bytes words.now) ≡ Some (Enforce config tape capture) → Grew (S.written sink.old) (S.written sink.new) [] }
 
     ensures causes { IsTrue F.tells
         → IfSome (form_of (map string_bytes words.now)) (λ form.
@@ -56,6 +59,12 @@ pub fn run<F: Files, S: Sink, W: Wire>(
         → (config tape capture : List ℕ)
         → form_of (map string_bytes words.now) ≡ Some (Enforce config tape capture)
         → Enforced (2 ^ 40) (F.holds files.old) config tape capture (S.written sink.old) (S.written sink.new) }
+
+    ensures listed { IsTrue F.tells
+        → result ≡ 0
+        → (config tape : List ℕ)
+        → form_of (map string_bytes words.now) ≡ Some (Rules config tape)
+        → Listed (2 ^ 40) (F.holds files.old) config tape (S.written sink.old) (S.written sink.new) }
 {
     run_within(alloc, words, LIMIT, files, sink, wire)
 }
@@ -77,7 +86,8 @@ pub fn run_within<F: Files, S: Sink, W: Wire>(
         (Rose (F.faults files.old) (F.faults files.new)) (Rose (S.faults sink.old) (S.faults sink.new))
         (S.written sink.old) (S.written sink.new) result }
     ensures words { (result ≡ 2) ↔ (form_of (map string_bytes words.now) ≡ None) }
-    ensures quiet { (result ≡ 2) ⊎ (result ≡ 3) ⊎ (result ≡ 4) → Grew (S.written sink.old) (S.written sink.new) [] }
+    ensures quiet { (result ≡ 2) ⊎ (result ≡ 3) → Grew (S.written sink.old) (S.written sink.new) [] }
+    ensures still { result ≡ 4 → (config tape capture : List ℕ) → form_of (map string_bytes words.now) ≡ Some (Enforce config tape capture) → Grew (S.written sink.old) (S.written sink.new) [] }
 
     ensures causes { IsTrue F.tells
         → IfSome (form_of (map string_bytes words.now)) (λ form.
@@ -97,6 +107,12 @@ pub fn run_within<F: Files, S: Sink, W: Wire>(
         → (config tape capture : List ℕ)
         → form_of (map string_bytes words.now) ≡ Some (Enforce config tape capture)
         → Enforced limit (F.holds files.old) config tape capture (S.written sink.old) (S.written sink.new) }
+
+    ensures listed { IsTrue F.tells
+        → result ≡ 0
+        → (config tape : List ℕ)
+        → form_of (map string_bytes words.now) ≡ Some (Rules config tape)
+        → Listed limit (F.holds files.old) config tape (S.written sink.old) (S.written sink.new) }
 {
     match parse(words) {
         None => NO_COMMAND,
@@ -116,7 +132,8 @@ fn perform<F: Files, S: Sink>(
         (Rose (F.faults files.old) (F.faults files.new)) (Rose (S.faults sink.old) (S.faults sink.new))
         (S.written sink.old) (S.written sink.new) result }
     ensures known { result ≢ 2 }
-    ensures quiet { (result ≡ 3) ⊎ (result ≡ 4) → Grew (S.written sink.old) (S.written sink.new) [] }
+    ensures quiet { result ≡ 3 → Grew (S.written sink.old) (S.written sink.new) [] }
+    ensures still { result ≡ 4 → (config tape capture : List ℕ) → form_shown command.entry ≡ Enforce config tape capture → Grew (S.written sink.old) (S.written sink.new) [] }
 {
     match command {
         Command::Enforce {
@@ -127,6 +144,12 @@ fn perform<F: Files, S: Sink>(
             Ok(()) => 0,
             Err(refusal) => refusal.status(),
         },
+        Command::Rules { config, tape } => {
+            match list_rules(alloc, files, sink, config, tape, limit) {
+                Ok(()) => 0,
+                Err(refusal) => refusal.status(),
+            }
+        }
         Command::Check { family, word } => run_check(alloc, sink, family, word),
     }
 }

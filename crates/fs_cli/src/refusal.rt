@@ -3,6 +3,7 @@
 ghost use Rattle.std.specs.Prelude.{◌≡◌};
 
 use fs_base::{Failed, Memory};
+use fs_tape::TapeReason;
 use std::alloc::AllocError;
 
 /// Why a run ends before its job is done.
@@ -12,8 +13,8 @@ pub enum Refusal {
     Outside,
     /// The configuration isn't accepted.
     Config,
-    /// The tape has a fault.
-    Tape,
+    /// The tape has a fault, at this place in it.
+    Tape { reason: TapeReason, place: u64 },
     /// The capture has a fault.
     Capture,
     /// The machine refused memory.
@@ -32,7 +33,7 @@ impl Refusal {
         match self {
             Refusal::Outside => 1,
             Refusal::Config => 3,
-            Refusal::Tape => 4,
+            Refusal::Tape { .. } => 4,
             Refusal::Capture => 5,
             Refusal::Memory => 6,
             Refusal::Limit => 7,

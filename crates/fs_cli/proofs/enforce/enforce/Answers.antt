@@ -21,4 +21,4 @@ pub returns-clause-enforces : goal.returns-clause-enforces
 returns-clause-enforces g c = λ told.
     capture_judged c.args.limit (g.F.Files.holds c.args.files.now) (g.F.Files.holds c.load_config.new.files) (g.F.Files.holds c.play_tape.new.files) c.args.config.now c.args.tape.now c.args.capture.now _ c.in_ok-desk.desk _ _ _ _ _ _
     (c.in_ok-config.ensures.reaches told) (c.in_ok-config.ensures.holds told) (c.in_ok-desk.ensures.holds told) (c.in_ok-desk.ensures.played told)
-    (sym c.table.ensures) (c.judge.ensures.answers told) (either_rose _ _ _ _ (le_trans c.in_ok-config.ensures.later c.in_ok-desk.ensures.later))
+    (sym c.table.ensures.table) (c.judge.ensures.answers told) (either_rose _ _ _ _ (le_trans c.in_ok-config.ensures.later c.in_ok-desk.ensures.later))

@@ -18,7 +18,7 @@ loop-number-preserved c =
     elim c.if-is_some.branch [
       | then-is_some+in_ok-append_peer w ↦
           rw (w.text-is) (more_some c.loop-number.text.items w.append_peer.new.text.items whole c.loop-number.number 65536 c.args.desk.now.config.peers
-          (standing_at_desk c.args.desk.now) w.state.result below (configured ∙ w.if-is_some.true) w.state.ensures w.in_ok-append_peer.ensures c.loop-number.invariant)
+          (standing_at_desk c.args.desk.now) w.state.result below (configured ∙ w.if-is_some.true) w.state.ensures.state w.in_ok-append_peer.ensures c.loop-number.invariant)
       | else-is_some w ↦
           rw (w.text-is) (more_none c.loop-number.text.items whole c.loop-number.number 65536 c.args.desk.now.config.peers
           (standing_at_desk c.args.desk.now) below (configured ∙ w.if-is_some.false) c.loop-number.invariant)
@@ -34,7 +34,7 @@ returns-after-is_some c =
       elim c.if-is_some.branch [
         | then-is_some+in_ok-append_peer w ↦
             rw (w.text-is) (more_some c.loop-number.text.items w.append_peer.new.text.items whole c.loop-number.number 65536 c.args.desk.now.config.peers
-            (standing_at_desk c.args.desk.now) w.state.result below (configured ∙ w.if-is_some.true) w.state.ensures w.in_ok-append_peer.ensures c.loop-number.invariant)
+            (standing_at_desk c.args.desk.now) w.state.result below (configured ∙ w.if-is_some.true) w.state.ensures.state w.in_ok-append_peer.ensures c.loop-number.invariant)
         | else-is_some w ↦
             rw (w.text-is) (more_none c.loop-number.text.items whole c.loop-number.number 65536 c.args.desk.now.config.peers
             (standing_at_desk c.args.desk.now) below (configured ∙ w.if-is_some.false) c.loop-number.invariant)
