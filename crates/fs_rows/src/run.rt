@@ -26,9 +26,12 @@ address = \"198.51.100.3\"
 as = 65000
 ";
 
-/// The same peers, where rules without a destination are taken.
-pub fn taking_any_destination(alloc: Global) -> Result<String, Fail> {
-    let mut config = String::from_str(alloc, "allow_no_destination = true\n")?;
+/// The same peers, where rules without a destination are taken or aren't.
+pub fn peers_taking(alloc: Global, any_destination: bool) -> Result<String, Fail> {
+    let mut config = String::new(alloc);
+    if any_destination {
+        config.push_str("allow_no_destination = true\n")?;
+    }
     config.push_str(PEERS)?;
     Ok(config)
 }
