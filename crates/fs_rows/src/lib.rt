@@ -15,6 +15,8 @@ mod configurations;
 #[cfg(test)]
 mod ipv6;
 #[cfg(test)]
+mod listings;
+#[cfg(test)]
 mod messages;
 #[cfg(test)]
 mod octets;

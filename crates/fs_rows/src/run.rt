@@ -104,3 +104,18 @@ pub fn enforce(
 ) -> Result<Ended, Fail> {
     enforce_within(alloc, AMPLE, config, tape, capture)
 }
+
+/// Runs `rules` with this limit on each input.
+pub fn rules_within(alloc: Global, limit: u64, config: &str, tape: Vec<u8>) -> Result<Ended, Fail>
+    requires { 1 ≤ limit }
+{
+    let mut files = files_of(alloc, config, tape, Vec::new(alloc), Vec::new(alloc))?;
+    let mut sink = MemSink::new(alloc, 10000, Vec::new(alloc))?;
+    let words = ["rules", "peers.toml", "sessions.tape"];
+    run_words(alloc, &words, limit, &mut files, &mut sink)
+}
+
+/// Runs `rules`.
+pub fn rules(alloc: Global, config: &str, tape: Vec<u8>) -> Result<Ended, Fail> {
+    rules_within(alloc, AMPLE, config, tape)
+}
