@@ -25,43 +25,46 @@ fn with_keys(alloc: Global, local_as: &str, local_id: &str, more: &str) -> Resul
     Ok(format!(in alloc; "{local_as}\n{local_id}\n{more}\n{peer}")?)
 }
 
+const LOCAL_AS: &str = "local_as = 65000";
+
+const LOCAL_ID: &str = "local_id = \"192.0.2.254\"";
+
+const TOP: &[(&str, &str, &str, u8)] = &[
+    (LOCAL_AS, LOCAL_ID, "", 0),
+    ("local_as = 1", LOCAL_ID, "", 0),
+    ("local_as = 4294967295", LOCAL_ID, "", 0),
+    (LOCAL_AS, "local_id = \"0.0.0.1\"", "", 0),
+    (LOCAL_AS, "local_id = \"255.255.255.255\"", "", 0),
+    (LOCAL_AS, LOCAL_ID, "allow_no_destination = true", 0),
+    (LOCAL_AS, LOCAL_ID, "allow_no_destination = false", 0),
+    (LOCAL_AS, LOCAL_ID, "empty_path_valid = false", 0),
+    (LOCAL_AS, LOCAL_ID, "# a comment", 0),
+    ("", LOCAL_ID, "", 3),
+    (LOCAL_AS, "", "", 3),
+    ("local_as = 0", LOCAL_ID, "", 3),
+    ("local_as = -1", LOCAL_ID, "", 3),
+    ("local_as = 4294967296", LOCAL_ID, "", 3),
+    ("local_as = \"65000\"", LOCAL_ID, "", 3),
+    ("local_as = 65000.0", LOCAL_ID, "", 3),
+    (LOCAL_AS, "local_id = \"0.0.0.0\"", "", 3),
+    (LOCAL_AS, "local_id = \"192.0.2\"", "", 3),
+    (LOCAL_AS, "local_id = \"192.0.2.254.1\"", "", 3),
+    (LOCAL_AS, "local_id = \"192.0.2.256\"", "", 3),
+    (LOCAL_AS, "local_id = \"192.0.02.254\"", "", 3),
+    (LOCAL_AS, "local_id = \" 192.0.2.254\"", "", 3),
+    (LOCAL_AS, "local_id = \"2001:db8::1\"", "", 3),
+    (LOCAL_AS, "local_id = 3221226238", "", 3),
+    (LOCAL_AS, LOCAL_ID, "speed = 1", 3),
+    (LOCAL_AS, LOCAL_ID, "peers = 1", 3),
+    (LOCAL_AS, LOCAL_ID, "allow_no_destination = 1", 3),
+    (LOCAL_AS, LOCAL_ID, "empty_path_valid = \"true\"", 3),
+    (LOCAL_AS, LOCAL_ID, "local_as = 65000", 3),
+    (LOCAL_AS, LOCAL_ID, "this is no key", 3),
+];
+
 #[test]
 fn reads_the_keys_of_the_top(rt: HostRuntime) -> Result<(), Fail> {
-    let local_as = "local_as = 65000";
-    let local_id = "local_id = \"192.0.2.254\"";
-    let rows = [
-        (local_as, local_id, "", 0),
-        ("local_as = 1", local_id, "", 0),
-        ("local_as = 4294967295", local_id, "", 0),
-        (local_as, "local_id = \"0.0.0.1\"", "", 0),
-        (local_as, "local_id = \"255.255.255.255\"", "", 0),
-        (local_as, local_id, "allow_no_destination = true", 0),
-        (local_as, local_id, "allow_no_destination = false", 0),
-        (local_as, local_id, "empty_path_valid = false", 0),
-        (local_as, local_id, "# a comment", 0),
-        ("", local_id, "", 3),
-        (local_as, "", "", 3),
-        ("local_as = 0", local_id, "", 3),
-        ("local_as = -1", local_id, "", 3),
-        ("local_as = 4294967296", local_id, "", 3),
-        ("local_as = \"65000\"", local_id, "", 3),
-        ("local_as = 65000.0", local_id, "", 3),
-        (local_as, "local_id = \"0.0.0.0\"", "", 3),
-        (local_as, "local_id = \"192.0.2\"", "", 3),
-        (local_as, "local_id = \"192.0.2.254.1\"", "", 3),
-        (local_as, "local_id = \"192.0.2.256\"", "", 3),
-        (local_as, "local_id = \"192.0.02.254\"", "", 3),
-        (local_as, "local_id = \" 192.0.2.254\"", "", 3),
-        (local_as, "local_id = \"2001:db8::1\"", "", 3),
-        (local_as, "local_id = 3221226238", "", 3),
-        (local_as, local_id, "speed = 1", 3),
-        (local_as, local_id, "peers = 1", 3),
-        (local_as, local_id, "allow_no_destination = 1", 3),
-        (local_as, local_id, "empty_path_valid = \"true\"", 3),
-        (local_as, local_id, "local_as = 65000", 3),
-        (local_as, local_id, "this is no key", 3),
-    ];
-    for (local_as, local_id, more, status) in rows {
+    for (local_as, local_id, more, status) in TOP.iter().copied() {
         let config = with_keys(rt.alloc(), local_as, local_id, more)?;
         assert_eq!(rt;
             status_of(rt.alloc(), config.as_str())?,
@@ -72,30 +75,34 @@ fn reads_the_keys_of_the_top(rt: HostRuntime) -> Result<(), Fail> {
     Ok(())
 }
 
+const NUMBER: &str = "number = 4";
+
+const ADDRESS: &str = "address = \"198.51.100.4\"";
+
+const ASN: &str = "as = 65004";
+
+const OF_A_PEER: &[(&str, &str, &str, u8)] = &[
+    (NUMBER, ADDRESS, ASN, 0),
+    ("number = 65535", ADDRESS, ASN, 0),
+    (NUMBER, "address = \"198.51.100.1\"", ASN, 0),
+    (NUMBER, ADDRESS, "as = 1", 0),
+    (NUMBER, ADDRESS, "as = 4294967295", 0),
+    ("", ADDRESS, ASN, 3),
+    (NUMBER, "", ASN, 3),
+    (NUMBER, ADDRESS, "", 3),
+    ("number = 0", ADDRESS, ASN, 3),
+    ("number = 65536", ADDRESS, ASN, 3),
+    ("number = 3", ADDRESS, ASN, 3),
+    ("number = \"4\"", ADDRESS, ASN, 3),
+    (NUMBER, ADDRESS, "as = 0", 3),
+    (NUMBER, ADDRESS, "as = 4294967296", 3),
+    (NUMBER, ADDRESS, "as = 65004\nspeed = 1", 3),
+    (NUMBER, "address = 198", ASN, 3),
+];
+
 #[test]
 fn reads_the_keys_of_a_peer(rt: HostRuntime) -> Result<(), Fail> {
-    let number = "number = 4";
-    let address = "address = \"198.51.100.4\"";
-    let asn = "as = 65004";
-    let rows = [
-        (number, address, asn, 0),
-        ("number = 65535", address, asn, 0),
-        (number, "address = \"198.51.100.1\"", asn, 0),
-        (number, address, "as = 1", 0),
-        (number, address, "as = 4294967295", 0),
-        ("", address, asn, 3),
-        (number, "", asn, 3),
-        (number, address, "", 3),
-        ("number = 0", address, asn, 3),
-        ("number = 65536", address, asn, 3),
-        ("number = 3", address, asn, 3),
-        ("number = \"4\"", address, asn, 3),
-        (number, address, "as = 0", 3),
-        (number, address, "as = 4294967296", 3),
-        (number, address, "as = 65004\nspeed = 1", 3),
-        (number, "address = 198", asn, 3),
-    ];
-    for (number, address, asn, status) in rows {
+    for (number, address, asn, status) in OF_A_PEER.iter().copied() {
         let config = with_peer(rt.alloc(), number, address, asn)?;
         assert_eq!(rt;
             status_of(rt.alloc(), config.as_str())?,
@@ -106,38 +113,39 @@ fn reads_the_keys_of_a_peer(rt: HostRuntime) -> Result<(), Fail> {
     Ok(())
 }
 
+const ADDRESSES: &[(&str, u8)] = &[
+    ("0.0.0.0", 0),
+    ("255.255.255.255", 0),
+    ("2001:db8:0:0:8:800:200c:417a", 0),
+    ("2001:DB8::8:800:200C:417A", 0),
+    ("::1", 0),
+    ("::", 0),
+    ("ff01::", 0),
+    ("1:2:3:4:5:6:7::", 0),
+    ("::2:3:4:5:6:7:8", 0),
+    ("0001:2:3:4:5:6:7:8", 0),
+    ("", 3),
+    ("198.51.100", 3),
+    ("198.51.100.", 3),
+    ("198.51.100.01", 3),
+    ("198.51.100.300", 3),
+    ("1:2:3:4:5:6:7", 3),
+    ("1:2:3:4:5:6:7:8:9", 3),
+    ("1:2:3:4:5:6:7:8::", 3),
+    ("1::2::3", 3),
+    (":1:2:3:4:5:6:7", 3),
+    ("1:2:3:4:5:6:7:", 3),
+    ("12345::", 3),
+    ("g::", 3),
+    (":::", 3),
+    ("::ffff:192.0.2.1", 3),
+    ("2001:db8::1%1", 3),
+];
+
 /// Dotted IPv4, and the first two forms of RFC 4291 section 2.2.
 #[test]
 fn reads_addresses(rt: HostRuntime) -> Result<(), Fail> {
-    let rows = [
-        ("0.0.0.0", 0),
-        ("255.255.255.255", 0),
-        ("2001:db8:0:0:8:800:200c:417a", 0),
-        ("2001:DB8::8:800:200C:417A", 0),
-        ("::1", 0),
-        ("::", 0),
-        ("ff01::", 0),
-        ("1:2:3:4:5:6:7::", 0),
-        ("::2:3:4:5:6:7:8", 0),
-        ("0001:2:3:4:5:6:7:8", 0),
-        ("", 3),
-        ("198.51.100", 3),
-        ("198.51.100.", 3),
-        ("198.51.100.01", 3),
-        ("198.51.100.300", 3),
-        ("1:2:3:4:5:6:7", 3),
-        ("1:2:3:4:5:6:7:8:9", 3),
-        ("1:2:3:4:5:6:7:8::", 3),
-        ("1::2::3", 3),
-        (":1:2:3:4:5:6:7", 3),
-        ("1:2:3:4:5:6:7:", 3),
-        ("12345::", 3),
-        ("g::", 3),
-        (":::", 3),
-        ("::ffff:192.0.2.1", 3),
-        ("2001:db8::1%1", 3),
-    ];
-    for (address, status) in rows {
+    for (address, status) in ADDRESSES.iter().copied() {
         let key = format!(in rt.alloc(); "address = \"{address}\"")?;
         let config = with_peer(rt.alloc(), "number = 4", key.as_str(), "as = 65004")?;
         assert_eq!(rt;
@@ -175,24 +183,25 @@ fn takes_from_1_to_1024_peers(rt: HostRuntime) -> Result<(), Fail> {
     Ok(())
 }
 
+const TREES: &[(&str, u8)] = &[
+    ("peer = [{ number = 1, address = \"::1\", as = 1 }]\n", 0),
+    ("[[peer]]\nas = 0x1\n'number' = 1\n\"address\" = '::1'\n", 0),
+    ("peer = { number = 1, address = \"::1\", as = 1 }\n", 3),
+    ("[peer]\nnumber = 1\naddress = \"::1\"\nas = 1\n", 3),
+    ("peer = []\n", 3),
+    ("peer = [1]\n", 3),
+    ("", 3),
+    (
+        "[[peer]]\nnumber = 1\naddress = \"::1\"\nas = 1\n[more]\n",
+        3,
+    ),
+    ("[[peer]\n", 3),
+];
+
 #[test]
 fn reads_the_tree_of_toml(rt: HostRuntime) -> Result<(), Fail> {
     let top = "local_as = 65000\nlocal_id = \"192.0.2.254\"\n";
-    let rows = [
-        ("peer = [{ number = 1, address = \"::1\", as = 1 }]\n", 0),
-        ("[[peer]]\nas = 0x1\n'number' = 1\n\"address\" = '::1'\n", 0),
-        ("peer = { number = 1, address = \"::1\", as = 1 }\n", 3),
-        ("[peer]\nnumber = 1\naddress = \"::1\"\nas = 1\n", 3),
-        ("peer = []\n", 3),
-        ("peer = [1]\n", 3),
-        ("", 3),
-        (
-            "[[peer]]\nnumber = 1\naddress = \"::1\"\nas = 1\n[more]\n",
-            3,
-        ),
-        ("[[peer]\n", 3),
-    ];
-    for (peers, status) in rows {
+    for (peers, status) in TREES.iter().copied() {
         let config = format!(in rt.alloc(); "{top}{peers}")?;
         assert_eq!(rt; status_of(rt.alloc(), config.as_str())?, status, "{peers}");
     }

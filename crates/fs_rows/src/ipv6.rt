@@ -2,10 +2,10 @@
 
 use crate::capture::{Capture, MAIL_PACKET, RAW, capture_of};
 use crate::messages::{
-    Attribute, DROP, MAIL, NET, PATH_OF_PEER_1, flow_route, flow_route_of, unicast_route, update,
+    DROP, IGP, MAIL, NET, PATH_OF_PEER_1, flow_route, flow_route_of, unicast_route, update_of,
 };
 use crate::octets::octets;
-use crate::run::{PEERS, enforce, taking_any_destination};
+use crate::run::{PEERS, enforce, peers_taking};
 use crate::tape::Tape;
 use std::alloc::Global;
 use std::test::Fail;
@@ -25,21 +25,16 @@ const LATER_FRAGMENT: &str =
 
 /// Peer 1 is established and holds 2001:db8::/32.
 fn tape_with_network(alloc: Global) -> Result<Tape, Fail> {
-    let reach = Attribute {
-        head: "800e",
-        value: "0002 01 10 00000000000000000000000000000000 00 20 20010db8",
-    };
-    let origin = Attribute {
-        head: "4001",
-        value: "00",
-    };
-    let path = Attribute {
-        head: "4002",
-        value: PATH_OF_PEER_1,
-    };
+    let reach = (
+        "800e",
+        "0002 01 10 00000000000000000000000000000000 00 20 20010db8",
+    );
     let mut tape = Tape::new(alloc)?;
     tape.established(1)?;
-    tape.received(1, &update(alloc, "", &[reach, origin, path], "")?)?;
+    tape.received(
+        1,
+        &update_of(alloc, &[reach, IGP, ("4002", PATH_OF_PEER_1)], "")?,
+    )?;
     Ok(tape)
 }
 
@@ -49,7 +44,7 @@ fn flow_route_v6(alloc: Global, rules: &str, actions: &str) -> Result<Vec<u8>, F
 
 #[test]
 fn walks_the_chain_of_headers(rt: HostRuntime) -> Result<(), Fail> {
-    let config = taking_any_destination(rt.alloc())?;
+    let config = peers_taking(rt.alloc(), true)?;
     for link in [IPV6, RAW] {
         let mut tape = Tape::new(rt.alloc())?;
         tape.established(1)?;
@@ -66,43 +61,44 @@ fn walks_the_chain_of_headers(rt: HostRuntime) -> Result<(), Fail> {
     Ok(())
 }
 
+const COMPONENTS: &[(&str, bool, bool)] = &[
+    ("00", true, true),
+    ("07 012000 20010db8", true, true),
+    ("0f 016000 20010db8 00000000 00000000", true, true),
+    ("13 018000 20010db8 00000000 00000000 00000002", true, true),
+    (
+        "13 018000 20010db8 00000000 00000000 00000003",
+        false,
+        false,
+    ),
+    ("0a 014008 010db800000000", true, true),
+    ("0a 014008 010db900000000", false, false),
+    ("07 022000 20010db8", true, true),
+    ("04 021008 01", true, true),
+    ("04 021008 02", false, false),
+    ("04 020904 00", true, true),
+    ("03 020000", true, true),
+    ("03 038111", true, false),
+    ("03 03812c", false, false),
+    ("03 03813c", false, false),
+    ("03 048135", true, false),
+    ("04 0691c350", true, false),
+    ("03 0a8140", true, false),
+    ("03 0a8138", false, true),
+    ("03 0b8100", true, true),
+    ("03 0c8104", true, false),
+    ("03 0c8102", false, true),
+    ("03 0c810a", false, true),
+    ("03 0c8001", false, false),
+    ("03 0d8100", true, true),
+    ("03 0d8101", false, false),
+];
+
 /// Each rule against both packets.
 #[test]
 fn matches_each_component(rt: HostRuntime) -> Result<(), Fail> {
-    let rows = [
-        ("00", true, true),
-        ("07 012000 20010db8", true, true),
-        ("0f 016000 20010db8 00000000 00000000", true, true),
-        ("13 018000 20010db8 00000000 00000000 00000002", true, true),
-        (
-            "13 018000 20010db8 00000000 00000000 00000003",
-            false,
-            false,
-        ),
-        ("0a 014008 010db800000000", true, true),
-        ("0a 014008 010db900000000", false, false),
-        ("07 022000 20010db8", true, true),
-        ("04 021008 01", true, true),
-        ("04 021008 02", false, false),
-        ("04 020904 00", true, true),
-        ("03 020000", true, true),
-        ("03 038111", true, false),
-        ("03 03812c", false, false),
-        ("03 03813c", false, false),
-        ("03 048135", true, false),
-        ("04 0691c350", true, false),
-        ("03 0a8140", true, false),
-        ("03 0a8138", false, true),
-        ("03 0b8100", true, true),
-        ("03 0c8104", true, false),
-        ("03 0c8102", false, true),
-        ("03 0c810a", false, true),
-        ("03 0c8001", false, false),
-        ("03 0d8100", true, true),
-        ("03 0d8101", false, false),
-    ];
-    let config = taking_any_destination(rt.alloc())?;
-    for (rule, of_first, of_later) in rows {
+    let config = peers_taking(rt.alloc(), true)?;
+    for (rule, of_first, of_later) in COMPONENTS.iter().copied() {
         let mut tape = tape_with_network(rt.alloc())?;
         tape.received(1, &flow_route_v6(rt.alloc(), rule, DROP)?)?;
         let capture = capture_of(rt.alloc(), IPV6, &[FIRST_FRAGMENT, LATER_FRAGMENT])?;
@@ -129,20 +125,20 @@ fn matches_each_component(rt: HostRuntime) -> Result<(), Fail> {
 fn validates_destinations_with_offset_0(rt: HostRuntime) -> Result<(), Fail> {
     let network = "07 012000 20010db8";
     let offset = "0a 014008 010db800000000";
-    let any = taking_any_destination(rt.alloc())?;
     let on = "8007000000000001";
     let rows = [
-        (PEERS, "", "1 pass rules 1\n"),
-        (any.as_str(), "", "1 pass rules 1\n"),
-        (PEERS, on, "1 pass rules 1\n"),
-        (any.as_str(), on, "1 discard rules 1,2\n"),
+        (false, "", "1 pass rules 1\n"),
+        (true, "", "1 pass rules 1\n"),
+        (false, on, "1 pass rules 1\n"),
+        (true, on, "1 discard rules 1,2\n"),
     ];
-    for (config, actions, text) in rows {
+    for (any_destination, actions, text) in rows {
+        let config = peers_taking(rt.alloc(), any_destination)?;
         let mut tape = tape_with_network(rt.alloc())?;
         tape.received(1, &flow_route_v6(rt.alloc(), offset, DROP)?)?;
         tape.received(1, &flow_route_v6(rt.alloc(), network, actions)?)?;
         let capture = capture_of(rt.alloc(), IPV6, &[FIRST_FRAGMENT])?;
-        let ended = enforce(rt.alloc(), config, tape.into_octets(), capture)?;
+        let ended = enforce(rt.alloc(), config.as_str(), tape.into_octets(), capture)?;
         assert_eq!(rt; ended.text.as_str(), text, "{actions}");
         assert_eq!(rt; ended.status, 0, "{actions}");
     }
@@ -150,7 +146,7 @@ fn validates_destinations_with_offset_0(rt: HostRuntime) -> Result<(), Fail> {
     tape.established(1)?;
     tape.received(1, &flow_route_v6(rt.alloc(), network, DROP)?)?;
     let capture = capture_of(rt.alloc(), IPV6, &[FIRST_FRAGMENT])?;
-    let ended = enforce(rt.alloc(), any.as_str(), tape.into_octets(), capture)?;
+    let ended = enforce(rt.alloc(), PEERS, tape.into_octets(), capture)?;
     assert_eq!(rt; ended.text.as_str(), "1 pass\n", "without a route");
     Ok(())
 }
@@ -162,7 +158,7 @@ fn keeps_the_families_apart(rt: HostRuntime) -> Result<(), Fail> {
     tape.received(1, &unicast_route(rt.alloc(), NET, PATH_OF_PEER_1)?)?;
     tape.received(1, &flow_route(rt.alloc(), MAIL, PATH_OF_PEER_1, "")?)?;
     tape.received(1, &flow_route_v6(rt.alloc(), "00", "800900000000002e")?)?;
-    let config = taking_any_destination(rt.alloc())?;
+    let config = peers_taking(rt.alloc(), true)?;
     let capture = capture_of(rt.alloc(), RAW, &[MAIL_PACKET, FIRST_FRAGMENT])?;
     let ended = enforce(rt.alloc(), config.as_str(), tape.into_octets(), capture)?;
     assert_eq!(rt;
@@ -192,7 +188,7 @@ fn reads_as_far_as_the_capture_goes(rt: HostRuntime) -> Result<(), Fail> {
         1,
         &flow_route_v6(rt.alloc(), "03 038111", "800900000000002e")?,
     )?;
-    let config = taking_any_destination(rt.alloc())?;
+    let config = peers_taking(rt.alloc(), true)?;
     let ended = enforce(
         rt.alloc(),
         config.as_str(),

@@ -9,9 +9,13 @@ mod capture;
 #[cfg(test)]
 mod captures;
 #[cfg(test)]
+mod checks;
+#[cfg(test)]
 mod configurations;
 #[cfg(test)]
 mod ipv6;
+#[cfg(test)]
+mod listings;
 #[cfg(test)]
 mod messages;
 #[cfg(test)]

@@ -50,70 +50,74 @@ pub fn keepalive(alloc: Global) -> Result<Vec<u8>, Fail> {
     message(alloc, 4, &[])
 }
 
-/// A path attribute, all in hexadecimal digits: flags and type, and the value.
-#[derive(Clone, Copy, Drop)]
-pub struct Attribute<'a> {
-    pub head: &'a str,
-    pub value: &'a str,
+/// Path attributes (RFC 4271 section 4.3), with lengths of one octet.
+#[derive(Drop)]
+pub struct Attributes {
+    alloc: Global,
+    field: Vec<u8>,
+}
+
+impl Attributes {
+    pub fn new(alloc: Global) -> Attributes {
+        Attributes {
+            alloc,
+            field: Vec::new(alloc),
+        }
+    }
+
+    /// Adds an attribute: flags and type, and the value, both in hexadecimal digits.
+    pub fn add(&mut self, head: &str, value: &str) -> Result<(), Fail> {
+        let value = octets(self.alloc, value)?;
+        self.field.extend_from_slice(&octets(self.alloc, head)?)?;
+        self.field.push(u8::try_from(value.len())?)?;
+        self.field.extend_from_slice(&value)?;
+        Ok(())
+    }
+
+    /// Adds attributes in their order.
+    pub fn add_all(&mut self, attributes: &[(&str, &str)]) -> Result<(), Fail> {
+        for (head, value) in attributes.iter().copied() {
+            self.add(head, value)?;
+        }
+        Ok(())
+    }
 }
 
 /// An UPDATE of withdrawn IPv4 prefixes, path attributes, and announced IPv4 prefixes.
 pub fn update(
     alloc: Global,
     withdrawn: &str,
-    attributes: &[Attribute<'_>],
+    attributes: &Attributes,
     announced: &str,
 ) -> Result<Vec<u8>, Fail> {
     let withdrawn = octets(alloc, withdrawn)?;
-    let attributes = attributes_of(alloc, attributes)?;
+    let field = attributes.field.as_slice();
     let mut body = Vec::new(alloc);
     body.extend_from_slice(&u16::try_from(withdrawn.len())?.to_be_bytes())?;
     body.extend_from_slice(&withdrawn)?;
-    body.extend_from_slice(&u16::try_from(attributes.len())?.to_be_bytes())?;
-    body.extend_from_slice(&attributes)?;
+    body.extend_from_slice(&u16::try_from(field.len())?.to_be_bytes())?;
+    body.extend_from_slice(field)?;
     body.extend_from_slice(&octets(alloc, announced)?)?;
     message(alloc, 2, &body)
 }
 
-/// Attributes with lengths of one octet.
-fn attributes_of(alloc: Global, attributes: &[Attribute<'_>]) -> Result<Vec<u8>, Fail> {
-    let mut field = Vec::new(alloc);
-    for attribute in attributes {
-        let value = octets(alloc, attribute.value)?;
-        field.extend_from_slice(&octets(alloc, attribute.head)?)?;
-        field.push(u8::try_from(value.len())?)?;
-        field.extend_from_slice(&value)?;
-    }
-    Ok(field)
+/// An UPDATE that withdraws nothing, of these attributes.
+pub fn update_of(
+    alloc: Global,
+    attributes: &[(&str, &str)],
+    announced: &str,
+) -> Result<Vec<u8>, Fail> {
+    let mut all = Attributes::new(alloc);
+    all.add_all(attributes)?;
+    update(alloc, "", &all, announced)
 }
 
 /// ORIGIN is IGP.
-const ORIGIN: Attribute<'static> = Attribute {
-    head: "4001",
-    value: "00",
-};
-
-pub fn as_path(path: &str) -> Attribute<'_> {
-    Attribute {
-        head: "4002",
-        value: path,
-    }
-}
-
-pub fn communities(value: &str) -> Attribute<'_> {
-    Attribute {
-        head: "c010",
-        value,
-    }
-}
+pub const IGP: (&str, &str) = ("4001", "00");
 
 /// An IPv4 prefix of an external peer, with a next hop.
 pub fn unicast_route(alloc: Global, prefix: &str, path: &str) -> Result<Vec<u8>, Fail> {
-    let next_hop = Attribute {
-        head: "4003",
-        value: "c6336401",
-    };
-    update(alloc, "", &[ORIGIN, as_path(path), next_hop], prefix)
+    update_of(alloc, &[IGP, ("4002", path), ("4003", "c6336401")], prefix)
 }
 
 /// IPv4 rules of an external peer, each with its length, and the communities of their actions.
@@ -129,37 +133,26 @@ pub fn flow_route_of(
     path: &str,
     actions: &str,
 ) -> Result<Vec<u8>, Fail> {
-    let mut value = String::from_str(alloc, afi)?;
-    value.push_str("85 00 00")?;
-    value.push_str(rules)?;
-    let reach = Attribute {
-        head: "800e",
-        value: value.as_str(),
-    };
-    if actions.is_empty() {
-        update(alloc, "", &[reach, ORIGIN, as_path(path)], "")
-    } else {
-        update(
-            alloc,
-            "",
-            &[reach, ORIGIN, as_path(path), communities(actions)],
-            "",
-        )
+    let mut attributes = Attributes::new(alloc);
+    let reach = format!(in alloc; "{afi} 85 00 00 {rules}")?;
+    attributes.add("800e", reach.as_str())?;
+    attributes.add("4001", "00")?;
+    attributes.add("4002", path)?;
+    if !actions.is_empty() {
+        attributes.add("c010", actions)?;
     }
+    update(alloc, "", &attributes, "")
 }
 
 /// Takes back IPv4 rules, each with its length.
 pub fn flow_withdrawal(alloc: Global, rules: &str) -> Result<Vec<u8>, Fail> {
-    let mut value = String::from_str(alloc, "0001 85")?;
-    value.push_str(rules)?;
-    let unreach = Attribute {
-        head: "800f",
-        value: value.as_str(),
-    };
-    update(alloc, "", &[unreach], "")
+    let mut attributes = Attributes::new(alloc);
+    let unreach = format!(in alloc; "0001 85 {rules}")?;
+    attributes.add("800f", unreach.as_str())?;
+    update(alloc, "", &attributes, "")
 }
 
 /// Takes back IPv4 prefixes.
 pub fn unicast_withdrawal(alloc: Global, prefixes: &str) -> Result<Vec<u8>, Fail> {
-    update(alloc, prefixes, &[], "")
+    update(alloc, prefixes, &Attributes::new(alloc), "")
 }

@@ -43,27 +43,28 @@ fn writes_nothing_of_an_empty_tape_and_capture(rt: HostRuntime) -> Result<(), Fa
     Ok(())
 }
 
+const NO_COMMANDS: &[&[&str]] = &[
+    &[],
+    &["help"],
+    &["enforce"],
+    &["enforce", "a"],
+    &["enforce", "peers.toml", "sessions.tape"],
+    &[
+        "enforce",
+        "peers.toml",
+        "sessions.tape",
+        "packets.pcap",
+        "a",
+    ],
+    &["enforce", "peers.toml", "", "packets.pcap"],
+    &["enforce", "peers.toml", "sessions.tape", "-packets.pcap"],
+    &["Enforce", "peers.toml", "sessions.tape", "packets.pcap"],
+    &["gen", "0"],
+];
+
 #[test]
 fn refuses_words_that_are_no_command(rt: HostRuntime) -> Result<(), Fail> {
-    let rows: [&[&str]; 10] = [
-        &[],
-        &["help"],
-        &["enforce"],
-        &["enforce", "a"],
-        &["enforce", "peers.toml", "sessions.tape"],
-        &[
-            "enforce",
-            "peers.toml",
-            "sessions.tape",
-            "packets.pcap",
-            "a",
-        ],
-        &["enforce", "peers.toml", "", "packets.pcap"],
-        &["enforce", "peers.toml", "sessions.tape", "-packets.pcap"],
-        &["Enforce", "peers.toml", "sessions.tape", "packets.pcap"],
-        &["gen", "0"],
-    ];
-    for words in rows {
+    for words in NO_COMMANDS.iter().copied() {
         let sink = MemSink::new(rt.alloc(), 100, Vec::new(rt.alloc()))?;
         let ended = first_run(rt.alloc(), words, Vec::new(rt.alloc()), sink)?;
         assert_eq!(rt; ended.status, 2, "{words:?}");
@@ -72,14 +73,15 @@ fn refuses_words_that_are_no_command(rt: HostRuntime) -> Result<(), Fail> {
     Ok(())
 }
 
+const MISSING: &[&[&str]] = &[
+    &["enforce", "a", "sessions.tape", "packets.pcap"],
+    &["enforce", "peers.toml", "a", "packets.pcap"],
+    &["enforce", "peers.toml", "sessions.tape", "a"],
+];
+
 #[test]
 fn misses_files(rt: HostRuntime) -> Result<(), Fail> {
-    let rows: [&[&str]; 3] = [
-        &["enforce", "a", "sessions.tape", "packets.pcap"],
-        &["enforce", "peers.toml", "a", "packets.pcap"],
-        &["enforce", "peers.toml", "sessions.tape", "a"],
-    ];
-    for words in rows {
+    for words in MISSING.iter().copied() {
         let sink = MemSink::new(rt.alloc(), 100, Vec::new(rt.alloc()))?;
         let ended = first_run(rt.alloc(), words, Vec::new(rt.alloc()), sink)?;
         assert_eq!(rt; ended.status, 1, "{words:?}");

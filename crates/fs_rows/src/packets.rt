@@ -3,14 +3,14 @@
 use crate::capture::{Capture, RAW, capture_of, udp_packet};
 use crate::messages::{DROP, PATH_OF_PEER_1, flow_route};
 use crate::octets::octets;
-use crate::run::{Ended, enforce, taking_any_destination};
+use crate::run::{Ended, enforce, peers_taking};
 use crate::tape::tape_with;
 use std::alloc::Global;
 use std::test::Fail;
 
 /// Packets under one rule that drops.
 fn judged(alloc: Global, rule: &str, capture: Vec<u8>) -> Result<Ended, Fail> {
-    let config = taking_any_destination(alloc)?;
+    let config = peers_taking(alloc, true)?;
     let tape = tape_with(alloc, &flow_route(alloc, rule, PATH_OF_PEER_1, DROP)?)?;
     enforce(alloc, config.as_str(), tape.into_octets(), capture)
 }
@@ -82,51 +82,52 @@ fn misses_ports(rt: HostRuntime) -> Result<(), Fail> {
     Ok(())
 }
 
+const COMPONENTS: &[(&str, bool)] = &[
+    ("00", true),
+    ("05 0118c00002", true),
+    ("05 0118c00003", false),
+    ("06 0120c0000209", true),
+    ("06 0120c0000208", false),
+    ("05 0218cb0071", true),
+    ("05 0218cb0072", false),
+    ("03 038700", true),
+    ("03 038000", false),
+    ("03 038111", true),
+    ("03 038106", false),
+    ("04 03910011", true),
+    ("06 03a100000011", true),
+    ("0a 03b10000000000000011", true),
+    ("03 048135", true),
+    ("04 0491c350", true),
+    ("03 048136", false),
+    ("03 058135", true),
+    ("04 0591c350", false),
+    ("03 068135", false),
+    ("04 0691c350", true),
+    ("03 078100", false),
+    ("03 088100", false),
+    ("03 098000", false),
+    ("03 0a811c", true),
+    ("03 0a821b", true),
+    ("03 0a821c", false),
+    ("03 0a831c", true),
+    ("03 0a841d", true),
+    ("03 0a841c", false),
+    ("03 0a851c", true),
+    ("03 0a861c", false),
+    ("03 0a861d", true),
+    ("03 0b8100", true),
+    ("03 0b8101", false),
+    ("03 0c8302", true),
+    ("03 0c8002", false),
+    ("09 038111 048134 058135", false),
+    ("09 038111 048135 058135", true),
+];
+
 /// A UDP packet of 28 octets to 192.0.2.9 from 203.0.113.5, from port 50000 to port 53, under rules of one kind each.
 #[test]
 fn matches_each_component(rt: HostRuntime) -> Result<(), Fail> {
-    let rows = [
-        ("00", true),
-        ("05 0118c00002", true),
-        ("05 0118c00003", false),
-        ("06 0120c0000209", true),
-        ("06 0120c0000208", false),
-        ("05 0218cb0071", true),
-        ("05 0218cb0072", false),
-        ("03 038700", true),
-        ("03 038000", false),
-        ("03 038111", true),
-        ("03 038106", false),
-        ("04 03910011", true),
-        ("06 03a100000011", true),
-        ("0a 03b10000000000000011", true),
-        ("03 048135", true),
-        ("04 0491c350", true),
-        ("03 048136", false),
-        ("03 058135", true),
-        ("04 0591c350", false),
-        ("03 068135", false),
-        ("04 0691c350", true),
-        ("03 078100", false),
-        ("03 088100", false),
-        ("03 098000", false),
-        ("03 0a811c", true),
-        ("03 0a821b", true),
-        ("03 0a821c", false),
-        ("03 0a831c", true),
-        ("03 0a841d", true),
-        ("03 0a841c", false),
-        ("03 0a851c", true),
-        ("03 0a861c", false),
-        ("03 0a861d", true),
-        ("03 0b8100", true),
-        ("03 0b8101", false),
-        ("03 0c8302", true),
-        ("03 0c8002", false),
-        ("09 038111 048134 058135", false),
-        ("09 038111 048135 058135", true),
-    ];
-    for (rule, matched) in rows {
+    for (rule, matched) in COMPONENTS.iter().copied() {
         let capture = udp_packets(rt.alloc(), &[(0, 53)])?;
         let ended = judged(rt.alloc(), rule, capture)?;
         let text = if matched {
@@ -139,20 +140,21 @@ fn matches_each_component(rt: HostRuntime) -> Result<(), Fail> {
     }
     Ok(())
 }
+
+const GROUPS: &[(&str, bool)] = &[
+    ("05 0a 0214 c41d", true),
+    ("05 0a 0314 c51c", true),
+    ("05 0a 0314 c51b", false),
+    ("07 0a 0101 031c c51c", true),
+    ("07 0a 011c 0301 c402", true),
+    ("07 0a 0101 0302 c403", false),
+    ("07 0a 0101 4302 811c", true),
+];
 
 /// AND binds tighter than OR, and a length between two numbers holds where both comparisons hold.
 #[test]
 fn evaluates_groups(rt: HostRuntime) -> Result<(), Fail> {
-    let rows = [
-        ("05 0a 0214 c41d", true),
-        ("05 0a 0314 c51c", true),
-        ("05 0a 0314 c51b", false),
-        ("07 0a 0101 031c c51c", true),
-        ("07 0a 011c 0301 c402", true),
-        ("07 0a 0101 0302 c403", false),
-        ("07 0a 0101 4302 811c", true),
-    ];
-    for (rule, matched) in rows {
+    for (rule, matched) in GROUPS.iter().copied() {
         let capture = udp_packets(rt.alloc(), &[(0, 53)])?;
         let ended = judged(rt.alloc(), rule, capture)?;
         let text = if matched {
@@ -166,29 +168,32 @@ fn evaluates_groups(rt: HostRuntime) -> Result<(), Fail> {
     Ok(())
 }
 
+const TCP_PACKET: &str =
+    "45b80028 00000000 40060000 cb007105 c0000209 c3500019 00000000 00000000 50122000 00000000";
+
+const ICMP_PACKET: &str = "4500001c 00000000 40010000 cb007105 c0000209 08000000 00000000";
+
+const TCP_AND_ICMP: &[(&str, &str, bool)] = &[
+    (TCP_PACKET, "03 098112", true),
+    (TCP_PACKET, "03 098002", true),
+    (TCP_PACKET, "03 098113", false),
+    (TCP_PACKET, "03 098001", false),
+    (TCP_PACKET, "03 098201", true),
+    (TCP_PACKET, "04 09910012", true),
+    (TCP_PACKET, "04 09915012", false),
+    (TCP_PACKET, "03 0b812e", true),
+    (TCP_PACKET, "03 078108", false),
+    (ICMP_PACKET, "03 078108", true),
+    (ICMP_PACKET, "03 078100", false),
+    (ICMP_PACKET, "03 088100", true),
+    (ICMP_PACKET, "03 098000", false),
+    (ICMP_PACKET, "03 048108", false),
+];
+
 /// A TCP packet with ACK and SYN, data offset 5 and DSCP 46; and an ICMP packet of type 8 and code 0.
 #[test]
 fn matches_tcp_and_icmp(rt: HostRuntime) -> Result<(), Fail> {
-    let tcp =
-        "45b80028 00000000 40060000 cb007105 c0000209 c3500019 00000000 00000000 50122000 00000000";
-    let icmp = "4500001c 00000000 40010000 cb007105 c0000209 08000000 00000000";
-    let rows = [
-        (tcp, "03 098112", true),
-        (tcp, "03 098002", true),
-        (tcp, "03 098113", false),
-        (tcp, "03 098001", false),
-        (tcp, "03 098201", true),
-        (tcp, "04 09910012", true),
-        (tcp, "04 09915012", false),
-        (tcp, "03 0b812e", true),
-        (tcp, "03 078108", false),
-        (icmp, "03 078108", true),
-        (icmp, "03 078100", false),
-        (icmp, "03 088100", true),
-        (icmp, "03 098000", false),
-        (icmp, "03 048108", false),
-    ];
-    for (packet, rule, matched) in rows {
+    for (packet, rule, matched) in TCP_AND_ICMP.iter().copied() {
         let capture = capture_of(rt.alloc(), RAW, &[packet])?;
         let ended = judged(rt.alloc(), rule, capture)?;
         let text = if matched {

@@ -26,9 +26,12 @@ address = \"198.51.100.3\"
 as = 65000
 ";
 
-/// The same peers, where rules without a destination are taken.
-pub fn taking_any_destination(alloc: Global) -> Result<String, Fail> {
-    let mut config = String::from_str(alloc, "allow_no_destination = true\n")?;
+/// The same peers, where rules without a destination are taken or aren't.
+pub fn peers_taking(alloc: Global, any_destination: bool) -> Result<String, Fail> {
+    let mut config = String::new(alloc);
+    if any_destination {
+        config.push_str("allow_no_destination = true\n")?;
+    }
     config.push_str(PEERS)?;
     Ok(config)
 }
@@ -100,4 +103,19 @@ pub fn enforce(
     capture: Vec<u8>,
 ) -> Result<Ended, Fail> {
     enforce_within(alloc, AMPLE, config, tape, capture)
+}
+
+/// Runs `rules` with this limit on each input.
+pub fn rules_within(alloc: Global, limit: u64, config: &str, tape: Vec<u8>) -> Result<Ended, Fail>
+    requires { 1 ≤ limit }
+{
+    let mut files = files_of(alloc, config, tape, Vec::new(alloc), Vec::new(alloc))?;
+    let mut sink = MemSink::new(alloc, 10000, Vec::new(alloc))?;
+    let words = ["rules", "peers.toml", "sessions.tape"];
+    run_words(alloc, &words, limit, &mut files, &mut sink)
+}
+
+/// Runs `rules`.
+pub fn rules(alloc: Global, config: &str, tape: Vec<u8>) -> Result<Ended, Fail> {
+    rules_within(alloc, AMPLE, config, tape)
 }

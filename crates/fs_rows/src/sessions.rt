@@ -21,54 +21,58 @@ fn with_octets(alloc: Global, text: &str) -> Result<Ended, Fail> {
     judged(alloc, tape)
 }
 
+const MARKER: &str = "ffffffffffffffffffffffffffffffff";
+
+const STAYS: &str = "1 discard rules 1\n";
+
+const CLOSES: &str = "1 pass\n";
+
+const LATER: &[(&str, &str, &str, &str)] = &[
+    ("no octets", "", "", STAYS),
+    ("a part of a marker", "ff", "", STAYS),
+    ("a wrong marker", "fe", "", CLOSES),
+    (
+        "a wrong octet late in the marker",
+        "fffffffffffffffffffffffffffffffe",
+        "",
+        CLOSES,
+    ),
+    ("a part of a length", MARKER, "00", STAYS),
+    ("a length of 18", MARKER, "0012", CLOSES),
+    ("a length of 4097", MARKER, "1001", CLOSES),
+    ("a length of 4096", MARKER, "1000", STAYS),
+    ("a KEEPALIVE", MARKER, "0013 04", STAYS),
+    ("a KEEPALIVE of 20 octets", MARKER, "0014 04", CLOSES),
+    ("a ROUTE-REFRESH", MARKER, "0017 05 0001 00 85", STAYS),
+    ("a ROUTE-REFRESH of 24 octets", MARKER, "0018 05", CLOSES),
+    ("no such type", MARKER, "0013 06", CLOSES),
+    ("type 0", MARKER, "0013 00", CLOSES),
+    ("an UPDATE of 22 octets", MARKER, "0016 02", CLOSES),
+    (
+        "an UPDATE without anything",
+        MARKER,
+        "0017 02 0000 0000",
+        STAYS,
+    ),
+    ("a NOTIFICATION", MARKER, "0015 03 06 02", CLOSES),
+    (
+        "a NOTIFICATION with data",
+        MARKER,
+        "0017 03 06 02 0000",
+        CLOSES,
+    ),
+    ("a NOTIFICATION of 20 octets", MARKER, "0014 03", CLOSES),
+    (
+        "a second OPEN",
+        MARKER,
+        "001d 01 04 fde9 00b4 c6336401 00",
+        CLOSES,
+    ),
+];
+
 #[test]
 fn closes_by_what_comes_after(rt: HostRuntime) -> Result<(), Fail> {
-    let marker = "ffffffffffffffffffffffffffffffff";
-    let stays = "1 discard rules 1\n";
-    let closes = "1 pass\n";
-    let rows = [
-        ("no octets", "", "", stays),
-        ("a part of a marker", "ff", "", stays),
-        ("a wrong marker", "fe", "", closes),
-        (
-            "a wrong octet late in the marker",
-            "fffffffffffffffffffffffffffffffe",
-            "",
-            closes,
-        ),
-        ("a part of a length", marker, "00", stays),
-        ("a length of 18", marker, "0012", closes),
-        ("a length of 4097", marker, "1001", closes),
-        ("a length of 4096", marker, "1000", stays),
-        ("a KEEPALIVE", marker, "0013 04", stays),
-        ("a KEEPALIVE of 20 octets", marker, "0014 04", closes),
-        ("a ROUTE-REFRESH", marker, "0017 05 0001 00 85", stays),
-        ("a ROUTE-REFRESH of 24 octets", marker, "0018 05", closes),
-        ("no such type", marker, "0013 06", closes),
-        ("type 0", marker, "0013 00", closes),
-        ("an UPDATE of 22 octets", marker, "0016 02", closes),
-        (
-            "an UPDATE without anything",
-            marker,
-            "0017 02 0000 0000",
-            stays,
-        ),
-        ("a NOTIFICATION", marker, "0015 03 06 02", closes),
-        (
-            "a NOTIFICATION with data",
-            marker,
-            "0017 03 06 02 0000",
-            closes,
-        ),
-        ("a NOTIFICATION of 20 octets", marker, "0014 03", closes),
-        (
-            "a second OPEN",
-            marker,
-            "001d 01 04 fde9 00b4 c6336401 00",
-            closes,
-        ),
-    ];
-    for (name, front, back, text) in rows {
+    for (name, front, back, text) in LATER.iter().copied() {
         let message = format!(in rt.alloc(); "{front} {back}")?;
         let ended = with_octets(rt.alloc(), message.as_str())?;
         assert_eq!(rt; ended.text.as_str(), text, "{name}");
@@ -105,43 +109,46 @@ fn beginning_with(alloc: Global, messages: &[u8]) -> Result<Ended, Fail> {
     judged(alloc, tape)
 }
 
+const TAKEN: &str = "1 discard rules 1\n";
+
+const REFUSED: &str = "1 pass\n";
+
+const OPENS: &[(&str, &str)] = &[
+    ("04 fde9 00b4 c6336401 08 0206 41040000fde9", TAKEN),
+    ("04 5ba0 00b4 c6336401 08 0206 41040000fde9", TAKEN),
+    ("04 fde9 0000 c6336401 08 0206 41040000fde9", TAKEN),
+    ("04 fde9 0003 c6336401 08 0206 41040000fde9", TAKEN),
+    (
+        "04 fde9 00b4 c6336401 0e 0206 41040000fde9 0204 0200 4600",
+        TAKEN,
+    ),
+    (
+        "04 fde9 00b4 c6336401 0e 020c 010400010001 41040000fde9",
+        TAKEN,
+    ),
+    (
+        "04 fde9 00b4 c6336401 0e 020c 41040000fde9 41040000fdea",
+        TAKEN,
+    ),
+    ("03 fde9 00b4 c6336401 08 0206 41040000fde9", REFUSED),
+    ("04 0000 00b4 c6336401 08 0206 41040000fde9", REFUSED),
+    ("04 fde9 0001 c6336401 08 0206 41040000fde9", REFUSED),
+    ("04 fde9 0002 c6336401 08 0206 41040000fde9", REFUSED),
+    ("04 fde9 00b4 00000000 08 0206 41040000fde9", REFUSED),
+    ("04 fde9 00b4 c6336401 07 0206 41040000fde9", REFUSED),
+    ("04 fde9 00b4 c6336401 09 0206 41040000fde9", REFUSED),
+    ("04 fde9 00b4 c6336401 08 0207 41040000fde9", REFUSED),
+    ("04 fde9 00b4 c6336401 08 0206 41050000fde9", REFUSED),
+    ("04 fde9 00b4 c6336401 08 0106 41040000fde9", REFUSED),
+    ("04 fde9 00b4 c6336401 07 0205 41030000fd", REFUSED),
+    ("04 fde9 00b4 c6336401 08 0206 41040000fdea", REFUSED),
+    ("04 fdea 00b4 c6336401 00", REFUSED),
+];
+
 /// OPEN bodies: version, AS, hold time, identifier, and parameters behind their length.
 #[test]
 fn judges_open(rt: HostRuntime) -> Result<(), Fail> {
-    let taken = "1 discard rules 1\n";
-    let refused = "1 pass\n";
-    let rows = [
-        ("04 fde9 00b4 c6336401 08 0206 41040000fde9", taken),
-        ("04 5ba0 00b4 c6336401 08 0206 41040000fde9", taken),
-        ("04 fde9 0000 c6336401 08 0206 41040000fde9", taken),
-        ("04 fde9 0003 c6336401 08 0206 41040000fde9", taken),
-        (
-            "04 fde9 00b4 c6336401 0e 0206 41040000fde9 0204 0200 4600",
-            taken,
-        ),
-        (
-            "04 fde9 00b4 c6336401 0e 020c 010400010001 41040000fde9",
-            taken,
-        ),
-        (
-            "04 fde9 00b4 c6336401 0e 020c 41040000fde9 41040000fdea",
-            taken,
-        ),
-        ("03 fde9 00b4 c6336401 08 0206 41040000fde9", refused),
-        ("04 0000 00b4 c6336401 08 0206 41040000fde9", refused),
-        ("04 fde9 0001 c6336401 08 0206 41040000fde9", refused),
-        ("04 fde9 0002 c6336401 08 0206 41040000fde9", refused),
-        ("04 fde9 00b4 00000000 08 0206 41040000fde9", refused),
-        ("04 fde9 00b4 c6336401 07 0206 41040000fde9", refused),
-        ("04 fde9 00b4 c6336401 09 0206 41040000fde9", refused),
-        ("04 fde9 00b4 c6336401 08 0207 41040000fde9", refused),
-        ("04 fde9 00b4 c6336401 08 0206 41050000fde9", refused),
-        ("04 fde9 00b4 c6336401 08 0106 41040000fde9", refused),
-        ("04 fde9 00b4 c6336401 07 0205 41030000fd", refused),
-        ("04 fde9 00b4 c6336401 08 0206 41040000fdea", refused),
-        ("04 fdea 00b4 c6336401 00", refused),
-    ];
-    for (body, text) in rows {
+    for (body, text) in OPENS.iter().copied() {
         let mut messages = message(rt.alloc(), 1, &octets(rt.alloc(), body)?)?;
         messages.extend_from_slice(&keepalive(rt.alloc())?)?;
         let ended = beginning_with(rt.alloc(), &messages)?;

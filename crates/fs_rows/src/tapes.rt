@@ -18,17 +18,18 @@ fn with_octet(alloc: Global, place: usize, octet: u8) -> Result<Vec<u8>, Fail> {
     Ok(tape)
 }
 
+const FAULTS: &[(&str, usize, u8)] = &[
+    ("another magic", 6, b'2'),
+    ("a kind that is none", 8, 4),
+    ("a kind of 0", 8, 0),
+    ("a peer that isn't configured", 10, 9),
+    ("a length of a peer that comes up", 14, 1),
+    ("a length above 65536", 18, 1),
+];
+
 #[test]
 fn refuses_tapes_with_a_fault(rt: HostRuntime) -> Result<(), Fail> {
-    let rows = [
-        ("another magic", 6, b'2'),
-        ("a kind that is none", 8, 4),
-        ("a kind of 0", 8, 0),
-        ("a peer that isn't configured", 10, 9),
-        ("a length of a peer that comes up", 14, 1),
-        ("a length above 65536", 18, 1),
-    ];
-    for (name, place, octet) in rows {
+    for (name, place, octet) in FAULTS.iter().copied() {
         let ended = judged(rt.alloc(), with_octet(rt.alloc(), place, octet)?)?;
         assert_eq!(rt; ended.status, 4, "{name}");
         assert_eq!(rt; ended.text.as_str(), "", "{name}");

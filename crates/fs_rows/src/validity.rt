@@ -1,11 +1,12 @@
 //! Which rules are admitted (RFC 8955 section 6, RFC 9117 section 4), and which announcer's rule counts.
 
-use crate::capture::{Capture, RAW, mail_capture, udp_packet};
+use crate::capture::{Capture, MAIL_PACKET, RAW, mail_capture, udp_packet};
 use crate::messages::{
-    Attribute, DROP, MAIL, NET, PATH_OF_PEER_1, PATH_OF_PEER_2, TCP, TO_NET, flow_route,
-    flow_withdrawal, unicast_route, unicast_withdrawal, update,
+    DROP, IGP, MAIL, NET, PATH_OF_PEER_1, PATH_OF_PEER_2, TCP, TO_NET, flow_route, flow_withdrawal,
+    unicast_route, unicast_withdrawal, update_of,
 };
-use crate::run::{PEERS, enforce, taking_any_destination};
+use crate::octets::octets;
+use crate::run::{PEERS, enforce, peers_taking};
 use crate::tape::{Tape, first_tape, tape_with};
 use std::alloc::Global;
 use std::process::Abort;
@@ -82,7 +83,7 @@ fn admits_rules_of_the_best_match_alone(rt: HostRuntime) -> Result<(), Fail> {
             tape.lost(1)?;
         }
         let mut capture = Capture::new(rt.alloc(), RAW)?;
-        capture.packet(&crate::octets::octets(rt.alloc(), crate::capture::MAIL_PACKET)?)?;
+        capture.packet(&octets(rt.alloc(), MAIL_PACKET)?)?;
         capture.packet(&udp_packet(rt.alloc(), 0, 53)?)?;
         let ended = enforce(rt.alloc(), PEERS, tape.into_octets(), capture.into_octets())?;
         let expected = format!(in rt.alloc(); "{of_tcp}{of_udp}")?;
@@ -91,17 +92,6 @@ fn admits_rules_of_the_best_match_alone(rt: HostRuntime) -> Result<(), Fail> {
     }
     Ok(())
 }
-
-/// An UPDATE with these attributes, and announced IPv4 prefixes.
-fn update_of(alloc: Global, attributes: &[(&str, &str)], announced: &str) -> Result<Vec<u8>, Fail> {
-    let mut all = Vec::new(alloc);
-    for (head, value) in attributes.iter().copied() {
-        all.push(Attribute { head, value })?;
-    }
-    update(alloc, "", &all, announced)
-}
-
-const IGP: (&str, &str) = ("4001", "00");
 
 const LOCAL_PREF_100: (&str, &str) = ("4005", "00000064");
 
@@ -138,47 +128,52 @@ fn admits_rules_of_an_empty_path(rt: HostRuntime) -> Result<(), Fail> {
     Ok(())
 }
 
+const LEFTMOST: &[(&str, &str)] = &[
+    (PATH_OF_PEER_1, "1 discard rules 1\n"),
+    ("0202 0000fde9 0000fdf1", "1 discard rules 1\n"),
+    ("0201 0000fde9 0101 0000fdf1", "1 discard rules 1\n"),
+    ("0201 0000fdf1", "1 pass\n"),
+    ("0202 0000fdf1 0000fde9", "1 pass\n"),
+    ("0101 0000fde9", "1 pass\n"),
+    ("", "1 pass\n"),
+];
+
 /// Peer 1 gives the mail rule with these paths, over its route with its own AS.
 #[test]
 fn compares_the_leftmost_as(rt: HostRuntime) -> Result<(), Fail> {
-    let rows = [
-        (PATH_OF_PEER_1, "1 discard rules 1\n"),
-        ("0202 0000fde9 0000fdf1", "1 discard rules 1\n"),
-        ("0201 0000fde9 0101 0000fdf1", "1 discard rules 1\n"),
-        ("0201 0000fdf1", "1 pass\n"),
-        ("0202 0000fdf1 0000fde9", "1 pass\n"),
-        ("0101 0000fde9", "1 pass\n"),
-        ("", "1 pass\n"),
-    ];
-    for (path, text) in rows {
+    for (path, text) in LEFTMOST.iter().copied() {
         let tape = tape_with(rt.alloc(), &flow_route(rt.alloc(), MAIL, path, DROP)?)?;
         expect(&rt, rt.alloc(), path, PEERS, tape, text)?;
     }
     Ok(())
 }
 
-/// The internal peer announces the network too: by LOCAL_PREF its route is the best, and its originator counts.
+const PATH_1: (&str, &str) = ("4002", PATH_OF_PEER_1);
+
+const ORIGINATOR_1: (&str, &str) = ("8009", "c6336401");
+
+const DISCARD: &str = "1 discard rules 1\n";
+
+const OF_PEER_3: &[(&[(&str, &str)], &str)] = &[
+    (&[IGP, PATH_1, LOCAL_PREF_100], DISCARD),
+    (&[IGP, PATH_1], DISCARD),
+    (&[IGP, PATH_1, LOCAL_PREF_200], "1 pass\n"),
+    (&[IGP, PATH_1, LOCAL_PREF_200, ORIGINATOR_1], DISCARD),
+    (
+        &[IGP, PATH_1, LOCAL_PREF_200, ("8009", "c6336402")],
+        "1 pass\n",
+    ),
+    (
+        &[IGP, ("4002", "0201 0000fdf1"), LOCAL_PREF_200, ORIGINATOR_1],
+        "1 pass\n",
+    ),
+    (&[IGP, PATH_1, ("4005", "0000c8"), ORIGINATOR_1], DISCARD),
+];
+
+/// The internal peer announces the network too: by LOCAL_PREF its route is the best, and its ORIGINATOR_1 counts.
 #[test]
 fn prefers_by_local_pref(rt: HostRuntime) -> Result<(), Fail> {
-    let path = ("4002", PATH_OF_PEER_1);
-    let originator = ("8009", "c6336401");
-    let discard = "1 discard rules 1\n";
-    let rows: &[(&[(&str, &str)], &str)] = &[
-        (&[IGP, path, LOCAL_PREF_100], discard),
-        (&[IGP, path], discard),
-        (&[IGP, path, LOCAL_PREF_200], "1 pass\n"),
-        (&[IGP, path, LOCAL_PREF_200, originator], discard),
-        (
-            &[IGP, path, LOCAL_PREF_200, ("8009", "c6336402")],
-            "1 pass\n",
-        ),
-        (
-            &[IGP, ("4002", "0201 0000fdf1"), LOCAL_PREF_200, originator],
-            "1 pass\n",
-        ),
-        (&[IGP, path, ("4005", "0000c8"), originator], discard),
-    ];
-    for (attributes, text) in rows.iter().copied() {
+    for (attributes, text) in OF_PEER_3.iter().copied() {
         let mut tape = first_tape(rt.alloc())?;
         tape.established(3)?;
         tape.received(3, &update_of(rt.alloc(), attributes, NET)?)?;
@@ -188,27 +183,34 @@ fn prefers_by_local_pref(rt: HostRuntime) -> Result<(), Fail> {
     Ok(())
 }
 
+const ONE: (&str, &str) = ("4002", PATH_OF_PEER_1);
+
+const TWO: (&str, &str) = ("4002", PATH_OF_PEER_2);
+
+const LONGER: (&str, &str) = ("4002", "0202 0000fde9 0000fdf1");
+
+const WITH_SET: (&str, &str) = ("4002", "0201 0000fde9 0103 0000fdf1 0000fdf2 0000fdf3");
+
+const THREE: (&str, &str) = ("4002", "0203 0000fdea 0000fdf1 0000fdf2");
+
+const EGP: (&str, &str) = ("4001", "01");
+
+const BOTH_PEERS: &[((&str, &str), (&str, &str), (&str, &str), (&str, &str), bool)] = &[
+    (IGP, ONE, IGP, TWO, true),
+    (EGP, ONE, EGP, TWO, true),
+    (EGP, ONE, IGP, TWO, false),
+    (IGP, ONE, EGP, TWO, true),
+    (IGP, LONGER, IGP, TWO, false),
+    (IGP, LONGER, EGP, TWO, false),
+    (EGP, LONGER, IGP, THREE, true),
+    (IGP, WITH_SET, IGP, THREE, true),
+    (IGP, WITH_SET, IGP, TWO, false),
+];
+
 /// Peers 1 and 2 announce the network: the rule of peer 1 is admitted where its route is the best.
 #[test]
 fn prefers_by_path_and_origin(rt: HostRuntime) -> Result<(), Fail> {
-    let one = ("4002", PATH_OF_PEER_1);
-    let two = ("4002", PATH_OF_PEER_2);
-    let longer = ("4002", "0202 0000fde9 0000fdf1");
-    let with_set = ("4002", "0201 0000fde9 0103 0000fdf1 0000fdf2 0000fdf3");
-    let three = ("4002", "0203 0000fdea 0000fdf1 0000fdf2");
-    let egp = ("4001", "01");
-    let rows = [
-        (IGP, one, IGP, two, true),
-        (egp, one, egp, two, true),
-        (egp, one, IGP, two, false),
-        (IGP, one, egp, two, true),
-        (IGP, longer, IGP, two, false),
-        (IGP, longer, egp, two, false),
-        (egp, longer, IGP, three, true),
-        (IGP, with_set, IGP, three, true),
-        (IGP, with_set, IGP, two, false),
-    ];
-    for (origin_1, path_1, origin_2, path_2, admitted) in rows {
+    for (origin_1, path_1, origin_2, path_2, admitted) in BOTH_PEERS.iter().copied() {
         let mut tape = Tape::new(rt.alloc())?;
         tape.established(2)?;
         tape.received(2, &update_of(rt.alloc(), &[origin_2, path_2], NET)?)?;
@@ -228,18 +230,19 @@ fn prefers_by_path_and_origin(rt: HostRuntime) -> Result<(), Fail> {
     Ok(())
 }
 
+const LONGEST: &[(&str, &str, &str)] = &[
+    ("18c00002", "10c000", "1 discard rules 1\n"),
+    ("18c00002", "20c0000209", "1 pass\n"),
+    ("20c0000209", "18c00002", "1 discard rules 1\n"),
+    ("10c000", "18c00002", "1 pass\n"),
+    ("00", "18c00102", "1 discard rules 1\n"),
+    ("18c00102", "20c0000301", "1 pass\n"),
+];
+
 /// The best match is at the longest prefix that covers the destination, whoever announces it.
 #[test]
 fn finds_the_longest_prefix(rt: HostRuntime) -> Result<(), Fail> {
-    let rows = [
-        ("18c00002", "10c000", "1 discard rules 1\n"),
-        ("18c00002", "20c0000209", "1 pass\n"),
-        ("20c0000209", "18c00002", "1 discard rules 1\n"),
-        ("10c000", "18c00002", "1 pass\n"),
-        ("00", "18c00102", "1 discard rules 1\n"),
-        ("18c00102", "20c0000301", "1 pass\n"),
-    ];
-    for (of_peer_1, of_peer_2, text) in rows {
+    for (of_peer_1, of_peer_2, text) in LONGEST.iter().copied() {
         let mut tape = Tape::new(rt.alloc())?;
         tape.established(1)?;
         tape.received(
@@ -260,7 +263,7 @@ fn finds_the_longest_prefix(rt: HostRuntime) -> Result<(), Fail> {
 fn prefers_one_announcer(rt: HostRuntime) -> Result<(), Fail> {
     let of_peer_1 = flow_route(rt.alloc(), TCP, PATH_OF_PEER_1, DROP)?;
     let of_peer_2 = flow_route(rt.alloc(), TCP, PATH_OF_PEER_2, "800900000000002e")?;
-    let config = taking_any_destination(rt.alloc())?;
+    let config = peers_taking(rt.alloc(), true)?;
     for first in [1u16, 2] {
         for (withdrawn, text) in [
             (false, "1 discard rules 1\n"),
@@ -289,20 +292,20 @@ fn prefers_one_announcer(rt: HostRuntime) -> Result<(), Fail> {
 /// A rule of all packets is admitted only where rules without a destination are.
 #[test]
 fn asks_for_a_destination(rt: HostRuntime) -> Result<(), Fail> {
-    let any = taking_any_destination(rt.alloc())?;
     let rows = [
-        (PEERS, "1 pass\n2 discard rules 1\n"),
-        (any.as_str(), "1 pass rules 2\n2 discard rules 1\n"),
+        (false, "1 pass\n2 discard rules 1\n"),
+        (true, "1 pass rules 2\n2 discard rules 1\n"),
     ];
-    for (config, text) in rows {
+    for (any_destination, text) in rows {
+        let config = peers_taking(rt.alloc(), any_destination)?;
         let mut tape = first_tape(rt.alloc())?;
         tape.received(1, &flow_route(rt.alloc(), "00", PATH_OF_PEER_1, "")?)?;
         let mut capture = Capture::new(rt.alloc(), RAW)?;
         capture.packet(&udp_packet(rt.alloc(), 0, 53)?)?;
-        capture.packet(&crate::octets::octets(rt.alloc(), crate::capture::MAIL_PACKET)?)?;
+        capture.packet(&octets(rt.alloc(), MAIL_PACKET)?)?;
         let ended = enforce(
             rt.alloc(),
-            config,
+            config.as_str(),
             tape.into_octets(),
             capture.into_octets(),
         )?;
