@@ -29,7 +29,8 @@ const LONGEST_BODY: usize = 4077;
 
 /// Appends the UPDATE that says this update, with its header. The attributes stand in the order MP_REACH_NLRI,
 /// MP_UNREACH_NLRI, and then by rising types. `TooLong` is answered exactly where the message would pass 4096
-/// octets; then, and after `Memory`, `out` is as it was.
+/// octets; then, and after `Memory`, `out` is as it was. Read on these terms, what was written is the same
+/// update, where AS numbers have four octets or none of the path needs more than two.
 pub fn write_update(update: &Update, terms: &Terms, out: &mut Vec<u8>) -> Result<(), WriteFault>
     requires { IsTrue (is_writable terms.now update.now) }
     ensures written { Writes result (update_text terms.now update.now) out.old.items out.new.items }
