@@ -135,9 +135,11 @@ first_is_least : (peer : ℕ) (unicast : List Route) (prefix : Prefix) → IsStr
 first_is_least peer [] prefix sorted h = tt
 first_is_least peer (r ∷ rs) prefix sorted h = at (r.0.peer == peer) refl h (first_is_least peer rs prefix (sorted_tail place_cmp r.0 (keys_of rs) sorted)) where
   here : r.0.prefix ≡ prefix → Passed peer (Some prefix) (r ∷ rs)
-  here e = subst (λ p. Passed peer (Some p) (r ∷ rs)) e ((λ _. ap is_le (tied_itself prefix_total r.0.prefix)),
-      each_weaker (λ s. place_cmp r.0 s.0 ≡ Less) (λ s. (s.0.peer == peer) ≡ true → is_from (Some r.0.prefix) s.0.prefix ≡ true) (λ s less _. less_then (prefix_cmp r.0.prefix s.0.prefix) (nat_cmp r.0.peer s.0.peer) less) rs
-      (each_of_map (λ s. s.0) (λ q. place_cmp r.0 q ≡ Less) rs (sorted_head place_cmp r.0 (keys_of rs) sorted)))
+  here e = subst (λ p. Passed peer (Some p) (r ∷ rs)) e (
+    (λ _. ap is_le (tied_itself prefix_total r.0.prefix)),
+    each_weaker (λ s. place_cmp r.0 s.0 ≡ Less) (λ s. (s.0.peer == peer) ≡ true → is_from (Some r.0.prefix) s.0.prefix ≡ true) (λ s less _. less_then (prefix_cmp r.0.prefix s.0.prefix) (nat_cmp r.0.peer s.0.peer) less) rs
+        (each_of_map (λ s. s.0) (λ q. place_cmp r.0 q ≡ Less) rs (sorted_head place_cmp r.0 (keys_of rs) sorted)),
+  )
 
   at : (b : Bool) → (r.0.peer == peer) ≡ b → option_map (λ r. r.0.prefix) (cond b (Some r) (find (λ r. is_from None r.0.prefix && (r.0.peer == peer)) rs)) ≡ Some prefix
       → (held_by rs peer None ≡ Some prefix → Passed peer (Some prefix) rs) → Passed peer (Some prefix) (r ∷ rs)

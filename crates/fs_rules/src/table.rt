@@ -100,8 +100,7 @@ impl<'a> Table<'a> {
         ensures steps { steps.new ≤ steps.old + related_count prefix self.old.flows }
     {
         self.unicast.put(peer, prefix, path)?;
-        self.flows
-            .mend(&prefix, &self.unicast, self.config, steps);
+        self.flows.mend(&prefix, &self.unicast, self.config, steps);
         Ok(())
     }
 
@@ -136,8 +135,7 @@ impl<'a> Table<'a> {
         if !self.unicast.remove(peer, prefix) {
             return false;
         }
-        self.flows
-            .mend(prefix, &self.unicast, self.config, steps);
+        self.flows.mend(prefix, &self.unicast, self.config, steps);
         true
     }
 
