@@ -25,6 +25,7 @@ use Rattle.fs_validate.specs.Locality.{is_related}
 use Rattle.fs_rules.specs.declared.group.Kept.{Kept}
 use Rattle.fs_rules.specs.Kept.{retested, mended, is_related_kept, related_kept}
 use Rattle.fs_rules.specs.Related.{has_related}
+use Rattle.fs_rules.proofs.Placing.{related-append}
 use Rattle.fs_rules.specs.Grouped.{Entry, kept_in, IsTo, ArePlaced, AreInOrder, touched, size, Mends, is_before, IsNextAfter}
 
 abbrev pub Same : (t u : Prefix → Bool) → Entry → Type 0
@@ -183,10 +184,6 @@ module _ (unicast : List Route) (config : Config) where
   related_all p destination false h [] to = refl
   related_all p destination true h (k ∷ ks) to = ap₂ (λ m n. m + n) (ap (λ b. cond b 1 0) (ap (has_related p) to.0 ∙ h)) (related_all p destination true h ks to.1) ∙ omega arith
   related_all p destination false h (k ∷ ks) to = ap₂ (λ m n. m + n) (ap (λ b. cond b 1 0) (ap (has_related p) to.0 ∙ h)) (related_all p destination false h ks to.1) ∙ omega arith
-
-  pub related-append : (p : Prefix) (xs ys : List Kept) → related_kept p (xs ++ ys) ≡ related_kept p xs + related_kept p ys
-  related-append p [] ys = omega arith
-  related-append p (x ∷ xs) ys = let e : related_kept p (xs ++ ys) ≡ related_kept p xs + related_kept p ys = related-append p xs ys in omega arith
 
   pub size_related : (p : Prefix) (es : List Entry) (rest : List Kept) → ArePlaced es → size (is_related p) es ≤ related_kept p (kept_in es rest)
   size_related p [] rest placed = omega arith

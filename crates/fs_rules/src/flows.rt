@@ -64,6 +64,7 @@ impl Flows {
 
     /// Takes the route of the key away, and tells whether there was one.
     pub(crate) fn take(&mut self, rule: &Rule, peer: u16) -> bool
+        requires { AreSorted (routes_of self.old) }
         ensures taken { self.new ≡ filter (λ k. not (is_key rule.now peer k.route)) self.old }
         ensures held { result ≡ list_any (λ k. is_key rule.now peer k.route) self.old }
     {

@@ -68,20 +68,18 @@ fn put(kept: &mut Vec<Kept>, k: Kept) -> Result<(), Memory>
     Ok(())
 }
 
-fn has_key(rule: &Rule, peer: u16, route: &FlowRoute) -> bool
-    ensures { result ≡ is_key rule.now peer route.now }
-{
-    compare_key(rule, peer, route).is_eq()
-}
-
 /// Takes the route of the key away, and tells whether there was one.
 fn take(kept: &mut Vec<Kept>, rule: &Rule, peer: u16) -> bool
+    requires { AreSorted (routes_of kept.old.items) }
     ensures taken { kept.new.items ≡ filter (λ k. not (is_key rule.now peer k.route)) kept.old.items }
     ensures held { result ≡ list_any (λ k. is_key rule.now peer k.route) kept.old.items }
 {
-    let held = kept.iter().any(|k| has_key(rule, peer, &k.route));
-    kept.retain(|k| !has_key(rule, peer, &k.route));
-    held
+    let place = place_of(kept, rule, peer);
+    if !is_at(kept, place, rule, peer) {
+        return false;
+    }
+    kept.remove(place);
+    true
 }
 
 /// Takes away what the peer gave.
@@ -226,6 +224,7 @@ impl Group {
 
     /// Takes the route of the key away, and tells whether there was one.
     pub(crate) fn take(&mut self, rule: &Rule, peer: u16) -> bool
+        requires { AreSorted (routes_of self.old) }
         ensures taken { self.new ≡ filter (λ k. not (is_key rule.now peer k.route)) self.old }
         ensures held { result ≡ list_any (λ k. is_key rule.now peer k.route) self.old }
     {

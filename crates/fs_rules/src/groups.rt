@@ -87,7 +87,8 @@ impl Groups {
 
     /// Takes the route of the key away, and tells whether there was one.
     pub(crate) fn take(&mut self, rule: &Rule, peer: u16) -> bool
-        requires { AllByRecursion (λ k. IsRule k.route.rule) self.old }
+        requires sorted { AreSorted (routes_of self.old) }
+        requires rules { AllByRecursion (λ k. IsRule k.route.rule) self.old }
         ensures taken { self.new ≡ filter (λ k. not (is_key rule.now peer k.route)) self.old }
         ensures held { result ≡ list_any (λ k. is_key rule.now peer k.route) self.old }
     {
@@ -213,6 +214,7 @@ fn take_at(
     rule: &Rule,
     peer: u16,
 ) -> bool
+    requires { HasSortedGroups groups.old.entries }
     ensures taken { groups.new.entries ≡ keep_at destination.now (λ k. not (is_key rule.now peer k.route)) groups.old.entries }
     ensures held { MatchOption (lookup (is_at (prefix_cmp destination.now)) groups.old.entries) (result ≡ false) (λ group. result ≡ list_any (λ k. is_key rule.now peer k.route) group) }
 {
