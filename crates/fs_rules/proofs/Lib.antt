@@ -6,3 +6,11 @@ pub mod Orders
 pub mod Stepping
 pub mod Complete
 pub mod Runs
+pub mod Apart
+pub mod Puts
+pub mod Takes
+pub mod Mending
+pub mod Searching
+pub mod InParts
+pub mod Grouping
+pub mod BothFamilies

@@ -1,14 +1,18 @@
 -- A peer's unicast routes are taken away one after the other.
-use Rattle.std.proofs.Common.{ℕ, suc, ◌≡◌, ◌+◌, ◌<◌, ◌≤◌, refl, sym, ap, ap₂, subst, ◌∙◌, Bool, true, false, true≢false, not, ◌&&◌, ◌||◌, ◌==◌, cond, List, [], ◌∷◌, length, filter, find, Option, Some, None, option_map, Ordering, Less, Equal, Greater, is_eq, nat_cmp, arith}
+use Rattle.std.proofs.Common.{ℕ, suc, ◌≡◌, ◌+◌, ◌<◌, ◌≤◌, refl, sym, ap, ap₂, subst, ◌∙◌, Bool, true, false, true≢false, not, ◌&&◌, ◌||◌, ◌==◌, cond, List, [], ◌∷◌, length, filter, find, Option, Some, None, option_map, Ordering, Less, Equal, Greater, is_eq, is_le, nat_cmp, arith}
 use Rattle.std.specs.List.{AllByRecursion}
 use Rattle.std.specs.Ordering.{ordering_then}
 use Rattle.std.proofs.lemmas.Bool.Decides.{nat_tests}
 use Rattle.std.specs.BTreeMap.{is_at}
-use Rattle.std.specs.Map.{remove_entry}
+use Rattle.std.specs.Map.{keys_of, remove_entry}
+use Rattle.std.specs.List.Sorted.{IsStrictlySortedBy}
+use Rattle.std.specs.Cmp.{tied_itself}
+use Rattle.std.proofs.lemmas.Map.Keys.{sorted_head, sorted_tail}
+use Rattle.fs_base.specs.PrefixOrder.{prefix_total}
 use Rattle.fs_base.specs.declared.prefix.Prefix.{Prefix}
 use Rattle.fs_base.specs.Prefix.{covers, prefix_cmp}
 use Rattle.fs_base.proofs.Same.{same_from_cmp}
-use Rattle.fs_base.proofs.Listing.{filter-remove_other, filter_all}
+use Rattle.fs_base.proofs.Listing.{filter-remove_other, filter_all, each, each_weaker, each_of_map, each_remove, find_on}
 use Rattle.fs_unicast.specs.Places.{Route, place_cmp}
 use Rattle.fs_unicast.specs.declared.unicast.Place.{Place}
 use Rattle.fs_unicast.specs.Best.{held_by, is_from}
@@ -104,6 +108,50 @@ none_left peer (r ∷ rs) h = at (r.0.peer == peer) refl h (none_left peer rs) w
       → (held_by rs peer None ≡ None → without_peer_unicast peer rs ≡ rs) → cond (not b) (r ∷ without_peer_unicast peer rs) (without_peer_unicast peer rs) ≡ r ∷ rs
   at true e k ih = cc
   at false e k ih = ap (λ xs. r ∷ xs) (ih k)
+
+-- The search goes on from the prefix that was found last: no route of the peer stands before it.
+abbrev pub Passed : ℕ → Option Prefix → List Route → Type 0
+Passed peer from unicast = AllByRecursion (λ r. (r.0.peer == peer) ≡ true → is_from from r.0.prefix ≡ true) unicast
+
+pub passed_starts : (peer : ℕ) (unicast : List Route) → Passed peer None unicast
+passed_starts peer unicast = each (λ r. (r.0.peer == peer) ≡ true → is_from None r.0.prefix ≡ true) (λ r h. refl) unicast
+
+both_tests : (a b : Bool) → (b ≡ true → a ≡ true) → (a && b) ≡ (true && b)
+both_tests true b h = refl
+both_tests false true h = h refl
+both_tests false false h = refl
+
+pub from_start : (peer : ℕ) (from : Option Prefix) (unicast : List Route) → Passed peer from unicast → held_by unicast peer from ≡ held_by unicast peer None
+from_start peer from unicast h = ap (option_map (λ r. r.0.prefix)) (find_on (λ r. is_from from r.0.prefix && (r.0.peer == peer)) (λ r. is_from None r.0.prefix && (r.0.peer == peer)) unicast
+    (each_weaker (λ r. (r.0.peer == peer) ≡ true → is_from from r.0.prefix ≡ true) (λ r. (is_from from r.0.prefix && (r.0.peer == peer)) ≡ (is_from None r.0.prefix && (r.0.peer == peer))) (λ r k. both_tests (is_from from r.0.prefix) (r.0.peer == peer) k) unicast h))
+
+less_then : (o p : Ordering) → ordering_then o p ≡ Less → is_le o ≡ true
+less_then Less p h = refl
+less_then Equal p h = refl
+less_then Greater p h = cc
+
+-- the first that is found stands before the others of the peer
+first_is_least : (peer : ℕ) (unicast : List Route) (prefix : Prefix) → IsStrictlySortedBy place_cmp (keys_of unicast) → held_by unicast peer None ≡ Some prefix → Passed peer (Some prefix) unicast
+first_is_least peer [] prefix sorted h = tt
+first_is_least peer (r ∷ rs) prefix sorted h = at (r.0.peer == peer) refl h (first_is_least peer rs prefix (sorted_tail place_cmp r.0 (keys_of rs) sorted)) where
+  here : r.0.prefix ≡ prefix → Passed peer (Some prefix) (r ∷ rs)
+  here e = subst (λ p. Passed peer (Some p) (r ∷ rs)) e (
+    (λ _. ap is_le (tied_itself prefix_total r.0.prefix)),
+    each_weaker (λ s. place_cmp r.0 s.0 ≡ Less) (λ s. (s.0.peer == peer) ≡ true → is_from (Some r.0.prefix) s.0.prefix ≡ true) (λ s less _. less_then (prefix_cmp r.0.prefix s.0.prefix) (nat_cmp r.0.peer s.0.peer) less) rs
+        (each_of_map (λ s. s.0) (λ q. place_cmp r.0 q ≡ Less) rs (sorted_head place_cmp r.0 (keys_of rs) sorted)),
+  )
+
+  at : (b : Bool) → (r.0.peer == peer) ≡ b → option_map (λ r. r.0.prefix) (cond b (Some r) (find (λ r. is_from None r.0.prefix && (r.0.peer == peer)) rs)) ≡ Some prefix
+      → (held_by rs peer None ≡ Some prefix → Passed peer (Some prefix) rs) → Passed peer (Some prefix) (r ∷ rs)
+  at true e k ih = here (same k) where
+    same : Some r.0.prefix ≡ Some prefix → r.0.prefix ≡ prefix
+    same m = cc
+  at false e k ih = ((λ f. absurd (true≢false (sym f ∙ e))), ih k)
+
+pub passed_more : (peer : ℕ) (now new : Held) (prefix : Prefix) → IsStrictlySortedBy place_cmp (keys_of now.unicast) → held_by now.unicast peer None ≡ Some prefix
+    → new ≡ with_unicast (remove_entry (is_place prefix peer)) now → Passed peer (Some prefix) new.unicast
+passed_more peer now new prefix sorted found e = subst (Passed peer (Some prefix)) (sym (ap (λ held. held.unicast) e))
+    (each_remove (λ r. (r.0.peer == peer) ≡ true → is_from (Some prefix) r.0.prefix ≡ true) (is_place prefix peer) now.unicast (first_is_least peer now.unicast prefix sorted found))
 
 -- from start to now
 pub record IsLosing (peer : ℕ) (start now : Held) (before after : ℕ) : Type 0 where

@@ -43,7 +43,7 @@ routes-put k (x ∷ xs) = at (key_cmp k.route.rule k.route.peer x.route) (routes
   at Equal ih = refl
   at Greater ih = ap (λ rs. x.route ∷ rs) ih
 
-each-put : (P : Kept → Type 0) (k : Kept) → P k → (ks : List Kept) → AllByRecursion P ks → AllByRecursion P (put_kept k ks)
+pub each-put : (P : Kept → Type 0) (k : Kept) → P k → (ks : List Kept) → AllByRecursion P ks → AllByRecursion P (put_kept k ks)
 each-put P k h [] all = (h, tt)
 each-put P k h (x ∷ xs) all = at (key_cmp k.route.rule k.route.peer x.route) (each-put P k h xs all.1) where
   at : (o : Ordering) → AllByRecursion P (put_kept k xs) → AllByRecursion P (match_ordering o (k ∷ x ∷ xs) (k ∷ xs) (x ∷ put_kept k xs))

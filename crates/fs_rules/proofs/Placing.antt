@@ -1,12 +1,18 @@
 -- A route in its place in the order.
-use Rattle.std.proofs.Common.{ℕ, zero, suc, ◌≡◌, ◌+◌, ◌<◌, ◌≤◌, refl, sym, ap, subst, ◌∙◌, Bool, true, false, true≢false, not, cond, List, [], ◌∷◌, ◌++◌, length, insert, set, get_or, slice_get, Option, Some, None, Ordering, Less, Equal, Greater, is_eq, filter, map, arith, take, drop, min, zero-add}
+use Rattle.std.proofs.Common.{ℕ, zero, suc, ◌≡◌, ◌+◌, ◌<◌, ◌≤◌, refl, sym, ap, subst, ◌∙◌, Bool, true, false, true≢false, not, ◌||◌, cond, List, [], ◌∷◌, ◌++◌, length, insert, remove, set, get_or, slice_get, Option, Some, None, Ordering, Less, Equal, Greater, is_eq, nat_cmp, filter, map, arith, zero-add}
 use Rattle.std.specs.Ordering.{match_ordering, ordering_then}
 use Rattle.fs_nlri.specs.Parts.{Ruled}
 use Rattle.fs_rules.specs.declared.group.Kept.{Kept}
 use Rattle.fs_rules.specs.Held.{key_cmp, is_key}
-use Rattle.fs_rules.specs.Kept.{put_kept, place_in, has_key_at, related_kept}
+use Rattle.fs_rules.specs.Kept.{put_kept, place_in, has_key_at, related_kept, AreSorted, routes_of}
 use Rattle.fs_base.specs.declared.prefix.Prefix.{Prefix}
-use Rattle.std.proofs.lemmas.List.{take_more, get_or_default}
+use Rattle.std.proofs.lemmas.List.{get_or_default}
+use Rattle.std.specs.List.{list_any, AllByRecursion}
+use Rattle.std.specs.Cmp.{IsTotalOrder, on_total, then_total, nat_cmp_total}
+use Rattle.fs_base.proofs.Listing.{each_weaker, each_none, none_each, filter_all}
+use Rattle.fs_order.specs.Order.{rule_cmp}
+use Rattle.fs_order.specs.Total.{rule_total}
+use Rattle.fs_validate.specs.declared.route.FlowRoute.{FlowRoute}
 
 -- over the element at the place, where it has the key
 pub put_over : (k : Kept) (xs : List Kept) → has_key_at k.route.rule k.route.peer (slice_get xs (place_in k.route.rule k.route.peer xs)) ≡ true → set xs (place_in k.route.rule k.route.peer xs) k ≡ put_kept k xs
@@ -35,19 +41,66 @@ put_into k (x ∷ xs) h = at (key_cmp k.route.rule k.route.peer x.route) refl (p
     next : 1 + place_in k.route.rule k.route.peer xs ≡ suc (place_in k.route.rule k.route.peer xs)
     next = omega arith
 
--- mending one after the other
-pub front_same : (f : Kept → Kept) (xs : List Kept) (i : ℕ) (d : Kept) → get_or (map f (take i xs) ++ drop i xs) i d ≡ get_or xs i d
-front_same f [] zero d = refl
-front_same f [] (suc i) d = refl
-front_same f (x ∷ xs) zero d = refl
-front_same f (x ∷ xs) (suc i) d = front_same f xs i d
-
+-- how many are related, in parts
 pub related-append : (p : Prefix) (xs ys : List Kept) → related_kept p (xs ++ ys) ≡ related_kept p xs + related_kept p ys
 related-append p [] ys = sym (zero-add (related_kept p ys))
 related-append p (x ∷ xs) ys = let e : related_kept p (xs ++ ys) ≡ related_kept p xs + related_kept p ys = related-append p xs ys in omega arith
 
-pub related_more : (p : Prefix) (xs : List Kept) (i : ℕ) (d : Kept) → i < length xs → related_kept p (take (i + 1) xs) ≡ related_kept p (take i xs) + related_kept p (get_or xs i d ∷ [])
-related_more p xs i d h = ap (related_kept p) (take_more xs i d h) ∙ related-append p (take i xs) (get_or xs i d ∷ [])
-
+-- the element at a place doesn't depend on what stands for a missing one
 pub get_or_again : (xs : List Kept) (i : ℕ) (d : Kept) → i < length xs → get_or xs i d ≡ get_or xs i (get_or xs i d)
 get_or_again xs i d h = get_or_default xs i d (get_or xs i d) h
+
+-- What stands at the place of a key, of routes in order.
+abbrev pair_cmp : Ruled × ℕ → Ruled × ℕ → Ordering
+pair_cmp a b = ordering_then (rule_cmp a.0 b.0) (nat_cmp a.1 b.1)
+
+pair_total : IsTotalOrder pair_cmp
+pair_total = then_total (on_total (λ (a : Ruled × ℕ). a.0) rule_total) (on_total (λ (a : Ruled × ℕ). a.1) nat_cmp_total)
+
+abbrev hits : Ruled → ℕ → Kept → Bool
+hits rule peer k = is_key rule peer k.route
+
+each_less : (x : FlowRoute) (xs : List Kept) → AllByRecursion (λ s. key_cmp x.rule x.peer s ≡ Less) (routes_of xs) → AllByRecursion (λ y. key_cmp x.rule x.peer y.route ≡ Less) xs
+each_less x [] h = tt
+each_less x (y ∷ ys) h = (h.0, each_less x ys h.1)
+
+-- behind a route that isn't before the key none has the key
+none_behind_less : (rule : Ruled) (peer : ℕ) (x : Kept) (xs : List Kept) → key_cmp rule peer x.route ≡ Less → AllByRecursion (λ s. key_cmp x.route.rule x.route.peer s ≡ Less) (routes_of xs) → AllByRecursion (λ k. hits rule peer k ≡ false) xs
+none_behind_less rule peer x xs e h = each_weaker (λ y. key_cmp x.route.rule x.route.peer y.route ≡ Less) (λ y. hits rule peer y ≡ false)
+    (λ y less. ap is_eq (pair_total.trans (rule, peer) (x.route.rule, x.route.peer) (y.route.rule, y.route.peer) e less)) xs (each_less x.route xs h)
+
+none_behind_equal : (rule : Ruled) (peer : ℕ) (x : Kept) (xs : List Kept) → key_cmp rule peer x.route ≡ Equal → AllByRecursion (λ s. key_cmp x.route.rule x.route.peer s ≡ Less) (routes_of xs) → AllByRecursion (λ k. hits rule peer k ≡ false) xs
+none_behind_equal rule peer x xs e h = each_weaker (λ y. key_cmp x.route.rule x.route.peer y.route ≡ Less) (λ y. hits rule peer y ≡ false)
+    (λ y less. ap is_eq (pair_total.congr (rule, peer) (x.route.rule, x.route.peer) (y.route.rule, y.route.peer) e ∙ less)) xs (each_less x.route xs h)
+
+all_stay : (rule : Ruled) (peer : ℕ) (xs : List Kept) → AllByRecursion (λ k. hits rule peer k ≡ false) xs → filter (λ k. not (hits rule peer k)) xs ≡ xs
+all_stay rule peer xs h = filter_all (λ k. not (hits rule peer k)) xs (each_weaker (λ k. hits rule peer k ≡ false) (λ k. not (hits rule peer k) ≡ true) (λ k e. ap not e) xs h)
+
+pub any_here : (rule : Ruled) (peer : ℕ) (xs : List Kept) → AreSorted (routes_of xs) → has_key_at rule peer (slice_get xs (place_in rule peer xs)) ≡ list_any (λ k. is_key rule peer k.route) xs
+any_here rule peer [] sorted = refl
+any_here rule peer (x ∷ xs) sorted = at (key_cmp rule peer x.route) refl (any_here rule peer xs sorted.1) where
+  at : (o : Ordering) → key_cmp rule peer x.route ≡ o → has_key_at rule peer (slice_get xs (place_in rule peer xs)) ≡ list_any (λ k. is_key rule peer k.route) xs
+      → has_key_at rule peer (slice_get (x ∷ xs) (match_ordering o 0 0 (1 + place_in rule peer xs))) ≡ (is_eq o || list_any (λ k. is_key rule peer k.route) xs)
+  at Less e ih = ap is_eq e ∙ sym (each_none (λ k. is_key rule peer k.route) xs (none_behind_less rule peer x xs e sorted.0))
+  at Equal e ih = ap is_eq e
+  at Greater e ih = ap (λ n. has_key_at rule peer (slice_get (x ∷ xs) n)) (let s : 1 + place_in rule peer xs ≡ suc (place_in rule peer xs) = omega arith in s) ∙ ih
+
+pub take_here : (rule : Ruled) (peer : ℕ) (xs : List Kept) → AreSorted (routes_of xs) → has_key_at rule peer (slice_get xs (place_in rule peer xs)) ≡ true → remove xs (place_in rule peer xs) ≡ filter (λ k. not (is_key rule peer k.route)) xs
+take_here rule peer [] sorted h = absurd (true≢false (sym h))
+take_here rule peer (x ∷ xs) sorted h = at (key_cmp rule peer x.route) refl h (take_here rule peer xs sorted.1) where
+  at : (o : Ordering) → key_cmp rule peer x.route ≡ o → has_key_at rule peer (slice_get (x ∷ xs) (match_ordering o 0 0 (1 + place_in rule peer xs))) ≡ true
+      → (has_key_at rule peer (slice_get xs (place_in rule peer xs)) ≡ true → remove xs (place_in rule peer xs) ≡ filter (λ k. not (is_key rule peer k.route)) xs)
+      → remove (x ∷ xs) (match_ordering o 0 0 (1 + place_in rule peer xs)) ≡ cond (not (is_eq o)) (x ∷ filter (λ k. not (is_key rule peer k.route)) xs) (filter (λ k. not (is_key rule peer k.route)) xs)
+  at Less e g ih = absurd (true≢false (sym g ∙ ap is_eq e))
+  at Equal e g ih = sym (all_stay rule peer xs (none_behind_equal rule peer x xs e sorted.0))
+  at Greater e g ih = ap (remove (x ∷ xs)) next ∙ ap (λ ys. x ∷ ys) (ih (sym (ap (λ n. has_key_at rule peer (slice_get (x ∷ xs) n)) next) ∙ g)) where
+    next : 1 + place_in rule peer xs ≡ suc (place_in rule peer xs)
+    next = omega arith
+
+pub none_here : (rule : Ruled) (peer : ℕ) (xs : List Kept) → list_any (λ k. is_key rule peer k.route) xs ≡ false → xs ≡ filter (λ k. not (is_key rule peer k.route)) xs
+none_here rule peer xs h = sym (all_stay rule peer xs (none_each (λ k. is_key rule peer k.route) xs h))
+
+pub inside_from_key : (rule : Ruled) (peer : ℕ) (xs : List Kept) (n : ℕ) → has_key_at rule peer (slice_get xs n) ≡ true → n < length xs
+inside_from_key rule peer [] n h = absurd (true≢false (sym h))
+inside_from_key rule peer (x ∷ xs) zero h = omega arith
+inside_from_key rule peer (x ∷ xs) (suc n) h = let e : n < length xs = inside_from_key rule peer xs n h in omega arith

@@ -33,3 +33,16 @@ module _ (p : Kept → Bool) (view : Viewed) (n : ℕ) where
 
   pub next_then : (number : ℕ) (k : Kept) (rest all : List Kept) (whole : Option ℕ) → all ≡ k ∷ rest → p k ≡ true → (is_match k.route.rule view && nat_le n number) ≡ false → next_of number all ≡ whole → next_of (number + 1) rest ≡ whole
   next_then number k rest all whole e h f found = sym (taken number k rest (p k) h f) ∙ sym (ap (next_of number) e) ∙ found
+
+-- one less is left to be counted
+pub fewer : (p : Kept → Bool) (k : Kept) (rest all : List Kept) → all ≡ k ∷ rest → p k ≡ true → length (filter p all) ≡ 1 + length (filter p rest)
+fewer p k rest all e h = ap (λ ks. length (filter p ks)) e ∙ at (p k) h where
+  at : (b : Bool) → b ≡ true → length (cond b (k ∷ filter p rest) (filter p rest)) ≡ 1 + length (filter p rest)
+  at true h = omega arith
+  at false h = absurd (true≢false (sym h))
+
+pub as_many : (p : Kept → Bool) (k : Kept) (rest all : List Kept) → all ≡ k ∷ rest → p k ≡ false → length (filter p all) ≡ length (filter p rest)
+as_many p k rest all e h = ap (λ ks. length (filter p ks)) e ∙ at (p k) h where
+  at : (b : Bool) → b ≡ false → length (cond b (k ∷ filter p rest) (filter p rest)) ≡ length (filter p rest)
+  at true h = absurd (true≢false h)
+  at false h = refl

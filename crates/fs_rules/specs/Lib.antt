@@ -5,3 +5,5 @@ pub mod Walk
 pub mod Lent
 pub mod Kept
 pub mod Marked
+pub mod Grouped
+pub mod Families

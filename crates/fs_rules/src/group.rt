@@ -6,16 +6,15 @@ ghost use Rattle.std.specs.Option.{option_copied};
 ghost use Rattle.fs_rules.specs.Held.{is_key, key_cmp};
 ghost use Rattle.fs_unicast.specs.Shown.{shown};
 ghost use Rattle.std.specs.Prelude.{◌∷◌, ◌&&◌};
-ghost use Rattle.fs_rules.specs.Related.{has_related};
 ghost use Rattle.fs_rules.specs.Admitted.{is_of_family, is_valid, same_rule};
 ghost use Rattle.fs_unicast.specs.Preference.{preferred};
-ghost use Rattle.fs_rules.specs.Kept.{put_kept, place_in, mended, related_kept, is_related_kept, is_beaten, is_chosen, has_key_at, AreSorted, routes_of};
+ghost use Rattle.fs_rules.specs.Kept.{put_kept, place_in, retested, is_beaten, is_chosen, has_key_at, AreSorted, routes_of};
 
-use fs_base::{Config, Family, Memory, Prefix, Steps};
+use fs_base::{Config, Family, Memory, Steps};
 use fs_nlri::Rule;
 use fs_order::compare;
 use fs_unicast::{Held, Unicast};
-use fs_validate::{FlowRoute, Validity, destination, valid};
+use fs_validate::{FlowRoute, Validity, valid};
 use std::alloc::Global;
 use std::cmp::Ordering;
 use std::marker::Model;
@@ -55,7 +54,7 @@ fn is_at(kept: &[Kept], place: usize, rule: &Rule, peer: u16) -> bool
 }
 
 /// Keeps the route in its place, instead of one of its key. Where memory is refused nothing changes.
-pub(crate) fn put(kept: &mut Vec<Kept>, k: Kept) -> Result<(), Memory>
+fn put(kept: &mut Vec<Kept>, k: Kept) -> Result<(), Memory>
     requires { AreSorted (routes_of kept.old.items) }
     ensures ok { OnOk result (kept.new.items ≡ put_kept k kept.old.items) }
     ensures err { OnErr result (kept.new.items ≡ kept.old.items) }
@@ -69,84 +68,49 @@ pub(crate) fn put(kept: &mut Vec<Kept>, k: Kept) -> Result<(), Memory>
     Ok(())
 }
 
-fn has_key(rule: &Rule, peer: u16, route: &FlowRoute) -> bool
-    ensures { result ≡ is_key rule.now peer route.now }
-{
-    compare_key(rule, peer, route).is_eq()
-}
-
 /// Takes the route of the key away, and tells whether there was one.
-pub(crate) fn take(kept: &mut Vec<Kept>, rule: &Rule, peer: u16) -> bool
+fn take(kept: &mut Vec<Kept>, rule: &Rule, peer: u16) -> bool
+    requires { AreSorted (routes_of kept.old.items) }
     ensures taken { kept.new.items ≡ filter (λ k. not (is_key rule.now peer k.route)) kept.old.items }
     ensures held { result ≡ list_any (λ k. is_key rule.now peer k.route) kept.old.items }
 {
-    let held = kept.iter().any(|k| has_key(rule, peer, &k.route));
-    kept.retain(|k| !has_key(rule, peer, &k.route));
-    held
+    let place = place_of(kept, rule, peer);
+    if !is_at(kept, place, rule, peer) {
+        return false;
+    }
+    kept.remove(place);
+    true
 }
 
 /// Takes away what the peer gave.
-pub(crate) fn forget(kept: &mut Vec<Kept>, peer: u16)
+fn forget(kept: &mut Vec<Kept>, peer: u16)
     ensures { kept.new.items ≡ filter (λ k. not (k.route.peer == peer)) kept.old.items }
 {
     kept.retain(|k| k.route.peer != peer);
 }
 
-/// Whether the destination covers the prefix or is covered by it.
-fn is_related(prefix: &Prefix, destination: Option<Prefix>) -> bool
-    ensures { result ≡ has_related prefix.now destination }
-{
-    match destination {
-        Some(destination) => prefix.covers(&destination) || destination.covers(prefix),
-        None => false,
-    }
-}
-
-/// Validates the route anew where it is related to the prefix. At most one step, and none where it isn't.
-fn mend_one<L: Ledger>(
-    k: &mut Kept,
-    prefix: &Prefix,
-    unicast: &Unicast,
-    config: &Config,
-    steps: &mut Steps<L>,
-)
-    ensures mended { k.new ≡ mended prefix.now unicast.now config.now k.old }
+/// Validates a route anew. At most one step.
+fn retest<L: Ledger>(k: &mut Kept, unicast: &Unicast, config: &Config, steps: &mut Steps<L>)
+    ensures retested { k.new ≡ retested unicast.now config.now k.old }
     ensures later { steps.old ≤ steps.new }
-    ensures steps { steps.new ≤ steps.old + related_kept prefix.now (k.old ∷ []) }
+    ensures steps { steps.new ≤ steps.old + 1 }
 {
-    if is_related(prefix, destination(&k.route.rule)) {
-        k.mark = valid(unicast, config, &k.route, steps);
-    }
+    k.mark = valid(unicast, config, &k.route, steps);
 }
 
-/// Validates the routes anew that are related to the prefix.
-pub(crate) fn mend<L: Ledger>(
-    kept: &mut Vec<Kept>,
-    prefix: &Prefix,
-    unicast: &Unicast,
-    config: &Config,
-    steps: &mut Steps<L>,
-)
-    ensures mended { kept.new.items ≡ map (mended prefix.now unicast.now config.now) kept.old.items }
-    ensures later { steps.old ≤ steps.new }
-    ensures steps { steps.new ≤ steps.old + related_kept prefix.now kept.old.items }
-{
-    mend_each(kept, prefix, unicast, config, steps);
-}
-
-fn mend_each<L: Ledger>(
+/// Validates each route anew.
+fn retest_each<L: Ledger>(
     kept: &mut [Kept],
-    prefix: &Prefix,
     unicast: &Unicast,
     config: &Config,
     steps: &mut Steps<L>,
 )
-    ensures mended { kept.new ≡ map (mended prefix.now unicast.now config.now) kept.old }
+    ensures retested { kept.new ≡ map (retested unicast.now config.now) kept.old }
     ensures later { steps.old ≤ steps.new }
-    ensures steps { steps.new ≤ steps.old + related_kept prefix.now kept.old }
+    ensures steps { steps.new ≤ steps.old + length kept.old }
 {
     for k in kept.iter_mut() {
-        mend_one(k, prefix, unicast, config, steps);
+        retest(k, unicast, config, steps);
     }
 }
 
@@ -207,4 +171,84 @@ pub(crate) fn is_of_family(family: Family, route: &FlowRoute) -> bool
     ensures { result ≡ is_of_family family route.now }
 {
     route.rule.family() == family
+}
+
+/// The flow routes of one destination, or those without one, in the order of rules and then by peer.
+#[derive(Drop)]
+pub(crate) struct Group {
+    items: Vec<Kept>,
+}
+
+impl Model for Group {
+    ghost use Rattle.std.specs.Prelude.{List};
+    ghost use Rattle.fs_rules.specs.declared.group.Kept.{Kept};
+
+    ghost Value = { List Kept };
+
+    ghost view = { λ a. a.items.items };
+}
+
+impl Group {
+    pub(crate) fn new(alloc: Global) -> Group
+        ensures { result ≡ [] }
+    {
+        Group {
+            items: Vec::new(alloc),
+        }
+    }
+
+    pub(crate) fn allocator(&self) -> Global {
+        *self.items.allocator()
+    }
+
+    pub(crate) fn as_slice(&self) -> &[Kept]
+        ensures { result.now ≡ self.now }
+    {
+        self.items.as_slice()
+    }
+
+    pub(crate) fn is_empty(&self) -> bool
+        ensures { result ≡ (length self.now == 0) }
+    {
+        self.items.is_empty()
+    }
+
+    /// Keeps the route in its place, instead of one of its key. Where memory is refused nothing changes.
+    pub(crate) fn put(&mut self, k: Kept) -> Result<(), Memory>
+        requires { AreSorted (routes_of self.old) }
+        ensures ok { OnOk result (self.new ≡ put_kept k self.old) }
+        ensures err { OnErr result (self.new ≡ self.old) }
+    {
+        put(&mut self.items, k)
+    }
+
+    /// Takes the route of the key away, and tells whether there was one.
+    pub(crate) fn take(&mut self, rule: &Rule, peer: u16) -> bool
+        requires { AreSorted (routes_of self.old) }
+        ensures taken { self.new ≡ filter (λ k. not (is_key rule.now peer k.route)) self.old }
+        ensures held { result ≡ list_any (λ k. is_key rule.now peer k.route) self.old }
+    {
+        take(&mut self.items, rule, peer)
+    }
+
+    /// Takes away what the peer gave.
+    pub(crate) fn forget(&mut self, peer: u16)
+        ensures { self.new ≡ filter (λ k. not (k.route.peer == peer)) self.old }
+    {
+        forget(&mut self.items, peer);
+    }
+
+    /// Validates each route anew. At most one step for each.
+    pub(crate) fn retest<L: Ledger>(
+        &mut self,
+        unicast: &Unicast,
+        config: &Config,
+        steps: &mut Steps<L>,
+    )
+        ensures retested { self.new ≡ map (retested unicast.now config.now) self.old }
+        ensures later { steps.old ≤ steps.new }
+        ensures steps { steps.new ≤ steps.old + length self.old }
+    {
+        retest_each(&mut self.items, unicast, config, steps);
+    }
 }

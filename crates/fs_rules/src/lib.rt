@@ -1,9 +1,13 @@
 //! The table of all held routes: flow routes with their validity kept up to date, and the admitted rules in order.
 #![tactic(auto)]
 
+mod flows;
 mod group;
+mod groups;
 mod lent;
 mod lists;
+mod reading;
+mod search;
 mod table;
 #[cfg(test)]
 mod tests;

@@ -1,18 +1,16 @@
 //! The lists that the marks of kept routes tell.
 
-ghost use Rattle.std.specs.Prelude.{◌≡◌, ◌+◌, IfOk, map, filter, length, option_map, slice_get, ◌&&◌, nat_le};
+ghost use Rattle.std.specs.Prelude.{◌≡◌, ◌≤◌, ◌<◌, ◌+◌, ◌^◌, ◌++◌, OnOk, map, filter, length, option_map, slice_get, ◌&&◌, nat_le, find};
 ghost use Rattle.fs_packet.specs.Matches.{is_match};
-ghost use Rattle.fs_rules.specs.Admitted.{is_of_family};
 ghost use Rattle.fs_rules.specs.Kept.{chosen, AreSorted, routes_of};
 ghost use Rattle.fs_rules.specs.Lent.{listed, shown_admitted, shown_held};
 ghost use Rattle.fs_rules.specs.Marked.{marked, routes_chosen};
-ghost use Rattle.fs_rules.specs.Walk.{next_match};
+ghost use Rattle.fs_rules.specs.Walk.{matching_from};
 
-use crate::group::{Kept, is_chosen, is_of_family};
+use crate::group::{Kept, is_chosen};
 use crate::lent::{Admitted, HeldFlow};
 use fs_base::{Family, Memory};
 use fs_packet::{View, matches};
-use std::alloc::Global;
 
 fn lend(k: &Kept) -> Admitted<'_>
     ensures { shown_admitted result ≡ listed k.now.route }
@@ -34,39 +32,31 @@ fn lend_held(k: &Kept) -> HeldFlow<'_>
     }
 }
 
-/// The admitted rules of the family, in order.
-pub(crate) fn list_admitted(
-    alloc: Global,
+/// Adds the admitted rules of the family to the list, in order.
+pub(crate) fn push_admitted<'a>(
     family: Family,
-    kept: &[Kept],
-) -> Result<Vec<Admitted<'_>>, Memory>
+    kept: &'a [Kept],
+    list: &mut Vec<Admitted<'a>>,
+) -> Result<(), Memory>
     requires { AreSorted (routes_of kept.now) }
-    ensures { IfOk result (λ list. map shown_admitted list.items ≡ map (λ k. listed k.route) (chosen family kept.now)) }
+    ensures { OnOk result (map shown_admitted list.new.items ≡ map shown_admitted list.old.items ++ map (λ k. listed k.route) (chosen family kept.now)) }
 {
-    let mut list = Vec::new(alloc);
     for k in kept {
         if is_chosen(family, kept, k) {
             list.push(lend(k))?;
         }
     }
-    Ok(list)
+    Ok(())
 }
 
-/// The held flow routes of the family, in order.
-pub(crate) fn list_held(
-    alloc: Global,
-    family: Family,
-    kept: &[Kept],
-) -> Result<Vec<HeldFlow<'_>>, Memory>
-    ensures { IfOk result (λ list. map shown_held list.items ≡ map marked (filter (λ k. is_of_family family k.route) kept.now)) }
+/// Adds the routes to the list, in order.
+pub(crate) fn push_held<'a>(kept: &'a [Kept], list: &mut Vec<HeldFlow<'a>>) -> Result<(), Memory>
+    ensures { OnOk result (map shown_held list.new.items ≡ map shown_held list.old.items ++ map marked kept.now) }
 {
-    let mut list = Vec::new(alloc);
     for k in kept {
-        if is_of_family(family, &k.route) {
-            list.push(lend_held(k))?;
-        }
+        list.push(lend_held(k))?;
     }
-    Ok(list)
+    Ok(())
 }
 
 /// How many rules of the family are admitted.
@@ -94,20 +84,14 @@ pub(crate) fn admitted_at(family: Family, kept: &[Kept], n: usize) -> Option<Adm
     None
 }
 
-/// The held flow route of that number.
-pub(crate) fn held_at(family: Family, kept: &[Kept], n: usize) -> Option<HeldFlow<'_>>
-    ensures { option_map shown_held result ≡ option_map marked (slice_get (filter (λ k. is_of_family family k.route) kept.now) n) }
+/// The route of that number.
+pub(crate) fn held_at(kept: &[Kept], n: usize) -> Option<HeldFlow<'_>>
+    ensures { option_map shown_held result ≡ option_map marked (slice_get kept.now n) }
 {
-    let mut left = n;
-    for k in kept {
-        if is_of_family(family, &k.route) {
-            if left == 0 {
-                return Some(lend_held(k));
-            }
-            left -= 1;
-        }
+    match kept.get(n) {
+        Some(k) => Some(lend_held(k)),
+        None => None,
     }
-    None
 }
 
 /// Whether the number is not below `n` and the rule matches the packet.
@@ -117,12 +101,19 @@ fn is_next(k: &Kept, view: &View<'_>, n: usize, number: usize) -> bool
     n <= number && matches(&k.route.rule, view)
 }
 
-/// The least number from `n` on of an admitted rule that matches the packet.
-pub(crate) fn next_match(family: Family, kept: &[Kept], view: &View<'_>, n: usize) -> Option<usize>
-    requires { AreSorted (routes_of kept.now) }
-    ensures { result ≡ next_match view.now n (routes_chosen family kept.now) }
+/// The least number from `n` on of an admitted rule that matches the packet, where the first has the number `first`.
+pub(crate) fn next_match(
+    family: Family,
+    kept: &[Kept],
+    view: &View<'_>,
+    n: usize,
+    first: usize,
+) -> Option<usize>
+    requires sorted { AreSorted (routes_of kept.now) }
+    requires most { first + length (chosen family kept.now) < 2 ^ 64 }
+    ensures { result ≡ find (λ k. nat_le n k) (matching_from view.now first (routes_chosen family kept.now)) }
 {
-    let mut number = 0;
+    let mut number = first;
     for k in kept {
         if is_chosen(family, kept, k) {
             if is_next(k, view, n, number) {

@@ -2,7 +2,8 @@
 
 ghost use Rattle.std.specs.Prelude.{◌≡◌, ◌≤◌, ◌+◌, [], IfOk, OnOk, OnErr, is_some, option_map, length, map, slice_get};
 ghost use Rattle.std.specs.BTreeMap.{insert_entry, is_at};
-ghost use Rattle.std.specs.Map.{remove_entry, lookup};
+ghost use Rattle.std.specs.List.Sorted.{IsStrictlySortedBy};
+ghost use Rattle.std.specs.Map.{keys_of, remove_entry, lookup};
 ghost use Rattle.fs_unicast.specs.Places.{place_cmp};
 ghost use Rattle.fs_rules.specs.Held.{put_route, without_route, has_route, without_peer_unicast, without_peer_flows};
 ghost use Rattle.fs_rules.specs.Related.{related_count, related_sum};
@@ -11,9 +12,9 @@ ghost use Rattle.fs_rules.specs.Lent.{listed, shown_admitted, shown_held, held_f
 ghost use Rattle.fs_rules.specs.Walk.{next_match};
 ghost use Rattle.fs_unicast.specs.Best.{held_by};
 
-use crate::group::{Kept, forget, mend, put, take};
+use crate::flows::Flows;
+use crate::group::Kept;
 use crate::lent::{Admitted, HeldFlow};
-use crate::lists::{admitted_at, count_admitted, held_at, list_admitted, list_held, next_match};
 use fs_actions::Actions;
 use fs_base::{Config, Family, Memory, Path, Prefix, Steps};
 use fs_nlri::Rule;
@@ -31,7 +32,7 @@ use std::sync::ledger::Ledger;
 pub struct Table<'a> {
     config: &'a Config,
     unicast: Unicast,
-    flows: Vec<Kept>,
+    flows: Flows,
 }
 
 impl<'a> Model for Table<'a> {
@@ -40,9 +41,9 @@ impl<'a> Model for Table<'a> {
 
     ghost Value = { Held };
 
-    ghost view = { λ a. record { config = a.config.now; unicast = a.unicast; flows = routes_of a.flows.items } };
+    ghost view = { λ a. record { config = a.config.now; unicast = a.unicast; flows = routes_of a.flows } };
 
-    ghost invariant = { λ a. Keeps a.config.now a.unicast a.flows.items };
+    ghost invariant = { λ a. Keeps a.config.now a.unicast a.flows };
 }
 
 impl<'a> Table<'a> {
@@ -53,7 +54,7 @@ impl<'a> Table<'a> {
         Table {
             config,
             unicast: Unicast::new(alloc),
-            flows: Vec::new(alloc),
+            flows: Flows::new(alloc),
         }
     }
 
@@ -79,7 +80,7 @@ impl<'a> Table<'a> {
             actions,
         };
         let mark = valid(&self.unicast, self.config, &route, steps);
-        put(&mut self.flows, Kept { route, mark })?;
+        self.flows.put(Kept { route, mark })?;
         Ok(())
     }
 
@@ -99,7 +100,7 @@ impl<'a> Table<'a> {
         ensures steps { steps.new ≤ steps.old + related_count prefix self.old.flows }
     {
         self.unicast.put(peer, prefix, path)?;
-        mend(&mut self.flows, &prefix, &self.unicast, self.config, steps);
+        self.flows.mend(&prefix, &self.unicast, self.config, steps);
         Ok(())
     }
 
@@ -114,7 +115,7 @@ impl<'a> Table<'a> {
         ensures held { result ≡ has_route rule.now.rule peer self.old.flows }
         ensures steps { steps.new ≡ steps.old }
     {
-        take(&mut self.flows, &rule.rule, peer)
+        self.flows.take(&rule.rule, peer)
     }
 
     /// Takes the peer's unicast route at the prefix away, validates the related flow routes anew, and tells whether
@@ -134,7 +135,7 @@ impl<'a> Table<'a> {
         if !self.unicast.remove(peer, prefix) {
             return false;
         }
-        mend(&mut self.flows, prefix, &self.unicast, self.config, steps);
+        self.flows.mend(prefix, &self.unicast, self.config, steps);
         true
     }
 
@@ -145,25 +146,28 @@ impl<'a> Table<'a> {
         ensures steps { steps.new ≤ steps.old + related_sum peer self.old.unicast self.old.flows }
     {
         self.lose_unicast(peer, steps);
-        forget(&mut self.flows, peer);
+        self.flows.forget(peer);
     }
 
-    /// Takes the peer's unicast routes away, one after the other.
+    /// Takes the peer's unicast routes away, one after the other, in their order.
     fn lose_unicast<L: Ledger>(&mut self, peer: u16, steps: &mut Steps<L>)
         ensures removed { self.new ≡ record self.old { unicast = without_peer_unicast peer self.old.unicast } }
         ensures later { steps.old ≤ steps.new }
         ensures steps { steps.new ≤ steps.old + related_sum peer self.old.unicast self.old.flows }
     {
-        while let Some(prefix) = self.held_by(peer) {
+        let mut from = None;
+        while let Some(prefix) = self.held_by(peer, from) {
             self.withdraw_unicast(peer, &prefix, steps);
+            from = Some(prefix);
         }
     }
 
-    /// A prefix at which the peer holds a unicast route.
-    fn held_by(&self, peer: u16) -> Option<Prefix>
-        ensures { result ≡ held_by self.now.unicast peer None }
+    /// The first prefix from there on, or from the start, at which the peer holds a unicast route.
+    fn held_by(&self, peer: u16, from: Option<Prefix>) -> Option<Prefix>
+        ensures first { result ≡ held_by self.now.unicast peer from }
+        ensures ordered { IsStrictlySortedBy place_cmp (keys_of self.now.unicast) }
     {
-        self.unicast.held_by(peer, None)
+        self.unicast.held_by(peer, from.as_ref())
     }
 
     /// The admitted rules of the family in order: each rule that has a valid route, with the most preferred one.
@@ -171,41 +175,41 @@ impl<'a> Table<'a> {
         ensures list { IfOk result (λ list. map shown_admitted list.items ≡ map listed (admitted family self.now)) }
         ensures admitted { IsAdmitted family self.now (admitted family self.now) }
     {
-        list_admitted(*self.flows.allocator(), family, self.flows.as_slice())
+        self.flows.admitted(family)
     }
 
     /// All held flow routes of the family with their validity, in the order of rules, then by peer.
     pub fn held(&self, family: Family) -> Result<Vec<HeldFlow<'_>>, Memory>
         ensures { IfOk result (λ list. map shown_held list.items ≡ held_flows family self.now) }
     {
-        list_held(*self.flows.allocator(), family, self.flows.as_slice())
+        self.flows.held(family)
     }
 
     /// How many rules of the family are admitted.
     pub fn count(&self, family: Family) -> usize
         ensures { result ≡ length (admitted family self.now) }
     {
-        count_admitted(family, self.flows.as_slice())
+        self.flows.count(family)
     }
 
     /// The admitted rule of that number, from 0, in the family's order. None exactly from `count` on.
     pub fn rule(&self, family: Family, n: usize) -> Option<Admitted<'_>>
         ensures { option_map shown_admitted result ≡ option_map listed (slice_get (admitted family self.now) n) }
     {
-        admitted_at(family, self.flows.as_slice(), n)
+        self.flows.admitted_at(family, n)
     }
 
     /// The held flow route of that number, from 0, in the order of rules, then by peer.
     pub fn held_flow(&self, family: Family, n: usize) -> Option<HeldFlow<'_>>
         ensures { option_map shown_held result ≡ slice_get (held_flows family self.now) n }
     {
-        held_at(family, self.flows.as_slice(), n)
+        self.flows.held_at(family, n)
     }
 
     /// The least number from `n` on of an admitted rule of the packet's family that matches it.
     pub fn walk(&self, view: &View<'_>, n: usize) -> Option<usize>
         ensures { result ≡ next_match view.now n (admitted view.now.family self.now) }
     {
-        next_match(view.family(), self.flows.as_slice(), view, n)
+        self.flows.next_match(view.family(), view, n)
     }
 }

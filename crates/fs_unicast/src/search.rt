@@ -8,6 +8,9 @@ ghost use Rattle.fs_unicast.specs.Small.{HasSmallPeers};
 ghost use Rattle.fs_unicast.specs.Start.{start_of};
 ghost use Rattle.std.specs.Option.{option_copied};
 ghost use Rattle.fs_base.specs.Seek.{IsFirstFrom, IsLongestCover};
+ghost use Rattle.std.specs.List.Sorted.{IsStrictlySortedBy};
+ghost use Rattle.std.specs.Map.{keys_of};
+ghost use Rattle.fs_unicast.specs.Places.{place_cmp};
 
 use crate::neighbour::neighbour_as;
 use crate::preference::Held;
@@ -129,7 +132,8 @@ fn is_other(path: &Path, local_as: u32, asn: Option<u32>) -> bool
 
 /// The first prefix in order, from `from` on or from the start, at which the peer holds a route.
 pub fn held_by(routes: &BTreeMap<Place, Path>, peer: u16, from: Option<&Prefix>) -> Option<Prefix>
-    ensures { result ≡ held_by routes.now.entries peer (option_copied from.entry) }
+    ensures first { result ≡ held_by routes.now.entries peer (option_copied from.entry) }
+    ensures ordered { IsStrictlySortedBy place_cmp (keys_of routes.now.entries) }
 {
     for (place, _) in routes.range((start(from), Bound::Unbounded)) {
         if place.peer == peer {

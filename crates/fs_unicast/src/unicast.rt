@@ -2,7 +2,8 @@
 
 ghost use Rattle.std.specs.Prelude.{◌≡◌, [], OnOk, OnErr, is_some, option_map, ◌+◌};
 ghost use Rattle.std.specs.BTreeMap.{insert_entry, is_at};
-ghost use Rattle.std.specs.Map.{remove_entry, lookup};
+ghost use Rattle.std.specs.List.Sorted.{IsStrictlySortedBy};
+ghost use Rattle.std.specs.Map.{keys_of, remove_entry, lookup};
 ghost use Rattle.fs_unicast.specs.Places.{place_cmp};
 ghost use Rattle.fs_unicast.specs.Best.{best_at, best_match_of, others_under, held_by};
 ghost use Rattle.fs_unicast.specs.Shown.{shown};
@@ -91,9 +92,11 @@ impl Unicast {
         search::best_match(&self.routes, prefix)
     }
 
-    /// The first prefix in order, from `from` on or from the start, at which the peer holds a route.
+    /// The first prefix in order, from `from` on or from the start, at which the peer holds a route. The routes are
+    /// in the order of their places.
     pub fn held_by(&self, peer: u16, from: Option<&Prefix>) -> Option<Prefix>
-        ensures { result ≡ held_by self.now peer (option_copied from.entry) }
+        ensures first { result ≡ held_by self.now peer (option_copied from.entry) }
+        ensures ordered { IsStrictlySortedBy place_cmp (keys_of self.now) }
     {
         search::held_by(&self.routes, peer, from)
     }

@@ -1,12 +1,12 @@
-use Rattle.std.proofs.Common.{ap, ◌∙◌, map}
-use Rattle.fs_rules.specs.Kept.{chosen, routes_of}
-use Rattle.fs_rules.specs.Lent.{listed, shown_admitted}
+use Rattle.std.proofs.Common.{ap, map}
+use Rattle.fs_rules.specs.Kept.{routes_of}
+use Rattle.fs_rules.specs.Lent.{shown_admitted}
 use Rattle.fs_rules.proofs.Chosen.{listed_is, ok_along}
 use Rattle.fs_rules.proofs.Complete.{is_admitted_list, sorted_now}
 use Rattle.fs_rules.proofs.table.Table.admitted.Goals as goal
 
 pub returns-clause-list : goal.returns-clause-list
-returns-clause-list c = ok_along (λ list. map shown_admitted list.items) _ _ c.list_admitted.result (ap (λ ks. map (λ k. listed k.route) (chosen c.args.family ks)) c.as_slice.ensures.value ∙ listed_is c.args.family c.self.inside.config.now c.self.inside.unicast c.self.inside.flows.items c.args.self.now c.self.invariant c.self.view_is) c.list_admitted.ensures
+returns-clause-list c = ok_along (λ list. map shown_admitted list.items) _ _ c.admitted.result (listed_is c.args.family c.self.inside.config.now c.self.inside.unicast c.self.inside.flows c.args.self.now c.self.invariant c.self.view_is) c.admitted.ensures
 
 pub returns-clause-admitted : goal.returns-clause-admitted
-returns-clause-admitted c = is_admitted_list c.args.family c.args.self.now (sorted_now (routes_of c.self.inside.flows.items) c.args.self.now c.self.invariant.sorted (ap (λ held. held.flows) c.self.view_is))
+returns-clause-admitted c = is_admitted_list c.args.family c.args.self.now (sorted_now (routes_of c.self.inside.flows) c.args.self.now c.self.invariant.sorted (ap (λ held. held.flows) c.self.view_is))

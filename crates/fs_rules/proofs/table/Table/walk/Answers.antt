@@ -1,10 +1,9 @@
 use Rattle.std.proofs.Common.{sym, ap, ◌∙◌}
-use Rattle.fs_rules.specs.Admitted.{admitted}
 use Rattle.fs_rules.specs.Marked.{routes_chosen}
 use Rattle.fs_rules.specs.Walk.{next_match}
 use Rattle.fs_rules.proofs.Chosen.{admitted_is}
 use Rattle.fs_rules.proofs.table.Table.walk.Goals as goal
 
 pub returns : goal.returns
-returns c = c.next_match.ensures ∙ ap (λ f. next_match c.args.view.now c.args.n (routes_chosen f c.as_slice.result.now)) c.family.ensures ∙ ap (λ ks. next_match c.args.view.now c.args.n (routes_chosen c.args.view.now.family ks)) c.as_slice.ensures.value
-    ∙ ap (next_match c.args.view.now c.args.n) (admitted_is c.args.view.now.family c.self.inside.config.now c.self.inside.unicast c.self.inside.flows.items c.args.self.now c.self.invariant c.self.view_is)
+returns c = c.next_match.ensures ∙ ap (λ f. next_match c.args.view.now c.args.n (routes_chosen f c.self.inside.flows)) c.family.ensures
+    ∙ ap (next_match c.args.view.now c.args.n) (admitted_is c.args.view.now.family c.self.inside.config.now c.self.inside.unicast c.self.inside.flows c.args.self.now c.self.invariant c.self.view_is)

@@ -1,0 +1,120 @@
+-- The routes of IPv4 stand before those of IPv6.
+use Rattle.std.proofs.Common.{ℕ, ◌≡◌, ◌+◌, ◌≤◌, refl, sym, ap, ap₂, subst, ◌∙◌, Bool, true, false, true≢false, not, ◌&&◌, ◌||◌, ◌==◌, cond, List, [], ◌∷◌, ◌++◌, filter, map, length, nat_cmp, is_eq, Result, Ok, Err, OnOk, OnErr, arith}
+use Rattle.std.specs.List.{list_any, AllByRecursion}
+use Rattle.std.specs.Ordering.{ordering_then}
+use Rattle.fs_base.specs.Bits.{afi_of}
+use Rattle.fs_base.specs.declared.config.Config.{Config}
+use Rattle.fs_base.specs.declared.prefix.Family.{Family}
+use Rattle.fs_base.specs.declared.prefix.Family.TheVariants.{V4, V6}
+use Rattle.fs_base.specs.declared.prefix.Prefix.{Prefix}
+use Rattle.fs_base.proofs.Listing.{each_weaker, filter-append, filter_all, filter_none, each_none}
+use Rattle.fs_nlri.specs.Parts.{Ruled}
+use Rattle.fs_nlri.specs.Rule.{IsRule}
+use Rattle.fs_order.specs.Order.{parts_cmp}
+use Rattle.fs_unicast.specs.Places.{Route}
+use Rattle.fs_rules.specs.declared.group.Kept.{Kept}
+use Rattle.fs_rules.specs.Held.{is_key}
+use Rattle.fs_rules.specs.Admitted.{is_of_family, is_valid}
+use Rattle.fs_rules.specs.Kept.{AreSorted, routes_of, put_kept, mended, retested, is_related_kept, related_kept, is_beaten, is_chosen, chosen}
+use Rattle.fs_rules.specs.Grouped.{IsSound}
+use Rattle.fs_rules.specs.Families.{AreOfFamilies}
+use Rattle.fs_rules.proofs.Apart.{AllBefore, RuleBefore, families_before, each_front, each_back}
+use Rattle.fs_rules.proofs.InParts.{chosen-append}
+use Rattle.fs_rules.proofs.Marks.{each-filter, each-put}
+use Rattle.fs_rules.proofs.Placing.{related-append}
+use Rattle.fs_rules.proofs.Puts.{put_left, put_right, sorted_front, sorted_back}
+use Rattle.fs_rules.proofs.Takes.{any-append, all_pass}
+
+before_each : (xs ys : List Kept) → AreOfFamilies xs ys → AllBefore xs ys
+before_each xs ys h = each_weaker (IsSound V4) (λ x. AllByRecursion (RuleBefore x) ys) (λ x s. each_weaker (IsSound V6) (RuleBefore x) (λ y t. families_before x y s t) ys h.second) xs h.first
+
+-- what a put leaves of each
+pub each_now : {T E : Type 0} (P : Kept → Type 0) (k : Kept) (old new : List Kept) (r : Result T E) → P k → AllByRecursion P old → OnOk r (new ≡ put_kept k old) → OnErr r (new ≡ old) → AllByRecursion P new
+each_now P k old new (Ok t) h all ok err = subst (AllByRecursion P) (sym ok) (each-put P k h old all)
+each_now P k old new (Err e) h all ok err = subst (AllByRecursion P) (sym err) all
+
+pub put_first : (k : Kept) (xs ys : List Kept) → IsSound V4 k → AreOfFamilies xs ys → put_kept k xs ++ ys ≡ put_kept k (xs ++ ys)
+put_first k xs ys h g = sym (put_left k xs ys (each_weaker (IsSound V6) (RuleBefore k) (λ y t. families_before k y h t) ys g.second))
+
+pub put_second : (k : Kept) (xs ys : List Kept) → IsSound V6 k → AreOfFamilies xs ys → xs ++ put_kept k ys ≡ put_kept k (xs ++ ys)
+put_second k xs ys h g = sym (put_right k xs ys (each_weaker (IsSound V4) (λ x. RuleBefore x k) (λ x s. families_before x k s h) xs g.first))
+
+pub rules_of : (f : Family) (ks : List Kept) → AllByRecursion (IsSound f) ks → AllByRecursion (λ k. IsRule k.route.rule) ks
+rules_of f ks h = each_weaker (IsSound f) (λ k. IsRule k.route.rule) (λ k s. s.rule) ks h
+
+abbrev test_at : Ruled → ℕ → Kept → Family → Family → Bool
+test_at rule peer k f g = is_eq (ordering_then (ordering_then (nat_cmp (afi_of f) (afi_of g)) (parts_cmp rule.parts k.route.rule.parts)) (nat_cmp peer k.route.peer))
+
+-- a key of one family is no route's of the other
+none_second : (rule : Ruled) (peer : ℕ) (ys : List Kept) → rule.family ≡ V4 → AllByRecursion (IsSound V6) ys → AllByRecursion (λ k. is_key rule peer k.route ≡ false) ys
+none_second rule peer ys h g = each_weaker (IsSound V6) (λ k. is_key rule peer k.route ≡ false) (λ k s. ap₂ (test_at rule peer k) h s.family) ys g
+
+none_first : (rule : Ruled) (peer : ℕ) (xs : List Kept) → rule.family ≡ V6 → AllByRecursion (IsSound V4) xs → AllByRecursion (λ k. is_key rule peer k.route ≡ false) xs
+none_first rule peer xs h g = each_weaker (IsSound V4) (λ k. is_key rule peer k.route ≡ false) (λ k s. ap₂ (test_at rule peer k) h s.family) xs g
+
+pub take_first : (rule : Ruled) (peer : ℕ) (xs ys : List Kept) → IsRule rule → rule.family ≡ V4 → AreOfFamilies xs ys → filter (λ k. not (is_key rule peer k.route)) xs ++ ys ≡ filter (λ k. not (is_key rule peer k.route)) (xs ++ ys)
+take_first rule peer xs ys normal h g = ap (λ zs. filter (λ k. not (is_key rule peer k.route)) xs ++ zs) (sym (all_pass rule peer normal ys (none_second rule peer ys h g.second))) ∙ sym (filter-append (λ k. not (is_key rule peer k.route)) xs ys)
+
+pub take_second : (rule : Ruled) (peer : ℕ) (xs ys : List Kept) → IsRule rule → rule.family ≡ V6 → AreOfFamilies xs ys → xs ++ filter (λ k. not (is_key rule peer k.route)) ys ≡ filter (λ k. not (is_key rule peer k.route)) (xs ++ ys)
+take_second rule peer xs ys normal h g = ap (λ zs. zs ++ filter (λ k. not (is_key rule peer k.route)) ys) (sym (all_pass rule peer normal xs (none_first rule peer xs h g.first))) ∙ sym (filter-append (λ k. not (is_key rule peer k.route)) xs ys)
+
+or_none : (a b : Bool) → b ≡ false → a ≡ (a || b)
+or_none true b h = refl
+or_none false b h = sym h
+
+pub held_first : (rule : Ruled) (peer : ℕ) (xs ys : List Kept) → IsRule rule → rule.family ≡ V4 → AreOfFamilies xs ys → list_any (λ k. is_key rule peer k.route) xs ≡ list_any (λ k. is_key rule peer k.route) (xs ++ ys)
+held_first rule peer xs ys normal h g = or_none (list_any (λ k. is_key rule peer k.route) xs) (list_any (λ k. is_key rule peer k.route) ys) (each_none (λ k. is_key rule peer k.route) ys (none_second rule peer ys h g.second)) ∙ sym (any-append rule peer normal xs ys)
+
+pub held_second : (rule : Ruled) (peer : ℕ) (xs ys : List Kept) → IsRule rule → rule.family ≡ V6 → AreOfFamilies xs ys → list_any (λ k. is_key rule peer k.route) ys ≡ list_any (λ k. is_key rule peer k.route) (xs ++ ys)
+held_second rule peer xs ys normal h g = ap (λ b. b || list_any (λ k. is_key rule peer k.route) ys) (sym (each_none (λ k. is_key rule peer k.route) xs (none_first rule peer xs h g.first))) ∙ sym (any-append rule peer normal xs ys)
+
+pub filtered : (keeps : Kept → Bool) (f : Family) (old new : List Kept) → new ≡ filter keeps old → AllByRecursion (IsSound f) old → AllByRecursion (IsSound f) new
+filtered keeps f old new e h = subst (AllByRecursion (IsSound f)) (sym e) (each-filter (IsSound f) keeps old h)
+
+mended_sound : (f : Family) (p : Prefix) (unicast : List Route) (config : Config) (ks : List Kept) → AllByRecursion (IsSound f) ks → AllByRecursion (IsSound f) (map (mended p unicast config) ks)
+mended_sound f p unicast config [] h = tt
+mended_sound f p unicast config (k ∷ ks) h = (at (is_related_kept p k), mended_sound f p unicast config ks h.1) where
+  at : (b : Bool) → IsSound f (cond b (retested unicast config k) k)
+  at true = record { family = h.0.family; rule = h.0.rule }
+  at false = h.0
+
+pub mended_now : (f : Family) (p : Prefix) (unicast : List Route) (config : Config) (old new : List Kept) → new ≡ map (mended p unicast config) old → AllByRecursion (IsSound f) old → AllByRecursion (IsSound f) new
+mended_now f p unicast config old new e h = subst (AllByRecursion (IsSound f)) (sym e) (mended_sound f p unicast config old h)
+
+pub steps_both : (p : Prefix) (xs ys : List Kept) (before between after : ℕ) → between ≤ before + related_kept p xs → after ≤ between + related_kept p ys → after ≤ before + related_kept p (xs ++ ys)
+steps_both p xs ys before between after h k = let e : related_kept p (xs ++ ys) ≡ related_kept p xs + related_kept p ys = related-append p xs ys in omega arith
+
+-- What is read of a family.
+append_nothing : {X : Type 0} (xs : List X) → xs ++ [] ≡ xs
+append_nothing [] = refl
+append_nothing (x ∷ xs) = ap (λ ys. x ∷ ys) (append_nothing xs)
+
+of_other : (family f g : Family) (k : Kept) → family ≡ f → IsSound g k → is_of_family family k.route ≡ (afi_of g == afi_of f)
+of_other family f g k h s = ap₂ (λ a b. afi_of a == afi_of b) s.family h
+
+not_chosen : (family : Family) (ks : List Kept) (k : Kept) → is_of_family family k.route ≡ false → is_chosen family ks k ≡ false
+not_chosen family ks k h = ap (λ b. b && (is_valid k.mark && not (is_beaten ks k))) h
+
+pub chosen_first : (family : Family) (xs ys : List Kept) → family ≡ V4 → AreOfFamilies xs ys → chosen family xs ≡ chosen family (xs ++ ys)
+chosen_first family xs ys h g = sym (chosen-append family xs ys (before_each xs ys g)
+    ∙ ap (λ zs. chosen family xs ++ zs) (filter_none (is_chosen family ys) ys (each_weaker (IsSound V6) (λ k. is_chosen family ys k ≡ false) (λ k s. not_chosen family ys k (of_other family V4 V6 k h s)) ys g.second)) ∙ append_nothing (chosen family xs))
+
+pub chosen_second : (family : Family) (xs ys : List Kept) → family ≡ V6 → AreOfFamilies xs ys → chosen family ys ≡ chosen family (xs ++ ys)
+chosen_second family xs ys h g = sym (chosen-append family xs ys (before_each xs ys g)
+    ∙ ap (λ zs. zs ++ chosen family ys) (filter_none (is_chosen family xs) xs (each_weaker (IsSound V4) (λ k. is_chosen family xs k ≡ false) (λ k s. not_chosen family xs k (of_other family V6 V4 k h s)) xs g.first)))
+
+pub family_first : (family : Family) (xs ys : List Kept) → family ≡ V4 → AreOfFamilies xs ys → xs ≡ filter (λ k. is_of_family family k.route) (xs ++ ys)
+family_first family xs ys h g = sym (filter-append (λ k. is_of_family family k.route) xs ys
+    ∙ ap₂ (λ a b. a ++ b) (filter_all (λ k. is_of_family family k.route) xs (each_weaker (IsSound V4) (λ k. is_of_family family k.route ≡ true) (λ k s. of_other family V4 V4 k h s) xs g.first))
+    (filter_none (λ k. is_of_family family k.route) ys (each_weaker (IsSound V6) (λ k. is_of_family family k.route ≡ false) (λ k s. of_other family V4 V6 k h s) ys g.second)) ∙ append_nothing xs)
+
+pub family_second : (family : Family) (xs ys : List Kept) → family ≡ V6 → AreOfFamilies xs ys → ys ≡ filter (λ k. is_of_family family k.route) (xs ++ ys)
+family_second family xs ys h g = sym (filter-append (λ k. is_of_family family k.route) xs ys
+    ∙ ap₂ (λ a b. a ++ b) (filter_none (λ k. is_of_family family k.route) xs (each_weaker (IsSound V4) (λ k. is_of_family family k.route ≡ false) (λ k s. of_other family V6 V4 k h s) xs g.first))
+    (filter_all (λ k. is_of_family family k.route) ys (each_weaker (IsSound V6) (λ k. is_of_family family k.route ≡ true) (λ k s. of_other family V6 V6 k h s) ys g.second)))
+
+pub sorted_first : (xs ys now : List Kept) → xs ++ ys ≡ now → AreSorted (routes_of now) → AreSorted (routes_of xs)
+sorted_first xs ys now e h = sorted_front xs ys (subst (λ ks. AreSorted (routes_of ks)) (sym e) h)
+
+pub sorted_second : (xs ys now : List Kept) → xs ++ ys ≡ now → AreSorted (routes_of now) → AreSorted (routes_of ys)
+sorted_second xs ys now e h = sorted_back xs ys (subst (λ ks. AreSorted (routes_of ks)) (sym e) h)

@@ -1,0 +1,7 @@
+use Rattle.std.proofs.Common.{◌≡◌, ◌++◌, map, filter, drop}
+use Rattle.fs_rules.specs.Kept.{is_chosen, chosen}
+use Rattle.fs_rules.specs.Lent.{listed, shown_admitted}
+use Rattle.fs_rules.proofs.lists.push_admitted.Given as goal
+
+abbrev pub invariant-loop-k : goal.invariant-loop-k
+invariant-loop-k l = map shown_admitted l.list.items ++ map (λ k. listed k.route) (filter (is_chosen l.family l.kept) (drop l.k-index l.kept)) ≡ map shown_admitted l.fn.list.items ++ map (λ k. listed k.route) (chosen l.family l.kept)

@@ -1,0 +1,10 @@
+use Rattle.std.proofs.Common.{◌≡◌, ◌+◌, length}
+use Rattle.fs_rules.specs.Grouped.{HasSortedGroups}
+use Rattle.fs_rules.specs.Marked.{chosen_in}
+use Rattle.fs_rules.proofs.reading.count.Given as goal
+
+abbrev pub invariant-loop-group : goal.invariant-loop-group
+invariant-loop-group l = record {
+  total : l.total + length (chosen_in l.family l.group-iterator l.rest) ≡ length (chosen_in l.family l.groups.entries l.rest);
+  sorted : HasSortedGroups l.group-iterator;
+}

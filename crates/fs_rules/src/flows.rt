@@ -1,0 +1,165 @@
+//! The flow routes of both families.
+
+ghost use Rattle.std.specs.Prelude.{◌≡◌, ◌≤◌, ◌+◌, ◌==◌, not, [], OnOk, OnErr, IfOk, map, filter, length, option_map, slice_get};
+ghost use Rattle.std.specs.List.{list_any, AllByRecursion};
+ghost use Rattle.fs_rules.specs.Admitted.{is_of_family};
+ghost use Rattle.fs_rules.specs.Held.{is_key};
+ghost use Rattle.fs_rules.specs.Kept.{put_kept, mended, related_kept, AreSorted, routes_of, chosen};
+ghost use Rattle.fs_rules.specs.Lent.{listed, shown_admitted, shown_held};
+ghost use Rattle.fs_rules.specs.Marked.{marked, routes_chosen};
+ghost use Rattle.fs_rules.specs.Walk.{next_match};
+
+use crate::group::Kept;
+use crate::groups::Groups;
+use crate::lent::{Admitted, HeldFlow};
+use fs_base::{Config, Family, Memory, Prefix, Steps};
+use fs_nlri::Rule;
+use fs_packet::View;
+use fs_unicast::Unicast;
+use std::alloc::Global;
+use std::marker::Model;
+use std::sync::ledger::Ledger;
+
+/// Flow routes with their marks, in the order of rules and then by peer: those of IPv4 and those of IPv6.
+#[derive(Drop)]
+pub(crate) struct Flows {
+    v4: Groups,
+    v6: Groups,
+}
+
+impl Model for Flows {
+    ghost use Rattle.std.specs.Prelude.{List, ◌++◌};
+    ghost use Rattle.fs_rules.specs.declared.group.Kept.{Kept};
+    ghost use Rattle.fs_rules.specs.Families.{AreOfFamilies};
+
+    ghost Value = { List Kept };
+
+    ghost view = { λ a. a.v4 ++ a.v6 };
+
+    ghost invariant = { λ a. AreOfFamilies a.v4 a.v6 };
+}
+
+impl Flows {
+    pub(crate) fn new(alloc: Global) -> Flows
+        ensures { result ≡ [] }
+    {
+        Flows {
+            v4: Groups::new(alloc),
+            v6: Groups::new(alloc),
+        }
+    }
+
+    /// Keeps the route in its place, instead of one of its key. Where memory is refused nothing changes.
+    pub(crate) fn put(&mut self, k: Kept) -> Result<(), Memory>
+        requires { AreSorted (routes_of self.old) }
+        ensures ok { OnOk result (self.new ≡ put_kept k self.old) }
+        ensures err { OnErr result (self.new ≡ self.old) }
+    {
+        let _components = k.route.rule.components();
+        match k.route.rule.family() {
+            Family::V4 => self.v4.put(k),
+            Family::V6 => self.v6.put(k),
+        }
+    }
+
+    /// Takes the route of the key away, and tells whether there was one.
+    pub(crate) fn take(&mut self, rule: &Rule, peer: u16) -> bool
+        requires { AreSorted (routes_of self.old) }
+        ensures taken { self.new ≡ filter (λ k. not (is_key rule.now peer k.route)) self.old }
+        ensures held { result ≡ list_any (λ k. is_key rule.now peer k.route) self.old }
+    {
+        let _components = rule.components();
+        match rule.family() {
+            Family::V4 => self.v4.take(rule, peer),
+            Family::V6 => self.v6.take(rule, peer),
+        }
+    }
+
+    /// Takes away what the peer gave.
+    pub(crate) fn forget(&mut self, peer: u16)
+        ensures { self.new ≡ filter (λ k. not (k.route.peer == peer)) self.old }
+    {
+        self.v4.forget(peer);
+        self.v6.forget(peer);
+    }
+
+    /// Validates the routes anew that are related to the prefix. At most as many steps as there are of them.
+    pub(crate) fn mend<L: Ledger>(
+        &mut self,
+        prefix: &Prefix,
+        unicast: &Unicast,
+        config: &Config,
+        steps: &mut Steps<L>,
+    )
+        ensures mended { self.new ≡ map (mended prefix.now unicast.now config.now) self.old }
+        ensures later { steps.old ≤ steps.new }
+        ensures steps { steps.new ≤ steps.old + related_kept prefix.now self.old }
+    {
+        self.v4.mend(prefix, unicast, config, steps);
+        self.v6.mend(prefix, unicast, config, steps);
+    }
+
+    /// The admitted rules of the family, in order.
+    pub(crate) fn admitted(&self, family: Family) -> Result<Vec<Admitted<'_>>, Memory>
+        requires { AreSorted (routes_of self.now) }
+        ensures { IfOk result (λ list. map shown_admitted list.items ≡ map (λ k. listed k.route) (chosen family self.now)) }
+    {
+        match family {
+            Family::V4 => self.v4.admitted(family),
+            Family::V6 => self.v6.admitted(family),
+        }
+    }
+
+    /// The held flow routes of the family, in order.
+    pub(crate) fn held(&self, family: Family) -> Result<Vec<HeldFlow<'_>>, Memory>
+        ensures { IfOk result (λ list. map shown_held list.items ≡ map marked (filter (λ k. is_of_family family k.route) self.now)) }
+    {
+        match family {
+            Family::V4 => self.v4.held(),
+            Family::V6 => self.v6.held(),
+        }
+    }
+
+    /// How many rules of the family are admitted.
+    pub(crate) fn count(&self, family: Family) -> usize
+        requires { AreSorted (routes_of self.now) }
+        ensures { result ≡ length (chosen family self.now) }
+    {
+        match family {
+            Family::V4 => self.v4.count(family),
+            Family::V6 => self.v6.count(family),
+        }
+    }
+
+    /// The admitted rule of that number.
+    pub(crate) fn admitted_at(&self, family: Family, n: usize) -> Option<Admitted<'_>>
+        requires { AreSorted (routes_of self.now) }
+        ensures { option_map shown_admitted result ≡ option_map (λ k. listed k.route) (slice_get (chosen family self.now) n) }
+    {
+        match family {
+            Family::V4 => self.v4.admitted_at(family, n),
+            Family::V6 => self.v6.admitted_at(family, n),
+        }
+    }
+
+    /// The held flow route of that number.
+    pub(crate) fn held_at(&self, family: Family, n: usize) -> Option<HeldFlow<'_>>
+        ensures { option_map shown_held result ≡ option_map marked (slice_get (filter (λ k. is_of_family family k.route) self.now) n) }
+    {
+        match family {
+            Family::V4 => self.v4.held_at(n),
+            Family::V6 => self.v6.held_at(n),
+        }
+    }
+
+    /// The least number from `n` on of an admitted rule of the family that matches the packet.
+    pub(crate) fn next_match(&self, family: Family, view: &View<'_>, n: usize) -> Option<usize>
+        requires { AreSorted (routes_of self.now) }
+        ensures { result ≡ next_match view.now n (routes_chosen family self.now) }
+    {
+        match family {
+            Family::V4 => self.v4.next_match(family, view, n),
+            Family::V6 => self.v6.next_match(family, view, n),
+        }
+    }
+}

@@ -1,0 +1,240 @@
+//! The flow routes of one family, grouped by destination.
+
+ghost use Rattle.std.specs.Prelude.{◌≡◌, ◌≤◌, ◌+◌, ◌<◌, ◌^◌, ◌==◌, not, false, [], OnOk, OnErr, IfOk, MatchOption, map, filter, length, option_map, slice_get};
+ghost use Rattle.std.specs.List.{list_any, AllByRecursion};
+ghost use Rattle.std.specs.Map.{lookup};
+ghost use Rattle.std.specs.BTreeMap.{is_at};
+ghost use Rattle.fs_base.specs.Prefix.{prefix_cmp};
+ghost use Rattle.fs_nlri.specs.Rule.{IsRule};
+ghost use Rattle.fs_validate.specs.Destination.{destination_prefix};
+ghost use Rattle.fs_rules.specs.Held.{is_key};
+ghost use Rattle.fs_rules.specs.Kept.{put_kept, mended, related_kept, AreSorted, routes_of, chosen};
+ghost use Rattle.fs_rules.specs.Grouped.{IsSound, HasSortedGroups, AreInOrder, put_entry, keep_at, keep_each};
+ghost use Rattle.fs_rules.specs.Lent.{listed, shown_admitted, shown_held};
+ghost use Rattle.fs_rules.specs.Marked.{marked, routes_chosen};
+ghost use Rattle.fs_rules.specs.Walk.{next_match};
+
+use crate::group::{Group, Kept};
+use crate::lent::{Admitted, HeldFlow};
+use crate::reading::{self, push_admitted, push_held};
+use crate::search::retest_related;
+use fs_base::{Config, Family, Memory, Prefix, Steps};
+use fs_nlri::Rule;
+use fs_packet::View;
+use fs_unicast::Unicast;
+use fs_validate::destination;
+use std::alloc::Global;
+use std::collections::BTreeMap;
+use std::marker::Model;
+use std::sync::ledger::Ledger;
+
+/// The flow routes of one family in the order of rules and then by peer: a group for each destination, in the order
+/// of prefixes, and last the routes without a destination.
+#[derive(Drop)]
+pub(crate) struct Groups {
+    groups: BTreeMap<Prefix, Group>,
+    rest: Group,
+    /// No more routes than this are held.
+    most: usize,
+}
+
+impl Model for Groups {
+    ghost use Rattle.std.specs.Prelude.{List};
+    ghost use Rattle.fs_rules.specs.declared.group.Kept.{Kept};
+    ghost use Rattle.fs_rules.specs.Grouped.{kept_in, IsGrouped};
+
+    ghost Value = { List Kept };
+
+    ghost view = { λ a. kept_in a.groups.entries a.rest };
+
+    ghost invariant = { λ a. IsGrouped a.groups.entries a.rest a.most };
+}
+
+impl Groups {
+    pub(crate) fn new(alloc: Global) -> Groups
+        ensures { result ≡ [] }
+    {
+        Groups {
+            groups: BTreeMap::new(alloc),
+            rest: Group::new(alloc),
+            most: 0,
+        }
+    }
+
+    /// Keeps the route in its place, instead of one of its key. Where memory is refused nothing changes.
+    pub(crate) fn put(&mut self, k: Kept) -> Result<(), Memory>
+        requires sorted { AreSorted (routes_of self.old) }
+        requires sound { AllByRecursion (IsSound k.route.rule.family) self.old }
+        ensures ok { OnOk result (self.new ≡ put_kept k self.old) }
+        ensures err { OnErr result (self.new ≡ self.old) }
+    {
+        let Some(most) = self.most.checked_add(1) else {
+            return Err(Memory);
+        };
+        match destination_of(&k.route.rule) {
+            Some(destination) => {
+                put_at(&mut self.groups, destination, k, self.rest.allocator())?;
+                self.most = most;
+                Ok(())
+            }
+            None => {
+                self.rest.put(k)?;
+                self.most = most;
+                Ok(())
+            }
+        }
+    }
+
+    /// Takes the route of the key away, and tells whether there was one.
+    pub(crate) fn take(&mut self, rule: &Rule, peer: u16) -> bool
+        requires sorted { AreSorted (routes_of self.old) }
+        requires rules { AllByRecursion (λ k. IsRule k.route.rule) self.old }
+        ensures taken { self.new ≡ filter (λ k. not (is_key rule.now peer k.route)) self.old }
+        ensures held { result ≡ list_any (λ k. is_key rule.now peer k.route) self.old }
+    {
+        match destination_of(rule) {
+            Some(destination) => take_at(&mut self.groups, &destination, rule, peer),
+            None => self.rest.take(rule, peer),
+        }
+    }
+
+    /// Takes away what the peer gave.
+    pub(crate) fn forget(&mut self, peer: u16)
+        ensures { self.new ≡ filter (λ k. not (k.route.peer == peer)) self.old }
+    {
+        forget_each(&mut self.groups, peer);
+        self.rest.forget(peer);
+    }
+
+    /// Validates the routes anew that are related to the prefix. At most as many steps as there are of them.
+    pub(crate) fn mend<L: Ledger>(
+        &mut self,
+        prefix: &Prefix,
+        unicast: &Unicast,
+        config: &Config,
+        steps: &mut Steps<L>,
+    )
+        ensures mended { self.new ≡ map (mended prefix.now unicast.now config.now) self.old }
+        ensures later { steps.old ≤ steps.new }
+        ensures steps { steps.new ≤ steps.old + related_kept prefix.now self.old }
+    {
+        retest_related(&mut self.groups, prefix, unicast, config, steps);
+    }
+
+    /// The admitted rules, in order.
+    pub(crate) fn admitted(&self, family: Family) -> Result<Vec<Admitted<'_>>, Memory>
+        requires sorted { AreSorted (routes_of self.now) }
+        requires sound { AllByRecursion (IsSound family) self.now }
+        ensures { IfOk result (λ list. map shown_admitted list.items ≡ map (λ k. listed k.route) (chosen family self.now)) }
+    {
+        let mut list = Vec::new(self.rest.allocator());
+        push_admitted(&self.groups, &self.rest, family, &mut list)?;
+        Ok(list)
+    }
+
+    /// The routes, in order.
+    pub(crate) fn held(&self) -> Result<Vec<HeldFlow<'_>>, Memory>
+        ensures { IfOk result (λ list. map shown_held list.items ≡ map marked self.now) }
+    {
+        let mut list = Vec::new(self.rest.allocator());
+        push_held(&self.groups, &self.rest, &mut list)?;
+        Ok(list)
+    }
+
+    /// How many rules are admitted.
+    pub(crate) fn count(&self, family: Family) -> usize
+        requires sorted { AreSorted (routes_of self.now) }
+        requires sound { AllByRecursion (IsSound family) self.now }
+        ensures { result ≡ length (chosen family self.now) }
+    {
+        let _most = self.most;
+        reading::count(&self.groups, &self.rest, family)
+    }
+
+    /// The admitted rule of that number.
+    pub(crate) fn admitted_at(&self, family: Family, n: usize) -> Option<Admitted<'_>>
+        requires sorted { AreSorted (routes_of self.now) }
+        requires sound { AllByRecursion (IsSound family) self.now }
+        ensures { option_map shown_admitted result ≡ option_map (λ k. listed k.route) (slice_get (chosen family self.now) n) }
+    {
+        reading::admitted_at(&self.groups, &self.rest, family, n)
+    }
+
+    /// The route of that number.
+    pub(crate) fn held_at(&self, n: usize) -> Option<HeldFlow<'_>>
+        ensures { option_map shown_held result ≡ option_map marked (slice_get self.now n) }
+    {
+        reading::held_at(&self.groups, &self.rest, n)
+    }
+
+    /// The least number from `n` on of an admitted rule that matches the packet.
+    pub(crate) fn next_match(&self, family: Family, view: &View<'_>, n: usize) -> Option<usize>
+        requires sorted { AreSorted (routes_of self.now) }
+        requires sound { AllByRecursion (IsSound family) self.now }
+        ensures { result ≡ next_match view.now n (routes_chosen family self.now) }
+    {
+        let _most = self.most;
+        reading::next_match(&self.groups, &self.rest, family, view, n)
+    }
+}
+
+/// The rule's destination. Each rule is in normal form, which `components` tells.
+fn destination_of(rule: &Rule) -> Option<Prefix>
+    ensures value { result ≡ destination_prefix rule.now }
+    ensures rule { IsRule rule.now }
+{
+    let _components = rule.components();
+    destination(rule)
+}
+
+/// Keeps the route in the group of the destination.
+fn put_at(
+    groups: &mut BTreeMap<Prefix, Group>,
+    destination: Prefix,
+    k: Kept,
+    alloc: Global,
+) -> Result<(), Memory>
+    requires { HasSortedGroups groups.old.entries }
+    ensures ok { OnOk result (groups.new.entries ≡ put_entry destination k groups.old.entries) }
+    ensures err { OnErr result (groups.new.entries ≡ groups.old.entries) }
+{
+    if let Some(group) = groups.get_mut(&destination) {
+        return group.put(k);
+    }
+    let mut group = Group::new(alloc);
+    group.put(k)?;
+    groups.insert(destination, group)?;
+    Ok(())
+}
+
+/// Takes the route of the key out of the group of the destination, and tells whether there was one.
+fn take_at(
+    groups: &mut BTreeMap<Prefix, Group>,
+    destination: &Prefix,
+    rule: &Rule,
+    peer: u16,
+) -> bool
+    requires { HasSortedGroups groups.old.entries }
+    ensures taken { groups.new.entries ≡ keep_at destination.now (λ k. not (is_key rule.now peer k.route)) groups.old.entries }
+    ensures held { MatchOption (lookup (is_at (prefix_cmp destination.now)) groups.old.entries) (result ≡ false) (λ group. result ≡ list_any (λ k. is_key rule.now peer k.route) group) }
+{
+    let Some(group) = groups.get_mut(destination) else {
+        return false;
+    };
+    let held = group.take(rule, peer);
+    if group.is_empty() {
+        groups.remove(destination);
+    }
+    held
+}
+
+/// Takes out of each group what the peer gave.
+fn forget_each(groups: &mut BTreeMap<Prefix, Group>, peer: u16)
+    ensures kept { groups.new.entries ≡ keep_each (λ k. not (k.route.peer == peer)) groups.old.entries }
+    ensures ordered { AreInOrder groups.new.entries }
+{
+    groups.retain(|_, group| {
+        group.forget(peer);
+        !group.is_empty()
+    });
+}

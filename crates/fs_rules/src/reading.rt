@@ -1,0 +1,125 @@
+//! What the marks tell, read one group after the other.
+
+ghost use Rattle.std.specs.Prelude.{◌≡◌, ◌≤◌, ◌+◌, ◌<◌, ◌^◌, ◌++◌, OnOk, map, filter, length, option_map, slice_get};
+ghost use Rattle.fs_rules.specs.Kept.{AreSorted, routes_of};
+ghost use Rattle.fs_rules.specs.Grouped.{kept_in, HasSortedGroups};
+ghost use Rattle.fs_rules.specs.Lent.{listed, shown_admitted, shown_held};
+ghost use Rattle.fs_rules.specs.Marked.{marked, chosen_in};
+ghost use Rattle.fs_rules.specs.Walk.{next_match};
+
+use crate::group::Group;
+use crate::lent::{Admitted, HeldFlow};
+use crate::lists;
+use fs_base::{Family, Memory, Prefix};
+use fs_packet::View;
+use std::collections::BTreeMap;
+
+/// Adds the admitted rules to the list.
+pub(crate) fn push_admitted<'a>(
+    groups: &'a BTreeMap<Prefix, Group>,
+    rest: &'a Group,
+    family: Family,
+    list: &mut Vec<Admitted<'a>>,
+) -> Result<(), Memory>
+    requires groups { HasSortedGroups groups.now.entries }
+    requires rest { AreSorted (routes_of rest.now) }
+    ensures { OnOk result (map shown_admitted list.new.items ≡ map shown_admitted list.old.items ++ map (λ k. listed k.route) (chosen_in family groups.now.entries rest.now)) }
+{
+    for (_, group) in groups {
+        lists::push_admitted(family, group.as_slice(), list)?;
+    }
+    lists::push_admitted(family, rest.as_slice(), list)
+}
+
+/// Adds the routes to the list.
+pub(crate) fn push_held<'a>(
+    groups: &'a BTreeMap<Prefix, Group>,
+    rest: &'a Group,
+    list: &mut Vec<HeldFlow<'a>>,
+) -> Result<(), Memory>
+    ensures { OnOk result (map shown_held list.new.items ≡ map shown_held list.old.items ++ map marked (kept_in groups.now.entries rest.now)) }
+{
+    for (_, group) in groups {
+        lists::push_held(group.as_slice(), list)?;
+    }
+    lists::push_held(rest.as_slice(), list)
+}
+
+/// How many rules are admitted.
+pub(crate) fn count(groups: &BTreeMap<Prefix, Group>, rest: &Group, family: Family) -> usize
+    requires groups { HasSortedGroups groups.now.entries }
+    requires rest { AreSorted (routes_of rest.now) }
+    requires most { length (chosen_in family groups.now.entries rest.now) < 2 ^ 64 }
+    ensures { result ≡ length (chosen_in family groups.now.entries rest.now) }
+{
+    let mut total = 0;
+    for (_, group) in groups {
+        total += lists::count_admitted(family, group.as_slice());
+    }
+    total + lists::count_admitted(family, rest.as_slice())
+}
+
+/// The admitted rule of that number.
+pub(crate) fn admitted_at<'a>(
+    groups: &'a BTreeMap<Prefix, Group>,
+    rest: &'a Group,
+    family: Family,
+    n: usize,
+) -> Option<Admitted<'a>>
+    requires groups { HasSortedGroups groups.now.entries }
+    requires rest { AreSorted (routes_of rest.now) }
+    ensures { option_map shown_admitted result ≡ option_map (λ k. listed k.route) (slice_get (chosen_in family groups.now.entries rest.now) n) }
+{
+    let mut left = n;
+    for (_, group) in groups {
+        let found = lists::admitted_at(family, group.as_slice(), left);
+        if found.is_some() {
+            return found;
+        }
+        left -= lists::count_admitted(family, group.as_slice());
+    }
+    lists::admitted_at(family, rest.as_slice(), left)
+}
+
+/// The route of that number.
+pub(crate) fn held_at<'a>(
+    groups: &'a BTreeMap<Prefix, Group>,
+    rest: &'a Group,
+    n: usize,
+) -> Option<HeldFlow<'a>>
+    ensures { option_map shown_held result ≡ option_map marked (slice_get (kept_in groups.now.entries rest.now) n) }
+{
+    let mut left = n;
+    for (_, group) in groups {
+        let found = lists::held_at(group.as_slice(), left);
+        if found.is_some() {
+            return found;
+        }
+        left -= group.as_slice().len();
+    }
+    lists::held_at(rest.as_slice(), left)
+}
+
+/// The least number from `n` on of an admitted rule that matches the packet.
+pub(crate) fn next_match(
+    groups: &BTreeMap<Prefix, Group>,
+    rest: &Group,
+    family: Family,
+    view: &View<'_>,
+    n: usize,
+) -> Option<usize>
+    requires groups { HasSortedGroups groups.now.entries }
+    requires rest { AreSorted (routes_of rest.now) }
+    requires most { length (chosen_in family groups.now.entries rest.now) < 2 ^ 64 }
+    ensures { result ≡ next_match view.now n (routes_of (chosen_in family groups.now.entries rest.now)) }
+{
+    let mut number = 0;
+    for (_, group) in groups {
+        let found = lists::next_match(family, group.as_slice(), view, n, number);
+        if found.is_some() {
+            return found;
+        }
+        number += lists::count_admitted(family, group.as_slice());
+    }
+    lists::next_match(family, rest.as_slice(), view, n, number)
+}
