@@ -31,9 +31,11 @@ config_not_tape limit holds config reason place e = at (holds config) e
     by octets true found e = absurd cc
     by octets false None e = absurd cc
     by octets false (Some found) e = absurd cc
+
     judged : (octets : List ℕ) (b : Bool) → and_then (if b then Stopped Limit else Found octets) (λ o. or_stop Refused (config_of o)) ≡ Stopped (Tape reason place) → ⊥
     judged octets true e = absurd cc
     judged octets false e = by octets false (config_of octets) e
+
     at : (content : Option (List ℕ))
         → and_then (and_then (or_stop Outside content) (λ octets. if nat_le limit (length octets) then Stopped Limit else Found octets)) (λ octets. or_stop Refused (config_of octets)) ≡ Stopped (Tape reason place) → ⊥
     at None e = absurd cc
@@ -69,9 +71,12 @@ said_partly status text failed before now refusal (inr h) = record {
 pub config_unlisted : (limit : ℕ) (holds : Names) (config tape : List ℕ) (failed failed' : Type 0) (a : Option (List ℕ)) (refusal : Refusal)
     → HasReason (config_stage limit holds config) failed refusal → (failed → failed') → Lists limit holds config tape failed' a a (status_of refusal)
 config_unlisted limit holds config tape failed failed' a refusal (inl h) f =
-    inl (refusal, ap (λ (s : Stage Config). and_then s (λ accepted. and_then (tape_stage accepted limit holds tape) (λ items. Found (accepted, items)))) h,
-    said_whole (status_of refusal) (stopped_text refusal) failed' a a
-    (subst (λ (t : List ℕ). Grew a a t) (sym (nothing_said refusal (λ reason place e. config_not_tape limit holds config reason place (h ∙ ap Stopped e)))) (Grew-refl a)))
+    inl (
+      refusal,
+      ap (λ (s : Stage Config). and_then s (λ accepted. and_then (tape_stage accepted limit holds tape) (λ items. Found (accepted, items)))) h,
+      said_whole (status_of refusal) (stopped_text refusal) failed' a a
+          (subst (λ (t : List ℕ). Grew a a t) (sym (nothing_said refusal (λ reason place e. config_not_tape limit holds config reason place (h ∙ ap Stopped e)))) (Grew-refl a)),
+    )
 config_unlisted limit holds config tape failed failed' a refusal (inr (inl h)) f = inr (inl (inl (ap status_of h), Grew-refl a))
 config_unlisted limit holds config tape failed failed' a refusal (inr (inr h)) f = inr (inl (inr (ap status_of h.0, f h.1), Grew-refl a))
 

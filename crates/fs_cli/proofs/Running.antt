@@ -278,6 +278,7 @@ listed_well limit holds config tape failed before now answer (inr (inr shows)) z
   where
     six : answer ≢ 6
     six = λ e. absurd cc
+
     one : answer ≢ 1
     one = λ e. absurd cc
 

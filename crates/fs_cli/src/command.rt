@@ -16,7 +16,10 @@ pub enum Command<'w> {
         capture: &'w str,
     },
     /// Plays a tape, and lists the peers and the rules that it leaves.
-    Rules { config: &'w str, tape: &'w str },
+    Rules {
+        config: &'w str,
+        tape: &'w str,
+    },
     /// Says what a word in hexadecimal is as NLRI of the family.
     Check {
         family: Family,

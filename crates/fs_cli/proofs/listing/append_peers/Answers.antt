@@ -31,11 +31,11 @@ returns-after-is_some c =
     let past : 65536 ≤ c.loop-number.number + 1 = search rules in
     let configured : is_some (peer_of c.loop-number.number c.args.desk.now.config.peers) ≡ c.is_some.result = search rules in
     all_lines c.if-is_some.text.items whole (c.loop-number.number + 1) 65536 c.args.desk.now.config.peers (standing_at_desk c.args.desk.now) past (
-      elim c.if-is_some.branch [
-        | then-is_some+in_ok-append_peer w ↦
-            rw (w.text-is) (more_some c.loop-number.text.items w.append_peer.new.text.items whole c.loop-number.number 65536 c.args.desk.now.config.peers
-            (standing_at_desk c.args.desk.now) w.state.result below (configured ∙ w.if-is_some.true) w.state.ensures.state w.in_ok-append_peer.ensures c.loop-number.invariant)
-        | else-is_some w ↦
-            rw (w.text-is) (more_none c.loop-number.text.items whole c.loop-number.number 65536 c.args.desk.now.config.peers
-            (standing_at_desk c.args.desk.now) below (configured ∙ w.if-is_some.false) c.loop-number.invariant)
-      ])
+    elim c.if-is_some.branch [
+      | then-is_some+in_ok-append_peer w ↦
+          rw (w.text-is) (more_some c.loop-number.text.items w.append_peer.new.text.items whole c.loop-number.number 65536 c.args.desk.now.config.peers
+          (standing_at_desk c.args.desk.now) w.state.result below (configured ∙ w.if-is_some.true) w.state.ensures.state w.in_ok-append_peer.ensures c.loop-number.invariant)
+      | else-is_some w ↦
+          rw (w.text-is) (more_none c.loop-number.text.items whole c.loop-number.number 65536 c.args.desk.now.config.peers
+          (standing_at_desk c.args.desk.now) below (configured ∙ w.if-is_some.false) c.loop-number.invariant)
+    ])
