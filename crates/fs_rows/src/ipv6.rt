@@ -176,6 +176,7 @@ fn reads_as_far_as_the_capture_goes(rt: HostRuntime) -> Result<(), Fail> {
     assert_eq!(rt; packet.len(), 64);
     let mut capture = Capture::new(rt.alloc(), IPV6)?;
     for count in [0usize, 39, 40, 47, 48, 55, 56, 59, 60] {
+        assert!(rt; count <= packet.len());
         capture.record(&packet[..count], 64)?;
     }
     let mut tape = Tape::new(rt.alloc())?;

@@ -477,6 +477,7 @@ fn ends_at_the_limit(rt: HostRuntime) -> Result<(), Fail> {
         (short, 193, 0),
     ];
     for (config, limit, status) in rows {
+        assert!(rt; 1 <= limit);
         let ended = rules_within(
             rt.alloc(),
             limit,

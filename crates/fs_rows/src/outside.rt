@@ -141,6 +141,7 @@ fn ends_at_the_limit(rt: HostRuntime) -> Result<(), Fail> {
     for (limit, status, count) in rows {
         let tape = first_tape(rt.alloc())?.into_octets();
         let capture = mail_capture(rt.alloc(), 18)?;
+        assert!(rt; 1 <= limit);
         let ended = enforce_within(rt.alloc(), limit, PEERS, tape, capture)?;
         assert_eq!(rt; ended.status, status, "limit {limit}");
         let expected = lines(rt.alloc(), count)?;
