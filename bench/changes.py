@@ -36,7 +36,7 @@ def withdraw(prefixes):
 
 
 def flow(nlri):
-    reach = bytes.fromhex("0001 85 00 00") + bytes([len(nlri)]) + nlri
+    reach = bytes.fromhex("0001 85 00 00") + nlri
     attributes = b"\x80\x0e" + bytes([len(reach)]) + reach + PATH + bytes.fromhex("c01008 8006fde900000000")
     return update(b"", attributes, b"")
 
@@ -90,7 +90,7 @@ def seconds_of(program, folder, tape, runs):
 def main():
     parser = argparse.ArgumentParser(description=__doc__.split("\n", 1)[0])
     parser.add_argument("program", type=pathlib.Path)
-    parser.add_argument("--changes", type=int, default=2000)
+    parser.add_argument("--changes", type=int, default=20000)
     parser.add_argument("--runs", type=int, default=3)
     parser.add_argument("--rules", default="1000,10000,100000")
     parser.add_argument("--routes", default="1000,100000")
