@@ -1,7 +1,7 @@
 -- Blocks of addresses, as plain numbers: where one lies in another.
-use Rattle.std.proofs.Common.{ℕ, suc, min, ◌≡◌, ◌+◌, ◌-◌, ◌*◌, ◌/◌, ◌%◌, ◌^◌, ◌<◌, ◌≤◌, ◌↔◌, refl, sym, ap, ◌∙◌, subst, arith, mul_assoc, add-mul, one-mul, mul-le-mul_right, lt_of_mul-lt-mul_right, div-add-mod'}
-use Rattle.std.proofs.lemmas.Nat.{pow_pos, pow-add, mod_below, div_below, div-mul-add, row_fits, shr_split}
-use Rattle.std.proofs.Math.Nat.{mod-eq_of_lt, div-mul-le_self, mul-div_cancel}
+use Rattle.std.proofs.Common.{ℕ, ◌≡◌, ◌+◌, ◌-◌, ◌*◌, ◌/◌, ◌%◌, ◌^◌, ◌<◌, ◌≤◌, sym, ap, ◌∙◌, subst, arith, mul_assoc, add-mul, one-mul, mul-le-mul_right, lt_of_mul-lt-mul_right, div-add-mod'}
+use Rattle.std.proofs.lemmas.Nat.{pow_pos, pow-add, mod_below, div-mul-add}
+use Rattle.std.proofs.Math.Nat.{mod-eq_of_lt, div-mul-le_self}
 use Rattle.fs_base.specs.declared.prefix.Family.{Family}
 use Rattle.fs_base.specs.declared.prefix.Family.TheVariants.{V4, V6}
 use Rattle.fs_base.specs.Bits.{width_of, cleared}

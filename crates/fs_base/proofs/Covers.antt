@@ -1,5 +1,5 @@
 -- Which prefixes lie under which, and how the order tells it.
-use Rattle.std.proofs.Common.{ℕ, ◌≡◌, ◌≢◌, ◌+◌, ◌-◌, ◌^◌, ◌<◌, ◌≤◌, ◌⊎◌, ◌↔◌, inl, inr, refl, sym, ap, ◌∙◌, subst, arith, true, false, Bool, ◌&&◌, ◌==◌, nat_le, nat_lt, cond, nat_cmp, is_eq, is_lt, is_le, Ordering, Less, Equal, Greater, pow_pos}
+use Rattle.std.proofs.Common.{ℕ, ◌≡◌, ◌+◌, ◌-◌, ◌^◌, ◌<◌, ◌≤◌, ◌⊎◌, inl, inr, refl, sym, ap, ◌∙◌, subst, arith, true, false, Bool, ◌&&◌, ◌==◌, nat_le, nat_cmp, is_le, pow_pos}
 use Rattle.std.specs.Ordering.{ordering_then}
 use Rattle.std.proofs.lemmas.Bool.Decides.{nat_tests}
 use Rattle.std.proofs.lemmas.Bool.{cases_lt}
@@ -7,8 +7,7 @@ use Rattle.fs_base.specs.declared.prefix.Family.{Family}
 use Rattle.fs_base.specs.declared.prefix.Family.TheVariants.{V4, V6}
 use Rattle.fs_base.specs.declared.prefix.Prefix.{Prefix}
 use Rattle.fs_base.specs.Bits.{width_of, afi_of, cleared}
-use Rattle.fs_base.specs.Prefix.{covers, prefix_cmp, last_address, NotAfter}
-use Rattle.fs_base.specs.PrefixOrder.{prefix_total}
+use Rattle.fs_base.specs.Prefix.{covers, prefix_cmp, last_address}
 use Rattle.fs_base.proofs.Blocks.{IsBlock, block_of, block_inside, block_meeting, block_ending}
 
 pub same_family : (f g : Family) → afi_of f ≡ afi_of g → f ≡ g

@@ -1,13 +1,11 @@
 -- What follows from one prefix covering another: of covers of covers, of equal prefixes, of shorter ones.
-use Rattle.std.proofs.Common.{ℕ, ◌≡◌, ◌≢◌, ◌+◌, ◌-◌, ◌^◌, ◌<◌, ◌≤◌, ◌⊎◌, inl, inr, refl, sym, ap, ◌∙◌, subst, arith, true, false, Bool, ◌&&◌, ◌==◌, nat_cmp, is_eq, is_lt, is_le, Ordering, Less, Equal, Greater, pow_pos, min}
+use Rattle.std.proofs.Common.{ℕ, ◌≡◌, ◌+◌, ◌-◌, ◌^◌, ◌<◌, ◌≤◌, refl, sym, ap, ◌∙◌, subst, arith, true, nat_cmp, is_eq, pow_pos, min}
 use Rattle.std.specs.Ordering.{ordering_then}
 use Rattle.std.proofs.lemmas.Bool.Decides.{nat_tests}
-use Rattle.fs_base.specs.declared.prefix.Family.{Family}
 use Rattle.fs_base.specs.declared.prefix.Prefix.{Prefix}
 use Rattle.fs_base.specs.Bits.{width_of, afi_of, cleared}
 use Rattle.fs_base.specs.Prefix.{covers, prefix_cmp, last_address, IsPrefixOf}
-use Rattle.fs_base.specs.PrefixOrder.{prefix_total}
-use Rattle.fs_base.proofs.Covers.{Covers, covers_fact, covers_test, meeting_covers, same_family, same_width, covered_before, covers_bits, covers_from_bits}
+use Rattle.fs_base.proofs.Covers.{Covers, covers_fact, covers_test, meeting_covers, same_family, same_width, covers_bits, covers_from_bits}
 
 pub covers_self : (p : Prefix) → covers p p ≡ true
 covers_self p = covers_test p p (record { family = refl; longer = omega arith; starts = omega arith; ends = omega arith })

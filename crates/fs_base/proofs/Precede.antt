@@ -1,5 +1,5 @@
 -- The order of prefixes is what its words say.
-use Rattle.std.proofs.Common.{ℕ, ◌≡◌, ◌≢◌, ◌+◌, ◌-◌, ◌^◌, ◌<◌, ◌≤◌, ◌⊎◌, inl, inr, refl, sym, ap, ◌∙◌, subst, arith, true, false, Bool, ◌&&◌, ◌==◌, nat_cmp, is_eq, is_lt, is_le, Ordering, Less, Equal, Greater, pow_pos, true≢false}
+use Rattle.std.proofs.Common.{ℕ, ◌≡◌, ◌+◌, ◌-◌, ◌^◌, ◌<◌, ◌≤◌, ◌⊎◌, inl, inr, refl, sym, ap, ◌∙◌, arith, true, false, nat_cmp, is_eq, Ordering, Less, Equal, Greater, pow_pos, true≢false}
 use Rattle.std.specs.Ordering.{ordering_then}
 use Rattle.std.proofs.lemmas.Bool.{cases_lt}
 use Rattle.std.proofs.lemmas.Bool.Decides.{nat_tests}
@@ -9,7 +9,7 @@ use Rattle.fs_base.specs.Bits.{width_of, afi_of}
 use Rattle.fs_base.specs.Prefix.{covers, prefix_cmp, last_address}
 use Rattle.fs_base.specs.PrefixOrder.{prefix_total}
 use Rattle.fs_base.specs.Precedence.{IsPrecedence}
-use Rattle.fs_base.proofs.Covers.{Covers, covers_fact, meeting_covers, same_width, covered_before}
+use Rattle.fs_base.proofs.Covers.{Covers, covers_fact, meeting_covers, same_width}
 use Rattle.fs_base.proofs.Nesting.{Alike, alike, alike_test}
 
 first_family : (f g a b m n : ℕ) → f < g → ordering_then (nat_cmp f g) (ordering_then (nat_cmp a b) (nat_cmp n m)) ≡ Less

@@ -1,5 +1,5 @@
 -- Two prefixes of the same family, bits and length are one value.
-use Rattle.std.proofs.Common.{ℕ, ◌≡◌, ◌≤◌, true, is_eq, refl, ap, sym, ◌∙◌, min, arith}
+use Rattle.std.proofs.Common.{◌≡◌, ◌≤◌, true, is_eq, refl, ap, sym, ◌∙◌, min, arith}
 use Rattle.fs_base.specs.Made.{prefix_of}
 use Rattle.std.proofs.Math.Nat.{ℕ_set}
 use native.Mathlib.Bridge.{le_prop}

@@ -1,14 +1,14 @@
 -- The longest prefix that covers another, found by the order: where the first prefix from `low` on doesn't cover
 -- it, each that does covers what the two have in common.
-use Rattle.std.proofs.Common.{ℕ, ◌≡◌, ◌<◌, ◌≤◌, ◌⊎◌, inl, inr, refl, sym, ap, subst, ◌∙◌, Bool, true, false, List, true≢false, Option, Some, None, IfSome, Ordering, is_eq, is_le, arith}
-use Rattle.std.specs.List.{AllByRecursion, list_any}
+use Rattle.std.proofs.Common.{◌≡◌, ◌<◌, ◌≤◌, ◌⊎◌, inl, inr, refl, sym, ◌∙◌, Bool, true, false, List, true≢false, is_eq, is_le, arith}
+use Rattle.std.specs.List.{AllByRecursion}
 use Rattle.std.proofs.lemmas.Bool.{cases_lt}
 use Rattle.fs_base.specs.declared.prefix.Prefix.{Prefix}
 use Rattle.fs_base.specs.Prefix.{covers, prefix_cmp}
 use Rattle.fs_base.specs.Seek.{IsFirst, IsLongest}
 use Rattle.fs_base.proofs.Covers.{covers_fact, covered_before, between_covered, Covers, same_family}
-use Rattle.fs_base.proofs.Nesting.{covers_self, covers_nested, covers_trans, covers_same_length, alike_covers, covered_back}
-use Rattle.fs_base.proofs.Listing.{each, each_weaker, each_both}
+use Rattle.fs_base.proofs.Nesting.{covers_self, covers_trans, covers_same_length, alike_covers}
+use Rattle.fs_base.proofs.Listing.{each, each_both}
 
 module _ {X : Type 0} (at : X → Prefix) (held : List X) where
   -- the search for the covers of d has come to low: each of them covers low

@@ -1,5 +1,5 @@
 -- The prefix of a family, an address and a length, as `Prefix::new` makes it where the length is short enough.
-use Rattle.std.specs.Prelude.{◌≡◌, ◌≤◌, ℕ, min}
+use Rattle.std.specs.Prelude.{ℕ, min}
 use Rattle.fs_base.specs.declared.prefix.Family.{Family}
 use Rattle.fs_base.specs.declared.prefix.Prefix.{Prefix}
 use Rattle.fs_base.specs.Bits.{width_of, cleared}

@@ -1,5 +1,5 @@
 -- What the order of prefixes is to be, in words.
-use Rattle.std.specs.Prelude.{◌≡◌, ℕ, ◌<◌, ◌↔◌, true, false}
+use Rattle.std.specs.Prelude.{◌≡◌, ◌<◌, ◌↔◌, true, false}
 use Rattle.std.specs.Cmp.{IsTotalOrder}
 use Rattle.std.specs.declared.cmp.Ordering.{Ordering}
 use Rattle.std.specs.declared.cmp.Ordering.TheVariants.{Less, Equal}

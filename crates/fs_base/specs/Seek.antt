@@ -1,5 +1,5 @@
 -- What a search by prefix finds in a list of things that each have a prefix.
-use Rattle.std.specs.Prelude.{◌≡◌, ◌≤◌, true, false, Option, Some, None, List, MatchOption}
+use Rattle.std.specs.Prelude.{◌≡◌, ◌≤◌, true, false, Option, List, MatchOption}
 use Rattle.std.specs.List.{list_any, AllByRecursion}
 use Rattle.std.specs.Ordering.{is_eq, is_le}
 use Rattle.fs_base.specs.Prefix.{covers, prefix_cmp}

@@ -1,4 +1,3 @@
-use Rattle.std.proofs.Common.{arith, ◌≤◌}
 use Rattle.fs_base.specs.Bits.{width_of}
 use Rattle.std.proofs.lemmas.Nat.{xor_lt}
 use Rattle.fs_base.proofs.Alike.{zeros_enough, alike_there, alike_back}

@@ -1,4 +1,4 @@
-use Rattle.std.proofs.Common.{◌≡◌, ℕ, true, ◌∙◌, ap, min}
+use Rattle.std.proofs.Common.{◌∙◌, ap, min}
 use Rattle.fs_base.proofs.Nesting.{longest_common}
 use Rattle.fs_base.proofs.prefix.Prefix.common.Goals as goal
 
