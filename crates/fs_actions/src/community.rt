@@ -1,3 +1,5 @@
+//! One community, and what it says (RFC 8955 section 7).
+
 ghost use Rattle.std.specs.Prelude.{◌≡◌, ℕ, List, IfSome};
 ghost use Rattle.fs_actions.specs.Communities.{IsAction, kept_of, normal_form};
 ghost use Rattle.fs_actions.specs.Actions.{has_flag, is_discard, is_nothing, limit_of, mark_of, rate_of, redirect_of};

@@ -1,3 +1,5 @@
+//! The actions of a route, and the communities that say them.
+
 ghost use Rattle.std.specs.Prelude.{◌≡◌, ◌↔◌, ℕ, false, true, List, [], ◌++◌, IfOk, IsErrOf, OnErr, OnOk, length, nat_lt, slice_get, filter_map};
 ghost use Rattle.std.specs.List.{concat, list_any};
 ghost use Rattle.fs_actions.specs.Communities.{are_communities};

@@ -29,3 +29,5 @@ pub use writing::encode;
 
 #[cfg(test)]
 mod examples;
+#[cfg(test)]
+mod tests;

@@ -1,3 +1,5 @@
+//! Why octets aren't the front of an operator list.
+
 ghost use Rattle.std.specs.Prelude.{◌≡◌};
 ghost use Rattle.fs_ops.specs.declared.error.OpsFault.TheVariants.{Memory as OutOfMemory};
 

@@ -1,3 +1,5 @@
+//! Lists of numeric operators (RFC 8955 section 4.2.1.1).
+
 ghost use Rattle.std.specs.Prelude.{◌≡◌, ◌≤◌, ◌<◌, ◌^◌, ◌++◌, List, length, take, map, bit_and, Any, IfOk, IfErr, OnOk, OnErr};
 ghost use Rattle.fs_ops.specs.Operator.{Kind, Numeric};
 ghost use Rattle.fs_ops.specs.OperatorList.{Spells, IsNormal, canonical, first_joins};

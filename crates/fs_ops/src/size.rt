@@ -1,3 +1,5 @@
+//! How many octets a list takes.
+
 ghost use Rattle.std.specs.Prelude.{◌≡◌, ◌<◌, ◌^◌, length};
 ghost use Rattle.fs_ops.specs.OperatorList.{canonical};
 

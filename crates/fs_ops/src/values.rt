@@ -1,3 +1,5 @@
+//! Changes of the values of a list.
+
 ghost use Rattle.std.specs.Prelude.{◌≡◌, map, bit_and};
 
 /// Clears the other bits of each value.

@@ -1,3 +1,5 @@
+//! What is wrong with a tape, and where.
+
 /// What is wrong with a tape.
 #[derive(Clone, Copy, Debug, PartialEq, Eq, Drop)]
 pub enum TapeReason {

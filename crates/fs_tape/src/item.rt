@@ -1,3 +1,5 @@
+//! The items of a tape, and the kinds of its records.
+
 /// An item of a tape.
 #[derive(Clone, Copy, Debug, PartialEq, Eq, Drop)]
 pub enum TapeItem {

@@ -1,3 +1,5 @@
+//! The octets that a tape begins with.
+
 ghost use Rattle.std.specs.Prelude.{◌≡◌, ◌≤◌, length};
 ghost use Rattle.fs_tape.specs.Tape.{first_difference, magic};
 
