@@ -3,7 +3,9 @@
 
 mod neighbour;
 mod preference;
+mod routes;
 mod search;
+mod turns;
 mod unicast;
 
 pub use neighbour::{first_as, neighbour_as};
