@@ -53,3 +53,15 @@ module _ {X : Type 0} (key : X → Place) (xs : List X) where
   -- nothing passes, so nothing does before the end
   pub none_within : (test : X → Bool) (high : Place) → find test xs ≡ None → None ≡ find (λ y. test y && is_lt (place_cmp (key y) high)) xs
   none_within test high e = sym (find_none (λ y. test y && is_lt (place_cmp (key y) high)) xs (each_weaker (λ y. test y ≡ false) (λ y. (test y && is_lt (place_cmp (key y) high)) ≡ false) (λ y k. ap (λ b. b && is_lt (place_cmp (key y) high)) k) xs (none_found test xs e)))
+
+  -- the last up to a place
+  pub last_upto : (z : Place) (found : List X) → found ≡ filter (λ x. range_contains place_cmp Unbounded (Included z) (key x)) xs → last_or None found ≡ find_last (λ x. is_le (place_cmp (key x) z)) xs
+  last_upto z found e = ap (last_or None) (e ∙ filter_on (λ x. range_contains place_cmp Unbounded (Included z) (key x)) (λ x. is_le (place_cmp (key x) z)) xs
+      (each (λ x. range_contains place_cmp Unbounded (Included z) (key x) ≡ is_le (place_cmp (key x) z)) (λ x. not_not (is_le (place_cmp (key x) z)) (is_lt (place_cmp z (key x))) (below_not_upto z (key x))) xs)) ∙ last_filtered (λ x. is_le (place_cmp (key x) z)) None xs ∙ or_none (find_last (λ x. is_le (place_cmp (key x) z)) xs) where
+        or_none : (o : Option X) → later o None ≡ o
+        or_none None = refl
+        or_none (Some x) = refl
+
+        not_not : (b c : Bool) → c ≡ not b → not c ≡ b
+        not_not true c h = ap not h
+        not_not false c h = ap not h

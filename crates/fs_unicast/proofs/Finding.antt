@@ -1,10 +1,10 @@
 -- The first and the last element of a list that pass a test.
-use Rattle.std.proofs.Common.{◌≡◌, refl, sym, ap, subst, ◌∙◌, Bool, true, false, true≢false, cond, not, ◌&&◌, List, [], ◌∷◌, ◌++◌, map, filter, find, option_map, slice_get, Option, Some, None, Ordering, Less, is_lt, is_le}
+use Rattle.std.proofs.Common.{◌≡◌, refl, sym, ap, subst, ◌∙◌, Bool, true, false, true≢false, cond, not, ◌&&◌, ◌||◌, List, [], ◌∷◌, ◌++◌, map, filter, find, option_map, slice_get, Option, Some, None, Ordering, Less, is_lt, is_le}
 use Rattle.std.specs.Prelude.{MatchOption}
-use Rattle.std.specs.List.{AllByRecursion, last_or}
+use Rattle.std.specs.List.{AllByRecursion, list_any, last_or}
 use Rattle.std.specs.List.Sorted.{IsStrictlySortedBy}
 use Rattle.std.proofs.lemmas.Map.Keys.{sorted_head, sorted_tail}
-use Rattle.fs_base.proofs.Listing.{each_weaker, each_of_map}
+use Rattle.fs_base.proofs.Listing.{each_weaker, each_of_map, or_first, or_second}
 use Rattle.fs_unicast.specs.Turns.{find_last, later}
 
 -- what an iterator's next call shows is the head of what is left
@@ -94,6 +94,16 @@ find_both {X} test more (y ∷ ys) x h k = at (test y) (λ l. find_both test mor
   at true ih l = here (more y) (ap more (same y x l) ∙ k) ∙ l
   at false ih l = ih l
 
+pub any_found : {X : Type 0} (test p : X → Bool) (xs : List X) (x : X) → find test xs ≡ Some x → p x ≡ true → list_any p xs ≡ true
+any_found test p [] x h k = cc
+any_found {X} test p (y ∷ ys) x h k = at (test y) (λ l. any_found test p ys x l k) h where
+  same : (a b : X) → Some a ≡ Some b → a ≡ b
+  same a b e = cc
+
+  at : (b : Bool) → (find test ys ≡ Some x → list_any p ys ≡ true) → cond b (Some y) (find test ys) ≡ Some x → (p y || list_any p ys) ≡ true
+  at true ih l = or_first (p y) (list_any p ys) (ap p (same y x l) ∙ k)
+  at false ih l = or_second (p y) (list_any p ys) (ih l)
+
 module _ {K X : Type 0} (cmp : K → K → Ordering) (key : X → K) where
   -- In order, each that passes is the first one or after it.
   pub after_found : (test : X → Bool) (P : X → Type 0) (xs : List X) → IsStrictlySortedBy cmp (map key xs) → (x : X) → find test xs ≡ Some x
@@ -132,6 +142,17 @@ last_passes {X} test (y ∷ ys) x h = at (find_last test ys) (test y) refl (last
   at (Some z) b e ih k = ih k
   at None true e ih k = ap test (sym (same y x k)) ∙ e
   at None false e ih k = cc
+
+pub any_last : {X : Type 0} (test p : X → Bool) (xs : List X) (x : X) → find_last test xs ≡ Some x → p x ≡ true → list_any p xs ≡ true
+any_last test p [] x h k = cc
+any_last {X} test p (y ∷ ys) x h k = at (find_last test ys) (test y) (λ l. any_last test p ys x l k) h where
+  same : (a b : X) → Some a ≡ Some b → a ≡ b
+  same a b e = cc
+
+  at : (o : Option X) (b : Bool) → (o ≡ Some x → list_any p ys ≡ true) → later o (cond b (Some y) None) ≡ Some x → (p y || list_any p ys) ≡ true
+  at (Some z) b ih l = or_second (p y) (list_any p ys) (ih l)
+  at None true ih l = or_first (p y) (list_any p ys) (ap p (same y x l) ∙ k)
+  at None false ih l = cc
 
 pub no_last : {X : Type 0} (test : X → Bool) (xs : List X) → find_last test xs ≡ None → AllByRecursion (λ x. test x ≡ false) xs
 no_last test [] h = tt

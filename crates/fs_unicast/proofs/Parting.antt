@@ -128,7 +128,7 @@ parted_put turns held z path h before after = each_put (λ r. IsPartedAfter turn
       at_new q same = each_put (λ s. is_lt (place_cmp q s.0) ≡ true → is_same (neighbour path.segments) (neighbour_of s) ≡ false → are_parted turns q s.0 ≡ true) z path (λ t _. alike q t) (alike q z) held
           (each_weaker (λ s. is_lt (place_cmp z s.0) ≡ true → is_same (neighbour path.segments) (neighbour_of s) ≡ false → are_parted turns z s.0 ≡ true) (λ s. is_lt (place_cmp q s.0) ≡ true → is_same (neighbour path.segments) (neighbour_of s) ≡ false → are_parted turns q s.0 ≡ true) (from_equal q same) held after)
 
-turned_off : (b c : Bool) → b ≡ true → b ≡ false → c ≡ true
+pub turned_off : (b c : Bool) → b ≡ true → b ≡ false → c ≡ true
 turned_off true c h k = absurd (true≢false k)
 turned_off false c h k = absurd (true≢false (sym h))
 

@@ -11,18 +11,8 @@ use Rattle.fs_unicast.specs.Best.{is_other}
 use Rattle.fs_unicast.specs.Places.{Route, place_cmp}
 use Rattle.fs_unicast.specs.Turns.{neighbour_of, is_same, is_within, lies_between, are_parted, IsPartedAfter, IsParted}
 use Rattle.fs_unicast.proofs.PlaceOrder.{below_upto, upto_below, upto_upto, lt_le, is_less, below_itself, upto_itself}
-use Rattle.fs_unicast.proofs.Finding.{found_each, found_passes, none_found, after_found}
+use Rattle.fs_unicast.proofs.Finding.{found_each, found_passes, none_found, any_found, after_found}
 use Rattle.fs_unicast.proofs.Parting.{both, first_of, second_of, same_is}
-
-any_found : {X : Type 0} (test p : X → Bool) (xs : List X) (x : X) → find test xs ≡ Some x → p x ≡ true → list_any p xs ≡ true
-any_found test p [] x h k = cc
-any_found {X} test p (y ∷ ys) x h k = at (test y) (λ l. any_found test p ys x l k) h where
-  same : (a b : X) → Some a ≡ Some b → a ≡ b
-  same a b e = cc
-
-  at : (b : Bool) → (find test ys ≡ Some x → list_any p ys ≡ true) → cond b (Some y) (find test ys) ≡ Some x → (p y || list_any p ys) ≡ true
-  at true ih l = or_first (p y) (list_any p ys) (ap p (same y x l) ∙ k)
-  at false ih l = or_second (p y) (list_any p ys) (ih l)
 
 abbrev pub count : (Place → Bool) → List Place → ℕ
 count p [] = 0

@@ -59,6 +59,16 @@ impl Routes {
         ensures ok { OnOk result (self.new ≡ insert_entry place_cmp self.old place path) }
         ensures err { OnErr result (self.new ≡ self.old) }
     {
+        let kept = self.keep(place, path);
+        turns::tidy(&self.paths, &mut self.turns, &place);
+        kept
+    }
+
+    /// The same; turns that are put before memory is refused stay.
+    fn keep(&mut self, place: Place, path: Path) -> Result<(), Memory>
+        ensures ok { OnOk result (self.new ≡ insert_entry place_cmp self.old place path) }
+        ensures err { OnErr result (self.new ≡ self.old) }
+    {
         let asn = neighbour(path.segments.as_slice());
         turns::part_before(&self.paths, &mut self.turns, &place, asn)?;
         turns::part_after(&self.paths, &mut self.turns, &place, asn)?;
@@ -71,7 +81,9 @@ impl Routes {
         ensures removed { self.new ≡ remove_entry (is_at (place_cmp place.now)) self.old }
         ensures held { result ≡ is_some (lookup (is_at (place_cmp place.now)) self.old) }
     {
-        self.paths.remove(place).is_some()
+        let held = self.paths.remove(place).is_some();
+        turns::tidy(&self.paths, &mut self.turns, place);
+        held
     }
 
     /// Whether a route from `low` on and before `high` has another neighbouring AS than `asn`; of None, whether

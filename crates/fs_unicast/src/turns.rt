@@ -2,14 +2,14 @@
 
 ghost use Rattle.std.specs.Prelude.{◌≡◌, true, OnOk, option_map, find, ◌&&◌};
 ghost use Rattle.std.specs.Option.{option_copied};
-ghost use Rattle.std.specs.Ordering.{is_lt};
+ghost use Rattle.std.specs.Ordering.{is_le, is_lt};
 ghost use Rattle.std.specs.List.{list_any};
 ghost use Rattle.std.specs.Map.{keys_of};
 ghost use Rattle.std.specs.List.Sorted.{IsStrictlySortedBy};
 ghost use Rattle.fs_unicast.specs.Best.{is_other};
 ghost use Rattle.fs_unicast.specs.Neighbour.{neighbour};
 ghost use Rattle.fs_unicast.specs.Places.{place_cmp};
-ghost use Rattle.fs_unicast.specs.Turns.{is_same, is_within, lies_between, are_parted, find_last, IsParted, IsPartedBefore, IsPartedAfter, StaysParted};
+ghost use Rattle.fs_unicast.specs.Turns.{is_same, is_within, lies_between, are_parted, find_last, is_alone, is_needed, without_idle, tidied, IsParted, IsPartedBefore, IsPartedAfter, StaysParted};
 
 use crate::neighbour::{neighbour, neighbour_as};
 use crate::unicast::Place;
@@ -137,17 +137,94 @@ fn first_within<'a>(
     }
 }
 
+/// The first route from the place on.
+fn first_from<'a>(paths: &'a BTreeMap<Place, Path>, place: &Place) -> Option<(&'a Place, &'a Path)>
+    ensures found { option_map (λ r. (r.0.now, r.1.now)) result ≡ find (λ r. is_le (place_cmp place.now r.0)) paths.now.entries }
+    ensures ordered { IsStrictlySortedBy place_cmp (keys_of paths.now.entries) }
+{
+    paths.range(*place..).next()
+}
+
 /// The first turn after `place` and before `high`.
 fn first_turn(turns: &BTreeSet<Place>, place: &Place, high: &Place) -> Option<Place>
     ensures found { result ≡ find (λ t. is_lt (place_cmp place.now t) && is_lt (place_cmp t high.now)) turns.now.keys }
     ensures ordered { IsStrictlySortedBy place_cmp turns.now.keys }
 {
-    let turn = turns
-        .range((Bound::Excluded(*place), Bound::Unbounded))
-        .next()?;
+    let turn = next_turn(turns, place)?;
     if turn.cmp(high).is_lt() {
-        Some(*turn)
+        Some(turn)
     } else {
         None
     }
+}
+
+/// The first turn after the place.
+fn next_turn(turns: &BTreeSet<Place>, place: &Place) -> Option<Place>
+    ensures found { result ≡ find (λ t. is_lt (place_cmp place.now t)) turns.now.keys }
+    ensures ordered { IsStrictlySortedBy place_cmp turns.now.keys }
+{
+    turns
+        .range((Bound::Excluded(*place), Bound::Unbounded))
+        .next()
+        .copied()
+}
+
+/// The last turn up to the place.
+fn last_turn(turns: &BTreeSet<Place>, place: &Place) -> Option<Place>
+    ensures { result ≡ find_last (λ t. is_le (place_cmp t place.now)) turns.now.keys }
+{
+    turns.range(..=*place).next_back().copied()
+}
+
+/// Takes the turns beside the place away that are idle: the last one up to it, and the first one after it. A change
+/// at the place makes no other turn idle. Takes no memory.
+pub fn tidy(paths: &BTreeMap<Place, Path>, turns: &mut BTreeSet<Place>, place: &Place)
+    requires { IsParted turns.old.keys paths.now.entries }
+    ensures tidied { turns.new.keys ≡ tidied paths.now.entries turns.old.keys place.now }
+    ensures parted { IsParted turns.new.keys paths.now.entries }
+{
+    drop_idle(paths, turns, last_turn(turns, place));
+    drop_idle(paths, turns, next_turn(turns, place));
+}
+
+/// Takes the turn away if it is idle.
+fn drop_idle(paths: &BTreeMap<Place, Path>, turns: &mut BTreeSet<Place>, turn: Option<Place>)
+    requires { IsParted turns.old.keys paths.now.entries }
+    ensures dropped { turns.new.keys ≡ without_idle paths.now.entries turns.old.keys turn }
+    ensures parted { IsParted turns.new.keys paths.now.entries }
+{
+    let Some(turn) = turn else {
+        return;
+    };
+    if !is_needed(paths, turns, &turn) {
+        turns.remove(&turn);
+    }
+}
+
+/// Whether two routes of other neighbouring AS are parted by this turn alone. If any are, the routes beside it are.
+fn is_needed(paths: &BTreeMap<Place, Path>, turns: &BTreeSet<Place>, turn: &Place) -> bool
+    requires { IsParted turns.now.keys paths.now.entries }
+    ensures { result ≡ is_needed turns.now.keys paths.now.entries turn.now }
+{
+    let Some((before, path)) = last_before(paths, turn) else {
+        return false;
+    };
+    let Some((after, next)) = first_from(paths, turn) else {
+        return false;
+    };
+    !has_neighbour(path, neighbour(next.segments.as_slice()))
+        && is_alone(turns, before, after, turn)
+}
+
+/// Whether no other turn lies after `before` and up to `after`.
+fn is_alone(turns: &BTreeSet<Place>, before: &Place, after: &Place, turn: &Place) -> bool
+    requires { is_lt (place_cmp before.now after.now) ≡ true }
+    ensures { result ≡ is_alone turns.now.keys before.now after.now turn.now }
+{
+    for other in turns.range((Bound::Excluded(*before), Bound::Included(*after))) {
+        if !turn.cmp(other).is_eq() {
+            return false;
+        }
+    }
+    true
 }

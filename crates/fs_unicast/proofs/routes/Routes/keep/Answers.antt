@@ -2,7 +2,7 @@ use Rattle.std.proofs.Common.{◌≡◌, ◌∙◌, ap, subst}
 use Rattle.fs_unicast.specs.Neighbour.{neighbour}
 use Rattle.fs_unicast.specs.Turns.{IsPartedBefore, IsPartedAfter}
 use Rattle.fs_unicast.proofs.Parting.{stays_all, stays_before, parted_put}
-use Rattle.fs_unicast.proofs.routes.Routes.put.Goals as goal
+use Rattle.fs_unicast.proofs.routes.Routes.keep.Goals as goal
 
 pub invariant_of-self : goal.invariant_of-self
 invariant_of-self c = stays_all c.self.inside.turns.keys c.part_before.new.turns.keys c.self.inside.paths.entries c.part_before.ensures.stays c.self.invariant
