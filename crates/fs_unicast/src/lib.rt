@@ -11,3 +11,6 @@ mod unicast;
 pub use neighbour::{first_as, neighbour_as};
 pub use preference::Held;
 pub use unicast::{Place, Unicast};
+
+#[cfg(test)]
+mod tests;

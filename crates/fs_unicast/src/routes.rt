@@ -93,4 +93,9 @@ impl Routes {
     {
         turns::others_within(&self.paths, &self.turns, low, high, local_as, asn)
     }
+
+    #[cfg(test)]
+    pub fn turn_count(&self) -> usize {
+        self.turns.len()
+    }
 }
