@@ -1,15 +1,15 @@
 -- The routes and the turns beside a place, as ranges of the maps give them.
-use Rattle.std.proofs.Common.{ℕ, ◌≡◌, refl, sym, ap, subst, ◌∙◌, Bool, true, false, true≢false, not, ◌&&◌, List, [], ◌∷◌, ◌++◌, map, map-id, filter, find, slice_get, Option, Some, None, Ordering, Less, is_le, is_lt}
-use Rattle.std.specs.List.{AllByRecursion, last_or}
+use Rattle.std.proofs.Common.{◌≡◌, refl, sym, ap, ◌∙◌, Bool, true, false, not, ◌&&◌, List, map, filter, find, slice_get, Option, Some, None, Less, is_le, is_lt}
+use Rattle.std.specs.List.{last_or}
 use Rattle.std.specs.List.Sorted.{IsStrictlySortedBy}
-use Rattle.std.specs.BTreeMap.Range.{range_contains, entries_between}
+use Rattle.std.specs.BTreeMap.Range.{range_contains}
 use Rattle.std.specs.declared.ops.Bound.TheVariants.{Included, Excluded, Unbounded}
 use Rattle.fs_base.proofs.Listing.{each, each_weaker, filter_on, find_on}
 use Rattle.fs_unicast.specs.declared.unicast.Place.{Place}
-use Rattle.fs_unicast.specs.Places.{Route, place_cmp}
-use Rattle.fs_unicast.specs.Turns.{is_within, find_last, later}
-use Rattle.fs_unicast.proofs.PlaceOrder.{below_not_upto, not_below, upto_below, upto_upto, lt_le, upto_itself, below_itself}
-use Rattle.fs_unicast.proofs.Finding.{first_filtered, last_filtered, find_both, find_none, none_found, after_found}
+use Rattle.fs_unicast.specs.Places.{place_cmp}
+use Rattle.fs_unicast.specs.Turns.{find_last, later}
+use Rattle.fs_unicast.proofs.PlaceOrder.{below_not_upto, upto_below}
+use Rattle.fs_unicast.proofs.Finding.{first_filtered, last_filtered, find_none, none_found, after_found}
 
 and_true : (b : Bool) → (b && true) ≡ b
 and_true true = refl

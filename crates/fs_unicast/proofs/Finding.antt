@@ -1,5 +1,5 @@
 -- The first and the last element of a list that pass a test.
-use Rattle.std.proofs.Common.{◌≡◌, refl, sym, ap, subst, ◌∙◌, Bool, true, false, true≢false, cond, not, ◌&&◌, ◌||◌, List, [], ◌∷◌, ◌++◌, map, filter, find, option_map, slice_get, Option, Some, None, Ordering, Less, is_lt, is_le}
+use Rattle.std.proofs.Common.{◌≡◌, refl, sym, ap, subst, ◌∙◌, Bool, true, false, true≢false, cond, ◌&&◌, ◌||◌, List, [], ◌∷◌, ◌++◌, map, filter, find, option_map, slice_get, Option, Some, None, Ordering, Less}
 use Rattle.std.specs.Prelude.{MatchOption}
 use Rattle.std.specs.List.{AllByRecursion, list_any, last_or}
 use Rattle.std.specs.List.Sorted.{IsStrictlySortedBy}

@@ -1,5 +1,5 @@
 -- Idle turns: what is parted stays so without them, and which they are.
-use Rattle.std.proofs.Common.{ℕ, ◌≡◌, refl, sym, ap, subst, ◌∙◌, Bool, true, false, true≢false, cond, not, ◌&&◌, ◌||◌, List, [], ◌∷◌, find, filter, Option, Some, None, Ordering, Less, Equal, Greater, is_eq, is_le, is_lt}
+use Rattle.std.proofs.Common.{◌≡◌, refl, sym, ap, subst, ◌∙◌, Bool, true, false, true≢false, cond, not, ◌&&◌, ◌||◌, List, [], ◌∷◌, find, filter, Some, None, Ordering, Less, Equal, Greater, is_eq, is_le, is_lt}
 use Rattle.std.specs.List.{AllByRecursion, list_any, list_all}
 use Rattle.std.specs.List.Sorted.{IsStrictlySortedBy}
 use Rattle.std.specs.BTreeMap.{is_at}
@@ -12,7 +12,7 @@ use Rattle.fs_base.proofs.Listing.{each, each_weaker, each_both, each_none, none
 use Rattle.fs_unicast.specs.declared.unicast.Place.{Place}
 use Rattle.fs_unicast.specs.Places.{Route, place_cmp}
 use Rattle.fs_unicast.specs.Turns.{neighbour_of, is_same, lies_between, are_parted, is_alone, parts_alone, is_needed, IsPartedAfter, IsParted, find_last}
-use Rattle.fs_unicast.proofs.PlaceOrder.{below_upto, upto_below, upto_upto, lt_le, below_itself, upto_itself, below_not_upto, not_below, equal_upto, equal_back}
+use Rattle.fs_unicast.proofs.PlaceOrder.{below_upto, upto_below, upto_upto, lt_le, below_itself, upto_itself, below_not_upto, equal_upto, equal_back}
 use Rattle.fs_unicast.proofs.Finding.{found_each, found_passes, none_found, any_found, after_found, last_each, last_passes, no_last, any_last, before_last}
 use Rattle.fs_unicast.proofs.Parting.{both, first_of, second_of, same_is, same_itself, turned_off}
 

@@ -1,22 +1,20 @@
 -- Turns part the routes of other neighbouring ASes, after each change.
-use Rattle.std.proofs.Common.{ℕ, ◌≡◌, ◌==◌, refl, sym, ap, subst, ◌∙◌, Bool, true, false, true≢false, cond, not, ◌&&◌, ◌||◌, List, [], ◌∷◌, find, option_map, Option, Some, None, Ordering, Less, Equal, Greater, is_eq, is_le, is_lt, arith}
+use Rattle.std.proofs.Common.{ℕ, ◌≡◌, refl, sym, ap, subst, ◌∙◌, Bool, true, false, true≢false, ◌&&◌, ◌||◌, List, [], ◌∷◌, find, Option, Some, None, Ordering, Less, Equal, Greater, is_le, is_lt, arith}
 use Rattle.std.specs.List.{AllByRecursion, list_any}
 use Rattle.std.specs.List.Sorted.{IsStrictlySortedBy}
-use Rattle.std.specs.Option.{option_eq}
 use Rattle.std.specs.Ordering.{match_ordering}
 use Rattle.std.specs.BTreeMap.{insert_entry}
 use Rattle.std.specs.BTreeSet.{insert_key}
 use Rattle.std.specs.Cmp.{tied_itself}
 use Rattle.std.specs.Map.{keys_of, remove_entry}
 use Rattle.std.proofs.lemmas.Bool.Decides.{nat_tests}
-use Rattle.fs_base.proofs.Listing.{each, each_weaker, each_both, each_remove, any_each, any_weaker, or_first, or_second}
+use Rattle.fs_base.proofs.Listing.{each, each_weaker, each_both, each_remove, any_weaker, or_first, or_second}
 use Rattle.fs_base.specs.declared.path.Path.{Path}
 use Rattle.fs_unicast.specs.declared.unicast.Place.{Place}
-use Rattle.fs_unicast.specs.Neighbour.{neighbour, neighbour_as}
-use Rattle.fs_unicast.specs.Best.{is_other}
+use Rattle.fs_unicast.specs.Neighbour.{neighbour}
 use Rattle.fs_unicast.specs.Places.{Route, place_cmp}
-use Rattle.fs_unicast.specs.Turns.{neighbour_of, is_same, is_within, lies_between, are_parted, IsPartedAfter, IsPartedBefore, IsParted, StaysParted, find_last}
-use Rattle.fs_unicast.proofs.PlaceOrder.{place_total, below_upto, upto_below, upto_upto, lt_le, below_itself, upto_itself, below_not_upto, not_below, equal_upto, equal_back}
+use Rattle.fs_unicast.specs.Turns.{neighbour_of, is_same, lies_between, are_parted, IsPartedAfter, IsPartedBefore, IsParted, StaysParted, find_last}
+use Rattle.fs_unicast.proofs.PlaceOrder.{place_total, below_upto, upto_below, upto_upto, lt_le, upto_itself, equal_upto, equal_back}
 use Rattle.fs_unicast.proofs.Finding.{found_each, found_passes, none_found, after_found, last_each, last_passes, no_last, before_last}
 
 pub both : (a b : Bool) → a ≡ true → b ≡ true → (a && b) ≡ true

@@ -9,10 +9,9 @@ use Rattle.std.proofs.lemmas.Bool.Decides.{nat_tests}
 use Rattle.std.specs.BTreeMap.Range.{range_contains, entries_between}
 use Rattle.std.specs.declared.ops.Bound.TheVariants.{Included, Excluded, Unbounded}
 use Rattle.fs_base.specs.declared.prefix.Prefix.{Prefix}
-use Rattle.fs_base.specs.declared.path.Path.{Path}
 use Rattle.fs_base.specs.Prefix.{covers, prefix_cmp}
 use Rattle.fs_base.specs.PrefixOrder.{prefix_total}
-use Rattle.fs_base.proofs.Listing.{filter_on, filter_none, filter_first, filter_empty, find_filter, find_on, IsLeast, each, each_weaker, each_all, all_each, any_each, any_filter, any_on, any_weaker}
+use Rattle.fs_base.proofs.Listing.{filter_on, filter_none, filter_first, filter_empty, find_filter, find_on, IsLeast, each, each_weaker, each_all, all_each, any_each, any_on, any_weaker}
 use Rattle.fs_base.proofs.Nesting.{alike, alike_covers, covers_nested, covers_same_length}
 use Rattle.fs_base.specs.Seek.{IsFirst, IsLongest}
 use Rattle.fs_unicast.specs.declared.unicast.Place.{Place}

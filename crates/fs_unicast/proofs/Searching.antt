@@ -1,16 +1,16 @@
 -- The search for a route with another neighbouring AS, from turn to turn.
-use Rattle.std.proofs.Common.{ℕ, ◌≡◌, ◌+◌, ◌<◌, ◌≤◌, ◌==◌, refl, sym, ap, subst, ◌∙◌, Bool, true, false, true≢false, cond, not, ◌&&◌, ◌||◌, List, [], ◌∷◌, find, map-id, Option, Some, None, Ordering, Less, is_le, is_lt, arith}
+use Rattle.std.proofs.Common.{ℕ, ◌≡◌, ◌+◌, ◌<◌, ◌≤◌, refl, sym, ap, subst, ◌∙◌, Bool, true, false, true≢false, cond, not, ◌&&◌, ◌||◌, List, [], ◌∷◌, find, map-id, Option, Some, None, is_le, is_lt, arith}
 use Rattle.std.specs.List.{AllByRecursion, list_any}
 use Rattle.std.specs.List.Sorted.{IsStrictlySortedBy}
 use Rattle.std.specs.Map.{keys_of}
-use Rattle.fs_base.proofs.Listing.{each, each_weaker, each_both, each_none, any_each, or_first, or_second}
+use Rattle.fs_base.proofs.Listing.{each, each_weaker, each_both, each_none, any_each}
 use Rattle.fs_base.specs.declared.path.Path.{Path}
 use Rattle.fs_unicast.specs.declared.unicast.Place.{Place}
-use Rattle.fs_unicast.specs.Neighbour.{neighbour, neighbour_as}
+use Rattle.fs_unicast.specs.Neighbour.{neighbour}
 use Rattle.fs_unicast.specs.Best.{is_other}
 use Rattle.fs_unicast.specs.Places.{Route, place_cmp}
 use Rattle.fs_unicast.specs.Turns.{neighbour_of, is_same, is_within, lies_between, are_parted, IsPartedAfter, IsParted}
-use Rattle.fs_unicast.proofs.PlaceOrder.{below_upto, upto_below, upto_upto, lt_le, is_less, below_itself, upto_itself}
+use Rattle.fs_unicast.proofs.PlaceOrder.{below_upto, upto_below, upto_upto, lt_le, below_itself, upto_itself}
 use Rattle.fs_unicast.proofs.Finding.{found_each, found_passes, none_found, any_found, after_found}
 use Rattle.fs_unicast.proofs.Parting.{both, first_of, second_of, same_is}
 

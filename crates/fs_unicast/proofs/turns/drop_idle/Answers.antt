@@ -1,4 +1,4 @@
-use Rattle.std.proofs.Common.{◌≡◌, ◌∙◌, sym}
+use Rattle.std.proofs.Common.{◌∙◌, sym}
 use Rattle.fs_unicast.proofs.Idle.{parted_without}
 use Rattle.fs_unicast.proofs.turns.drop_idle.Goals as goal
 

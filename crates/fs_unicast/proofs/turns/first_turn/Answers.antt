@@ -1,4 +1,4 @@
-use Rattle.std.proofs.Common.{◌≡◌, ◌∙◌, sym, ap, subst, map-id, is_lt}
+use Rattle.std.proofs.Common.{◌∙◌, sym, ap, subst, map-id, is_lt}
 use Rattle.std.specs.List.Sorted.{IsStrictlySortedBy}
 use Rattle.fs_unicast.specs.Places.{place_cmp}
 use Rattle.fs_unicast.proofs.Finding.{find_both}

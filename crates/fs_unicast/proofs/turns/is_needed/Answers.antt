@@ -1,6 +1,6 @@
-use Rattle.std.proofs.Common.{◌≡◌, ◌∙◌, Bool, true, false, not, ◌&&◌, sym, ap, ap₂, option_map}
+use Rattle.std.proofs.Common.{◌≡◌, ◌∙◌, not, ◌&&◌, sym, ap, option_map}
 use Rattle.fs_unicast.specs.Neighbour.{neighbour}
-use Rattle.fs_unicast.specs.Turns.{is_same, is_alone, neighbour_of}
+use Rattle.fs_unicast.specs.Turns.{is_same, is_alone}
 use Rattle.fs_unicast.proofs.Idle.{idle_first, idle_last, beside, needed_beside}
 use Rattle.fs_unicast.proofs.turns.is_needed.Goals as goal
 

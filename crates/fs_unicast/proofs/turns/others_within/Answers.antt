@@ -1,4 +1,4 @@
-use Rattle.std.proofs.Common.{◌≡◌, ◌∙◌, sym, ap, option_map}
+use Rattle.std.proofs.Common.{◌∙◌, sym, ap, option_map}
 use Rattle.fs_unicast.proofs.Searching.{search_starts, search_hits, search_falls, search_turns, search_stops, search_ends}
 use Rattle.fs_unicast.proofs.turns.others_within.Goals as goal
 

@@ -1,4 +1,4 @@
-use Rattle.std.proofs.Common.{◌≡◌, ◌∙◌, sym, ap, option_map}
+use Rattle.std.proofs.Common.{◌∙◌, sym, ap, option_map}
 use Rattle.std.proofs.lemmas.Result.{on_ok_weaker}
 use Rattle.fs_unicast.proofs.Parting.{parted_first, parted_alike, parted_here}
 use Rattle.fs_unicast.proofs.turns.part_before.Goals as goal

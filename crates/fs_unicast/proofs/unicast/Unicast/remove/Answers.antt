@@ -1,4 +1,4 @@
-use Rattle.std.proofs.Common.{◌<◌, ◌^◌, arith}
+use Rattle.std.proofs.Common.{◌<◌, ◌^◌}
 use Rattle.std.specs.BTreeMap.{is_at}
 use Rattle.fs_base.proofs.Listing.{each_remove}
 use Rattle.fs_unicast.specs.Places.{place_cmp}
