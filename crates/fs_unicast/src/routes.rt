@@ -48,6 +48,7 @@ impl Routes {
         }
     }
 
+    /// The routes alone, for look-ups.
     pub fn paths(&self) -> &BTreeMap<Place, Path>
         ensures { result.now.entries ≡ self.now }
     {
@@ -64,7 +65,7 @@ impl Routes {
         kept
     }
 
-    /// The same; turns that are put before memory is refused stay.
+    /// Keeps the path at the place, with turns beside it. Turns that were put before memory is refused stay.
     fn keep(&mut self, place: Place, path: Path) -> Result<(), Memory>
         ensures ok { OnOk result (self.new ≡ insert_entry place_cmp self.old place path) }
         ensures err { OnErr result (self.new ≡ self.old) }
@@ -94,6 +95,7 @@ impl Routes {
         turns::others_within(&self.paths, &self.turns, low, high, local_as, asn)
     }
 
+    /// How many turns there are.
     #[cfg(test)]
     pub fn turn_count(&self) -> usize {
         self.turns.len()

@@ -176,8 +176,8 @@ fn last_turn(turns: &BTreeSet<Place>, place: &Place) -> Option<Place>
     turns.range(..=*place).next_back().copied()
 }
 
-/// Takes the turns beside the place away that are idle: the last one up to it, and the first one after it. A change
-/// at the place makes no other turn idle. Takes no memory.
+/// Takes the turns beside the place away that are idle: the last one up to it, and then the first one after it. To
+/// be called after a change at the place. Takes no memory.
 pub fn tidy(paths: &BTreeMap<Place, Path>, turns: &mut BTreeSet<Place>, place: &Place)
     requires { IsParted turns.old.keys paths.now.entries }
     ensures tidied { turns.new.keys ≡ tidied paths.now.entries turns.old.keys place.now }
