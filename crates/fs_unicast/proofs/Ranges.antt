@@ -9,10 +9,9 @@ use Rattle.std.proofs.lemmas.Bool.Decides.{nat_tests}
 use Rattle.std.specs.BTreeMap.Range.{range_contains, entries_between}
 use Rattle.std.specs.declared.ops.Bound.TheVariants.{Included, Excluded, Unbounded}
 use Rattle.fs_base.specs.declared.prefix.Prefix.{Prefix}
-use Rattle.fs_base.specs.declared.path.Path.{Path}
 use Rattle.fs_base.specs.Prefix.{covers, prefix_cmp}
 use Rattle.fs_base.specs.PrefixOrder.{prefix_total}
-use Rattle.fs_base.proofs.Listing.{filter_on, filter_none, filter_first, filter_empty, find_filter, find_on, IsLeast, each, each_weaker, each_all, all_each, any_each, any_filter, any_on, any_weaker}
+use Rattle.fs_base.proofs.Listing.{filter_on, filter_none, filter_first, filter_empty, find_filter, find_on, IsLeast, each, each_weaker, each_all, all_each, any_each, any_on, any_weaker}
 use Rattle.fs_base.proofs.Nesting.{alike, alike_covers, covers_nested, covers_same_length}
 use Rattle.fs_base.specs.Seek.{IsFirst, IsLongest}
 use Rattle.fs_unicast.specs.declared.unicast.Place.{Place}
@@ -20,6 +19,8 @@ use Rattle.fs_unicast.specs.Places.{Route, place_cmp}
 use Rattle.fs_unicast.specs.Small.{HasSmallPeers}
 use Rattle.fs_unicast.specs.Best.{is_same_prefix, is_strictly_under, is_other, others_under, best_at, best_match_of, is_longest, is_from, held_by, candidate}
 use Rattle.fs_unicast.specs.Start.{start_of}
+use Rattle.fs_unicast.specs.Turns.{is_within}
+use Rattle.fs_unicast.proofs.PlaceOrder.{below_not_upto}
 use Rattle.fs_unicast.specs.Preference.{best_of}
 
 abbrev pub place : Prefix → ℕ → Place
@@ -58,13 +59,12 @@ under_range d first q law = under_tests (prefix_cmp first q.prefix) (prefix_cmp 
     ∙ ap (λ o. (is_le (prefix_cmp first q.prefix) && is_le o) && not (is_eq (prefix_cmp d q.prefix))) (sym (prefix_total.antisymm q.prefix d))
     ∙ ap (λ b. b && not (is_eq (prefix_cmp d q.prefix))) (sym (law q.prefix))
 
-pub others_in_range : (d first : Prefix) (local_as : ℕ) (asn : Option ℕ) (held found : List Route) → ((p : Prefix) → covers d p ≡ (is_le (prefix_cmp first p) && is_le (prefix_cmp p d)))
-    → found ≡ entries_between place_cmp (Included (place first 0)) (Excluded (place d 0)) held
-    → list_any (λ r. is_other local_as asn r.1) found ≡ others_under held d local_as asn
-others_in_range d first local_as asn held found law e = ap (list_any (λ r. is_other local_as asn r.1)) e
-    ∙ any_filter (λ r. range_contains place_cmp (Included (place first 0)) (Excluded (place d 0)) r.0) (λ r. is_other local_as asn r.1) held
-    ∙ any_on (λ r. range_contains place_cmp (Included (place first 0)) (Excluded (place d 0)) r.0 && is_other local_as asn r.1) (λ r. is_strictly_under d r.0.prefix && is_other local_as asn r.1) held
-    (each (λ r. (range_contains place_cmp (Included (place first 0)) (Excluded (place d 0)) r.0 && is_other local_as asn r.1) ≡ (is_strictly_under d r.0.prefix && is_other local_as asn r.1)) (λ r. ap (λ b. b && is_other local_as asn r.1) (under_range d first r.0 law)) held)
+pub others_in_range : (d first : Prefix) (local_as : ℕ) (asn : Option ℕ) (held : List Route) → ((p : Prefix) → covers d p ≡ (is_le (prefix_cmp first p) && is_le (prefix_cmp p d)))
+    → list_any (λ r. is_within (place first 0) (place d 0) r.0 && is_other local_as asn r.1) held ≡ others_under held d local_as asn
+others_in_range d first local_as asn held law = any_on (λ r. is_within (place first 0) (place d 0) r.0 && is_other local_as asn r.1) (λ r. is_strictly_under d r.0.prefix && is_other local_as asn r.1) held
+    (each (λ r. (is_within (place first 0) (place d 0) r.0 && is_other local_as asn r.1) ≡ (is_strictly_under d r.0.prefix && is_other local_as asn r.1)) (λ r. ap (λ b. b && is_other local_as asn r.1) (within_under r.0)) held) where
+      within_under : (q : Place) → is_within (place first 0) (place d 0) q ≡ is_strictly_under d q.prefix
+      within_under q = ap (λ b. is_le (place_cmp (place first 0) q) && b) (below_not_upto q (place d 0)) ∙ under_range d first q law
 
 from_test : (o : Ordering) (n : ℕ) → (is_le (ordering_then o (nat_cmp 0 n)) && true) ≡ is_le o
 from_test Less n = refl

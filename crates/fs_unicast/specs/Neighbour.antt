@@ -1,6 +1,6 @@
 -- The ASes that a path names first. Of a path that is empty or holds a set or a confederation segment this is
 -- the project's own reading; else it is RFC 4271 section 9.1.2.2 (c), the neighbouring AS.
-use Rattle.std.specs.Prelude.{ℕ, ◌==◌, ◌||◌, not, Bool, Option, Some, None, List, slice_get, find, if◌then◌else◌, unwrap_or, option_and_then, option_map}
+use Rattle.std.specs.Prelude.{ℕ, ◌==◌, ◌||◌, not, Bool, Option, None, List, slice_get, find, if◌then◌else◌, unwrap_or, option_and_then, option_map}
 use Rattle.fs_base.specs.declared.path.Segment.{Segment}
 
 -- RFC 5065 section 3: AS_CONFED_SEQUENCE and AS_CONFED_SET

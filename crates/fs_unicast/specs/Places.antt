@@ -1,5 +1,4 @@
 -- The keys of unicast routes.
-use Rattle.std.specs.Prelude.{ℕ}
 use Rattle.std.specs.Ordering.{nat_cmp, ordering_then}
 use Rattle.std.specs.declared.cmp.Ordering.{Ordering}
 use Rattle.fs_base.specs.Prefix.{prefix_cmp}

@@ -3,9 +3,14 @@
 
 mod neighbour;
 mod preference;
+mod routes;
 mod search;
+mod turns;
 mod unicast;
 
 pub use neighbour::{first_as, neighbour_as};
 pub use preference::Held;
 pub use unicast::{Place, Unicast};
+
+#[cfg(test)]
+mod tests;

@@ -2,7 +2,7 @@
 
 ghost use Rattle.std.specs.Prelude.{◌≡◌};
 ghost use Rattle.std.specs.Option.{option_copied};
-ghost use Rattle.fs_unicast.specs.Neighbour.{is_confederation, leading, first_number, first_as, neighbour_as};
+ghost use Rattle.fs_unicast.specs.Neighbour.{is_confederation, leading, first_number, first_as, neighbour, neighbour_as};
 
 use fs_base::Segment;
 
@@ -26,10 +26,16 @@ pub fn first_as(segments: &[Segment]) -> Option<u32>
 pub fn neighbour_as(segments: &[Segment], local_as: u32) -> u32
     ensures { result ≡ neighbour_as local_as segments.now }
 {
-    match leading(segments) {
-        None => local_as,
-        Some(segment) => first_number(segment).unwrap_or(0),
-    }
+    neighbour(segments).unwrap_or(local_as)
+}
+
+/// The neighbouring AS that a path names: its leftmost AS; 0 where a set comes first; None where only
+/// confederation segments stand in it.
+pub fn neighbour(segments: &[Segment]) -> Option<u32>
+    ensures { result ≡ neighbour segments.now }
+{
+    let first = leading(segments)?;
+    Some(first_number(first).unwrap_or(0))
 }
 
 /// The first segment that isn't a confederation's.

@@ -1,7 +1,7 @@
 //! Look-ups in the ordered map of routes.
 
 ghost use Rattle.std.specs.Prelude.{◌≡◌, ◌<◌, ◌^◌, option_map};
-ghost use Rattle.fs_unicast.specs.Best.{best_at, best_match_of, is_other, others_under, held_by};
+ghost use Rattle.fs_unicast.specs.Best.{best_at, best_match_of, others_under, held_by};
 ghost use Rattle.fs_unicast.specs.Preference.{better};
 ghost use Rattle.fs_unicast.specs.Shown.{shown};
 ghost use Rattle.fs_unicast.specs.Small.{HasSmallPeers};
@@ -12,8 +12,8 @@ ghost use Rattle.std.specs.List.Sorted.{IsStrictlySortedBy};
 ghost use Rattle.std.specs.Map.{keys_of};
 ghost use Rattle.fs_unicast.specs.Places.{place_cmp};
 
-use crate::neighbour::neighbour_as;
 use crate::preference::Held;
+use crate::routes::Routes;
 use crate::unicast::Place;
 use fs_base::{Path, Prefix};
 use std::collections::BTreeMap;
@@ -97,13 +97,8 @@ fn first_from(routes: &BTreeMap<Place, Path>, low: &Prefix) -> Option<Prefix>
 }
 
 /// Whether a route strictly under the prefix has another neighbouring AS.
-pub fn others_under(
-    routes: &BTreeMap<Place, Path>,
-    prefix: &Prefix,
-    local_as: u32,
-    asn: Option<u32>,
-) -> bool
-    ensures { result ≡ others_under routes.now.entries prefix.now local_as asn }
+pub fn others_under(routes: &Routes, prefix: &Prefix, local_as: u32, asn: Option<u32>) -> bool
+    ensures { result ≡ others_under routes.now prefix.now local_as asn }
 {
     let low = Place {
         prefix: prefix.first_under(),
@@ -113,21 +108,7 @@ pub fn others_under(
         prefix: *prefix,
         peer: 0,
     };
-    for (_, path) in routes.range(low..high) {
-        if is_other(path, local_as, asn) {
-            return true;
-        }
-    }
-    false
-}
-
-fn is_other(path: &Path, local_as: u32, asn: Option<u32>) -> bool
-    ensures { result ≡ is_other local_as asn path.now }
-{
-    match asn {
-        None => true,
-        Some(asn) => neighbour_as(path.segments.as_slice(), local_as) != asn,
-    }
+    routes.others_within(low, &high, local_as, asn)
 }
 
 /// The first prefix in order, from `from` on or from the start, at which the peer holds a route.

@@ -10,10 +10,10 @@ ghost use Rattle.fs_unicast.specs.Shown.{shown};
 ghost use Rattle.std.specs.Option.{option_copied};
 
 use crate::preference::Held;
+use crate::routes::Routes;
 use crate::search;
 use fs_base::{Memory, Path, Prefix, Steps};
 use std::alloc::Global;
-use std::collections::BTreeMap;
 use std::marker::Model;
 use std::sync::ledger::Ledger;
 
@@ -27,7 +27,7 @@ pub struct Place {
 /// The unicast routes of both families that peers hold, at most one of a peer at a prefix.
 #[derive(Drop)]
 pub struct Unicast {
-    routes: BTreeMap<Place, Path>,
+    routes: Routes,
 }
 
 impl Model for Unicast {
@@ -38,9 +38,9 @@ impl Model for Unicast {
 
     ghost Value = { List (Place × Path) };
 
-    ghost view = { λ a. a.routes.entries };
+    ghost view = { λ a. a.routes };
 
-    ghost invariant = { λ a. HasSmallPeers a.routes.entries };
+    ghost invariant = { λ a. HasSmallPeers a.routes };
 }
 
 impl Unicast {
@@ -48,7 +48,7 @@ impl Unicast {
         ensures { result ≡ [] }
     {
         Unicast {
-            routes: BTreeMap::new(alloc),
+            routes: Routes::new(alloc),
         }
     }
 
@@ -58,7 +58,7 @@ impl Unicast {
         ensures ok { OnOk result (self.new ≡ insert_entry place_cmp self.old (record { prefix = prefix; peer = peer }) path) }
         ensures err { OnErr result (self.new ≡ self.old) }
     {
-        self.routes.insert(Place { prefix, peer }, path)?;
+        self.routes.put(Place { prefix, peer }, path)?;
         Ok(())
     }
 
@@ -71,7 +71,7 @@ impl Unicast {
             prefix: *prefix,
             peer,
         };
-        self.routes.remove(&place).is_some()
+        self.routes.remove(&place)
     }
 
     /// The most preferred route at the prefix. One step.
@@ -80,7 +80,7 @@ impl Unicast {
         ensures step { steps.new ≡ steps.old + 1 }
     {
         steps.take();
-        search::best_at(&self.routes, prefix)
+        search::best_at(self.routes.paths(), prefix)
     }
 
     /// The most preferred route at the longest prefix that covers this one and has a route. One step.
@@ -89,7 +89,7 @@ impl Unicast {
         ensures step { steps.new ≡ steps.old + 1 }
     {
         steps.take();
-        search::best_match(&self.routes, prefix)
+        search::best_match(self.routes.paths(), prefix)
     }
 
     /// The first prefix in order, from `from` on or from the start, at which the peer holds a route. The routes are
@@ -98,7 +98,7 @@ impl Unicast {
         ensures first { result ≡ held_by self.now peer (option_copied from.entry) }
         ensures ordered { IsStrictlySortedBy place_cmp (keys_of self.now) }
     {
-        search::held_by(&self.routes, peer, from)
+        search::held_by(self.routes.paths(), peer, from)
     }
 
     /// Whether a route of any peer strictly under the prefix has another neighbouring AS than `asn`; of None,

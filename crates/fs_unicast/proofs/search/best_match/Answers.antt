@@ -1,4 +1,4 @@
-use Rattle.std.proofs.Common.{sym, ◌∙◌}
+use Rattle.std.proofs.Common.{◌∙◌}
 use Rattle.fs_unicast.proofs.Ranges.{best_at_longest, no_best}
 use Rattle.fs_unicast.proofs.search.best_match.Goals as goal
 

@@ -1,0 +1,184 @@
+-- The first and the last element of a list that pass a test.
+use Rattle.std.proofs.Common.{◌≡◌, refl, sym, ap, subst, ◌∙◌, Bool, true, false, true≢false, cond, ◌&&◌, ◌||◌, List, [], ◌∷◌, ◌++◌, map, filter, find, option_map, slice_get, Option, Some, None, Ordering, Less}
+use Rattle.std.specs.Prelude.{MatchOption}
+use Rattle.std.specs.List.{AllByRecursion, list_any, last_or}
+use Rattle.std.specs.List.Sorted.{IsStrictlySortedBy}
+use Rattle.std.proofs.lemmas.Map.Keys.{sorted_head, sorted_tail}
+use Rattle.fs_base.proofs.Listing.{each_weaker, each_of_map, or_first, or_second}
+use Rattle.fs_unicast.specs.Turns.{find_last, later}
+
+-- what an iterator's next call shows is the head of what is left
+pub shows_first : {A X : Type 0} (shows : A → X) (s t : List X) (r : Option A) → MatchOption r ((s ≡ []) × (t ≡ [])) (λ x. s ≡ shows x ∷ t) → option_map shows r ≡ slice_get s 0
+shows_first shows s t None h = sym (ap (λ xs. slice_get xs 0) h.0)
+shows_first shows s t (Some x) h = sym (ap (λ xs. slice_get xs 0) h)
+
+last_appended : {X : Type 0} (o : Option X) (x : X) (xs : List X) → last_or o (xs ++ x ∷ []) ≡ Some x
+last_appended o x [] = refl
+last_appended o x (y ∷ ys) = last_appended (Some y) x ys
+
+-- what its last call shows is the end of it
+pub shows_last : {A X : Type 0} (shows : A → X) (s t : List X) (r : Option A) → MatchOption r ((s ≡ []) × (t ≡ [])) (λ x. s ≡ t ++ shows x ∷ []) → option_map shows r ≡ last_or None s
+shows_last shows s t None h = sym (ap (last_or None) h.0)
+shows_last shows s t (Some x) h = sym (ap (last_or None) h ∙ last_appended None (shows x) t)
+
+pub first_filtered : {X : Type 0} (test : X → Bool) (xs : List X) → slice_get (filter test xs) 0 ≡ find test xs
+first_filtered test [] = refl
+first_filtered test (x ∷ xs) = at (test x) (first_filtered test xs) where
+  at : (b : Bool) → slice_get (filter test xs) 0 ≡ find test xs → slice_get (cond b (x ∷ filter test xs) (filter test xs)) 0 ≡ cond b (Some x) (find test xs)
+  at true ih = refl
+  at false ih = ih
+
+pub last_filtered : {X : Type 0} (test : X → Bool) (o : Option X) (xs : List X) → last_or o (filter test xs) ≡ later (find_last test xs) o
+last_filtered test o [] = refl
+last_filtered {X} test o (x ∷ xs) = at (test x) (last_filtered test o xs) (last_filtered test (Some x) xs) where
+  over : (p : Option X) (q : Option X) → later p (Some x) ≡ later (later p (Some x)) q
+  over None q = refl
+  over (Some y) q = refl
+
+  under : (p : Option X) (q : Option X) → later p q ≡ later (later p None) q
+  under None q = refl
+  under (Some y) q = refl
+
+  at : (b : Bool) → last_or o (filter test xs) ≡ later (find_last test xs) o → last_or (Some x) (filter test xs) ≡ later (find_last test xs) (Some x)
+      → last_or o (cond b (x ∷ filter test xs) (filter test xs)) ≡ later (later (find_last test xs) (cond b (Some x) None)) o
+  at true ih k = k ∙ over (find_last test xs) o
+  at false ih k = ih ∙ under (find_last test xs) o
+
+-- what holds of each holds of the one that is found
+pub found_each : {X : Type 0} (test : X → Bool) (P : X → Type 0) (xs : List X) (x : X) → find test xs ≡ Some x → AllByRecursion P xs → P x
+found_each test P [] x h all = cc
+found_each {X} test P (y ∷ ys) x h all = at (test y) (λ k. found_each test P ys x k all.1) h where
+  same : (a b : X) → Some a ≡ Some b → a ≡ b
+  same a b e = cc
+
+  at : (b : Bool) → (find test ys ≡ Some x → P x) → cond b (Some y) (find test ys) ≡ Some x → P x
+  at true ih k = subst P (same y x k) all.0
+  at false ih k = ih k
+
+pub found_passes : {X : Type 0} (test : X → Bool) (xs : List X) (x : X) → find test xs ≡ Some x → test x ≡ true
+found_passes test [] x h = cc
+found_passes {X} test (y ∷ ys) x h = at (test y) refl (found_passes test ys x) h where
+  same : (a b : X) → Some a ≡ Some b → a ≡ b
+  same a b e = cc
+
+  at : (b : Bool) → test y ≡ b → (find test ys ≡ Some x → test x ≡ true) → cond b (Some y) (find test ys) ≡ Some x → test x ≡ true
+  at true e ih k = ap test (sym (same y x k)) ∙ e
+  at false e ih k = ih k
+
+pub none_found : {X : Type 0} (test : X → Bool) (xs : List X) → find test xs ≡ None → AllByRecursion (λ x. test x ≡ false) xs
+none_found test [] h = tt
+none_found test (y ∷ ys) h = at (test y) refl (none_found test ys) h where
+  at : (b : Bool) → test y ≡ b → (find test ys ≡ None → AllByRecursion (λ x. test x ≡ false) ys) → cond b (Some y) (find test ys) ≡ None → (test y ≡ false) × AllByRecursion (λ x. test x ≡ false) ys
+  at true e ih k = cc
+  at false e ih k = (e, ih k)
+
+pub find_none : {X : Type 0} (test : X → Bool) (xs : List X) → AllByRecursion (λ x. test x ≡ false) xs → find test xs ≡ None
+find_none test [] h = refl
+find_none test (y ∷ ys) h = at (test y) h.0 (find_none test ys h.1) where
+  at : (b : Bool) → b ≡ false → find test ys ≡ None → cond b (Some y) (find test ys) ≡ None
+  at true e ih = absurd (true≢false e)
+  at false e ih = ih
+
+-- the first that passes, where it passes another test too
+pub find_both : {X : Type 0} (test more : X → Bool) (xs : List X) (x : X) → find test xs ≡ Some x → more x ≡ true → find (λ y. test y && more y) xs ≡ Some x
+find_both test more [] x h k = cc
+find_both {X} test more (y ∷ ys) x h k = at (test y) (λ l. find_both test more ys x l k) h where
+  same : (a b : X) → Some a ≡ Some b → a ≡ b
+  same a b e = cc
+
+  here : (b : Bool) → b ≡ true → cond b (Some y) (find (λ y. test y && more y) ys) ≡ Some y
+  here true e = refl
+  here false e = absurd (true≢false (sym e))
+
+  at : (b : Bool) → (find test ys ≡ Some x → find (λ y. test y && more y) ys ≡ Some x) → cond b (Some y) (find test ys) ≡ Some x → cond (b && more y) (Some y) (find (λ y. test y && more y) ys) ≡ Some x
+  at true ih l = here (more y) (ap more (same y x l) ∙ k) ∙ l
+  at false ih l = ih l
+
+pub any_found : {X : Type 0} (test p : X → Bool) (xs : List X) (x : X) → find test xs ≡ Some x → p x ≡ true → list_any p xs ≡ true
+any_found test p [] x h k = cc
+any_found {X} test p (y ∷ ys) x h k = at (test y) (λ l. any_found test p ys x l k) h where
+  same : (a b : X) → Some a ≡ Some b → a ≡ b
+  same a b e = cc
+
+  at : (b : Bool) → (find test ys ≡ Some x → list_any p ys ≡ true) → cond b (Some y) (find test ys) ≡ Some x → (p y || list_any p ys) ≡ true
+  at true ih l = or_first (p y) (list_any p ys) (ap p (same y x l) ∙ k)
+  at false ih l = or_second (p y) (list_any p ys) (ih l)
+
+module _ {K X : Type 0} (cmp : K → K → Ordering) (key : X → K) where
+  -- In order, each that passes is the first one or after it.
+  pub after_found : (test : X → Bool) (P : X → Type 0) (xs : List X) → IsStrictlySortedBy cmp (map key xs) → (x : X) → find test xs ≡ Some x
+      → P x → ((y : X) → cmp (key x) (key y) ≡ Less → P y) → AllByRecursion (λ y. test y ≡ true → P y) xs
+  after_found test P [] sorted x h here more = tt
+  after_found test P (y ∷ ys) sorted x h here more = at (test y) refl (λ k. after_found test P ys (sorted_tail cmp (key y) (map key ys) sorted) x k here more) h where
+    same : (a b : X) → Some a ≡ Some b → a ≡ b
+    same a b e = cc
+
+    at : (b : Bool) → test y ≡ b → (find test ys ≡ Some x → AllByRecursion (λ y. test y ≡ true → P y) ys) → cond b (Some y) (find test ys) ≡ Some x → (test y ≡ true → P y) × AllByRecursion (λ y. test y ≡ true → P y) ys
+    at true e ih k = (
+      (λ _. subst P (sym (same y x k)) here),
+      each_weaker (λ z. cmp (key y) (key z) ≡ Less) (λ z. test z ≡ true → P z) (λ z less _. more z (subst (λ a. cmp (key a) (key z) ≡ Less) (same y x k) less)) ys (each_of_map key (λ k. cmp (key y) k ≡ Less) ys (sorted_head cmp (key y) (map key ys) sorted)),
+    )
+    at false e ih k = ((λ t. absurd (true≢false (sym t ∙ e))), ih k)
+
+-- what holds of each holds of the last one that is found
+pub last_each : {X : Type 0} (test : X → Bool) (P : X → Type 0) (xs : List X) (x : X) → find_last test xs ≡ Some x → AllByRecursion P xs → P x
+last_each test P [] x h all = cc
+last_each {X} test P (y ∷ ys) x h all = at (find_last test ys) (test y) (λ k. last_each test P ys x k all.1) h where
+  same : (a b : X) → Some a ≡ Some b → a ≡ b
+  same a b e = cc
+
+  at : (o : Option X) (b : Bool) → (o ≡ Some x → P x) → later o (cond b (Some y) None) ≡ Some x → P x
+  at (Some z) b ih k = ih k
+  at None true ih k = subst P (same y x k) all.0
+  at None false ih k = cc
+
+pub last_passes : {X : Type 0} (test : X → Bool) (xs : List X) (x : X) → find_last test xs ≡ Some x → test x ≡ true
+last_passes test [] x h = cc
+last_passes {X} test (y ∷ ys) x h = at (find_last test ys) (test y) refl (last_passes test ys x) h where
+  same : (a b : X) → Some a ≡ Some b → a ≡ b
+  same a b e = cc
+
+  at : (o : Option X) (b : Bool) → test y ≡ b → (o ≡ Some x → test x ≡ true) → later o (cond b (Some y) None) ≡ Some x → test x ≡ true
+  at (Some z) b e ih k = ih k
+  at None true e ih k = ap test (sym (same y x k)) ∙ e
+  at None false e ih k = cc
+
+pub any_last : {X : Type 0} (test p : X → Bool) (xs : List X) (x : X) → find_last test xs ≡ Some x → p x ≡ true → list_any p xs ≡ true
+any_last test p [] x h k = cc
+any_last {X} test p (y ∷ ys) x h k = at (find_last test ys) (test y) (λ l. any_last test p ys x l k) h where
+  same : (a b : X) → Some a ≡ Some b → a ≡ b
+  same a b e = cc
+
+  at : (o : Option X) (b : Bool) → (o ≡ Some x → list_any p ys ≡ true) → later o (cond b (Some y) None) ≡ Some x → (p y || list_any p ys) ≡ true
+  at (Some z) b ih l = or_second (p y) (list_any p ys) (ih l)
+  at None true ih l = or_first (p y) (list_any p ys) (ap p (same y x l) ∙ k)
+  at None false ih l = cc
+
+pub no_last : {X : Type 0} (test : X → Bool) (xs : List X) → find_last test xs ≡ None → AllByRecursion (λ x. test x ≡ false) xs
+no_last test [] h = tt
+no_last {X} test (y ∷ ys) h = at (find_last test ys) (test y) refl (no_last test ys) h where
+  at : (o : Option X) (b : Bool) → test y ≡ b → (o ≡ None → AllByRecursion (λ x. test x ≡ false) ys) → later o (cond b (Some y) None) ≡ None → (test y ≡ false) × AllByRecursion (λ x. test x ≡ false) ys
+  at (Some z) b e ih k = cc
+  at None true e ih k = cc
+  at None false e ih k = (e, ih refl)
+
+module _ {K X : Type 0} (cmp : K → K → Ordering) (key : X → K) where
+  -- In order, each that passes is the last one or before it.
+  pub before_last : (test : X → Bool) (P : X → Type 0) (xs : List X) → IsStrictlySortedBy cmp (map key xs) → (x : X) → find_last test xs ≡ Some x
+      → P x → ((y : X) → cmp (key y) (key x) ≡ Less → P y) → AllByRecursion (λ y. test y ≡ true → P y) xs
+  before_last test P [] sorted x h here more = tt
+  before_last test P (y ∷ ys) sorted x h here more = at (find_last test ys) refl (test y) refl (λ k. before_last test P ys (sorted_tail cmp (key y) (map key ys) sorted) x k here more) h where
+    same : (a b : X) → Some a ≡ Some b → a ≡ b
+    same a b e = cc
+
+    first : find_last test ys ≡ Some x → P y
+    first k = more y (last_each test (λ z. cmp (key y) (key z) ≡ Less) ys x k (each_of_map key (λ k. cmp (key y) k ≡ Less) ys (sorted_head cmp (key y) (map key ys) sorted)))
+
+    none : find_last test ys ≡ None → AllByRecursion (λ y. test y ≡ true → P y) ys
+    none k = each_weaker (λ z. test z ≡ false) (λ z. test z ≡ true → P z) (λ z no yes. absurd (true≢false (sym yes ∙ no))) ys (no_last test ys k)
+
+    at : (o : Option X) → find_last test ys ≡ o → (b : Bool) → test y ≡ b → (find_last test ys ≡ Some x → AllByRecursion (λ y. test y ≡ true → P y) ys) → later o (cond b (Some y) None) ≡ Some x
+        → (test y ≡ true → P y) × AllByRecursion (λ y. test y ≡ true → P y) ys
+    at (Some z) f b e ih k = ((λ _. first (f ∙ k)), ih (f ∙ k))
+    at None f true e ih k = ((λ _. subst P (sym (same y x k)) here), none f)
+    at None f false e ih k = cc

@@ -1,0 +1,174 @@
+-- Turns part the routes of other neighbouring ASes, after each change.
+use Rattle.std.proofs.Common.{ℕ, ◌≡◌, refl, sym, ap, subst, ◌∙◌, Bool, true, false, true≢false, ◌&&◌, ◌||◌, List, [], ◌∷◌, find, Option, Some, None, Ordering, Less, Equal, Greater, is_le, is_lt, arith}
+use Rattle.std.specs.List.{AllByRecursion, list_any}
+use Rattle.std.specs.List.Sorted.{IsStrictlySortedBy}
+use Rattle.std.specs.Ordering.{match_ordering}
+use Rattle.std.specs.BTreeMap.{insert_entry}
+use Rattle.std.specs.BTreeSet.{insert_key}
+use Rattle.std.specs.Cmp.{tied_itself}
+use Rattle.std.specs.Map.{keys_of, remove_entry}
+use Rattle.std.proofs.lemmas.Bool.Decides.{nat_tests}
+use Rattle.fs_base.proofs.Listing.{each, each_weaker, each_both, each_remove, any_weaker, or_first, or_second}
+use Rattle.fs_base.specs.declared.path.Path.{Path}
+use Rattle.fs_unicast.specs.declared.unicast.Place.{Place}
+use Rattle.fs_unicast.specs.Neighbour.{neighbour}
+use Rattle.fs_unicast.specs.Places.{Route, place_cmp}
+use Rattle.fs_unicast.specs.Turns.{neighbour_of, is_same, lies_between, are_parted, IsPartedAfter, IsPartedBefore, IsParted, StaysParted, find_last}
+use Rattle.fs_unicast.proofs.PlaceOrder.{place_total, below_upto, upto_below, upto_upto, lt_le, upto_itself, equal_upto, equal_back}
+use Rattle.fs_unicast.proofs.Finding.{found_each, found_passes, none_found, after_found, last_each, last_passes, no_last, before_last}
+
+pub both : (a b : Bool) → a ≡ true → b ≡ true → (a && b) ≡ true
+both true b h k = k
+both false b h k = h
+
+pub first_of : (a b : Bool) → (a && b) ≡ true → a ≡ true
+first_of true b h = refl
+first_of false b h = h
+
+pub second_of : (a b : Bool) → (a && b) ≡ true → b ≡ true
+second_of true b h = h
+second_of false b h = absurd (true≢false (sym h))
+
+pub same_is : (a b : Option ℕ) → is_same a b ≡ true → a ≡ b
+same_is None None h = refl
+same_is None (Some n) h = absurd (true≢false (sym h))
+same_is (Some m) None h = absurd (true≢false (sym h))
+same_is (Some m) (Some n) h = let e : m ≡ n = grind (arith, nat_tests) in cc
+
+pub same_itself : (a : Option ℕ) → is_same a a ≡ true
+same_itself None = refl
+same_itself (Some n) = grind (arith, nat_tests)
+
+-- a turn between x and y lies between what is around them
+pub wider : (turns : List Place) (w x y z : Place) → is_le (place_cmp w x) ≡ true → is_le (place_cmp y z) ≡ true → are_parted turns x y ≡ true → are_parted turns w z ≡ true
+wider turns w x y z h k = any_weaker (lies_between x y) (lies_between w z) (λ t l. both (is_lt (place_cmp w t)) (is_le (place_cmp t z))
+    (upto_below w x t h (first_of (is_lt (place_cmp x t)) (is_le (place_cmp t y)) l)) (upto_upto t y z (second_of (is_lt (place_cmp x t)) (is_le (place_cmp t y)) l) k)) turns
+
+-- what was among the keys of a set is there after an insertion
+kept_inserted : (q : Place → Bool) (k : Place) (ks : List Place) → list_any q ks ≡ true → list_any q (insert_key place_cmp ks k) ≡ true
+kept_inserted q k [] h = absurd (true≢false (sym h))
+kept_inserted q k (x ∷ xs) h = at (place_cmp k x) (kept_inserted q k xs) h where
+  later_one : (b c : Bool) → (b || c) ≡ true → (d : Bool) → (c ≡ true → d ≡ true) → (b || d) ≡ true
+  later_one true c g d f = refl
+  later_one false c g d f = f g
+
+  at : (o : Ordering) → (list_any q xs ≡ true → list_any q (insert_key place_cmp xs k) ≡ true) → (q x || list_any q xs) ≡ true → list_any q (match_ordering o (k ∷ x ∷ xs) (x ∷ xs) (x ∷ insert_key place_cmp xs k)) ≡ true
+  at Less ih g = or_second (q k) (q x || list_any q xs) g
+  at Equal ih g = g
+  at Greater ih g = later_one (q x) (list_any q xs) g (list_any q (insert_key place_cmp xs k)) ih
+
+there_inserted : (q : Place → Bool) (k : Place) → q k ≡ true → ((x : Place) → place_cmp k x ≡ Equal → q x ≡ true) → (ks : List Place) → list_any q (insert_key place_cmp ks k) ≡ true
+there_inserted q k h same [] = or_first (q k) false h
+there_inserted q k h same (x ∷ xs) = at (place_cmp k x) refl (there_inserted q k h same xs) where
+  at : (o : Ordering) → place_cmp k x ≡ o → list_any q (insert_key place_cmp xs k) ≡ true → list_any q (match_ordering o (k ∷ x ∷ xs) (x ∷ xs) (x ∷ insert_key place_cmp xs k)) ≡ true
+  at Less e ih = or_first (q k) (q x || list_any q xs) h
+  at Equal e ih = or_first (q x) (list_any q xs) (same x e)
+  at Greater e ih = or_second (q x) (list_any q (insert_key place_cmp xs k)) ih
+
+pub stays_inserted : (turn : Place) (old new : List Place) → new ≡ insert_key place_cmp old turn → StaysParted old new
+stays_inserted turn old new e x y h = ap (list_any (lies_between x y)) e ∙ kept_inserted (lies_between x y) turn old h
+
+pub parts_inserted : (turn : Place) (old new : List Place) → new ≡ insert_key place_cmp old turn → (x y : Place) → lies_between x y turn ≡ true → are_parted new x y ≡ true
+parts_inserted turn old new e x y h = ap (list_any (lies_between x y)) e ∙ there_inserted (lies_between x y) turn h
+    (λ t same. both (is_lt (place_cmp x t)) (is_le (place_cmp t y)) (below_upto x turn t (first_of (is_lt (place_cmp x turn)) (is_le (place_cmp turn y)) h) (equal_upto turn t same)) (upto_upto t turn y (equal_back turn t same) (second_of (is_lt (place_cmp x turn)) (is_le (place_cmp turn y)) h))) old
+
+stays_after : (old new : List Place) (held : List Route) (x : Place) (asn : Option ℕ) → StaysParted old new → IsPartedAfter old held x asn → IsPartedAfter new held x asn
+stays_after old new held x asn stays h = each_weaker (λ r. is_lt (place_cmp x r.0) ≡ true → is_same asn (neighbour_of r) ≡ false → are_parted old x r.0 ≡ true) (λ r. is_lt (place_cmp x r.0) ≡ true → is_same asn (neighbour_of r) ≡ false → are_parted new x r.0 ≡ true)
+    (λ r f below other. stays x r.0 (f below other)) held h
+
+pub stays_before : (old new : List Place) (held : List Route) (y : Place) (asn : Option ℕ) → StaysParted old new → IsPartedBefore old held y asn → IsPartedBefore new held y asn
+stays_before old new held y asn stays h = each_weaker (λ r. is_lt (place_cmp r.0 y) ≡ true → is_same (neighbour_of r) asn ≡ false → are_parted old r.0 y ≡ true) (λ r. is_lt (place_cmp r.0 y) ≡ true → is_same (neighbour_of r) asn ≡ false → are_parted new r.0 y ≡ true)
+    (λ r f below other. stays r.0 y (f below other)) held h
+
+pub stays_all : (old new : List Place) (held : List Route) → StaysParted old new → IsParted old held → IsParted new held
+stays_all old new held stays h = each_weaker (λ r. IsPartedAfter old held r.0 (neighbour_of r)) (λ r. IsPartedAfter new held r.0 (neighbour_of r)) (λ r. stays_after old new held r.0 (neighbour_of r) stays) held h
+
+-- a route goes
+pub parted_removed : (turns : List Place) (test : Place → Bool) (held : List Route) → IsParted turns held → IsParted turns (remove_entry test held)
+parted_removed turns test held h = each_remove (λ r. IsPartedAfter turns (remove_entry test held) r.0 (neighbour_of r)) test held
+    (each_weaker (λ r. IsPartedAfter turns held r.0 (neighbour_of r)) (λ r. IsPartedAfter turns (remove_entry test held) r.0 (neighbour_of r))
+    (λ r. each_remove (λ s. is_lt (place_cmp r.0 s.0) ≡ true → is_same (neighbour_of r) (neighbour_of s) ≡ false → are_parted turns r.0 s.0 ≡ true) test held) held h)
+
+-- what holds of each entry and of the new one, at each place that is equal to its own, holds after an insertion
+each_put : (P : Route → Type 0) (z : Place) (path : Path) → ((q : Place) → place_cmp z q ≡ Equal → P (q, path)) → P (z, path) → (held : List Route) → AllByRecursion P held → AllByRecursion P (insert_entry place_cmp held z path)
+each_put P z path same new [] all = (new, tt)
+each_put P z path same new (r ∷ held) all = at (place_cmp z r.0) refl (each_put P z path same new held all.1) where
+  at : (o : Ordering) → place_cmp z r.0 ≡ o → AllByRecursion P (insert_entry place_cmp held z path) → AllByRecursion P (match_ordering o ((z, path) ∷ r ∷ held) ((r.0, path) ∷ held) (r ∷ insert_entry place_cmp held z path))
+  at Less e ih = (new, all)
+  at Equal e ih = (same r.0 e, all.1)
+  at Greater e ih = (all.0, ih)
+
+-- a route comes, parted from those before and after it
+pub parted_put : (turns : List Place) (held : List Route) (z : Place) (path : Path) → IsParted turns held → IsPartedBefore turns held z (neighbour path.segments) → IsPartedAfter turns held z (neighbour path.segments)
+    → IsParted turns (insert_entry place_cmp held z path)
+parted_put turns held z path h before after = each_put (λ r. IsPartedAfter turns (insert_entry place_cmp held z path) r.0 (neighbour_of r)) z path at_new (at_new z (ap_itself)) held
+    (each_both (λ r. IsPartedAfter turns held r.0 (neighbour_of r)) (λ r. is_lt (place_cmp r.0 z) ≡ true → is_same (neighbour_of r) (neighbour path.segments) ≡ false → are_parted turns r.0 z ≡ true)
+    (λ r. IsPartedAfter turns (insert_entry place_cmp held z path) r.0 (neighbour_of r)) at_old held h before) where
+      ap_itself : place_cmp z z ≡ Equal
+      ap_itself = tied_itself place_total z
+
+      to_equal : (r : Route) → (is_lt (place_cmp r.0 z) ≡ true → is_same (neighbour_of r) (neighbour path.segments) ≡ false → are_parted turns r.0 z ≡ true)
+          → (q : Place) → place_cmp z q ≡ Equal → is_lt (place_cmp r.0 q) ≡ true → is_same (neighbour_of r) (neighbour path.segments) ≡ false → are_parted turns r.0 q ≡ true
+      to_equal r f q same below other = wider turns r.0 r.0 z q (upto_itself r.0) (equal_upto z q same) (f (below_upto r.0 q z below (equal_back z q same)) other)
+
+      at_old : (r : Route) → IsPartedAfter turns held r.0 (neighbour_of r) → (is_lt (place_cmp r.0 z) ≡ true → is_same (neighbour_of r) (neighbour path.segments) ≡ false → are_parted turns r.0 z ≡ true)
+          → IsPartedAfter turns (insert_entry place_cmp held z path) r.0 (neighbour_of r)
+      at_old r all f = each_put (λ s. is_lt (place_cmp r.0 s.0) ≡ true → is_same (neighbour_of r) (neighbour_of s) ≡ false → are_parted turns r.0 s.0 ≡ true) z path (to_equal r f) f held all
+
+      from_equal : (q : Place) → place_cmp z q ≡ Equal → (s : Route) → (is_lt (place_cmp z s.0) ≡ true → is_same (neighbour path.segments) (neighbour_of s) ≡ false → are_parted turns z s.0 ≡ true)
+          → is_lt (place_cmp q s.0) ≡ true → is_same (neighbour path.segments) (neighbour_of s) ≡ false → are_parted turns q s.0 ≡ true
+      from_equal q same s f below other = wider turns q z s.0 s.0 (equal_back z q same) (upto_itself s.0) (f (upto_below z q s.0 (equal_upto z q same) below) other)
+
+      alike : (q t : Place) → is_lt (place_cmp q t) ≡ true → is_same (neighbour path.segments) (neighbour path.segments) ≡ false → are_parted turns q t ≡ true
+      alike q t below other = absurd (true≢false (sym (same_itself (neighbour path.segments)) ∙ other))
+
+      at_new : (q : Place) → place_cmp z q ≡ Equal → IsPartedAfter turns (insert_entry place_cmp held z path) q (neighbour path.segments)
+      at_new q same = each_put (λ s. is_lt (place_cmp q s.0) ≡ true → is_same (neighbour path.segments) (neighbour_of s) ≡ false → are_parted turns q s.0 ≡ true) z path (λ t _. alike q t) (alike q z) held
+          (each_weaker (λ s. is_lt (place_cmp z s.0) ≡ true → is_same (neighbour path.segments) (neighbour_of s) ≡ false → are_parted turns z s.0 ≡ true) (λ s. is_lt (place_cmp q s.0) ≡ true → is_same (neighbour path.segments) (neighbour_of s) ≡ false → are_parted turns q s.0 ≡ true) (from_equal q same) held after)
+
+pub turned_off : (b c : Bool) → b ≡ true → b ≡ false → c ≡ true
+turned_off true c h k = absurd (true≢false k)
+turned_off false c h k = absurd (true≢false (sym h))
+
+-- no route stands before
+pub parted_first : (turns : List Place) (held : List Route) (z : Place) (asn : Option ℕ) → find_last (λ r. is_lt (place_cmp r.0 z)) held ≡ None → IsPartedBefore turns held z asn
+parted_first turns held z asn e = each_weaker (λ r. is_lt (place_cmp r.0 z) ≡ false) (λ r. is_lt (place_cmp r.0 z) ≡ true → is_same (neighbour_of r) asn ≡ false → are_parted turns r.0 z ≡ true)
+    (λ r no yes other. turned_off (is_lt (place_cmp r.0 z)) (are_parted turns r.0 z) yes no) held (no_last (λ r. is_lt (place_cmp r.0 z)) held e)
+
+-- the route before has the same neighbouring AS
+pub parted_alike : (turns : List Place) (held : List Route) (z : Place) (asn : Option ℕ) (p : Route) → IsStrictlySortedBy place_cmp (keys_of held) → find_last (λ r. is_lt (place_cmp r.0 z)) held ≡ Some p → IsParted turns held
+    → is_same (neighbour_of p) asn ≡ true → IsPartedBefore turns held z asn
+parted_alike turns held z asn p sorted e parted same = each_both (λ r. is_lt (place_cmp r.0 z) ≡ true → is_same (neighbour_of r) asn ≡ false → is_lt (place_cmp r.0 p.0) ≡ true) (λ r. is_lt (place_cmp r.0 p.0) ≡ true → is_same (neighbour_of r) (neighbour_of p) ≡ false → are_parted turns r.0 p.0 ≡ true)
+    (λ r. is_lt (place_cmp r.0 z) ≡ true → is_same (neighbour_of r) asn ≡ false → are_parted turns r.0 z ≡ true)
+    (λ r f part below other. wider turns r.0 r.0 p.0 z (upto_itself r.0) (lt_le (place_cmp p.0 z) (last_passes (λ r. is_lt (place_cmp r.0 z)) held p e)) (part (f below other) (subst (λ a. is_same (neighbour_of r) a ≡ false) (sym (same_is (neighbour_of p) asn same)) other))) held
+    (before_last place_cmp (λ r. r.0) (λ r. is_lt (place_cmp r.0 z)) (λ r. is_same (neighbour_of r) asn ≡ false → is_lt (place_cmp r.0 p.0) ≡ true) held sorted p e (turned_off (is_same (neighbour_of p) asn) (is_lt (place_cmp p.0 p.0)) same) (λ r less other. ap is_lt less))
+    (each_weaker (λ r. IsPartedAfter turns held r.0 (neighbour_of r)) (λ r. is_lt (place_cmp r.0 p.0) ≡ true → is_same (neighbour_of r) (neighbour_of p) ≡ false → are_parted turns r.0 p.0 ≡ true)
+    (λ r. last_each (λ s. is_lt (place_cmp s.0 z)) (λ s. is_lt (place_cmp r.0 s.0) ≡ true → is_same (neighbour_of r) (neighbour_of s) ≡ false → are_parted turns r.0 s.0 ≡ true) held p e) held parted)
+
+-- a turn stands at the place itself
+pub parted_here : (turns : List Place) (held : List Route) (z : Place) (asn : Option ℕ) → ((x y : Place) → lies_between x y z ≡ true → are_parted turns x y ≡ true) → IsPartedBefore turns held z asn
+parted_here turns held z asn h = each (λ r. is_lt (place_cmp r.0 z) ≡ true → is_same (neighbour_of r) asn ≡ false → are_parted turns r.0 z ≡ true) (λ r below other. h r.0 z (both (is_lt (place_cmp r.0 z)) (is_le (place_cmp z z)) below (upto_itself z))) held
+
+-- no route stands after
+pub parted_last : (turns : List Place) (held : List Route) (z : Place) (asn : Option ℕ) → find (λ r. is_lt (place_cmp z r.0)) held ≡ None → IsPartedAfter turns held z asn
+parted_last turns held z asn e = each_weaker (λ r. is_lt (place_cmp z r.0) ≡ false) (λ r. is_lt (place_cmp z r.0) ≡ true → is_same asn (neighbour_of r) ≡ false → are_parted turns z r.0 ≡ true)
+    (λ r no yes other. turned_off (is_lt (place_cmp z r.0)) (are_parted turns z r.0) yes no) held (none_found (λ r. is_lt (place_cmp z r.0)) held e)
+
+-- the route after has the same neighbouring AS
+pub parted_on : (turns : List Place) (held : List Route) (z : Place) (asn : Option ℕ) (s : Route) → IsStrictlySortedBy place_cmp (keys_of held) → find (λ r. is_lt (place_cmp z r.0)) held ≡ Some s → IsParted turns held
+    → is_same (neighbour_of s) asn ≡ true → IsPartedAfter turns held z asn
+parted_on turns held z asn s sorted e parted same = each_both (λ r. is_lt (place_cmp z r.0) ≡ true → is_same (neighbour_of s) (neighbour_of r) ≡ false → is_lt (place_cmp s.0 r.0) ≡ true) (λ r. is_lt (place_cmp s.0 r.0) ≡ true → is_same (neighbour_of s) (neighbour_of r) ≡ false → are_parted turns s.0 r.0 ≡ true)
+    (λ r. is_lt (place_cmp z r.0) ≡ true → is_same asn (neighbour_of r) ≡ false → are_parted turns z r.0 ≡ true)
+    (λ r f part below other. joined r f part below (subst (λ a. is_same a (neighbour_of r) ≡ false) (sym (same_is (neighbour_of s) asn same)) other)) held
+    (after_found place_cmp (λ r. r.0) (λ r. is_lt (place_cmp z r.0)) (λ r. is_same (neighbour_of s) (neighbour_of r) ≡ false → is_lt (place_cmp s.0 r.0) ≡ true) held sorted s e (turned_off (is_same (neighbour_of s) (neighbour_of s)) (is_lt (place_cmp s.0 s.0)) (same_itself (neighbour_of s))) (λ r less other. ap is_lt less))
+    (found_each (λ r. is_lt (place_cmp z r.0)) (λ r. IsPartedAfter turns held r.0 (neighbour_of r)) held s e parted) where
+      joined : (r : Route) → (is_lt (place_cmp z r.0) ≡ true → is_same (neighbour_of s) (neighbour_of r) ≡ false → is_lt (place_cmp s.0 r.0) ≡ true) → (is_lt (place_cmp s.0 r.0) ≡ true → is_same (neighbour_of s) (neighbour_of r) ≡ false → are_parted turns s.0 r.0 ≡ true)
+          → is_lt (place_cmp z r.0) ≡ true → is_same (neighbour_of s) (neighbour_of r) ≡ false → are_parted turns z r.0 ≡ true
+      joined r f part below other = wider turns z s.0 r.0 r.0 (lt_le (place_cmp z s.0) (found_passes (λ r. is_lt (place_cmp z r.0)) held s e)) (upto_itself r.0) (part (f below other) other)
+
+-- a turn stands at the route after
+pub parted_next : (turns : List Place) (held : List Route) (z : Place) (asn : Option ℕ) (s : Route) → IsStrictlySortedBy place_cmp (keys_of held) → find (λ r. is_lt (place_cmp z r.0)) held ≡ Some s
+    → ((x y : Place) → lies_between x y s.0 ≡ true → are_parted turns x y ≡ true) → IsPartedAfter turns held z asn
+parted_next turns held z asn s sorted e h = each_weaker (λ r. is_lt (place_cmp z r.0) ≡ true → is_le (place_cmp s.0 r.0) ≡ true) (λ r. is_lt (place_cmp z r.0) ≡ true → is_same asn (neighbour_of r) ≡ false → are_parted turns z r.0 ≡ true)
+    (λ r f below other. h z r.0 (both (is_lt (place_cmp z s.0)) (is_le (place_cmp s.0 r.0)) (found_passes (λ r. is_lt (place_cmp z r.0)) held s e) (f below))) held
+    (after_found place_cmp (λ r. r.0) (λ r. is_lt (place_cmp z r.0)) (λ r. is_le (place_cmp s.0 r.0) ≡ true) held sorted s e (upto_itself s.0) (λ r less. ap is_le less))

@@ -1,0 +1,71 @@
+-- The order of places.
+use Rattle.std.proofs.Common.{◌≡◌, refl, sym, ap, ◌∙◌, Bool, true, false, true≢false, not, Ordering, Less, Equal, Greater, is_le, is_lt}
+use Rattle.std.specs.Ordering.{ordering_reverse}
+use Rattle.std.specs.Cmp.{IsTotalOrder, alike_right, tied_itself, on_total, then_total, nat_cmp_total}
+use Rattle.fs_base.specs.PrefixOrder.{prefix_total}
+use Rattle.fs_unicast.specs.declared.unicast.Place.{Place}
+use Rattle.fs_unicast.specs.Places.{place_cmp}
+
+pub place_total : IsTotalOrder place_cmp
+place_total = then_total (on_total (λ p. p.prefix) prefix_total) (on_total (λ p. p.peer) nat_cmp_total)
+
+pub is_less : (o : Ordering) → is_lt o ≡ true → o ≡ Less
+is_less Less h = refl
+is_less Equal h = absurd (true≢false (sym h))
+is_less Greater h = absurd (true≢false (sym h))
+
+pub lt_le : (o : Ordering) → is_lt o ≡ true → is_le o ≡ true
+lt_le Less h = refl
+lt_le Equal h = refl
+lt_le Greater h = absurd (true≢false (sym h))
+
+-- below, then up to
+pub below_upto : (x y z : Place) → is_lt (place_cmp x y) ≡ true → is_le (place_cmp y z) ≡ true → is_lt (place_cmp x z) ≡ true
+below_upto x y z h k = at (place_cmp y z) refl k where
+  at : (o : Ordering) → place_cmp y z ≡ o → is_le o ≡ true → is_lt (place_cmp x z) ≡ true
+  at Less e l = ap is_lt (place_total.trans x y z (is_less (place_cmp x y) h) e)
+  at Equal e l = sym (ap is_lt (alike_right place_total y z x e)) ∙ h
+  at Greater e l = absurd (true≢false (sym l))
+
+-- up to, then below
+pub upto_below : (x y z : Place) → is_le (place_cmp x y) ≡ true → is_lt (place_cmp y z) ≡ true → is_lt (place_cmp x z) ≡ true
+upto_below x y z h k = at (place_cmp x y) refl h where
+  at : (o : Ordering) → place_cmp x y ≡ o → is_le o ≡ true → is_lt (place_cmp x z) ≡ true
+  at Less e l = ap is_lt (place_total.trans x y z e (is_less (place_cmp y z) k))
+  at Equal e l = ap is_lt (place_total.congr x y z e) ∙ k
+  at Greater e l = absurd (true≢false (sym l))
+
+pub upto_upto : (x y z : Place) → is_le (place_cmp x y) ≡ true → is_le (place_cmp y z) ≡ true → is_le (place_cmp x z) ≡ true
+upto_upto x y z h k = at (place_cmp x y) refl h where
+  at : (o : Ordering) → place_cmp x y ≡ o → is_le o ≡ true → is_le (place_cmp x z) ≡ true
+  at Less e l = lt_le (place_cmp x z) (below_upto x y z (ap is_lt e) k)
+  at Equal e l = ap is_le (place_total.congr x y z e) ∙ k
+  at Greater e l = absurd (true≢false (sym l))
+
+reversed : (o : Ordering) → is_lt (ordering_reverse o) ≡ not (is_le o)
+reversed Less = refl
+reversed Equal = refl
+reversed Greater = refl
+
+-- below is not up to the other way
+pub below_not_upto : (x y : Place) → is_lt (place_cmp x y) ≡ not (is_le (place_cmp y x))
+below_not_upto x y = ap is_lt (place_total.antisymm x y) ∙ reversed (place_cmp y x)
+
+not_true : (b : Bool) → not b ≡ false → b ≡ true
+not_true true h = refl
+not_true false h = absurd (true≢false h)
+
+pub not_below : (x y : Place) → is_lt (place_cmp x y) ≡ false → is_le (place_cmp y x) ≡ true
+not_below x y h = not_true (is_le (place_cmp y x)) (sym (below_not_upto x y) ∙ h)
+
+pub below_itself : (x : Place) → is_lt (place_cmp x x) ≡ false
+below_itself x = ap is_lt (tied_itself place_total x)
+
+pub upto_itself : (x : Place) → is_le (place_cmp x x) ≡ true
+upto_itself x = ap is_le (tied_itself place_total x)
+
+pub equal_upto : (x y : Place) → place_cmp x y ≡ Equal → is_le (place_cmp x y) ≡ true
+equal_upto x y e = ap is_le e
+
+pub equal_back : (x y : Place) → place_cmp x y ≡ Equal → is_le (place_cmp y x) ≡ true
+equal_back x y e = ap is_le (place_total.antisymm y x ∙ ap ordering_reverse e)

@@ -1,0 +1,135 @@
+-- The search for a route with another neighbouring AS, from turn to turn.
+use Rattle.std.proofs.Common.{ℕ, ◌≡◌, ◌+◌, ◌<◌, ◌≤◌, refl, sym, ap, subst, ◌∙◌, Bool, true, false, true≢false, cond, not, ◌&&◌, ◌||◌, List, [], ◌∷◌, find, map-id, Option, Some, None, is_le, is_lt, arith}
+use Rattle.std.specs.List.{AllByRecursion, list_any}
+use Rattle.std.specs.List.Sorted.{IsStrictlySortedBy}
+use Rattle.std.specs.Map.{keys_of}
+use Rattle.fs_base.proofs.Listing.{each, each_weaker, each_both, each_none, any_each}
+use Rattle.fs_base.specs.declared.path.Path.{Path}
+use Rattle.fs_unicast.specs.declared.unicast.Place.{Place}
+use Rattle.fs_unicast.specs.Neighbour.{neighbour}
+use Rattle.fs_unicast.specs.Best.{is_other}
+use Rattle.fs_unicast.specs.Places.{Route, place_cmp}
+use Rattle.fs_unicast.specs.Turns.{neighbour_of, is_same, is_within, lies_between, are_parted, IsPartedAfter, IsParted}
+use Rattle.fs_unicast.proofs.PlaceOrder.{below_upto, upto_below, upto_upto, lt_le, below_itself, upto_itself}
+use Rattle.fs_unicast.proofs.Finding.{found_each, found_passes, none_found, any_found, after_found}
+use Rattle.fs_unicast.proofs.Parting.{both, first_of, second_of, same_is}
+
+abbrev pub count : (Place → Bool) → List Place → ℕ
+count p [] = 0
+count p (t ∷ ts) = cond (p t) 1 0 + count p ts
+
+no_more : (p q : Place → Bool) → ((t : Place) → p t ≡ true → q t ≡ true) → (ts : List Place) → count p ts ≤ count q ts
+no_more p q h [] = omega arith
+no_more p q h (t ∷ ts) = at (p t) (q t) (h t) (no_more p q h ts) where
+  at : (a b : Bool) → (a ≡ true → b ≡ true) → count p ts ≤ count q ts → cond a 1 0 + count p ts ≤ cond b 1 0 + count q ts
+  at true true f ih = omega arith
+  at true false f ih = absurd (true≢false (sym (f refl)))
+  at false true f ih = omega arith
+  at false false f ih = omega arith
+
+fewer : (p q : Place → Bool) → ((t : Place) → p t ≡ true → q t ≡ true) → (ts : List Place) → list_any (λ t. q t && not (p t)) ts ≡ true → count p ts < count q ts
+fewer p q h [] k = absurd (true≢false (sym k))
+fewer p q h (t ∷ ts) k = at (p t) (q t) (h t) (no_more p q h ts) (fewer p q h ts) k where
+  at : (a b : Bool) → (a ≡ true → b ≡ true) → count p ts ≤ count q ts → (list_any (λ t. q t && not (p t)) ts ≡ true → count p ts < count q ts)
+      → ((b && not a) || list_any (λ t. q t && not (p t)) ts) ≡ true → cond a 1 0 + count p ts < cond b 1 0 + count q ts
+  at true true f le ih l = let m : count p ts < count q ts = ih l in omega arith
+  at true false f le ih l = absurd (true≢false (sym (f refl)))
+  at false true f le ih l = omega arith
+  at false false f le ih l = let m : count p ts < count q ts = ih l in omega arith
+
+-- the turn that is found is one that the search has passed then
+passed : (turns : List Place) (from g high t : Place) → is_le (place_cmp from g) ≡ true → find (λ u. is_lt (place_cmp g u) && is_lt (place_cmp u high)) turns ≡ Some t
+    → count (λ u. is_lt (place_cmp t u)) turns < count (λ u. is_lt (place_cmp from u)) turns
+passed turns from g high t h k = fewer (λ u. is_lt (place_cmp t u)) (λ u. is_lt (place_cmp from u)) (λ u l. below_upto from t u below (lt_le (place_cmp t u) l)) turns
+    (any_found (λ u. is_lt (place_cmp g u) && is_lt (place_cmp u high)) (λ u. is_lt (place_cmp from u) && not (is_lt (place_cmp t u))) turns t k
+    (both (is_lt (place_cmp from t)) (not (is_lt (place_cmp t t))) below (ap not (below_itself t)))) where
+      below : is_lt (place_cmp from t) ≡ true
+      below = upto_below from g t h (first_of (is_lt (place_cmp g t)) (is_lt (place_cmp t high)) (found_passes (λ u. is_lt (place_cmp g u) && is_lt (place_cmp u high)) turns t k))
+
+-- a path with another neighbouring AS than one that has this
+apart : (local_as : ℕ) (asn : Option ℕ) (p q : Path) → is_other local_as asn p ≡ false → is_other local_as asn q ≡ true → is_same (neighbour p.segments) (neighbour q.segments) ≡ false
+apart local_as None p q h k = absurd (true≢false h)
+apart local_as (Some asn) p q h k = at (is_same (neighbour p.segments) (neighbour q.segments)) refl where
+  alike : neighbour p.segments ≡ neighbour q.segments → is_other local_as (Some asn) p ≡ is_other local_as (Some asn) q
+  alike e = cc
+
+  at : (b : Bool) → is_same (neighbour p.segments) (neighbour q.segments) ≡ b → b ≡ false
+  at true e = absurd (true≢false (sym k ∙ (sym (alike (same_is (neighbour p.segments) (neighbour q.segments) e)) ∙ h)))
+  at false e = refl
+
+module _ (low high : Place) (local_as : ℕ) (asn : Option ℕ) (held : List Route) where
+  -- a route that is searched for
+  abbrev pub is_sought : Route → Bool
+  is_sought r = is_within low high r.0 && is_other local_as asn r.1
+
+  -- what is searched for lies from here on
+  pub record IsAhead (from : Place) : Type 0 where
+    pub bound : is_le (place_cmp low from) ≡ true
+    pub ahead : AllByRecursion (λ r. is_sought r ≡ true → is_le (place_cmp from r.0) ≡ true) held
+
+  pub search_starts : IsAhead low
+  search_starts = record {
+    bound = upto_itself low;
+    ahead = each (λ r. is_sought r ≡ true → is_le (place_cmp low r.0) ≡ true) (λ r h. first_of (is_le (place_cmp low r.0)) (is_lt (place_cmp r.0 high)) (first_of (is_within low high r.0) (is_other local_as asn r.1) h)) held;
+  }
+
+  below_high : (r : Route) → is_sought r ≡ true → is_lt (place_cmp r.0 high) ≡ true
+  below_high r h = second_of (is_le (place_cmp low r.0)) (is_lt (place_cmp r.0 high)) (first_of (is_within low high r.0) (is_other local_as asn r.1) h)
+
+  sought_other : (r : Route) → is_sought r ≡ true → is_other local_as asn r.1 ≡ true
+  sought_other r h = second_of (is_within low high r.0) (is_other local_as asn r.1) h
+
+  falsified : (b : Bool) → (b ≡ true → true ≡ false) → b ≡ false
+  falsified true h = h refl
+  falsified false h = refl
+
+  -- nothing is left
+  pub search_ends : (from : Place) → IsAhead from → find (λ r. is_within from high r.0) held ≡ None → false ≡ list_any is_sought held
+  search_ends from h k = sym (each_none is_sought held (each_both (λ r. is_sought r ≡ true → is_le (place_cmp from r.0) ≡ true) (λ r. is_within from high r.0 ≡ false) (λ r. is_sought r ≡ false)
+      (λ r ahead no. falsified (is_sought r) (λ yes. sym (both (is_le (place_cmp from r.0)) (is_lt (place_cmp r.0 high)) (ahead yes) (below_high r yes)) ∙ no)) held h.ahead (none_found (λ r. is_within from high r.0) held k)))
+
+  -- what is found is searched for
+  pub search_hits : (from : Place) (g : Route) → IsAhead from → find (λ r. is_within from high r.0) held ≡ Some g → is_other local_as asn g.1 ≡ true → true ≡ list_any is_sought held
+  search_hits from g h k other = sym (any_found (λ r. is_within from high r.0) is_sought held g k (both (is_within low high g.0) (is_other local_as asn g.1) (both (is_le (place_cmp low g.0)) (is_lt (place_cmp g.0 high))
+      (upto_upto low from g.0 h.bound (first_of (is_le (place_cmp from g.0)) (is_lt (place_cmp g.0 high)) within)) (second_of (is_le (place_cmp from g.0)) (is_lt (place_cmp g.0 high)) within)) other)) where
+        within : is_within from high g.0 ≡ true
+        within = found_passes (λ r. is_within from high r.0) held g k
+
+  module _ (turns : List Place) (from : Place) (g : Route) (sorted : IsStrictlySortedBy place_cmp (keys_of held)) (parted : IsParted turns held) (h : IsAhead from)
+      (k : find (λ r. is_within from high r.0) held ≡ Some g) (same : is_other local_as asn g.1 ≡ false) where
+    from_low : is_le (place_cmp from g.0) ≡ true
+    from_low = first_of (is_le (place_cmp from g.0)) (is_lt (place_cmp g.0 high)) (found_passes (λ r. is_within from high r.0) held g k)
+
+    -- what is searched for lies behind a turn
+    behind : AllByRecursion (λ r. is_sought r ≡ true → are_parted turns g.0 r.0 ≡ true) held
+    behind = each_both (λ r. is_sought r ≡ true → is_le (place_cmp from r.0) ≡ true) (λ r. is_within from high r.0 ≡ true → is_sought r ≡ true → are_parted turns g.0 r.0 ≡ true) (λ r. is_sought r ≡ true → are_parted turns g.0 r.0 ≡ true)
+        (λ r ahead f yes. f (both (is_le (place_cmp from r.0)) (is_lt (place_cmp r.0 high)) (ahead yes) (below_high r yes)) yes) held h.ahead
+        (each_both (λ r. is_within from high r.0 ≡ true → is_sought r ≡ true → is_lt (place_cmp g.0 r.0) ≡ true) (λ r. is_lt (place_cmp g.0 r.0) ≡ true → is_same (neighbour_of g) (neighbour_of r) ≡ false → are_parted turns g.0 r.0 ≡ true)
+        (λ r. is_within from high r.0 ≡ true → is_sought r ≡ true → are_parted turns g.0 r.0 ≡ true)
+        (λ r f part within yes. part (f within yes) (apart local_as asn g.1 r.1 same (sought_other r yes))) held later_than (found_each (λ r. is_within from high r.0) (λ r. IsPartedAfter turns held r.0 (neighbour_of r)) held g k parted)) where
+          later_than : AllByRecursion (λ r. is_within from high r.0 ≡ true → is_sought r ≡ true → is_lt (place_cmp g.0 r.0) ≡ true) held
+          later_than = after_found place_cmp (λ r. r.0) (λ r. is_within from high r.0) (λ r. is_sought r ≡ true → is_lt (place_cmp g.0 r.0) ≡ true) held sorted g k (λ yes. absurd (true≢false (sym (sought_other g yes) ∙ same))) (λ r less _. ap is_lt less)
+
+    -- without a turn there is none
+    pub search_stops : find (λ u. is_lt (place_cmp g.0 u) && is_lt (place_cmp u high)) turns ≡ None → false ≡ list_any is_sought held
+    search_stops l = sym (each_none is_sought held (each_weaker (λ r. is_sought r ≡ true → are_parted turns g.0 r.0 ≡ true) (λ r. is_sought r ≡ false) (λ r f. falsified (is_sought r) (λ yes. nothing r yes (f yes))) held behind)) where
+      nothing : (r : Route) → is_sought r ≡ true → are_parted turns g.0 r.0 ≡ true → true ≡ false
+      nothing r sought part = any_each (lies_between g.0 r.0) (λ u. (is_lt (place_cmp g.0 u) && is_lt (place_cmp u high)) ≡ false) (true ≡ false) turns part (none_found (λ u. is_lt (place_cmp g.0 u) && is_lt (place_cmp u high)) turns l)
+          (λ u lies none. sym (both (is_lt (place_cmp g.0 u)) (is_lt (place_cmp u high)) (first_of (is_lt (place_cmp g.0 u)) (is_le (place_cmp u r.0)) lies) (upto_below u r.0 high (second_of (is_lt (place_cmp g.0 u)) (is_le (place_cmp u r.0)) lies) (below_high r sought))) ∙ none)
+
+    -- else fewer turns are left behind the first one
+    pub search_falls : (t : Place) → find (λ u. is_lt (place_cmp g.0 u) && is_lt (place_cmp u high)) turns ≡ Some t → count (λ u. is_lt (place_cmp t u)) turns < count (λ u. is_lt (place_cmp from u)) turns
+    search_falls t l = passed turns from g.0 high t from_low l
+
+    -- and the search goes on there
+    pub search_turns : IsStrictlySortedBy place_cmp turns → (t : Place) → find (λ u. is_lt (place_cmp g.0 u) && is_lt (place_cmp u high)) turns ≡ Some t → IsAhead t
+    search_turns ordered t l = record {
+      bound = upto_upto low from t h.bound (lt_le (place_cmp from t) (upto_below from g.0 t from_low (first_of (is_lt (place_cmp g.0 t)) (is_lt (place_cmp t high)) (found_passes (λ u. is_lt (place_cmp g.0 u) && is_lt (place_cmp u high)) turns t l))));
+      ahead = each_weaker (λ r. is_sought r ≡ true → are_parted turns g.0 r.0 ≡ true) (λ r. is_sought r ≡ true → is_le (place_cmp t r.0) ≡ true) (λ r f yes. reached r yes (f yes)) held behind;
+    } where
+      least : AllByRecursion (λ u. (is_lt (place_cmp g.0 u) && is_lt (place_cmp u high)) ≡ true → is_le (place_cmp t u) ≡ true) turns
+      least = after_found place_cmp (λ u. u) (λ u. is_lt (place_cmp g.0 u) && is_lt (place_cmp u high)) (λ u. is_le (place_cmp t u) ≡ true) turns (subst (IsStrictlySortedBy place_cmp) (sym (map-id turns)) ordered) t l (upto_itself t) (λ u less. ap is_le less)
+
+      reached : (r : Route) → is_sought r ≡ true → are_parted turns g.0 r.0 ≡ true → is_le (place_cmp t r.0) ≡ true
+      reached r sought part = any_each (lies_between g.0 r.0) (λ u. (is_lt (place_cmp g.0 u) && is_lt (place_cmp u high)) ≡ true → is_le (place_cmp t u) ≡ true) (is_le (place_cmp t r.0) ≡ true) turns part least
+          (λ u lies f. upto_upto t u r.0 (f (both (is_lt (place_cmp g.0 u)) (is_lt (place_cmp u high)) (first_of (is_lt (place_cmp g.0 u)) (is_le (place_cmp u r.0)) lies) (upto_below u r.0 high (second_of (is_lt (place_cmp g.0 u)) (is_le (place_cmp u r.0)) lies) (below_high r sought)))) (second_of (is_lt (place_cmp g.0 u)) (is_le (place_cmp u r.0)) lies))

@@ -1,0 +1,75 @@
+-- Turns: places that part the routes of other neighbouring ASes.
+use Rattle.std.specs.Prelude.{ℕ, ◌≡◌, ◌==◌, Bool, not, ◌&&◌, ◌||◌, true, false, Option, Some, None, List, [], ◌∷◌, find, if◌then◌else◌}
+use Rattle.std.specs.BTreeMap.{is_at}
+use Rattle.std.specs.List.{AllByRecursion, list_any, list_all}
+use Rattle.std.specs.Option.{option_eq}
+use Rattle.std.specs.Ordering.{is_eq, is_le, is_lt}
+use Rattle.std.specs.Set.{remove_key}
+use Rattle.fs_unicast.specs.declared.unicast.Place.{Place}
+use Rattle.fs_unicast.specs.Neighbour.{neighbour}
+use Rattle.fs_unicast.specs.Places.{Route, place_cmp}
+
+-- the neighbouring AS that a route's path names, or None where no segment counts
+abbrev pub neighbour_of : Route → Option ℕ
+neighbour_of r = neighbour r.1.segments
+
+abbrev pub is_same : Option ℕ → Option ℕ → Bool
+is_same a b = option_eq (λ m n. m == n) a b
+
+-- from low on, and before high
+abbrev pub is_within : Place → Place → Place → Bool
+is_within low high q = is_le (place_cmp low q) && is_lt (place_cmp q high)
+
+-- t lies after x, and not after y
+abbrev pub lies_between : Place → Place → Place → Bool
+lies_between x y t = is_lt (place_cmp x t) && is_le (place_cmp t y)
+
+-- a turn lies between the two places
+abbrev pub are_parted : List Place → Place → Place → Bool
+are_parted turns x y = list_any (lies_between x y) turns
+
+-- a turn lies between the place and each later route whose neighbouring AS isn't this
+abbrev pub IsPartedAfter : List Place → List Route → Place → Option ℕ → Type 0
+IsPartedAfter turns held x asn = AllByRecursion (λ r. is_lt (place_cmp x r.0) ≡ true → is_same asn (neighbour_of r) ≡ false → are_parted turns x r.0 ≡ true) held
+
+-- a turn lies between the place and each earlier route whose neighbouring AS isn't this
+abbrev pub IsPartedBefore : List Place → List Route → Place → Option ℕ → Type 0
+IsPartedBefore turns held y asn = AllByRecursion (λ r. is_lt (place_cmp r.0 y) ≡ true → is_same (neighbour_of r) asn ≡ false → are_parted turns r.0 y ≡ true) held
+
+-- between two routes of other neighbouring AS lies a turn
+abbrev pub IsParted : List Place → List Route → Type 0
+IsParted turns held = AllByRecursion (λ r. IsPartedAfter turns held r.0 (neighbour_of r)) held
+
+-- what was parted still is
+abbrev pub StaysParted : List Place → List Place → Type 0
+StaysParted old new = (x y : Place) → are_parted old x y ≡ true → are_parted new x y ≡ true
+
+-- the last element that passes
+abbrev pub later : {X : Type 0} → Option X → Option X → Option X
+later None o = o
+later (Some x) o = Some x
+
+abbrev pub find_last : {X : Type 0} → (X → Bool) → List X → Option X
+find_last test [] = None
+find_last test (x ∷ xs) = later (find_last test xs) (if test x then Some x else None)
+
+-- t and no other turn lies between the two places
+abbrev pub is_alone : List Place → Place → Place → Place → Bool
+is_alone turns x y t = list_all (λ u. not (lies_between x y u) || is_eq (place_cmp t u)) turns
+
+-- the two routes have other neighbouring ASes, and are parted by t alone
+abbrev pub parts_alone : List Place → Place → Route → Route → Bool
+parts_alone turns t x y = lies_between x.0 y.0 t && (not (is_same (neighbour_of x) (neighbour_of y)) && is_alone turns x.0 y.0 t)
+
+-- some two routes are parted by t alone; else it is idle
+abbrev pub is_needed : List Place → List Route → Place → Bool
+is_needed turns held t = list_any (λ x. list_any (parts_alone turns t x) held) held
+
+-- without this turn, where it is idle
+abbrev pub without_idle : List Route → List Place → Option Place → List Place
+without_idle held turns None = turns
+without_idle held turns (Some t) = if is_needed turns held t then turns else remove_key (is_at (place_cmp t)) turns
+
+-- the idle ones of the two turns beside a place are gone: the last up to it, and then the first after it
+abbrev pub tidied : List Route → List Place → Place → List Place
+tidied held turns z = let rest = without_idle held turns (find_last (λ t. is_le (place_cmp t z)) turns) in without_idle held rest (find (λ t. is_lt (place_cmp z t)) rest)

@@ -1,0 +1,103 @@
+//! The routes in the order of their places, and the turns among them.
+
+ghost use Rattle.std.specs.Prelude.{◌≡◌, [], OnOk, OnErr, is_some, ◌&&◌};
+ghost use Rattle.std.specs.BTreeMap.{insert_entry, is_at};
+ghost use Rattle.std.specs.List.{list_any};
+ghost use Rattle.std.specs.Map.{remove_entry, lookup};
+ghost use Rattle.fs_unicast.specs.Best.{is_other};
+ghost use Rattle.fs_unicast.specs.Places.{place_cmp};
+ghost use Rattle.fs_unicast.specs.Turns.{is_within};
+
+use crate::neighbour::neighbour;
+use crate::turns;
+use crate::unicast::Place;
+use fs_base::{Memory, Path};
+use std::alloc::Global;
+use std::collections::{BTreeMap, BTreeSet};
+use std::marker::Model;
+
+/// The routes by their places. Between two routes of other neighbouring AS lies a turn, so a search for another
+/// neighbouring AS goes from turn to turn and not from route to route. A turn may stay where no route is left,
+/// so to take a route away takes no memory.
+#[derive(Drop)]
+pub struct Routes {
+    paths: BTreeMap<Place, Path>,
+    turns: BTreeSet<Place>,
+}
+
+impl Model for Routes {
+    ghost use Rattle.std.specs.Prelude.{List};
+    ghost use Rattle.fs_base.specs.declared.path.Path.{Path};
+    ghost use Rattle.fs_unicast.specs.declared.unicast.Place.{Place};
+    ghost use Rattle.fs_unicast.specs.Turns.{IsParted};
+
+    ghost Value = { List (Place × Path) };
+
+    ghost view = { λ a. a.paths.entries };
+
+    ghost invariant = { λ a. IsParted a.turns.keys a.paths.entries };
+}
+
+impl Routes {
+    pub fn new(alloc: Global) -> Routes
+        ensures { result ≡ [] }
+    {
+        Routes {
+            paths: BTreeMap::new(alloc),
+            turns: BTreeSet::new(alloc),
+        }
+    }
+
+    /// The routes alone, for look-ups.
+    pub fn paths(&self) -> &BTreeMap<Place, Path>
+        ensures { result.now.entries ≡ self.now }
+    {
+        &self.paths
+    }
+
+    /// Keeps the path at the place, instead of one that is there. Where memory is refused nothing changes.
+    pub fn put(&mut self, place: Place, path: Path) -> Result<(), Memory>
+        ensures ok { OnOk result (self.new ≡ insert_entry place_cmp self.old place path) }
+        ensures err { OnErr result (self.new ≡ self.old) }
+    {
+        let kept = self.keep(place, path);
+        turns::tidy(&self.paths, &mut self.turns, &place);
+        kept
+    }
+
+    /// Keeps the path at the place, with turns beside it. Turns that were put before memory is refused stay.
+    fn keep(&mut self, place: Place, path: Path) -> Result<(), Memory>
+        ensures ok { OnOk result (self.new ≡ insert_entry place_cmp self.old place path) }
+        ensures err { OnErr result (self.new ≡ self.old) }
+    {
+        let asn = neighbour(path.segments.as_slice());
+        turns::part_before(&self.paths, &mut self.turns, &place, asn)?;
+        turns::part_after(&self.paths, &mut self.turns, &place, asn)?;
+        self.paths.insert(place, path)?;
+        Ok(())
+    }
+
+    /// Takes the route at the place away, and tells whether there was one.
+    pub fn remove(&mut self, place: &Place) -> bool
+        ensures removed { self.new ≡ remove_entry (is_at (place_cmp place.now)) self.old }
+        ensures held { result ≡ is_some (lookup (is_at (place_cmp place.now)) self.old) }
+    {
+        let held = self.paths.remove(place).is_some();
+        turns::tidy(&self.paths, &mut self.turns, place);
+        held
+    }
+
+    /// Whether a route from `low` on and before `high` has another neighbouring AS than `asn`; of None, whether
+    /// there is any route.
+    pub fn others_within(&self, low: Place, high: &Place, local_as: u32, asn: Option<u32>) -> bool
+        ensures { result ≡ list_any (λ r. is_within low high.now r.0 && is_other local_as asn r.1) self.now }
+    {
+        turns::others_within(&self.paths, &self.turns, low, high, local_as, asn)
+    }
+
+    /// How many turns there are.
+    #[cfg(test)]
+    pub fn turn_count(&self) -> usize {
+        self.turns.len()
+    }
+}
