@@ -45,12 +45,8 @@ pub(crate) struct Lent<'a> {
 pub(crate) fn split(body: &[u8]) -> Option<Fields<'_>>
     ensures { option_map fields_shown result ≡ body_of body.now }
 {
-    let Some((withdrawn, rest)) = first_long_field(body) else {
-        return None;
-    };
-    let Some((attributes, announced)) = first_long_field(rest) else {
-        return None;
-    };
+    let (withdrawn, rest) = first_long_field(body)?;
+    let (attributes, announced) = first_long_field(rest)?;
     if !is_whole(attributes) {
         return None;
     }
@@ -68,26 +64,15 @@ fn first_long_field(octets: &[u8]) -> Option<(&[u8], &[u8])>
     if octets.len() < 2 {
         return None;
     }
-    let size = BigEndian::read_u16(octets) as usize;
-    let rest = &octets[2..];
-    if size <= rest.len() {
-        return Some((&rest[..size], &rest[size..]));
-    }
-    None
+    octets[2..].split_at_checked(BigEndian::read_u16(octets).into())
 }
 
 /// A length in one octet, then so many octets; and what follows them.
 fn first_short_field(octets: &[u8]) -> Option<(&[u8], &[u8])>
     ensures { option_map (λ found. (found.0.now, found.1.now)) result ≡ short_field octets.now }
 {
-    let [size, rest @ ..] = octets else {
-        return None;
-    };
-    let size = *size as usize;
-    if size <= rest.len() {
-        return Some((&rest[..size], &rest[size..]));
-    }
-    None
+    let (size, rest) = octets.split_first()?;
+    rest.split_at_checked((*size).into())
 }
 
 /// The attribute at the front, and what follows it.
@@ -97,14 +82,10 @@ fn next_attribute(octets: &[u8]) -> Option<(Lent<'_>, &[u8])>
     let [flags, kind, rest @ ..] = octets else {
         return None;
     };
-    if *flags & EXTENDED_LENGTH == 0 {
-        let Some((value, behind)) = first_short_field(rest) else {
-            return None;
-        };
-        return Some((Lent { kind: *kind, value }, behind));
-    }
-    let Some((value, behind)) = first_long_field(rest) else {
-        return None;
+    let (value, behind) = if *flags & EXTENDED_LENGTH == 0 {
+        first_short_field(rest)?
+    } else {
+        first_long_field(rest)?
     };
     Some((Lent { kind: *kind, value }, behind))
 }

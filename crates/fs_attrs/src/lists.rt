@@ -27,12 +27,14 @@ impl PrefixList {
     ghost use Rattle.std.specs.Prelude.{All};
     ghost use Rattle.fs_attrs.specs.Sound.{IsPrefix};
 
+    /// The list of these prefixes, in their order.
     pub fn new(items: Vec<Prefix>) -> PrefixList
         ensures { result ≡ map shown items.items }
     {
         PrefixList { items }
     }
 
+    /// Whether no route is listed.
     pub fn is_empty(&self) -> bool
         ensures { result ≡ (length self.now == 0) }
     {
@@ -47,6 +49,7 @@ impl PrefixList {
         self.items.as_slice()
     }
 
+    /// The prefixes, in their order.
     pub fn into_vec(self) -> Vec<Prefix>
         ensures { map shown result.items ≡ self }
     {
@@ -70,24 +73,28 @@ impl Model for RuleList {
 }
 
 impl RuleList {
+    /// The list of these rules, in their order.
     pub fn new(items: Vec<Rule>) -> RuleList
         ensures { result ≡ items.items }
     {
         RuleList { items }
     }
 
+    /// Whether no route is listed.
     pub fn is_empty(&self) -> bool
         ensures { result ≡ (length self.now == 0) }
     {
         self.items.is_empty()
     }
 
+    /// The rules.
     pub fn as_slice(&self) -> &[Rule]
         ensures { result.now ≡ self.now }
     {
         self.items.as_slice()
     }
 
+    /// The rules, in their order.
     pub fn into_vec(self) -> Vec<Rule>
         ensures { result.items ≡ self }
     {

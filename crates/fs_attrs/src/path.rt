@@ -164,17 +164,17 @@ fn next_segment(four: bool, octets: &[u8]) -> Option<(LentSegment<'_>, &[u8])>
     let [form, count, rest @ ..] = octets else {
         return None;
     };
-    let size = usize::from(*count) * octets_of_as(four);
-    if 1 <= *form && *form <= 4 && 0 < *count && size <= rest.len() {
-        return Some((
-            LentSegment {
-                form: *form,
-                numbers: &rest[..size],
-            },
-            &rest[size..],
-        ));
+    if *form < 1 || 4 < *form || *count == 0 {
+        return None;
     }
-    None
+    let (numbers, behind) = rest.split_at_checked(usize::from(*count) * octets_of_as(four))?;
+    Some((
+        LentSegment {
+            form: *form,
+            numbers,
+        },
+        behind,
+    ))
 }
 
 /// The AS number at the front, and what follows it.

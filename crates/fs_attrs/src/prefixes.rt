@@ -41,21 +41,13 @@ fn list_at_end(prefixes: Vec<Prefix>, rest: &[u8]) -> Option<PrefixList>
 fn next_prefix(family: Family, octets: &[u8]) -> Option<(Prefix, &[u8])>
     ensures { option_map (λ found. (shown found.0, found.1.now)) result ≡ first_prefix family octets.now }
 {
-    let [length, rest @ ..] = octets else {
-        return None;
-    };
-    let count = (usize::from(*length) + 7) / 8;
-    if *length > family.width() || rest.len() < count {
+    let (length, rest) = octets.split_first()?;
+    if *length > family.width() {
         return None;
     }
-    let Some(prefix) = Prefix::new(
-        family,
-        left_aligned(&rest[..count], family.width()),
-        *length,
-    ) else {
-        return None;
-    };
-    Some((prefix, &rest[count..]))
+    let (bits, behind) = rest.split_at_checked((usize::from(*length) + 7) / 8)?;
+    let prefix = Prefix::new(family, left_aligned(bits, family.width()), *length)?;
+    Some((prefix, behind))
 }
 
 /// The octets as the highest of a number of `width` bits.

@@ -3,6 +3,7 @@
 ghost use Rattle.std.specs.Prelude.{◌≡◌, ◌+◌, ◌-◌, ◌*◌, ◌^◌, ◌<◌, ◌≤◌, ◌++◌, [], ◌∷◌, length, map, flat_map, All, OnOk};
 ghost use Rattle.byteorder.specs.Endian.{big_bytes};
 ghost use Rattle.fs_base.specs.Bits.{width_of};
+ghost use Rattle.fs_base.specs.declared.prefix.Family.TheVariants.{V4};
 ghost use Rattle.fs_nlri.specs.Spelling.{octets_for};
 ghost use Rattle.fs_nlri.specs.Rule.{IsRule, shown, first_octets};
 ghost use Rattle.fs_attrs.specs.Attributes.{attribute};
@@ -62,13 +63,20 @@ pub(crate) fn append_u16(number: u16, out: &mut Vec<u8>) -> Result<(), Memory>
     Ok(())
 }
 
-pub(crate) fn append_u32(number: u32, out: &mut Vec<u8>) -> Result<(), Memory>
+fn append_u32(number: u32, out: &mut Vec<u8>) -> Result<(), Memory>
     ensures { OnOk result (out.new.items ≡ out.old.items ++ big_bytes 4 number) }
+{
+    out.extend_from_slice(&octets_of(number))?;
+    Ok(())
+}
+
+/// The number in four octets, the highest first.
+pub(crate) fn octets_of(number: u32) -> [u8; 4]
+    ensures { result ≡ big_bytes 4 number }
 {
     let mut octets = [0; 4];
     BigEndian::write_u32(&mut octets, number);
-    out.extend_from_slice(&octets)?;
-    Ok(())
+    octets
 }
 
 /// Appends the address as the next hop of a family: zeros where it is of the other one.
@@ -80,10 +88,19 @@ pub(crate) fn append_next_hop(
     ensures { OnOk result (out.new.items ≡ out.old.items ++ next_hop family address) }
 {
     match (family, address) {
-        (Family::V4, Address::V4(bits)) => append_u32(bits, out),
-        (Family::V4, Address::V6(_)) => append_u32(0, out),
+        (Family::V4, _) => append_u32(v4_next_hop(address), out),
         (Family::V6, Address::V4(_)) => append_u128(0, out),
         (Family::V6, Address::V6(bits)) => append_u128(bits, out),
+    }
+}
+
+/// The address as the next hop of IPv4 routes: 0 where it is one of IPv6.
+pub(crate) fn v4_next_hop(address: Address) -> u32
+    ensures { big_bytes 4 result ≡ next_hop V4 address }
+{
+    match address {
+        Address::V4(bits) => bits,
+        Address::V6(_) => 0,
     }
 }
 

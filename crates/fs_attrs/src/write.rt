@@ -17,11 +17,11 @@ use crate::lists::PrefixList;
 use crate::routes::{FLOW, UNICAST};
 use crate::texts::{
     append_attribute, append_long, append_next_hop, append_prefixes, append_rules, append_segments,
-    append_u16, append_u32,
+    append_u16, octets_of, v4_next_hop,
 };
 use crate::update::{Routes, Terms, Update, WriteFault};
 use fs_actions::Actions;
-use fs_base::{Address, Family, Memory, Path, Segment};
+use fs_base::{Address, Memory, Path, Segment};
 use fs_message::write_update_frame;
 
 /// The octets of the longest body of a message of 4096 octets.
@@ -193,9 +193,7 @@ fn append_hop_of_classic(
     if announced.is_empty() {
         return Ok(());
     }
-    let mut value = Vec::new(*out.allocator());
-    append_next_hop(Family::V4, terms.address, &mut value)?;
-    append_attribute(NEXT_HOP, &value, out)
+    append_number(NEXT_HOP, v4_next_hop(terms.address), out)
 }
 
 /// Appends LOCAL_PREF to an internal peer.
@@ -223,9 +221,7 @@ fn append_originator(originator: Option<u32>, out: &mut Vec<u8>) -> Result<(), M
 fn append_number(kind: u8, number: u32, out: &mut Vec<u8>) -> Result<(), Memory>
     ensures { OnOk result (out.new.items ≡ out.old.items ++ flat_map attribute_text (attribute kind (big_bytes 4 number) ∷ [])) }
 {
-    let mut value = Vec::new(*out.allocator());
-    append_u32(number, &mut value)?;
-    append_attribute(kind, &value, out)
+    append_attribute(kind, &octets_of(number), out)
 }
 
 /// Appends the actions, if there are any, as extended communities.

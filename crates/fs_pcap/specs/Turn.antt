@@ -10,22 +10,22 @@ use Rattle.fs_pcap.specs.declared.fault.CaptureFault.TheVariants.{Read, Limit, B
 use Rattle.fs_pcap.specs.declared.fault.Ended.{Ended}
 use Rattle.fs_pcap.specs.declared.fault.Ended.TheVariants.{Done, Fault}
 use Rattle.fs_pcap.specs.declared.capture.Caught.{Caught}
-use Rattle.fs_pcap.specs.declared.heading.Heading.{Heading as HeadingRead}
-use Rattle.fs_pcap.specs.declared.heading.Heading.TheVariants.{Whole as WholeHeading, Wrong as WrongHeading, Partial as PartialHeading}
-use Rattle.fs_pcap.specs.declared.header.Header.{Header}
-use Rattle.fs_pcap.specs.declared.header.Header.TheVariants.{Whole, TooLong, Partial}
+use Rattle.fs_pcap.specs.declared.header.Header.{Header as HeaderRead}
+use Rattle.fs_pcap.specs.declared.header.Header.TheVariants.{Whole as WholeHeader, Wrong as WrongHeader, Partial as PartialHeader}
+use Rattle.fs_pcap.specs.declared.head.Head.{Head as HeadRead}
+use Rattle.fs_pcap.specs.declared.head.Head.TheVariants.{Whole, TooLong, Partial}
 
-abbrev pub heading_of : HeadingRead → Head Heading CaptureReason
-heading_of (WholeHeading order link) = whole (record { order = order; link = link }) 0
-heading_of (WrongHeading reason place) = wrong reason place
-heading_of PartialHeading = partial
+abbrev pub heading_of : HeaderRead → Head Heading CaptureReason
+heading_of (WholeHeader order link) = whole (record { order = order; link = link }) 0
+heading_of (WrongHeader reason place) = wrong reason place
+heading_of PartialHeader = partial
 
 abbrev pub IsWithinHeader : ℕ → Head Heading CaptureReason → Type 0
 IsWithinHeader count (whole heading none) = 24 ≤ count
 IsWithinHeader count (wrong reason place) = place < count
 IsWithinHeader count partial = count < 24
 
-abbrev pub said_of : Header → Head Said CaptureReason
+abbrev pub said_of : HeadRead → Head Said CaptureReason
 said_of (Whole seconds fraction original size) = whole (record { seconds = seconds; fraction = fraction; original = original }) size
 said_of TooLong = wrong RecordTooLong 8
 said_of Partial = partial

@@ -7,8 +7,8 @@ ghost use Rattle.fs_pcap.specs.Written.{ReadsBack};
 ghost use Rattle.fs_pcap.specs.Turn.{Advances, Grows, Opens, answer_of, ended_after, short_answer, short_fault};
 
 use crate::fault::{CaptureFault, CaptureReason, Ended};
-use crate::header::{HEAD, Header, read_head};
-use crate::heading::{HEADER, Heading, read_heading};
+use crate::head::{HEAD_SIZE, Head, read_head};
+use crate::header::{HEADER_SIZE, Header, read_header};
 use crate::order::Endian;
 use fs_base::{Counted, Files, fill};
 use std::marker::Model;
@@ -76,17 +76,17 @@ impl Capture {
         ensures others { IsTrue F.tells → (other : ℕ) → other ≢ counted.slot → F.left files.new other ≡ F.left files.old other }
         ensures holds { IsTrue F.tells → F.holds files.new ≡ F.holds files.old }
     {
-        let mut header = [0u8; HEADER];
+        let mut header = [0u8; HEADER_SIZE];
         let Ok(count) = fill(&mut counted, files, &mut header) else {
             return Err(CaptureFault::Read);
         };
-        match read_heading(&header[..count]) {
-            Heading::Wrong { reason, place } => Err(CaptureFault::Bad {
+        match read_header(&header[..count]) {
+            Header::Wrong { reason, place } => Err(CaptureFault::Bad {
                 reason,
                 place: place as u64,
             }),
-            Heading::Partial => Err(short(&counted)),
-            Heading::Whole { order, link } => Ok(Capture {
+            Header::Partial => Err(short(&counted)),
+            Header::Whole { order, link } => Ok(Capture {
                 counted,
                 end: None,
                 order,
@@ -240,18 +240,18 @@ fn advance<F: Files>(
     ensures others { IsTrue F.tells → (other : ℕ) → other ≢ counted.old.slot → F.left files.new other ≡ F.left files.old other }
     ensures holds { IsTrue F.tells → F.holds files.new ≡ F.holds files.old }
 {
-    let mut head = [0u8; HEAD];
+    let mut head = [0u8; HEAD_SIZE];
     let Ok(count) = fill(counted, files, &mut head) else {
         return Err(CaptureFault::Read);
     };
     let place = counted.taken - count as u64;
     match read_head(order, &head[..count]) {
-        Header::TooLong => Err(CaptureFault::Bad {
+        Head::TooLong => Err(CaptureFault::Bad {
             reason: CaptureReason::RecordTooLong,
             place: place + 8,
         }),
-        Header::Partial => stopped(counted, count),
-        Header::Whole {
+        Head::Partial => stopped(counted, count),
+        Head::Whole {
             seconds,
             fraction,
             original,

@@ -1,49 +1,78 @@
-//! The head of a record, each field judged as soon as it stands whole.
-ghost use Rattle.std.specs.Prelude.{◌≡◌, length};
-ghost use Rattle.fs_pcap.specs.Capture.{head_of};
-ghost use Rattle.fs_pcap.specs.Turn.{IsWithin, said_of};
+//! The header of a capture, each field judged as soon as it stands whole.
+ghost use Rattle.std.specs.Prelude.{◌≡◌, ◌≤◌, length};
+ghost use Rattle.fs_pcap.specs.Capture.{header_of, is_link, ordered_header};
+ghost use Rattle.fs_pcap.specs.Turn.{IsWithinHeader, heading_of};
 
 use crate::fault::CaptureReason;
-use crate::order::Endian;
+use crate::order::{Endian, read_order};
+use byteorder::{BigEndian, ByteOrder};
 
-/// The octets of a record's head.
-pub(crate) const HEAD: usize = 16;
+/// The octets of a capture's header.
+pub(crate) const HEADER_SIZE: usize = 24;
 
-/// The greatest captured length.
-pub(crate) const CAPTURED: usize = 262144;
-
-/// What the octets of a record's head say.
+/// What the octets of a capture's header say.
 #[derive(Clone, Copy, Debug, PartialEq, Eq, Drop)]
 pub(crate) enum Header {
-    Whole {
-        seconds: u32,
-        fraction: u32,
-        original: u32,
-        size: usize,
-    },
-    TooLong,
+    Whole { order: Endian, link: u32 },
+    Wrong { reason: CaptureReason, place: u8 },
     Partial,
 }
 
-/// Reads the head of a record, of at most 16 octets.
-pub(crate) fn read_head(order: Endian, head: &[u8]) -> Header
-    ensures exact { said_of result ≡ head_of order head.now }
-    ensures within { IsWithin (length head.now) (said_of result) }
+/// Reads a capture's header, of at most 24 octets.
+pub(crate) fn read_header(header: &[u8]) -> Header
+    ensures exact { heading_of result ≡ header_of header.now }
+    ensures within { IsWithinHeader (length header.now) (heading_of result) }
 {
-    if head.len() < 12 {
+    if header.len() < 4 {
         return Header::Partial;
     }
-    let size = order.read_u32(&head[8..]) as usize;
-    if size > CAPTURED {
-        return Header::TooLong;
+    match read_order(BigEndian::read_u32(header)) {
+        Some(order) => read_ordered(order, header),
+        None => Header::Wrong {
+            reason: CaptureReason::Magic,
+            place: 0,
+        },
     }
-    if head.len() < HEAD {
+}
+
+/// Goes on behind the magic.
+fn read_ordered(order: Endian, header: &[u8]) -> Header
+    requires { 4 ≤ length header.now }
+    ensures exact { heading_of result ≡ ordered_header order header.now }
+    ensures within { IsWithinHeader (length header.now) (heading_of result) }
+{
+    const WRONG_VERSION: Header = Header::Wrong {
+        reason: CaptureReason::Version,
+        place: 4,
+    };
+    if header.len() < 6 {
         return Header::Partial;
     }
-    Header::Whole {
-        seconds: order.read_u32(head),
-        fraction: order.read_u32(&head[4..]),
-        original: order.read_u32(&head[12..]),
-        size,
+    if order.read_u16(&header[4..]) != 2 {
+        return WRONG_VERSION;
     }
+    if header.len() < 8 {
+        return Header::Partial;
+    }
+    if order.read_u16(&header[6..]) != 4 {
+        return WRONG_VERSION;
+    }
+    if header.len() < HEADER_SIZE {
+        return Header::Partial;
+    }
+    let link = order.read_u32(&header[20..]) % 65536;
+    if !is_read(link) {
+        return Header::Wrong {
+            reason: CaptureReason::Link,
+            place: 20,
+        };
+    }
+    Header::Whole { order, link }
+}
+
+/// Whether packets of this link type are read.
+fn is_read(link: u32) -> bool
+    ensures { result ≡ is_link link }
+{
+    matches!(link, 1 | 101 | 113 | 276 | 228 | 229)
 }

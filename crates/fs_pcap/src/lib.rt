@@ -3,8 +3,8 @@
 
 mod capture;
 mod fault;
+mod head;
 mod header;
-mod heading;
 mod order;
 #[cfg(test)]
 mod tests;

@@ -11,6 +11,7 @@ pub enum State {
     WaitKeep,
     /// UPDATEs are taken.
     Established,
+    /// Nothing more is taken.
     Closed,
 }
 
