@@ -1,3 +1,5 @@
+//! A wire that gives nothing and takes all.
+
 use super::{Failed, Opening, Wire};
 
 /// A wire of which no call fails: its ends give no octets, take each write whole, and tell nothing.

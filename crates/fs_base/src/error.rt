@@ -1,3 +1,5 @@
+//! Want of memory.
+
 use std::alloc::{AllocError, AllocFailed};
 
 /// The machine refused memory. Nothing was changed by the call that answers it, unless the call says

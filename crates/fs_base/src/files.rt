@@ -1,3 +1,5 @@
+//! The files of the outside, as a trait.
+
 ghost use Rattle.std.specs.Prelude.{◌≡◌, ◌≢◌, ◌↔◌, ◌≤◌, ℕ, Bool, List, Option, IsTrue, IsSome, IfOk};
 ghost use Rattle.std.specs.Io.{ReadsAtMost};
 ghost use Rattle.fs_base.specs.Outside.{HasCause, ReadTakes, opened_content};

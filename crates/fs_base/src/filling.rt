@@ -1,3 +1,5 @@
+//! Filling a buffer, whatever counts the reads give.
+
 ghost use Rattle.std.specs.Prelude.{◌≡◌, ◌≢◌, ◌≤◌, ◌+◌, ℕ, IsTrue, IfOk, OnErr, length};
 ghost use Rattle.fs_base.specs.Outside.{Rose};
 ghost use Rattle.fs_base.specs.Parts.{window};

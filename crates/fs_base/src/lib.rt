@@ -13,6 +13,8 @@ mod order;
 #[cfg(test)]
 mod outside_tests;
 mod path;
+#[cfg(test)]
+mod path_tests;
 mod prefix;
 mod real;
 mod sink;

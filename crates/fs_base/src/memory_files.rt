@@ -1,3 +1,5 @@
+//! Files in memory: some whose calls can be made to fail, and some that never fail.
+
 ghost use Rattle.std.specs.Prelude.{◌≡◌, ◌≢◌, ◌↔◌, false, ◌-◌, ◌≤◌, ◌<◌, ◌+◌, ◌^◌, ◌++◌, ◌∷◌, [], ℕ, List, Option, None, IsTrue, IsSome, IfOk, OnOk, OnErr, is_err, is_some, min, unwrap_or, drop, take, length, slice_set, string_bytes};
 ghost use Rattle.std.specs.Io.{ReadsAtMost};
 ghost use Rattle.fs_base.specs.Outside.{HasCause, ReadTakes, Rose, fails_at, opened_content};
@@ -137,7 +139,7 @@ pub struct MemFiles {
 }
 
 impl MemFiles {
-    ghost use Rattle.fs_base.specs.MemoryFiles.{mem_files_calls, mem_files_failing, mem_files_held, mem_files_left};
+    ghost use Rattle.fs_base.specs.MemoryFiles.{mem_files_calls, mem_files_failing, mem_files_faults, mem_files_held, mem_files_left};
 
     /// No files. The calls of these numbers will fail.
     pub fn new(alloc: Global, failing: Vec<u64>) -> MemFiles
@@ -145,6 +147,7 @@ impl MemFiles {
         ensures left { (slot : ℕ) → mem_files_left result slot ≡ [] }
         ensures failing { mem_files_failing result ≡ failing.items }
         ensures calls { mem_files_calls result ≡ 0 }
+        ensures faults { mem_files_faults result ≡ 0 }
     {
         MemFiles {
             shelf: Shelf::new(alloc),
@@ -164,6 +167,7 @@ impl MemFiles {
         ensures err { OnErr result ((other : List ℕ) → mem_files_held self.new other ≡ mem_files_held self.old other) }
         ensures failing { mem_files_failing self.new ≡ mem_files_failing self.old }
         ensures calls { mem_files_calls self.new ≡ mem_files_calls self.old }
+        ensures faults { mem_files_faults self.new ≡ mem_files_faults self.old }
     {
         self.shelf.add(name, content)
     }

@@ -1,3 +1,5 @@
+//! Sinks in memory: one whose writes can be made to fail, and one that never fails.
+
 ghost use Rattle.std.specs.Prelude.{◌≡◌, ◌≤◌, ◌<◌, ◌+◌, ◌-◌, ◌^◌, ◌++◌, ◌||◌, [], ℕ, List, Option, Some, None, true, IfOk, is_err, min, nat_lt, length, option_copied, vec_len, vec_capacity};
 ghost use Rattle.fs_base.specs.Outside.{HasCause, WriteGrew, fails_at};
 
@@ -18,7 +20,7 @@ pub struct MemSink {
 }
 
 impl MemSink {
-    ghost use Rattle.fs_base.specs.MemorySinks.{mem_sink_calls, mem_sink_failing, mem_sink_room, mem_sink_text};
+    ghost use Rattle.fs_base.specs.MemorySinks.{mem_sink_calls, mem_sink_failing, mem_sink_faults, mem_sink_room, mem_sink_text};
 
     /// An empty sink with room for `room` octets. The writes of these numbers will fail.
     ///
@@ -30,6 +32,7 @@ impl MemSink {
         ensures room { IfOk result (λ sink. mem_sink_room sink ≡ room) }
         ensures failing { IfOk result (λ sink. mem_sink_failing sink ≡ failing.items) }
         ensures calls { IfOk result (λ sink. mem_sink_calls sink ≡ 0) }
+        ensures faults { IfOk result (λ sink. mem_sink_faults sink ≡ 0) }
     {
         Ok(MemSink {
             text: Vec::with_capacity(alloc, room)?,

@@ -1,3 +1,5 @@
+//! Where lines go, as a trait.
+
 ghost use Rattle.std.specs.Prelude.{◌≡◌, ◌<◌, ◌≤◌, ℕ, List, Option, IfOk, OnOk, OnErr, length};
 ghost use Rattle.fs_base.specs.Outside.{Grew, GrewPart, HasCause, WriteGrew};
 
