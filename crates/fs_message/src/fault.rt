@@ -1,3 +1,5 @@
+//! The faults of messages.
+
 /// A fault of a message, by the codes of the NOTIFICATION that reports it (RFC 4271, section 4.5).
 #[derive(Clone, Copy, Debug, PartialEq, Eq, Drop)]
 pub struct MessageFault {

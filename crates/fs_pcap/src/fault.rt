@@ -1,3 +1,5 @@
+//! What is wrong with a capture, and how it ends.
+
 /// What is wrong with a capture.
 #[derive(Clone, Copy, Debug, PartialEq, Eq, Drop)]
 pub enum CaptureReason {

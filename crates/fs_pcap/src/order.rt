@@ -1,3 +1,5 @@
+//! The order of the octets in a capture's numbers.
+
 ghost use Rattle.std.specs.Prelude.{◌≡◌, ◌≤◌, length};
 ghost use Rattle.fs_pcap.specs.Capture.{number, order_of};
 
