@@ -1,5 +1,5 @@
 -- The frames of a field, one after the other.
-use Rattle.std.proofs.Common.{◌≡◌, ℕ, ◌<◌, ◌≤◌, ◌-◌, List, [], ◌∷◌, ◌++◌, length, take, drop, zero, suc, refl, sym, ap, ◌∙◌, subst, arith}
+use Rattle.std.proofs.Common.{◌≡◌, ℕ, ◌<◌, ◌≤◌, List, [], ◌∷◌, length, take, drop, zero, suc, refl, sym, ap, ◌∙◌, subst, arith}
 use Rattle.std.proofs.lemmas.List.{length-drop, append-nil}
 use Rattle.fs_base.specs.declared.prefix.Family.{Family}
 use Rattle.fs_nlri.specs.declared.fault.NlriFault.{NlriFault}
@@ -8,7 +8,6 @@ use Rattle.fs_nlri.specs.Parts.{Ruled}
 use Rattle.fs_nlri.specs.Spelling.{IsFrame}
 use Rattle.fs_nlri.specs.Fault.{IsFrameFault}
 use Rattle.fs_nlri.specs.Feeding.{Frames, Appends}
-use Rattle.fs_nlri.specs.Outcome.{AreBadFrames}
 use Rattle.fs_nlri.proofs.Every.{frame_some}
 use Rattle.fs_attrs.specs.Rules.{IsFieldFault}
 

@@ -1,7 +1,7 @@
 -- A loop that gathers the parts of an octet list.
-use Rattle.std.proofs.Common.{◌≡◌, ℕ, ◌<◌, ◌==◌, Bool, true, false, not, ◌&&◌, ◌||◌, List, [], ◌∷◌, ◌++◌, length, Option, Some, None, refl, sym, ap, ◌∙◌, if◌then◌else◌}
+use Rattle.std.proofs.Common.{◌≡◌, ℕ, ◌==◌, List, [], ◌∷◌, ◌++◌, length, Option, Some, None, sym, ap, ◌∙◌, if◌then◌else◌}
 use Rattle.std.proofs.lemmas.List.{append-nil, append_assoc}
-use Rattle.fs_base.specs.Parts.{Shrinks, parts_of, with_part}
+use Rattle.fs_base.specs.Parts.{Shrinks, parts_of}
 use Rattle.fs_base.proofs.Parts.{parts_step, parts_end}
 
 -- what is gathered so far, and then what the rest still gives

@@ -1,5 +1,5 @@
 -- What is read of a field of frames is its one outcome.
-use Rattle.std.proofs.Common.{◌≡◌, ℕ, List, Option, Some, Result, Ok, Err, sym, ap}
+use Rattle.std.proofs.Common.{◌≡◌, ℕ, List, Option, Some, Result, Ok, Err, ap}
 use Rattle.fs_base.specs.declared.prefix.Family.{Family}
 use Rattle.fs_nlri.specs.declared.fault.Reason.{Reason}
 use Rattle.fs_nlri.specs.Parts.{Ruled}

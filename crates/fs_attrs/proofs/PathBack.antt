@@ -1,14 +1,14 @@
 -- The attributes of a path that are written are none of the causes of treat-as-withdraw, and say that path.
-use Rattle.std.proofs.Common.{◌≡◌, ℕ, suc, zero, ◌+◌, ◌-◌, ◌^◌, ◌<◌, ◌≤◌, ◌==◌, Bool, true, false, not, ◌&&◌, ◌||◌, nat_le, nat_lt, List, [], ◌∷◌, ◌++◌, length, Option, Some, None, refl, sym, ap, subst, ◌∙◌, arith, if◌then◌else◌}
-use Rattle.std.specs.Prelude.{option_map, option_and_then, unwrap_or, get_or, IfSome}
+use Rattle.std.proofs.Common.{◌≡◌, ℕ, ◌^◌, ◌<◌, ◌≤◌, ◌==◌, Bool, true, false, not, ◌&&◌, ◌||◌, nat_le, nat_lt, List, [], ◌∷◌, length, Option, Some, None, refl, sym, ap, subst, ◌∙◌, arith, if◌then◌else◌}
+use Rattle.std.specs.Prelude.{option_map, option_and_then, unwrap_or, IfSome}
 use Rattle.std.specs.Option.{is_none, option_map_or}
-use Rattle.std.specs.List.{AllByRecursion, list_all, list_any, concat}
+use Rattle.std.specs.List.{AllByRecursion, list_all, list_any}
 use Rattle.std.proofs.lemmas.List.Elements.{recursion_from_All}
 use Rattle.std.proofs.lemmas.List.{append-nil, nil_from_length}
-use Rattle.std.proofs.lemmas.Bool.{and_parts, not-true, eqb-true, false≢true}
+use Rattle.std.proofs.lemmas.Bool.{and_parts, eqb-true}
 use Rattle.std.proofs.lemmas.Bool.Decides.{nat_tests}
 use Rattle.byteorder.specs.Endian.{big_number, big_bytes}
-use Rattle.byteorder.specs.Numbers.{length-bytes_high_first, big_number-reads_back}
+use Rattle.byteorder.specs.Numbers.{big_number-reads_back}
 use Rattle.fs_base.specs.declared.path.Segment.{Segment}
 use Rattle.fs_base.specs.declared.path.Path.{Path}
 use Rattle.fs_actions.specs.Communities.{are_communities}
@@ -16,10 +16,10 @@ use Rattle.fs_actions.specs.Actions.{IsActions, actions_of}
 use Rattle.fs_actions.proofs.Joined.{read_back as actions_back, whole_joined}
 use Rattle.fs_attrs.specs.declared.update.Terms.{Terms}
 use Rattle.fs_attrs.specs.declared.update.Update.{Update}
-use Rattle.fs_attrs.specs.Attributes.{Attribute, value_of}
-use Rattle.fs_attrs.specs.Paths.{is_confederation, segments_of, origin_wrong, path_wrong, number_wrong, four_octets, number_of, origin_of, path_of, is_wrong, withdraws}
-use Rattle.fs_attrs.specs.Writing.{segments_text, written_attributes}
-use Rattle.fs_attrs.specs.Writable.{is_written_segment, is_path_of_session, is_written_path}
+use Rattle.fs_attrs.specs.Attributes.{value_of}
+use Rattle.fs_attrs.specs.Paths.{is_confederation, origin_wrong, four_octets, path_of, withdraws}
+use Rattle.fs_attrs.specs.Writing.{written_attributes}
+use Rattle.fs_attrs.specs.Writable.{is_written_segment, is_path_of_session}
 use Rattle.fs_attrs.specs.Sound.{AreNumbers, IsPath, are_low}
 use Rattle.fs_attrs.proofs.TextsBack.{FitsAs, FitsSegment, segments_whole, segments_read}
 use Rattle.fs_attrs.proofs.Written.{none_value, origin_value, segments_value, pref_octets, pref_value, originator_value, actions_octets, actions_value}

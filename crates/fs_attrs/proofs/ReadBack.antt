@@ -1,18 +1,17 @@
 -- The body that is written is read as the update that it was written of.
-use Rattle.std.proofs.Common.{◌≡◌, ℕ, suc, zero, ◌+◌, ◌-◌, ◌^◌, ◌<◌, ◌≤◌, ◌==◌, Bool, true, false, not, ◌&&◌, ◌||◌, nat_le, nat_lt, List, [], ◌∷◌, ◌++◌, length, take, drop, Option, Some, None, Result, Ok, Err, refl, sym, ap, subst, ◌∙◌, arith, if◌then◌else◌, length-append, append_assoc}
-use Rattle.std.specs.Prelude.{bit_or, option_map, option_and_then, unwrap_or, get_or, flat_map, IfSome, IsTrue}
-use Rattle.std.specs.Option.{is_some, is_none, option_map_or}
-use Rattle.std.specs.List.{AllByRecursion, list_all, list_any, concat}
+use Rattle.std.proofs.Common.{◌≡◌, ℕ, suc, ◌+◌, ◌<◌, ◌≤◌, ◌==◌, Bool, true, false, not, ◌&&◌, ◌||◌, nat_le, nat_lt, List, [], ◌∷◌, ◌++◌, length, drop, Option, Some, None, Result, Ok, Err, refl, sym, ap, subst, ◌∙◌, arith, length-append, append_assoc}
+use Rattle.std.specs.Prelude.{bit_or, option_map, flat_map, IfSome}
+use Rattle.std.specs.Option.{is_some}
+use Rattle.std.specs.List.{AllByRecursion, list_all}
 use Rattle.std.proofs.lemmas.List.Elements.{recursion_from_All}
-use Rattle.std.proofs.lemmas.List.{take_at, drop_at, append-nil, nil_from_length}
-use Rattle.std.proofs.lemmas.Bool.{and_parts, not-true, eqb-true, false≢true}
+use Rattle.std.proofs.lemmas.List.{drop_at, nil_from_length}
+use Rattle.std.proofs.lemmas.Bool.{and_parts, not-true, eqb-true}
 use Rattle.std.proofs.lemmas.Bool.Decides.{nat_tests}
 use Rattle.byteorder.specs.Endian.{big_number, big_bytes}
-use Rattle.byteorder.specs.Numbers.{length-bytes_high_first, big_number-reads_back}
+use Rattle.byteorder.specs.Numbers.{big_number-reads_back}
 use Rattle.fs_base.specs.declared.config.Address.{Address}
 use Rattle.fs_base.specs.declared.prefix.Family.{Family}
 use Rattle.fs_base.specs.declared.prefix.Family.TheVariants.{V4, V6}
-use Rattle.fs_base.specs.declared.path.Segment.{Segment}
 use Rattle.fs_base.specs.declared.path.Path.{Path}
 use Rattle.fs_base.specs.Bits.{width_of, afi_of, cleared}
 use Rattle.fs_base.specs.Language.{IsOctets}
@@ -21,9 +20,6 @@ use Rattle.fs_nlri.specs.Parts.{Ruled}
 use Rattle.fs_nlri.specs.Rule.{IsRule, canonical_frame}
 use Rattle.fs_nlri.specs.Feeding.{Frames}
 use Rattle.fs_nlri.proofs.Again.{canonical_is_frame}
-use Rattle.fs_actions.specs.Communities.{are_communities}
-use Rattle.fs_actions.specs.Actions.{IsActions, actions_of}
-use Rattle.fs_actions.proofs.Joined.{read_back as actions_back, whole_joined}
 use Rattle.fs_attrs.specs.declared.update.Terms.{Terms}
 use Rattle.fs_attrs.specs.declared.update.Routes.{Routes}
 use Rattle.fs_attrs.specs.declared.update.Routes.TheVariants.{Unicast, Flow}
@@ -31,15 +27,15 @@ use Rattle.fs_attrs.specs.declared.update.Update.{Update}
 use Rattle.fs_attrs.specs.declared.update.UpdateFault.{UpdateFault}
 use Rattle.fs_attrs.specs.declared.update.UpdateFault.TheVariants.{List as ListFault}
 use Rattle.fs_attrs.specs.Attributes.{Attribute, attribute, Body, body, body_of, value_of, stands_before}
-use Rattle.fs_attrs.specs.Prefixes.{Shown, are_prefixes, prefixes_of}
-use Rattle.fs_attrs.specs.Paths.{is_confederation, segments_of, are_segments, origin_wrong, path_wrong, number_wrong, four_octets, number_of, origin_of, path_of, is_wrong, withdraws}
-use Rattle.fs_attrs.specs.Update.{Wrong, reach_of, unreach_of, routes_of, is_read, unicast_routes, if_there, both_of, optional_of, has_routes, gives_routes, updated_with, updated, read_body, update_of}
-use Rattle.fs_attrs.specs.Writing.{flags_of, reach_in, unreach_in, path_in, long_text, prefixes_text, rules_text, segments_text, attribute_text, hop_of, family_of, routes_text, reach_text, unreach_text, written_attributes, update_text}
+use Rattle.fs_attrs.specs.Prefixes.{Shown, prefixes_of}
+use Rattle.fs_attrs.specs.Paths.{withdraws}
+use Rattle.fs_attrs.specs.Update.{Wrong, reach_of, unreach_of, routes_of, is_read, unicast_routes, if_there, both_of, optional_of, has_routes, gives_routes, updated_with, updated, read_body}
+use Rattle.fs_attrs.specs.Writing.{flags_of, reach_in, unreach_in, path_in, long_text, prefixes_text, rules_text, attribute_text, hop_of, family_of, routes_text, reach_text, unreach_text, written_attributes, update_text}
 use Rattle.fs_attrs.specs.Writable.{are_prefixes_of, are_rules_of, are_attribute_routes, if_routes, is_written_segment, is_path_of_session, is_written_path, announces, has_its_path, is_writable}
-use Rattle.fs_attrs.specs.Sound.{IsPrefix, AreRoutes, IfRoutes, AreNumbers, IsPath, IsSound, are_low, path_kept, keeps_numbers, ReadsBack}
+use Rattle.fs_attrs.specs.Sound.{IsPrefix, AreRoutes, IfRoutes, IsPath, IsSound, are_low, path_kept, keeps_numbers, ReadsBack}
 use Rattle.fs_attrs.proofs.Outcome.{flow_found}
 use Rattle.fs_attrs.proofs.PathBack.{IsGiven, path_read, path_given, none_given, actions_read}
-use Rattle.fs_attrs.proofs.TextsBack.{attribute_at, long_read, attributes_read, IsShown, prefixes_whole, prefixes_read, FitsAs, FitsSegment, segments_whole, segments_read}
+use Rattle.fs_attrs.proofs.TextsBack.{attribute_at, long_read, attributes_read, IsShown, prefixes_whole, prefixes_read}
 use Rattle.fs_attrs.proofs.Written.{reach_value, unreach_value, reach_once, unreach_once}
 
 -- the fields

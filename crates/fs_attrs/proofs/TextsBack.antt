@@ -1,24 +1,24 @@
 -- What is written of fields, attributes, prefixes and segments is read back as it was.
-use Rattle.std.proofs.Common.{◌≡◌, ℕ, suc, zero, ◌+◌, ◌-◌, ◌*◌, ◌/◌, ◌%◌, ◌^◌, ◌<◌, ◌≤◌, ◌==◌, Bool, true, false, not, ◌&&◌, ◌||◌, nat_le, nat_lt, List, [], ◌∷◌, ◌++◌, length, take, drop, Option, Some, None, refl, sym, ap, subst, ◌∙◌, arith, if◌then◌else◌, length-append, append_assoc}
-use Rattle.std.specs.Prelude.{bit_and, bit_or, option_map, flat_map}
+use Rattle.std.proofs.Common.{◌≡◌, ℕ, suc, ◌+◌, ◌-◌, ◌*◌, ◌/◌, ◌^◌, ◌<◌, ◌≤◌, ◌==◌, Bool, true, false, ◌||◌, nat_le, nat_lt, List, [], ◌∷◌, ◌++◌, length, drop, Option, Some, None, refl, sym, ap, subst, ◌∙◌, arith, if◌then◌else◌, length-append, append_assoc}
+use Rattle.std.specs.Prelude.{bit_and, bit_or, flat_map}
 use Rattle.std.specs.List.{AllByRecursion}
-use Rattle.std.proofs.lemmas.List.{take_at, drop_at, append-nil}
+use Rattle.std.proofs.lemmas.List.{take_at, drop_at}
 use Rattle.std.proofs.lemmas.Bool.Decides.{nat_tests}
 use Rattle.byteorder.specs.Endian.{big_number, big_bytes}
 use Rattle.byteorder.specs.Numbers.{length-bytes_high_first, big_number-reads_back}
-use Rattle.fs_base.specs.Parts.{Shrinks, ReadsText, parts_of}
+use Rattle.fs_base.specs.Parts.{ReadsText, parts_of}
 use Rattle.fs_base.proofs.Parts.{parts_spelled}
 use Rattle.fs_base.specs.declared.prefix.Family.{Family}
 use Rattle.fs_base.specs.declared.prefix.Family.TheVariants.{V4, V6}
 use Rattle.fs_base.specs.declared.path.Segment.{Segment}
 use Rattle.fs_base.specs.Bits.{width_of, cleared}
-use Rattle.fs_nlri.specs.Spelling.{octets_for, first_bits}
+use Rattle.fs_nlri.specs.Spelling.{octets_for}
 use Rattle.fs_nlri.specs.Rule.{first_octets}
 use Rattle.fs_nlri.proofs.Again.{octets_back}
 use Rattle.fs_message.specs.Open.{as_field}
-use Rattle.fs_attrs.specs.Attributes.{Attribute, attribute, sized, short_field, long_field, first_attribute, attributes_of, are_attributes}
-use Rattle.fs_attrs.specs.Prefixes.{Shown, shown_as, first_prefix, are_prefixes, prefixes_of}
-use Rattle.fs_attrs.specs.Paths.{as_width, first_as, numbers_of, segment, first_segment, segments_of, are_segments}
+use Rattle.fs_attrs.specs.Attributes.{Attribute, sized, long_field, first_attribute}
+use Rattle.fs_attrs.specs.Prefixes.{Shown, first_prefix, are_prefixes, prefixes_of}
+use Rattle.fs_attrs.specs.Paths.{as_width, first_as, numbers_of, first_segment, segments_of, are_segments}
 use Rattle.fs_attrs.specs.Writing.{long_text, prefix_text, prefixes_text, as_text, segment_text, segments_text, flags_of, attribute_text}
 use Rattle.fs_attrs.proofs.Shrinking.{attribute_shrinks, prefix_shrinks, as_shrinks, segment_shrinks}
 

@@ -1,6 +1,5 @@
 -- What the readers' answers are, where memory is there, and what contracts see of what they lend.
-use Rattle.std.specs.Prelude.{◌≡◌, ℕ, Bool, List, Option, Some, None, Result, Ok, Err, if◌then◌else◌, ⊤}
-use Rattle.fs_attrs.specs.declared.update.Routes.{Routes}
+use Rattle.std.specs.Prelude.{◌≡◌, Bool, Some, Result, Ok, Err, ⊤}
 use Rattle.fs_attrs.specs.declared.update.UpdateFault.{UpdateFault}
 use Rattle.fs_attrs.specs.declared.update.UpdateFault.TheVariants.{Optional, Memory}
 use Rattle.fs_attrs.specs.declared.body.Fields.{Fields}

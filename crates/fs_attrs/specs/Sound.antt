@@ -1,5 +1,5 @@
 -- What the types of an update's parts say of their values, and the law that what is written is read back.
-use Rattle.std.specs.Prelude.{All, ◌≡◌, ℕ, ◌^◌, ◌<◌, ◌≤◌, Bool, true, ◌||◌, nat_le, List, Option, Some, None, Result, Ok, IsTrue, IfSome, ⊤}
+use Rattle.std.specs.Prelude.{All, ◌≡◌, ℕ, ◌^◌, ◌<◌, ◌≤◌, Bool, true, ◌||◌, nat_le, List, Option, Some, None, Ok, IsTrue, IfSome, ⊤}
 use Rattle.std.specs.List.{list_all}
 use Rattle.fs_base.specs.declared.path.Segment.{Segment}
 use Rattle.fs_base.specs.declared.path.Path.{Path}

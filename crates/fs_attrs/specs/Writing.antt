@@ -1,6 +1,6 @@
 -- The body of an UPDATE that is written (RFC 4271, section 4.3; RFC 4760, sections 3 and 4; RFC 4456, section 8;
 -- RFC 8955, section 4). The order of the attributes is the project's own choice.
-use Rattle.std.specs.Prelude.{◌≡◌, ℕ, ◌==◌, Bool, true, false, not, ◌||◌, bit_or, nat_lt, if◌then◌else◌, List, [], ◌∷◌, ◌++◌, length, replicate, flat_map, Option, Some, None}
+use Rattle.std.specs.Prelude.{ℕ, ◌==◌, Bool, ◌||◌, bit_or, nat_lt, if◌then◌else◌, List, [], ◌∷◌, ◌++◌, length, replicate, flat_map, Option, Some, None}
 use Rattle.std.specs.List.{concat}
 use Rattle.byteorder.specs.Endian.{big_bytes}
 use Rattle.fs_base.specs.declared.config.Address.{Address}

@@ -1,5 +1,5 @@
 -- What the reader of OPEN's capabilities has found, field by field, is what the list says.
-use Rattle.std.proofs.Common.{◌≡◌, ℕ, ◌+◌, ◌<◌, ◌≤◌, Bool, true, false, not, ◌&&◌, ◌||◌, ◌==◌, nat_le, List, [], ◌∷◌, ◌++◌, length, take, drop, Option, Some, None, Result, Ok, Err, refl, sym, ap, ◌∙◌, subst, arith, if◌then◌else◌}
+use Rattle.std.proofs.Common.{◌≡◌, ℕ, Bool, true, false, not, ◌&&◌, ◌||◌, ◌==◌, List, [], ◌∷◌, ◌++◌, length, drop, Option, Some, None, Result, Err, refl, sym, ap, ◌∙◌, arith, if◌then◌else◌}
 use Rattle.std.specs.Prelude.{flat_map, find, option_map}
 use Rattle.std.specs.List.{list_any, list_all}
 use Rattle.std.proofs.lemmas.Bool.Decides.{nat_tests}
@@ -7,10 +7,10 @@ use Rattle.std.proofs.lemmas.Grind.{common_steps}
 use Rattle.byteorder.specs.Endian.{big_number}
 use Rattle.std.proofs.Math.Bool.{or_assoc, or-false}
 use Rattle.std.proofs.lemmas.List.Folds.{list_any-append}
-use Rattle.fs_base.specs.Parts.{Shrinks, parts_of, with_part}
+use Rattle.fs_base.specs.Parts.{Shrinks, parts_of}
 use Rattle.fs_base.proofs.Parts.{parts_step, parts_end}
 use Rattle.fs_message.specs.declared.capabilities.Found.{Found}
-use Rattle.fs_message.specs.Open.{Field, field, first_field, fields_of, are_fields, is_capability, is_parameter, are_parameters, capabilities_of, four_octet_as, names_family, fields_fault, opened, open_of}
+use Rattle.fs_message.specs.Open.{Field, first_field, fields_of, are_fields, is_capability, is_parameter, are_parameters, capabilities_of, four_octet_as, names_family, fields_fault, opened, open_of}
 use Rattle.fs_message.specs.declared.fault.MessageFault.{MessageFault}
 use Rattle.fs_message.specs.declared.open_.Open.{Open}
 use Rattle.fs_message.specs.Stream.{fault}

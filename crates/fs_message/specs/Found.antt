@@ -1,5 +1,5 @@
 -- What a list of capabilities says, as the reader of OPEN gathers it.
-use Rattle.std.specs.Prelude.{ℕ, Bool, ◌||◌, false, List, [], Option, Some, None, if◌then◌else◌, ◌&&◌, flat_map}
+use Rattle.std.specs.Prelude.{ℕ, ◌||◌, List, Option, Some, None, if◌then◌else◌, ◌&&◌}
 use Rattle.std.specs.List.{list_any, list_all}
 use Rattle.fs_message.specs.declared.capabilities.Found.{Found}
 use Rattle.fs_message.specs.Open.{Field, fields_of, are_fields, is_capability, are_parameters, capabilities_of, four_octet_as, names_family}

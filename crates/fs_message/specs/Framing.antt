@@ -1,5 +1,5 @@
 -- What a deframer keeps, and what a call of it does with a piece of the stream.
-use Rattle.std.specs.Prelude.{◌≡◌, ℕ, ◌+◌, ◌≤◌, Bool, true, false, ⊤, if◌then◌else◌, List, [], ◌∷◌, ◌++◌, length, take, drop, Option, Some, None, Result, Ok, Err}
+use Rattle.std.specs.Prelude.{◌≡◌, ℕ, ◌≤◌, Bool, true, false, ⊤, if◌then◌else◌, List, [], ◌++◌, length, take, drop, Option, Some, None, Result, Ok, Err}
 use Rattle.fs_message.specs.declared.fault.MessageFault.{MessageFault}
 use Rattle.fs_message.specs.Stream.{Message, message_of, wrong_at, size_of, has_message, first_message}
 

@@ -1,5 +1,4 @@
 -- What contracts see of a frame or a field that is lent.
-use Rattle.std.specs.Prelude.{ℕ, List}
 use Rattle.fs_message.specs.declared.deframer.Frame.{Frame}
 use Rattle.fs_message.specs.declared.capabilities.Field.{Field}
 use Rattle.fs_message.specs.Stream.{Message}

@@ -11,7 +11,7 @@ use Rattle.fs_message.proofs.Staying.{message_shrinks, message_stable, fault_sta
 use Rattle.fs_attrs.specs.declared.update.Update.{Update}
 use Rattle.fs_speaker.specs.declared.state.Closed.{Closed}
 use Rattle.fs_speaker.specs.Session.{Standing, turn_of, faulted, Last, still, closed, with_update, rest_closes, plays, session_from}
-use Rattle.fs_speaker.specs.Steps.{Step, waits, takes, stops, step_at, rest_step, step_of}
+use Rattle.fs_speaker.specs.Steps.{waits, takes, stops, step_at, rest_step, step_of}
 
 abbrev Turn : Type 0
 Turn = Result (Standing × Option Update) Closed

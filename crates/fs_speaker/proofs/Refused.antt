@@ -1,5 +1,5 @@
 -- A message that closes the session.
-use Rattle.std.proofs.Common.{◌≡◌, ℕ, Bool, true, false, List, [], ◌∷◌, ◌++◌, drop, Option, Some, None, Result, Ok, Err, refl, ap, sym, ◌∙◌, subst, if◌then◌else◌}
+use Rattle.std.proofs.Common.{◌≡◌, ℕ, Bool, true, false, List, ◌++◌, drop, Option, Some, None, Result, Ok, Err, ap, sym, ◌∙◌, subst, if◌then◌else◌}
 use Rattle.std.proofs.lemmas.List.{append-nil}
 use Rattle.fs_base.specs.declared.config.Config.{Config}
 use Rattle.fs_base.specs.declared.config.Peer.{Peer}
@@ -9,7 +9,7 @@ use Rattle.fs_attrs.specs.declared.update.Update.{Update}
 use Rattle.fs_speaker.specs.declared.state.Closed.{Closed}
 use Rattle.fs_speaker.specs.declared.state.Closed.TheVariants.{Fault, Notified, NoFamily, Memory}
 use Rattle.fs_speaker.specs.Session.{Standing, turn_of, reply_at}
-use Rattle.fs_speaker.specs.Steps.{Step, stops, step_at, rest_step, step_of, CloseIs, Turns, ClosesAs}
+use Rattle.fs_speaker.specs.Steps.{stops, step_at, rest_step, step_of, CloseIs, Turns, ClosesAs}
 
 -- A message stands, and it is the first of the octets in hand.
 pub record Standing_in (begun piece : List ℕ) (count : ℕ) (stands : Bool) (framing : Framing) (message : Message) : Type 0 where

@@ -1,6 +1,6 @@
 -- The session that the octets received from a peer make (RFC 4271, sections 6 and 8). Timers and the opening of
 -- connections are left out.
-use Rattle.std.specs.Prelude.{◌≡◌, ℕ, ◌==◌, Bool, true, false, not, if◌then◌else◌, List, [], ◌∷◌, ◌++◌, Option, Some, None, Result, Ok, Err}
+use Rattle.std.specs.Prelude.{ℕ, ◌==◌, Bool, false, not, if◌then◌else◌, List, [], ◌∷◌, ◌++◌, Option, Some, None, Result, Ok, Err}
 use Rattle.fs_base.specs.declared.config.Config.{Config}
 use Rattle.fs_base.specs.declared.config.Peer.{Peer}
 use Rattle.fs_base.specs.Peers.{peer_of}
@@ -18,7 +18,7 @@ use Rattle.fs_attrs.specs.Update.{update_of}
 use Rattle.fs_speaker.specs.declared.state.State.{State}
 use Rattle.fs_speaker.specs.declared.state.State.TheVariants.{WaitOpen, WaitKeep, Established, Closed as IsClosed}
 use Rattle.fs_speaker.specs.declared.state.Closed.{Closed}
-use Rattle.fs_speaker.specs.declared.state.Closed.TheVariants.{Fault, Notified, NoFamily, Memory}
+use Rattle.fs_speaker.specs.declared.state.Closed.TheVariants.{Fault, Notified, Memory}
 
 -- Where an open session stands: its state, and whether the peer's OPEN had a four-octet AS (RFC 6793).
 pub record Standing : Type 0 where

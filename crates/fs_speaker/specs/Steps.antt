@@ -1,10 +1,10 @@
 -- What a session keeps, and what one call of it does with a piece of the peer's octets.
-use Rattle.std.specs.Prelude.{◌≡◌, ℕ, ◌+◌, ◌≤◌, Bool, true, false, ⊤, List, [], ◌∷◌, ◌++◌, length, take, drop, Option, Some, None, option_map, Result, Ok, Err}
+use Rattle.std.specs.Prelude.{◌≡◌, ℕ, ◌≤◌, false, ⊤, List, [], ◌++◌, length, drop, Option, Some, None, option_map, Result, Ok, Err}
 use Rattle.fs_base.specs.declared.config.Config.{Config}
 use Rattle.fs_base.specs.declared.config.Peer.{Peer}
 use Rattle.fs_base.specs.Peers.{peer_of}
 use Rattle.fs_message.specs.declared.fault.MessageFault.{MessageFault}
-use Rattle.fs_message.specs.Stream.{Message, first_message, wrong_at}
+use Rattle.fs_message.specs.Stream.{first_message, wrong_at}
 use Rattle.fs_message.specs.Framing.{Framing, framing, pending}
 use Rattle.fs_attrs.specs.declared.update.Update.{Update}
 use Rattle.fs_speaker.specs.declared.state.State.{State}

@@ -1,4 +1,4 @@
-use Rattle.std.proofs.Common.{◌≡◌, ℕ, length}
+use Rattle.std.proofs.Common.{◌≡◌, length}
 use Rattle.fs_attrs.specs.Attributes.{attributes_of, is_doubled}
 use Rattle.fs_attrs.proofs.body.is_twice.Given as goal
 

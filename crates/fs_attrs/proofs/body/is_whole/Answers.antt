@@ -1,5 +1,4 @@
-use Rattle.std.proofs.Common.{◌≡◌, ◌==◌, Bool, true, false, not, ◌&&◌, nat_le, ℕ, List, [], ◌∷◌, ◌++◌, Option, Some, None, length, refl, sym, ap, ◌∙◌, arith}
-use Rattle.std.proofs.lemmas.Bool.Decides.{nat_tests}
+use Rattle.std.proofs.Common.{sym, ◌∙◌}
 use Rattle.fs_attrs.specs.Reading.{lent}
 use Rattle.fs_attrs.proofs.Scanning.{whole_more, whole_end}
 use Rattle.fs_attrs.proofs.body.is_whole.Goals as goal

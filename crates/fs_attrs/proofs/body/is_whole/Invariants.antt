@@ -1,4 +1,4 @@
-use Rattle.std.proofs.Common.{◌≡◌, ℕ, length}
+use Rattle.std.proofs.Common.{◌≡◌, length}
 use Rattle.fs_attrs.specs.Attributes.{are_attributes}
 use Rattle.fs_attrs.proofs.body.is_whole.Given as goal
 

@@ -1,4 +1,4 @@
-use Rattle.std.proofs.Common.{◌≡◌, ℕ, length}
+use Rattle.std.proofs.Common.{◌≡◌, length}
 use Rattle.fs_attrs.specs.Attributes.{attributes_of, value_of}
 use Rattle.fs_attrs.proofs.body.value.Given as goal
 

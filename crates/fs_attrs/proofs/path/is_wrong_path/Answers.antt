@@ -1,5 +1,4 @@
-use Rattle.std.proofs.Common.{◌≡◌, ◌==◌, Bool, true, false, not, ◌&&◌, nat_le, ℕ, List, [], ◌∷◌, ◌++◌, Option, Some, None, length, refl, sym, ap, ◌∙◌, arith}
-use Rattle.std.proofs.lemmas.Bool.Decides.{nat_tests}
+use Rattle.std.proofs.Common.{not, sym, ap, ◌∙◌}
 use Rattle.fs_attrs.specs.Reading.{lent_segment}
 use Rattle.fs_attrs.proofs.Scanning.{wrong_found, wrong_more, wrong_end}
 use Rattle.fs_attrs.proofs.path.is_wrong_path.Goals as goal

@@ -1,4 +1,4 @@
-use Rattle.std.proofs.Common.{◌≡◌, ℕ, length}
+use Rattle.std.proofs.Common.{◌≡◌, length}
 use Rattle.fs_attrs.specs.Paths.{path_wrong}
 use Rattle.fs_attrs.proofs.path.is_wrong_path.Given as goal
 

@@ -1,4 +1,4 @@
-use Rattle.std.proofs.Common.{◌≡◌, ◌==◌, Bool, true, false, not, ◌&&◌, nat_le, ℕ, List, [], ◌∷◌, ◌++◌, Option, Some, None, length, refl, sym, ap, ◌∙◌, arith}
+use Rattle.std.proofs.Common.{ℕ, List, [], ◌∷◌, ◌++◌, sym, ap, ◌∙◌}
 use Rattle.fs_base.specs.declared.path.Segment.{Segment}
 use Rattle.fs_base.specs.Parts.{parts_of}
 use Rattle.fs_attrs.specs.Paths.{first_segment, segment}

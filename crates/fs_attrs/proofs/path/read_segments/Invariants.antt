@@ -1,4 +1,4 @@
-use Rattle.std.proofs.Common.{◌≡◌, ℕ, length}
+use Rattle.std.proofs.Common.{◌≡◌, length}
 use Rattle.fs_base.specs.Parts.{parts_of}
 use Rattle.fs_attrs.specs.Paths.{first_segment}
 use Rattle.fs_attrs.proofs.Gathering.{behind}

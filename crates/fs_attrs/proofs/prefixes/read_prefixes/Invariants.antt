@@ -1,4 +1,4 @@
-use Rattle.std.proofs.Common.{◌≡◌, ℕ, length}
+use Rattle.std.proofs.Common.{◌≡◌, length}
 use Rattle.std.specs.Prelude.{map}
 use Rattle.fs_base.specs.Parts.{parts_of}
 use Rattle.fs_nlri.specs.Rule.{shown}

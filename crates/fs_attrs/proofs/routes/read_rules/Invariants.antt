@@ -1,4 +1,4 @@
-use Rattle.std.proofs.Common.{◌≡◌, ℕ, [], length}
+use Rattle.std.proofs.Common.{[], length}
 use Rattle.fs_nlri.specs.Feeding.{Appends}
 use Rattle.fs_attrs.proofs.routes.read_rules.Given as goal
 

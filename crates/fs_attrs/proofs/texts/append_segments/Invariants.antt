@@ -1,4 +1,4 @@
-use Rattle.std.proofs.Common.{◌≡◌, ◌^◌, ◌<◌, ◌++◌, take, All}
+use Rattle.std.proofs.Common.{◌≡◌, ◌++◌, take, All}
 use Rattle.fs_attrs.specs.Sound.{AreNumbers}
 use Rattle.fs_attrs.specs.Writing.{segments_text}
 use Rattle.fs_attrs.proofs.texts.append_segments.Given as goal

@@ -1,4 +1,4 @@
-use Rattle.std.proofs.Common.{◌≡◌, Bool, true, false, if◌then◌else◌, Option, Some, None, [], ◌∷◌, sym, ap, ◌∙◌}
+use Rattle.std.proofs.Common.{sym, ap, ◌∙◌}
 use Rattle.fs_message.specs.declared.capabilities.Found.{Found}
 use Rattle.fs_message.specs.Found.{gathered}
 use Rattle.fs_message.specs.Shown.{field_of}

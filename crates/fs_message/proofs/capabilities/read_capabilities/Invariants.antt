@@ -1,4 +1,4 @@
-use Rattle.std.proofs.Common.{◌≡◌, ℕ, length}
+use Rattle.std.proofs.Common.{◌≡◌, length}
 use Rattle.fs_message.specs.Found.{gathered}
 use Rattle.fs_message.proofs.capabilities.read_capabilities.Given as goal
 

@@ -1,6 +1,5 @@
-use Rattle.std.proofs.Common.{◌≡◌, ◌==◌, ℕ, Bool, true, false, Option, Some, None, [], ◌∷◌, sym, ap, ◌∙◌, arith}
+use Rattle.std.proofs.Common.{◌≡◌, ◌==◌, false, sym, ◌∙◌, arith}
 use Rattle.std.proofs.lemmas.Bool.Decides.{nat_tests}
-use Rattle.fs_message.specs.declared.capabilities.Found.{Found}
 use Rattle.fs_message.specs.Shown.{field_of}
 use Rattle.fs_message.proofs.Gathering.{all_more, all_unknown, all_malformed, all_end}
 use Rattle.fs_message.proofs.capabilities.read_parameters.Goals as goal

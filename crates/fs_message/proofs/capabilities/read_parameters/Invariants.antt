@@ -1,4 +1,4 @@
-use Rattle.std.proofs.Common.{◌≡◌, ℕ, length, []}
+use Rattle.std.proofs.Common.{◌≡◌, length, []}
 use Rattle.fs_message.specs.Found.{found_in, all_gathered}
 use Rattle.fs_message.proofs.capabilities.read_parameters.Given as goal
 

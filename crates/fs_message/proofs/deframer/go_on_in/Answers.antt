@@ -1,8 +1,7 @@
-use Rattle.std.proofs.Common.{rules, ◌≡◌, ℕ, ◌+◌, ◌-◌, ◌<◌, ◌≤◌, ◌++◌, [], min, length, take, drop, IsTrue, true, false, Some, None, Option, List, refl, sym, ap, ◌∙◌, subst, arith}
-use Rattle.std.proofs.lemmas.List.{length-take, length-drop, take-take, take_min}
-use Rattle.fs_message.specs.declared.fault.MessageFault.{MessageFault}
-use Rattle.fs_message.specs.Framing.{IsBegun, IsWhole}
-use Rattle.fs_message.specs.Stream.{message_of, header_fault, wrong_at, size_of, size_at}
+use Rattle.std.proofs.Common.{◌≡◌, ℕ, ◌<◌, ◌≤◌, ◌++◌, length, take, None, List, refl, sym, ap, ◌∙◌, subst, arith}
+use Rattle.std.proofs.lemmas.List.{length-take}
+use Rattle.fs_message.specs.Framing.{IsBegun}
+use Rattle.fs_message.specs.Stream.{header_fault, wrong_at}
 use Rattle.fs_message.proofs.Begun.{Headed, Bodied, headed_short, short_begun, bodied_short, bodied_whole, bodied_is_whole, bodied_some, header_judged, headed_of, bodied_of, size_fits}
 use Rattle.fs_message.proofs.deframer.go_on_in.Goals as goal
 

@@ -1,5 +1,5 @@
-use Rattle.std.proofs.Common.{rules, ◌≡◌, ℕ, ◌+◌, ◌-◌, ◌≤◌, length, take, drop, get_or, IsTrue, List, sym, ap, ◌∙◌, subst, arith}
-use Rattle.fs_message.specs.Stream.{Message, message_of, allows}
+use Rattle.std.proofs.Common.{◌≡◌, ℕ, ◌+◌, ◌-◌, ◌≤◌, length, take, drop, get_or, IsTrue, sym, subst, arith}
+use Rattle.fs_message.specs.Stream.{allows}
 use Rattle.fs_message.proofs.Begun.{message_front, message_allowed}
 use Rattle.std.proofs.lemmas.List.{length-take, length-drop}
 use Rattle.fs_message.proofs.deframer.message_in.Goals as goal

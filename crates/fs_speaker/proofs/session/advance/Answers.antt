@@ -1,4 +1,3 @@
-use Rattle.std.proofs.Common.{◌≡◌, None}
 use Rattle.fs_message.specs.Framing.{pending}
 use Rattle.fs_message.specs.Shown.{frame_of}
 use Rattle.fs_speaker.specs.Session.{standing}
