@@ -32,11 +32,11 @@ follows_piece config peer octets piece session updates f = record {
 }
 
 -- the octets in hand come to nothing more
-nothing_waits : (config : Config) (peer : Peer) (now : Standing) → step_of config peer now [] ≡ waits
+pub nothing_waits : (config : Config) (peer : Peer) (now : Standing) → step_of config peer now [] ≡ waits
 nothing_waits config peer now = refl
 
 -- of the whole list nothing is left
-all_gone : (octets : List ℕ) (count : ℕ) → count ≡ length octets → drop count octets ≡ []
+pub all_gone : (octets : List ℕ) (count : ℕ) → count ≡ length octets → drop count octets ≡ []
 all_gone octets count h = drop_all count octets (omega (arith, h))
 
 module _ (config : Config) (peer : Peer) (octets rest : List ℕ) (old new : Live) (updates : List Update) (count : ℕ) (update : Option Update) where

@@ -17,6 +17,8 @@ pub mod Playing
 pub mod Receiving
 pub mod Ruling
 pub mod Running
+pub mod Saying
+pub mod Speaking
 pub mod Stepped
 pub mod TableTurns
 pub mod TapeLoop

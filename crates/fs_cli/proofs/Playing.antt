@@ -14,16 +14,19 @@ use Rattle.fs_base.specs.declared.config.Peer.{Peer}
 use Rattle.fs_message.specs.Framing.{framing}
 use Rattle.fs_rules.specs.Held.{Held}
 use Rattle.fs_speaker.specs.Session.{at_start}
+use Rattle.fs_speaker.specs.Replies.{replies_from, replies_of}
 use Rattle.fs_speaker.specs.Steps.{Live, live, begins}
 use Rattle.fs_tape.specs.Tape.{Item, came_up, received, was_lost}
 use Rattle.fs_cli.specs.Life.{is_turn, is_up, sent_in, life}
 use Rattle.fs_cli.specs.Turning.{Turns, nothing}
 use Rattle.fs_cli.specs.Held.{IsListed}
 use Rattle.fs_cli.specs.Keeping.{Keeps, Spares, Stands}
-use Rattle.fs_cli.specs.Desk.{Desked, session_at, PeerIs, Played}
+use Rattle.fs_cli.specs.Desk.{Desked, session_at, PeerIs, Played, Replied}
+use Rattle.fs_cli.specs.Received.{RepliesTo}
 use Rattle.fs_cli.proofs.EntryLists.{lookup-insert_entry, sorted-insert_entry, sorted-remove_entry, is_equal}
 use Rattle.fs_cli.proofs.LifeLemmas.{life-turn, life-more}
 use Rattle.fs_cli.proofs.Following.{follows_none}
+use Rattle.fs_cli.proofs.Saying.{says_none}
 use Rattle.fs_cli.proofs.Kept.{keeps_nothing, keeps_spared, spares_others}
 
 nat_same : (m n : ℕ) → is_eq (nat_cmp m n) ≡ (m == n)
@@ -73,7 +76,7 @@ peer_spared config peer l l' s s' n m old new e f spares apart p =
     at None (Some x) None k = absurd k
     at (Some q) (Some x) None k = absurd k
     at None (Some x) (Some y) k = absurd k
-    at (Some q) (Some x) (Some y) k = record { updates = k.updates; fed = k.fed; keeps = keeps_spared n m k.updates old new spares apart k.keeps }
+    at (Some q) (Some x) (Some y) k = record { updates = k.updates; fed = k.fed; says = k.says; keeps = keeps_spared n m k.updates old new spares apart k.keeps }
 
 -- an item of another peer doesn't touch a life
 life_other : (m : ℕ) (items : List Item) (item : Item) → is_turn m item ≡ false → is_up m item ≡ false → sent_in m item ≡ [] → life m (items ++ item ∷ []) ≡ life m items
@@ -157,7 +160,7 @@ played_up config items n peer session mid new q v c h s p = record {
         (subst (λ (x : Option (List ℕ)). PeerIs config (peer_of n config.peers) x (session_at n mid.sessions) n mid.held) (lost_life n items) (p.each n))
 
     first : Stands config peer n [] session mid.held
-    first = subst (λ (z : Live). Stands config peer n [] z mid.held) (sym v) (record { updates = []; fed = follows_none config peer; keeps = down })
+    first = subst (λ (z : Live). Stands config peer n [] z mid.held) (sym v) (record { updates = []; fed = follows_none config peer; says = says_none config peer; keeps = down })
 
     at : PeerIs config (peer_of n config.peers) (life n (items ++ came_up n ∷ [])) (session_at n new.sessions) n new.held
     at =
@@ -217,6 +220,29 @@ played_octets config items n piece session session' old new there takes c s sort
           ];
         }
 
+-- what a session replies to a piece, for all octets that it may have been fed with
+abbrev pub RepliesAll : ℕ → Live → Held → List ℕ → List ℕ → List ℕ → Type 0
+RepliesAll n session held piece before now =
+    (config : Config) (whose : Peer) (octets : List ℕ) → IsListed held → Stands config whose n octets session held → RepliesTo config whose octets piece before now
+
+-- the session of a peer that is up replied to a piece
+pub played_replied : (config : Config) (items : List Item) (n : ℕ) (piece before now : List ℕ) (session : Live) (desk : Desked)
+    → session_at n desk.sessions ≡ Some session → RepliesAll n session desk.held piece before now → Played config items desk
+    → Replied config n (life n items) piece before now
+played_replied config items n piece before now session desk there replies p =
+    by (peer_of n config.peers) (life n items) refl (subst (λ (x : Option Live). PeerIs config (peer_of n config.peers) (life n items) x n desk.held) there (p.each n))
+  where
+    of : List ℕ → Option Peer → List ℕ
+    of octets q = elim q [ None ↦ [] | Some peer ↦ replies_from config peer at_start octets ]
+
+    by : (q : Option Peer) (l : Option (List ℕ)) → peer_of n config.peers ≡ q → PeerIs config q l (Some session) n desk.held → Replied config n l piece before now
+    by None None f k = absurd k
+    by (Some peer) None f k = absurd k
+    by None (Some octets) f k = absurd k
+    by (Some peer) (Some octets) f k =
+        let r = replies config peer octets p.listed k in
+        (r.0, r.1, ap (of (octets ++ piece)) f ∙ r.2 ∙ ap (λ (z : List ℕ). z ++ r.0) (sym (ap (of octets) f)))
+
 no_life : (config : Config) (peer : Option Peer) (l : Option (List ℕ)) (n : ℕ) (held : Held) → PeerIs config peer l None n held → l ≡ None
 no_life config peer None n held k = refl
 no_life config None (Some octets) n held k = absurd k
@@ -245,6 +271,15 @@ played_skipped config items n piece desk none p = record {
       | inl e ↦ subst (λ (z : ℕ). life z (items ++ received n piece ∷ []) ≡ life z items) (sym (one_number m n e)) own
       | inr e ↦ life_other m items (received n piece) refl refl (not_chosen (n == m) piece [] (turned_same m n false e))
     ]
+
+-- and not answered
+pub played_silent : (config : Config) (items : List Item) (n : ℕ) (piece before : List ℕ) (desk : Desked)
+    → session_at n desk.sessions ≡ None → Played config items desk → Replied config n (life n items) piece before before
+played_silent config items n piece before desk none p =
+    subst (λ (l : Option (List ℕ)). Replied config n l piece before before)
+    (sym (no_life config (peer_of n config.peers) (life n items) n desk.held
+    (subst (λ (x : Option Live). PeerIs config (peer_of n config.peers) (life n items) x n desk.held) none (p.each n))))
+    refl
 
 -- before the first item
 pub played_none : (config : Config) (desk : Desked) → desk ≡ record { config = config; held = record { config = config; unicast = []; flows = [] }; sessions = [] } → Played config [] desk
@@ -329,3 +364,17 @@ desk_fed config items n piece session session' own table table' sessions session
     (λ m. ap (session_at m) s ∙ session_set m n session' sessions (is_there (session_at n sessions) session there))
     (λ sorted. subst (λ (ks : List ℕ). IsStrictlySortedBy nat_cmp ks) (sym (ap keys_of s ∙ keys-set_value (is_at (nat_cmp n)) sessions session')) sorted)
     p
+
+pub desk_replied : (config : Config) (items : List Item) (n : ℕ) (piece before now : List ℕ) (session : Live) (own : Config) (table : Held) (sessions : List (ℕ × Live)) (old : Desked)
+    → old ≡ record { config = own; held = table; sessions = sessions } → session_at n sessions ≡ Some session → RepliesAll n session table piece before now
+    → Played config items old → Replied config n (life n items) piece before now
+desk_replied config items n piece before now session own table sessions old e there replies p =
+    played_replied config items n piece before now session (record { config = own; held = table; sessions = sessions }) there replies
+    (subst (λ (d : Desked). Played config items d) e p)
+
+pub desk_silent : (config : Config) (items : List Item) (n : ℕ) (piece before : List ℕ) (own : Config) (table : Held) (sessions : List (ℕ × Live)) (old : Desked)
+    → old ≡ record { config = own; held = table; sessions = sessions } → session_at n sessions ≡ None
+    → Played config items old → Replied config n (life n items) piece before before
+desk_silent config items n piece before own table sessions old e none p =
+    played_silent config items n piece before (record { config = own; held = table; sessions = sessions }) none
+    (subst (λ (d : Desked). Played config items d) e p)

@@ -6,15 +6,18 @@ use Rattle.fs_attrs.specs.declared.update.Update.{Update}
 use Rattle.fs_rules.specs.Held.{Held}
 use Rattle.fs_speaker.specs.declared.state.Closed.{Closed}
 use Rattle.fs_speaker.specs.declared.state.Closed.TheVariants.{Fault, Notified, NoFamily, Memory}
+use Rattle.fs_speaker.specs.Session.{at_start}
+use Rattle.fs_speaker.specs.Replies.{replies_from}
 use Rattle.fs_speaker.specs.Steps.{Live, Step, stops, Does, step_with, CloseIs}
 use Rattle.fs_cli.specs.Turning.{Turns, nothing, told, told_of}
 use Rattle.fs_cli.specs.Held.{IsListed}
-use Rattle.fs_cli.specs.Following.{Follows, IsFed}
+use Rattle.fs_cli.specs.Following.{Follows, IsFed, HasSaid}
 use Rattle.fs_cli.specs.Keeping.{Keeps, Spares, Stands}
-use Rattle.fs_cli.specs.Feeding.{Feeds, FeedsAll}
+use Rattle.fs_cli.specs.Feeding.{Feeds, FeedsAll, HasSaidMore}
 use Rattle.fs_cli.specs.Received.{Received}
 use Rattle.fs_cli.specs.Memories.{wants_memory}
 use Rattle.fs_cli.proofs.Following.{follows_piece, follows_fed, follows_closed, over_more}
+use Rattle.fs_cli.proofs.Saying.{says_exactly, says_over}
 use Rattle.fs_cli.proofs.Kept.{keeps_more, keeps_nothing, spares_others, spares_none, spares_then}
 
 -- a message without an update was taken
@@ -40,7 +43,7 @@ fed_update peer old new table table' piece count update did alive c p t = λ con
   spares = spares_others peer (told update) (told_of update) table table' t l;
 }
 
-close_is : (step : Step) (why : Closed) → (why ≡ Memory → ⊥) → CloseIs step why → step ≡ stops why
+pub close_is : (step : Step) (why : Closed) → (why ≡ Memory → ⊥) → CloseIs step why → step ≡ stops why
 close_is step (Fault code subcode) n h = h
 close_is step (Notified code subcode) n h = h
 close_is step NoFamily n h = h
@@ -86,34 +89,31 @@ received_more config whose peer octets rest session new table now table' count r
       spares = spares_then peer table now table' r.spares g.spares;
     }
 
-fed_still : (config : Config) (whose : Peer) (peer : ℕ) (octets : List ℕ) (session : Live) (table : Held) (updates : List Update)
-    → Follows config whose octets [] session updates → Keeps peer updates table → Stands config whose peer octets session table
-fed_still config whose peer octets session table updates f k = record {
-  updates = updates;
-  fed = subst (λ (o : Option Closed). IsFed config whose octets session o updates) (sym f.alive) f;
-  keeps = k;
-}
-
-pub received_all : (config : Config) (whose : Peer) (peer : ℕ) (octets rest : List ℕ) (session new : Live) (table now table' : Held)
-    → Received config whose peer octets rest session table now → FeedsAll peer session new now table' rest None
+pub received_all : (config : Config) (whose : Peer) (peer : ℕ) (octets rest : List ℕ) (session new : Live) (table now table' : Held) (said first replies' : List ℕ)
+    → Received config whose peer octets rest session table now → HasSaidMore config whose octets new said first replies' → FeedsAll peer session new now table' rest None
     → Stands config whose peer octets new table' × Spares peer table table'
-received_all config whose peer octets rest session new table now table' r feeds =
+received_all config whose peer octets rest session new table now table' said first replies' r t feeds =
     by (feeds config whose octets r.updates r.follows r.spares.listed r.keeps)
   where
+    stands : (updates : List Update) → IsFed config whose octets new new.closed updates → Keeps peer updates table' → Stands config whose peer octets new table'
+    stands updates fed k = record {
+      updates = updates;
+      fed = fed;
+      says = says_exactly config whose octets new new.closed updates (said ++ t.more) fed t.says;
+      keeps = k;
+    }
+
     by : Feeds config whose octets peer session new now table' rest None → Stands config whose peer octets new table' × Spares peer table table'
     by (inl e) =
         let f : Follows config whose octets [] session r.updates = subst (λ (z : List ℕ). Follows config whose octets z session r.updates) e.0 r.follows in
-        let s : Stands config whose peer octets session now = fed_still config whose peer octets session now r.updates f r.keeps in
-        let s' : Stands config whose peer octets new now = subst (λ (v : Live). Stands config whose peer octets v now) (sym e.1) s in (
-          subst (λ (h : Held). Stands config whose peer octets new h) (sym e.2) s',
+        let fed : IsFed config whose octets session session.closed r.updates = subst (λ (o : Option Closed). IsFed config whose octets session o r.updates) (sym f.alive) f in (
+          stands r.updates
+              (subst (λ (v : Live). IsFed config whose octets v v.closed r.updates) (sym e.1) fed)
+              (subst (λ (h : Held). Keeps peer r.updates h) (sym e.2) r.keeps),
           subst (λ (h : Held). Spares peer table h) (sym e.2) r.spares,
         )
     by (inr e) = (
-      record {
-        updates = [];
-        fed = subst (λ (o : Option Closed). IsFed config whose octets new o []) (sym e.closed) (e.over, refl);
-        keeps = e.keeps;
-      },
+      stands [] (subst (λ (o : Option Closed). IsFed config whose octets new o []) (sym e.closed) (e.over, refl)) e.keeps,
       spares_then peer table now table' r.spares e.spares,
     )
 
@@ -122,16 +122,24 @@ pub stands_over : (config : Config) (whose : Peer) (peer : ℕ) (octets piece : 
     → session.closed ≡ Some why → IsListed table → Stands config whose peer octets session table
     → Stands config whose peer (octets ++ piece) session table × Spares peer table table
 stands_over config whose peer octets piece session table why h l s =
-    let o : IsFed config whose octets session (Some why) s.updates = subst (λ (c : Option Closed). IsFed config whose octets session c s.updates) h s.fed in (
+    let o : IsFed config whose octets session (Some why) s.updates = subst (λ (c : Option Closed). IsFed config whose octets session c s.updates) h s.fed in
+    let fed : IsFed config whose (octets ++ piece) session session.closed s.updates =
+    subst (λ (c : Option Closed). IsFed config whose (octets ++ piece) session c s.updates) (sym h) (over_more config whose octets piece why o.0, o.1) in
+    let said : HasSaid config whose octets session (Some why) (replies_from config whose at_start octets) =
+    subst (λ (c : Option Closed). HasSaid config whose octets session c (replies_from config whose at_start octets)) h s.says in (
       record {
         updates = s.updates;
-        fed = subst (λ (c : Option Closed). IsFed config whose (octets ++ piece) session c s.updates) (sym h) (over_more config whose octets piece why o.0, o.1);
+        fed = fed;
+        says =
+            says_exactly config whose (octets ++ piece) session session.closed s.updates (replies_from config whose at_start octets) fed
+            (subst (λ (c : Option Closed). HasSaid config whose (octets ++ piece) session c (replies_from config whose at_start octets)) (sym h)
+            (says_over config whose octets piece session why (replies_from config whose at_start octets) said));
         keeps = s.keeps;
       },
       spares_none peer table l,
     )
 
-some_there : {A : Type 0} (o : Option A) → is_some o ≡ true → (a : A) × (o ≡ Some a)
+pub some_there : {A : Type 0} (o : Option A) → is_some o ≡ true → (a : A) × (o ≡ Some a)
 some_there (Some a) h = (a, refl)
 some_there None h = absurd (true≢false (sym h))
 

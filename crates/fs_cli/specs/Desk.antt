@@ -1,5 +1,5 @@
 -- What the desk keeps, and what the items that were played make of it.
-use Rattle.std.specs.Prelude.{◌≡◌, ℕ, List, [], Option, Some, None}
+use Rattle.std.specs.Prelude.{◌≡◌, ℕ, List, [], ◌++◌, Option, Some, None}
 use Rattle.std.specs.Ordering.{nat_cmp}
 use Rattle.std.specs.List.Sorted.{IsStrictlySortedBy}
 use Rattle.std.specs.Map.{lookup, keys_of}
@@ -8,6 +8,7 @@ use Rattle.fs_base.specs.Peers.{peer_of}
 use Rattle.fs_base.specs.declared.config.Config.{Config}
 use Rattle.fs_base.specs.declared.config.Peer.{Peer}
 use Rattle.fs_rules.specs.Held.{Held}
+use Rattle.fs_speaker.specs.Replies.{replies_of}
 use Rattle.fs_speaker.specs.Steps.{Live}
 use Rattle.fs_tape.specs.Tape.{Item}
 use Rattle.fs_cli.specs.Life.{life}
@@ -36,3 +37,14 @@ pub record Played (config : Config) (items : List Item) (desk : Desked) : Type 0
   pub listed : IsListed desk.held
   pub sessions : IsStrictlySortedBy nat_cmp (keys_of desk.sessions)
   pub each : (number : ℕ) → PeerIs config (peer_of number config.peers) (life number items) (session_at number desk.sessions) number desk.held
+
+-- what was replied before still stands
+abbrev pub Grew : List ℕ → List ℕ → Type 0
+Grew before now = (more : List ℕ) × (now ≡ before ++ more)
+
+-- What a piece of a peer's octets adds to the replies. Octets of a peer that is down are not answered. Those of one that
+-- is up add what is replied to all octets of its life beyond what is replied to those before.
+abbrev pub Replied : Config → ℕ → Option (List ℕ) → List ℕ → List ℕ → List ℕ → Type 0
+Replied config number None piece before now = now ≡ before
+Replied config number (Some octets) piece before now =
+    (more : List ℕ) × (now ≡ before ++ more) × (replies_of config number (octets ++ piece) ≡ replies_of config number octets ++ more)

@@ -6,6 +6,7 @@ use Rattle.fs_message.specs.Framing.{pending}
 use Rattle.fs_attrs.specs.declared.update.Update.{Update}
 use Rattle.fs_speaker.specs.declared.state.Closed.{Closed}
 use Rattle.fs_speaker.specs.Session.{at_start, Last, closed, session_from}
+use Rattle.fs_speaker.specs.Replies.{replies_from}
 use Rattle.fs_speaker.specs.Steps.{Live, waits, step_of}
 
 abbrev pub with_updates : List Update → List Update × Last → List Update × Last
@@ -36,3 +37,15 @@ listed (Some update) = update ∷ []
 abbrev pub IsFed : Config → Peer → List ℕ → Live → Option Closed → List Update → Type 0
 IsFed config peer octets session None updates = Follows config peer octets [] session updates
 IsFed config peer octets session (Some why) updates = IsOver config peer octets why × (updates ≡ [])
+
+-- Of all the octets a session has yet to take `rest`. It has replied `said`, and what is still to be replied is what it
+-- replies to its octets in hand, to the rest, and to all that follows.
+abbrev pub Says : Config → Peer → List ℕ → List ℕ → Live → List ℕ → Type 0
+Says config peer octets rest session said =
+    (more : List ℕ)
+    → replies_from config peer at_start (octets ++ more) ≡ said ++ replies_from config peer session.standing (pending session.framing ++ (rest ++ more))
+
+-- The session has been fed with these octets and has replied so. A closed one replies nothing more, whatever follows.
+abbrev pub HasSaid : Config → Peer → List ℕ → Live → Option Closed → List ℕ → Type 0
+HasSaid config peer octets session None said = Says config peer octets [] session said
+HasSaid config peer octets session (Some why) said = (more : List ℕ) → replies_from config peer at_start (octets ++ more) ≡ said

@@ -33,8 +33,9 @@ impl<'a> Desk<'a> {
     ghost use Rattle.fs_base.specs.declared.config.Config.{Config};
     ghost use Rattle.fs_base.specs.Peers.{peer_of};
     ghost use Rattle.fs_tape.specs.Tape.{Item, came_up, received, was_lost};
-    ghost use Rattle.fs_cli.specs.Desk.{Played};
+    ghost use Rattle.fs_cli.specs.Desk.{Played, Grew, Replied};
     ghost use Rattle.fs_cli.specs.Held.{Leaves};
+    ghost use Rattle.fs_cli.specs.Life.{life};
     ghost use Rattle.fs_cli.specs.Listing.{standing_at_desk, standing_of};
 
     /// Every configured peer is down, and nothing is held.
@@ -71,9 +72,13 @@ impl<'a> Desk<'a> {
     }
 
     /// The peer sent these octets. Those of a peer that is down or whose session has closed are skipped. The replies
-    /// of its session are appended to `replies`.
+    /// of its session are appended to `replies`: to its OPEN the local OPEN and a KEEPALIVE, to a fault a NOTIFICATION
+    /// (RFC 4271 section 6). After `Memory` those to a front of the octets may be there.
     pub fn octets(&mut self, peer: u16, piece: &[u8], replies: &mut Vec<u8>) -> Result<(), Memory>
         ensures played { OnOk result ((config : Config) (items : List Item) → Played config items self.old → Played config (items ++ received peer piece.now ∷ []) self.new) }
+        ensures grows { Grew replies.old.items replies.new.items }
+        ensures replied { OnOk result ((config : Config) (items : List Item) → Played config items self.old
+            → Replied config peer (life peer items) piece.now replies.old.items replies.new.items) }
         ensures config { self.new.config ≡ self.old.config }
     {
         match self.sessions.get_mut(&peer) {
@@ -121,7 +126,9 @@ ghost use Rattle.fs_base.specs.declared.config.Peer.{Peer};
 ghost use Rattle.fs_rules.specs.Held.{without_peer_unicast, without_peer_flows};
 ghost use Rattle.fs_cli.specs.Held.{IsListed};
 ghost use Rattle.fs_cli.specs.Keeping.{Spares, Stands};
-ghost use Rattle.fs_cli.specs.Feeding.{FeedsAll};
+ghost use Rattle.fs_cli.specs.Desk.{Grew};
+ghost use Rattle.fs_cli.specs.Feeding.{FeedsAll, SpeaksAll};
+ghost use Rattle.fs_cli.specs.Received.{RepliesTo};
 ghost use Rattle.fs_cli.specs.Listing.{standing_by};
 ghost use Rattle.fs_cli.specs.Memories.{wants_memory};
 
@@ -158,8 +165,11 @@ fn receive<L: Ledger>(
     requires name { blank.name ≡ L.name }
     requires parts { blank.parts ≡ L.parts }
     requires some { 0 < L.parts }
-    ensures { OnOk result ((config : Config) (whose : Peer) (octets : List ℕ) → IsListed table.old → Stands config whose peer octets session.old table.old
+    ensures stands { OnOk result ((config : Config) (whose : Peer) (octets : List ℕ) → IsListed table.old → Stands config whose peer octets session.old table.old
         → Stands config whose peer (octets ++ piece.now) session.new table.new × Spares peer table.old table.new) }
+    ensures grows { Grew replies.old.items replies.new.items }
+    ensures replied { OnOk result ((config : Config) (whose : Peer) (octets : List ℕ) → IsListed table.old → Stands config whose peer octets session.old table.old
+        → RepliesTo config whose octets piece.now replies.old.items replies.new.items) }
 {
     if session.closed().is_some() {
         return Ok(());
@@ -186,6 +196,8 @@ fn take_message<L: Ledger>(
 ) -> Result<Option<usize>, Memory>
     ensures some { IfOk result (λ taken. IfSome taken (λ count. (count ≤ length piece.now) × (0 < count))) }
     ensures goes { IfOk result (FeedsAll peer session.old session.new table.old table.new piece.now) }
+    ensures grows { Grew replies.old.items replies.new.items }
+    ensures says { IfOk result (SpeaksAll session.old session.new replies.old.items replies.new.items piece.now) }
 {
     if piece.is_empty() {
         return Ok(None);

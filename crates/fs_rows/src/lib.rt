@@ -25,6 +25,8 @@ mod outside;
 #[cfg(test)]
 mod packets;
 #[cfg(test)]
+mod replies;
+#[cfg(test)]
 mod run;
 #[cfg(test)]
 mod sessions;

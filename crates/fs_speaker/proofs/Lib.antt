@@ -1,2 +1,3 @@
 pub mod Joined
 mod Refused
+pub mod Replied

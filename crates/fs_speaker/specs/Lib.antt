@@ -1,3 +1,4 @@
+pub mod Replies
 pub mod Session
 pub mod Steps
 pub mod Laws
