@@ -12,7 +12,7 @@ ghost use Rattle.fs_cli.specs.Listing.{desk_text, listing, standing_at_desk, Wri
 use crate::desk::Desk;
 use crate::refusal::Refusal;
 use fs_base::{Family, Memory, Sink, write_all};
-use fs_listing::{append_peer, append_rules, append_tape_fault};
+use fs_listing::{append_peer, append_rules, append_tape_fault, numbers_of};
 use fs_tape::TapeReason;
 use std::alloc::Global;
 
@@ -69,20 +69,26 @@ fn text_of(alloc: Global, desk: &Desk<'_>) -> Result<Vec<u8>, Memory>
     ensures { IfOk result (λ text. text.items ≡ desk_text desk.now) }
 {
     let mut text = Vec::new(alloc);
-    append_peers(desk, &mut text)?;
+    append_peers(alloc, desk, &mut text)?;
     append_rules(alloc, Family::V4, desk.table(), &mut text)?;
     append_rules(alloc, Family::V6, desk.table(), &mut text)?;
     Ok(text)
 }
 
 /// Appends the lines of the configured peers, by their numbers.
-fn append_peers(desk: &Desk<'_>, text: &mut Vec<u8>) -> Result<(), Memory>
+fn append_peers(alloc: Global, desk: &Desk<'_>, text: &mut Vec<u8>) -> Result<(), Memory>
     ensures { OnOk result (text.new.items ≡ text.old.items ++ peers_text (numbers_of desk.now.config.peers) (standing_at_desk desk.now)) }
 {
-    for number in 0..=u16::MAX {
-        if desk.config().peer(number).is_some() {
-            append_peer(number, desk.state(number), text)?;
-        }
+    let numbers = numbers_of(alloc, desk.config().peers.as_slice())?;
+    append_each(desk, &numbers, text)
+}
+
+/// Appends the line of each of these peers.
+fn append_each(desk: &Desk<'_>, numbers: &[u16], text: &mut Vec<u8>) -> Result<(), Memory>
+    ensures { OnOk result (text.new.items ≡ text.old.items ++ peers_text numbers.now (standing_at_desk desk.now)) }
+{
+    for number in numbers {
+        append_peer(*number, desk.state(*number), text)?;
     }
     Ok(())
 }

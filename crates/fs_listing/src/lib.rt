@@ -8,6 +8,6 @@ mod tape_fault;
 #[cfg(test)]
 mod tests;
 
-pub use peers::{Standing, append_peer};
+pub use peers::{Standing, append_peer, numbers_of};
 pub use rules::append_rules;
 pub use tape_fault::append_tape_fault;

@@ -1,11 +1,12 @@
 //! The lines of peers.
 
-ghost use Rattle.std.specs.Prelude.{◌≡◌, ◌++◌, OnOk};
-ghost use Rattle.fs_listing.specs.Listing.{codes_text, standing_text, state_name, peer_line};
+ghost use Rattle.std.specs.Prelude.{◌≡◌, ◌++◌, IfOk, OnOk};
+ghost use Rattle.fs_listing.specs.Listing.{codes_text, numbers_of, standing_text, state_name, peer_line};
 
 use crate::pieces::{append, append_decimal};
-use fs_base::Memory;
+use fs_base::{Memory, Peer};
 use fs_speaker::{Closed, State};
+use std::alloc::Global;
 
 /// How it stands with a peer.
 #[derive(Clone, Copy, Debug, PartialEq, Eq, Drop)]
@@ -16,6 +17,19 @@ pub enum Standing {
     Live(State),
     /// Its session was closed.
     Ended(Closed),
+}
+
+/// The numbers of the peers, each once, by size.
+pub fn numbers_of(alloc: Global, peers: &[Peer]) -> Result<Vec<u16>, Memory>
+    ensures { IfOk result (λ numbers. numbers.items ≡ numbers_of peers.now) }
+{
+    let mut numbers = Vec::with_capacity(alloc, peers.len())?;
+    for peer in peers {
+        numbers.push(peer.number)?;
+    }
+    numbers.sort_unstable();
+    numbers.dedup();
+    Ok(numbers)
 }
 
 /// Appends the line of a peer: its number and how it stands with it. After `Memory` a part of the line may stand.
