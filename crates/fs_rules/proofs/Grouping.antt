@@ -1,5 +1,5 @@
 -- That routes stay grouped.
-use Rattle.std.proofs.Common.{ℕ, ◌≡◌, ◌+◌, ◌≤◌, ◌<◌, refl, sym, ap, subst, ◌∙◌, Bool, not, cond, List, [], ◌∷◌, ◌++◌, filter, map, length, Option, Some, None, Ordering, Less, Equal, Greater, is_eq, arith}
+use Rattle.std.proofs.Common.{ℕ, ◌≡◌, ◌+◌, ◌≤◌, ◌<◌, ◌^◌, refl, sym, ap, subst, ◌∙◌, Bool, not, cond, List, [], ◌∷◌, ◌++◌, filter, map, length, Option, Some, None, Ordering, Less, Equal, Greater, is_eq, arith}
 use Rattle.std.specs.List.{AllByRecursion}
 use Rattle.std.specs.List.Sorted.{IsStrictlySortedBy}
 use Rattle.std.specs.Map.{keys_of}
@@ -39,26 +39,28 @@ sorted_entry p k (e ∷ es) h = at (prefix_cmp p e.0) refl (sorted_entry p k es 
   at Greater more ih = parts_sorted e.0 (keys_of (put_entry p k es)) (each_entry (λ q. prefix_cmp e.0 q ≡ Less) p k es (prefix_total.antisymm e.0 p ∙ ap ordering_reverse more) heads) ih
 
 pub grouped_put : (family : Family) (p : Prefix) (k : Kept) (es new : List Entry) (rest : List Kept) (bound most : ℕ) → IsSound family k → IsTo (Some p) k → AllByRecursion (IsSound family) (kept_in es rest) → IsGrouped es rest bound
-    → new ≡ put_entry p k es → most ≡ bound + 1 → IsGrouped new rest most
-grouped_put family p k es new rest bound most h d sound g e m = record {
+    → new ≡ put_entry p k es → most ≡ bound + 1 → most < 2 ^ 64 → IsGrouped new rest most
+grouped_put family p k es new rest bound most h d sound g e m small = record {
   ordered = subst AreInOrder (sym e) (sorted_entry p k es g.ordered);
   placed = subst ArePlaced (sym e) (put_placed p k es d g.placed);
   bare = g.bare;
   most = let a : length (kept_in new rest) ≡ length (put_kept k (kept_in es rest)) = ap length (ap (λ fs. kept_in fs rest) e ∙ put_entries family p k es rest h d g.ordered g.placed g.bare sound) in
       let b : length (put_kept k (kept_in es rest)) ≤ length (kept_in es rest) + 1 = length-put k (kept_in es rest) in let c : length (kept_in es rest) ≤ bound = g.most in omega arith;
+  small = small;
 }
 
 each-put_kept : (P : Kept → Type 0) (k : Kept) → P k → (ks : List Kept) → AllByRecursion P ks → AllByRecursion P (put_kept k ks)
 each-put_kept P k h ks all = each-put P k h ks all
 
 pub grouped_rest : (family : Family) (k : Kept) (es : List Entry) (rest new : List Kept) (bound most : ℕ) → IsSound family k → IsTo None k → AllByRecursion (IsSound family) (kept_in es rest) → IsGrouped es rest bound
-    → new ≡ put_kept k rest → most ≡ bound + 1 → IsGrouped es new most
-grouped_rest family k es rest new bound most h d sound g e m = record {
+    → new ≡ put_kept k rest → most ≡ bound + 1 → most < 2 ^ 64 → IsGrouped es new most
+grouped_rest family k es rest new bound most h d sound g e m small = record {
   ordered = g.ordered;
   placed = g.placed;
   bare = subst (AllByRecursion (IsTo None)) (sym e) (each-put_kept (IsTo None) k d rest g.bare);
   most = let a : length (kept_in es new) ≡ length (put_kept k (kept_in es rest)) = ap length (ap (kept_in es) e ∙ put_rest family k es rest h d g.placed sound) in
       let b : length (put_kept k (kept_in es rest)) ≤ length (kept_in es rest) + 1 = length-put k (kept_in es rest) in let c : length (kept_in es rest) ≤ bound = g.most in omega arith;
+  small = small;
 }
 
 pub grouped_taken : (rule : Ruled) (peer : ℕ) (p : Prefix) (es new : List Entry) (rest : List Kept) (bound : ℕ) → IsRule rule → destination_prefix rule ≡ Some p → AllByRecursion (λ k. IsRule k.route.rule) (kept_in es rest) → IsGrouped es rest bound
@@ -69,6 +71,7 @@ grouped_taken rule peer p es new rest bound h d sound g e = record {
   bare = g.bare;
   most = let a : length (kept_in new rest) ≡ length (filter (λ k. not (is_key rule peer k.route)) (kept_in es rest)) = ap length (ap (λ fs. kept_in fs rest) e ∙ taken_kept rule peer h p es rest d g.ordered g.placed g.bare sound) in
       let b : length (filter (λ k. not (is_key rule peer k.route)) (kept_in es rest)) ≤ length (kept_in es rest) = length-filter (λ k. not (is_key rule peer k.route)) (kept_in es rest) in let c : length (kept_in es rest) ≤ bound = g.most in omega arith;
+  small = g.small;
 }
 
 pub grouped_taken_rest : (rule : Ruled) (peer : ℕ) (es : List Entry) (rest new : List Kept) (bound : ℕ) → IsRule rule → destination_prefix rule ≡ None → AllByRecursion (λ k. IsRule k.route.rule) (kept_in es rest) → IsGrouped es rest bound
@@ -79,6 +82,7 @@ grouped_taken_rest rule peer es rest new bound h d sound g e = record {
   bare = subst (AllByRecursion (IsTo None)) (sym e) (each-filter (IsTo None) (λ k. not (is_key rule peer k.route)) rest g.bare);
   most = let a : length (kept_in es new) ≡ length (filter (λ k. not (is_key rule peer k.route)) (kept_in es rest)) = ap length (ap (kept_in es) e ∙ taken_rest rule peer h es rest d g.placed sound) in
       let b : length (filter (λ k. not (is_key rule peer k.route)) (kept_in es rest)) ≤ length (kept_in es rest) = length-filter (λ k. not (is_key rule peer k.route)) (kept_in es rest) in let c : length (kept_in es rest) ≤ bound = g.most in omega arith;
+  small = g.small;
 }
 
 pub kept_left : (keeps : Kept → Bool) (es new : List Entry) (rest left : List Kept) → new ≡ keep_each keeps es → left ≡ filter keeps rest → kept_in new left ≡ filter keeps (kept_in es rest)
@@ -91,6 +95,7 @@ grouped_kept keeps es new rest left bound g ordered e f = record {
   bare = subst (AllByRecursion (IsTo None)) (sym f) (each-filter (IsTo None) keeps rest g.bare);
   most = let a : length (kept_in new left) ≡ length (filter keeps (kept_in es rest)) = ap length (kept_left keeps es new rest left e f) in
       let b : length (filter keeps (kept_in es rest)) ≤ length (kept_in es rest) = length-filter keeps (kept_in es rest) in let c : length (kept_in es rest) ≤ bound = g.most in omega arith;
+  small = g.small;
 }
 
 length-mended : (f : Kept → Kept) (ks : List Kept) → length (map f ks) ≡ length ks
@@ -108,6 +113,7 @@ grouped_mended unicast config p es new rest bound before after g m = record {
   bare = g.bare;
   most = let a : length (kept_in new rest) ≡ length (map (mended p unicast config) (kept_in es rest)) = ap length (kept_mended unicast config p es new rest bound before after g m) in
       let b : length (map (mended p unicast config) (kept_in es rest)) ≡ length (kept_in es rest) = length-mended (mended p unicast config) (kept_in es rest) in let c : length (kept_in es rest) ≤ bound = g.most in omega arith;
+  small = g.small;
 }
 
 pub steps_mended : (unicast : List Route) (config : Config) (p : Prefix) (es new : List Entry) (rest : List Kept) (bound before after : ℕ) → IsGrouped es rest bound → Mends unicast config (is_related p) es new before after → after ≤ before + related_kept p (kept_in es rest)
@@ -116,6 +122,6 @@ steps_mended unicast config p es new rest bound before after g m = omega (arith,
 pub chosen_now : (family f : Family) (es : List Entry) (rest now : List Kept) (bound : ℕ) → IsGrouped es rest bound → kept_in es rest ≡ now → AllByRecursion (IsSound f) now → chosen_in family es rest ≡ chosen family now
 chosen_now family f es rest now bound g v sound = chosen_groups family f es rest g.ordered g.placed g.bare (subst (AllByRecursion (IsSound f)) (sym v) sound) ∙ ap (chosen family) v
 
-pub few_chosen : (family f : Family) (es : List Entry) (rest now : List Kept) (bound : ℕ) → IsGrouped es rest bound → kept_in es rest ≡ now → AllByRecursion (IsSound f) now → bound < 18446744073709551616 → length (chosen_in family es rest) < 18446744073709551616
-few_chosen family f es rest now bound g v sound small = let a : length (chosen_in family es rest) ≡ length (chosen family now) = ap length (chosen_now family f es rest now bound g v sound) in
-    let b : length (chosen family now) ≤ length now = length-chosen family now in let c : length (kept_in es rest) ≡ length now = ap length v in let d : length (kept_in es rest) ≤ bound = g.most in omega arith
+pub few_chosen : (family f : Family) (es : List Entry) (rest now : List Kept) (bound : ℕ) → IsGrouped es rest bound → kept_in es rest ≡ now → AllByRecursion (IsSound f) now → length (chosen_in family es rest) < 2 ^ 64
+few_chosen family f es rest now bound g v sound = let a : length (chosen_in family es rest) ≡ length (chosen family now) = ap length (chosen_now family f es rest now bound g v sound) in
+    let b : length (chosen family now) ≤ length now = length-chosen family now in let c : length (kept_in es rest) ≡ length now = ap length v in let d : length (kept_in es rest) ≤ bound = g.most in let e : bound < 2 ^ 64 = g.small in omega arith

@@ -1,5 +1,5 @@
 -- Flow routes of one family, grouped by destination: the entries of the map, and the routes without a destination.
-use Rattle.std.specs.Prelude.{◌≡◌, ℕ, ◌+◌, ◌≤◌, Bool, true, Option, Some, None, List, [], ◌∷◌, ◌++◌, map, length, filter, MatchOption, if◌then◌else◌}
+use Rattle.std.specs.Prelude.{◌≡◌, ℕ, ◌+◌, ◌≤◌, ◌<◌, ◌^◌, Bool, true, Option, Some, None, List, [], ◌∷◌, ◌++◌, map, length, filter, MatchOption, if◌then◌else◌}
 use Rattle.std.specs.List.{list_any, AllByRecursion}
 use Rattle.std.specs.List.Sorted.{IsStrictlySortedBy}
 use Rattle.std.specs.Map.{keys_of}
@@ -39,6 +39,7 @@ pub record IsGrouped (groups : List Entry) (rest : List Kept) (bound : ℕ) : Ty
   pub placed : ArePlaced groups
   pub bare : AllByRecursion (IsTo None) rest
   pub most : length (kept_in groups rest) ≤ bound
+  pub small : bound < 2 ^ 64
 
 -- a rule of the family in normal form
 pub record IsSound (f : Family) (k : Kept) : Type 0 where

@@ -55,7 +55,6 @@ impl Flows {
         ensures ok { OnOk result (self.new ≡ put_kept k self.old) }
         ensures err { OnErr result (self.new ≡ self.old) }
     {
-        let _components = k.route.rule.components();
         match k.route.rule.family() {
             Family::V4 => self.v4.put(k),
             Family::V6 => self.v6.put(k),
@@ -68,7 +67,6 @@ impl Flows {
         ensures taken { self.new ≡ filter (λ k. not (is_key rule.now peer k.route)) self.old }
         ensures held { result ≡ list_any (λ k. is_key rule.now peer k.route) self.old }
     {
-        let _components = rule.components();
         match rule.family() {
             Family::V4 => self.v4.take(rule, peer),
             Family::V6 => self.v6.take(rule, peer),

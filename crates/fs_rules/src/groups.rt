@@ -67,11 +67,13 @@ impl Groups {
         requires sound { AllByRecursion (IsSound k.route.rule.family) self.old }
         ensures ok { OnOk result (self.new ≡ put_kept k self.old) }
         ensures err { OnErr result (self.new ≡ self.old) }
+        ensures rule { IsRule k.route.rule }
     {
+        let destination = destination_of(&k.route.rule);
         let Some(most) = self.most.checked_add(1) else {
             return Err(Memory);
         };
-        match destination_of(&k.route.rule) {
+        match destination {
             Some(destination) => {
                 put_at(&mut self.groups, destination, k, self.rest.allocator())?;
                 self.most = most;
@@ -91,6 +93,7 @@ impl Groups {
         requires rules { AllByRecursion (λ k. IsRule k.route.rule) self.old }
         ensures taken { self.new ≡ filter (λ k. not (is_key rule.now peer k.route)) self.old }
         ensures held { result ≡ list_any (λ k. is_key rule.now peer k.route) self.old }
+        ensures rule { IsRule rule.now }
     {
         match destination_of(rule) {
             Some(destination) => take_at(&mut self.groups, &destination, rule, peer),
@@ -147,7 +150,6 @@ impl Groups {
         requires sound { AllByRecursion (IsSound family) self.now }
         ensures { result ≡ length (chosen family self.now) }
     {
-        let _most = self.most;
         reading::count(&self.groups, &self.rest, family)
     }
 
@@ -173,7 +175,6 @@ impl Groups {
         requires sound { AllByRecursion (IsSound family) self.now }
         ensures { result ≡ next_match view.now n (routes_chosen family self.now) }
     {
-        let _most = self.most;
         reading::next_match(&self.groups, &self.rest, family, view, n)
     }
 }

@@ -1,11 +1,15 @@
 //! The table of all held routes: flow routes with their validity kept up to date, and the admitted rules in order.
 #![tactic(auto)]
 
+#[cfg(test)]
+mod drawn;
 mod flows;
 mod group;
 mod groups;
 mod lent;
 mod lists;
+#[cfg(test)]
+mod plain;
 mod reading;
 mod search;
 mod table;

@@ -27,7 +27,7 @@ const NET: [u8; 6] = [0x05, 0x01, 0x18, 0xc0, 0x00, 0x02];
 const TCP: [u8; 4] = [0x03, 0x03, 0x81, 0x06];
 
 /// Three peers: 1 and 2 external, 3 internal.
-fn config(
+pub(crate) fn config(
     alloc: Global,
     allow_no_destination: bool,
     empty_path_valid: bool,
@@ -76,12 +76,12 @@ fn path(alloc: Global, numbers: &[u32], external: bool) -> Result<Path, Fail> {
     })
 }
 
-fn rule(alloc: Global, family: Family, frame: &[u8]) -> Result<Rule, Fail> {
+pub(crate) fn rule(alloc: Global, family: Family, frame: &[u8]) -> Result<Rule, Fail> {
     let (rule, _) = decode(alloc, family, frame)?;
     Ok(rule)
 }
 
-fn prefix(family: Family, bits: u128, length: u8) -> Result<Prefix, Fail> {
+pub(crate) fn prefix(family: Family, bits: u128, length: u8) -> Result<Prefix, Fail> {
     Ok(Prefix::new(family, bits, length).ok_or("no prefix")?)
 }
 

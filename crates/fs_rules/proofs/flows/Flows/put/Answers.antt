@@ -13,13 +13,13 @@ pub put-requires-in-V6-clause-sorted : goal.put-requires-in-V6-clause-sorted
 put-requires-in-V6-clause-sorted c = sorted_second c.self.inside.v4 c.self.inside.v6 c.args.self.now c.self.view_is c.requires
 
 pub invariant_of-self : goal.invariant_of-self
-invariant_of-self c = record { first = each_now (IsSound V4) c.args.k c.self.inside.v4 c.put.new.self c.put.result (record { family = sym c.family.ensures ∙ c.in-V4.is; rule = c.components-components.ensures.rule }) c.self.invariant.first c.put.ensures.ok c.put.ensures.err; second = c.self.invariant.second }
+invariant_of-self c = record { first = each_now (IsSound V4) c.args.k c.self.inside.v4 c.put.new.self c.put.result (record { family = sym c.family.ensures ∙ c.in-V4.is; rule = c.put.ensures.rule }) c.self.invariant.first c.put.ensures.ok c.put.ensures.err; second = c.self.invariant.second }
 
 pub invariant_of-self-in-V6 : goal.invariant_of-self-in-V6
-invariant_of-self-in-V6 c = record { first = c.self.invariant.first; second = each_now (IsSound V6) c.args.k c.self.inside.v6 c.put-in-V6.new.self c.put-in-V6.result (record { family = sym c.family.ensures ∙ c.in-V6.is; rule = c.components-components.ensures.rule }) c.self.invariant.second c.put-in-V6.ensures.ok c.put-in-V6.ensures.err }
+invariant_of-self-in-V6 c = record { first = c.self.invariant.first; second = each_now (IsSound V6) c.args.k c.self.inside.v6 c.put-in-V6.new.self c.put-in-V6.result (record { family = sym c.family.ensures ∙ c.in-V6.is; rule = c.put-in-V6.ensures.rule }) c.self.invariant.second c.put-in-V6.ensures.ok c.put-in-V6.ensures.err }
 
 pub returns-in-V4-clause-ok : goal.returns-in-V4-clause-ok
-returns-in-V4-clause-ok c = ok_weaker _ _ c.put.result (λ e. ap (λ ks. ks ++ c.self.inside.v6) e ∙ put_first c.args.k c.self.inside.v4 c.self.inside.v6 (record { family = sym c.family.ensures ∙ c.in-V4.is; rule = c.components-components.ensures.rule }) c.self.invariant ∙ ap (put_kept c.args.k) c.self.view_is) c.put.ensures.ok
+returns-in-V4-clause-ok c = ok_weaker _ _ c.put.result (λ e. ap (λ ks. ks ++ c.self.inside.v6) e ∙ put_first c.args.k c.self.inside.v4 c.self.inside.v6 (record { family = sym c.family.ensures ∙ c.in-V4.is; rule = c.put.ensures.rule }) c.self.invariant ∙ ap (put_kept c.args.k) c.self.view_is) c.put.ensures.ok
 
 pub returns-in-V6-clause-ok : goal.returns-in-V6-clause-ok
-returns-in-V6-clause-ok c = ok_weaker _ _ c.put-in-V6.result (λ e. ap (λ ks. c.self.inside.v4 ++ ks) e ∙ put_second c.args.k c.self.inside.v4 c.self.inside.v6 (record { family = sym c.family.ensures ∙ c.in-V6.is; rule = c.components-components.ensures.rule }) c.self.invariant ∙ ap (put_kept c.args.k) c.self.view_is) c.put-in-V6.ensures.ok
+returns-in-V6-clause-ok c = ok_weaker _ _ c.put-in-V6.result (λ e. ap (λ ks. c.self.inside.v4 ++ ks) e ∙ put_second c.args.k c.self.inside.v4 c.self.inside.v6 (record { family = sym c.family.ensures ∙ c.in-V6.is; rule = c.put-in-V6.ensures.rule }) c.self.invariant ∙ ap (put_kept c.args.k) c.self.view_is) c.put-in-V6.ensures.ok
