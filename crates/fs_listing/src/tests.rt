@@ -63,6 +63,23 @@ fn writes_peers(rt: HostRuntime) -> Result<(), Fail> {
     Ok(())
 }
 
+/// A number that two peers have counts once.
+#[test]
+fn numbers_peers_by_size(rt: HostRuntime) -> Result<(), Fail> {
+    let mut peers = Vec::new(rt.alloc());
+    for number in [65535, 20, 1, 20] {
+        peers.push(Peer {
+            number,
+            address: Address::V4(0xc633_6401),
+            asn: 65001,
+        })?;
+    }
+    let numbers = numbers_of(rt.alloc(), &peers)?;
+    assert_eq!(rt; numbers.as_slice(), [1, 20, 65535].as_slice());
+    assert_eq!(rt; numbers_of(rt.alloc(), &[])?.len(), 0);
+    Ok(())
+}
+
 #[test]
 fn writes_faults_of_tapes(rt: HostRuntime) -> Result<(), Fail> {
     let rows = [
