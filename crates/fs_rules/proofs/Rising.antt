@@ -1,5 +1,5 @@
 -- How a put changes the counts that bound the steps.
-use Rattle.std.proofs.Common.{ℕ, ◌≡◌, ◌+◌, ◌≤◌, refl, Bool, true, false, ◌==◌, cond, List, [], ◌∷◌, ◌++◌, length, filter, Option, Ordering, Less, Equal, Greater, arith}
+use Rattle.std.proofs.Common.{ℕ, ◌≡◌, ◌+◌, ◌≤◌, refl, sym, subst, Bool, true, false, ◌==◌, cond, List, [], ◌∷◌, ◌++◌, length, filter, Option, Ordering, Less, Equal, Greater, arith}
 use Rattle.std.specs.BTreeMap.{insert_entry}
 use Rattle.std.specs.Ordering.{match_ordering}
 use Rattle.fs_base.specs.declared.prefix.Prefix.{Prefix}
@@ -8,7 +8,7 @@ use Rattle.fs_unicast.specs.Places.{Route, place_cmp}
 use Rattle.fs_unicast.specs.declared.unicast.Place.{Place}
 use Rattle.fs_validate.specs.Destination.{destination_prefix}
 use Rattle.fs_validate.specs.declared.route.FlowRoute.{FlowRoute}
-use Rattle.fs_rules.specs.Held.{key_cmp, put_route}
+use Rattle.fs_rules.specs.Held.{Held, key_cmp, put_route}
 use Rattle.fs_rules.specs.Related.{has_related, related_count, related_sum}
 
 abbrev pub one_at : Prefix → Option Prefix → ℕ
@@ -40,6 +40,26 @@ sum_insert peer k path flows (r ∷ rs) = at (place_cmp k r.0) (sum_insert peer 
   at Less ih = here (k.peer == peer) (related_sum peer (r ∷ rs) flows)
   at Equal ih = omega arith
   at Greater ih = omega (arith, ih)
+
+-- what a table's put of a flow route adds
+pub count_held : (p : Prefix) (d : Option Prefix) (r : FlowRoute) (old new : Held) → d ≡ destination_prefix r.rule → new ≡ record old { flows = put_route r old.flows }
+    → related_count p new.flows ≤ related_count p old.flows + one_at p d
+count_held p d r old new at put =
+    subst (λ (e : Option Prefix). related_count p new.flows ≤ related_count p old.flows + one_at p e) (sym at)
+    (subst (λ (h : Held). related_count p h.flows ≤ related_count p old.flows + one_at p (destination_prefix r.rule)) (sym put) (count_put p r old.flows))
+
+-- what a table's put of a unicast route adds
+pub sum_held : (peer : ℕ) (k : Place) (path : Path) (old new : Held) (ds : List (Option Prefix)) (n : ℕ)
+    → new ≡ record old { unicast = insert_entry place_cmp old.unicast k path }
+    → ((p : Prefix) → related_count p old.flows ≤ length (filter (has_related p) ds)) → n ≡ length (filter (has_related k.prefix) ds)
+    → related_sum peer new.unicast new.flows ≤ related_sum peer old.unicast old.flows + n
+sum_held peer k path old new ds n put few is =
+    subst (λ (h : Held). related_sum peer h.unicast h.flows ≤ related_sum peer old.unicast old.flows + n) (sym put)
+    (enough (related_sum peer (insert_entry place_cmp old.unicast k path) old.flows) (related_sum peer old.unicast old.flows) (related_count k.prefix old.flows) (length (filter (has_related k.prefix) ds)) n
+    (sum_insert peer k path old.flows old.unicast) (few k.prefix) is)
+  where
+    enough : (a b c d e : ℕ) → a ≤ b + c → c ≤ d → e ≡ d → a ≤ b + e
+    enough a b c d e h i j = omega (arith, h, i, j)
 
 -- one destination more at the end
 pub filter_end : {X : Type 0} (p : X → Bool) (x : X) (xs : List X) → length (filter p (xs ++ x ∷ [])) ≡ length (filter p xs) + cond (p x) 1 0

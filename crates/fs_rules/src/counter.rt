@@ -78,26 +78,24 @@ fn count_related(destinations: &[Option<Prefix>], prefix: &Prefix) -> usize
         .count()
 }
 
-/// Puts peer 1's unicast route at a prefix to which `most` of the destinations are related. At most so many steps.
-fn put_net<L: Ledger, R: Abort>(
-    rt: &R,
+/// Puts peer 1's unicast route at a prefix, and answers how many of the destinations are related to it. At most so many
+/// steps.
+fn put_net<L: Ledger>(
     alloc: Global,
     table: &mut Table<'_>,
     destinations: &[Option<Prefix>],
     prefix: Prefix,
-    most: usize,
     steps: &mut Steps<L>,
-) -> Result<(), Fail>
+) -> Result<usize, Fail>
     requires { (p : Prefix) → related_count p table.old.flows ≤ length (filter (has_related p) destinations.now) }
     ensures flows { OnOk result (table.new.flows ≡ table.old.flows) }
-    ensures sum { OnOk result (related_sum 1 table.new.unicast table.new.flows ≤ related_sum 1 table.old.unicast table.old.flows + most) }
-    ensures steps { OnOk result (steps.new ≤ steps.old + most) }
+    ensures sum { IfOk result (λ n. related_sum 1 table.new.unicast table.new.flows ≤ related_sum 1 table.old.unicast table.old.flows + n) }
+    ensures steps { IfOk result (λ n. steps.new ≤ steps.old + n) }
 {
     let related = count_related(destinations, &prefix);
-    assert!(rt; related == most);
     let path = path(alloc, &[65001], true)?;
     table.put_unicast(1, prefix, path, steps)?;
-    Ok(())
+    Ok(related)
 }
 
 /// Peer 1 is lost. At most as many steps as its unicast routes together have related rules.
@@ -124,9 +122,12 @@ pub(crate) fn four_rules<L: Ledger, R: Abort>(
     let ten_one = prefix(Family::V4, 0x0a01_0000, 24)?;
     let ten = prefix(Family::V4, 0x0a00_0000, 8)?;
     let eleven = prefix(Family::V4, 0x0b00_0000, 8)?;
-    put_net(rt, alloc, &mut table, &destinations, ten_one, 2, steps)?;
-    put_net(rt, alloc, &mut table, &destinations, ten, 3, steps)?;
-    put_net(rt, alloc, &mut table, &destinations, eleven, 0, steps)?;
+    let of_ten_one = put_net(alloc, &mut table, &destinations, ten_one, steps)?;
+    assert!(rt; of_ten_one == 2);
+    let of_ten = put_net(alloc, &mut table, &destinations, ten, steps)?;
+    assert!(rt; of_ten == 3);
+    let of_eleven = put_net(alloc, &mut table, &destinations, eleven, steps)?;
+    assert!(rt; of_eleven == 0);
     lose_peer(&mut table, 5, steps);
     Ok(())
 }
