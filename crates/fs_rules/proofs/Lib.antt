@@ -14,3 +14,4 @@ pub mod Searching
 pub mod InParts
 pub mod Grouping
 pub mod BothFamilies
+pub mod Rising

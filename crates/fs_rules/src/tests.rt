@@ -1,8 +1,9 @@
 //! Tables of a few routes, as they were worked out by hand.
 
-ghost use Rattle.std.specs.Prelude.{◌≡◌, ◌<◌};
+ghost use Rattle.std.specs.Prelude.{◌≡◌, ◌<◌, ◌≤◌, ◌+◌, IfOk, OnOk, length};
 
 use crate::Table;
+use crate::counter::four_rules;
 use fs_actions::{Actions, from_communities};
 use fs_base::{
     Address, Config, Family, Numbers, Path, Peer, Peers, Prefix, Segment, Segments, Steps,
@@ -59,7 +60,7 @@ pub(crate) fn config(
 }
 
 /// A path of one sequence, or of no segment where there are no numbers.
-fn path(alloc: Global, numbers: &[u32], external: bool) -> Result<Path, Fail> {
+pub(crate) fn path(alloc: Global, numbers: &[u32], external: bool) -> Result<Path, Fail> {
     let mut segments = Vec::new(alloc);
     if !numbers.is_empty() {
         segments.push(Segment {
@@ -85,12 +86,15 @@ pub(crate) fn prefix(family: Family, bits: u128, length: u8) -> Result<Prefix, F
     Ok(Prefix::new(family, bits, length).ok_or("no prefix")?)
 }
 
-/// 192.0.2.0/24 of peer 1, and the mail rule of peer 1 with rate 0.
+/// 192.0.2.0/24 of peer 1, and the mail rule of peer 1 with rate 0. At most one step, for the rule.
 fn first_tape<'a, L: Ledger>(
     alloc: Global,
     config: &'a Config,
     steps: &mut Steps<L>,
-) -> Result<Table<'a>, Fail> {
+) -> Result<Table<'a>, Fail>
+    ensures few { IfOk result (λ table. length table.flows ≡ 1) }
+    ensures steps { OnOk result (steps.new ≤ steps.old + 1) }
+{
     let mut table = Table::new(alloc, config);
     let net = prefix(Family::V4, 0xc000_0200, 24)?;
     table.put_unicast(1, net, path(alloc, &[65001], true)?, steps)?;
@@ -114,12 +118,15 @@ fn admitted_peer(table: &Table<'_>, family: Family, n: usize) -> Option<u16> {
     Some(table.rule(family, n)?.peer)
 }
 
-/// A more specific route of another AS comes and goes.
+/// A more specific route of another AS comes and goes. At most one step for the rule, and one for each change under
+/// it.
 fn more_specific<L: Ledger, R: Abort>(
     rt: &R,
     alloc: Global,
     steps: &mut Steps<L>,
-) -> Result<(), Fail> {
+) -> Result<(), Fail>
+    ensures { OnOk result (steps.new ≤ steps.old + 4) }
+{
     let config = config(alloc, false, true)?;
     let mut table = first_tape(alloc, &config, steps)?;
     assert!(rt; mark(&table, 0) == Some((1, Validity::Valid)));
@@ -287,7 +294,8 @@ fn check_all<L: Ledger, R: Abort>(blank: Blank, rt: &R, alloc: Global) -> Result
     two_announcers(rt, alloc, &mut steps)?;
     assert!(rt; offsets(rt, alloc, true, &mut steps)? == 2);
     assert!(rt; offsets(rt, alloc, false, &mut steps)? == 1);
-    walks(rt, alloc, &mut steps)
+    walks(rt, alloc, &mut steps)?;
+    four_rules(rt, alloc, &mut steps)
 }
 
 #[test]
