@@ -13,6 +13,8 @@ mod checks;
 #[cfg(test)]
 mod configurations;
 #[cfg(test)]
+mod desks;
+#[cfg(test)]
 mod ipv6;
 #[cfg(test)]
 mod listings;

@@ -148,6 +148,87 @@ fn lists_actions(rt: HostRuntime) -> Result<(), Fail> {
     Ok(())
 }
 
+const FURTHER: &[(bool, &str, &str, &str, &str, &str)] = &[
+    (
+        false,
+        "00",
+        PATH_OF_PEER_1,
+        "",
+        "established",
+        "v4 1 0b0118c00002038106048119 peer 1 actions 8006fde900000000\nv4 invalid 00 peer 1 NoDestination\n",
+    ),
+    (
+        true,
+        "00",
+        PATH_OF_PEER_1,
+        "",
+        "established",
+        "v4 1 0b0118c00002038106048119 peer 1 actions 8006fde900000000\nv4 2 00 peer 1 actions -\n",
+    ),
+    (
+        false,
+        MAIL,
+        "0201 0000fdf1",
+        DROP,
+        "established",
+        "v4 invalid 0b0118c00002038106048119 peer 1 LeftAs\n",
+    ),
+    (
+        false,
+        MAIL,
+        PATH_OF_PEER_1,
+        "8006fde9 00000000 80060000",
+        "established",
+        "",
+    ),
+    (
+        false,
+        "08 038106 0118c00002",
+        PATH_OF_PEER_1,
+        DROP,
+        "closed 3/9",
+        "",
+    ),
+];
+
+/// Peer 1 sends one flow route more behind the first tape: another rule, or its rule again by a path of another AS, with
+/// twelve octets of communities, or with unordered types.
+#[test]
+fn tells_what_a_further_route_makes(rt: HostRuntime) -> Result<(), Fail> {
+    for (any_destination, rule, path, communities, standing, lines) in FURTHER.iter().copied() {
+        let config = peers_taking(rt.alloc(), any_destination)?;
+        let mut tape = first_tape(rt.alloc())?;
+        tape.received(1, &flow_route(rt.alloc(), rule, path, communities)?)?;
+        let text = format!(in rt.alloc(); "peer 1 {standing}\npeer 2 down\npeer 3 down\n{lines}")?;
+        let name = format!(in rt.alloc(); "{rule}, {path}, {communities}")?;
+        expect(
+            &rt,
+            rt.alloc(),
+            name.as_str(),
+            config.as_str(),
+            tape,
+            text.as_str(),
+        )?;
+    }
+    Ok(())
+}
+
+/// A session that was closed holds no unicast route either: the route of peer 2 to the network is then the best.
+#[test]
+fn keeps_no_route_of_a_closed_session(rt: HostRuntime) -> Result<(), Fail> {
+    let mut tape = first_tape(rt.alloc())?;
+    tape.received(
+        1,
+        &flow_route(rt.alloc(), "08 038106 0118c00002", PATH_OF_PEER_1, DROP)?,
+    )?;
+    tape.established(2)?;
+    tape.received(2, &unicast_route(rt.alloc(), NET, PATH_OF_PEER_2)?)?;
+    tape.received(2, &flow_route(rt.alloc(), TO_NET, PATH_OF_PEER_2, "")?)?;
+    let text =
+        "peer 1 closed 3/9\npeer 2 established\npeer 3 down\nv4 1 050118c00002 peer 2 actions -\n";
+    expect(&rt, rt.alloc(), "closed", PEERS, tape, text)
+}
+
 /// A more specific route of peer 2 comes and goes, beside the first tape.
 #[test]
 fn tells_more_specific_routes(rt: HostRuntime) -> Result<(), Fail> {

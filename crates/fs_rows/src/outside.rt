@@ -60,6 +60,10 @@ const NO_COMMANDS: &[&[&str]] = &[
     &["enforce", "peers.toml", "sessions.tape", "-packets.pcap"],
     &["Enforce", "peers.toml", "sessions.tape", "packets.pcap"],
     &["gen", "0"],
+    &["rules"],
+    &["rules", "peers.toml"],
+    &["rules", "peers.toml", "sessions.tape", "packets.pcap"],
+    &["rules", "-peers.toml", "sessions.tape"],
 ];
 
 #[test]
@@ -77,6 +81,8 @@ const MISSING: &[&[&str]] = &[
     &["enforce", "a", "sessions.tape", "packets.pcap"],
     &["enforce", "peers.toml", "a", "packets.pcap"],
     &["enforce", "peers.toml", "sessions.tape", "a"],
+    &["rules", "a", "sessions.tape"],
+    &["rules", "peers.toml", "a"],
 ];
 
 #[test]
