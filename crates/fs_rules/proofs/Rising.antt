@@ -1,5 +1,5 @@
 -- How a put changes the counts that bound the steps.
-use Rattle.std.proofs.Common.{ℕ, ◌≡◌, ◌+◌, ◌≤◌, refl, sym, subst, Bool, true, false, ◌==◌, cond, List, [], ◌∷◌, ◌++◌, length, filter, Option, Ordering, Less, Equal, Greater, arith}
+use Rattle.std.proofs.Common.{ℕ, ◌≡◌, ◌+◌, ◌≤◌, refl, sym, ap, subst, Bool, true, false, ◌==◌, cond, List, [], ◌∷◌, ◌++◌, length, filter, Option, Ordering, Less, Equal, Greater, arith}
 use Rattle.std.specs.BTreeMap.{insert_entry}
 use Rattle.std.specs.Ordering.{match_ordering}
 use Rattle.fs_base.specs.declared.prefix.Prefix.{Prefix}
@@ -80,3 +80,9 @@ count_few p (r ∷ rs) = at (has_related p (destination_prefix r.rule)) (count_f
   at : (b : Bool) → related_count p rs ≤ length rs → cond b 1 0 + related_count p rs ≤ length (r ∷ rs)
   at true ih = omega arith
   at false ih = omega arith
+
+-- one flow route, and three changes of unicast routes
+pub few_steps : (p q : Prefix) (t t' t'' : Held) (a b c d e : ℕ) → b ≤ a + 1 → length t.flows ≡ 1 → t'.flows ≡ t.flows → t''.flows ≡ t'.flows
+    → c ≤ b + related_count p t.flows → d ≤ c + related_count q t'.flows → e ≤ d + related_count q t''.flows → e ≤ a + 4
+few_steps p q t t' t'' a b c d e first one same again put gone twice =
+    omega (arith, first, one, put, gone, twice, count_few p t.flows, count_few q t'.flows, count_few q t''.flows, ap (λ (fs : List FlowRoute). length fs) same, ap (λ (fs : List FlowRoute). length fs) again)
