@@ -1,13 +1,10 @@
 -- Rules of different destinations are in the order of these.
 use Rattle.std.proofs.Common.{ℕ, ◌≡◌, ◌≤◌, ◌==◌, refl, sym, ap, ap₂, subst, ◌∙◌, Bool, true, false, true≢false, cond, List, [], ◌∷◌, ◌++◌, Option, Some, None, option_map, min, Ordering, Less, Equal, Greater, is_eq, nat_cmp, arith, Result, Ok, Err, OnOk, OnErr}
 use Rattle.std.specs.List.{AllByRecursion}
-use Rattle.std.specs.List.Sorted.{IsStrictlySortedBy}
 use Rattle.std.specs.Map.{keys_of}
 use Rattle.std.specs.Ordering.{ordering_then, ordering_reverse}
-use Rattle.std.specs.Cmp.{tied_back}
 use Rattle.std.proofs.lemmas.Bool.{eqb-true}
-use Rattle.std.proofs.lemmas.Bool.Decides.{nat_tests}
-use Rattle.std.proofs.lemmas.Map.Keys.{sorted_head, sorted_tail}
+use Rattle.std.proofs.lemmas.Map.Keys.{sorted_head}
 use Rattle.fs_base.specs.declared.prefix.Family.{Family}
 use Rattle.fs_base.specs.declared.prefix.Family.TheVariants.{V4, V6}
 use Rattle.fs_base.specs.declared.prefix.Prefix.{Prefix}
@@ -24,7 +21,6 @@ use Rattle.fs_order.specs.Destination.{destination_cmp}
 use Rattle.fs_order.proofs.First.{destinations_first}
 use Rattle.fs_order.proofs.Same.{same_rules}
 use Rattle.fs_validate.specs.Destination.{destination_prefix}
-use Rattle.fs_validate.specs.declared.route.FlowRoute.{FlowRoute}
 use Rattle.fs_rules.specs.declared.group.Kept.{Kept}
 use Rattle.fs_rules.specs.Held.{key_cmp, is_key}
 use Rattle.fs_rules.specs.Admitted.{same_rule}

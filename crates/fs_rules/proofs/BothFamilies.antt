@@ -1,5 +1,5 @@
 -- The routes of IPv4 stand before those of IPv6.
-use Rattle.std.proofs.Common.{ℕ, ◌≡◌, ◌+◌, ◌≤◌, refl, sym, ap, ap₂, subst, ◌∙◌, Bool, true, false, true≢false, not, ◌&&◌, ◌||◌, ◌==◌, cond, List, [], ◌∷◌, ◌++◌, filter, map, length, nat_cmp, is_eq, Result, Ok, Err, OnOk, OnErr, arith}
+use Rattle.std.proofs.Common.{ℕ, ◌≡◌, ◌+◌, ◌≤◌, refl, sym, ap, ap₂, subst, ◌∙◌, Bool, true, false, not, ◌&&◌, ◌||◌, ◌==◌, cond, List, [], ◌∷◌, ◌++◌, filter, map, nat_cmp, is_eq, Result, Ok, Err, OnOk, OnErr, arith}
 use Rattle.std.specs.List.{list_any, AllByRecursion}
 use Rattle.std.specs.Ordering.{ordering_then}
 use Rattle.fs_base.specs.Bits.{afi_of}
@@ -18,7 +18,7 @@ use Rattle.fs_rules.specs.Admitted.{is_of_family, is_valid}
 use Rattle.fs_rules.specs.Kept.{AreSorted, routes_of, put_kept, mended, retested, is_related_kept, related_kept, is_beaten, is_chosen, chosen}
 use Rattle.fs_rules.specs.Grouped.{IsSound}
 use Rattle.fs_rules.specs.Families.{AreOfFamilies}
-use Rattle.fs_rules.proofs.Apart.{AllBefore, RuleBefore, families_before, each_front, each_back}
+use Rattle.fs_rules.proofs.Apart.{AllBefore, RuleBefore, families_before}
 use Rattle.fs_rules.proofs.InParts.{chosen-append}
 use Rattle.fs_rules.proofs.Marks.{each-filter, each-put}
 use Rattle.fs_rules.proofs.Placing.{related-append}

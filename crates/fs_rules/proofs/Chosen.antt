@@ -1,6 +1,6 @@
 -- What the marks tell is what is defined over all held routes.
-use Rattle.std.proofs.Common.{ℕ, zero, suc, ◌≡◌, ◌+◌, ◌≤◌, refl, sym, ap, ap₂, subst, ◌∙◌, Bool, true, false, true≢false, not, ◌&&◌, ◌||◌, cond, List, [], ◌∷◌, length, filter, map, Option, Some, None, slice_get, option_map, Result, Ok, Err, IfOk}
-use Rattle.std.specs.List.{list_any, AllByRecursion}
+use Rattle.std.proofs.Common.{ℕ, zero, suc, ◌≡◌, ◌+◌, ◌≤◌, refl, sym, ap, ap₂, subst, ◌∙◌, Bool, true, false, not, ◌&&◌, ◌||◌, cond, List, [], ◌∷◌, length, filter, map, slice_get, option_map, Result, Ok, Err, IfOk}
+use Rattle.std.specs.List.{list_any}
 use Rattle.fs_base.specs.declared.config.Config.{Config}
 use Rattle.fs_base.specs.declared.prefix.Family.{Family}
 use Rattle.fs_base.proofs.Listing.{each_weaker, filter_on}
@@ -9,10 +9,10 @@ use Rattle.fs_validate.specs.Validity.{validity}
 use Rattle.fs_validate.specs.declared.route.FlowRoute.{FlowRoute}
 use Rattle.fs_rules.specs.declared.group.Kept.{Kept}
 use Rattle.fs_rules.specs.Held.{Held}
-use Rattle.fs_rules.specs.Admitted.{is_of_family, is_valid, stands, beats, is_most_preferred, admitted}
-use Rattle.fs_rules.specs.Lent.{Judged, judged, Listed, listed, held_flows}
+use Rattle.fs_rules.specs.Admitted.{is_of_family, is_valid, beats, is_most_preferred, admitted}
+use Rattle.fs_rules.specs.Lent.{Judged, judged, listed, held_flows}
 use Rattle.fs_rules.specs.Marked.{marked}
-use Rattle.fs_rules.specs.Kept.{routes_of, AreRight, Keeps, is_beaten, is_chosen, chosen, mended, related_kept}
+use Rattle.fs_rules.specs.Kept.{routes_of, AreRight, Keeps, is_chosen, chosen, mended, related_kept}
 use Rattle.fs_rules.specs.Related.{related_count}
 use Rattle.fs_rules.proofs.Marks.{routes-filter, AgreeOff, keeps-mended, agree_insert, agree_remove, related_is_count}
 use Rattle.std.specs.BTreeMap.{insert_entry, is_at}

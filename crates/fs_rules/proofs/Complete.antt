@@ -1,20 +1,19 @@
 -- Each rule that has a valid route has a most preferred one.
-use Rattle.std.proofs.Common.{ℕ, ◌≡◌, refl, sym, ap, ap₂, subst, ◌∙◌, ◌⊎◌, inl, inr, Bool, true, false, true≢false, not, ◌&&◌, ◌||◌, ◌==◌, cond, List, [], ◌∷◌, filter, Ordering, Less, Equal, Greater, is_eq, is_lt, nat_cmp, arith}
+use Rattle.std.proofs.Common.{ℕ, ◌≡◌, refl, sym, ap, subst, ◌∙◌, Bool, true, false, true≢false, not, ◌&&◌, ◌||◌, ◌==◌, List, [], ◌∷◌, Ordering, Less, Equal, Greater, is_eq, is_lt, nat_cmp, arith}
 use Rattle.std.specs.List.{list_any, AllByRecursion}
 use Rattle.std.specs.Ordering.{ordering_then}
-use Rattle.std.specs.Cmp.{IsTotalOrder, tied_itself, tied_back}
+use Rattle.std.specs.Cmp.{tied_itself, tied_back}
 use Rattle.std.proofs.lemmas.Bool.Decides.{nat_tests}
 use Rattle.fs_base.specs.declared.prefix.Family.{Family}
 use Rattle.fs_base.specs.Bits.{afi_of}
 use Rattle.fs_base.specs.declared.path.Path.{Path}
-use Rattle.fs_base.proofs.Listing.{each_weaker, each_both, none_each, each_none, or_first, or_second, any_weaker, any_filter, any_on, each}
-use Rattle.fs_nlri.specs.Parts.{Ruled}
+use Rattle.fs_base.proofs.Listing.{each_weaker, none_each, each_none, or_first, or_second, any_filter}
 use Rattle.fs_order.specs.Order.{rule_cmp}
 use Rattle.fs_order.specs.Total.{rule_total}
 use Rattle.fs_unicast.specs.Preference.{preference_cmp, preferred}
 use Rattle.fs_validate.specs.declared.route.FlowRoute.{FlowRoute}
 use Rattle.fs_rules.specs.Held.{Held}
-use Rattle.fs_rules.specs.Admitted.{is_of_family, stands, same_rule, beats, is_most_preferred, admitted, AreOrdered, IsAdmitted}
+use Rattle.fs_rules.specs.Admitted.{is_of_family, stands, same_rule, beats, is_most_preferred, admitted, IsAdmitted}
 use Rattle.fs_rules.specs.Kept.{AreSorted}
 use Rattle.fs_rules.proofs.Orders.{preference_total, admitted_ordered}
 

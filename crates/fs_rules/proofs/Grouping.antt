@@ -1,7 +1,6 @@
 -- That routes stay grouped.
-use Rattle.std.proofs.Common.{ℕ, ◌≡◌, ◌+◌, ◌≤◌, ◌<◌, ◌^◌, refl, sym, ap, subst, ◌∙◌, Bool, not, cond, List, [], ◌∷◌, ◌++◌, filter, map, length, Option, Some, None, Ordering, Less, Equal, Greater, is_eq, arith}
+use Rattle.std.proofs.Common.{ℕ, ◌≡◌, ◌+◌, ◌≤◌, ◌<◌, ◌^◌, refl, sym, ap, subst, ◌∙◌, Bool, not, List, [], ◌∷◌, filter, map, length, Some, None, Ordering, Less, Equal, Greater, arith}
 use Rattle.std.specs.List.{AllByRecursion}
-use Rattle.std.specs.List.Sorted.{IsStrictlySortedBy}
 use Rattle.std.specs.Map.{keys_of}
 use Rattle.std.specs.Ordering.{match_ordering, ordering_reverse}
 use Rattle.std.proofs.lemmas.Map.Keys.{sorted_head, sorted_tail}
@@ -19,9 +18,9 @@ use Rattle.fs_validate.specs.Locality.{is_related}
 use Rattle.fs_rules.specs.declared.group.Kept.{Kept}
 use Rattle.fs_rules.specs.Held.{is_key}
 use Rattle.fs_rules.specs.Kept.{put_kept, mended, related_kept, chosen}
-use Rattle.fs_rules.specs.Grouped.{Entry, kept_in, IsTo, ArePlaced, AreInOrder, IsSound, IsGrouped, put_entry, keep_at, keep_each, touched, Mends}
+use Rattle.fs_rules.specs.Grouped.{Entry, kept_in, IsTo, ArePlaced, AreInOrder, IsSound, IsGrouped, put_entry, keep_at, keep_each, Mends}
 use Rattle.fs_rules.specs.Marked.{chosen_in}
-use Rattle.fs_rules.proofs.Puts.{put_entries, put_rest, put_placed, each_entry, length-put, equal_test}
+use Rattle.fs_rules.proofs.Puts.{put_entries, put_rest, put_placed, each_entry, length-put}
 use Rattle.fs_rules.proofs.Takes.{kept_each, placed_each, placed_at, sorted_at, parts_sorted, taken_kept, taken_rest, length-filter}
 use Rattle.fs_rules.proofs.Mending.{mended_in, mends_placed, mends_ordered, size_related}
 use Rattle.fs_rules.proofs.InParts.{chosen_groups, length-chosen}

@@ -1,28 +1,26 @@
 -- What a change does to the routes, to the marks and to the order.
-use Rattle.std.proofs.Common.{ℕ, ◌≡◌, ◌+◌, ◌<◌, ◌≤◌, refl, sym, ap, ap₂, subst, ◌∙◌, Bool, true, false, true≢false, not, ◌&&◌, ◌||◌, ◌==◌, cond, List, [], ◌∷◌, ◌++◌, length, filter, map, Option, Some, None, Ordering, Less, Equal, Greater, is_eq, is_lt, nat_cmp, arith, slice_get, option_map, is_some}
+use Rattle.std.proofs.Common.{◌≡◌, ◌+◌, refl, sym, ap, subst, ◌∙◌, Bool, true, false, true≢false, ◌||◌, cond, List, [], ◌∷◌, filter, map, Option, Some, None, Ordering, Less, Equal, Greater, is_eq, nat_cmp, is_some}
 use Rattle.std.specs.List.{list_any, AllByRecursion}
 use Rattle.std.specs.Ordering.{match_ordering, ordering_then, ordering_reverse}
-use Rattle.std.specs.Cmp.{IsTotalOrder, on_total, then_total, nat_cmp_total, tied_itself, tied_back}
+use Rattle.std.specs.Cmp.{IsTotalOrder, on_total, then_total, nat_cmp_total}
 use Rattle.std.specs.BTreeMap.{insert_entry, is_at}
 use Rattle.std.specs.Map.{remove_entry, lookup}
 use Rattle.fs_base.specs.declared.config.Config.{Config}
 use Rattle.fs_base.specs.declared.prefix.Prefix.{Prefix}
 use Rattle.fs_base.specs.declared.path.Path.{Path}
 use Rattle.fs_base.specs.Prefix.{covers, prefix_cmp}
-use Rattle.fs_base.proofs.Listing.{each_weaker, each, each_both, filter-insert_other, filter-remove_other}
+use Rattle.fs_base.proofs.Listing.{each_weaker, filter-insert_other, filter-remove_other}
 use Rattle.fs_base.proofs.Nesting.{alike_covers, covers_alike}
-use Rattle.fs_nlri.specs.Parts.{Ruled}
-use Rattle.fs_order.specs.Order.{rule_cmp}
 use Rattle.fs_order.specs.Total.{rule_total}
 use Rattle.fs_unicast.specs.Places.{Route, place_cmp}
 use Rattle.fs_unicast.specs.declared.unicast.Place.{Place}
 use Rattle.fs_validate.specs.Destination.{destination_prefix}
-use Rattle.fs_validate.specs.Locality.{is_related, related, AgreeAt}
+use Rattle.fs_validate.specs.Locality.{is_related, related}
 use Rattle.fs_validate.specs.Validity.{validity, validity_to}
 use Rattle.fs_validate.specs.declared.route.FlowRoute.{FlowRoute}
 use Rattle.fs_validate.proofs.Local.{validity_local}
 use Rattle.fs_rules.specs.declared.group.Kept.{Kept}
-use Rattle.fs_rules.specs.Held.{key_cmp, is_key, put_route, without_route, has_route, without_peer_flows}
+use Rattle.fs_rules.specs.Held.{key_cmp, put_route}
 use Rattle.fs_rules.specs.Related.{has_related, related_count}
 use Rattle.fs_rules.specs.Kept.{routes_of, AreRight, AreSorted, Keeps, put_kept, mended, retested, is_related_kept, related_kept}
 

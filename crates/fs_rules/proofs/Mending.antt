@@ -1,32 +1,22 @@
 -- Validating anew the groups whose destination passes a test.
-use Rattle.std.proofs.Common.{ℕ, suc, ◌≡◌, ◌+◌, ◌<◌, ◌≤◌, ◌⊎◌, inl, inr, refl, sym, ap, ap₂, subst, ◌∙◌, Bool, true, false, true≢false, not, ◌&&◌, ◌||◌, cond, List, [], ◌∷◌, ◌++◌, map, length, Option, Some, None, Ordering, Less, Equal, Greater, is_eq, is_lt, is_le, arith}
-use Rattle.std.specs.List.{list_any, AllByRecursion}
+use Rattle.std.proofs.Common.{ℕ, suc, ◌≡◌, ◌+◌, ◌≤◌, refl, sym, ap, ap₂, subst, ◌∙◌, Bool, true, false, true≢false, ◌&&◌, ◌||◌, cond, List, [], ◌∷◌, ◌++◌, map, length, Option, Some, None, Less, is_eq, arith}
+use Rattle.std.specs.List.{AllByRecursion}
 use Rattle.std.specs.List.Sorted.{IsStrictlySortedBy}
 use Rattle.std.specs.BTreeMap.{is_at}
 use Rattle.std.specs.Map.{keys_of, lookup, set_value}
-use Rattle.std.specs.Option.{MatchOption}
-use Rattle.std.specs.Ordering.{ordering_reverse}
-use Rattle.std.specs.Cmp.{tied_itself}
-use Rattle.std.specs.BTreeMap.Range.{range_contains, entries_between}
-use Rattle.std.specs.declared.ops.Bound.TheVariants.{Included, Excluded, Unbounded}
 use Rattle.std.proofs.lemmas.Map.Keys.{sorted_head, sorted_tail}
 use Rattle.fs_base.specs.declared.config.Config.{Config}
 use Rattle.fs_base.specs.declared.prefix.Prefix.{Prefix}
-use Rattle.fs_base.specs.Prefix.{covers, prefix_cmp}
-use Rattle.fs_base.specs.PrefixOrder.{prefix_total}
-use Rattle.fs_base.specs.Seek.{IsFirst, IsFirstFrom, IsLongest}
-use Rattle.fs_base.proofs.Covers.{covers_fact, covered_before, between_covered}
-use Rattle.fs_base.proofs.Nesting.{covers_self, covers_nested, covers_trans, covers_same_length, alike_covers, covers_alike, alike}
+use Rattle.fs_base.specs.Prefix.{prefix_cmp}
 use Rattle.fs_base.proofs.Same.{same_from_cmp}
-use Rattle.fs_base.proofs.Listing.{each, each_weaker, each_both, any_each, filter_first, filter_empty, IsLeast}
+use Rattle.fs_base.proofs.Listing.{each_weaker}
 use Rattle.fs_unicast.specs.Places.{Route}
-use Rattle.fs_validate.specs.Destination.{destination_prefix}
 use Rattle.fs_validate.specs.Locality.{is_related}
 use Rattle.fs_rules.specs.declared.group.Kept.{Kept}
-use Rattle.fs_rules.specs.Kept.{retested, mended, is_related_kept, related_kept}
+use Rattle.fs_rules.specs.Kept.{retested, mended, related_kept}
 use Rattle.fs_rules.specs.Related.{has_related}
 use Rattle.fs_rules.proofs.Placing.{related-append}
-use Rattle.fs_rules.specs.Grouped.{Entry, kept_in, IsTo, ArePlaced, AreInOrder, touched, size, Mends, is_before, IsNextAfter}
+use Rattle.fs_rules.specs.Grouped.{Entry, kept_in, IsTo, ArePlaced, AreInOrder, touched, size, Mends}
 
 abbrev pub Same : (t u : Prefix → Bool) → Entry → Type 0
 Same t u e = t e.0 ≡ u e.0

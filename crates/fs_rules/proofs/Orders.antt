@@ -1,18 +1,17 @@
 -- The admitted rules stand in order, and each rule that has a valid route is among them.
-use Rattle.std.proofs.Common.{ℕ, ◌≡◌, refl, sym, ap, ap₂, subst, ◌∙◌, ◌⊎◌, inl, inr, Bool, true, false, true≢false, not, ◌&&◌, ◌||◌, ◌==◌, cond, List, [], ◌∷◌, filter, Ordering, Less, Equal, Greater, is_eq, is_lt, nat_cmp, arith}
+use Rattle.std.proofs.Common.{ℕ, ◌≡◌, refl, sym, ap, ◌∙◌, ◌⊎◌, inl, inr, Bool, true, false, true≢false, not, ◌&&◌, cond, List, [], ◌∷◌, filter, Ordering, Less, Equal, Greater, is_eq, is_lt, nat_cmp}
 use Rattle.std.specs.List.{list_any, AllByRecursion}
 use Rattle.std.specs.Ordering.{ordering_then, ordering_reverse, bool_cmp}
-use Rattle.std.specs.Cmp.{IsTotalOrder, on_total, then_total, back_total, nat_cmp_total, bool_cmp_total, tied_itself, tied_back}
-use Rattle.std.proofs.lemmas.Bool.Decides.{nat_tests}
+use Rattle.std.specs.Cmp.{IsTotalOrder, on_total, then_total, back_total, nat_cmp_total, bool_cmp_total, tied_back}
 use Rattle.fs_base.specs.declared.path.Path.{Path}
 use Rattle.fs_base.specs.declared.prefix.Family.{Family}
-use Rattle.fs_base.proofs.Listing.{each_weaker, each_both, none_each, each_none, or_first, or_second, any_weaker, any_filter}
+use Rattle.fs_base.proofs.Listing.{each_weaker, each_both, none_each}
 use Rattle.fs_order.specs.Order.{rule_cmp}
 use Rattle.fs_order.specs.Total.{rule_total}
 use Rattle.fs_unicast.specs.Preference.{preference_cmp, preferred, path_length}
 use Rattle.fs_validate.specs.declared.route.FlowRoute.{FlowRoute}
 use Rattle.fs_rules.specs.Held.{Held, key_cmp}
-use Rattle.fs_rules.specs.Admitted.{is_of_family, stands, same_rule, beats, is_most_preferred, admitted, AreOrdered, IsAdmitted}
+use Rattle.fs_rules.specs.Admitted.{is_of_family, stands, same_rule, beats, is_most_preferred, admitted, AreOrdered}
 use Rattle.fs_rules.specs.Kept.{AreSorted}
 
 -- two routes of different peers are never equally preferred

@@ -1,5 +1,5 @@
 -- A route in its place in the order.
-use Rattle.std.proofs.Common.{ℕ, zero, suc, ◌≡◌, ◌+◌, ◌<◌, ◌≤◌, refl, sym, ap, subst, ◌∙◌, Bool, true, false, true≢false, not, ◌||◌, cond, List, [], ◌∷◌, ◌++◌, length, insert, remove, set, get_or, slice_get, Option, Some, None, Ordering, Less, Equal, Greater, is_eq, nat_cmp, filter, map, arith, zero-add}
+use Rattle.std.proofs.Common.{ℕ, zero, suc, ◌≡◌, ◌+◌, ◌<◌, refl, sym, ap, ◌∙◌, Bool, true, false, true≢false, not, ◌||◌, cond, List, [], ◌∷◌, ◌++◌, length, insert, remove, set, get_or, slice_get, Ordering, Less, Equal, Greater, is_eq, nat_cmp, filter, arith, zero-add}
 use Rattle.std.specs.Ordering.{match_ordering, ordering_then}
 use Rattle.fs_nlri.specs.Parts.{Ruled}
 use Rattle.fs_rules.specs.declared.group.Kept.{Kept}

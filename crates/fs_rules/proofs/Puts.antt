@@ -1,7 +1,6 @@
 -- A route put into the group of its destination stands in its place among all.
-use Rattle.std.proofs.Common.{ℕ, suc, ◌≡◌, ◌+◌, ◌≤◌, refl, sym, ap, ap₂, subst, ◌∙◌, Bool, true, false, true≢false, cond, List, [], ◌∷◌, ◌++◌, length, Option, Some, None, Ordering, Less, Equal, Greater, is_eq, arith}
+use Rattle.std.proofs.Common.{suc, ◌≡◌, ◌+◌, ◌≤◌, refl, sym, ap, subst, ◌∙◌, Bool, true, false, cond, List, [], ◌∷◌, ◌++◌, length, Option, Some, None, Ordering, Less, Equal, Greater, is_eq, arith}
 use Rattle.std.specs.List.{AllByRecursion}
-use Rattle.std.specs.List.Sorted.{IsStrictlySortedBy}
 use Rattle.std.specs.BTreeMap.{insert_entry, is_at}
 use Rattle.std.specs.Map.{keys_of, lookup, set_value}
 use Rattle.std.specs.Ordering.{match_ordering, ordering_reverse}
@@ -16,7 +15,7 @@ use Rattle.fs_rules.specs.declared.group.Kept.{Kept}
 use Rattle.fs_rules.specs.Held.{key_cmp}
 use Rattle.fs_rules.specs.Kept.{put_kept, AreSorted, routes_of}
 use Rattle.fs_rules.specs.Grouped.{Entry, kept_in, IsTo, ArePlaced, AreInOrder, IsSound, put_entry, HasSortedGroups}
-use Rattle.fs_rules.proofs.Apart.{RuleBefore, key_less, key_greater, each_front, each_back, IsBehind, behind_each, before_behind, group_before, to_cmp, earlier}
+use Rattle.fs_rules.proofs.Apart.{RuleBefore, key_less, key_greater, each_front, each_back, behind_each, before_behind, to_cmp, earlier}
 use Rattle.fs_rules.proofs.Marks.{each-put}
 
 -- a route before all of the second list goes into the first

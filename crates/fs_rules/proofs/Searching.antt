@@ -1,7 +1,6 @@
 -- The walks over the keys: those under a prefix, one after the other, and those that cover it.
-use Rattle.std.proofs.Common.{ℕ, ◌≡◌, ◌+◌, ◌<◌, ◌≤◌, ◌⊎◌, inl, inr, refl, sym, ap, ap₂, subst, ◌∙◌, Bool, true, false, true≢false, not, ◌&&◌, ◌||◌, cond, List, [], ◌∷◌, length, Option, Some, None, Ordering, Less, Equal, Greater, is_eq, is_lt, is_le, arith}
+use Rattle.std.proofs.Common.{ℕ, ◌≡◌, ◌+◌, ◌<◌, ◌≤◌, ◌⊎◌, inl, inr, refl, sym, ap, subst, ◌∙◌, Bool, true, false, true≢false, not, ◌&&◌, ◌||◌, cond, List, [], ◌∷◌, Option, Some, None, Ordering, Less, Equal, Greater, is_eq, is_lt, is_le, arith}
 use Rattle.std.specs.List.{list_any, AllByRecursion}
-use Rattle.std.specs.List.Sorted.{IsStrictlySortedBy}
 use Rattle.std.specs.BTreeMap.{is_at}
 use Rattle.std.specs.BTreeMap.Range.{range_contains, entries_between}
 use Rattle.std.specs.declared.ops.Bound.TheVariants.{Included, Excluded, Unbounded}
@@ -13,13 +12,12 @@ use Rattle.std.proofs.lemmas.Bool.{cases_lt}
 use Rattle.fs_base.specs.declared.prefix.Prefix.{Prefix}
 use Rattle.fs_base.specs.Prefix.{covers, prefix_cmp}
 use Rattle.fs_base.specs.PrefixOrder.{prefix_total}
-use Rattle.fs_base.specs.Seek.{IsFirst, IsFirstFrom, IsLongest}
-use Rattle.fs_base.proofs.Covers.{covers_fact, covered_before, between_covered}
-use Rattle.fs_base.proofs.Nesting.{covers_self, covers_nested, covers_trans, covers_same_length, alike_covers, covers_alike, alike}
+use Rattle.fs_base.specs.Seek.{IsFirst, IsFirstFrom}
+use Rattle.fs_base.proofs.Covers.{covers_fact, covered_before}
+use Rattle.fs_base.proofs.Nesting.{covers_self, covers_nested, covers_trans, covers_same_length, alike_covers, covers_alike}
 use Rattle.fs_base.proofs.Same.{same_from_cmp}
-use Rattle.fs_base.proofs.Listing.{each, each_weaker, each_both, any_each, filter_first, filter_empty, IsLeast}
+use Rattle.fs_base.proofs.Listing.{each, each_weaker, filter_first, filter_empty, IsLeast}
 use Rattle.fs_validate.specs.Locality.{is_related}
-use Rattle.fs_rules.specs.declared.group.Kept.{Kept}
 use Rattle.fs_rules.specs.Grouped.{Entry, AreInOrder, is_before, IsNextAfter}
 use Rattle.fs_rules.proofs.Mending.{Same}
 

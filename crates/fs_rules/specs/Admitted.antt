@@ -1,11 +1,10 @@
 -- The admitted rules of a family in order, over one list of held routes (RFC 8955 sections 5.1 and 6).
-use Rattle.std.specs.Prelude.{◌≡◌, ℕ, ◌==◌, ◌&&◌, not, Bool, true, false, List, [], ◌∷◌, filter}
+use Rattle.std.specs.Prelude.{◌≡◌, ◌==◌, ◌&&◌, not, Bool, true, false, List, [], ◌∷◌, filter}
 use Rattle.std.specs.List.{list_any, AllByRecursion}
 use Rattle.std.specs.Ordering.{is_eq}
 use Rattle.std.specs.declared.cmp.Ordering.TheVariants.{Less}
 use Rattle.fs_base.specs.declared.prefix.Family.{Family}
 use Rattle.fs_base.specs.Bits.{afi_of}
-use Rattle.fs_nlri.specs.Parts.{Ruled}
 use Rattle.fs_order.specs.Order.{rule_cmp}
 use Rattle.fs_unicast.specs.Preference.{preferred}
 use Rattle.fs_validate.specs.Validity.{validity}

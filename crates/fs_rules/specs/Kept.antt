@@ -11,7 +11,6 @@ use Rattle.fs_unicast.specs.Places.{Route}
 use Rattle.fs_validate.specs.Destination.{destination_prefix}
 use Rattle.fs_validate.specs.Validity.{validity}
 use Rattle.fs_validate.specs.declared.route.FlowRoute.{FlowRoute}
-use Rattle.fs_validate.specs.declared.validity.Validity.{Validity}
 use Rattle.fs_rules.specs.declared.group.Kept.{Kept}
 use Rattle.fs_rules.specs.Held.{key_cmp, is_key}
 use Rattle.fs_rules.specs.Related.{has_related}

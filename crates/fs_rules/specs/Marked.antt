@@ -1,5 +1,5 @@
 -- What the marks of kept routes tell.
-use Rattle.std.specs.Prelude.{List, [], ◌∷◌, ◌++◌, map, filter}
+use Rattle.std.specs.Prelude.{List, [], ◌∷◌, ◌++◌}
 use Rattle.fs_base.specs.declared.prefix.Family.{Family}
 use Rattle.fs_validate.specs.declared.route.FlowRoute.{FlowRoute}
 use Rattle.fs_rules.specs.declared.group.Kept.{Kept}

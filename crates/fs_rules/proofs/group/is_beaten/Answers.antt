@@ -1,4 +1,4 @@
-use Rattle.std.proofs.Common.{◌≡◌, ◌<◌, ◌+◌, ◌-◌, ◌∷◌, sym, ap, ◌∙◌, length, take, drop, arith}
+use Rattle.std.proofs.Common.{◌<◌, ◌+◌, ◌-◌, sym, ◌∙◌, length, take, drop}
 use Rattle.fs_rules.proofs.Stepping.{rest_is}
 use Rattle.fs_rules.proofs.Runs.{tail_is, run_starts, run_over}
 use Rattle.fs_rules.proofs.group.is_beaten.Goals as goal

@@ -1,4 +1,4 @@
-use Rattle.std.proofs.Common.{rules, of_calls, ◌≡◌, true, false}
+use Rattle.std.proofs.Common.{rules, of_calls}
 use Rattle.std.proofs.lemmas.List.Sorted.{IsPartitionPoint-from_clause}
 use Rattle.fs_rules.proofs.Runs.{is_after, partitioned, place_from}
 use Rattle.fs_rules.proofs.group.place_of.Goals as goal

@@ -1,4 +1,4 @@
-use Rattle.std.proofs.Common.{◌≡◌, ◌<◌, ◌+◌, ◌≤◌, sym, ap, ◌∙◌, set, get_or, length, take, map, drop, ◌++◌, arith}
+use Rattle.std.proofs.Common.{◌≡◌, ◌<◌, ◌+◌, ap, ◌∙◌, set, get_or, length, take, map, drop, ◌++◌, arith}
 use Rattle.std.proofs.lemmas.List.Edits.{map_over_more}
 use Rattle.fs_rules.specs.Kept.{retested}
 use Rattle.fs_rules.proofs.Placing.{get_or_again}

@@ -1,6 +1,4 @@
-use Rattle.std.proofs.Common.{◌≡◌, ◌<◌, true, false, sym, ◌∙◌, ap, ap₂, subst, slice_get, remove, length, arith}
-use Rattle.std.specs.List.{list_any}
-use Rattle.fs_rules.specs.Held.{is_key}
+use Rattle.std.proofs.Common.{◌≡◌, ◌<◌, sym, ◌∙◌, ap, ap₂, slice_get, remove, length, arith}
 use Rattle.fs_rules.specs.Kept.{has_key_at, place_in}
 use Rattle.fs_rules.proofs.Placing.{any_here, take_here, none_here, inside_from_key}
 use Rattle.fs_rules.proofs.group.take.Goals as goal

@@ -1,4 +1,4 @@
-use Rattle.std.proofs.Common.{◌≡◌, ◌≤◌, ◌+◌, filter, drop, find, length, nat_le}
+use Rattle.std.proofs.Common.{◌≡◌, ◌+◌, filter, drop, find, length, nat_le}
 use Rattle.fs_rules.specs.Kept.{routes_of, is_chosen, chosen}
 use Rattle.fs_rules.specs.Marked.{routes_chosen}
 use Rattle.fs_rules.specs.Walk.{matching_from}

@@ -1,4 +1,3 @@
-use Rattle.std.proofs.Common.{◌∙◌, sym}
 use Rattle.fs_rules.proofs.Searching.{next_in_range, no_next_in_range}
 use Rattle.fs_rules.proofs.search.first_after.Goals as goal
 

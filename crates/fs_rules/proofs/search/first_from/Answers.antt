@@ -1,4 +1,3 @@
-use Rattle.std.proofs.Common.{◌∙◌, sym}
 use Rattle.fs_rules.proofs.Searching.{first_in_range, none_in_range}
 use Rattle.fs_rules.proofs.search.first_from.Goals as goal
 

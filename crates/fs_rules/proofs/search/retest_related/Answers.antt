@@ -1,4 +1,4 @@
-use Rattle.std.proofs.Common.{◌≡◌, ◌||◌, arith}
+use Rattle.std.proofs.Common.{◌||◌, arith}
 use Rattle.fs_base.specs.Prefix.{covers}
 use Rattle.fs_validate.specs.Locality.{is_related}
 use Rattle.fs_rules.proofs.Mending.{mends_on, mends_both}

@@ -1,4 +1,4 @@
-use Rattle.std.proofs.Common.{◌≡◌, ◌++◌, sym, ap, ◌∙◌, filter, not}
+use Rattle.std.proofs.Common.{◌++◌, sym, ap, ◌∙◌, filter, not}
 use Rattle.std.specs.List.{list_any}
 use Rattle.fs_base.specs.declared.prefix.Family.TheVariants.{V4, V6}
 use Rattle.fs_rules.specs.Held.{is_key}

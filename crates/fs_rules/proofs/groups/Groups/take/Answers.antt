@@ -1,4 +1,4 @@
-use Rattle.std.proofs.Common.{◌≡◌, sym, ap, subst, ◌∙◌, not, filter}
+use Rattle.std.proofs.Common.{sym, ap, subst, ◌∙◌, not, filter}
 use Rattle.std.specs.List.{list_any, AllByRecursion}
 use Rattle.fs_nlri.specs.Rule.{IsRule}
 use Rattle.fs_rules.specs.Held.{is_key}

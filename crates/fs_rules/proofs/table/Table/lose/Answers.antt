@@ -1,4 +1,4 @@
-use Rattle.std.proofs.Common.{sym, ap, ◌∙◌, not, ◌==◌}
+use Rattle.std.proofs.Common.{ap, ◌∙◌, not, ◌==◌}
 use Rattle.fs_rules.specs.Held.{without_peer_flows}
 use Rattle.fs_rules.specs.Kept.{routes_of}
 use Rattle.fs_rules.proofs.Marks.{keeps-filter, routes-filter}

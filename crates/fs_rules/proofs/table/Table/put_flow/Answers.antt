@@ -1,7 +1,6 @@
-use Rattle.std.proofs.Common.{◌≡◌, sym, ap, ◌∙◌, subst, List}
-use Rattle.fs_rules.specs.declared.group.Kept.{Kept}
+use Rattle.std.proofs.Common.{ap, ◌∙◌}
 use Rattle.fs_rules.specs.Held.{put_route}
-use Rattle.fs_rules.specs.Kept.{Keeps, put_kept, routes_of}
+use Rattle.fs_rules.specs.Kept.{routes_of}
 use Rattle.fs_rules.proofs.Marks.{keeps-put, routes-put}
 use Rattle.fs_rules.proofs.Chosen.{flows_changed}
 use Rattle.fs_rules.proofs.table.Table.put_flow.Goals as goal

@@ -1,7 +1,7 @@
-use Rattle.std.proofs.Common.{◌≡◌, sym, ap, ◌∙◌}
+use Rattle.std.proofs.Common.{ap, ◌∙◌}
 use Rattle.std.specs.BTreeMap.{insert_entry}
 use Rattle.fs_unicast.specs.Places.{place_cmp}
-use Rattle.fs_rules.specs.Kept.{mended, routes_of}
+use Rattle.fs_rules.specs.Kept.{routes_of}
 use Rattle.fs_rules.proofs.Marks.{routes_mended}
 use Rattle.fs_rules.proofs.Chosen.{unicast_changed, keeps_after, agree_put, steps_after}
 use Rattle.fs_rules.proofs.table.Table.put_unicast.Goals as goal

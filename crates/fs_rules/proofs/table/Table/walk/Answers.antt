@@ -1,4 +1,4 @@
-use Rattle.std.proofs.Common.{sym, ap, ◌∙◌}
+use Rattle.std.proofs.Common.{ap, ◌∙◌}
 use Rattle.fs_rules.specs.Marked.{routes_chosen}
 use Rattle.fs_rules.specs.Walk.{next_match}
 use Rattle.fs_rules.proofs.Chosen.{admitted_is}

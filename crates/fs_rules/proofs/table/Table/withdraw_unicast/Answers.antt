@@ -1,8 +1,8 @@
-use Rattle.std.proofs.Common.{◌≡◌, sym, ap, ◌∙◌, subst}
+use Rattle.std.proofs.Common.{sym, ap, ◌∙◌, subst}
 use Rattle.std.specs.BTreeMap.{is_at}
 use Rattle.std.specs.Map.{remove_entry}
 use Rattle.fs_unicast.specs.Places.{place_cmp}
-use Rattle.fs_rules.specs.Kept.{mended, routes_of, Keeps}
+use Rattle.fs_rules.specs.Kept.{routes_of, Keeps}
 use Rattle.fs_rules.proofs.Marks.{routes_mended, remove_nothing}
 use Rattle.fs_rules.proofs.Chosen.{unicast_changed, keeps_after, agree_taken, steps_after}
 use Rattle.fs_rules.proofs.table.Table.withdraw_unicast.Goals as goal
