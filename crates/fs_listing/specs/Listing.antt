@@ -18,7 +18,6 @@ use Rattle.fs_rules.specs.Admitted.{admitted}
 use Rattle.fs_rules.specs.Lent.{Listed, listed, Judged, held_flows}
 use Rattle.fs_speaker.specs.declared.state.State.{State}
 use Rattle.fs_speaker.specs.declared.state.State.TheVariants.{WaitOpen, WaitKeep, Established, Closed as IsClosed}
-use Rattle.fs_speaker.specs.declared.state.Closed.{Closed}
 use Rattle.fs_speaker.specs.declared.state.Closed.TheVariants.{Fault, Notified, NoFamily, Memory}
 use Rattle.fs_tape.specs.declared.fault.TapeReason.{TapeReason}
 use Rattle.fs_tape.specs.declared.fault.TapeReason.TheVariants.{Magic, Kind, Peer as UnknownPeer, Length, Cut}
