@@ -27,8 +27,6 @@ mod outside;
 #[cfg(test)]
 mod packets;
 #[cfg(test)]
-mod replies;
-#[cfg(test)]
 mod run;
 #[cfg(test)]
 mod sessions;
