@@ -14,7 +14,7 @@ impl Rule {
     ghost use Rattle.std.specs.Prelude.{◌≡◌, IfOk};
     ghost use Rattle.std.specs.Option.{option_map};
     ghost use Rattle.fs_nlri.specs.Components.{parts_of};
-    ghost use Rattle.fs_nlri.specs.Rule.{rule_of, Makes, shown, destination_of};
+    ghost use Rattle.fs_nlri.specs.Rule.{IsRule, rule_of, Makes, shown, destination_of};
 
     /// The rule of these components. The bits that normal form clears are cleared. The faults are tested in the
     /// order of `RuleFault`.
@@ -46,7 +46,8 @@ impl Rule {
 
     /// The destination prefix, or None where there is none, or in IPv6 none with offset 0.
     pub fn destination(&self) -> Option<Prefix>
-        ensures { option_map shown result ≡ destination_of self.now }
+        ensures shown { option_map shown result ≡ destination_of self.now }
+        ensures rule { IsRule self.now }
     {
         match self.components.as_slice().first() {
             Some(Component::Destination(form)) => form.prefix(),

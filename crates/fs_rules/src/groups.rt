@@ -6,7 +6,6 @@ ghost use Rattle.std.specs.Map.{lookup};
 ghost use Rattle.std.specs.BTreeMap.{is_at};
 ghost use Rattle.fs_base.specs.Prefix.{prefix_cmp};
 ghost use Rattle.fs_nlri.specs.Rule.{IsRule};
-ghost use Rattle.fs_validate.specs.Destination.{destination_prefix};
 ghost use Rattle.fs_rules.specs.Held.{is_key};
 ghost use Rattle.fs_rules.specs.Kept.{put_kept, mended, related_kept, AreSorted, routes_of, chosen};
 ghost use Rattle.fs_rules.specs.Grouped.{IsSound, HasSortedGroups, AreInOrder, put_entry, keep_at, keep_each};
@@ -69,7 +68,7 @@ impl Groups {
         ensures err { OnErr result (self.new ≡ self.old) }
         ensures rule { IsRule k.route.rule }
     {
-        let destination = destination_of(&k.route.rule);
+        let destination = destination(&k.route.rule);
         let Some(most) = self.most.checked_add(1) else {
             return Err(Memory);
         };
@@ -95,7 +94,7 @@ impl Groups {
         ensures held { result ≡ list_any (λ k. is_key rule.now peer k.route) self.old }
         ensures rule { IsRule rule.now }
     {
-        match destination_of(rule) {
+        match destination(rule) {
             Some(destination) => take_at(&mut self.groups, &destination, rule, peer),
             None => self.rest.take(rule, peer),
         }
@@ -177,15 +176,6 @@ impl Groups {
     {
         reading::next_match(&self.groups, &self.rest, family, view, n)
     }
-}
-
-/// The rule's destination. Each rule is in normal form, which `components` tells.
-fn destination_of(rule: &Rule) -> Option<Prefix>
-    ensures value { result ≡ destination_prefix rule.now }
-    ensures rule { IsRule rule.now }
-{
-    let _components = rule.components();
-    destination(rule)
 }
 
 /// Keeps the route in the group of the destination.

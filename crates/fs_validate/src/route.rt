@@ -1,6 +1,7 @@
 //! Flow specification routes.
 
 ghost use Rattle.std.specs.Prelude.{◌≡◌};
+ghost use Rattle.fs_nlri.specs.Rule.{IsRule};
 ghost use Rattle.fs_validate.specs.Destination.{destination_prefix};
 
 use fs_actions::Actions;
@@ -18,7 +19,8 @@ pub struct FlowRoute {
 
 /// The rule's destination prefix; None where it has none, or in IPv6 none with offset 0.
 pub fn destination(rule: &Rule) -> Option<Prefix>
-    ensures { result ≡ destination_prefix rule.now }
+    ensures value { result ≡ destination_prefix rule.now }
+    ensures rule { IsRule rule.now }
 {
     rule.destination()
 }

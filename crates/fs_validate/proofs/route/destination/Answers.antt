@@ -10,4 +10,4 @@ shown_again None = refl
 shown_again (Some p) = ap Some (prefix_again p)
 
 pub returns : goal.returns
-returns c = sym (shown_again c.destination.result) ∙ ap (option_map (λ d. prefix_of d.0 d.1 d.2)) c.destination.ensures
+returns c = sym (shown_again c.destination.result) ∙ ap (option_map (λ d. prefix_of d.0 d.1 d.2)) c.destination.ensures.shown

@@ -14,22 +14,22 @@ put-requires c = sorted_rest c.self.inside.groups.entries c.self.inside.rest (su
 
 pub invariant_of-self-in-Some-destination : goal.invariant_of-self-in-Some-destination
 invariant_of-self-in-Some-destination c = grouped_put c.args.k.route.rule.family c.in-Some-destination.destination c.args.k c.self.inside.groups.entries c.put_at.new.groups.entries c.self.inside.rest c.self.inside.most c.in-Some.most
-    (record { family = refl; rule = c.destination_of-destination.ensures.rule }) (sym c.destination_of-destination.ensures.value ∙ c.in-Some-destination.is) (subst (AllByRecursion (IsSound c.args.k.route.rule.family)) (sym c.self.view_is) c.requires.sound) c.self.invariant c.in_ok-put_at-in-Some-destination.ensures.ok one (omega arith) where
+    (record { family = refl; rule = c.destination-destination.ensures.rule }) (sym c.destination-destination.ensures.value ∙ c.in-Some-destination.is) (subst (AllByRecursion (IsSound c.args.k.route.rule.family)) (sym c.self.view_is) c.requires.sound) c.self.invariant c.in_ok-put_at-in-Some-destination.ensures.ok one (omega arith) where
       one : c.in-Some.most ≡ c.self.inside.most + 1
       one = search rules
 
 pub invariant_of-self-in-None : goal.invariant_of-self-in-None
 invariant_of-self-in-None c = grouped_rest c.args.k.route.rule.family c.args.k c.self.inside.groups.entries c.self.inside.rest c.put.new.self c.self.inside.most c.in-Some.most
-    (record { family = refl; rule = c.destination_of-destination.ensures.rule }) (sym c.destination_of-destination.ensures.value ∙ c.in-None.is) (subst (AllByRecursion (IsSound c.args.k.route.rule.family)) (sym c.self.view_is) c.requires.sound) c.self.invariant c.in_ok-put-in-None.ensures.ok one (omega arith) where
+    (record { family = refl; rule = c.destination-destination.ensures.rule }) (sym c.destination-destination.ensures.value ∙ c.in-None.is) (subst (AllByRecursion (IsSound c.args.k.route.rule.family)) (sym c.self.view_is) c.requires.sound) c.self.invariant c.in_ok-put-in-None.ensures.ok one (omega arith) where
       one : c.in-Some.most ≡ c.self.inside.most + 1
       one = search rules
 
 pub returns-in_ok-put_at-in-Some-destination-clause-ok : goal.returns-in_ok-put_at-in-Some-destination-clause-ok
 returns-in_ok-put_at-in-Some-destination-clause-ok c = ap (λ es. kept_in es c.self.inside.rest) c.in_ok-put_at-in-Some-destination.ensures.ok
-    ∙ put_entries c.args.k.route.rule.family c.in-Some-destination.destination c.args.k c.self.inside.groups.entries c.self.inside.rest (record { family = refl; rule = c.destination_of-destination.ensures.rule }) (sym c.destination_of-destination.ensures.value ∙ c.in-Some-destination.is)
+    ∙ put_entries c.args.k.route.rule.family c.in-Some-destination.destination c.args.k c.self.inside.groups.entries c.self.inside.rest (record { family = refl; rule = c.destination-destination.ensures.rule }) (sym c.destination-destination.ensures.value ∙ c.in-Some-destination.is)
     c.self.invariant.ordered c.self.invariant.placed c.self.invariant.bare (subst (AllByRecursion (IsSound c.args.k.route.rule.family)) (sym c.self.view_is) c.requires.sound) ∙ ap (put_kept c.args.k) c.self.view_is
 
 pub returns-in_ok-put-in-None-clause-ok : goal.returns-in_ok-put-in-None-clause-ok
 returns-in_ok-put-in-None-clause-ok c = ap (kept_in c.self.inside.groups.entries) c.in_ok-put-in-None.ensures.ok
-    ∙ put_rest c.args.k.route.rule.family c.args.k c.self.inside.groups.entries c.self.inside.rest (record { family = refl; rule = c.destination_of-destination.ensures.rule }) (sym c.destination_of-destination.ensures.value ∙ c.in-None.is)
+    ∙ put_rest c.args.k.route.rule.family c.args.k c.self.inside.groups.entries c.self.inside.rest (record { family = refl; rule = c.destination-destination.ensures.rule }) (sym c.destination-destination.ensures.value ∙ c.in-None.is)
     c.self.invariant.placed (subst (AllByRecursion (IsSound c.args.k.route.rule.family)) (sym c.self.view_is) c.requires.sound) ∙ ap (put_kept c.args.k) c.self.view_is
