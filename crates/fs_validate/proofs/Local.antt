@@ -1,10 +1,9 @@
 -- The validity of a flow route reads only the unicast routes that its destination is related to.
-use Rattle.std.proofs.Common.{ℕ, ◌≡◌, refl, sym, ap, ◌∙◌, Bool, true, false, true≢false, not, ◌&&◌, ◌||◌, cond, List, [], ◌∷◌, filter, map, Option, Some, None, nat_le, is_eq}
-use Rattle.std.specs.List.{list_any, list_all, AllByRecursion}
-use Rattle.fs_base.specs.Prefix.{covers, prefix_cmp}
+use Rattle.std.proofs.Common.{ℕ, ◌≡◌, refl, sym, ap, ◌∙◌, Bool, true, false, true≢false, not, ◌&&◌, ◌||◌, cond, List, [], ◌∷◌, filter, map, Option, Some, None, nat_le}
+use Rattle.std.specs.List.{list_any, list_all}
+use Rattle.fs_base.specs.Prefix.{covers}
 use Rattle.fs_base.specs.declared.prefix.Prefix.{Prefix}
 use Rattle.fs_base.specs.declared.config.Config.{Config}
-use Rattle.fs_base.specs.declared.path.Path.{Path}
 use Rattle.fs_unicast.specs.Places.{Route}
 use Rattle.fs_unicast.specs.Preference.{best_of}
 use Rattle.fs_unicast.specs.Best.{best_match_of, is_longest, others_under, is_other, is_strictly_under, is_same_prefix, candidate}

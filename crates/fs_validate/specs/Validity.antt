@@ -1,6 +1,6 @@
 -- The validity of a flow route, over the list of all held unicast routes (RFC 8955 section 6 as RFC 9117 section 4
 -- revises it).
-use Rattle.std.specs.Prelude.{ℕ, ◌==◌, ◌&&◌, ◌||◌, not, Bool, true, false, Option, Some, None, List, if◌then◌else◌, option_map}
+use Rattle.std.specs.Prelude.{ℕ, ◌==◌, ◌&&◌, ◌||◌, not, Bool, false, Option, Some, None, List, if◌then◌else◌, option_map}
 use Rattle.std.specs.List.{list_all}
 use Rattle.fs_base.specs.declared.config.Address.{Address}
 use Rattle.fs_base.specs.declared.config.Address.TheVariants.{V4, V6}

@@ -9,5 +9,5 @@ shown_again : (o : Option Prefix) → option_map (λ d. prefix_of d.0 d.1 d.2) (
 shown_again None = refl
 shown_again (Some p) = ap Some (prefix_again p)
 
-pub returns : goal.returns
-returns c = sym (shown_again c.destination.result) ∙ ap (option_map (λ d. prefix_of d.0 d.1 d.2)) c.destination.ensures.shown
+pub returns-clause-value : goal.returns-clause-value
+returns-clause-value c = sym (shown_again c.destination.result) ∙ ap (option_map (λ d. prefix_of d.0 d.1 d.2)) c.destination.ensures.shown
