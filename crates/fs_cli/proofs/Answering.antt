@@ -1,15 +1,15 @@
 -- How the answer of a run follows from what its parts did.
-use Rattle.std.proofs.Common.{◌≡◌, ◌≢◌, ◌⊎◌, inl, inr, ◌≤◌, ◌+◌, ◌-◌, ◌^◌, min, arith, ◌%◌, ◌==◌, ◌||◌, ◌∙◌, ℕ, List, [], ◌++◌, Bool, true, false, not, Option, Some, None, Result, Ok, Err, if◌then◌else◌, length, take, drop, refl, ap, sym, subst, append-nil, nat_lt, nat_le, option_and_then}
+use Rattle.std.proofs.Common.{◌≡◌, ◌⊎◌, inl, inr, ◌≤◌, ◌-◌, arith, ◌%◌, ◌==◌, ◌||◌, ◌∙◌, ℕ, List, [], Bool, true, false, not, Option, Some, None, Result, Ok, Err, if◌then◌else◌, length, take, drop, refl, ap, sym, subst, append-nil, nat_lt, nat_le}
 use Rattle.std.specs.Result.{MatchResult, IfErr, IsErrAnd, IsErrOf}
 use Rattle.std.proofs.lemmas.Grind.{common_steps}
 use Rattle.fs_base.specs.Outside.{Grew, GrewPart, Rose}
 use Rattle.fs_base.specs.Records.{Head, whole, wrong, partial, End, done, limited, bad}
 use Rattle.fs_base.proofs.Grew.{Grew-refl, Grew-trans, part_whole, part_none, part_more}
-use Rattle.fs_line.specs.Output.{Goes, Stops}
+use Rattle.fs_line.specs.Output.{Goes}
 use Rattle.fs_line.proofs.Outputs.{goes_flush, goes_flush_part}
 use Rattle.fs_packet.specs.Link.{link_of}
 use Rattle.fs_packet.specs.declared.link.Link.{Link}
-use Rattle.fs_pcap.specs.Capture.{Captured, Heading, Recorded, recorded, number, order_of, is_link, header_of, ordered_header, opened_by, opening, capture_of, packets_to_come}
+use Rattle.fs_pcap.specs.Capture.{Captured, Heading, Recorded, recorded, number, is_link, header_of, ordered_header, opened_by, opening, capture_of, packets_to_come}
 use Rattle.fs_pcap.specs.Turn.{Opens, CaptureState, coming}
 use Rattle.fs_pcap.specs.declared.order.Endian.{Endian}
 use Rattle.fs_pcap.specs.declared.fault.CaptureReason.{CaptureReason}
@@ -20,9 +20,9 @@ use Rattle.fs_rules.specs.Held.{Held}
 use Rattle.fs_cli.specs.Captures.{refused_by}
 use Rattle.fs_cli.specs.Files.{Names}
 use Rattle.fs_cli.specs.Inputs.{capture_stage, status_at}
-use Rattle.fs_cli.specs.Judged.{GoesPart, Partly, Breaks, Verdict, verdict_of, answered, Answers, IsLate}
-use Rattle.fs_cli.specs.Output.{lines_from, lines_of, output_of}
-use Rattle.fs_cli.specs.Stage.{Stage, Found, Stopped, and_then, or_stop, status_of, HasReason}
+use Rattle.fs_cli.specs.Judged.{Partly, Breaks, Verdict, verdict_of, answered, Answers, IsLate}
+use Rattle.fs_cli.specs.Output.{lines_from, lines_of}
+use Rattle.fs_cli.specs.Stage.{Stage, Found, and_then, or_stop, status_of, HasReason}
 use Rattle.fs_cli.specs.declared.refusal.Refusal.{Refusal}
 use Rattle.fs_cli.specs.declared.refusal.Refusal.TheVariants.{Outside, Memory}
 

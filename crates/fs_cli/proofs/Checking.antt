@@ -1,10 +1,9 @@
 -- What `check` wrote is what it is to answer.
-use Rattle.std.proofs.Common.{◌≡◌, ℕ, List, [], Bool, true, false, Option, Result, Ok, Err, inl, inr, refl, subst, if◌then◌else◌}
+use Rattle.std.proofs.Common.{◌≡◌, ℕ, List, [], Bool, Option, Ok, inl, inr, refl, subst}
 use Rattle.fs_base.specs.declared.prefix.Family.{Family}
 use Rattle.fs_base.proofs.Grew.{part_whole}
 use Rattle.fs_check.specs.Command.{Wrote}
-use Rattle.fs_check.specs.declared.command.CheckFault.{CheckFault}
-use Rattle.fs_cli.specs.Checked.{Says, Checks, report_verdict}
+use Rattle.fs_cli.specs.Checked.{Checks, report_verdict}
 
 says : (family : Family) (word : List ℕ) (failed : Type 0) (before now : Option (List ℕ)) (accepted : Bool)
     → Wrote family word before now (Ok accepted) → Checks family word failed before now (report_verdict accepted []).status

@@ -1,24 +1,17 @@
 -- How the answer of `enforce` follows from those of its stages.
-use Rattle.std.proofs.Common.{◌≡◌, ◌⊎◌, inl, inr, ◌≤◌, ◌<◌, ◌∙◌, ◌^◌, ◌-◌, ◌+◌, ℕ, List, [], Option, Some, None, Result, Ok, Err, refl, ap, sym, subst, arith, true, false, Bool, if◌then◌else◌, length, nat_le, min}
+use Rattle.std.proofs.Common.{◌≡◌, inl, inr, ◌∙◌, ◌-◌, ℕ, List, Option, Result, Ok, Err, refl, ap, sym, subst}
 use Rattle.std.specs.Result.{IsErrAnd}
-use Rattle.std.proofs.lemmas.Bool.Decides.{nat_tests}
-use Rattle.fs_base.specs.Outside.{Grew, Rose}
-use Rattle.fs_base.specs.Records.{End, done, limited, bad}
 use Rattle.fs_base.specs.declared.config.Config.{Config}
 use Rattle.fs_base.proofs.Grew.{Grew-refl}
-use Rattle.fs_conf.specs.Config.{config_of}
-use Rattle.fs_pcap.specs.Capture.{Recorded, capture_of}
 use Rattle.fs_rules.specs.Held.{Held}
-use Rattle.fs_tape.specs.Tape.{Item, tape_of}
-use Rattle.fs_tape.specs.declared.fault.TapeReason.{TapeReason}
+use Rattle.fs_tape.specs.Tape.{Item}
 use Rattle.fs_cli.specs.Desk.{Desked}
-use Rattle.fs_cli.specs.Enforced.{EndsEarly, Judges, Enforces, Enforced}
-use Rattle.fs_cli.specs.Files.{Names, fetch, config_stage}
+use Rattle.fs_cli.specs.Enforced.{EndsEarly, Enforces}
+use Rattle.fs_cli.specs.Files.{Names, config_stage}
 use Rattle.fs_cli.specs.Held.{Leaves}
-use Rattle.fs_cli.specs.Inputs.{Inputs, inputs, played_to, tape_stage, capture_stage, accepted_stage, inputs_stage, status_at, status_for}
-use Rattle.fs_cli.specs.Judged.{Verdict, verdict_of, answered, Answers}
-use Rattle.fs_cli.specs.Output.{output_of}
-use Rattle.fs_cli.specs.Stage.{Stage, Found, Stopped, and_then, or_stop, status_of, HasReason}
+use Rattle.fs_cli.specs.Inputs.{tape_stage, capture_stage, accepted_stage}
+use Rattle.fs_cli.specs.Judged.{verdict_of, answered, Answers}
+use Rattle.fs_cli.specs.Stage.{Stage, Found, and_then, status_of, HasReason}
 use Rattle.fs_cli.specs.Tapes.{IsPlayed}
 use Rattle.fs_cli.specs.declared.refusal.Refusal.{Refusal}
 use Rattle.fs_cli.proofs.Answering.{reason_then, answers_for}

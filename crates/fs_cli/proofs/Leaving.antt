@@ -1,12 +1,12 @@
 -- What a desk that followed a tape holds is what the tape leaves.
-use Rattle.std.proofs.Common.{◌≡◌, ◌==◌, ◌∙◌, ℕ, List, [], true, Option, Some, None, refl, ap, sym, subst, arith}
+use Rattle.std.proofs.Common.{◌≡◌, ◌==◌, ◌∙◌, ℕ, List, [], true, Option, Some, None, ap, sym, subst, arith}
 use Rattle.std.proofs.lemmas.Bool.Decides.{nat_tests}
 use Rattle.fs_base.specs.Peers.{peer_of}
 use Rattle.fs_base.specs.declared.config.Config.{Config}
 use Rattle.fs_base.specs.declared.config.Peer.{Peer}
 use Rattle.fs_attrs.specs.declared.update.Update.{Update}
 use Rattle.fs_rules.specs.Held.{Held}
-use Rattle.fs_speaker.specs.Session.{Last, still, closed, at_start, session_from}
+use Rattle.fs_speaker.specs.Session.{still, closed, at_start, session_from}
 use Rattle.fs_speaker.specs.Steps.{Live}
 use Rattle.fs_speaker.specs.declared.state.Closed.{Closed}
 use Rattle.fs_tape.specs.Tape.{Item}

@@ -1,10 +1,9 @@
 -- Tapes that leave the same routes leave one list of held routes.
-use Rattle.std.proofs.Common.{◌≡◌, ◌==◌, ℕ, List, [], ◌∷◌, Bool, true, false, cond, Option, Some, None, option_map, refl, ap, sym, ◌∙◌, subst, map, find}
+use Rattle.std.proofs.Common.{◌≡◌, ℕ, List, [], ◌∷◌, Bool, true, false, cond, Some, option_map, refl, ap, sym, ◌∙◌, subst, map, find}
 use Rattle.std.specs.declared.cmp.Ordering.TheVariants.{Equal}
 use Rattle.std.specs.Ordering.{is_eq, nat_cmp}
 use Rattle.std.specs.List.Sorted.{IsStrictlySortedBy}
-use Rattle.std.specs.Map.{lookup, keys_of}
-use Rattle.std.specs.BTreeMap.{is_at}
+use Rattle.std.specs.Map.{keys_of}
 use Rattle.fs_base.specs.Prefix.{prefix_cmp}
 use Rattle.fs_base.specs.declared.config.Config.{Config}
 use Rattle.fs_base.specs.declared.path.Path.{Path}
@@ -19,7 +18,7 @@ use Rattle.fs_unicast.specs.declared.unicast.Place.{Place}
 use Rattle.fs_validate.specs.declared.route.FlowRoute.{FlowRoute}
 use Rattle.fs_rules.specs.Held.{Held}
 use Rattle.fs_tape.specs.Tape.{Item}
-use Rattle.fs_cli.specs.Held.{Leaves, LeaveSame, flow_key, flow_key_cmp, FlowKey, given_of, unicast_at, flow_at}
+use Rattle.fs_cli.specs.Held.{Leaves, LeaveSame, flow_key, flow_key_cmp, given_of, unicast_at, flow_at}
 use Rattle.fs_cli.specs.Updates.{Given}
 use Rattle.fs_cli.proofs.OneList.{value_at, one_list}
 use Rattle.fs_cli.proofs.PlaceKeys.{place_total, flow_key_total}

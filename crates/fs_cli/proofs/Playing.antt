@@ -14,7 +14,7 @@ use Rattle.fs_base.specs.declared.config.Peer.{Peer}
 use Rattle.fs_message.specs.Framing.{framing}
 use Rattle.fs_rules.specs.Held.{Held}
 use Rattle.fs_speaker.specs.Session.{at_start}
-use Rattle.fs_speaker.specs.Replies.{replies_from, replies_of}
+use Rattle.fs_speaker.specs.Replies.{replies_from}
 use Rattle.fs_speaker.specs.Steps.{Live, live, begins}
 use Rattle.fs_tape.specs.Tape.{Item, came_up, received, was_lost}
 use Rattle.fs_cli.specs.Life.{is_turn, is_up, sent_in, life}

@@ -1,24 +1,23 @@
 -- How the answer of `rules` follows from those of its stages.
-use Rattle.std.proofs.Common.{◌≡◌, ◌⊎◌, inl, inr, ◌≤◌, ◌∙◌, ℕ, List, [], Option, Some, None, Result, Ok, Err, Bool, true, false, if◌then◌else◌, length, nat_le, take, refl, ap, sym, subst}
-use Rattle.std.specs.Result.{IfErr, IsErrAnd}
-use Rattle.fs_base.specs.Outside.{Grew, GrewPart, Rose}
+use Rattle.std.proofs.Common.{◌≡◌, ◌⊎◌, inl, inr, ◌∙◌, ℕ, List, [], Option, Some, None, Result, Ok, Err, Bool, true, false, if◌then◌else◌, length, nat_le, refl, ap, sym, subst}
+use Rattle.std.specs.Result.{IfErr}
+use Rattle.fs_base.specs.Outside.{Grew, GrewPart}
 use Rattle.fs_base.specs.declared.config.Config.{Config}
 use Rattle.fs_base.proofs.Grew.{Grew-refl, part_whole, part_none}
 use Rattle.fs_conf.specs.Config.{config_of}
-use Rattle.fs_rules.specs.Held.{Held}
 use Rattle.fs_tape.specs.Tape.{Item}
 use Rattle.fs_tape.specs.declared.fault.TapeReason.{TapeReason}
-use Rattle.fs_cli.specs.Desk.{Desked, Played}
+use Rattle.fs_cli.specs.Desk.{Desked}
 use Rattle.fs_cli.specs.Files.{Names, config_stage}
-use Rattle.fs_cli.specs.Inputs.{tape_stage, accepted_stage}
-use Rattle.fs_cli.specs.Judged.{Verdict, answered, Answers, IsLate}
-use Rattle.fs_cli.specs.Listed.{stopped_text, list_verdict, Shows, Lists, SaysOf}
+use Rattle.fs_cli.specs.Inputs.{tape_stage}
+use Rattle.fs_cli.specs.Judged.{answered, Answers, IsLate}
+use Rattle.fs_cli.specs.Listed.{stopped_text, list_verdict, Lists, SaysOf}
 use Rattle.fs_cli.specs.Listing.{listing, Fails, Writes}
 use Rattle.fs_cli.specs.Stage.{Stage, Found, Stopped, and_then, or_stop, status_of, HasReason}
 use Rattle.fs_cli.specs.Tapes.{IsPlayed}
 use Rattle.fs_cli.specs.declared.refusal.Refusal.{Refusal}
 use Rattle.fs_cli.specs.declared.refusal.Refusal.TheVariants.{Outside, Config as Refused, Tape, Capture, Memory, Limit}
-use Rattle.fs_cli.proofs.Answering.{reason_then, take_nothing}
+use Rattle.fs_cli.proofs.Answering.{take_nothing}
 use Rattle.fs_cli.proofs.Enforcing.{accepted_with}
 use Rattle.fs_cli.proofs.Leaving.{played_leaves}
 

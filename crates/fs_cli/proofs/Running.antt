@@ -1,5 +1,5 @@
 -- What the clauses of a run say follows from what it does.
-use Rattle.std.proofs.Common.{◌≡◌, ◌≢◌, ◌⊎◌, inl, inr, ◌≤◌, ◌<◌, ◌∙◌, ◌^◌, ◌-◌, ◌+◌, ◌↔◌, ℕ, List, [], Option, Some, None, Result, IsTrue, IfSome, refl, ap, sym, subst, arith, true, false, Bool, if◌then◌else◌, length, nat_le, min}
+use Rattle.std.proofs.Common.{◌≡◌, ◌≢◌, ◌⊎◌, inl, inr, ◌<◌, ◌∙◌, ◌^◌, ◌-◌, ◌↔◌, ℕ, List, Option, Some, None, Result, IsTrue, IfSome, refl, ap, sym, subst, arith, true, false, Bool, if◌then◌else◌, length, nat_le}
 use Rattle.std.proofs.lemmas.Bool.Decides.{nat_tests}
 use Rattle.fs_base.specs.Outside.{Grew, Rose}
 use Rattle.fs_base.specs.Records.{End, done, limited, bad}
@@ -12,13 +12,13 @@ use Rattle.fs_rules.specs.Held.{Held}
 use Rattle.fs_tape.specs.Tape.{Item, tape_of}
 use Rattle.fs_tape.specs.declared.fault.TapeReason.{TapeReason}
 use Rattle.fs_cli.specs.Checked.{Checks}
-use Rattle.fs_cli.specs.Enforced.{EndsEarly, Judges, Enforces, Enforced}
+use Rattle.fs_cli.specs.Enforced.{Enforces, Enforced}
 use Rattle.fs_cli.specs.Files.{Names, fetch, config_stage}
 use Rattle.fs_cli.specs.Form.{Form, Enforce, Rules, Check}
-use Rattle.fs_cli.specs.Listed.{Lists, Shows, Listed, listed_status, stopped_text}
+use Rattle.fs_cli.specs.Listed.{Lists, Listed, listed_status}
 use Rattle.fs_cli.specs.Listing.{listing}
 use Rattle.fs_cli.specs.Inputs.{Inputs, inputs, played_to, tape_stage, capture_stage, accepted_stage, inputs_stage, status_at, status_for}
-use Rattle.fs_cli.specs.Judged.{Verdict, verdict_of, answered, Answers}
+use Rattle.fs_cli.specs.Judged.{verdict_of, answered}
 use Rattle.fs_cli.specs.Output.{output_of}
 use Rattle.fs_cli.specs.Stage.{Stage, Found, Stopped, and_then, or_stop, status_of}
 use Rattle.fs_cli.specs.declared.refusal.Refusal.{Refusal}

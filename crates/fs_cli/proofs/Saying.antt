@@ -1,5 +1,5 @@
 -- What a session replies when it is fed octet by octet, and all that is replied to the octets that the peer sent.
-use Rattle.std.proofs.Common.{◌≡◌, ℕ, List, [], ◌++◌, drop, false, Option, Some, None, refl, ap, sym, ◌∙◌, append_assoc, append-nil, subst}
+use Rattle.std.proofs.Common.{◌≡◌, ℕ, List, [], ◌++◌, drop, false, Option, Some, None, ap, sym, ◌∙◌, append_assoc, append-nil, subst}
 use Rattle.fs_base.specs.declared.config.Config.{Config}
 use Rattle.fs_base.specs.declared.config.Peer.{Peer}
 use Rattle.fs_message.specs.Framing.{framing, pending}

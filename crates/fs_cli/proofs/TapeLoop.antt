@@ -9,7 +9,7 @@ use Rattle.fs_tape.specs.Turn.{TapeState, coming}
 use Rattle.fs_tape.specs.declared.fault.TapeReason.{TapeReason}
 use Rattle.fs_cli.specs.declared.refusal.Refusal.{Refusal}
 use Rattle.fs_cli.specs.declared.refusal.Refusal.TheVariants.{Outside}
-use Rattle.fs_cli.specs.Stage.{Stage, Found, Stopped, and_then, or_stop, status_of, HasReason}
+use Rattle.fs_cli.specs.Stage.{Stage, Found, Stopped, and_then, or_stop, HasReason}
 use Rattle.fs_cli.specs.Files.{Names}
 use Rattle.fs_cli.specs.Inputs.{played_to, tape_stage}
 use Rattle.fs_cli.specs.Desk.{Desked, Played}

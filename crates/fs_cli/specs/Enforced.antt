@@ -4,7 +4,7 @@ use Rattle.fs_base.specs.Outside.{Grew}
 use Rattle.fs_base.specs.Records.{done}
 use Rattle.fs_base.specs.declared.config.Config.{Config}
 use Rattle.fs_conf.specs.Config.{config_of}
-use Rattle.fs_pcap.specs.Capture.{Recorded, capture_of}
+use Rattle.fs_pcap.specs.Capture.{capture_of}
 use Rattle.fs_rules.specs.Held.{Held}
 use Rattle.fs_tape.specs.Tape.{Item, tape_of}
 use Rattle.fs_cli.specs.Files.{Names}

@@ -1,6 +1,6 @@
 //! What the words of the command line ask for.
 
-ghost use Rattle.std.specs.Prelude.{◌≡◌, ◌∷◌, [], ℕ, map, option_map, string_bytes};
+ghost use Rattle.std.specs.Prelude.{◌≡◌, ◌∷◌, [], map, option_map, string_bytes};
 ghost use Rattle.fs_cli.specs.Form.{check_form, family_of, form_of, is_name};
 ghost use Rattle.fs_cli.specs.Command.{form_shown};
 

@@ -14,7 +14,7 @@ ghost use Rattle.fs_rules.specs.Lent.{shown_admitted};
 ghost use Rattle.fs_line.specs.Line.{line_of};
 ghost use Rattle.fs_rules.specs.Admitted.{admitted};
 ghost use Rattle.fs_cli.specs.Output.{packet_text, walk_from, lines_from};
-ghost use Rattle.fs_cli.specs.Places.{places_from, AreApplied};
+ghost use Rattle.fs_cli.specs.Places.{places_from};
 ghost use Rattle.fs_cli.specs.Applied.{IsApplied};
 
 use crate::load::open;

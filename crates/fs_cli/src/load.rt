@@ -1,6 +1,6 @@
 //! Opening files, and reading the configuration.
 
-ghost use Rattle.std.specs.Prelude.{◌≡◌, ◌≢◌, ◌≤◌, ℕ, IfErr, IsTrue, Some, MatchResult};
+ghost use Rattle.std.specs.Prelude.{◌≡◌, ◌≤◌, IfErr, IsTrue, Some, MatchResult};
 ghost use Rattle.fs_base.specs.Outside.{Rose};
 ghost use Rattle.fs_cli.specs.Judged.{IsLate};
 ghost use Rattle.fs_cli.specs.declared.refusal.Refusal.TheVariants.{Outside};

@@ -1,6 +1,6 @@
 //! Playing a tape.
 
-ghost use Rattle.std.specs.Prelude.{◌≡◌, ◌≤◌, ◌<◌, ◌++◌, ◌∷◌, ℕ, [], Some, None, IsTrue, IfOk, IfSome, OnOk, MatchResult, List, take, length};
+ghost use Rattle.std.specs.Prelude.{◌≡◌, ◌≤◌, ◌<◌, ◌++◌, ◌∷◌, [], Some, None, IsTrue, IfOk, IfSome, OnOk, MatchResult, List, length};
 ghost use Rattle.fs_base.specs.Outside.{Rose};
 ghost use Rattle.fs_base.specs.declared.config.Config.{Config};
 ghost use Rattle.fs_tape.specs.Tape.{Item};

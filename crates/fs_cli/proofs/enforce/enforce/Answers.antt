@@ -1,8 +1,7 @@
-use Rattle.std.proofs.Common.{◌≡◌, ◌⊎◌, inl, inr, sym, ap, ◌∙◌, le_trans}
+use Rattle.std.proofs.Common.{◌⊎◌, inl, sym, le_trans}
 use Rattle.fs_base.specs.Outside.{Rose}
 use Rattle.fs_cli.specs.Enforced.{Enforces}
-use Rattle.fs_cli.specs.Judged.{answered}
-use Rattle.fs_cli.proofs.Answering.{rose_later, rose_earlier, either_rose}
+use Rattle.fs_cli.proofs.Answering.{rose_earlier, either_rose}
 use Rattle.fs_cli.proofs.Enforcing.{answered_err, config_ends, tape_ends, capture_judged}
 use Rattle.fs_cli.proofs.enforce.enforce.Goals as goal
 

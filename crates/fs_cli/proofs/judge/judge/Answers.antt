@@ -1,9 +1,9 @@
-use Rattle.std.proofs.Common.{◌≡◌, ◌⊎◌, inl, inr, ℕ, List, [], Option, subst, sym, ap, ◌∙◌, le_trans}
+use Rattle.std.proofs.Common.{◌⊎◌, inl, subst, sym, ap, ◌∙◌, le_trans}
 use Rattle.fs_base.specs.Outside.{Rose}
 use Rattle.fs_packet.specs.Link.{link_of}
 use Rattle.fs_pcap.specs.Turn.{CaptureState, coming}
-use Rattle.fs_cli.specs.Inputs.{capture_stage, status_at}
-use Rattle.fs_cli.specs.Judged.{Answers, Verdict, verdict_of, answered}
+use Rattle.fs_cli.specs.Inputs.{capture_stage}
+use Rattle.fs_cli.specs.Judged.{Answers, verdict_of}
 use Rattle.fs_cli.specs.Output.{lines_from}
 use Rattle.fs_cli.specs.Stage.{status_of}
 use Rattle.fs_cli.specs.declared.refusal.Refusal.{Refusal}

@@ -1,7 +1,7 @@
-use Rattle.std.proofs.Common.{◌≡◌, ◌⊎◌, inl, inr}
+use Rattle.std.proofs.Common.{◌⊎◌, inl, inr}
 use Rattle.fs_base.specs.Outside.{Rose}
 use Rattle.fs_cli.specs.Listed.{Lists}
-use Rattle.fs_cli.proofs.Answering.{rose_earlier, rose_later}
+use Rattle.fs_cli.proofs.Answering.{rose_earlier}
 use Rattle.fs_cli.proofs.Enforcing.{answered_err}
 use Rattle.fs_cli.proofs.Ruling.{config_unlisted, tape_unlisted, desk_listed}
 use Rattle.fs_cli.proofs.rules.list_rules.Goals as goal
