@@ -1,6 +1,6 @@
 //! The sessions with all configured peers, and the table of the routes that they hold.
 
-ghost use Rattle.std.specs.Prelude.{◌≡◌, ◌≤◌, ◌<◌, ◌++◌, ℕ, List, [], ◌∷◌, IsSome, IfOk, IfSome, OnOk, Some, None, length};
+ghost use Rattle.std.specs.Prelude.{◌≡◌, ◌≤◌, ◌<◌, ◌++◌, ℕ, List, [], ◌∷◌, IsSome, IfOk, IfSome, OnOk, OnErr, Some, None, length};
 
 use crate::apply::apply;
 use fs_base::{Config, Memory, Steps};
@@ -33,7 +33,7 @@ impl<'a> Desk<'a> {
     ghost use Rattle.fs_base.specs.declared.config.Config.{Config};
     ghost use Rattle.fs_base.specs.Peers.{peer_of};
     ghost use Rattle.fs_tape.specs.Tape.{Item, came_up, received, was_lost};
-    ghost use Rattle.fs_cli.specs.Desk.{Played, Grew, Replied};
+    ghost use Rattle.fs_cli.specs.Desk.{Played, Replied};
     ghost use Rattle.fs_cli.specs.Held.{Leaves};
     ghost use Rattle.fs_cli.specs.Life.{life};
     ghost use Rattle.fs_cli.specs.Listing.{standing_at_desk, standing_of};
@@ -73,12 +73,12 @@ impl<'a> Desk<'a> {
 
     /// The peer sent these octets. Those of a peer that is down or whose session has closed are skipped. The replies
     /// of its session are appended to `replies`: to its OPEN the local OPEN and a KEEPALIVE, to a fault a NOTIFICATION
-    /// (RFC 4271 section 6). After `Memory` those to a front of the octets may be there.
+    /// (RFC 4271 section 6). After `Memory` `replies` is as before.
     pub fn octets(&mut self, peer: u16, piece: &[u8], replies: &mut Vec<u8>) -> Result<(), Memory>
         ensures played { OnOk result ((config : Config) (items : List Item) → Played config items self.old → Played config (items ++ received peer piece.now ∷ []) self.new) }
-        ensures grows { Grew replies.old.items replies.new.items }
         ensures replied { OnOk result ((config : Config) (items : List Item) → Played config items self.old
             → Replied config peer (life peer items) piece.now replies.old.items replies.new.items) }
+        ensures err { OnErr result (replies.new.items ≡ replies.old.items) }
         ensures config { self.new.config ≡ self.old.config }
     {
         match self.sessions.get_mut(&peer) {
@@ -153,8 +153,35 @@ fn lose<L: Ledger>(blank: Blank, table: &mut Table<'_>, peer: u16)
     table.lose(peer, &mut steps);
 }
 
-/// Feeds the peer's session with the piece, and the table with the updates that come of it.
+/// Feeds the peer's session with the piece, and the table with the updates that come of it. After `Memory` `replies`
+/// is as before.
 fn receive<L: Ledger>(
+    blank: Blank,
+    session: &mut Session<'_>,
+    table: &mut Table<'_>,
+    peer: u16,
+    piece: &[u8],
+    replies: &mut Vec<u8>,
+) -> Result<(), Memory>
+    requires name { blank.name ≡ L.name }
+    requires parts { blank.parts ≡ L.parts }
+    requires some { 0 < L.parts }
+    ensures stands { OnOk result ((config : Config) (whose : Peer) (octets : List ℕ) → IsListed table.old → Stands config whose peer octets session.old table.old
+        → Stands config whose peer (octets ++ piece.now) session.new table.new × Spares peer table.old table.new) }
+    ensures replied { OnOk result ((config : Config) (whose : Peer) (octets : List ℕ) → IsListed table.old → Stands config whose peer octets session.old table.old
+        → RepliesTo config whose octets piece.now replies.old.items replies.new.items) }
+    ensures err { OnErr result (replies.new.items ≡ replies.old.items) }
+{
+    let start = replies.len();
+    let received = receive_messages::<L>(blank, session, table, peer, piece, replies);
+    if received.is_err() {
+        replies.truncate(start);
+    }
+    received
+}
+
+/// As `receive`, but the replies up to want of memory stay.
+fn receive_messages<L: Ledger>(
     blank: Blank,
     session: &mut Session<'_>,
     table: &mut Table<'_>,

@@ -1,6 +1,7 @@
 //! The lines of peers.
 
-ghost use Rattle.std.specs.Prelude.{◌≡◌, ◌++◌, IfOk, OnOk};
+ghost use Rattle.std.specs.Prelude.{◌≡◌, ◌++◌, IfOk, OnOk, OnErr, take};
+ghost use Rattle.std.specs.Vec.{vec_len};
 ghost use Rattle.fs_listing.specs.Listing.{codes_text, numbers_of, standing_text, state_name, peer_line};
 
 use crate::pieces::{append, append_decimal};
@@ -32,9 +33,24 @@ pub fn numbers_of(alloc: Global, peers: &[Peer]) -> Result<Vec<u16>, Memory>
     Ok(numbers)
 }
 
-/// Appends the line of a peer: its number and how it stands with it. After `Memory` a part of the line may stand.
+/// Appends the line of a peer: its number and how it stands with it. After `Memory` `text` is as before.
 pub fn append_peer(number: u16, standing: Standing, text: &mut Vec<u8>) -> Result<(), Memory>
-    ensures { OnOk result (text.new.items ≡ text.old.items ++ peer_line number standing) }
+    ensures ok { OnOk result (text.new.items ≡ text.old.items ++ peer_line number standing) }
+    ensures err { OnErr result (text.new.items ≡ text.old.items) }
+{
+    let start = text.len();
+    let written = append_line(number, standing, text);
+    if written.is_err() {
+        text.truncate(start);
+    }
+    written
+}
+
+// What these functions append up to want of memory stays; `append_peer` takes it away.
+
+fn append_line(number: u16, standing: Standing, text: &mut Vec<u8>) -> Result<(), Memory>
+    ensures ok { OnOk result (text.new.items ≡ text.old.items ++ peer_line number standing) }
+    ensures front { take (vec_len text.old) text.new.items ≡ text.old.items }
 {
     append(b"peer ", text)?;
     append_decimal(number, text)?;
@@ -44,7 +60,8 @@ pub fn append_peer(number: u16, standing: Standing, text: &mut Vec<u8>) -> Resul
 }
 
 fn append_standing(standing: Standing, text: &mut Vec<u8>) -> Result<(), Memory>
-    ensures { OnOk result (text.new.items ≡ text.old.items ++ standing_text standing) }
+    ensures ok { OnOk result (text.new.items ≡ text.old.items ++ standing_text standing) }
+    ensures front { take (vec_len text.old) text.new.items ≡ text.old.items }
 {
     match standing {
         Standing::Down => append(b"down", text),
@@ -64,7 +81,8 @@ fn append_standing(standing: Standing, text: &mut Vec<u8>) -> Result<(), Memory>
 
 /// Appends a word and the two codes of a NOTIFICATION (RFC 4271 section 4.5).
 fn append_codes(word: &[u8], code: u8, subcode: u8, text: &mut Vec<u8>) -> Result<(), Memory>
-    ensures { OnOk result (text.new.items ≡ text.old.items ++ codes_text word.now code subcode) }
+    ensures ok { OnOk result (text.new.items ≡ text.old.items ++ codes_text word.now code subcode) }
+    ensures front { take (vec_len text.old) text.new.items ≡ text.old.items }
 {
     append(word, text)?;
     append_decimal(code, text)?;

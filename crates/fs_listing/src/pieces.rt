@@ -1,6 +1,6 @@
 //! Numbers, hexadecimal and families, as pieces of lines.
 
-ghost use Rattle.std.specs.Prelude.{◌≡◌, ◌++◌, OnOk};
+ghost use Rattle.std.specs.Prelude.{◌≡◌, ◌++◌, OnOk, OnErr};
 ghost use Rattle.hex.specs.Hex.{encode_lower};
 ghost use Rattle.fs_listing.specs.Listing.{family_name};
 
@@ -10,7 +10,8 @@ use std::alloc::Global;
 
 /// Appends a piece.
 pub(crate) fn append(piece: &[u8], text: &mut Vec<u8>) -> Result<(), Memory>
-    ensures { OnOk result (text.new.items ≡ text.old.items ++ piece.now) }
+    ensures ok { OnOk result (text.new.items ≡ text.old.items ++ piece.now) }
+    ensures err { OnErr result (text.new.items ≡ text.old.items) }
 {
     text.extend_from_slice(piece)?;
     Ok(())
@@ -18,7 +19,8 @@ pub(crate) fn append(piece: &[u8], text: &mut Vec<u8>) -> Result<(), Memory>
 
 /// Appends a number in decimal.
 pub(crate) fn append_decimal<N: Integer>(number: N, text: &mut Vec<u8>) -> Result<(), Memory>
-    ensures { OnOk result (text.new.items ≡ text.old.items ++ N.text number) }
+    ensures ok { OnOk result (text.new.items ≡ text.old.items ++ N.text number) }
+    ensures err { OnErr result (text.new.items ≡ text.old.items) }
 {
     let mut buffer = Buffer::new();
     append(buffer.format(number).as_bytes(), text)
@@ -26,7 +28,8 @@ pub(crate) fn append_decimal<N: Integer>(number: N, text: &mut Vec<u8>) -> Resul
 
 /// Appends octets in hexadecimal.
 pub(crate) fn append_hex(alloc: Global, octets: &[u8], text: &mut Vec<u8>) -> Result<(), Memory>
-    ensures { OnOk result (text.new.items ≡ text.old.items ++ encode_lower octets.now) }
+    ensures ok { OnOk result (text.new.items ≡ text.old.items ++ encode_lower octets.now) }
+    ensures err { OnErr result (text.new.items ≡ text.old.items) }
 {
     let digits = hex::encode(alloc, octets)?;
     append(digits.as_bytes(), text)

@@ -6,7 +6,7 @@ use Rattle.fs_cli.specs.Feeding.{SaysMore}
 use Rattle.fs_cli.specs.Received.{Received}
 use Rattle.fs_cli.proofs.Receiving.{received_none, received_more, received_all, stands_ended, none_there}
 use Rattle.fs_cli.proofs.Speaking.{speaks_none, speaks_more, speaks_all, speaks_to, speaks_ended, grew_none, grew_then}
-use Rattle.fs_cli.proofs.desk.receive.Goals as goal
+use Rattle.fs_cli.proofs.desk.receive_messages.Goals as goal
 
 pub returns-then-is_some-clause-stands : goal.returns-then-is_some-clause-stands
 returns-then-is_some-clause-stands g c = λ config whose octets l s.

@@ -8,7 +8,7 @@ use Rattle.fs_cli.specs.Keeping.{Stands}
 use Rattle.fs_cli.specs.Desk.{Grew}
 use Rattle.fs_cli.specs.Feeding.{SaysMore}
 use Rattle.fs_cli.specs.Received.{Received}
-use Rattle.fs_cli.proofs.desk.receive.Given as goal
+use Rattle.fs_cli.proofs.desk.receive_messages.Given as goal
 
 abbrev pub invariant-messages : goal.invariant-messages
 invariant-messages g l =
