@@ -1,11 +1,14 @@
-//! The lines that `enforce` writes, one for each captured packet, and the buffer through which they leave.
+//! The lines that `enforce` writes, one for each captured packet, the buffer through which they leave, and the pieces
+//! of all printed texts.
 #![tactic(auto)]
 
 mod line;
 mod output;
+mod pieces;
 #[cfg(test)]
 mod tests;
 mod walked;
 
 pub use line::{write_packet_line, write_unread_line};
 pub use output::Output;
+pub use pieces::{append, append_decimal, append_hex, family_name};
