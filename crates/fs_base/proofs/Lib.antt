@@ -14,3 +14,5 @@ pub mod Records
 pub mod Listing
 pub mod Seeking
 pub mod Same
+pub mod Digits
+pub mod Done
