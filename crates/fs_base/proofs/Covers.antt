@@ -1,5 +1,5 @@
 -- Which prefixes lie under which, and how the order tells it.
-use Rattle.std.proofs.Common.{ℕ, ◌≡◌, ◌+◌, ◌-◌, ◌^◌, ◌<◌, ◌≤◌, ◌⊎◌, inl, inr, refl, sym, ap, ◌∙◌, subst, arith, true, false, Bool, ◌&&◌, ◌==◌, nat_le, nat_cmp, is_le, pow_pos}
+use Rattle.std.proofs.Common.{ℕ, ◌≡◌, ◌+◌, ◌-◌, ◌^◌, ◌<◌, ◌≤◌, ◌⊎◌, inl, inr, refl, sym, ap, ◌∙◌, subst, arith, true, ◌&&◌, ◌==◌, nat_le, nat_cmp, is_le, pow_pos}
 use Rattle.std.specs.Ordering.{ordering_then}
 use Rattle.std.proofs.lemmas.Bool.Decides.{nat_tests}
 use Rattle.std.proofs.lemmas.Bool.{cases_lt}
@@ -8,6 +8,7 @@ use Rattle.fs_base.specs.declared.prefix.Family.TheVariants.{V4, V6}
 use Rattle.fs_base.specs.declared.prefix.Prefix.{Prefix}
 use Rattle.fs_base.specs.Bits.{width_of, afi_of, cleared}
 use Rattle.fs_base.specs.Prefix.{covers, prefix_cmp, last_address}
+use Rattle.fs_base.proofs.Bools.{and_both, and_first, and_second, same_tests}
 use Rattle.fs_base.proofs.Blocks.{IsBlock, block_of, block_inside, block_meeting, block_ending}
 
 pub same_family : (f g : Family) → afi_of f ≡ afi_of g → f ≡ g
@@ -164,23 +165,6 @@ between_covered p low q h from to = at (cases_lt q.length p.length) where
   at (inl shorter) = meeting_covers p q family (back (omega arith)) starts ends
   at (inr longer) = meeting_covers p q family longer starts ends
 
-pub same_tests : (a b : Bool) → (a ≡ true → b ≡ true) → (b ≡ true → a ≡ true) → a ≡ b
-same_tests true b there back = sym (there refl)
-same_tests false true there back = back refl
-same_tests false false there back = refl
-
-both : (a b : Bool) → a ≡ true → b ≡ true → (a && b) ≡ true
-both true b h k = k
-both false b h k = h
-
-pub first_of_both : (a b : Bool) → (a && b) ≡ true → a ≡ true
-first_of_both true b h = refl
-first_of_both false b h = h
-
-pub second_of_both : (a b : Bool) → (a && b) ≡ true → b ≡ true
-second_of_both true b h = h
-second_of_both false b h = cc
-
 -- the range law: f is the lowest address of p
 pub range_law : (p f q : Prefix) → f.family ≡ p.family → f.bits ≡ p.bits → f.length ≡ width_of p.family
     → covers p q ≡ (is_le (prefix_cmp f q) && is_le (prefix_cmp q p))
@@ -214,7 +198,7 @@ range_law p f q family bits length = same_tests (covers p q) (is_le (prefix_cmp 
       }
 
   there : covers p q ≡ true → (is_le (prefix_cmp f q) && is_le (prefix_cmp q p)) ≡ true
-  there h = both (is_le (prefix_cmp f q)) (is_le (prefix_cmp q p)) (comes_test f q (first h)) (covered_before p q h)
+  there h = and_both (is_le (prefix_cmp f q)) (is_le (prefix_cmp q p)) (comes_test f q (first h)) (covered_before p q h)
 
   back : (is_le (prefix_cmp f q) && is_le (prefix_cmp q p)) ≡ true → covers p q ≡ true
-  back h = between_covered p f q under (first_of_both (is_le (prefix_cmp f q)) (is_le (prefix_cmp q p)) h) (second_of_both (is_le (prefix_cmp f q)) (is_le (prefix_cmp q p)) h)
+  back h = between_covered p f q under (and_first (is_le (prefix_cmp f q)) (is_le (prefix_cmp q p)) h) (and_second (is_le (prefix_cmp f q)) (is_le (prefix_cmp q p)) h)

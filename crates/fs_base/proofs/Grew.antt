@@ -3,7 +3,7 @@ use Rattle.std.proofs.Common.{◌≡◌, ℕ, List, [], ◌++◌, Option, Some, 
 use Rattle.std.specs.Prelude.{OnErr}
 use Rattle.std.proofs.Math.Seq.{take-append-add}
 use Rattle.std.proofs.lemmas.Grind.{common_steps}
-use Rattle.fs_base.specs.Outside.{Grew, GrewPart}
+use Rattle.fs_base.specs.Sink.{Grew, GrewPart}
 
 -- nothing was written
 pub Grew-refl : (a : Option (List ℕ)) → Grew a a []

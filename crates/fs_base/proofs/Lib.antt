@@ -1,3 +1,5 @@
+pub mod Bools
+pub mod Fronts
 pub mod Languages
 pub mod Octets
 pub mod Parts
@@ -9,10 +11,11 @@ pub mod Covers
 pub mod Nesting
 pub mod Alike
 pub mod Precede
-pub mod Held
+pub mod MemoryFiles
 pub mod Records
 pub mod Listing
 pub mod Seeking
 pub mod Same
 pub mod Digits
 pub mod Done
+pub mod SamePrefix

@@ -4,7 +4,7 @@ use Rattle.std.specs.Prelude.{nat_le, if◌then◌else◌}
 use Rattle.std.proofs.lemmas.List.{drop-drop, length-drop, length-take}
 use Rattle.std.proofs.lemmas.Bool.Decides.{nat_tests}
 use Rattle.std.proofs.lemmas.Grind.{common_steps}
-use Rattle.fs_base.specs.Limited.{Fills}
+use Rattle.fs_base.specs.Filling.{Fills}
 use Rattle.fs_base.specs.Parts.{Shrinks, with_part, window, at_limit}
 use Rattle.fs_base.specs.Records.{Head, whole, wrong, partial, bad, Format, record_in, first_record, ends_short, stop, records_to_come}
 use Rattle.fs_base.proofs.Parts.{to_come_end, to_come_step, window_behind}

@@ -1,11 +1,12 @@
 -- The longest prefix that covers another, found by the order: where the first prefix from `low` on doesn't cover
 -- it, each that does covers what the two have in common.
-use Rattle.std.proofs.Common.{◌≡◌, ◌<◌, ◌≤◌, ◌⊎◌, inl, inr, refl, sym, ◌∙◌, Bool, true, false, List, true≢false, is_eq, is_le, arith}
+use Rattle.std.proofs.Common.{◌≡◌, ◌<◌, ◌≤◌, ◌⊎◌, inl, inr, sym, ◌∙◌, true, false, List, true≢false, is_eq, is_le, arith}
 use Rattle.std.specs.List.{AllByRecursion}
 use Rattle.std.proofs.lemmas.Bool.{cases_lt}
 use Rattle.fs_base.specs.declared.prefix.Prefix.{Prefix}
 use Rattle.fs_base.specs.Prefix.{covers, prefix_cmp}
 use Rattle.fs_base.specs.Seek.{IsFirst, IsLongest}
+use Rattle.fs_base.proofs.Bools.{false_from}
 use Rattle.fs_base.proofs.Covers.{covers_fact, covered_before, between_covered, Covers, same_family}
 use Rattle.fs_base.proofs.Nesting.{covers_self, covers_trans, covers_same_length, alike_covers}
 use Rattle.fs_base.proofs.Listing.{each, each_both}
@@ -22,10 +23,7 @@ module _ {X : Type 0} (at : X → Prefix) (held : List X) where
   -- nothing from low on: no cover
   pub seeking_ends : (d low : Prefix) → Seeking d low → AllByRecursion (λ x. is_le (prefix_cmp low (at x)) ≡ false) held → AllByRecursion (λ x. covers (at x) d ≡ false) held
   seeking_ends d low h none = each_both (λ x. covers (at x) d ≡ true → covers (at x) low ≡ true) (λ x. is_le (prefix_cmp low (at x)) ≡ false) (λ x. covers (at x) d ≡ false)
-      (λ x k l. not_true (covers (at x) d) (λ e. true≢false (sym (covered_before (at x) low (k e)) ∙ l))) held h.each_covers none where
-        not_true : (b : Bool) → (b ≡ true → ⊥) → b ≡ false
-        not_true true f = absurd (f refl)
-        not_true false f = refl
+      (λ x k l. false_from (covers (at x) d) (λ e. true≢false (sym (covered_before (at x) low (k e)) ∙ l))) held h.each_covers none
 
   -- the first from low on covers d: it is the longest
   pub seeking_found : (d low q : Prefix) → Seeking d low → IsFirst at held low q → covers q d ≡ true → IsLongest at held d q
@@ -68,9 +66,5 @@ module _ {X : Type 0} (at : X → Prefix) (held : List X) where
   -- no family in common: nothing from low on covers d
   pub seeking_apart : (d low q : Prefix) → Seeking d low → IsFirst at held low q → (low.family ≡ q.family → ⊥) → AllByRecursion (λ x. covers (at x) d ≡ false) held
   seeking_apart d low q h first apart = each_both (λ x. covers (at x) d ≡ true → covers (at x) low ≡ true) (λ x. is_le (prefix_cmp low (at x)) ≡ true → is_le (prefix_cmp q (at x)) ≡ true) (λ x. covers (at x) d ≡ false) step held h.each_covers first.least where
-    not_true : (b : Bool) → (b ≡ true → ⊥) → b ≡ false
-    not_true true f = absurd (f refl)
-    not_true false f = refl
-
     step : (x : X) → (covers (at x) d ≡ true → covers (at x) low ≡ true) → (is_le (prefix_cmp low (at x)) ≡ true → is_le (prefix_cmp q (at x)) ≡ true) → covers (at x) d ≡ false
-    step x k l = not_true (covers (at x) d) (λ e. apart (same_family low.family q.family (sym (covers_fact (at x) low (k e)).family ∙ (covers_fact (at x) q (between_covered (at x) low q (k e) first.from (l (covered_before (at x) low (k e))))).family)))
+    step x k l = false_from (covers (at x) d) (λ e. apart (same_family low.family q.family (sym (covers_fact (at x) low (k e)).family ∙ (covers_fact (at x) q (between_covered (at x) low q (k e) first.from (l (covered_before (at x) low (k e))))).family)))

@@ -1,8 +1,8 @@
 -- What sinks in memory show.
 use Rattle.std.specs.Prelude.{ℕ, List, ◌++◌, Option, Some, None, Bool, ◌+◌, ◌||◌, nat_lt, length, if◌then◌else◌, option_and_then}
 use Rattle.fs_base.specs.Outside.{fails_at}
-use Rattle.fs_base.specs.declared.memory_sinks.MemSink.{MemSink}
-use Rattle.fs_base.specs.declared.memory_sinks.CalmSink.{CalmSink}
+use Rattle.fs_base.specs.declared.outside.memory_sinks.MemSink.{MemSink}
+use Rattle.fs_base.specs.declared.outside.memory_sinks.CalmSink.{CalmSink}
 
 abbrev pub mem_sink_text : MemSink → List ℕ
 mem_sink_text sink = sink.text.items

@@ -2,7 +2,7 @@
 
 ghost use Rattle.std.specs.Prelude.{◌≡◌, ◌==◌};
 ghost use Rattle.std.specs.Option.{option_copied};
-ghost use Rattle.fs_base.specs.Peers.{peer_of};
+ghost use Rattle.fs_base.specs.Config.{peer_of};
 
 use std::marker::Model;
 

@@ -3,8 +3,9 @@
 ghost use Rattle.std.specs.Prelude.{◌≡◌, ◌≢◌, ◌↔◌, ◌≤◌, ℕ, IsTrue};
 ghost use Rattle.std.specs.Result.{IsErrOf};
 ghost use Rattle.std.specs.Io.{ReadsAtMost};
-ghost use Rattle.fs_base.specs.Outside.{ReadTakes, Rose};
-ghost use Rattle.fs_base.specs.Limited.{taken_after};
+ghost use Rattle.fs_base.specs.Files.{OnlySlot, ReadTakes};
+ghost use Rattle.fs_base.specs.Outside.{Rose};
+ghost use Rattle.fs_base.specs.Counted.{taken_after};
 
 use super::{Failed, Files};
 
@@ -62,8 +63,7 @@ impl Counted {
         ensures kept_limit { self.new.limit ≡ self.old.limit }
 
         ensures left { IsTrue F.tells → ReadTakes (F.left files.old self.old.slot) (F.left files.new self.old.slot) result into.new }
-        ensures others { IsTrue F.tells → (other : ℕ) → other ≢ self.old.slot → F.left files.new other ≡ F.left files.old other }
-        ensures holds { IsTrue F.tells → F.holds files.new ≡ F.holds files.old }
+        ensures others { OnlySlot F.tells F.left F.holds self.old.slot files.old files.new }
     {
         let room = self.limit - self.taken;
         if room == 0 {

@@ -1,9 +1,10 @@
 //! Filling a buffer, whatever counts the reads give.
 
 ghost use Rattle.std.specs.Prelude.{◌≡◌, ◌≢◌, ◌≤◌, ◌+◌, ℕ, IsTrue, IfOk, OnErr, length};
+ghost use Rattle.fs_base.specs.Files.{OnlySlot};
 ghost use Rattle.fs_base.specs.Outside.{Rose};
 ghost use Rattle.fs_base.specs.Parts.{window};
-ghost use Rattle.fs_base.specs.Limited.{Fills};
+ghost use Rattle.fs_base.specs.Filling.{Fills};
 
 use super::{Counted, Failed, Files, Stop};
 
@@ -32,8 +33,7 @@ pub fn fill<F: Files>(
         (F.left files.old counted.old.slot)
         (F.left files.new counted.old.slot)
         into.new) }
-    ensures others { IsTrue F.tells → (other : ℕ) → other ≢ counted.old.slot → F.left files.new other ≡ F.left files.old other }
-    ensures holds { IsTrue F.tells → F.holds files.new ≡ F.holds files.old }
+    ensures others { OnlySlot F.tells F.left F.holds counted.old.slot files.old files.new }
 {
     let mut at = 0;
     while at < into.len() {

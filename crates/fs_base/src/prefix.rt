@@ -62,11 +62,20 @@ impl Prefix {
         if length > family.width() {
             return None;
         }
-        Some(Prefix {
+        Some(Prefix::of_bits(family, bits, length))
+    }
+
+    /// The prefix of the first `length` bits of an address, as `new` makes it, where `length` is known to be at most 32
+    /// or 128.
+    pub fn of_bits(family: Family, bits: u128, length: u8) -> Prefix
+        requires { length ≤ width_of family }
+        ensures { IsPrefixOf family bits length result }
+    {
+        Prefix {
             family,
             bits: first_bits(family, bits, length),
             length,
-        })
+        }
     }
 
     /// Whether the first bits of `other` are this prefix; each prefix covers itself.
@@ -113,11 +122,7 @@ impl Prefix {
         requires { length ≤ self.now.length }
         ensures { IsPrefixOf self.now.family self.now.bits length result }
     {
-        Prefix {
-            family: self.family,
-            bits: first_bits(self.family, self.bits, length),
-            length,
-        }
+        Prefix::of_bits(self.family, self.bits, length)
     }
 
     /// The lowest address, as a prefix.

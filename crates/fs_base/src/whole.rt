@@ -2,7 +2,8 @@
 
 ghost use Rattle.std.specs.Prelude.{◌≡◌, ◌≢◌, ◌≤◌, ℕ, IsTrue, IfOk};
 ghost use Rattle.std.specs.Result.{IsErrOf};
-ghost use Rattle.fs_base.specs.Limited.{IsWhole};
+ghost use Rattle.fs_base.specs.Whole.{IsWhole};
+ghost use Rattle.fs_base.specs.Files.{OnlySlot};
 ghost use Rattle.fs_base.specs.Outside.{Rose};
 
 use super::{Counted, Files, Stop};
@@ -52,8 +53,7 @@ pub fn read_whole<F: Files>(
     ensures failed { IsErrOf result ReadStop.Failed → Rose (F.faults files.old) (F.faults files.new) }
     ensures later { F.faults files.old ≤ F.faults files.new }
     ensures content { IsTrue F.tells → IfOk result (IsWhole limit (F.left files.old slot)) }
-    ensures others { IsTrue F.tells → (other : ℕ) → other ≢ slot → F.left files.new other ≡ F.left files.old other }
-    ensures holds { IsTrue F.tells → F.holds files.new ≡ F.holds files.old }
+    ensures others { OnlySlot F.tells F.left F.holds slot files.old files.new }
 {
     let mut counted = Counted::new(slot, limit);
     let mut octets = Vec::new(alloc);

@@ -1,7 +1,7 @@
 -- What the command has written.
 use Rattle.std.specs.Prelude.{ℕ, List, [], Bool, Option, Result, Ok, Err}
 use Rattle.fs_base.specs.declared.prefix.Family.{Family}
-use Rattle.fs_base.specs.Outside.{Grew, GrewPart}
+use Rattle.fs_base.specs.Sink.{Grew, GrewPart}
 use Rattle.fs_check.specs.declared.command.CheckFault.{CheckFault}
 use Rattle.fs_check.specs.declared.command.CheckFault.TheVariants.{Failed, Memory}
 use Rattle.fs_check.specs.Report.{Reports}

@@ -2,7 +2,8 @@
 use Rattle.std.proofs.Common.{◌≡◌, ◌⊎◌, inl, inr, ◌≤◌, ◌-◌, arith, ◌%◌, ◌==◌, ◌||◌, ◌∙◌, ℕ, List, [], Bool, true, false, not, Option, Some, None, Result, Ok, Err, if◌then◌else◌, length, take, drop, refl, ap, sym, subst, append-nil, nat_lt, nat_le}
 use Rattle.std.specs.Result.{MatchResult, IfErr, IsErrAnd, IsErrOf}
 use Rattle.std.proofs.lemmas.Grind.{common_steps}
-use Rattle.fs_base.specs.Outside.{Grew, GrewPart, Rose}
+use Rattle.fs_base.specs.Outside.{Rose}
+use Rattle.fs_base.specs.Sink.{Grew, GrewPart}
 use Rattle.fs_base.specs.Records.{Head, whole, wrong, partial, End, done, limited, bad}
 use Rattle.fs_base.proofs.Grew.{Grew-refl, Grew-trans, part_whole, part_none, part_more}
 use Rattle.fs_line.specs.Output.{Goes}

@@ -8,7 +8,7 @@ use Rattle.fs_base.specs.Prefix.{prefix_cmp}
 use Rattle.fs_base.specs.declared.config.Config.{Config}
 use Rattle.fs_base.specs.declared.path.Path.{Path}
 use Rattle.fs_base.specs.declared.prefix.Prefix.{Prefix}
-use Rattle.fs_base.proofs.Same.{same_from_cmp}
+use Rattle.fs_base.proofs.SamePrefix.{same_from_cmp}
 use Rattle.fs_nlri.specs.Parts.{Ruled}
 use Rattle.fs_order.specs.Order.{rule_cmp}
 use Rattle.fs_order.proofs.Same.{first_equal, second_equal}

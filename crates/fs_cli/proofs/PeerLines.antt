@@ -1,6 +1,6 @@
 -- The lines of peers, and the sessions that a desk keeps beside those of the tape's octets.
 use Rattle.std.proofs.Common.{◌≡◌, ℕ, List, [], ◌∷◌, ◌++◌, Option, Some, None, refl, ap, sym, ◌∙◌}
-use Rattle.fs_base.specs.Peers.{peer_of}
+use Rattle.fs_base.specs.Config.{peer_of}
 use Rattle.fs_base.specs.declared.config.Config.{Config}
 use Rattle.fs_base.specs.declared.prefix.Family.TheVariants.{V4, V6}
 use Rattle.fs_base.specs.declared.config.Peer.{Peer}

@@ -1,7 +1,7 @@
 -- How the answer of `rules` follows from those of its stages.
 use Rattle.std.proofs.Common.{◌≡◌, ◌⊎◌, inl, inr, ◌∙◌, ℕ, List, [], Option, Some, None, Result, Ok, Err, Bool, true, false, if◌then◌else◌, length, nat_le, refl, ap, sym, subst}
 use Rattle.std.specs.Result.{IfErr}
-use Rattle.fs_base.specs.Outside.{Grew, GrewPart}
+use Rattle.fs_base.specs.Sink.{Grew, GrewPart}
 use Rattle.fs_base.specs.declared.config.Config.{Config}
 use Rattle.fs_base.proofs.Grew.{Grew-refl, part_whole, part_none}
 use Rattle.fs_conf.specs.Config.{config_of}

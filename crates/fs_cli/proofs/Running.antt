@@ -1,7 +1,8 @@
 -- What the clauses of a run say follows from what it does.
 use Rattle.std.proofs.Common.{◌≡◌, ◌≢◌, ◌⊎◌, inl, inr, ◌<◌, ◌∙◌, ◌^◌, ◌-◌, ◌↔◌, ℕ, List, Option, Some, None, Result, IsTrue, IfSome, refl, ap, sym, subst, arith, true, false, Bool, if◌then◌else◌, length, nat_le}
 use Rattle.std.proofs.lemmas.Bool.Decides.{nat_tests}
-use Rattle.fs_base.specs.Outside.{Grew, Rose}
+use Rattle.fs_base.specs.Outside.{Rose}
+use Rattle.fs_base.specs.Sink.{Grew}
 use Rattle.fs_base.specs.Records.{End, done, limited, bad}
 use Rattle.fs_base.specs.declared.config.Config.{Config}
 use Rattle.fs_base.specs.declared.prefix.Family.{Family}

@@ -1,6 +1,6 @@
 -- What `check` answers and writes.
 use Rattle.std.specs.Prelude.{◌≡◌, ◌⊎◌, ℕ, List, [], Bool, Option, if◌then◌else◌}
-use Rattle.fs_base.specs.Outside.{Grew}
+use Rattle.fs_base.specs.Sink.{Grew}
 use Rattle.fs_base.specs.declared.prefix.Family.{Family}
 use Rattle.fs_check.specs.Report.{Reports}
 use Rattle.fs_cli.specs.Judged.{Verdict, Answers}

@@ -1,6 +1,6 @@
 -- What `enforce` answers and writes.
 use Rattle.std.specs.Prelude.{◌≡◌, ◌⊎◌, ◌<◌, ℕ, List, [], Option, Some, length}
-use Rattle.fs_base.specs.Outside.{Grew}
+use Rattle.fs_base.specs.Sink.{Grew}
 use Rattle.fs_base.specs.Records.{done}
 use Rattle.fs_base.specs.declared.config.Config.{Config}
 use Rattle.fs_conf.specs.Config.{config_of}

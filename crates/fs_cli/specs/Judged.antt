@@ -1,6 +1,6 @@
 -- What becomes of a capture's lines.
 use Rattle.std.specs.Prelude.{◌≡◌, ◌≢◌, ◌⊎◌, ◌++◌, ℕ, List, [], Option, Result, Ok, Err}
-use Rattle.fs_base.specs.Outside.{Grew, GrewPart}
+use Rattle.fs_base.specs.Sink.{Grew, GrewPart}
 use Rattle.fs_base.specs.Records.{End}
 use Rattle.fs_line.specs.Output.{Goes, Stops}
 use Rattle.fs_pcap.specs.Capture.{Recorded}

@@ -1,7 +1,7 @@
 -- What `rules` answers and writes.
 use Rattle.std.specs.Prelude.{◌≡◌, ◌⊎◌, ◌<◌, ℕ, List, [], Option, Some, Result, length}
 use Rattle.std.specs.Result.{IsErrAnd}
-use Rattle.fs_base.specs.Outside.{Grew}
+use Rattle.fs_base.specs.Sink.{Grew}
 use Rattle.fs_base.specs.Records.{done}
 use Rattle.fs_base.specs.declared.config.Config.{Config}
 use Rattle.fs_conf.specs.Config.{config_of}

@@ -1,6 +1,6 @@
 -- The listing that a tape's items leave, and what becomes of a text that is written in one piece.
 use Rattle.std.specs.Prelude.{◌≡◌, ◌⊎◌, ℕ, List, [], Option, Some, None, Result, MatchResult}
-use Rattle.fs_base.specs.Outside.{Grew, GrewPart}
+use Rattle.fs_base.specs.Sink.{Grew, GrewPart}
 use Rattle.fs_base.specs.declared.config.Config.{Config}
 use Rattle.fs_rules.specs.Held.{Held}
 use Rattle.fs_speaker.specs.Session.{Last, still, closed, session_of}

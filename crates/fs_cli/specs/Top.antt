@@ -1,6 +1,6 @@
 -- What a run of the program answers and writes.
 use Rattle.std.specs.Prelude.{◌≡◌, ◌≢◌, ◌⊎◌, ℕ, List, [], Bool, IsTrue, Option, Some, None}
-use Rattle.fs_base.specs.Outside.{Grew}
+use Rattle.fs_base.specs.Sink.{Grew}
 use Rattle.fs_check.specs.Report.{Reports}
 use Rattle.fs_cli.specs.Checked.{Checks, report_verdict}
 use Rattle.fs_cli.specs.Enforced.{Enforces}

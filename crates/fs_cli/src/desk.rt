@@ -31,7 +31,7 @@ impl<'a> Model for Desk<'a> {
 
 impl<'a> Desk<'a> {
     ghost use Rattle.fs_base.specs.declared.config.Config.{Config};
-    ghost use Rattle.fs_base.specs.Peers.{peer_of};
+    ghost use Rattle.fs_base.specs.Config.{peer_of};
     ghost use Rattle.fs_tape.specs.Tape.{Item, came_up, received, was_lost};
     ghost use Rattle.fs_cli.specs.Desk.{Played, Replied};
     ghost use Rattle.fs_cli.specs.Held.{Leaves};

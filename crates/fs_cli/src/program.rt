@@ -1,7 +1,8 @@
 //! The program.
 
 ghost use Rattle.std.specs.Prelude.{◌≡◌, ◌≢◌, ◌≤◌, ◌<◌, ◌-◌, ◌^◌, ◌⊎◌, ◌↔◌, [], ℕ, List, None, Some, IsTrue, IfSome, map, string_bytes};
-ghost use Rattle.fs_base.specs.Outside.{Grew, Rose};
+ghost use Rattle.fs_base.specs.Outside.{Rose};
+ghost use Rattle.fs_base.specs.Sink.{Grew};
 ghost use Rattle.fs_cli.specs.Checked.{Checks};
 ghost use Rattle.fs_cli.specs.Command.{form_shown};
 ghost use Rattle.fs_cli.specs.Enforced.{Enforced};

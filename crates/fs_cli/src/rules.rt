@@ -1,7 +1,8 @@
 //! The command `rules`.
 
 ghost use Rattle.std.specs.Prelude.{◌≡◌, ◌≤◌, ◌⊎◌, [], IsTrue};
-ghost use Rattle.fs_base.specs.Outside.{Grew, Rose};
+ghost use Rattle.fs_base.specs.Outside.{Rose};
+ghost use Rattle.fs_base.specs.Sink.{Grew};
 ghost use Rattle.fs_cli.specs.Judged.{answered};
 ghost use Rattle.fs_cli.specs.Listed.{Lists, SaysOf};
 

@@ -1,6 +1,6 @@
 -- How text reaches a sink through a buffer that keeps octets back.
 use Rattle.std.specs.Prelude.{◌≡◌, ℕ, List, ◌++◌, Option}
-use Rattle.fs_base.specs.Outside.{Grew, GrewPart}
+use Rattle.fs_base.specs.Sink.{Grew, GrewPart}
 
 -- What was pending and then the text have gone on: a front of them to the sink, and the rest is pending now.
 pub record Goes (before now : Option (List ℕ)) (pending pending_now text : List ℕ) : Type 0 where

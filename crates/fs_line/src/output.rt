@@ -1,5 +1,6 @@
 ghost use Rattle.std.specs.Prelude.{◌≡◌, ◌+◌, ◌≤◌, [], ◌++◌, length, IfOk, IsOk, OnErr, OnOk};
-ghost use Rattle.fs_base.specs.Outside.{HasCause, Grew, GrewPart};
+ghost use Rattle.fs_base.specs.Outside.{HasCause};
+ghost use Rattle.fs_base.specs.Sink.{Grew, GrewPart};
 ghost use Rattle.fs_line.specs.Output.{Goes, Stops};
 
 use fs_base::{Failed, Memory, Sink, write_all};

@@ -4,7 +4,7 @@ use Rattle.std.specs.Prelude.{ℕ, ◌+◌, List, [], ◌∷◌, ◌++◌, filte
 use Rattle.std.specs.Option.{option_map_or}
 use Rattle.std.specs.List.{concat, range_with_len}
 use Rattle.hex.specs.Hex.{encode_lower}
-use Rattle.fs_base.specs.Peers.{peer_of}
+use Rattle.fs_base.specs.Config.{peer_of}
 use Rattle.fs_base.specs.declared.config.Config.{Config}
 use Rattle.fs_base.specs.declared.config.Peer.{Peer}
 use Rattle.fs_base.specs.declared.prefix.Family.{Family}

@@ -7,7 +7,8 @@ use Rattle.std.proofs.lemmas.Bool.Decides.{nat_tests}
 use Rattle.fs_base.specs.declared.prefix.Family.{Family}
 use Rattle.fs_base.specs.Bits.{afi_of}
 use Rattle.fs_base.specs.declared.path.Path.{Path}
-use Rattle.fs_base.proofs.Listing.{each_weaker, none_each, each_none, or_first, or_second, any_filter}
+use Rattle.fs_base.proofs.Bools.{or_first, or_second}
+use Rattle.fs_base.proofs.Listing.{each_weaker, none_each, each_none, any_filter}
 use Rattle.fs_order.specs.Order.{rule_cmp}
 use Rattle.fs_order.specs.Total.{rule_total}
 use Rattle.fs_unicast.specs.Preference.{preference_cmp, preferred}

@@ -11,7 +11,7 @@ use Rattle.std.proofs.lemmas.Map.Keys.{sorted_head, sorted_tail}
 use Rattle.fs_base.specs.PrefixOrder.{prefix_total}
 use Rattle.fs_base.specs.declared.prefix.Prefix.{Prefix}
 use Rattle.fs_base.specs.Prefix.{prefix_cmp}
-use Rattle.fs_base.proofs.Same.{same_from_cmp}
+use Rattle.fs_base.proofs.SamePrefix.{same_from_cmp}
 use Rattle.fs_base.proofs.Listing.{filter-remove_other, each, each_weaker, each_of_map, each_remove, find_on}
 use Rattle.fs_unicast.specs.Places.{Route, place_cmp}
 use Rattle.fs_unicast.specs.declared.unicast.Place.{Place}

@@ -10,7 +10,7 @@ use Rattle.fs_base.specs.declared.prefix.Prefix.{Prefix}
 use Rattle.fs_base.specs.Prefix.{prefix_cmp}
 use Rattle.fs_base.specs.PrefixOrder.{prefix_total}
 use Rattle.fs_base.proofs.Listing.{each_weaker}
-use Rattle.fs_base.proofs.Same.{same_from_cmp}
+use Rattle.fs_base.proofs.SamePrefix.{same_from_cmp}
 use Rattle.fs_rules.specs.declared.group.Kept.{Kept}
 use Rattle.fs_rules.specs.Held.{key_cmp}
 use Rattle.fs_rules.specs.Kept.{put_kept, AreSorted, routes_of}

@@ -15,7 +15,7 @@ use Rattle.fs_base.specs.PrefixOrder.{prefix_total}
 use Rattle.fs_base.specs.Seek.{IsFirst, IsFirstFrom}
 use Rattle.fs_base.proofs.Covers.{covers_fact, covered_before}
 use Rattle.fs_base.proofs.Nesting.{covers_self, covers_nested, covers_trans, covers_same_length, alike_covers, covers_alike}
-use Rattle.fs_base.proofs.Same.{same_from_cmp}
+use Rattle.fs_base.proofs.SamePrefix.{same_from_cmp}
 use Rattle.fs_base.proofs.Listing.{each, each_weaker, filter_first, filter_empty, IsLeast}
 use Rattle.fs_validate.specs.Locality.{is_related}
 use Rattle.fs_rules.specs.Grouped.{Entry, AreInOrder, is_before, IsNextAfter}

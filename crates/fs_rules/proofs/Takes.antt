@@ -13,7 +13,7 @@ use Rattle.fs_base.specs.Prefix.{prefix_cmp}
 use Rattle.fs_base.specs.PrefixOrder.{prefix_total}
 use Rattle.std.specs.Cmp.{tied_itself}
 use Rattle.fs_base.proofs.Listing.{each_weaker, each_both, each_append, filter-append, filter_all, each_none}
-use Rattle.fs_base.proofs.Same.{same_from_cmp}
+use Rattle.fs_base.proofs.SamePrefix.{same_from_cmp}
 use Rattle.fs_nlri.specs.Parts.{Ruled}
 use Rattle.fs_nlri.specs.Rule.{IsRule}
 use Rattle.fs_validate.specs.Destination.{destination_prefix}

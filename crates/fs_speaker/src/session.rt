@@ -33,7 +33,7 @@ impl<'a> Model for Session<'a> {
 
 impl<'a> Session<'a> {
     ghost use Rattle.std.specs.Prelude.{◌≡◌, ◌<◌, ◌≤◌, ◌++◌, length, IfOk, IfSome, IsSome};
-    ghost use Rattle.fs_base.specs.Peers.{peer_of};
+    ghost use Rattle.fs_base.specs.Config.{peer_of};
     ghost use Rattle.fs_speaker.specs.Steps.{begins, state_of, closed_after, Feeds};
 
     /// A session with a peer of the configuration, before its first octet.

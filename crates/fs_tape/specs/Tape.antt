@@ -3,7 +3,7 @@
 -- and the payload. Numbers are big-endian.
 use Rattle.std.specs.Prelude.{ℕ, List, [], ◌∷◌, Option, Some, None, Bool, ◌+◌, ◌==◌, length, take, drop, nat_le, nat_lt, if◌then◌else◌, is_none, option_map}
 use Rattle.byteorder.specs.Endian.{big_number}
-use Rattle.fs_base.specs.Peers.{peer_of}
+use Rattle.fs_base.specs.Config.{peer_of}
 use Rattle.fs_base.specs.Records.{Head, whole, wrong, partial, End, limited, bad, Format, records_to_come}
 use Rattle.fs_base.specs.declared.config.Config.{Config}
 use Rattle.fs_tape.specs.declared.fault.TapeReason.{TapeReason}

@@ -1,5 +1,5 @@
 -- What the calls on a tape do.
-use Rattle.fs_base.specs.Peers.{peer_of}
+use Rattle.fs_base.specs.Config.{peer_of}
 use Rattle.std.specs.Prelude.{ℕ, List, [], Option, Some, None, IsSome, Result, Ok, Err, ◌≡◌, ◌≤◌, ◌<◌, ◌==◌, ◌&&◌, not, take, drop, length, nat_le, ⊤, if◌then◌else◌}
 use Rattle.fs_base.specs.Parts.{with_part}
 use Rattle.fs_base.specs.Records.{Head, whole, wrong, partial, End, done, limited, bad}

@@ -8,7 +8,8 @@ use Rattle.std.specs.declared.ops.Bound.TheVariants.{Included, Excluded}
 use Rattle.std.specs.Cmp.{both_ways}
 use Rattle.std.specs.Map.{keys_of}
 use Rattle.std.specs.Set.{remove_key}
-use Rattle.fs_base.proofs.Listing.{each, each_weaker, each_both, each_none, none_each, all_each, each_all, any_each, or_first, or_second, all_on}
+use Rattle.fs_base.proofs.Bools.{or_first, or_second}
+use Rattle.fs_base.proofs.Listing.{each, each_weaker, each_both, each_none, none_each, all_each, each_all, any_each, all_on}
 use Rattle.fs_unicast.specs.declared.unicast.Place.{Place}
 use Rattle.fs_unicast.specs.Places.{Route, place_cmp}
 use Rattle.fs_unicast.specs.Turns.{neighbour_of, is_same, lies_between, are_parted, is_alone, parts_alone, is_needed, IsPartedAfter, IsParted, find_last}

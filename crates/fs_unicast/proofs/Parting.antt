@@ -8,7 +8,8 @@ use Rattle.std.specs.BTreeSet.{insert_key}
 use Rattle.std.specs.Cmp.{tied_itself}
 use Rattle.std.specs.Map.{keys_of, remove_entry}
 use Rattle.std.proofs.lemmas.Bool.Decides.{nat_tests}
-use Rattle.fs_base.proofs.Listing.{each, each_weaker, each_both, each_remove, any_weaker, or_first, or_second}
+use Rattle.fs_base.proofs.Bools.{or_first, or_second}
+use Rattle.fs_base.proofs.Listing.{each, each_weaker, each_both, each_remove, any_weaker}
 use Rattle.fs_base.specs.declared.path.Path.{Path}
 use Rattle.fs_unicast.specs.declared.unicast.Place.{Place}
 use Rattle.fs_unicast.specs.Neighbour.{neighbour}

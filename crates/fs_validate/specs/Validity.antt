@@ -8,7 +8,7 @@ use Rattle.fs_base.specs.declared.config.Config.{Config}
 use Rattle.fs_base.specs.declared.path.Path.{Path}
 use Rattle.fs_base.specs.declared.path.Segment.{Segment}
 use Rattle.fs_base.specs.declared.prefix.Prefix.{Prefix}
-use Rattle.fs_base.specs.Peers.{peer_of}
+use Rattle.fs_base.specs.Config.{peer_of}
 use Rattle.fs_unicast.specs.Neighbour.{first_as, neighbour_as}
 use Rattle.fs_unicast.specs.Places.{Route}
 use Rattle.fs_unicast.specs.Best.{best_match_of, others_under}

@@ -12,5 +12,4 @@ loop-at-preserved g c = record {
   later = search rules;
   filled = λ told. filled_more _ _ _ _ _ _ _ (c.loop-at.invariant.filled told) (search rules) (search rules) (rw (← c.loop-at.invariant.slot) (c.in-Ok.ensures.left told).0);
   others = search rules;
-  holds = search rules;
 }

@@ -1,4 +1,5 @@
-use Rattle.std.proofs.Common.{◌≡◌, ◌≢◌, ◌≤◌, ◌+◌, ◌-◌, ℕ, length, IsTrue}
+use Rattle.std.proofs.Common.{◌≡◌, ◌≤◌, ◌+◌, ◌-◌, length, IsTrue}
+use Rattle.fs_base.specs.Files.{OnlySlot}
 use Rattle.fs_base.proofs.Filled.{Filled}
 use Rattle.fs_base.proofs.filling.fill.Given as goal
 
@@ -13,10 +14,7 @@ invariant-loop-at g l = record {
   filled :
       IsTrue g.F.Files.tells
       → Filled (g.F.Files.left l.fn.files l.fn.counted.slot) (g.F.Files.left l.files l.fn.counted.slot) l.into l.at;
-  others :
-      IsTrue g.F.Files.tells
-      → (other : ℕ) → other ≢ l.fn.counted.slot → g.F.Files.left l.files other ≡ g.F.Files.left l.fn.files other;
-  holds : IsTrue g.F.Files.tells → g.F.Files.holds l.files ≡ g.F.Files.holds l.fn.files;
+  others : OnlySlot g.F.Files.tells g.F.Files.left g.F.Files.holds l.fn.counted.slot l.fn.files l.files;
 }
 
 abbrev pub decreases-loop-at : goal.decreases-loop-at

@@ -1,5 +1,0 @@
-use Rattle.fs_base.proofs.Precede.{precedence_law}
-use Rattle.fs_base.proofs.order.precedence.Goals as goal
-
-pub returns : goal.returns
-returns c = precedence_law

@@ -1,7 +1,0 @@
-use Rattle.fs_base.specs.Bits.{width_of}
-use Rattle.std.proofs.Common.{arith}
-use Rattle.fs_base.proofs.Blocks.{cleared_again}
-use Rattle.fs_base.proofs.prefix.Prefix.shortened.Goals as goal
-
-pub invariant_of-result-clause-clear : goal.invariant_of-result-clause-clear
-invariant_of-result-clause-clear c = rw c.first_bits.ensures (cleared_again (width_of c.args.self.now.family) c.args.length c.args.self.now.bits (omega (arith, c.requires, c.args.self.now.short)))
