@@ -15,7 +15,6 @@ pub mod MemoryFiles
 pub mod Records
 pub mod Listing
 pub mod Seeking
-pub mod Same
 pub mod Digits
 pub mod Done
 pub mod SamePrefix
