@@ -7,19 +7,20 @@ use Rattle.fs_base.proofs.Grew.{Grew-refl, part_whole, part_none}
 use Rattle.fs_conf.specs.Config.{config_of}
 use Rattle.fs_tape.specs.Tape.{Item}
 use Rattle.fs_tape.specs.declared.fault.TapeReason.{TapeReason}
-use Rattle.fs_cli.specs.Desk.{Desked}
+use Rattle.fs_desk.specs.Desk.{Desked}
 use Rattle.fs_cli.specs.Files.{Names, config_stage}
 use Rattle.fs_cli.specs.Inputs.{tape_stage}
 use Rattle.fs_cli.specs.Judged.{answered, Answers, IsLate}
 use Rattle.fs_cli.specs.Listed.{stopped_text, list_verdict, Lists, SaysOf}
-use Rattle.fs_cli.specs.Listing.{listing, Fails, Writes}
+use Rattle.fs_listing.specs.Listing.{listing}
+use Rattle.fs_cli.specs.Listing.{Fails, Writes}
 use Rattle.fs_cli.specs.Stage.{Stage, Found, Stopped, and_then, or_stop, status_of, HasReason}
 use Rattle.fs_cli.specs.Tapes.{IsPlayed}
 use Rattle.fs_cli.specs.declared.refusal.Refusal.{Refusal}
 use Rattle.fs_cli.specs.declared.refusal.Refusal.TheVariants.{Outside, Config as Refused, Tape, Capture, Memory, Limit}
 use Rattle.fs_cli.proofs.Answering.{take_nothing}
 use Rattle.fs_cli.proofs.Enforcing.{accepted_with}
-use Rattle.fs_cli.proofs.Leaving.{played_leaves}
+use Rattle.fs_desk.proofs.Leaving.{played_leaves}
 
 -- no configuration is refused for a tape
 config_not_tape : (limit : ℕ) (holds : Names) (config : List ℕ) (reason : TapeReason) (place : ℕ) → config_stage limit holds config ≡ Stopped (Tape reason place) → ⊥

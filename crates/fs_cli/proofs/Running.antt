@@ -17,7 +17,7 @@ use Rattle.fs_cli.specs.Enforced.{Enforces, Enforced}
 use Rattle.fs_cli.specs.Files.{Names, fetch, config_stage}
 use Rattle.fs_cli.specs.Form.{Form, Enforce, Rules, Check}
 use Rattle.fs_cli.specs.Listed.{Lists, Listed, listed_status}
-use Rattle.fs_cli.specs.Listing.{listing}
+use Rattle.fs_listing.specs.Listing.{listing}
 use Rattle.fs_cli.specs.Inputs.{Inputs, inputs, played_to, tape_stage, capture_stage, accepted_stage, inputs_stage, status_at, status_for}
 use Rattle.fs_cli.specs.Judged.{verdict_of, answered}
 use Rattle.fs_cli.specs.Output.{output_of}

@@ -12,7 +12,7 @@ use Rattle.fs_cli.specs.declared.refusal.Refusal.TheVariants.{Outside}
 use Rattle.fs_cli.specs.Stage.{Stage, Found, Stopped, and_then, or_stop, HasReason}
 use Rattle.fs_cli.specs.Files.{Names}
 use Rattle.fs_cli.specs.Inputs.{played_to, tape_stage}
-use Rattle.fs_cli.specs.Desk.{Desked, Played}
+use Rattle.fs_desk.specs.Desk.{Desked, Played}
 use Rattle.fs_cli.specs.Tapes.{PlaysOn, IsPlayed}
 
 -- of all items some were played, and the rest is to come

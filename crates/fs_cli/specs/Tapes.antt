@@ -11,7 +11,7 @@ use Rattle.fs_cli.specs.declared.refusal.Refusal.TheVariants.{Outside, Tape as T
 use Rattle.fs_base.specs.declared.config.Config.{Config}
 use Rattle.fs_tape.specs.Tape.{Item}
 use Rattle.fs_cli.specs.Stage.{Stage, Found}
-use Rattle.fs_cli.specs.Desk.{Desked, Played}
+use Rattle.fs_desk.specs.Desk.{Desked, Played}
 
 -- the items of a tape without a fault were played
 pub record IsPlayed (config : Config) (stage : Stage (List Item)) (desk : Desked) : Type 0 where

@@ -1,18 +1,18 @@
 //! The listing of the peers and the rules, as a tape leaves them.
 
-ghost use Rattle.std.specs.Prelude.{◌≡◌, ◌≤◌, ◌++◌, IfErr, IfOk, List, OnOk};
+ghost use Rattle.std.specs.Prelude.{◌≤◌, IfErr, List};
 ghost use Rattle.fs_base.specs.Outside.{Rose};
 ghost use Rattle.fs_base.specs.declared.config.Config.{Config};
 ghost use Rattle.fs_tape.specs.Tape.{Item};
-ghost use Rattle.fs_listing.specs.Listing.{numbers_of, peers_text, tape_fault_line};
-ghost use Rattle.fs_cli.specs.Desk.{Played};
+ghost use Rattle.fs_listing.specs.Listing.{listing, tape_fault_line};
+ghost use Rattle.fs_desk.specs.Desk.{Played};
 ghost use Rattle.fs_cli.specs.Judged.{IsLate};
-ghost use Rattle.fs_cli.specs.Listing.{desk_text, listing, standing_at_desk, Writes};
+ghost use Rattle.fs_cli.specs.Listing.{Writes};
 
-use crate::desk::Desk;
 use crate::refusal::Refusal;
-use fs_base::{Family, Memory, Sink, write_all};
-use fs_listing::{append_peer, append_rules, append_tape_fault, numbers_of};
+use fs_base::{Sink, write_all};
+use fs_desk::Desk;
+use fs_listing::{append_tape_fault, desk_text};
 use fs_tape::TapeReason;
 use std::alloc::Global;
 
@@ -32,14 +32,7 @@ pub fn list_desk<S: Sink>(alloc: Global, desk: &Desk<'_>, sink: &mut S) -> Resul
         → Played config items desk.now
         → Writes (listing config items desk.now.held) (Rose (S.faults sink.old) (S.faults sink.new)) (S.written sink.old) (S.written sink.new) result }
 {
-    write_listing(alloc, desk, sink)
-}
-
-fn write_listing<S: Sink>(alloc: Global, desk: &Desk<'_>, sink: &mut S) -> Result<(), Refusal>
-    ensures later { S.faults sink.old ≤ S.faults sink.new }
-    ensures written { Writes (desk_text desk.now) (Rose (S.faults sink.old) (S.faults sink.new)) (S.written sink.old) (S.written sink.new) result }
-{
-    let text = text_of(alloc, desk)?;
+    let text = desk_text(alloc, desk)?;
     write_all(sink, &text)?;
     Ok(())
 }
@@ -61,34 +54,5 @@ pub fn list_tape_fault<S: Sink>(
     let mut text = Vec::new(alloc);
     append_tape_fault(reason, place, &mut text)?;
     write_all(sink, &text)?;
-    Ok(())
-}
-
-/// The listing's text.
-fn text_of(alloc: Global, desk: &Desk<'_>) -> Result<Vec<u8>, Memory>
-    ensures { IfOk result (λ text. text.items ≡ desk_text desk.now) }
-{
-    let mut text = Vec::new(alloc);
-    append_peers(alloc, desk, &mut text)?;
-    append_rules(alloc, Family::V4, desk.table(), &mut text)?;
-    append_rules(alloc, Family::V6, desk.table(), &mut text)?;
-    Ok(text)
-}
-
-/// Appends the lines of the configured peers, by their numbers.
-fn append_peers(alloc: Global, desk: &Desk<'_>, text: &mut Vec<u8>) -> Result<(), Memory>
-    ensures { OnOk result (text.new.items ≡ text.old.items ++ peers_text (numbers_of desk.now.config.peers) (standing_at_desk desk.now)) }
-{
-    let numbers = numbers_of(alloc, desk.config().peers.as_slice())?;
-    append_each(desk, &numbers, text)
-}
-
-/// Appends the line of each of these peers.
-fn append_each(desk: &Desk<'_>, numbers: &[u16], text: &mut Vec<u8>) -> Result<(), Memory>
-    ensures { OnOk result (text.new.items ≡ text.old.items ++ peers_text numbers.now (standing_at_desk desk.now)) }
-{
-    for number in numbers {
-        append_peer(*number, desk.state(*number), text)?;
-    }
     Ok(())
 }

@@ -7,13 +7,13 @@ ghost use Rattle.fs_tape.specs.Tape.{Item};
 ghost use Rattle.fs_tape.specs.Turn.{IsItem, coming, shown};
 ghost use Rattle.fs_cli.specs.Stage.{HasReason};
 ghost use Rattle.fs_cli.specs.Inputs.{tape_stage, played_to};
-ghost use Rattle.fs_cli.specs.Desk.{Played};
+ghost use Rattle.fs_desk.specs.Desk.{Played};
 ghost use Rattle.fs_cli.specs.Tapes.{IsPlayed, Gives, PlaysOn, refused_by};
 
-use crate::desk::Desk;
 use crate::load::open;
 use crate::refusal::Refusal;
 use fs_base::{Config, Counted, Files, Memory};
+use fs_desk::Desk;
 use fs_tape::{Tape, TapeFault, TapeItem};
 use std::alloc::Global;
 

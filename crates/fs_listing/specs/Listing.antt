@@ -21,8 +21,10 @@ use Rattle.fs_speaker.specs.declared.state.State.TheVariants.{WaitOpen, WaitKeep
 use Rattle.fs_speaker.specs.declared.state.Closed.TheVariants.{Fault, Notified, NoFamily, Memory}
 use Rattle.fs_tape.specs.declared.fault.TapeReason.{TapeReason}
 use Rattle.fs_tape.specs.declared.fault.TapeReason.TheVariants.{Magic, Kind, Peer as UnknownPeer, Length, Cut}
-use Rattle.fs_listing.specs.declared.peers.Standing.{Standing}
-use Rattle.fs_listing.specs.declared.peers.Standing.TheVariants.{Down, Live, Ended}
+use Rattle.fs_speaker.specs.declared.state.Standing.{Standing}
+use Rattle.fs_speaker.specs.declared.state.Standing.TheVariants.{Down, Up, Ended}
+use Rattle.fs_tape.specs.Tape.{Item}
+use Rattle.fs_desk.specs.Desk.{Desked, standing_of, standing_at_desk}
 
 -- the state of an open session (RFC 4271 section 8.2.2); an open one is never closed
 abbrev pub state_name : State → List ℕ
@@ -38,7 +40,7 @@ codes_text word code subcode = word ++ (decimal code ++ (codes "/" ++ decimal su
 -- a peer's octets close its session by a fault or a NOTIFICATION, and in no other way
 abbrev pub standing_text : Standing → List ℕ
 standing_text Down = codes "down"
-standing_text (Live state) = state_name state
+standing_text (Up state) = state_name state
 standing_text (Ended (Fault code subcode)) = codes_text (codes "closed ") code subcode
 standing_text (Ended (Notified code subcode)) = codes_text (codes "notified ") code subcode
 standing_text (Ended NoFamily) = codes "closed"
@@ -107,6 +109,14 @@ family_text family held = admitted_lines family 1 (map listed (admitted family h
 -- of a configuration, how it stands with each peer, and the routes held
 abbrev pub listing_of : Config → (ℕ → Standing) → Held → List ℕ
 listing_of config standing held = peers_text (numbers_of config.peers) standing ++ (family_text V4 held ++ family_text V6 held)
+
+-- the listing behind these items, of the routes held
+abbrev pub listing : Config → List Item → Held → List ℕ
+listing config items held = listing_of config (standing_of config items) held
+
+-- likewise by the sessions that a desk keeps
+abbrev pub desk_text : Desked → List ℕ
+desk_text desk = listing_of desk.config (standing_at_desk desk) desk.held
 
 abbrev pub tape_reason_name : TapeReason → List ℕ
 tape_reason_name Magic = codes "Magic"

@@ -2,22 +2,31 @@
 
 ghost use Rattle.std.specs.Prelude.{◌≡◌, ◌++◌, IfOk, OnOk, OnErr, take};
 ghost use Rattle.std.specs.Vec.{vec_len};
-ghost use Rattle.fs_listing.specs.Listing.{codes_text, numbers_of, standing_text, state_name, peer_line};
+ghost use Rattle.fs_desk.specs.Desk.{standing_at_desk};
+ghost use Rattle.fs_listing.specs.Listing.{codes_text, numbers_of, standing_text, state_name, peer_line, peers_text};
 
 use crate::pieces::{append, append_decimal};
 use fs_base::{Memory, Peer};
-use fs_speaker::{Closed, State};
+use fs_desk::Desk;
+use fs_speaker::{Closed, Standing, State};
 use std::alloc::Global;
 
-/// How it stands with a peer.
-#[derive(Clone, Copy, Debug, PartialEq, Eq, Drop)]
-pub enum Standing {
-    /// The peer isn't up.
-    Down,
-    /// Its session is open.
-    Live(State),
-    /// Its session was closed.
-    Ended(Closed),
+/// Appends the lines of the configured peers, by their numbers.
+pub fn append_peers(alloc: Global, desk: &Desk<'_>, text: &mut Vec<u8>) -> Result<(), Memory>
+    ensures { OnOk result (text.new.items ≡ text.old.items ++ peers_text (numbers_of desk.now.config.peers) (standing_at_desk desk.now)) }
+{
+    let numbers = numbers_of(alloc, desk.config().peers.as_slice())?;
+    append_each(desk, &numbers, text)
+}
+
+/// Appends the line of each of these peers.
+fn append_each(desk: &Desk<'_>, numbers: &[u16], text: &mut Vec<u8>) -> Result<(), Memory>
+    ensures { OnOk result (text.new.items ≡ text.old.items ++ peers_text numbers.now (standing_at_desk desk.now)) }
+{
+    for number in numbers {
+        append_peer(*number, desk.state(*number), text)?;
+    }
+    Ok(())
 }
 
 /// The numbers of the peers, each once, by size.
@@ -65,7 +74,7 @@ fn append_standing(standing: Standing, text: &mut Vec<u8>) -> Result<(), Memory>
 {
     match standing {
         Standing::Down => append(b"down", text),
-        Standing::Live(state) => append(state_name(state), text),
+        Standing::Up(state) => append(state_name(state), text),
         Standing::Ended(Closed::Fault { code, subcode }) => append_codes(
             b"closed ", code, subcode, text,
         ),

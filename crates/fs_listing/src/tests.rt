@@ -7,7 +7,7 @@ use fs_base::{
 };
 use fs_nlri::decode;
 use fs_rules::Table;
-use fs_speaker::{Closed, State};
+use fs_speaker::{Closed, Standing, State};
 use fs_tape::TapeReason;
 use std::alloc::Global;
 use std::marker::Brand;
@@ -18,15 +18,15 @@ use std::test::Fail;
 fn writes_peers(rt: HostRuntime) -> Result<(), Fail> {
     let rows = [
         (1, Standing::Down, "peer 1 down\n"),
-        (2, Standing::Live(State::WaitOpen), "peer 2 wait-open\n"),
+        (2, Standing::Up(State::WaitOpen), "peer 2 wait-open\n"),
         (
             10,
-            Standing::Live(State::WaitKeep),
+            Standing::Up(State::WaitKeep),
             "peer 10 wait-keepalive\n",
         ),
         (
             255,
-            Standing::Live(State::Established),
+            Standing::Up(State::Established),
             "peer 255 established\n",
         ),
         (

@@ -5,8 +5,8 @@ use crate::messages::{
 };
 use crate::octets::octets;
 use fs_base::{Address, Config, Family, Peer, Peers};
-use fs_cli::{Desk, Standing};
-use fs_speaker::{Closed, State};
+use fs_cli::Desk;
+use fs_speaker::{Closed, Standing, State};
 use std::alloc::Global;
 use std::test::Fail;
 
@@ -54,16 +54,16 @@ fn follows_a_session_that_comes_up(rt: HostRuntime) -> Result<(), Fail> {
     assert_eq!(rt; replies.len(), 0);
 
     bring_up(&mut desk)?;
-    assert_eq!(rt; desk.state(1), Standing::Live(State::WaitOpen));
+    assert_eq!(rt; desk.state(1), Standing::Up(State::WaitOpen));
     desk.octets(1, &open(rt.alloc(), 1)?, &mut replies)?;
-    assert_eq!(rt; desk.state(1), Standing::Live(State::WaitKeep));
+    assert_eq!(rt; desk.state(1), Standing::Up(State::WaitKeep));
     desk.octets(1, &keepalive(rt.alloc())?, &mut replies)?;
-    assert_eq!(rt; desk.state(1), Standing::Live(State::Established));
+    assert_eq!(rt; desk.state(1), Standing::Up(State::Established));
     let expected = octets(rt.alloc(), REPLIES)?;
     assert_eq!(rt; replies.as_slice(), expected.as_slice());
 
     bring_up(&mut desk)?;
-    assert_eq!(rt; desk.state(1), Standing::Live(State::WaitOpen));
+    assert_eq!(rt; desk.state(1), Standing::Up(State::WaitOpen));
     desk.lost(1);
     assert_eq!(rt; desk.state(1), Standing::Down);
     Ok(())
@@ -86,7 +86,7 @@ fn closes_the_session_of_a_wrong_rule(rt: HostRuntime) -> Result<(), Fail> {
     let mut replies = Vec::new(rt.alloc());
     bring_up(&mut desk)?;
     desk.octets(1, &payload(rt.alloc())?, &mut replies)?;
-    assert_eq!(rt; desk.state(1), Standing::Live(State::Established));
+    assert_eq!(rt; desk.state(1), Standing::Up(State::Established));
     assert_eq!(rt; desk.table().count(Family::V4), 1);
     replies.clear();
 

@@ -2,3 +2,4 @@ pub mod Replies
 pub mod Session
 pub mod Steps
 pub mod Laws
+pub mod State

@@ -10,4 +10,4 @@ mod turn;
 
 pub use laws::steps_make_the_session;
 pub use session::Session;
-pub use state::{Closed, State};
+pub use state::{Closed, Standing, State};

@@ -28,6 +28,17 @@ pub enum Closed {
     Memory,
 }
 
+/// How it stands with a peer.
+#[derive(Clone, Copy, Debug, PartialEq, Eq, Drop)]
+pub enum Standing {
+    /// The peer isn't up.
+    Down,
+    /// It is up, and its session is open.
+    Up(State),
+    /// It is up, and its session has closed.
+    Ended(Closed),
+}
+
 impl From<Memory> for Closed {
     ghost use Rattle.std.specs.Prelude.{◌≡◌};
     ghost use Rattle.fs_speaker.specs.declared.state.Closed.TheVariants.{Memory};

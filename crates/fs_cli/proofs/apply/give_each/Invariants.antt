@@ -1,7 +1,0 @@
-use Rattle.std.proofs.Common.{map, take}
-use Rattle.fs_nlri.specs.Rule.{shown}
-use Rattle.fs_cli.specs.Turning.{Turns, same, given_at}
-use Rattle.fs_cli.proofs.apply.give_each.Given as goal
-
-abbrev pub invariant-loop-prefix : goal.invariant-loop-prefix
-invariant-loop-prefix g l = Turns l.peer (given_at (map shown (take l.prefix-index l.prefixes)) l.path) same l.fn.table l.table

@@ -1,7 +1,0 @@
-use Rattle.std.proofs.Common.{map, take}
-use Rattle.fs_nlri.specs.Rule.{shown}
-use Rattle.fs_cli.specs.Turning.{Turns, same, taken_of}
-use Rattle.fs_cli.proofs.apply.withdraw_each.Given as goal
-
-abbrev pub invariant-loop-prefix : goal.invariant-loop-prefix
-invariant-loop-prefix g l = Turns l.peer (taken_of (map shown (take l.prefix-index l.prefixes))) same l.fn.table l.table

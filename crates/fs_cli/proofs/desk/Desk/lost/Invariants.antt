@@ -1,4 +1,0 @@
-use Rattle.fs_cli.proofs.desk.Desk.lost.Given as goal
-
-abbrev pub ghosts-lose : goal.ghosts-lose
-ghosts-lose a = record { name = a.blank.name; parts = a.blank.parts }

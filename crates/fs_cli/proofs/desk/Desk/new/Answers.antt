@@ -1,5 +1,0 @@
-use Rattle.fs_cli.proofs.Playing.{played_new}
-use Rattle.fs_cli.proofs.desk.Desk.new.Goals as goal
-
-pub returns : goal.returns
-returns c = played_new c.args.config.now c.new.result c.new-2.result.entries c.new.ensures c.new-2.ensures.empty

@@ -1,4 +1,0 @@
-use Rattle.fs_cli.proofs.desk.Desk.octets.Given as goal
-
-abbrev pub ghosts-receive : goal.ghosts-receive
-ghosts-receive a = record { name = a.blank.name; parts = a.blank.parts }

@@ -1,6 +1,0 @@
-use Rattle.std.proofs.Common.{rules}
-use Rattle.fs_cli.proofs.PeerLines.{standing_played}
-use Rattle.fs_cli.proofs.desk.Desk.state.Goals as goal
-
-pub returns-in-Some-clause-played : goal.returns-in-Some-clause-played
-returns-in-Some-clause-played c = λ config items played. standing_played config items c.args.self.now c.args.peer c.standing.result (search rules) played

@@ -1,9 +1,0 @@
-use Rattle.std.proofs.Common.{ap, sym, subst}
-use Rattle.fs_rules.specs.Held.{Held}
-use Rattle.fs_cli.specs.Desk.{Desked}
-use Rattle.fs_cli.specs.Held.{Leaves}
-use Rattle.fs_cli.proofs.Leaving.{played_leaves}
-use Rattle.fs_cli.proofs.desk.Desk.table.Goals as goal
-
-pub returns-clause-left : goal.returns-clause-left
-returns-clause-left c = λ config items played. subst (λ (h : Held). Leaves config items h) (sym (ap (λ (d : Desked). d.held) c.self.view_is)) (played_leaves config items c.args.self.now played)

@@ -1,9 +1,0 @@
-use Rattle.std.proofs.Common.{◌≡◌, ◌++◌, drop}
-use Rattle.fs_listing.specs.Listing.{peers_text}
-use Rattle.fs_cli.specs.Listing.{standing_at_desk}
-use Rattle.fs_cli.proofs.listing.append_each.Given as goal
-
-abbrev pub invariant-loop-number : goal.invariant-loop-number
-invariant-loop-number l =
-    l.text.items ++ peers_text (drop l.number-index l.numbers) (standing_at_desk l.desk)
-    ≡ l.fn.text.items ++ peers_text l.numbers (standing_at_desk l.desk)

@@ -1,0 +1,51 @@
+-- How it stands with a peer: the sessions that a desk keeps beside those of the tape's octets.
+use Rattle.std.proofs.Common.{◌≡◌, ℕ, List, [], ◌∷◌, ◌++◌, Option, Some, None, refl, ap, sym, ◌∙◌}
+use Rattle.fs_base.specs.Config.{peer_of}
+use Rattle.fs_base.specs.declared.config.Config.{Config}
+use Rattle.fs_base.specs.declared.config.Peer.{Peer}
+use Rattle.fs_attrs.specs.declared.update.Update.{Update}
+use Rattle.fs_rules.specs.Held.{Held}
+use Rattle.fs_speaker.specs.declared.state.Closed.{Closed}
+use Rattle.fs_speaker.specs.Session.{Last, still, at_start, session_of, session_from}
+use Rattle.fs_speaker.specs.Steps.{Live as Session}
+use Rattle.fs_tape.specs.Tape.{Item}
+use Rattle.fs_desk.specs.Life.{life}
+use Rattle.fs_desk.specs.Desk.{Desked, session_at, PeerIs, Played, standing_of, standing_at_desk}
+use Rattle.fs_desk.specs.Following.{IsFed}
+use Rattle.fs_speaker.specs.declared.state.Standing.{Standing}
+use Rattle.fs_speaker.specs.declared.state.Standing.TheVariants.{Down, Up, Ended}
+use Rattle.fs_speaker.specs.State.{standing_at, standing_by}
+use Rattle.fs_desk.proofs.Following.{follows_session, over_session}
+
+-- what a session came to is what the desk keeps of it
+fed_stands : (config : Config) (peer : Peer) (octets : List ℕ) (session : Session) (updates : List Update) (why : Option Closed)
+    → IsFed config peer octets session why updates
+    → (elim why [ Some closed ↦ Ended closed | None ↦ Up session.standing.state ]) ≡ standing_at (session_from config peer at_start octets).1
+fed_stands config peer octets session updates None follows =
+    sym (ap (λ (r : List Update × Last). standing_at r.1) (follows_session config peer octets session updates follows))
+fed_stands config peer octets session updates (Some why) over =
+    sym (ap (λ (r : List Update × Last). standing_at r.1) (over_session config peer octets why over.0))
+
+-- the session of a peer, if it is configured
+abbrev session_with : Config → Option Peer → List ℕ → List Update × Last
+session_with config peer octets = elim peer [ None ↦ ([], still at_start) | Some whose ↦ session_from config whose at_start octets ]
+
+peer_stands : (config : Config) (number : ℕ) (held : Held) (peer : Option Peer) (octets : Option (List ℕ)) (session : Option Session)
+    → PeerIs config peer octets session number held → peer_of number config.peers ≡ peer
+    → standing_by session ≡ (elim octets [ None ↦ Down | Some sent ↦ standing_at (session_of config number sent).1 ])
+peer_stands config number held peer None None keeps own = refl
+peer_stands config number held (Some peer) (Some octets) (Some session) stands own =
+    fed_stands config peer octets session stands.updates session.closed stands.fed
+    ∙ sym (ap (λ (p : Option Peer). standing_at (session_with config p octets).1) own)
+peer_stands config number held peer None (Some session) is own = absurd is
+peer_stands config number held None (Some octets) None is own = absurd is
+peer_stands config number held (Some peer) (Some octets) None is own = absurd is
+peer_stands config number held None (Some octets) (Some session) is own = absurd is
+
+-- how it stands with a peer is what the items that were played make of it
+pub desk_stands : (config : Config) (items : List Item) (desk : Desked) (number : ℕ) → Played config items desk → standing_at_desk desk number ≡ standing_of config items number
+desk_stands config items desk number played =
+    peer_stands config number desk.held (peer_of number config.peers) (life number items) (session_at number desk.sessions) (played.each number) refl
+
+pub standing_played : (config : Config) (items : List Item) (desk : Desked) (number : ℕ) (at : Standing) → at ≡ standing_at_desk desk number → Played config items desk → at ≡ standing_of config items number
+standing_played config items desk number at e played = e ∙ desk_stands config items desk number played

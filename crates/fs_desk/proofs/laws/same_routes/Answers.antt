@@ -1,0 +1,5 @@
+use Rattle.fs_desk.proofs.OneHeld.{one_held}
+use Rattle.fs_desk.proofs.laws.same_routes.Goals as goal
+
+pub returns : goal.returns
+returns c = one_held

@@ -1,0 +1,63 @@
+-- What the desk keeps, and what the items that were played make of it.
+use Rattle.std.specs.Prelude.{◌≡◌, ℕ, List, [], ◌++◌, Option, Some, None}
+use Rattle.std.specs.Ordering.{nat_cmp}
+use Rattle.std.specs.List.Sorted.{IsStrictlySortedBy}
+use Rattle.std.specs.Map.{lookup, keys_of}
+use Rattle.std.specs.BTreeMap.{is_at}
+use Rattle.fs_base.specs.Config.{peer_of}
+use Rattle.fs_base.specs.declared.config.Config.{Config}
+use Rattle.fs_base.specs.declared.config.Peer.{Peer}
+use Rattle.fs_rules.specs.Held.{Held}
+use Rattle.fs_speaker.specs.declared.state.Standing.{Standing}
+use Rattle.fs_speaker.specs.declared.state.Standing.TheVariants.{Down}
+use Rattle.fs_speaker.specs.Replies.{replies_of}
+use Rattle.fs_speaker.specs.Session.{session_of}
+use Rattle.fs_speaker.specs.State.{standing_at, standing_by}
+use Rattle.fs_speaker.specs.Steps.{Live}
+use Rattle.fs_tape.specs.Tape.{Item}
+use Rattle.fs_desk.specs.Life.{life}
+use Rattle.fs_desk.specs.Held.{IsListed}
+use Rattle.fs_desk.specs.Keeping.{Keeps, Stands}
+
+-- the configuration, the routes held, and the sessions of the peers that are up
+pub record Desked : Type 0 where
+  pub config : Config
+  pub held : Held
+  pub sessions : List (ℕ × Live)
+
+abbrev pub session_at : ℕ → List (ℕ × Live) → Option Live
+session_at number sessions = lookup (is_at (nat_cmp number)) sessions
+
+-- a peer that is down holds nothing; one that is up is configured, and its session has been fed with its life's octets
+abbrev pub PeerIs : Config → Option Peer → Option (List ℕ) → Option Live → ℕ → Held → Type 0
+PeerIs config peer None None number held = Keeps number [] held
+PeerIs config (Some peer) (Some octets) (Some session) number held = Stands config peer number octets session held
+PeerIs config _ _ _ number held = ⊥
+
+-- the desk stands as these items leave it
+pub record Played (config : Config) (items : List Item) (desk : Desked) : Type 0 where
+  pub config_is : desk.config ≡ config
+  pub held_is : desk.held.config ≡ config
+  pub listed : IsListed desk.held
+  pub sessions : IsStrictlySortedBy nat_cmp (keys_of desk.sessions)
+  pub each : (number : ℕ) → PeerIs config (peer_of number config.peers) (life number items) (session_at number desk.sessions) number desk.held
+
+-- what was replied before still stands
+abbrev pub Grew : List ℕ → List ℕ → Type 0
+Grew before now = (more : List ℕ) × (now ≡ before ++ more)
+
+-- What a piece of a peer's octets adds to the replies. Octets of a peer that is down are not answered. Those of one that
+-- is up add what is replied to all octets of its life beyond what is replied to those before.
+abbrev pub Replied : Config → ℕ → Option (List ℕ) → List ℕ → List ℕ → List ℕ → Type 0
+Replied config number None piece before now = now ≡ before
+Replied config number (Some octets) piece before now =
+    (more : List ℕ) × (now ≡ before ++ more) × (replies_of config number (octets ++ piece) ≡ replies_of config number octets ++ more)
+
+-- how it stands with a peer behind these items: it is down without a life, and else the session of its life's octets tells
+abbrev pub standing_of : Config → List Item → ℕ → Standing
+standing_of config items number =
+    elim (life number items) [ None ↦ Down | Some octets ↦ standing_at (session_of config number octets).1 ]
+
+-- how it stands with a peer, by the session that the desk keeps of it
+abbrev pub standing_at_desk : Desked → ℕ → Standing
+standing_at_desk desk number = standing_by (session_at number desk.sessions)

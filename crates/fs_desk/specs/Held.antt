@@ -1,0 +1,55 @@
+-- The routes that a tape leaves held.
+use Rattle.std.specs.Prelude.{◌≡◌, ℕ, List, Option, find, map, option_map}
+use Rattle.std.specs.Ordering.{nat_cmp, ordering_then}
+use Rattle.std.specs.declared.cmp.Ordering.{Ordering}
+use Rattle.std.specs.List.Sorted.{IsStrictlySortedBy}
+use Rattle.std.specs.Map.{lookup, keys_of}
+use Rattle.std.specs.BTreeMap.{is_at}
+use Rattle.fs_base.specs.declared.config.Config.{Config}
+use Rattle.fs_base.specs.declared.path.Path.{Path}
+use Rattle.fs_nlri.specs.Parts.{Ruled}
+use Rattle.fs_order.specs.Order.{rule_cmp}
+use Rattle.fs_unicast.specs.Places.{place_cmp, Route}
+use Rattle.fs_unicast.specs.declared.unicast.Place.{Place}
+use Rattle.fs_validate.specs.declared.route.FlowRoute.{FlowRoute}
+use Rattle.fs_rules.specs.Held.{Held, is_key}
+use Rattle.fs_tape.specs.Tape.{Item}
+use Rattle.fs_desk.specs.Updates.{Given, unicast_left, flow_left, updates_of}
+
+-- a flow route is of a rule and a peer; by these it is listed
+abbrev pub FlowKey : Type 0
+FlowKey = Ruled × ℕ
+
+abbrev pub flow_key : FlowRoute → FlowKey
+flow_key r = (r.rule, r.peer)
+
+abbrev pub flow_key_cmp : FlowKey → FlowKey → Ordering
+flow_key_cmp a b = ordering_then (rule_cmp a.0 b.0) (nat_cmp a.1 b.1)
+
+-- one route a key, by rising keys
+pub record IsListed (held : Held) : Type 0 where
+  pub unicast : IsStrictlySortedBy place_cmp (keys_of held.unicast)
+  pub flows : IsStrictlySortedBy flow_key_cmp (map flow_key held.flows)
+
+-- what a peer holds at a prefix
+abbrev pub unicast_at : Place → List Route → Option Path
+unicast_at place unicast = lookup (is_at (place_cmp place)) unicast
+
+abbrev pub given_of : FlowRoute → Given
+given_of r = (r.rule, r.path, r.actions)
+
+-- what a peer holds of a rule
+abbrev pub flow_at : Ruled → ℕ → List FlowRoute → Option Given
+flow_at rule peer flows = option_map given_of (find (is_key rule peer) flows)
+
+-- Exactly these routes are held, each listed once: of each peer what the updates of its present life leave it holding.
+pub record Leaves (config : Config) (items : List Item) (held : Held) : Type 0 where
+  pub config_is : held.config ≡ config
+  pub listed : IsListed held
+  pub unicast : (place : Place) → unicast_at place held.unicast ≡ unicast_left place.prefix (updates_of config items place.peer)
+  pub flows : (rule : Ruled) (peer : ℕ) → flow_at rule peer held.flows ≡ flow_left rule (updates_of config items peer)
+
+-- at each key of each peer both tapes leave the same
+pub record LeaveSame (config : Config) (items other : List Item) : Type 0 where
+  pub unicast : (place : Place) → unicast_left place.prefix (updates_of config items place.peer) ≡ unicast_left place.prefix (updates_of config other place.peer)
+  pub flows : (rule : Ruled) (peer : ℕ) → flow_left rule (updates_of config items peer) ≡ flow_left rule (updates_of config other peer)

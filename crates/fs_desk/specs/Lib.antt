@@ -1,0 +1,11 @@
+pub mod Desk
+pub mod Feeding
+pub mod Following
+pub mod Held
+pub mod Keeping
+pub mod Last
+pub mod Life
+pub mod Memories
+pub mod Received
+pub mod Turning
+pub mod Updates

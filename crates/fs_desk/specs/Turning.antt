@@ -1,0 +1,59 @@
+-- How a change of the table touches what one peer holds, and nothing else.
+use Rattle.std.specs.Prelude.{◌≡◌, ◌==◌, ℕ, List, Option, Some, None, if◌then◌else◌}
+use Rattle.std.specs.List.{list_any}
+use Rattle.fs_base.specs.declared.path.Path.{Path}
+use Rattle.fs_base.specs.declared.prefix.Prefix.{Prefix}
+use Rattle.fs_nlri.specs.Parts.{Ruled}
+use Rattle.fs_unicast.specs.declared.unicast.Place.{Place}
+use Rattle.fs_attrs.specs.Prefixes.{Shown}
+use Rattle.fs_attrs.specs.declared.update.Update.{Update}
+use Rattle.fs_attrs.specs.Update.{takes_prefixes, takes_rules}
+use Rattle.fs_rules.specs.Held.{Held}
+use Rattle.fs_desk.specs.Last.{last_such}
+use Rattle.fs_desk.specs.Updates.{is_prefix, gives_at, is_rule, Given, rule_given, given_with}
+use Rattle.fs_desk.specs.Held.{IsListed, unicast_at, flow_at}
+
+-- what is held at each prefix and of each rule behind a change, from what was held before it
+pub record Turns (peer : ℕ) (at_prefix : Prefix → Option Path → Option Path) (of_rule : Ruled → Option Given → Option Given) (old new : Held) : Type 0 where
+  pub config_is : new.config ≡ old.config
+  pub listed : IsListed old → IsListed new
+  pub unicast : IsListed old → (place : Place)
+      → unicast_at place new.unicast ≡ (if place.peer == peer then at_prefix place.prefix (unicast_at place old.unicast) else unicast_at place old.unicast)
+  pub flows : IsListed old → (rule : Ruled) (other : ℕ)
+      → flow_at rule other new.flows ≡ (if other == peer then of_rule rule (flow_at rule other old.flows) else flow_at rule other old.flows)
+
+abbrev pub same : {K A : Type 0} → K → A → A
+same key before = before
+
+-- nothing is held any more
+abbrev pub nothing : {K A : Type 0} → K → Option A → Option A
+nothing key before = None
+
+abbrev pub taken_of : List Shown → Prefix → Option Path → Option Path
+taken_of prefixes prefix before = if list_any (is_prefix prefix) prefixes then None else before
+
+abbrev pub given_at : List Shown → Path → Prefix → Option Path → Option Path
+given_at prefixes path prefix before = if list_any (is_prefix prefix) prefixes then Some path else before
+
+abbrev pub rules_taken : List Ruled → Ruled → Option Given → Option Given
+rules_taken rules rule before = if list_any (is_rule rule) rules then None else before
+
+abbrev pub given_or : Option Given → Option Ruled → Path → List (List ℕ) → Option Given
+given_or before None path actions = before
+given_or before (Some rule) path actions = Some (rule, path, actions)
+
+abbrev pub rules_given : List Ruled → Path → List (List ℕ) → Ruled → Option Given → Option Given
+rules_given rules path actions rule before = given_or before (last_such (is_rule rule) rules) path actions
+
+-- what an update says of a prefix and of a rule
+abbrev pub told : Update → Prefix → Option Path → Option Path
+told update prefix before =
+    if gives_at prefix update then update.path
+    else if list_any (is_prefix prefix) (takes_prefixes update) then None
+    else before
+
+abbrev pub told_of : Update → Ruled → Option Given → Option Given
+told_of update rule before = elim (rule_given rule update) [
+  | Some given ↦ given_with update given
+  | None ↦ if list_any (is_rule rule) (takes_rules update) then None else before
+]

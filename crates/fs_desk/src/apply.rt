@@ -1,0 +1,170 @@
+//! What an update of a peer does to the table.
+
+ghost use Rattle.std.specs.Prelude.{◌++◌, map, OnOk};
+ghost use Rattle.fs_nlri.specs.Rule.{shown};
+ghost use Rattle.fs_attrs.specs.Update.{unicast_in, flows_in};
+ghost use Rattle.fs_desk.specs.Turning.{Turns, same, taken_of, given_at, rules_taken, rules_given, told, told_of};
+
+use fs_actions::Actions;
+use fs_attrs::{PrefixList, Routes, RuleList, Update};
+use fs_base::{Memory, Path, Prefix, Steps};
+use fs_order::Ranked;
+use fs_rules::Table;
+use std::sync::ledger::Ledger;
+
+/// Takes away what the update takes, and then keeps what it gives. What it gives is taken away too where it is to be
+/// treated as a withdrawal (RFC 7606 section 2).
+pub fn apply<L: Ledger>(
+    table: &mut Table<'_>,
+    peer: u16,
+    update: Update,
+    steps: &mut Steps<L>,
+) -> Result<(), Memory>
+    ensures { OnOk result (Turns peer (told update) (told_of update) table.old table.new) }
+{
+    let Update {
+        classic_out,
+        unreach,
+        reach,
+        classic_in,
+        path,
+        actions,
+        as_withdraw,
+    } = update;
+    withdraw(table, peer, &classic_out, unreach, steps);
+    if as_withdraw {
+        withdraw(table, peer, &classic_in, reach, steps);
+        return Ok(());
+    }
+    let Some(path) = path else {
+        withdraw(table, peer, &classic_in, reach, steps);
+        return Ok(());
+    };
+    give_prefixes(table, peer, &classic_in, &path, steps)?;
+    give_routes(table, peer, reach, &path, &actions, steps)
+}
+
+fn withdraw<L: Ledger>(
+    table: &mut Table<'_>,
+    peer: u16,
+    prefixes: &PrefixList,
+    routes: Option<Routes>,
+    steps: &mut Steps<L>,
+)
+    ensures { Turns peer (taken_of (prefixes.now ++ unicast_in routes)) (rules_taken (flows_in routes)) table.old table.new }
+{
+    withdraw_prefixes(table, peer, prefixes, steps);
+    withdraw_routes(table, peer, routes, steps);
+}
+
+fn withdraw_routes<L: Ledger>(
+    table: &mut Table<'_>,
+    peer: u16,
+    routes: Option<Routes>,
+    steps: &mut Steps<L>,
+)
+    ensures { Turns peer (taken_of (unicast_in routes)) (rules_taken (flows_in routes)) table.old table.new }
+{
+    match routes {
+        Some(Routes::Unicast(_, prefixes)) => withdraw_prefixes(table, peer, &prefixes, steps),
+        Some(Routes::Flow(_, rules)) => withdraw_rules(table, peer, rules, steps),
+        None => {}
+    }
+}
+
+fn give_routes<L: Ledger>(
+    table: &mut Table<'_>,
+    peer: u16,
+    routes: Option<Routes>,
+    path: &Path,
+    actions: &Actions,
+    steps: &mut Steps<L>,
+) -> Result<(), Memory>
+    ensures { OnOk result (Turns peer (given_at (unicast_in routes) path.now) (rules_given (flows_in routes) path.now actions.now) table.old table.new) }
+{
+    match routes {
+        Some(Routes::Unicast(_, prefixes)) => give_prefixes(table, peer, &prefixes, path, steps),
+        Some(Routes::Flow(_, rules)) => give_rules(table, peer, rules, path, actions, steps),
+        None => Ok(()),
+    }
+}
+
+fn withdraw_prefixes<L: Ledger>(
+    table: &mut Table<'_>,
+    peer: u16,
+    prefixes: &PrefixList,
+    steps: &mut Steps<L>,
+)
+    ensures { Turns peer (taken_of prefixes.now) same table.old table.new }
+{
+    withdraw_each(table, peer, prefixes.as_slice(), steps);
+}
+
+fn withdraw_each<L: Ledger>(
+    table: &mut Table<'_>,
+    peer: u16,
+    prefixes: &[Prefix],
+    steps: &mut Steps<L>,
+)
+    ensures { Turns peer (taken_of (map shown prefixes.now)) same table.old table.new }
+{
+    for prefix in prefixes {
+        table.withdraw_unicast(peer, prefix, steps);
+    }
+}
+
+fn give_prefixes<L: Ledger>(
+    table: &mut Table<'_>,
+    peer: u16,
+    prefixes: &PrefixList,
+    path: &Path,
+    steps: &mut Steps<L>,
+) -> Result<(), Memory>
+    ensures { OnOk result (Turns peer (given_at prefixes.now path.now) same table.old table.new) }
+{
+    give_each(table, peer, prefixes.as_slice(), path, steps)
+}
+
+fn give_each<L: Ledger>(
+    table: &mut Table<'_>,
+    peer: u16,
+    prefixes: &[Prefix],
+    path: &Path,
+    steps: &mut Steps<L>,
+) -> Result<(), Memory>
+    ensures { OnOk result (Turns peer (given_at (map shown prefixes.now) path.now) same table.old table.new) }
+{
+    for prefix in prefixes {
+        table.put_unicast(peer, *prefix, path.copy()?, steps)?;
+    }
+    Ok(())
+}
+
+fn withdraw_rules<L: Ledger>(
+    table: &mut Table<'_>,
+    peer: u16,
+    rules: RuleList,
+    steps: &mut Steps<L>,
+)
+    ensures { Turns peer same (rules_taken rules) table.old table.new }
+{
+    for rule in rules.into_vec() {
+        table.withdraw_flow(peer, &Ranked { rule }, steps);
+    }
+}
+
+fn give_rules<L: Ledger>(
+    table: &mut Table<'_>,
+    peer: u16,
+    rules: RuleList,
+    path: &Path,
+    actions: &Actions,
+    steps: &mut Steps<L>,
+) -> Result<(), Memory>
+    ensures { OnOk result (Turns peer same (rules_given rules path.now actions.now) table.old table.new) }
+{
+    for rule in rules.into_vec() {
+        table.put_flow(peer, rule, path.copy()?, actions.copy()?, steps)?;
+    }
+    Ok(())
+}

@@ -1,0 +1,9 @@
+//! The sessions with the configured peers, and the table of the routes that they hold.
+#![tactic(auto)]
+
+mod apply;
+mod desk;
+mod laws;
+
+pub use desk::Desk;
+pub use laws::same_routes;
