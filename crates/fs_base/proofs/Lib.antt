@@ -9,8 +9,9 @@ pub mod Writing
 pub mod Filled
 pub mod Covers
 pub mod Nesting
-pub mod Alike
-pub mod Precede
+pub mod Addresses
+pub mod CommonBits
+pub mod PrefixPrecedence
 pub mod MemoryFiles
 pub mod Records
 pub mod Listing

@@ -113,11 +113,11 @@ pub shortened_covers : (p q : Prefix) (n : ℕ) → IsPrefixOf p.family p.bits n
 shortened_covers p q n h k = covers_from_bits q p h.same_family (subst (λ m. m ≤ p.length) (sym h.same_length) k) (ap (λ m. cleared (width_of q.family) m p.bits) h.same_length ∙ ap (λ f. cleared (width_of f) n p.bits) h.same_family ∙ sym h.first_bits)
 
 -- the prefix of as many bits as two have in common is under each that covers both
-pub longest_common : (p other both q : Prefix) (alike n : ℕ)
-    → ((m : ℕ) → m ≤ width_of p.family → cleared (width_of p.family) m p.bits ≡ cleared (width_of p.family) m other.bits → m ≤ alike)
-    → n ≡ min (min alike p.length) other.length → IsPrefixOf p.family p.bits n both
+pub longest_common : (p other both q : Prefix) (bits n : ℕ)
+    → ((m : ℕ) → m ≤ width_of p.family → cleared (width_of p.family) m p.bits ≡ cleared (width_of p.family) m other.bits → m ≤ bits)
+    → n ≡ min (min bits p.length) other.length → IsPrefixOf p.family p.bits n both
     → covers q p ≡ true → covers q other ≡ true → covers q both ≡ true
-longest_common p other both q alike n most e h k l = covers_nested q both p k (shortened_covers p both n h (omega (arith, e))) shorter where
+longest_common p other both q common n most e h k l = covers_nested q both p k (shortened_covers p both n h (omega (arith, e))) shorter where
   fact : Covers q p
   fact = covers_fact q p k
 
@@ -127,7 +127,7 @@ longest_common p other both q alike n most e h k l = covers_nested q both p k (s
   bits : cleared (width_of q.family) q.length p.bits ≡ cleared (width_of q.family) q.length other.bits
   bits = covers_bits q p k ∙ sym (covers_bits q other l)
 
-  within : q.length ≤ alike
+  within : q.length ≤ common
   within = most q.length (omega (arith, q.short, width)) (subst (λ w. cleared w q.length p.bits ≡ cleared w q.length other.bits) width bits)
 
   shorter : q.length ≤ both.length

@@ -62,7 +62,8 @@ impl Counted {
         ensures kept_slot { self.new.slot ≡ self.old.slot }
         ensures kept_limit { self.new.limit ≡ self.old.limit }
 
-        ensures left { IsTrue F.tells → ReadTakes (F.left files.old self.old.slot) (F.left files.new self.old.slot) result into.new }
+        ensures left { IsTrue F.tells
+            → ReadTakes (F.left files.old self.old.slot) (F.left files.new self.old.slot) result into.new }
         ensures others { OnlySlot F.tells F.left F.holds self.old.slot files.old files.new }
     {
         let room = self.limit - self.taken;

@@ -28,7 +28,9 @@ pub use outside::memory_sinks::{CalmSink, MemSink};
 pub use outside::real::{RealFiles, RealOut};
 pub use outside::sink::{Sink, write_all};
 pub use outside::wire::{Opening, Wire};
-pub use path::{Numbers, Path, Segment, Segments};
+pub use path::{
+    AS_CONFED_SEQUENCE, AS_CONFED_SET, AS_SEQUENCE, AS_SET, Numbers, Path, Segment, Segments,
+};
 pub use prefix::{Family, Prefix};
 pub use steps::Steps;
 pub use whole::{ReadStop, Whole, read_whole};

@@ -49,8 +49,19 @@ impl Numbers {
     }
 }
 
-/// One segment of an AS_PATH (RFC 4271 section 4.3, RFC 5065 section 3). Its form is 1 for an AS_SET, 2
-/// for an AS_SEQUENCE, 3 for an AS_CONFED_SEQUENCE, 4 for an AS_CONFED_SET.
+/// The form of an AS_SET (RFC 4271 section 4.3).
+pub const AS_SET: u8 = 1;
+
+/// The form of an AS_SEQUENCE (RFC 4271 section 4.3).
+pub const AS_SEQUENCE: u8 = 2;
+
+/// The form of an AS_CONFED_SEQUENCE (RFC 5065 section 3).
+pub const AS_CONFED_SEQUENCE: u8 = 3;
+
+/// The form of an AS_CONFED_SET (RFC 5065 section 3).
+pub const AS_CONFED_SET: u8 = 4;
+
+/// One segment of an AS_PATH. Its form is that of one of the four kinds, `AS_SET` to `AS_CONFED_SET`.
 #[derive(Drop)]
 pub struct Segment {
     pub form: u8,

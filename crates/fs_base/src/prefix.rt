@@ -108,13 +108,16 @@ impl Prefix {
     pub fn common(&self, other: &Prefix) -> Option<Prefix>
         ensures none { result ≡ None ↔ self.now.family ≢ other.now.family }
         ensures over { IfSome result (λ both. (covers both self.now ≡ true) × (covers both other.now ≡ true)) }
-        ensures longest { IfSome result (λ both. (q : Prefix) → covers q self.now ≡ true → covers q other.now ≡ true → covers q both ≡ true) }
+        ensures longest { IfSome result (λ both. (q : Prefix)
+            → covers q self.now ≡ true
+            → covers q other.now ≡ true
+            → covers q both ≡ true) }
     {
         if self.family != other.family {
             return None;
         }
-        let alike = alike_bits(self.family, self.bits, other.bits);
-        Some(self.shortened(alike.min(self.length).min(other.length)))
+        let bits = common_bits(self.family, self.bits, other.bits);
+        Some(self.shortened(bits.min(self.length).min(other.length)))
     }
 
     /// The prefix of the first `length` bits of this one.
@@ -138,8 +141,8 @@ impl Prefix {
         }
     }
 
-    /// The highest address of the prefix.
-    fn last(&self) -> u128
+    /// The highest address of the prefix, in the low 32 or 128 bits.
+    pub fn last(&self) -> u128
         ensures { result ≡ last_address self.now }
     {
         self.bits + ones(self.family.width() - self.length)
@@ -197,11 +200,13 @@ fn first_bits(family: Family, bits: u128, length: u8) -> u128
 }
 
 /// How many of the first bits of two addresses are the same.
-fn alike_bits(family: Family, a: u128, b: u128) -> u8
+fn common_bits(family: Family, a: u128, b: u128) -> u8
     requires a { a < 2 ^ width_of family }
     requires b { b < 2 ^ width_of family }
     ensures width { result ≤ width_of family }
-    ensures same { (n : ℕ) → n ≤ width_of family → cleared (width_of family) n a ≡ cleared (width_of family) n b ↔ n ≤ result }
+    ensures same { (n : ℕ)
+        → n ≤ width_of family
+        → cleared (width_of family) n a ≡ cleared (width_of family) n b ↔ n ≤ result }
 {
     ((a ^ b).leading_zeros() as u8) - (128 - family.width())
 }

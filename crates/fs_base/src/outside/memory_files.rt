@@ -73,7 +73,11 @@ impl Shelf {
     }
 
     fn add(&mut self, name: &str, content: Vec<u8>) -> Result<(), Memory>
-        ensures ok { OnOk result (AddsFile (content_named self.old.files.items) (content_named self.new.files.items) name.now content.items) }
+        ensures ok { OnOk result (AddsFile
+            (content_named self.old.files.items)
+            (content_named self.new.files.items)
+            name.now
+            content.items) }
         ensures err { OnErr result (self.new.files.items ≡ self.old.files.items) }
         ensures slots { self.new.slots ≡ self.old.slots }
     {
@@ -164,8 +168,10 @@ impl MemFiles {
     ///
     /// `Memory`: the files are as before.
     pub fn add(&mut self, name: &str, content: Vec<u8>) -> Result<(), Memory>
-        ensures ok { OnOk result (AddsFile (mem_files_holds self.old) (mem_files_holds self.new) name.now content.items) }
-        ensures err { OnErr result ((other : List ℕ) → mem_files_holds self.new other ≡ mem_files_holds self.old other) }
+        ensures ok { OnOk result
+            (AddsFile (mem_files_holds self.old) (mem_files_holds self.new) name.now content.items) }
+        ensures err { OnErr result
+            ((other : List ℕ) → mem_files_holds self.new other ≡ mem_files_holds self.old other) }
         ensures failing { mem_files_failing self.new ≡ mem_files_failing self.old }
         ensures calls { mem_files_calls self.new ≡ mem_files_calls self.old }
         ensures faults { mem_files_faults self.new ≡ mem_files_faults self.old }
@@ -265,8 +271,10 @@ impl CalmFiles {
     ///
     /// `Memory`: the files are as before.
     pub fn add(&mut self, name: &str, content: Vec<u8>) -> Result<(), Memory>
-        ensures ok { OnOk result (AddsFile (calm_files_holds self.old) (calm_files_holds self.new) name.now content.items) }
-        ensures err { OnErr result ((other : List ℕ) → calm_files_holds self.new other ≡ calm_files_holds self.old other) }
+        ensures ok { OnOk result
+            (AddsFile (calm_files_holds self.old) (calm_files_holds self.new) name.now content.items) }
+        ensures err { OnErr result
+            ((other : List ℕ) → calm_files_holds self.new other ≡ calm_files_holds self.old other) }
     {
         self.shelf.add(name, content)
     }

@@ -135,7 +135,8 @@ impl Sink for CalmSink {
         ensures written { WriteGrew (calm_sink_written self.old) (calm_sink_written self.new) result piece.now }
         ensures whole { IfOk result (λ n. n ≡ length piece.now) }
         ensures room { calm_sink_room self.new ≡ calm_sink_room self.old }
-        ensures tells { calm_sink_written self.new ≡ calm_sink_after (calm_sink_room self.old) (calm_sink_written self.old) piece.now }
+        ensures tells { calm_sink_written self.new
+            ≡ calm_sink_after (calm_sink_room self.old) (calm_sink_written self.old) piece.now }
     {
         if !self.tells || self.room - self.text.len() < piece.len() {
             self.tells = false;

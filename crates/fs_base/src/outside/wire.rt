@@ -3,7 +3,7 @@
 ghost use Rattle.std.specs.Prelude.{◌<◌, ◌≤◌, ℕ, Option, IfOk, length};
 ghost use Rattle.std.specs.Io.{ReadsAtMost};
 ghost use Rattle.fs_base.specs.Outside.{HasCause};
-ghost use Rattle.fs_base.specs.Wire.{Ends, Told, Opens, Reads, Writes, Closes};
+ghost use Rattle.fs_base.specs.Wire.{WireEnds, Told, EndOpens, EndReads, EndWrites, EndCloses};
 
 use crate::Failed;
 
@@ -22,7 +22,7 @@ pub enum Opening<'a> {
 /// two joined ends adds to what the other has left to read.
 pub trait Wire {
     /// What the wire tells of its ends, where it does.
-    ghost tells: { Self → Option Ends };
+    ghost tells: { Self → Option WireEnds };
 
     /// The faults so far, at most 2^64 - 1.
     ghost faults: { Self → ℕ };
@@ -34,7 +34,7 @@ pub trait Wire {
     /// `Failed` where the outside failed, which is counted; an address that can't be read is such a fault.
     fn open_end(&mut self, how: Opening<'_>) -> Result<(), Failed>
         ensures cause { HasCause (faults self.old) (faults self.new) result }
-        ensures opened { Told (Opens how.entry result) (tells self.old) (tells self.new) };
+        ensures opened { Told (EndOpens how.entry result) (tells self.old) (tells self.new) };
 
     /// Reads octets of `end` into the front of `into` and answers how many: 0 only at the end of the stream or
     /// where `into` has no room.
@@ -46,7 +46,7 @@ pub trait Wire {
         requires { end ≤ 1 }
         ensures bound { ReadsAtMost result into.new }
         ensures cause { HasCause (faults self.old) (faults self.new) result }
-        ensures reads { Told (Reads end result into.new) (tells self.old) (tells self.new) };
+        ensures reads { Told (EndReads end result into.new) (tells self.old) (tells self.new) };
 
     /// Takes octets from the front of `piece` into `end` and answers how many: at least one, where `piece` isn't
     /// empty.
@@ -59,7 +59,7 @@ pub trait Wire {
         ensures cause { HasCause (faults self.old) (faults self.new) result }
         ensures bound { IfOk result (λ n. n ≤ length piece.now) }
         ensures taken { 0 < length piece.now → IfOk result (λ n. 0 < n) }
-        ensures writes { Told (Writes end result piece.now) (tells self.old) (tells self.new) };
+        ensures writes { Told (EndWrites end result piece.now) (tells self.old) (tells self.new) };
 
     /// Closes `end` for writing. What was written through it and what it has left to be read stay.
     ///
@@ -69,5 +69,5 @@ pub trait Wire {
     fn close(&mut self, end: u8) -> Result<(), Failed>
         requires { end ≤ 1 }
         ensures cause { HasCause (faults self.old) (faults self.new) result }
-        ensures closes { Told Closes (tells self.old) (tells self.new) };
+        ensures closes { Told EndCloses (tells self.old) (tells self.new) };
 }

@@ -1,4 +1,4 @@
-use Rattle.fs_base.proofs.Precede.{precedence_law}
+use Rattle.fs_base.proofs.PrefixPrecedence.{precedence_law}
 use Rattle.fs_base.proofs.laws.precedence.Goals as goal
 
 pub returns : goal.returns
