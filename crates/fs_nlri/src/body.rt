@@ -4,9 +4,9 @@ ghost use Rattle.std.specs.Prelude.{◌≡◌, ◌+◌, ◌-◌, ◌*◌, ◌/�
 ghost use Rattle.byteorder.specs.Endian.{big_number};
 ghost use Rattle.fs_nlri.specs.Forms.{V4Form, V6Form, prefix_form, number_form, tcp_flags_form, dscp_form, fragment_form, fragment_bits};
 ghost use Rattle.fs_nlri.specs.Parts.{ListBody};
-ghost use Rattle.fs_nlri.specs.Components.{body_of};
+ghost use Rattle.fs_nlri.specs.Component.{body_of};
 ghost use Rattle.fs_nlri.specs.Spelling.{SpellsBody, octets_for};
-ghost use Rattle.fs_nlri.specs.Reading.{IsBodyFault};
+ghost use Rattle.fs_nlri.specs.Body.{IsBodyFault};
 
 use crate::component::PrefixForm;
 use crate::fault::{NlriFault, Reason};
@@ -167,7 +167,7 @@ pub(crate) fn read_fragment(
     octets: &[u8],
 ) -> Result<(MaskList, usize), NlriFault>
     ensures taken { IfOk result (λ read. read.1 ≤ length octets.now) }
-    ensures found { IfOk result (λ read. SpellsBody (fragment_form family) (take read.1 octets.now) (ListBody read.0)) }
+    ensures found { IfOk result (λ r. SpellsBody (fragment_form family) (take r.1 octets.now) (ListBody r.0)) }
     ensures fault { IfErr result (IsBodyFault (fragment_form family) octets.now) }
 {
     let (mut list, taken) = MaskList::decode(alloc, octets, &[0])?;

@@ -13,8 +13,9 @@ use std::alloc::Global;
 impl Rule {
     ghost use Rattle.std.specs.Prelude.{◌≡◌, IfOk};
     ghost use Rattle.std.specs.Option.{option_map};
-    ghost use Rattle.fs_nlri.specs.Components.{parts_of};
-    ghost use Rattle.fs_nlri.specs.Rule.{IsRule, rule_of, Makes, shown, destination_of};
+    ghost use Rattle.fs_nlri.specs.Component.{parts_of};
+    ghost use Rattle.fs_nlri.specs.Rule.{IsRule, shown, destination_of};
+    ghost use Rattle.fs_nlri.specs.Making.{rule_of, Makes};
 
     /// The rule of these components. The bits that normal form clears are cleared. The faults are tested in the
     /// order of `RuleFault`.
@@ -50,8 +51,8 @@ impl Rule {
         ensures rule { IsRule self.now }
     {
         match self.components.as_slice().first() {
-            Some(Component::Destination(form)) => form.prefix(),
-            _ => None,
+            Some(component) => component.destination(),
+            None => None,
         }
     }
 }
