@@ -1,5 +1,5 @@
 -- That components which are the family's, by rising types, are in normal form once the bits that it clears are cleared.
-use Rattle.std.proofs.Common.{◌≡◌, ℕ, ◌-◌, ◌≤◌, ◌==◌, Bool, true, ◌&&◌, ◌||◌, List, [], ◌∷◌, Option, Some, None, map, bit_and, refl, ap, sym, subst, ◌∙◌, arith, inl, inr, length, nat_le, nat_lt}
+use Rattle.std.proofs.Common.{◌≡◌, ℕ, ◌-◌, ◌≤◌, ◌==◌, Bool, true, false, if◌then◌else◌, ◌&&◌, ◌||◌, List, [], ◌∷◌, Option, Some, None, map, bit_and, refl, ap, sym, subst, ◌∙◌, arith, inl, inr, length, nat_le, nat_lt}
 use Rattle.std.specs.List.{AllByRecursion, list_any}
 use Rattle.std.specs.Int.Bits.{and_self}
 use Rattle.std.proofs.lemmas.Nat.{and_assoc}
@@ -9,11 +9,12 @@ use Rattle.fs_base.specs.declared.prefix.Family.TheVariants.{V4, V6}
 use Rattle.fs_base.proofs.Blocks.{cleared_again}
 use Rattle.fs_ops.specs.Operator.{width_code}
 use Rattle.fs_ops.proofs.Normal.{with_bits, kept_is_normal}
+use Rattle.fs_nlri.specs.declared.fault.RuleFault.TheVariants.{NotOfFamily, Order}
 use Rattle.fs_nlri.specs.Forms.{Form, V4Form, V6Form, ListForm, form_of, all_allowed}
 use Rattle.fs_nlri.specs.Parts.{Body, V4Body, V6Body, ListBody, Part, ruled}
 use Rattle.fs_nlri.specs.Spelling.{IsRange}
 use Rattle.fs_nlri.specs.Rule.{IsNormalBody, IsNormalAt, AreNormal, IsRule, canonical_value}
-use Rattle.fs_nlri.specs.Making.{is_range, body_given, given_at, part_given, all_given, rises, cleared_body, cleared_at, cleared_parts, IsTypedBody, IsTypedAt, IsTyped}
+use Rattle.fs_nlri.specs.Making.{is_range, body_given, given_at, part_given, all_given, rises, cleared_body, cleared_at, cleared_parts, IsTypedBody, IsTypedAt, IsTyped, fault_in}
 
 range_of : (len offset : ℕ) → is_range len offset ≡ true → IsRange len offset
 range_of len offset is =
@@ -73,3 +74,12 @@ made_rule family parts made is given rising sound fits = record {
   normal = subst (AreNormal family 0) (sym is) (are_normal family 0 parts given rising sound);
   fits = leb-true (length (canonical_value made)) 4095 fits;
 }
+
+-- where no cause is seen, the components are the family's, by rising types
+pub no_fault : (family : Family) (parts : List Part) → fault_in family parts ≡ None → (all_given family parts ≡ true) × (rises 0 parts ≡ true)
+no_fault family parts is = by (all_given family parts) (rises 0 parts) is
+  where
+    by : (given rising : Bool) → (if given then (if rising then None else Some Order) else Some NotOfFamily) ≡ None → (given ≡ true) × (rising ≡ true)
+    by true true e = (refl, refl)
+    by true false e = cc
+    by false rising e = cc

@@ -36,6 +36,10 @@ abbrev pub rises : ℕ → List Part → Bool
 rises last [] = true
 rises last (part ∷ parts) = nat_lt last part.kind && rises part.kind parts
 
+-- the first cause why there is no rule, but for the size
+abbrev pub fault_in : Family → List Part → Option RuleFault
+fault_in family parts = if all_given family parts then (if rises 0 parts then None else Some Order) else Some NotOfFamily
+
 -- the bits that normal form clears
 abbrev pub cleared_body : Form → Body → Body
 cleared_body V6Form (V6Body len offset pattern) = V6Body len offset (cleared 128 (len - offset) pattern)

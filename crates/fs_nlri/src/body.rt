@@ -65,10 +65,8 @@ fn read_v4(octets: &[u8]) -> Result<(PrefixForm, usize), NlriFault>
             place: octets.len(),
         });
     }
-    match Prefix::new(Family::V4, left_aligned(&tail[..count], 32), *length) {
-        Some(prefix) => Ok((PrefixForm::V4(prefix), 1 + count)),
-        None => unreachable!(),
-    }
+    let prefix = Prefix::of_bits(Family::V4, left_aligned(&tail[..count], 32), *length);
+    Ok((PrefixForm::V4(prefix), 1 + count))
 }
 
 fn read_v6(octets: &[u8]) -> Result<(PrefixForm, usize), NlriFault>
@@ -108,17 +106,13 @@ fn read_v6(octets: &[u8]) -> Result<(PrefixForm, usize), NlriFault>
             place: octets.len(),
         });
     }
-    match Prefix::new(Family::V6, left_aligned(&tail[..count], 128), bits) {
-        Some(pattern) => Ok((
-            PrefixForm::V6 {
-                length: *length,
-                offset: *offset,
-                pattern: pattern.bits,
-            },
-            2 + count,
-        )),
-        None => unreachable!(),
-    }
+    let pattern = Prefix::of_bits(Family::V6, left_aligned(&tail[..count], 128), bits);
+    let form = PrefixForm::V6 {
+        length: *length,
+        offset: *offset,
+        pattern: pattern.bits,
+    };
+    Ok((form, 2 + count))
 }
 
 /// Reads a list of numbers of 1, 2, 4 or 8 octets.

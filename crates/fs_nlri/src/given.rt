@@ -1,6 +1,6 @@
 //! Whether components are the family's, by rising types (RFC 8955 section 4.2, RFC 8956 section 3).
 
-ghost use Rattle.std.specs.Prelude.{◌≡◌, ◌↔◌, IsTrue};
+ghost use Rattle.std.specs.Prelude.{◌≡◌, ◌↔◌, IsTrue, IfNone};
 ghost use Rattle.std.specs.Bool.{OnTrue};
 ghost use Rattle.std.specs.List.{AllByRecursion};
 ghost use Rattle.fs_ops.specs.declared.kind.Kind.TheVariants.{Numeric, Bitmask};
@@ -8,9 +8,10 @@ ghost use Rattle.fs_ops.specs.OperatorList.{IsNormal};
 ghost use Rattle.fs_nlri.specs.Forms.{all_allowed, prefix_form};
 ghost use Rattle.fs_nlri.specs.Component.{body_of, part_of, parts_of};
 ghost use Rattle.fs_nlri.specs.Spelling.{IsRange};
-ghost use Rattle.fs_nlri.specs.Making.{is_range, body_given, part_given, all_given, rises, IsTypedBody, IsTyped};
+ghost use Rattle.fs_nlri.specs.Making.{is_range, body_given, part_given, all_given, rises, IsTypedBody, IsTyped, fault_in};
 
 use crate::component::{Component, PrefixForm};
+use crate::fault::RuleFault;
 use fs_base::Family;
 use fs_ops::{MaskList, NumList};
 
@@ -84,7 +85,7 @@ fn is_given(family: Family, component: &Component) -> bool
 }
 
 /// Whether all components are the family's.
-pub(crate) fn are_given(family: Family, components: &[Component]) -> bool
+fn are_given(family: Family, components: &[Component]) -> bool
     ensures value { result ≡ all_given family (parts_of components.now) }
     ensures sound { OnTrue result (AllByRecursion (IsTyped family) (parts_of components.now)) }
 {
@@ -97,7 +98,7 @@ pub(crate) fn are_given(family: Family, components: &[Component]) -> bool
 }
 
 /// Whether the types rise strictly.
-pub(crate) fn rise(components: &[Component]) -> bool
+fn rise(components: &[Component]) -> bool
     ensures { result ≡ rises 0 (parts_of components.now) }
 {
     let mut last = 0;
@@ -109,4 +110,18 @@ pub(crate) fn rise(components: &[Component]) -> bool
         last = kind;
     }
     true
+}
+
+/// The first cause why the components make no rule of the family, but for their size.
+pub(crate) fn fault_in(family: Family, components: &[Component]) -> Option<RuleFault>
+    ensures fault { result ≡ fault_in family (parts_of components.now) }
+    ensures typed { IfNone result (AllByRecursion (IsTyped family) (parts_of components.now)) }
+{
+    if !are_given(family, components) {
+        return Some(RuleFault::NotOfFamily);
+    }
+    if !rise(components) {
+        return Some(RuleFault::Order);
+    }
+    None
 }

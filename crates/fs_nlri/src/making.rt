@@ -4,7 +4,7 @@ use crate::clearing::clear_all;
 use crate::component::Component;
 use crate::copying::copy_all;
 use crate::fault::RuleFault;
-use crate::given::{are_given, rise};
+use crate::given::fault_in;
 use crate::rule::Rule;
 use crate::size::fits;
 use fs_base::{Family, Memory, Prefix};
@@ -22,11 +22,8 @@ impl Rule {
     pub fn new(alloc: Global, family: Family, components: Vec<Component>) -> Result<Rule, RuleFault>
         ensures { Makes result (rule_of family (parts_of components.items)) }
     {
-        if !are_given(family, &components) {
-            return Err(RuleFault::NotOfFamily);
-        }
-        if !rise(&components) {
-            return Err(RuleFault::Order);
+        if let Some(fault) = fault_in(family, &components) {
+            return Err(fault);
         }
         let components = clear_all(alloc, family, components)?;
         if !fits(&components) {

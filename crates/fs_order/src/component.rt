@@ -79,8 +79,5 @@ fn pattern_prefix(length: u8, offset: u8, pattern: u128) -> Prefix
     requires { IsRange length offset }
     ensures { IsPrefixOf V6 pattern (length - offset) result }
 {
-    match Prefix::new(Family::V6, pattern, length - offset) {
-        Some(prefix) => prefix,
-        None => unreachable!(),
-    }
+    Prefix::of_bits(Family::V6, pattern, length - offset)
 }
