@@ -7,7 +7,7 @@ use Rattle.fs_nlri.specs.declared.fault.NlriFault.TheVariants.{Bad, Memory}
 use Rattle.fs_nlri.specs.Parts.{Ruled}
 use Rattle.fs_nlri.specs.Spelling.{IsFrame}
 use Rattle.fs_nlri.specs.Fault.{IsFrameFault}
-use Rattle.fs_nlri.specs.Feeding.{Frames, Appends}
+use Rattle.fs_nlri.specs.Feed.{Frames, Appends}
 use Rattle.fs_nlri.proofs.Every.{frame_some}
 use Rattle.fs_attrs.specs.Rules.{IsFieldFault}
 

@@ -3,7 +3,7 @@ use Rattle.std.proofs.Common.{◌≡◌, ℕ, List, Option, Some, Result, Ok, Er
 use Rattle.fs_base.specs.declared.prefix.Family.{Family}
 use Rattle.fs_nlri.specs.declared.fault.Reason.{Reason}
 use Rattle.fs_nlri.specs.Parts.{Ruled}
-use Rattle.fs_nlri.specs.Feeding.{Frames}
+use Rattle.fs_nlri.specs.Feed.{Frames}
 use Rattle.fs_nlri.specs.Outcome.{AreBadFrames}
 use Rattle.fs_nlri.proofs.Every.{every_field}
 use Rattle.fs_nlri.proofs.OneOutcome.{one_field_outcome}

@@ -18,7 +18,7 @@ use Rattle.fs_base.specs.Language.{IsOctets}
 use Rattle.fs_base.proofs.Octets.{octets_left, octets_right, octets_tail}
 use Rattle.fs_nlri.specs.Parts.{Ruled}
 use Rattle.fs_nlri.specs.Rule.{IsRule, canonical_frame}
-use Rattle.fs_nlri.specs.Feeding.{Frames}
+use Rattle.fs_nlri.specs.Feed.{Frames}
 use Rattle.fs_nlri.proofs.Again.{canonical_is_frame}
 use Rattle.fs_attrs.specs.declared.update.Terms.{Terms}
 use Rattle.fs_attrs.specs.declared.update.Routes.{Routes}

@@ -1,7 +1,7 @@
 //! The routes of MP_REACH_NLRI and MP_UNREACH_NLRI (RFC 4760, sections 3 and 4).
 
 ghost use Rattle.std.specs.Prelude.{◌≡◌, IfOk, IfErr};
-ghost use Rattle.fs_nlri.specs.Feeding.{Frames};
+ghost use Rattle.fs_nlri.specs.Feed.{Frames};
 ghost use Rattle.fs_attrs.specs.Attributes.{attributes_of, value_of};
 ghost use Rattle.fs_attrs.specs.Update.{unicast_routes, flow_routes, routes_of, is_read, reach_of, unreach_of, if_there, optional_of, has_routes};
 ghost use Rattle.fs_attrs.specs.Reading.{ReadsAs, field_fault};

@@ -4,7 +4,7 @@ use Rattle.std.proofs.lemmas.List.{append-nil, take-append-drop, take_rest}
 use Rattle.fs_base.specs.declared.prefix.Family.{Family}
 use Rattle.fs_nlri.specs.Parts.{Ruled}
 use Rattle.fs_nlri.specs.Spelling.{IsFrame, IsLength}
-use Rattle.fs_nlri.specs.Feeding.{Frames}
+use Rattle.fs_nlri.specs.Feed.{Frames}
 use Rattle.fs_nlri.proofs.Fed.{frames_more}
 use Rattle.fs_check.specs.Report.{frame_line, frame_lines}
 

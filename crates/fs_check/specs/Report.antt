@@ -7,7 +7,7 @@ use Rattle.fs_nlri.specs.declared.fault.Reason.TheVariants.{Cut, NoType, Order, 
 use Rattle.fs_nlri.specs.Parts.{Ruled}
 use Rattle.fs_nlri.specs.Rule.{canonical_frame}
 use Rattle.fs_nlri.specs.Fault.{IsFrameBad}
-use Rattle.fs_nlri.specs.Feeding.{Frames}
+use Rattle.fs_nlri.specs.Feed.{Frames}
 
 abbrev pub reason_name : Reason → List ℕ
 reason_name Cut = codes "Cut"

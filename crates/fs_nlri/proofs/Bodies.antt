@@ -10,7 +10,7 @@ use Rattle.fs_ops.proofs.Grammar.{same_list}
 use Rattle.fs_nlri.specs.Forms.{Form, V4Form, V6Form, ListForm, kept_bits}
 use Rattle.fs_nlri.specs.Parts.{Body, V4Body, V6Body, ListBody}
 use Rattle.fs_nlri.specs.Spelling.{SpellsV4, SpellsV6, SpellsList, SpellsBody, IsRange, octets_for, first_bits}
-use Rattle.fs_nlri.specs.Reading.{IsBody}
+use Rattle.fs_nlri.specs.Body.{IsBody}
 
 -- two bodies at the front of one list are one
 pub record SameBody (a b : List ℕ) (p q : Body) (s t : List ℕ) : Type 0 where

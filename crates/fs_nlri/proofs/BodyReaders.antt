@@ -16,7 +16,8 @@ use Rattle.fs_ops.specs.declared.error.OpsFault.TheVariants.{Cut, Width, Memory}
 use Rattle.fs_nlri.specs.Forms.{V4Form, V6Form, ListForm, kept_bits}
 use Rattle.fs_nlri.specs.Parts.{V6Body, ListBody}
 use Rattle.fs_nlri.specs.Spelling.{SpellsV6, SpellsList, IsRange, octets_for}
-use Rattle.fs_nlri.specs.Reading.{IsBody, IsBodyFault, list_fault}
+use Rattle.fs_nlri.specs.Body.{IsBody, IsBodyFault}
+use Rattle.fs_nlri.specs.Fault.{list_fault}
 use Rattle.fs_nlri.proofs.Bodies.{v4_empty, v4_length, v4_cut, v6_empty, v6_length, v6_one, v6_offset, v6_cut}
 
 pub v4_none : (octets : List ℕ) → length octets < 1 → NoFront (IsBody V4Form) octets × IsCut (IsBody V4Form) octets 0

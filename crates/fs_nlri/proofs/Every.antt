@@ -14,7 +14,7 @@ use Rattle.fs_nlri.specs.Forms.{Form, V4Form, V6Form, ListForm, form_of, forms, 
 use Rattle.fs_nlri.specs.Parts.{Body, V4Body, V6Body, ListBody, Part, part, Ruled, ruled}
 use Rattle.fs_nlri.specs.Spelling.{SpellsV4, SpellsV6, SpellsBody, SpellsAt, Spells, IsRange, IsLength, IsFrame, octets_for, first_bits}
 use Rattle.fs_nlri.specs.Fault.{IsValueBad, IsOpen}
-use Rattle.fs_nlri.specs.Reading.{IsBodyBad}
+use Rattle.fs_nlri.specs.Body.{IsBodyBad}
 use Rattle.fs_nlri.specs.Outcome.{IsFrameOutcome, IsFieldOutcome}
 use Rattle.fs_nlri.proofs.Bodies.{v4_empty, v4_length, v4_cut, v6_empty, v6_length, v6_one, v6_offset, v6_cut}
 use Rattle.fs_nlri.proofs.BodyReaders.{list_bad}
@@ -32,7 +32,7 @@ pub record BodyOutcome (form : Form) (octets : List ℕ) : Type 0 where
   pub result : Result (Body × ℕ) (Reason × ℕ)
   pub holds : IsBodyOutcome form octets result
 
-v4_whole : (len : ℕ) (tail : List ℕ) → len ≤ 32 → octets_for len ≤ length tail → SpellsV4 (take (1 + octets_for len) (len ∷ tail)) (V4Body V4 len (first_bits 32 len (take (octets_for len) tail)))
+pub v4_whole : (len : ℕ) (tail : List ℕ) → len ≤ 32 → octets_for len ≤ length tail → SpellsV4 (take (1 + octets_for len) (len ∷ tail)) (V4Body V4 len (first_bits 32 len (take (octets_for len) tail)))
 v4_whole len tail short room = record {
   len = len;
   address = take (octets_for len) tail;
@@ -55,7 +55,7 @@ every_v4 (len ∷ tail) = elim (cases_lt 32 len) [
   ]
 ]
 
-range_or_not : (len offset : ℕ) → len ≤ 128 → IsRange len offset ⊎ (IsRange len offset → ⊥)
+pub range_or_not : (len offset : ℕ) → len ≤ 128 → IsRange len offset ⊎ (IsRange len offset → ⊥)
 range_or_not len offset short = elim (cases_lt offset len) [
   | inl less ↦ inl (short, inl less)
   | inr more ↦ elim (cases_eq len 0) [
@@ -67,7 +67,7 @@ range_or_not len offset short = elim (cases_lt offset len) [
   ]
 ]
 
-v6_whole : (len offset : ℕ) (tail : List ℕ) → IsRange len offset → octets_for (len - offset) ≤ length tail → SpellsV6 (take (2 + octets_for (len - offset)) (len ∷ offset ∷ tail)) (V6Body len offset (first_bits 128 (len - offset) (take (octets_for (len - offset)) tail)))
+pub v6_whole : (len offset : ℕ) (tail : List ℕ) → IsRange len offset → octets_for (len - offset) ≤ length tail → SpellsV6 (take (2 + octets_for (len - offset)) (len ∷ offset ∷ tail)) (V6Body len offset (first_bits 128 (len - offset) (take (octets_for (len - offset)) tail)))
 v6_whole len offset tail range room = record {
   len = len;
   offset = offset;
@@ -114,17 +114,17 @@ every_list kind widths bits octets some =
     ] found.holds
 
 -- each list form allows some width
-abbrev AllowsSome : Form → Type 0
+abbrev pub AllowsSome : Form → Type 0
 AllowsSome V4Form = Unit {0}
 AllowsSome V6Form = Unit {0}
 AllowsSome (ListForm kind widths bits) = Any (λ code. code < 4) widths
 
-abbrev AllAllow : List (Option Form) → Type 0
+abbrev pub AllAllow : List (Option Form) → Type 0
 AllAllow [] = Unit {0}
 AllAllow (None ∷ forms) = AllAllow forms
 AllAllow (Some form ∷ forms) = AllowsSome form × AllAllow forms
 
-allows_at : (forms : List (Option Form)) (kind : ℕ) (form : Form) → AllAllow forms → get_or forms kind None ≡ Some form → AllowsSome form
+pub allows_at : (forms : List (Option Form)) (kind : ℕ) (form : Form) → AllAllow forms → get_or forms kind None ≡ Some form → AllowsSome form
 allows_at [] kind form all is = cc
 allows_at (None ∷ forms) zero form all is = cc
 allows_at (None ∷ forms) (suc kind) form all is = allows_at forms kind form all is
@@ -134,7 +134,7 @@ allows_at (Some own ∷ forms) (suc kind) form all is = allows_at forms kind for
 zero_allowed : (widths : List ℕ) → Any (λ code. code < 4) (0 ∷ widths)
 zero_allowed widths = (0, 0, omega arith, refl, omega arith)
 
-all_allow : (family : Family) → AllAllow (forms family)
+pub all_allow : (family : Family) → AllAllow (forms family)
 all_allow V4 = (tt, (tt, (zero_allowed (1 ∷ 2 ∷ 3 ∷ []), (zero_allowed (1 ∷ 2 ∷ 3 ∷ []), (zero_allowed (1 ∷ 2 ∷ 3 ∷ []), (zero_allowed (1 ∷ 2 ∷ 3 ∷ []), (zero_allowed (1 ∷ 2 ∷ 3 ∷ []), (zero_allowed (1 ∷ 2 ∷ 3 ∷ []), (zero_allowed (1 ∷ []), (zero_allowed (1 ∷ 2 ∷ 3 ∷ []), (zero_allowed [], (zero_allowed [], tt))))))))))))
 all_allow V6 = (tt, (tt, (zero_allowed (1 ∷ 2 ∷ 3 ∷ []), (zero_allowed (1 ∷ 2 ∷ 3 ∷ []), (zero_allowed (1 ∷ 2 ∷ 3 ∷ []), (zero_allowed (1 ∷ 2 ∷ 3 ∷ []), (zero_allowed (1 ∷ 2 ∷ 3 ∷ []), (zero_allowed (1 ∷ 2 ∷ 3 ∷ []), (zero_allowed (1 ∷ []), (zero_allowed (1 ∷ 2 ∷ 3 ∷ []), (zero_allowed [], (zero_allowed [], (zero_allowed (1 ∷ 2 ∷ 3 ∷ []), tt)))))))))))))
 
@@ -146,7 +146,7 @@ every_body (ListForm kind widths bits) octets some = every_list kind widths bits
 -- Values
 
 -- one more component
-more_part : (family : Family) (octets : List ℕ) (kind : ℕ) (tail : List ℕ) (last : ℕ) (parts : List Part) (form : Form) (taken : ℕ) (body : Body) → HasRead family octets (kind ∷ tail) last parts → last < kind → form_of family kind ≡ Some form → SpellsBody form (take taken tail) body → HasRead family octets (drop taken tail) kind (parts ++ part kind body ∷ [])
+pub more_part : (family : Family) (octets : List ℕ) (kind : ℕ) (tail : List ℕ) (last : ℕ) (parts : List Part) (form : Form) (taken : ℕ) (body : Body) → HasRead family octets (kind ∷ tail) last parts → last < kind → form_of family kind ≡ Some form → SpellsBody form (take taken tail) body → HasRead family octets (drop taken tail) kind (parts ++ part kind body ∷ [])
 more_part family octets kind tail last parts form taken body read rises is spells = record {
   front = read.front ++ kind ∷ take taken tail;
   had = front_more family 0 last read.front (take taken tail) parts (part kind body) read.had rises (subst (λ (at : Option Form). SpellsAt at (take taken tail) body) (sym is) spells);
@@ -164,15 +164,15 @@ pub record ValueOutcome (family : Family) (octets : List ℕ) : Type 0 where
   pub result : Result (List Part) (Reason × ℕ)
   pub holds : IsValueOutcome family octets result
 
-known : (o : Option Form) → (o ≡ None) ⊎ ((form : Form) × (o ≡ Some form))
+pub known : (o : Option Form) → (o ≡ None) ⊎ ((form : Form) × (o ≡ Some form))
 known None = inl refl
 known (Some form) = inr (form, refl)
 
-none_is_not_some : (o : Option Form) → o ≡ None → IsSome o → ⊥
+pub none_is_not_some : (o : Option Form) → o ≡ None → IsSome o → ⊥
 none_is_not_some None is some = both_ways false refl some
 none_is_not_some (Some form) is some = cc
 
-some_is : (o : Option Form) (form : Form) → o ≡ Some form → IsSome o
+pub some_is : (o : Option Form) (form : Form) → o ≡ Some form → IsSome o
 some_is None form is = cc
 some_is (Some own) form is = refl
 
@@ -216,11 +216,11 @@ record LengthOutcome (octets : List ℕ) : Type 0 where
   result : Option (ℕ × ℕ)
   holds : IsLengthOutcome octets result
 
-open_empty : IsOpen []
+pub open_empty : IsOpen []
 open_empty [] value rest is split = is
 open_empty (a ∷ head) value rest is split = cc
 
-open_one : (a : ℕ) → 240 ≤ a → IsOpen (a ∷ [])
+pub open_one : (a : ℕ) → 240 ≤ a → IsOpen (a ∷ [])
 open_one a large [] value rest is split = is
 open_one a large (b ∷ []) value rest is split =
     let heads : a ≡ b = cc in

@@ -5,7 +5,7 @@ use Rattle.fs_base.specs.declared.prefix.Family.{Family}
 use Rattle.fs_nlri.specs.declared.fault.NlriFault.TheVariants.{Memory}
 use Rattle.fs_nlri.specs.Parts.{Ruled}
 use Rattle.fs_nlri.specs.Spelling.{IsFrame}
-use Rattle.fs_nlri.specs.Feeding.{Frames, Appends, Stops}
+use Rattle.fs_nlri.specs.Feed.{Frames, Appends, Stops}
 
 pub none_taken : (family : Family) (octets : List ℕ) (old : List Ruled) → Appends family octets octets old old
 none_taken family octets old = record { front = []; rules = []; frames = refl; parts = refl; added = sym (append-nil old) }

@@ -11,3 +11,5 @@ pub mod Every
 pub mod Fed
 pub mod OneOutcome
 pub mod Again
+pub mod Sound
+pub mod Destination

@@ -15,8 +15,8 @@ use Rattle.fs_nlri.specs.Forms.{Form, V4Form, V6Form, ListForm, form_of}
 use Rattle.fs_nlri.specs.Parts.{Part, Ruled}
 use Rattle.fs_nlri.specs.Spelling.{Spells, IsValue, IsFrame}
 use Rattle.fs_nlri.specs.Fault.{IsTypePlace, IsBodyPlace, IsRole, HasRole, IsValueBad, IsOpen, IsBadFrame, IsFrameBad}
-use Rattle.fs_nlri.specs.Reading.{IsBody}
-use Rattle.fs_nlri.specs.Feeding.{Frames}
+use Rattle.fs_nlri.specs.Body.{IsBody}
+use Rattle.fs_nlri.specs.Feed.{Frames}
 use Rattle.fs_nlri.specs.Outcome.{IsFrameOutcome, IsFieldOutcome}
 use Rattle.fs_nlri.proofs.Fronts.{whole_front, front_behind}
 use Rattle.fs_nlri.proofs.ValueFaults.{opening}

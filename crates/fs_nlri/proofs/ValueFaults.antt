@@ -8,7 +8,7 @@ use Rattle.fs_base.proofs.Octets.{octets_nil, octets_left, overlap}
 use Rattle.fs_nlri.specs.Forms.{Form, form_of}
 use Rattle.fs_nlri.specs.Parts.{Part, part}
 use Rattle.fs_nlri.specs.Spelling.{SpellsAt, Spells, IsValue}
-use Rattle.fs_nlri.specs.Reading.{IsBody}
+use Rattle.fs_nlri.specs.Body.{IsBody}
 
 -- no octets at all are a value
 empty_begins : (family : Family) (last : ℕ) → Begins (IsValue family last) []

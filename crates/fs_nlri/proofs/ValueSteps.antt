@@ -11,10 +11,10 @@ use Rattle.fs_nlri.specs.declared.fault.NlriFault.{NlriFault}
 use Rattle.fs_nlri.specs.declared.fault.NlriFault.TheVariants.{Bad, Memory}
 use Rattle.fs_nlri.specs.Forms.{Form, form_of}
 use Rattle.fs_nlri.specs.Parts.{Part}
-use Rattle.fs_nlri.specs.Components.{part_of, parts_of}
+use Rattle.fs_nlri.specs.Component.{part_of, parts_of}
 use Rattle.fs_nlri.specs.Spelling.{SpellsAt, Spells, IsValue}
-use Rattle.fs_nlri.specs.Fault.{IsTypePlace, IsBodyPlace, IsRole, IsValueBad, IsValueFault}
-use Rattle.fs_nlri.specs.Reading.{IsBody, IsFaultAt, moved}
+use Rattle.fs_nlri.specs.Fault.{IsTypePlace, IsBodyPlace, IsRole, IsValueBad, IsValueFault, moved}
+use Rattle.fs_nlri.specs.Body.{IsBody, IsFaultAt}
 use Rattle.fs_nlri.proofs.Fronts.{SpellsFront, front_whole, front_more, front_behind, front_leads}
 use Rattle.fs_nlri.proofs.ValueFaults.{kind_fault, body_fault, body_cut, no_value}
 

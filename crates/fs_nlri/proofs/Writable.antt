@@ -9,9 +9,9 @@ use Rattle.fs_base.proofs.Blocks.{block_of, block_below}
 use Rattle.fs_nlri.specs.declared.component.Component.{Component}
 use Rattle.fs_nlri.specs.Forms.{Form, V4Form, V6Form, ListForm, form_of}
 use Rattle.fs_nlri.specs.Parts.{Body, V4Body, V6Body, ListBody}
-use Rattle.fs_nlri.specs.Components.{part_of, parts_of}
+use Rattle.fs_nlri.specs.Component.{part_of, parts_of}
 use Rattle.fs_nlri.specs.Rule.{IsNormalBody, IsNormalAt, AreNormal}
-use Rattle.fs_nlri.specs.Making.{IsWritable}
+use Rattle.fs_nlri.specs.Writing.{IsWritable}
 
 writable_body : (form : Form) (body : Body) → IsNormalBody form body → IsWritable body
 writable_body form (ListBody pairs) normal = tt

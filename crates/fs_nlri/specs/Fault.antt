@@ -2,6 +2,8 @@
 use Rattle.std.specs.Prelude.{◌≡◌, ℕ, ◌+◌, List, ◌∷◌, ◌++◌, length, Some, Result, Ok, Err, IsSome, IsNone}
 use Rattle.fs_base.specs.declared.prefix.Family.{Family}
 use Rattle.fs_base.specs.Language.{IsCut, IsFirstFault}
+use Rattle.fs_ops.specs.declared.error.OpsFault.{OpsFault}
+use Rattle.fs_ops.specs.declared.error.OpsFault.TheVariants.{Cut as ListCut, Width as ListWidth, Memory as ListMemory}
 use Rattle.fs_ops.specs.Fault.{IsOperatorPlace}
 use Rattle.fs_nlri.specs.declared.fault.Reason.{Reason}
 use Rattle.fs_nlri.specs.declared.fault.Reason.TheVariants.{Cut, NoType, Order, PrefixLength, Offset, Width, Length}
@@ -9,7 +11,7 @@ use Rattle.fs_nlri.specs.declared.fault.NlriFault.{NlriFault}
 use Rattle.fs_nlri.specs.declared.fault.NlriFault.TheVariants.{Bad, Memory}
 use Rattle.fs_nlri.specs.Forms.{Form, V4Form, V6Form, ListForm, form_of}
 use Rattle.fs_nlri.specs.Parts.{Part, Ruled}
-use Rattle.fs_nlri.specs.Spelling.{Spells, IsValue, IsLength}
+use Rattle.fs_nlri.specs.Spelling.{Spells, IsValue, IsLength, IsFrame}
 
 -- at the place stands the type of a component: whole components before it
 pub record IsTypePlace (family : Family) (octets : List ℕ) (place kind : ℕ) : Type 0 where
@@ -84,3 +86,23 @@ abbrev pub ReadsAs : List ℕ → Ruled → Result (Ruled × ℕ) NlriFault → 
 ReadsAs frame rule (Ok read) = (read.0 ≡ rule) × (read.1 ≡ length frame)
 ReadsAs frame rule (Err Memory) = Unit {0}
 ReadsAs frame rule (Err (Bad reason place)) = ⊥
+
+-- whatever follows a frame of a rule of the family, the frame is read so
+abbrev pub ReadsItsFrame : Family → List ℕ → Result (Ruled × ℕ) NlriFault → Type 0
+ReadsItsFrame family octets result =
+    (frame rest : List ℕ) (rule : Ruled) → octets ≡ frame ++ rest → rule.family ≡ family → IsFrame frame rule → ReadsAs frame rule result
+
+-- a fault of a list as one of the component
+abbrev pub list_fault : OpsFault → NlriFault
+list_fault (ListCut place) = Bad Cut place
+list_fault (ListWidth place) = Bad Width place
+list_fault ListMemory = Memory
+
+-- the same fault where count octets stand before
+abbrev pub moved : ℕ → NlriFault → NlriFault
+moved count (Bad reason place) = Bad reason (count + place)
+moved count Memory = Memory
+
+abbrev pub place_of : NlriFault → ℕ
+place_of (Bad reason place) = place
+place_of Memory = 0

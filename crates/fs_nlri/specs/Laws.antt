@@ -1,6 +1,9 @@
 -- Laws of frames. They speak of the rules of one family, since a frame doesn't say its own.
-use Rattle.std.specs.Prelude.{◌≡◌, ◌↔◌, ℕ, List, [], ◌++◌}
+use Rattle.std.specs.Prelude.{◌≡◌, ◌↔◌, ℕ, List, [], ◌++◌, Result}
+use Rattle.fs_base.specs.declared.prefix.Family.{Family}
 use Rattle.fs_base.specs.Language.{IsOctets}
+use Rattle.fs_nlri.specs.declared.fault.Reason.{Reason}
+use Rattle.fs_nlri.specs.Outcome.{IsFrameOutcome, IsFieldOutcome}
 use Rattle.fs_nlri.specs.Parts.{Ruled}
 use Rattle.fs_nlri.specs.Spelling.{IsFrame}
 use Rattle.fs_nlri.specs.Rule.{IsRule, canonical_frame}
@@ -21,3 +24,21 @@ CanonicalIsOwn = (rule other : Ruled) → IsRule rule → rule.family ≡ other.
 abbrev pub CanonicalTells : Type 0
 CanonicalTells =
     (one other : Ruled) (frame also : List ℕ) → one.family ≡ other.family → IsOctets frame → IsOctets also → IsFrame frame one → IsFrame also other → (one ≡ other) ↔ (canonical_frame one ≡ canonical_frame other)
+
+-- whatever the octets are, they begin with a frame of a rule or have a first fault
+abbrev pub EachBeginsSomehow : Type 0
+EachBeginsSomehow = (family : Family) (octets : List ℕ) → (outcome : Result (Ruled × ℕ) (Reason × ℕ)) × IsFrameOutcome family octets outcome
+
+-- whatever they are, they are frames of rules or have a first faulty frame
+abbrev pub EachIsAField : Type 0
+EachIsAField = (family : Family) (octets : List ℕ) → (outcome : Result (List Ruled) (Reason × ℕ)) × IsFieldOutcome family octets outcome
+
+-- no octets begin in two ways
+abbrev pub BeginsOneWay : Type 0
+BeginsOneWay =
+    (family : Family) (octets : List ℕ) (one other : Result (Ruled × ℕ) (Reason × ℕ)) → IsOctets octets → IsFrameOutcome family octets one → IsFrameOutcome family octets other → one ≡ other
+
+-- no octets are two fields
+abbrev pub IsOneField : Type 0
+IsOneField =
+    (family : Family) (octets : List ℕ) (one other : Result (List Ruled) (Reason × ℕ)) → IsOctets octets → IsFieldOutcome family octets one → IsFieldOutcome family octets other → one ≡ other

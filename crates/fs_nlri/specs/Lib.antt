@@ -1,11 +1,13 @@
 pub mod Forms
 pub mod Parts
-pub mod Components
+pub mod Component
 pub mod Spelling
 pub mod Fault
-pub mod Reading
+pub mod Body
 pub mod Rule
-pub mod Feeding
-pub mod Outcome
+pub mod Sound
 pub mod Making
+pub mod Writing
+pub mod Feed
+pub mod Outcome
 pub mod Laws

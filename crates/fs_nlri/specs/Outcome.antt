@@ -5,7 +5,7 @@ use Rattle.fs_nlri.specs.declared.fault.Reason.{Reason}
 use Rattle.fs_nlri.specs.Parts.{Ruled}
 use Rattle.fs_nlri.specs.Spelling.{IsFrame}
 use Rattle.fs_nlri.specs.Fault.{IsFrameBad}
-use Rattle.fs_nlri.specs.Feeding.{Frames}
+use Rattle.fs_nlri.specs.Feed.{Frames}
 
 -- the rule of the frame at the front with the count of its octets, or a reason and a place
 abbrev pub IsFrameOutcome : Family → List ℕ → Result (Ruled × ℕ) (Reason × ℕ) → Type 0

@@ -1,16 +1,15 @@
--- What a rule is, its canonical octets, and what a list of components makes (RFC 8955 section 4, RFC 8956 section 3).
-use Rattle.std.specs.Prelude.{◌≡◌, ℕ, ◌+◌, ◌-◌, ◌*◌, ◌/◌, ◌%◌, ◌^◌, ◌<◌, ◌≤◌, List, [], ◌∷◌, ◌++◌, length, map, Option, Some, None, Result, Ok, Err, Bool, true, false, nat_le, nat_lt, ◌==◌, ◌&&◌, ◌||◌, if◌then◌else◌}
-use Rattle.std.specs.List.{flat_map, list_all}
+-- What a rule is, its canonical octets, and its destination (RFC 8955 section 4, RFC 8956 section 3).
+use Rattle.std.specs.Prelude.{◌≡◌, ℕ, ◌+◌, ◌-◌, ◌*◌, ◌/◌, ◌%◌, ◌^◌, ◌<◌, ◌≤◌, List, [], ◌∷◌, ◌++◌, length, Option, option_map, Some, None, true, nat_lt, ◌==◌, if◌then◌else◌}
+use Rattle.std.specs.List.{flat_map}
 use Rattle.byteorder.specs.Endian.{big_bytes}
 use Rattle.fs_base.specs.declared.prefix.Family.{Family}
 use Rattle.fs_base.specs.declared.prefix.Family.TheVariants.{V4, V6}
 use Rattle.fs_base.specs.declared.prefix.Prefix.{Prefix}
 use Rattle.fs_base.specs.Bits.{cleared}
+use Rattle.fs_base.specs.Made.{prefix_of}
 use Rattle.fs_ops.specs.OperatorList.{IsNormal, canonical as canonical_pairs}
-use Rattle.fs_nlri.specs.declared.fault.RuleFault.{RuleFault}
-use Rattle.fs_nlri.specs.declared.fault.RuleFault.TheVariants.{NotOfFamily, Order, TooLong, Memory}
 use Rattle.fs_nlri.specs.Forms.{Form, V4Form, V6Form, ListForm, form_of, kept_bits, all_allowed}
-use Rattle.fs_nlri.specs.Parts.{Body, V4Body, V6Body, ListBody, Part, Ruled, part, ruled}
+use Rattle.fs_nlri.specs.Parts.{Body, V4Body, V6Body, ListBody, Part, Ruled}
 use Rattle.fs_nlri.specs.Spelling.{IsRange, octets_for}
 
 -- Normal form: what stands behind a type is of the type's form, and each bit that is ignored is 0.
@@ -24,11 +23,6 @@ IsNormalBody _ _ = ⊥
 abbrev pub IsNormalAt : Option Form → Body → Type 0
 IsNormalAt None body = ⊥
 IsNormalAt (Some form) body = IsNormalBody form body
-
--- a prefix component in normal form, if it is one of IPv6
-abbrev pub IsNormalPrefix : Body → Type 0
-IsNormalPrefix (V6Body len offset pattern) = IsNormalBody V6Form (V6Body len offset pattern)
-IsNormalPrefix _ = Unit {0}
 
 -- components in normal form, by strictly rising types
 abbrev pub AreNormal : Family → ℕ → List Part → Type 0
@@ -59,70 +53,17 @@ canonical rule = canonical_value rule.parts
 abbrev pub canonical_length : ℕ → List ℕ
 canonical_length len = if nat_lt len 240 then len ∷ [] else (240 + len / 256) ∷ (len % 256) ∷ []
 
+-- a length and the value of the components
+abbrev pub framed : List Part → List ℕ
+framed parts = canonical_length (length (canonical_value parts)) ++ canonical_value parts
+
 abbrev pub canonical_frame : Ruled → List ℕ
-canonical_frame rule = canonical_length (length (canonical rule)) ++ canonical rule
+canonical_frame rule = framed rule.parts
 
 -- a family and components of that family in normal form, whose canonical value has a length that a frame can say
 pub record IsRule (rule : Ruled) : Type 0 where
   pub normal : AreNormal rule.family 0 rule.parts
   pub fits : length (canonical rule) ≤ 4095
-
--- Making a rule of any components.
-
--- the length and the offset that a V6Body may have
-abbrev pub is_range : (len offset : ℕ) → Bool
-is_range len offset = nat_le len 128 && (nat_lt offset len || ((len == 0) && (offset == 0)))
-
--- what stands behind the type is of a form that the family gives the type
-abbrev pub body_given : Form → Body → Bool
-body_given V4Form (V4Body V4 len bits) = true
-body_given V6Form (V6Body len offset pattern) = is_range len offset
-body_given (ListForm kind widths bits) (ListBody pairs) = all_allowed widths pairs
-body_given _ _ = false
-
-abbrev pub given_at : Option Form → Body → Bool
-given_at None body = false
-given_at (Some form) body = body_given form body
-
-abbrev pub part_given : Family → Part → Bool
-part_given family part = given_at (form_of family part.kind) part.body
-
-abbrev pub all_given : Family → List Part → Bool
-all_given family parts = list_all (part_given family) parts
-
-abbrev pub rises : ℕ → List Part → Bool
-rises last [] = true
-rises last (part ∷ parts) = nat_lt last part.kind && rises part.kind parts
-
--- the bits that normal form clears
-abbrev pub cleared_body : Form → Body → Body
-cleared_body V6Form (V6Body len offset pattern) = V6Body len offset (cleared 128 (len - offset) pattern)
-cleared_body (ListForm kind widths bits) (ListBody pairs) = ListBody (kept_bits bits pairs)
-cleared_body _ body = body
-
-abbrev pub cleared_at : Option Form → Body → Body
-cleared_at None body = body
-cleared_at (Some form) body = cleared_body form body
-
-abbrev pub cleared_part : Family → Part → Part
-cleared_part family given = part given.kind (cleared_at (form_of family given.kind) given.body)
-
-abbrev pub cleared_parts : Family → List Part → List Part
-cleared_parts family parts = map (cleared_part family) parts
-
--- the rule of the components, or the first cause why there is none
-abbrev pub rule_of : Family → List Part → Result Ruled RuleFault
-rule_of family parts =
-    if all_given family parts then
-    (if rises 0 parts then
-    (if nat_le (length (canonical_value (cleared_parts family parts))) 4095 then Ok (ruled family (cleared_parts family parts)) else Err TooLong)
-    else Err Order)
-    else Err NotOfFamily
-
--- what is answered where memory is there
-abbrev pub Makes : Result Ruled RuleFault → Result Ruled RuleFault → Type 0
-Makes (Err Memory) wanted = Unit {0}
-Makes result wanted = result ≡ wanted
 
 -- what a prefix shows: its family, its bits, its length
 abbrev pub shown : Prefix → Family × ℕ × ℕ
@@ -133,10 +74,18 @@ destination_body (V4Body family len bits) = Some (family, bits, len)
 destination_body (V6Body len offset pattern) = if offset == 0 then Some (V6, pattern, len) else None
 destination_body (ListBody pairs) = None
 
--- the destination prefix, of IPv6 one with offset 0; it has the lowest type, so it stands first
+-- of a component of type 1
+abbrev pub destination_part : Part → Option (Family × ℕ × ℕ)
+destination_part part = if part.kind == 1 then destination_body part.body else None
+
+-- the prefix of the component of type 1, wherever it stands; of IPv6 only where its offset is 0
 abbrev pub destination_in : List Part → Option (Family × ℕ × ℕ)
 destination_in [] = None
-destination_in (part ∷ parts) = if part.kind == 1 then destination_body part.body else None
+destination_in (part ∷ parts) = if part.kind == 1 then destination_body part.body else destination_in parts
 
 abbrev pub destination_of : Ruled → Option (Family × ℕ × ℕ)
 destination_of rule = destination_in rule.parts
+
+-- the same as a prefix
+abbrev pub destination_prefix : Ruled → Option Prefix
+destination_prefix rule = option_map (λ d. prefix_of d.0 d.1 d.2) (destination_of rule)

@@ -4,9 +4,9 @@ ghost use Rattle.std.specs.Prelude.{◌≡◌, ◌+◌, ◌-◌, ◌*◌, ◌/�
 ghost use Rattle.byteorder.specs.Endian.{big_number};
 ghost use Rattle.fs_nlri.specs.Forms.{V4Form, V6Form, prefix_form, number_form, tcp_flags_form, dscp_form, fragment_form, fragment_bits};
 ghost use Rattle.fs_nlri.specs.Parts.{ListBody};
-ghost use Rattle.fs_nlri.specs.Components.{body_of};
+ghost use Rattle.fs_nlri.specs.Component.{body_of};
 ghost use Rattle.fs_nlri.specs.Spelling.{SpellsBody, octets_for};
-ghost use Rattle.fs_nlri.specs.Reading.{IsBodyFault};
+ghost use Rattle.fs_nlri.specs.Body.{IsBodyFault};
 
 use crate::component::PrefixForm;
 use crate::fault::{NlriFault, Reason};
@@ -65,10 +65,8 @@ fn read_v4(octets: &[u8]) -> Result<(PrefixForm, usize), NlriFault>
             place: octets.len(),
         });
     }
-    match Prefix::new(Family::V4, left_aligned(&tail[..count], 32), *length) {
-        Some(prefix) => Ok((PrefixForm::V4(prefix), 1 + count)),
-        None => unreachable!(),
-    }
+    let prefix = Prefix::of_bits(Family::V4, left_aligned(&tail[..count], 32), *length);
+    Ok((PrefixForm::V4(prefix), 1 + count))
 }
 
 fn read_v6(octets: &[u8]) -> Result<(PrefixForm, usize), NlriFault>
@@ -108,17 +106,13 @@ fn read_v6(octets: &[u8]) -> Result<(PrefixForm, usize), NlriFault>
             place: octets.len(),
         });
     }
-    match Prefix::new(Family::V6, left_aligned(&tail[..count], 128), bits) {
-        Some(pattern) => Ok((
-            PrefixForm::V6 {
-                length: *length,
-                offset: *offset,
-                pattern: pattern.bits,
-            },
-            2 + count,
-        )),
-        None => unreachable!(),
-    }
+    let pattern = Prefix::of_bits(Family::V6, left_aligned(&tail[..count], 128), bits);
+    let form = PrefixForm::V6 {
+        length: *length,
+        offset: *offset,
+        pattern: pattern.bits,
+    };
+    Ok((form, 2 + count))
 }
 
 /// Reads a list of numbers of 1, 2, 4 or 8 octets.
@@ -167,7 +161,7 @@ pub(crate) fn read_fragment(
     octets: &[u8],
 ) -> Result<(MaskList, usize), NlriFault>
     ensures taken { IfOk result (λ read. read.1 ≤ length octets.now) }
-    ensures found { IfOk result (λ read. SpellsBody (fragment_form family) (take read.1 octets.now) (ListBody read.0)) }
+    ensures found { IfOk result (λ r. SpellsBody (fragment_form family) (take r.1 octets.now) (ListBody r.0)) }
     ensures fault { IfErr result (IsBodyFault (fragment_form family) octets.now) }
 {
     let (mut list, taken) = MaskList::decode(alloc, octets, &[0])?;

@@ -3,8 +3,8 @@
 ghost use Rattle.std.specs.Prelude.{◌≡◌, ◌-◌, IfOk};
 ghost use Rattle.fs_base.specs.Bits.{cleared};
 ghost use Rattle.fs_nlri.specs.Forms.{prefix_form};
-ghost use Rattle.fs_nlri.specs.Components.{body_of, part_of, parts_of};
-ghost use Rattle.fs_nlri.specs.Rule.{cleared_body, cleared_part, cleared_parts};
+ghost use Rattle.fs_nlri.specs.Component.{body_of, part_of, parts_of};
+ghost use Rattle.fs_nlri.specs.Making.{cleared_body, cleared_part, cleared_parts};
 
 use crate::body::bits_of_fragment;
 use crate::component::{Component, PrefixForm};

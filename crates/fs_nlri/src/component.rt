@@ -46,15 +46,85 @@ pub enum Component {
     FlowLabel(NumList),
 }
 
+/// What stands behind a component's type.
+#[derive(Clone, Copy)]
+pub enum Content<'a> {
+    /// Types 1 and 2.
+    Prefix(PrefixForm),
+    /// The types whose lists compare numbers: 3 to 8, 10, 11 and 13.
+    Numbers(&'a NumList),
+    /// The types whose lists test bits: 9 and 12.
+    Masks(&'a MaskList),
+}
+
+impl Component {
+    ghost use Rattle.std.specs.Prelude.{◌≡◌};
+    ghost use Rattle.std.specs.Option.{option_map};
+    ghost use Rattle.fs_nlri.specs.Component.{content_body, part_of};
+    ghost use Rattle.fs_nlri.specs.Rule.{shown, destination_part};
+    ghost use Rattle.fs_nlri.specs.Sound.{IsSoundBody};
+
+    /// The type's number, 1 to 13 (RFC 8955 section 4.2.2, RFC 8956 section 3).
+    pub fn kind(&self) -> u8
+        ensures { result ≡ (part_of self.now).kind }
+    {
+        self.split().0
+    }
+
+    /// What stands behind the type.
+    pub fn content(&self) -> Content<'_>
+        ensures { content_body result ≡ (part_of self.now).body }
+    {
+        self.split().1
+    }
+
+    /// The prefix of a component of type 1, or None where its offset isn't 0; None of any other type.
+    pub(crate) fn destination(&self) -> Option<Prefix>
+        requires { IsSoundBody (part_of self.now).body }
+        ensures { option_map shown result ≡ destination_part (part_of self.now) }
+    {
+        if self.kind() != 1 {
+            return None;
+        }
+        match self.content() {
+            Content::Prefix(form) => form.prefix(),
+            Content::Numbers(_) => None,
+            Content::Masks(_) => None,
+        }
+    }
+
+    fn split(&self) -> (u8, Content<'_>)
+        ensures kind { result.0 ≡ (part_of self.now).kind }
+        ensures body { content_body result.1 ≡ (part_of self.now).body }
+    {
+        match self {
+            Component::Destination(form) => (1, Content::Prefix(*form)),
+            Component::Source(form) => (2, Content::Prefix(*form)),
+            Component::Protocol(list) => (3, Content::Numbers(list)),
+            Component::Port(list) => (4, Content::Numbers(list)),
+            Component::DestinationPort(list) => (5, Content::Numbers(list)),
+            Component::SourcePort(list) => (6, Content::Numbers(list)),
+            Component::IcmpType(list) => (7, Content::Numbers(list)),
+            Component::IcmpCode(list) => (8, Content::Numbers(list)),
+            Component::TcpFlags(list) => (9, Content::Masks(list)),
+            Component::PacketLength(list) => (10, Content::Numbers(list)),
+            Component::Dscp(list) => (11, Content::Numbers(list)),
+            Component::Fragment(list) => (12, Content::Masks(list)),
+            Component::FlowLabel(list) => (13, Content::Numbers(list)),
+        }
+    }
+}
+
 impl PrefixForm {
     ghost use Rattle.std.specs.Prelude.{◌≡◌};
     ghost use Rattle.std.specs.Option.{option_map};
-    ghost use Rattle.fs_nlri.specs.Components.{body_of};
-    ghost use Rattle.fs_nlri.specs.Rule.{IsNormalPrefix, shown, destination_body};
+    ghost use Rattle.fs_nlri.specs.Component.{body_of};
+    ghost use Rattle.fs_nlri.specs.Rule.{shown, destination_body};
+    ghost use Rattle.fs_nlri.specs.Sound.{IsSoundBody};
 
     /// The prefix of addresses that the component stands for, or None where its offset isn't 0.
     pub(crate) fn prefix(&self) -> Option<Prefix>
-        requires { IsNormalPrefix (body_of self.now) }
+        requires { IsSoundBody (body_of self.now) }
         ensures { option_map shown result ≡ destination_body (body_of self.now) }
     {
         match *self {

@@ -78,7 +78,7 @@ impl<T: Drop> From<AllocFailed<T>> for NlriFault {
 
 impl From<OpsFault> for NlriFault {
     ghost use Rattle.std.specs.Prelude.{◌≡◌};
-    ghost use Rattle.fs_nlri.specs.Reading.{list_fault};
+    ghost use Rattle.fs_nlri.specs.Fault.{list_fault};
 
     ghost from_gives = { λ e r. r ≡ list_fault e };
 

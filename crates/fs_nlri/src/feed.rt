@@ -1,8 +1,8 @@
 //! Frames that come in pieces.
 
-ghost use Rattle.std.specs.Prelude.{◌≡◌, ◌-◌, ◌≤◌, ◌++◌, length, drop, OnOk, IfOk, IfErr};
+ghost use Rattle.std.specs.Prelude.{◌≤◌, ◌++◌, length, OnOk, IfOk, IfErr};
 ghost use Rattle.fs_nlri.specs.Fault.{IsOpen};
-ghost use Rattle.fs_nlri.specs.Feeding.{Appends, Stops};
+ghost use Rattle.fs_nlri.specs.Feed.{Appends, Stops, left_over};
 
 use crate::fault::{NlriFault, Reason};
 use crate::frame::decode;
@@ -21,7 +21,7 @@ pub struct Feed {
 }
 
 impl Model for Feed {
-    ghost use Rattle.fs_nlri.specs.Feeding.{Fed, fed};
+    ghost use Rattle.fs_nlri.specs.Feed.{Fed, fed};
 
     ghost Value = { Fed };
 
@@ -30,7 +30,7 @@ impl Model for Feed {
 
 impl Feed {
     ghost use Rattle.std.specs.Prelude.{◌≡◌, [], None, OnOk, IfErr};
-    ghost use Rattle.fs_nlri.specs.Feeding.{fed, Takes, FailsWith, ends_as};
+    ghost use Rattle.fs_nlri.specs.Feed.{fed, Takes, FailsWith, ends_as};
 
     /// A feed that has taken nothing.
     pub fn new(alloc: Global, family: Family) -> Feed
@@ -85,7 +85,8 @@ fn take_piece(
     piece: &[u8],
     out: &mut Vec<Rule>,
 ) -> Result<(), NlriFault>
-    ensures ok { OnOk result (Appends family (held.old.items ++ piece.now) held.new.items out.old.items out.new.items × IsOpen held.new.items) }
+    ensures ok { OnOk result (Appends family (held.old.items ++ piece.now) held.new.items out.old.items out.new.items) }
+    ensures partial { OnOk result (IsOpen held.new.items) }
     ensures err { IfErr result (Stops family (held.old.items ++ piece.now) out.old.items out.new.items) }
 {
     held.extend_from_slice(piece)?;
@@ -105,8 +106,8 @@ fn decode_frames(
     out: &mut Vec<Rule>,
 ) -> Result<usize, NlriFault>
     ensures within { IfOk result (λ left. left ≤ length octets.now) }
-    ensures ok { IfOk result (λ left. Appends family octets.now (drop (length octets.now - left) octets.now) out.old.items out.new.items) }
-    ensures partial { IfOk result (λ left. IsOpen (drop (length octets.now - left) octets.now)) }
+    ensures ok { IfOk result (λ left. Appends family octets.now (left_over left octets.now) out.old.items out.new.items) }
+    ensures partial { IfOk result (λ left. IsOpen (left_over left octets.now)) }
     ensures err { IfErr result (Stops family octets.now out.old.items out.new.items) }
 {
     let mut rest = octets;

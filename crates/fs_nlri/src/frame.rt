@@ -3,7 +3,7 @@
 ghost use Rattle.std.specs.Prelude.{◌≡◌, ◌+◌, ◌<◌, ◌≤◌, ◌++◌, ℕ, List, length, take, IfOk, IfErr, IfSome, IfNone};
 ghost use Rattle.fs_nlri.specs.Parts.{Ruled};
 ghost use Rattle.fs_nlri.specs.Spelling.{IsLength, IsFrame};
-ghost use Rattle.fs_nlri.specs.Fault.{IsOpen, IsFrameFault, ReadsAs};
+ghost use Rattle.fs_nlri.specs.Fault.{IsOpen, IsFrameFault, ReadsItsFrame};
 
 use crate::fault::{NlriFault, Reason};
 use crate::rule::Rule;
@@ -34,7 +34,7 @@ pub fn decode(alloc: Global, family: Family, octets: &[u8]) -> Result<(Rule, usi
     ensures family { IfOk result (λ read. read.0.family ≡ family) }
     ensures found { IfOk result (λ read. IsFrame (take read.1 octets.now) read.0) }
     ensures fault { IfErr result (IsFrameFault family octets.now) }
-    ensures only { (frame rest : List ℕ) (rule : Ruled) → octets.now ≡ frame ++ rest → rule.family ≡ family → IsFrame frame rule → ReadsAs frame rule result }
+    ensures only { ReadsItsFrame family octets.now result }
 {
     read_frame(alloc, family, octets)
 }

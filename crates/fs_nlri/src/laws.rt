@@ -1,6 +1,6 @@
 //! Laws of frames, each proved as the contract of a function that does nothing.
 
-ghost use Rattle.fs_nlri.specs.Laws.{NoFrameGoesOn, CanonicalIsFrame, CanonicalIsOwn, CanonicalTells};
+ghost use Rattle.fs_nlri.specs.Laws.{NoFrameGoesOn, CanonicalIsFrame, CanonicalIsOwn, CanonicalTells, EachBeginsSomehow, EachIsAField, BeginsOneWay, IsOneField};
 
 /// No frame of a family is a proper prefix of another.
 pub fn no_frame_goes_on()
@@ -17,4 +17,17 @@ pub fn canonical_is_frame()
 /// Two frames of a family say one rule exactly where the canonical frames of what they say are equal.
 pub fn canonical_tells()
     ensures { CanonicalTells }
+{}
+
+/// Whatever octets are, they begin with a frame of a rule or have a first fault; and they are frames of rules, one
+/// after the other, or have a first faulty frame.
+pub fn every_outcome()
+    ensures frame { EachBeginsSomehow }
+    ensures field { EachIsAField }
+{}
+
+/// No octets have two such outcomes.
+pub fn one_outcome()
+    ensures frame { BeginsOneWay }
+    ensures field { IsOneField }
 {}

@@ -12,18 +12,16 @@ mod frame;
 mod given;
 mod laws;
 mod making;
-mod outcome;
 mod rule;
 mod size;
 mod value;
 mod writing;
 
-pub use component::{Component, PrefixForm};
+pub use component::{Component, Content, PrefixForm};
 pub use fault::{NlriFault, Reason, RuleFault};
 pub use feed::Feed;
 pub use frame::decode;
-pub use laws::{canonical_is_frame, canonical_tells, no_frame_goes_on};
-pub use outcome::{every_outcome, one_outcome};
+pub use laws::{canonical_is_frame, canonical_tells, every_outcome, no_frame_goes_on, one_outcome};
 pub use rule::Rule;
 pub use writing::encode;
 

@@ -4,7 +4,7 @@ use crate::clearing::clear_all;
 use crate::component::Component;
 use crate::copying::copy_all;
 use crate::fault::RuleFault;
-use crate::given::{are_given, rise};
+use crate::given::fault_in;
 use crate::rule::Rule;
 use crate::size::fits;
 use fs_base::{Family, Memory, Prefix};
@@ -13,19 +13,17 @@ use std::alloc::Global;
 impl Rule {
     ghost use Rattle.std.specs.Prelude.{◌≡◌, IfOk};
     ghost use Rattle.std.specs.Option.{option_map};
-    ghost use Rattle.fs_nlri.specs.Components.{parts_of};
-    ghost use Rattle.fs_nlri.specs.Rule.{IsRule, rule_of, Makes, shown, destination_of};
+    ghost use Rattle.fs_nlri.specs.Component.{parts_of};
+    ghost use Rattle.fs_nlri.specs.Rule.{IsRule, shown, destination_of};
+    ghost use Rattle.fs_nlri.specs.Making.{rule_of, Makes};
 
     /// The rule of these components. The bits that normal form clears are cleared. The faults are tested in the
     /// order of `RuleFault`.
     pub fn new(alloc: Global, family: Family, components: Vec<Component>) -> Result<Rule, RuleFault>
         ensures { Makes result (rule_of family (parts_of components.items)) }
     {
-        if !are_given(family, &components) {
-            return Err(RuleFault::NotOfFamily);
-        }
-        if !rise(&components) {
-            return Err(RuleFault::Order);
+        if let Some(fault) = fault_in(family, &components) {
+            return Err(fault);
         }
         let components = clear_all(alloc, family, components)?;
         if !fits(&components) {
@@ -50,8 +48,8 @@ impl Rule {
         ensures rule { IsRule self.now }
     {
         match self.components.as_slice().first() {
-            Some(Component::Destination(form)) => form.prefix(),
-            _ => None,
+            Some(component) => component.destination(),
+            None => None,
         }
     }
 }

@@ -14,7 +14,7 @@ pub struct Rule {
 
 impl Model for Rule {
     ghost use Rattle.fs_nlri.specs.Parts.{Ruled, ruled};
-    ghost use Rattle.fs_nlri.specs.Components.{parts_of};
+    ghost use Rattle.fs_nlri.specs.Component.{parts_of};
     ghost use Rattle.fs_nlri.specs.Rule.{IsRule};
 
     ghost Value = { Ruled };
@@ -26,8 +26,9 @@ impl Model for Rule {
 
 impl Rule {
     ghost use Rattle.std.specs.Prelude.{◌≡◌};
-    ghost use Rattle.fs_nlri.specs.Components.{parts_of};
+    ghost use Rattle.fs_nlri.specs.Component.{parts_of};
     ghost use Rattle.fs_nlri.specs.Rule.{IsRule};
+    ghost use Rattle.fs_nlri.specs.Sound.{AreSound};
 
     /// The family.
     pub fn family(&self) -> Family
@@ -40,6 +41,7 @@ impl Rule {
     pub fn components(&self) -> &[Component]
         ensures parts { parts_of result.now ≡ self.now.parts }
         ensures rule { IsRule self.now }
+        ensures sound { AreSound self.now.parts }
     {
         self.components.as_slice()
     }

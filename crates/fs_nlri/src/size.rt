@@ -2,10 +2,10 @@
 
 ghost use Rattle.std.specs.Prelude.{◌≡◌, ◌<◌, ◌≤◌, nat_le, length};
 ghost use Rattle.fs_nlri.specs.Spelling.{octets_for};
-ghost use Rattle.fs_nlri.specs.Components.{body_of, part_of, parts_of};
+ghost use Rattle.fs_nlri.specs.Component.{body_of, part_of, parts_of};
 ghost use Rattle.fs_nlri.specs.Rule.{canonical_body, canonical_part, canonical_value};
 
-use crate::component::{Component, PrefixForm};
+use crate::component::{Component, Content, PrefixForm};
 
 /// The least count of octets that hold so many bits.
 pub(crate) fn octets_for_bits(bits: u8) -> usize
@@ -28,18 +28,10 @@ fn prefix_len(form: &PrefixForm) -> usize
 fn component_len(component: &Component) -> usize
     ensures { result ≡ length (canonical_part (part_of component.now)) }
 {
-    let body = match component {
-        Component::Destination(form) | Component::Source(form) => prefix_len(form),
-        Component::Protocol(list)
-        | Component::Port(list)
-        | Component::DestinationPort(list)
-        | Component::SourcePort(list)
-        | Component::IcmpType(list)
-        | Component::IcmpCode(list)
-        | Component::PacketLength(list)
-        | Component::Dscp(list)
-        | Component::FlowLabel(list) => list.encoded_len(),
-        Component::TcpFlags(list) | Component::Fragment(list) => list.encoded_len(),
+    let body = match component.content() {
+        Content::Prefix(form) => prefix_len(&form),
+        Content::Numbers(list) => list.encoded_len(),
+        Content::Masks(list) => list.encoded_len(),
     };
     1 + body
 }

@@ -2,10 +2,10 @@
 
 ghost use Rattle.std.specs.Prelude.{◌≡◌, ◌+◌, ◌^◌, ◌<◌, ◌≤◌, ◌↔◌, length, take, IfOk, IfErr, IsTrue, IsSome};
 ghost use Rattle.fs_nlri.specs.Forms.{form_of};
-ghost use Rattle.fs_nlri.specs.Components.{part_of, parts_of};
+ghost use Rattle.fs_nlri.specs.Component.{part_of, parts_of};
 ghost use Rattle.fs_nlri.specs.Spelling.{SpellsAt, Spells};
-ghost use Rattle.fs_nlri.specs.Fault.{IsValueFault};
-ghost use Rattle.fs_nlri.specs.Reading.{IsFaultAt, moved, place_of};
+ghost use Rattle.fs_nlri.specs.Fault.{IsValueFault, moved, place_of};
+ghost use Rattle.fs_nlri.specs.Body.{IsFaultAt};
 
 use crate::body::{read_dscp, read_fragment, read_numbers, read_prefix, read_tcp_flags};
 use crate::component::Component;
@@ -47,7 +47,7 @@ fn read_component(
     requires { IsSome (form_of family kind) }
     ensures taken { IfOk result (λ read. read.1 ≤ length octets.now) }
     ensures kind { IfOk result (λ read. (part_of read.0).kind ≡ kind) }
-    ensures found { IfOk result (λ read. SpellsAt (form_of family kind) (take read.1 octets.now) (part_of read.0).body) }
+    ensures found { IfOk result (λ r. SpellsAt (form_of family kind) (take r.1 octets.now) (part_of r.0).body) }
     ensures fault { IfErr result (IsFaultAt (form_of family kind) octets.now) }
     ensures place { IfErr result (λ fault. place_of fault ≤ length octets.now) }
 {

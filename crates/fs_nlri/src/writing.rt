@@ -3,12 +3,11 @@
 ghost use Rattle.std.specs.Prelude.{◌≡◌, ◌+◌, ◌-◌, ◌*◌, ◌/◌, ◌^◌, ◌<◌, ◌≤◌, ◌++◌, length, take, All, OnOk, OnErr};
 ghost use Rattle.std.specs.Vec.{vec_len};
 ghost use Rattle.fs_nlri.specs.Spelling.{octets_for};
-ghost use Rattle.fs_nlri.specs.Components.{body_of, part_of, parts_of};
-ghost use Rattle.fs_nlri.specs.Making.{IsWritable};
-ghost use Rattle.fs_nlri.specs.Rule.{IsRule, first_octets, canonical_body, canonical_part, canonical_value, canonical_length, canonical_frame};
+ghost use Rattle.fs_nlri.specs.Component.{body_of, part_of, parts_of};
+ghost use Rattle.fs_nlri.specs.Writing.{IsWritable};
+ghost use Rattle.fs_nlri.specs.Rule.{IsRule, first_octets, canonical_body, canonical_part, canonical_value, canonical_length, framed, canonical_frame};
 
-use crate::component::{Component, PrefixForm};
-use crate::given::kind_of;
+use crate::component::{Component, Content, PrefixForm};
 use crate::rule::Rule;
 use crate::size::{octets_for_bits, value_len};
 use byteorder::{BigEndian, ByteOrder};
@@ -34,7 +33,7 @@ pub fn encode(rule: &Rule, out: &mut Vec<u8>) -> Result<(), Memory>
 fn append_frame(components: &[Component], out: &mut Vec<u8>) -> Result<(), Memory>
     requires fits { length (canonical_value (parts_of components.now)) ≤ 4095 }
     requires writable { All (λ component. IsWritable (part_of component).body) components.now }
-    ensures ok { OnOk result (out.new.items ≡ out.old.items ++ (canonical_length (length (canonical_value (parts_of components.now))) ++ canonical_value (parts_of components.now))) }
+    ensures ok { OnOk result (out.new.items ≡ out.old.items ++ framed (parts_of components.now)) }
     ensures front { take (vec_len out.old) out.new.items ≡ out.old.items }
 {
     append_length(value_len(components), out)?;
@@ -70,7 +69,7 @@ fn append_component(component: &Component, out: &mut Vec<u8>) -> Result<(), Memo
     ensures ok { OnOk result (out.new.items ≡ out.old.items ++ canonical_part (part_of component.now)) }
     ensures front { take (vec_len out.old) out.new.items ≡ out.old.items }
 {
-    out.push(kind_of(component))?;
+    out.push(component.kind())?;
     append_body(component, out)
 }
 
@@ -79,18 +78,10 @@ fn append_body(component: &Component, out: &mut Vec<u8>) -> Result<(), Memory>
     ensures ok { OnOk result (out.new.items ≡ out.old.items ++ canonical_body (part_of component.now).body) }
     ensures front { take (vec_len out.old) out.new.items ≡ out.old.items }
 {
-    match component {
-        Component::Destination(form) | Component::Source(form) => append_prefix(form, out),
-        Component::Protocol(list)
-        | Component::Port(list)
-        | Component::DestinationPort(list)
-        | Component::SourcePort(list)
-        | Component::IcmpType(list)
-        | Component::IcmpCode(list)
-        | Component::PacketLength(list)
-        | Component::Dscp(list)
-        | Component::FlowLabel(list) => list.encode(out),
-        Component::TcpFlags(list) | Component::Fragment(list) => list.encode(out),
+    match component.content() {
+        Content::Prefix(form) => append_prefix(&form, out),
+        Content::Numbers(list) => list.encode(out),
+        Content::Masks(list) => list.encode(out),
     }
 }
 

@@ -14,7 +14,7 @@ use Rattle.fs_ops.proofs.Grammar.{same_list}
 use Rattle.fs_ops.proofs.Found.{HasRead, cut_between, cut_within, bad_width, next_found, goes_on, ends_here}
 
 -- an allowed code can be told from one that isn't
-member : (codes : List ℕ) (code : ℕ) → Contains codes code ⊎ (Contains codes code → ⊥)
+pub member : (codes : List ℕ) (code : ℕ) → Contains codes code ⊎ (Contains codes code → ⊥)
 member [] code = inr (λ found. absurd (omega (arith, found.1)))
 member (own ∷ codes) code = elim (cases_eq own code) [
   | inl same ↦ inl (0, omega arith, same)

@@ -1,5 +1,5 @@
 -- The destinations decide, unless they are equal.
-use Rattle.std.proofs.Common.{◌≡◌, ℕ, ◌+◌, ◌-◌, ◌^◌, ◌<◌, List, [], ◌∷◌, refl, sym, ap, ◌∙◌, subst, arith, Ordering, Option, Some, None, Bool, true, false, ◌==◌, if◌then◌else◌}
+use Rattle.std.proofs.Common.{◌≡◌, ℕ, ◌+◌, ◌-◌, ◌^◌, ◌<◌, List, [], ◌∷◌, refl, sym, ap, ap₂, ◌∙◌, subst, arith, Ordering, Option, Some, None, Bool, true, false, ◌==◌, if◌then◌else◌}
 use Rattle.std.specs.declared.cmp.Ordering.TheVariants.{Less, Equal, Greater}
 use Rattle.std.specs.Ordering.{nat_cmp, ordering_then}
 use Rattle.std.proofs.lemmas.Bool.Decides.{nat_tests}
@@ -10,6 +10,7 @@ use Rattle.fs_base.specs.Bits.{afi_of}
 use Rattle.fs_nlri.specs.Forms.{form_of}
 use Rattle.fs_nlri.specs.Parts.{Body, V4Body, V6Body, ListBody, Part}
 use Rattle.fs_nlri.specs.Rule.{AreNormal, IsNormalAt, destination_body, destination_in, destination_of}
+use Rattle.fs_nlri.proofs.Destination.{destination_first}
 use Rattle.fs_order.specs.Order.{body_cmp, part_cmp, parts_cmp, rule_cmp}
 use Rattle.fs_order.specs.Destination.{destination_cmp, DestinationsFirst}
 
@@ -132,7 +133,9 @@ parts_first : (family : Family) (xs ys : List Part) → AreNormal family 0 xs �
 parts_first family [] [] h k = refl
 parts_first family [] (y ∷ ys) h k = right_alone (destination_in (y ∷ ys)) Greater Equal refl
 parts_first family (x ∷ xs) [] h k = left_alone (destination_in (x ∷ xs)) Less Equal refl
-parts_first family (x ∷ xs) (y ∷ ys) h k = heads_first family x y (parts_cmp xs ys) h.0 k.0 h.1 k.1
+parts_first family (x ∷ xs) (y ∷ ys) h k =
+    heads_first family x y (parts_cmp xs ys) h.0 k.0 h.1 k.1
+    ∙ sym (ap₂ (λ (p q : Option (Family × ℕ × ℕ)). ordering_then (destination_cmp p q) (parts_cmp (x ∷ xs) (y ∷ ys))) (destination_first family x xs h) (destination_first family y ys k))
 
 pub destinations_first : DestinationsFirst
 destinations_first a b h k e =

@@ -1,5 +1,4 @@
 pub mod First
-pub mod Normal
 pub mod Pairs
 pub mod Precede
 pub mod Same

@@ -1,5 +1,5 @@
 -- The canonical octets of two lists of pairs compare as the pairs do.
-use Rattle.std.proofs.Common.{◌≡◌, ℕ, zero, suc, ◌+◌, ◌*◌, ◌/◌, ◌%◌, ◌^◌, ◌<◌, ◌≤◌, List, [], ◌∷◌, ◌++◌, true, false, true≢false, refl, sym, ap, ◌∙◌, subst, arith, Ordering}
+use Rattle.std.proofs.Common.{◌≡◌, ℕ, zero, suc, ◌+◌, ◌*◌, ◌/◌, ◌%◌, ◌^◌, ◌<◌, ◌≤◌, List, [], ◌∷◌, ◌++◌, true, false, true≢false, refl, sym, ap, ap₂, ◌∙◌, subst, arith, Ordering}
 use Rattle.std.specs.declared.cmp.Ordering.TheVariants.{Less, Equal, Greater}
 use Rattle.std.specs.Ordering.{nat_cmp, ordering_then}
 use Rattle.std.specs.Cmp.Lexicographic.{slice_cmp}
@@ -11,7 +11,9 @@ use Rattle.std.proofs.lemmas.Bool.Decides.{nat_tests}
 use Rattle.fs_ops.specs.declared.kind.Kind.{Kind}
 use Rattle.fs_ops.specs.Operator.{ends, meant_bits, width_of}
 use Rattle.fs_ops.specs.OperatorList.{AreNormal, IsNormal, canonical, pair_octets}
-use Rattle.fs_order.specs.Order.{ended_cmp}
+use Rattle.fs_nlri.specs.Parts.{Body, ListBody}
+use Rattle.fs_nlri.specs.Sound.{IsSoundBody}
+use Rattle.fs_order.specs.Order.{ended_cmp, body_cmp}
 
 abbrev pub octets_cmp : List ℕ → List ℕ → Ordering
 octets_cmp = ended_cmp nat_cmp
@@ -90,3 +92,11 @@ normal_pairs bits bits' (x ∷ x' ∷ xs) (y ∷ y' ∷ ys) h k =
 
 pub pairs_compared : (kind kind' : Kind) (xs ys : List (ℕ × ℕ)) → IsNormal kind xs → IsNormal kind' ys → slice_cmp pair_cmp xs ys ≡ octets_cmp (canonical xs) (canonical ys)
 pairs_compared kind kind' xs ys h k = normal_pairs (meant_bits kind) (meant_bits kind') xs ys h.normal k.normal
+
+-- so two bodies of lists do
+pub lists_compared : (x y : Body) (xs ys : List (ℕ × ℕ)) (order : Ordering) → x ≡ ListBody xs → y ≡ ListBody ys → IsSoundBody x → IsSoundBody y
+    → order ≡ slice_cmp pair_cmp xs ys → order ≡ body_cmp x y
+lists_compared x y xs ys order is other h k compared =
+    let a : IsSoundBody (ListBody xs) = subst IsSoundBody is h in
+    let b : IsSoundBody (ListBody ys) = subst IsSoundBody other k in
+    compared ∙ pairs_compared a.0 b.0 xs ys a.1 b.1 ∙ sym (ap₂ body_cmp is other)

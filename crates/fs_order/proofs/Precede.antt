@@ -17,7 +17,7 @@ use Rattle.fs_nlri.specs.Rule.{AreNormal, IsNormalAt, IsNormalBody, IsRule}
 use Rattle.fs_order.specs.Order.{body_cmp, part_cmp, parts_cmp, rule_cmp}
 use Rattle.fs_order.specs.Total.{body_total}
 use Rattle.fs_order.specs.Before.{Before, BodyBefore, IsWithin, OctetsBefore, PartsBefore, PrefixBefore}
-use Rattle.fs_order.proofs.Normal.{sound_part}
+use Rattle.fs_nlri.proofs.Sound.{sound_part}
 use Rattle.fs_order.proofs.Pairs.{equal_numbers, octets_cmp}
 use Rattle.fs_order.proofs.Same.{first_equal, same_body, same_family, second_equal}
 

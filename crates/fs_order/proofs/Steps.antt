@@ -3,9 +3,9 @@ use Rattle.std.proofs.Common.{◌≡◌, ℕ, ◌≤◌, List, [], ◌∷◌, le
 use Rattle.std.specs.declared.cmp.Ordering.TheVariants.{Greater}
 use Rattle.std.proofs.Math.ListN.{drop_of_length-le}
 use Rattle.fs_nlri.specs.declared.component.Component.{Component}
-use Rattle.fs_nlri.specs.Components.{parts_of}
+use Rattle.fs_nlri.specs.Component.{parts_of}
 use Rattle.fs_order.specs.Order.{parts_cmp}
-use Rattle.fs_order.specs.Sound.{AreSound}
+use Rattle.fs_nlri.specs.Sound.{AreSound}
 
 -- the components before the index are equal to those before the rest
 pub record Comparing (a b : List Component) (index : ℕ) (rest : List Component) : Type 0 where

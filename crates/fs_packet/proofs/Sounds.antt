@@ -7,7 +7,7 @@ use Rattle.fs_ops.specs.OperatorList.{AreNormal as AreNormalPairs}
 use Rattle.fs_nlri.specs.declared.component.Component.{Component}
 use Rattle.fs_nlri.specs.Forms.{Form, V4Form, V6Form, ListForm, form_of}
 use Rattle.fs_nlri.specs.Parts.{Body, V4Body, V6Body, ListBody, Part, Ruled}
-use Rattle.fs_nlri.specs.Components.{parts_of}
+use Rattle.fs_nlri.specs.Component.{parts_of}
 use Rattle.fs_nlri.specs.Rule.{AreNormal, IsNormalAt, IsNormalBody, IsRule}
 use Rattle.fs_packet.specs.Fields.{Viewed}
 use Rattle.fs_packet.specs.Matches.{part_matches}

@@ -3,7 +3,7 @@
 ghost use Rattle.std.specs.Prelude.{◌≡◌, ◌≤◌, ◌==◌, ◌&&◌};
 ghost use Rattle.std.specs.List.{list_all};
 ghost use Rattle.fs_base.specs.Bits.{cleared, width_of};
-ghost use Rattle.fs_nlri.specs.Components.{body_of, part_of, parts_of};
+ghost use Rattle.fs_nlri.specs.Component.{body_of, part_of, parts_of};
 ghost use Rattle.fs_packet.specs.Matches.{flags_hold, holds_of, is_match, is_prefix_of, part_matches};
 ghost use Rattle.fs_packet.specs.Sound.{AreSound, AreWide, IsSoundBody};
 

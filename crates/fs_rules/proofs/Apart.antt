@@ -14,7 +14,8 @@ use Rattle.fs_base.specs.Prefix.{prefix_cmp}
 use Rattle.fs_base.proofs.Listing.{each_weaker, each_both, each_append}
 use Rattle.fs_nlri.specs.Forms.{form_of}
 use Rattle.fs_nlri.specs.Parts.{Body, V4Body, V6Body, ListBody, Part, Ruled}
-use Rattle.fs_nlri.specs.Rule.{IsRule, IsNormalAt, AreNormal, shown, destination_body, destination_in, destination_of}
+use Rattle.fs_nlri.specs.Rule.{IsRule, shown, destination_of}
+use Rattle.fs_nlri.proofs.Destination.{destination_shown}
 use Rattle.fs_order.specs.Order.{rule_cmp, parts_cmp}
 use Rattle.fs_order.specs.Total.{rule_total}
 use Rattle.fs_order.specs.Destination.{destination_cmp}
@@ -25,41 +26,6 @@ use Rattle.fs_rules.specs.declared.group.Kept.{Kept}
 use Rattle.fs_rules.specs.Held.{key_cmp, is_key}
 use Rattle.fs_rules.specs.Admitted.{same_rule}
 use Rattle.fs_rules.specs.Grouped.{Entry, kept_in, IsTo, ArePlaced, AreInOrder, IsSound}
-
--- The destination of a rule in normal form is spelled as its prefix is.
-abbrev IsMade : Option (Family × ℕ × ℕ) → Type 0
-IsMade None = Unit {0}
-IsMade (Some d) = (d.2 ≤ width_of d.0) × (d.1 ≡ cleared (width_of d.0) d.2 d.1)
-
-made_again : (d : Option (Family × ℕ × ℕ)) → IsMade d → d ≡ option_map shown (option_map (λ d. prefix_of d.0 d.1 d.2) d)
-made_again None h = refl
-made_again (Some (f, b, l)) h = ap Some (ap (λ c. (f, c, l)) h.1 ∙ sym (ap (λ n. (f, cleared (width_of f) n b, n)) short)) where
-  short : min l (width_of f) ≡ l
-  short = omega (arith, h.0)
-
-made_body : (family : Family) (body : Body) → IsNormalAt (form_of family 1) body → IsMade (destination_body body)
-made_body V4 (V4Body f l b) h = at f h.0 where
-  at : (f : Family) → f ≡ V4 → IsMade (Some (f, b, l))
-  at V4 e = (h.1, h.2)
-  at V6 e = cc
-made_body V4 (V6Body l o b) h = absurd h
-made_body V4 (ListBody pairs) h = absurd h
-made_body V6 (V6Body l o b) h = at (o == 0) refl where
-  at : (c : Bool) → (o == 0) ≡ c → IsMade (cond c (Some (V6, b, l)) None)
-  at true e = (h.0.0, subst (λ n. b ≡ cleared 128 n b) (let z : o ≡ 0 = eqb-true o 0 e in omega arith) h.1)
-  at false e = tt
-made_body V6 (V4Body f l b) h = absurd h
-made_body V6 (ListBody pairs) h = absurd h
-
-made_parts : (family : Family) (parts : List Part) → AreNormal family 0 parts → IsMade (destination_in parts)
-made_parts family [] h = tt
-made_parts family (x ∷ xs) h = at (x.kind == 1) refl where
-  at : (c : Bool) → (x.kind == 1) ≡ c → IsMade (cond c (destination_body x.body) None)
-  at true e = made_body family x.body (subst (λ n. IsNormalAt (form_of family n) x.body) (eqb-true x.kind 1 e) h.1)
-  at false e = tt
-
-destination_shown : (rule : Ruled) → IsRule rule → destination_of rule ≡ option_map shown (destination_prefix rule)
-destination_shown rule h = made_again (destination_of rule) (made_parts rule.family rule.parts h.normal)
 
 -- rules without a destination come last
 abbrev pub to_cmp : Option Prefix → Option Prefix → Ordering

@@ -23,5 +23,5 @@ returns-then-tail-count-clause-fault c =
 
 pub returns-clause-found : goal.returns-clause-found
 returns-clause-found c =
-    v6_found c.args.octets.now c.octets_for_bits-count.result c.left_aligned.result c.in-Some.pattern.bits c.in-len2-up.len_at_least (c.has_range.ensures.range.0 c.if-not-has_range.false)
-    c.octets_for_bits-count.ensures c.if-tail-count.false c.left_aligned.ensures c.in-Some.ensures.some.first_bits
+    v6_found c.args.octets.now c.octets_for_bits-count.result c.left_aligned.result c.of_bits-pattern.result.bits c.in-len2-up.len_at_least (c.has_range.ensures.range.0 c.if-not-has_range.false)
+    c.octets_for_bits-count.ensures c.if-tail-count.false c.left_aligned.ensures c.of_bits-pattern.ensures.first_bits

@@ -1,12 +1,11 @@
 use Rattle.std.proofs.Common.{◌≡◌, drop, take}
 use Rattle.std.specs.List.{AllByRecursion}
-use Rattle.fs_nlri.specs.Components.{parts_of}
-use Rattle.fs_nlri.specs.Making.{IsSound}
-use Rattle.fs_nlri.specs.Rule.{all_given}
+use Rattle.fs_nlri.specs.Component.{parts_of}
+use Rattle.fs_nlri.specs.Making.{IsTyped, all_given}
 use Rattle.fs_nlri.proofs.given.are_given.Given as goal
 
 abbrev pub invariant-loop-component : goal.invariant-loop-component
 invariant-loop-component l = record {
   left : all_given l.family (parts_of (drop l.component-index l.components)) ≡ all_given l.family (parts_of l.components);
-  sound : AllByRecursion (IsSound l.family) (parts_of (take l.component-index l.components));
+  sound : AllByRecursion (IsTyped l.family) (parts_of (take l.component-index l.components));
 }

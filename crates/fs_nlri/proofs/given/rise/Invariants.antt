@@ -1,6 +1,6 @@
 use Rattle.std.proofs.Common.{◌≡◌, drop}
-use Rattle.fs_nlri.specs.Components.{parts_of}
-use Rattle.fs_nlri.specs.Rule.{rises}
+use Rattle.fs_nlri.specs.Component.{parts_of}
+use Rattle.fs_nlri.specs.Making.{rises}
 use Rattle.fs_nlri.proofs.given.rise.Given as goal
 
 abbrev pub invariant-loop-component : goal.invariant-loop-component

@@ -2,7 +2,7 @@ use Rattle.std.proofs.Common.{◌≡◌, ℕ, ◌+◌, ◌-◌, ap, sym, ◌∙�
 use Rattle.byteorder.specs.Numbers.{length-bytes_high_first}
 use Rattle.fs_nlri.specs.declared.component.PrefixForm.{PrefixForm}
 use Rattle.fs_nlri.specs.declared.component.PrefixForm.TheVariants.{V6}
-use Rattle.fs_nlri.specs.Components.{body_of}
+use Rattle.fs_nlri.specs.Component.{body_of}
 use Rattle.fs_nlri.specs.Rule.{canonical_body}
 use Rattle.fs_nlri.specs.Spelling.{octets_for}
 use Rattle.fs_nlri.proofs.size.prefix_len.Goals as goal

@@ -1,5 +1,5 @@
 use Rattle.std.proofs.Common.{◌≡◌, ◌+◌, drop, length}
-use Rattle.fs_nlri.specs.Components.{parts_of}
+use Rattle.fs_nlri.specs.Component.{parts_of}
 use Rattle.fs_nlri.specs.Rule.{canonical_value}
 use Rattle.fs_nlri.proofs.size.value_len.Given as goal
 

@@ -1,5 +1,5 @@
 use Rattle.std.proofs.Common.{length}
-use Rattle.fs_nlri.specs.Components.{parts_of}
+use Rattle.fs_nlri.specs.Component.{parts_of}
 use Rattle.fs_nlri.proofs.ValueSteps.{HasRead}
 use Rattle.fs_nlri.proofs.value.read_components.Given as goal
 

@@ -1,5 +1,5 @@
 use Rattle.std.proofs.Common.{◌≡◌, ◌++◌, take}
-use Rattle.fs_nlri.specs.Components.{parts_of}
+use Rattle.fs_nlri.specs.Component.{parts_of}
 use Rattle.fs_nlri.specs.Rule.{canonical_value}
 use Rattle.fs_nlri.proofs.writing.append_value.Given as goal
 

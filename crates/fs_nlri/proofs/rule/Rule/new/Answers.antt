@@ -1,16 +1,16 @@
 use Rattle.std.proofs.Common.{List, ap, sym, subst, ◌∙◌, length, nat_le}
 use Rattle.std.specs.List.{AllByRecursion}
 use Rattle.fs_nlri.specs.declared.component.Component.{Component}
-use Rattle.fs_nlri.specs.Components.{parts_of}
-use Rattle.fs_nlri.specs.Rule.{all_given, rises, canonical_value}
-use Rattle.fs_nlri.specs.Making.{IsSound}
-use Rattle.fs_nlri.proofs.Made.{made_rule}
+use Rattle.fs_nlri.specs.Component.{parts_of}
+use Rattle.fs_nlri.specs.Rule.{canonical_value}
+use Rattle.fs_nlri.specs.Making.{fault_in, IsTyped}
+use Rattle.fs_nlri.proofs.Made.{made_rule, no_fault}
 use Rattle.fs_nlri.proofs.rule.Rule.new.Goals as goal
 
 pub invariant_of-result : goal.invariant_of-result
 invariant_of-result c =
-    made_rule c.args.family (parts_of c.args.components.items) (parts_of c.in_ok-components.components.items) c.in_ok-components.ensures.ok
-    (ap (λ (l : List Component). all_given c.args.family (parts_of l)) (sym c.deref.ensures.value) ∙ sym c.are_given.ensures.value ∙ c.if-not-are_given.false)
-    (ap (λ (l : List Component). rises 0 (parts_of l)) (sym c.deref-2.ensures.value) ∙ sym c.rise.ensures ∙ c.if-not-rise.false)
-    (subst (λ (l : List Component). AllByRecursion (IsSound c.args.family) (parts_of l)) c.deref.ensures.value c.if-not-are_given.ensures.sound)
-    (ap (λ (l : List Component). nat_le (length (canonical_value (parts_of l))) 4095) (sym c.deref-3.ensures.value) ∙ sym c.fits.ensures ∙ c.if-not-fits.false)
+    let none =
+    no_fault c.args.family (parts_of c.args.components.items) (ap (λ (l : List Component). fault_in c.args.family (parts_of l)) (sym c.deref.ensures.value) ∙ sym c.fault_in.ensures.fault ∙ c.in_default.is) in
+    made_rule c.args.family (parts_of c.args.components.items) (parts_of c.in_ok-components.components.items) c.in_ok-components.ensures.ok none.0 none.1
+    (subst (λ (l : List Component). AllByRecursion (IsTyped c.args.family) (parts_of l)) c.deref.ensures.value c.in_default.ensures.typed)
+    (ap (λ (l : List Component). nat_le (length (canonical_value (parts_of l))) 4095) (sym c.deref-2.ensures.value) ∙ sym c.fits.ensures ∙ c.if-not-fits.false)

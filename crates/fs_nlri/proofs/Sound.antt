@@ -4,9 +4,9 @@ use Rattle.fs_base.specs.declared.prefix.Family.{Family}
 use Rattle.fs_nlri.specs.Forms.{Form, V4Form, V6Form, ListForm, form_of}
 use Rattle.fs_nlri.specs.Parts.{Body, V4Body, V6Body, ListBody, Part, Ruled}
 use Rattle.fs_nlri.specs.Rule.{AreNormal, IsNormalAt, IsNormalBody, IsRule}
-use Rattle.fs_order.specs.Sound.{AreSound, IsSoundBody}
+use Rattle.fs_nlri.specs.Sound.{AreSound, IsSoundBody}
 
-sound_body : (form : Form) (body : Body) → IsNormalBody form body → IsSoundBody body
+pub sound_body : (form : Form) (body : Body) → IsNormalBody form body → IsSoundBody body
 sound_body V4Form (V4Body family len bits) h = h
 sound_body V6Form (V6Body len offset pattern) h = h
 sound_body (ListForm kind widths bits) (ListBody pairs) h = (kind, h.0)
@@ -21,7 +21,7 @@ pub sound_part : (form : Option Form) (body : Body) → IsNormalAt form body →
 sound_part None body h = absurd h
 sound_part (Some form) body h = sound_body form body h
 
-sound_parts : (family : Family) (last : ℕ) (parts : List Part) → AreNormal family last parts → AreSound parts
+pub sound_parts : (family : Family) (last : ℕ) (parts : List Part) → AreNormal family last parts → AreSound parts
 sound_parts family last [] h = tt
 sound_parts family last (part ∷ parts) h = (sound_part (form_of family part.kind) part.body h.1, sound_parts family part.kind parts h.2)
 

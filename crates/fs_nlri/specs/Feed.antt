@@ -1,5 +1,5 @@
 -- Frames that come in pieces, however they are cut.
-use Rattle.std.specs.Prelude.{◌≡◌, ℕ, List, [], ◌∷◌, ◌++◌, length, Option, Some, None, Result, Ok, Err}
+use Rattle.std.specs.Prelude.{◌≡◌, ℕ, ◌-◌, List, [], ◌∷◌, ◌++◌, length, drop, Option, Some, None, Result, Ok, Err}
 use Rattle.fs_base.specs.declared.prefix.Family.{Family}
 use Rattle.fs_nlri.specs.declared.fault.Reason.TheVariants.{Length}
 use Rattle.fs_nlri.specs.declared.fault.NlriFault.{NlriFault}
@@ -30,6 +30,10 @@ pub record Appends (family : Family) (octets rest : List ℕ) (old new : List Ru
   pub frames : Frames family front rules
   pub parts : octets ≡ front ++ rest
   pub added : new ≡ old ++ rules
+
+-- the last octets, so many as are left
+abbrev pub left_over : ℕ → List ℕ → List ℕ
+left_over left octets = drop (length octets - left) octets
 
 -- the whole piece was taken: what is kept is less than a frame
 pub record Takes (old new : Fed) (piece : List ℕ) (before after : List Ruled) : Type 0 where

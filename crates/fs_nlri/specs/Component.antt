@@ -1,14 +1,22 @@
--- The components of the code as parts of a rule.
+-- The components of the code as parts of a rule: their types, and what stands behind these.
 use Rattle.std.specs.Prelude.{List, map}
 use Rattle.fs_nlri.specs.declared.component.PrefixForm.{PrefixForm}
 use Rattle.fs_nlri.specs.declared.component.PrefixForm.TheVariants.{V4, V6}
 use Rattle.fs_nlri.specs.declared.component.Component.{Component}
 use Rattle.fs_nlri.specs.declared.component.Component.TheVariants.{Destination, Source, Protocol, Port, DestinationPort, SourcePort, IcmpType, IcmpCode, TcpFlags, PacketLength, Dscp, Fragment, FlowLabel}
+use Rattle.fs_nlri.specs.declared.component.Content.{Content}
+use Rattle.fs_nlri.specs.declared.component.Content.TheVariants.{Prefix, Numbers, Masks}
 use Rattle.fs_nlri.specs.Parts.{Body, V4Body, V6Body, ListBody, Part, part}
 
 abbrev pub body_of : PrefixForm → Body
 body_of (V4 prefix) = V4Body prefix.family prefix.length prefix.bits
 body_of (V6 len offset pattern) = V6Body len offset pattern
+
+-- what stands behind a type, as the code lends it
+abbrev pub content_body : Content → Body
+content_body (Prefix form) = body_of form
+content_body (Numbers pairs) = ListBody pairs.now
+content_body (Masks pairs) = ListBody pairs.now
 
 -- the type numbers of RFC 8955 section 4.2.2 and RFC 8956 section 3
 abbrev pub part_of : Component → Part

@@ -1,4 +1,4 @@
--- What the comparison asks of components: normal form, without the family's table of types.
+-- What each component of a rule has, whatever its family and its type: what stands behind the type is in normal form.
 use Rattle.std.specs.Prelude.{◌≡◌, ◌-◌, ◌≤◌, List, [], ◌∷◌}
 use Rattle.fs_base.specs.declared.prefix.Family.TheVariants.{V4}
 use Rattle.fs_base.specs.Bits.{cleared}

@@ -1,10 +1,8 @@
--- What the readers of a component's parts answer.
-use Rattle.std.specs.Prelude.{ℕ, ◌+◌, List, Option, Some, None}
+-- When octets are what stands behind a type, by its form, and when no such body stands at their front.
+use Rattle.std.specs.Prelude.{ℕ, List, Option, Some, None}
 use Rattle.fs_base.specs.Language.{NoFront, IsCut, IsFirstFault}
-use Rattle.fs_ops.specs.declared.error.OpsFault.{OpsFault}
-use Rattle.fs_ops.specs.declared.error.OpsFault.TheVariants.{Cut as ListCut, Width as ListWidth, Memory as ListMemory}
 use Rattle.fs_nlri.specs.declared.fault.Reason.{Reason}
-use Rattle.fs_nlri.specs.declared.fault.Reason.TheVariants.{Cut, NoType, Order, Width, Length}
+use Rattle.fs_nlri.specs.declared.fault.Reason.TheVariants.{Cut, NoType, Order, Length}
 use Rattle.fs_nlri.specs.declared.fault.NlriFault.{NlriFault}
 use Rattle.fs_nlri.specs.declared.fault.NlriFault.TheVariants.{Bad, Memory}
 use Rattle.fs_nlri.specs.Forms.{Form}
@@ -32,18 +30,3 @@ IsBodyFault form octets Memory = Unit {0}
 abbrev pub IsFaultAt : Option Form → List ℕ → NlriFault → Type 0
 IsFaultAt None octets fault = ⊥
 IsFaultAt (Some form) octets fault = IsBodyFault form octets fault
-
--- a fault of a list as one of the component
-abbrev pub list_fault : OpsFault → NlriFault
-list_fault (ListCut place) = Bad Cut place
-list_fault (ListWidth place) = Bad Width place
-list_fault ListMemory = Memory
-
--- the same fault where count octets stand before
-abbrev pub moved : ℕ → NlriFault → NlriFault
-moved count (Bad reason place) = Bad reason (count + place)
-moved count Memory = Memory
-
-abbrev pub place_of : NlriFault → ℕ
-place_of (Bad reason place) = place
-place_of Memory = 0

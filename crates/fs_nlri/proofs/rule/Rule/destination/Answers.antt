@@ -1,0 +1,13 @@
+use Rattle.std.proofs.Common.{List, ap, sym, ◌∙◌}
+use Rattle.std.specs.List.{slice_get}
+use Rattle.fs_nlri.specs.declared.component.Component.{Component}
+use Rattle.fs_nlri.specs.Parts.{Ruled}
+use Rattle.fs_nlri.specs.Rule.{destination_of}
+use Rattle.fs_nlri.proofs.Destination.{first_part}
+use Rattle.fs_nlri.proofs.rule.Rule.destination.Goals as goal
+
+pub returns-in-Some-clause-shown : goal.returns-in-Some-clause-shown
+returns-in-Some-clause-shown c =
+    let first =
+    first_part c.self.inside.family c.self.inside.components.items c.in-Some.component.now (c.in-Some.ensures.value ∙ ap (λ (l : List Component). slice_get l 0) c.as_slice.ensures.value) c.self.invariant.normal in
+    c.destination.ensures ∙ sym first.destination ∙ ap (λ (rule : Ruled). destination_of rule) c.self.view_is
