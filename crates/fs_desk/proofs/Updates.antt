@@ -1,4 +1,4 @@
--- What a peer holds behind a change.
+-- What one more update leaves a peer holding, and what a change of the table leaves.
 use Rattle.std.proofs.Common.{◌≡◌, ◌==◌, ℕ, List, [], ◌∷◌, ◌++◌, Bool, true, false, ◌||◌, Option, Some, None, if◌then◌else◌, option_and_then, is_some, refl, ap, sym, ◌∙◌, true≢false, arith}
 use Rattle.std.proofs.lemmas.Bool.Decides.{nat_tests}
 use Rattle.std.specs.List.{list_any}
@@ -8,12 +8,47 @@ use Rattle.fs_nlri.specs.Parts.{Ruled}
 use Rattle.fs_attrs.specs.declared.update.Update.{Update}
 use Rattle.fs_attrs.specs.Update.{takes_prefixes, takes_rules}
 use Rattle.fs_rules.specs.Held.{Held}
-use Rattle.fs_desk.specs.Last.{last_such}
-use Rattle.fs_desk.specs.Updates.{is_prefix, gives_at, tells_of, unicast_left, is_rule, Given, rule_given, tells_of_rule, given_with, flow_left}
-use Rattle.fs_desk.specs.Held.{IsListed}
-use Rattle.fs_desk.specs.Turning.{Turns, nothing, told, told_of}
-use Rattle.fs_desk.specs.Keeping.{Keeps, Spares}
-use Rattle.fs_desk.proofs.LastLemmas.{last-more, later_of}
+use Rattle.fs_desk.specs.Leaves.{last_such, is_prefix, gives_at, tells_of, unicast_left, is_rule, Given, rule_given, tells_of_rule, given_with, flow_left, IsListed}
+use Rattle.fs_desk.specs.Apply.{Changes, nothing, told, told_of}
+use Rattle.fs_desk.specs.Receive.{IsLeft, Spares}
+
+-- which of two counts, where the later one counts if it is there
+abbrev pub later_of : {A : Type 0} → Option A → Option A → Option A
+later_of earlier (Some found) = Some found
+later_of earlier None = earlier
+
+later_twice : {A : Type 0} (a b c : Option A) → later_of (later_of a b) c ≡ later_of a (later_of b c)
+later_twice a b (Some z) = refl
+later_twice a b None = refl
+
+last_step : {A : Type 0} (test : A → Bool) (x : A) (xs : List A)
+    → last_such test (x ∷ xs) ≡ later_of (if test x then Some x else None) (last_such test xs)
+last_step {A = A} test x xs = at (last_such test xs)
+  where
+    at : (o : Option A) → elim o [ Some found ↦ Some found | None ↦ if test x then Some x else None ] ≡ later_of (if test x then Some x else None) o
+    at (Some found) = refl
+    at None = refl
+
+last-append : {A : Type 0} (test : A → Bool) (xs ys : List A)
+    → last_such test (xs ++ ys) ≡ later_of (last_such test xs) (last_such test ys)
+last-append {A = A} test [] ys = at (last_such test ys)
+  where
+    at : (o : Option A) → o ≡ later_of None o
+    at (Some found) = refl
+    at None = refl
+last-append {A = A} test (x ∷ xs) ys =
+    last_step test x (xs ++ ys)
+    ∙ ap (λ o. later_of (if test x then Some x else None) o) (last-append test xs ys)
+    ∙ sym (later_twice (if test x then Some x else None) (last_such test xs) (last_such test ys))
+    ∙ ap (λ o. later_of o (last_such test ys)) (sym (last_step test x xs))
+
+pub last-more : {A : Type 0} (test : A → Bool) (xs : List A) (x : A)
+    → last_such test (xs ++ x ∷ []) ≡ later_of (last_such test xs) (if test x then Some x else None)
+last-more {A = A} test xs x = last-append test xs (x ∷ []) ∙ ap (λ o. later_of (last_such test xs) o) (last_step test x [] ∙ at (test x))
+  where
+    at : (b : Bool) → later_of (if b then Some x else None) None ≡ (if b then Some x else None)
+    at true = refl
+    at false = refl
 
 -- the last update decides where it tells of the prefix
 told_choice : (takes gives : Bool) (update : Update) (before : Option Update) (given : Update → Option Path) (path : Option Path)
@@ -60,9 +95,9 @@ own : (n : ℕ) → (n == n) ≡ true
 own n = grind (arith, nat_tests)
 
 -- the peer's next update
-pub keeps_more : (peer : ℕ) (updates : List Update) (update : Update) (old new : Held)
-    → Keeps peer updates old → Turns peer (told update) (told_of update) old new → IsListed old → Keeps peer (updates ++ update ∷ []) new
-keeps_more peer updates update old new k t l = record {
+pub left_more : (peer : ℕ) (updates : List Update) (update : Update) (old new : Held)
+    → IsLeft peer updates old → Changes peer (told update) (told_of update) old new → IsListed old → IsLeft peer (updates ++ update ∷ []) new
+left_more peer updates update old new k t l = record {
   unicast = λ place h.
       t.unicast l place
       ∙ chosen (place.peer == peer) _ _ h
@@ -76,15 +111,15 @@ keeps_more peer updates update old new k t l = record {
 }
 
 -- a peer of which nothing is held any more
-pub keeps_nothing : (peer : ℕ) (old new : Held) → Turns peer nothing nothing old new → IsListed old → Keeps peer [] new
-keeps_nothing peer old new t l = record {
+pub left_nothing : (peer : ℕ) (old new : Held) → Changes peer nothing nothing old new → IsListed old → IsLeft peer [] new
+left_nothing peer old new t l = record {
   unicast = λ place h. t.unicast l place ∙ chosen (place.peer == peer) _ _ h;
   flows = λ rule. t.flows l rule peer ∙ chosen (peer == peer) _ _ (own peer);
 }
 
 -- a change at one peer leaves the others alone
 pub spares_others : (peer : ℕ) (f : Prefix → Option Path → Option Path) (g : Ruled → Option Given → Option Given) (old new : Held)
-    → Turns peer f g old new → IsListed old → Spares peer old new
+    → Changes peer f g old new → IsListed old → Spares peer old new
 spares_others peer f g old new t l = record {
   config_is = t.config_is;
   listed = t.listed l;
@@ -107,8 +142,8 @@ other_place : (n m p : ℕ) → (p == m) ≡ true → (m == n) ≡ false → (p 
 other_place n m p h e = grind (arith, nat_tests)
 
 -- what another peer holds stays
-pub keeps_spared : (peer other : ℕ) (updates : List Update) (old new : Held) → Spares peer old new → (other == peer) ≡ false → Keeps other updates old → Keeps other updates new
-keeps_spared peer other updates old new s apart k = record {
+pub left_spared : (peer other : ℕ) (updates : List Update) (old new : Held) → Spares peer old new → (other == peer) ≡ false → IsLeft other updates old → IsLeft other updates new
+left_spared peer other updates old new s apart k = record {
   unicast = λ place h. s.unicast place (other_place peer other place.peer h apart) ∙ k.unicast place h;
   flows = λ rule. s.flows rule other apart ∙ k.flows rule;
 }

@@ -18,8 +18,8 @@ module _ {K : Type 0} (R : K → K → Ordering) (o : IsTotalOrder R) where
   apart : (q k p : K) → R k p ≡ Greater → is_eq (R q k) ≡ true → is_eq (R q p) ≡ false
   apart q k p g e = ap is_eq (IsTotalOrder.congr o q k p (is_equal (R q k) e) ∙ g)
 
-  turned : (k q : K) → R k q ≡ Greater → R q k ≡ Less
-  turned k q h = IsTotalOrder.antisymm o q k ∙ ap ordering_reverse h
+  less_back : (k q : K) → R k q ≡ Greater → R q k ≡ Less
+  less_back k q h = IsTotalOrder.antisymm o q k ∙ ap ordering_reverse h
 
 module _ {K X : Type 0} (R : K → K → Ordering) (o : IsTotalOrder R) where
   twice : (b : Bool) (v w : X) (rest : Option X) → cond b (Some v) rest ≡ cond b (Some v) (cond b (Some w) rest)
@@ -72,7 +72,7 @@ module _ {K X : Type 0} (R : K → K → Ordering) (o : IsTotalOrder R) where
           → IsStrictlySortedBy R (keys_of (match_ordering r ((k, v) ∷ e ∷ es) ((e.0, v) ∷ es) (e ∷ insert_entry R es k v)))
       by Less h later = ((h, above_less k e.0 es h s.0), s)
       by Equal h later = s
-      by Greater h later = (above_insert e.0 k v es (turned R o k e.0 h) s.0, later)
+      by Greater h later = (above_insert e.0 k v es (less_back R o k e.0 h) s.0, later)
 
   above_remove : (test : K → Bool) (p : K) (es : List (K × X)) → AllByRecursion (λ q. R p q ≡ Less) (keys_of es) → AllByRecursion (λ q. R p q ≡ Less) (keys_of (remove_entry test es))
   above_remove test p [] a = tt

@@ -17,23 +17,22 @@ use Rattle.fs_speaker.specs.Session.{at_start}
 use Rattle.fs_speaker.specs.Replies.{replies_from}
 use Rattle.fs_speaker.specs.Steps.{Live, live, begins}
 use Rattle.fs_tape.specs.Tape.{Item, came_up, received, was_lost}
-use Rattle.fs_desk.specs.Life.{is_turn, is_up, sent_in, life}
-use Rattle.fs_desk.specs.Turning.{Turns, nothing}
-use Rattle.fs_desk.specs.Held.{IsListed}
-use Rattle.fs_desk.specs.Keeping.{Keeps, Spares, Stands}
+use Rattle.fs_desk.specs.Life.{bounds_life, begins_life, sent_in, life}
+use Rattle.fs_desk.specs.Apply.{Changes, nothing}
+use Rattle.fs_desk.specs.Leaves.{IsListed}
+use Rattle.fs_desk.specs.Receive.{IsLeft, Spares, IsUp, TakesPiece, RepliesPiece}
 use Rattle.fs_desk.specs.Desk.{Desked, session_at, PeerIs, Played, Replied}
-use Rattle.fs_desk.specs.Received.{RepliesTo}
-use Rattle.fs_desk.proofs.EntryLists.{lookup-insert_entry, sorted-insert_entry, sorted-remove_entry, is_equal}
-use Rattle.fs_desk.proofs.LifeLemmas.{life-turn, life-more}
-use Rattle.fs_desk.proofs.Following.{follows_none}
-use Rattle.fs_desk.proofs.Saying.{says_none}
-use Rattle.fs_desk.proofs.Kept.{keeps_nothing, keeps_spared, spares_others}
+use Rattle.fs_desk.proofs.Entries.{lookup-insert_entry, sorted-insert_entry, sorted-remove_entry, is_equal}
+use Rattle.fs_desk.proofs.Life.{life-bound, life-more}
+use Rattle.fs_desk.proofs.Follows.{follows_none}
+use Rattle.fs_desk.proofs.Replying.{replied_none}
+use Rattle.fs_desk.proofs.Updates.{left_nothing, left_spared, spares_others}
 
 nat_same : (m n : ℕ) → is_eq (nat_cmp m n) ≡ (m == n)
 nat_same m n = grind (arith, nat_tests)
 
-turned_same : (m n : ℕ) (b : Bool) → (m == n) ≡ b → (n == m) ≡ b
-turned_same m n b h = grind (arith, nat_tests, h)
+same_swapped : (m n : ℕ) (b : Bool) → (m == n) ≡ b → (n == m) ≡ b
+same_swapped m n b h = grind (arith, nat_tests, h)
 
 one_number : (m n : ℕ) → (m == n) ≡ true → m ≡ n
 one_number m n h = grind (arith, nat_tests, h)
@@ -52,7 +51,7 @@ session_gone : (m n : ℕ) (sessions : List (ℕ × Live)) → IsStrictlySortedB
 session_gone m n sessions s =
     lookup-remove_entry (eq_by_cmp_equiv nat_cmp_total) (is_at (nat_cmp n)) (λ x y h. ap is_eq (IsTotalOrder.congr nat_cmp_total n x y (is_equal (nat_cmp n x) h))) m sessions
     (IsDistinct-from_sorted nat_cmp (keys_of sessions) s)
-    ∙ ap (λ (b : Bool). cond b None (session_at m sessions)) (nat_same n m ∙ turned_same m n (m == n) refl)
+    ∙ ap (λ (b : Bool). cond b None (session_at m sessions)) (nat_same n m ∙ same_swapped m n (m == n) refl)
 
 chosen : {A : Type 0} (b : Bool) (x y : A) → b ≡ true → (if b then x else y) ≡ x
 chosen true x y h = refl
@@ -70,16 +69,16 @@ peer_spared config peer l l' s s' n m old new e f spares apart p =
     (subst (λ (x : Option Live). PeerIs config peer l x m new) (sym f) (at peer l s p))
   where
     at : (q : Option Peer) (x : Option (List ℕ)) (y : Option Live) → PeerIs config q x y m old → PeerIs config q x y m new
-    at q None None k = keeps_spared n m [] old new spares apart k
+    at q None None k = left_spared n m [] old new spares apart k
     at None None (Some y) k = absurd k
     at (Some q) None (Some y) k = absurd k
     at None (Some x) None k = absurd k
     at (Some q) (Some x) None k = absurd k
     at None (Some x) (Some y) k = absurd k
-    at (Some q) (Some x) (Some y) k = record { updates = k.updates; fed = k.fed; says = k.says; keeps = keeps_spared n m k.updates old new spares apart k.keeps }
+    at (Some q) (Some x) (Some y) k = record { updates = k.updates; fed = k.fed; replied = k.replied; left = left_spared n m k.updates old new spares apart k.left }
 
 -- an item of another peer doesn't touch a life
-life_other : (m : ℕ) (items : List Item) (item : Item) → is_turn m item ≡ false → is_up m item ≡ false → sent_in m item ≡ [] → life m (items ++ item ∷ []) ≡ life m items
+life_other : (m : ℕ) (items : List Item) (item : Item) → bounds_life m item ≡ false → begins_life m item ≡ false → sent_in m item ≡ [] → life m (items ++ item ∷ []) ≡ life m items
 life_other m items item t u s =
     life-more m items item t u
     ∙ ap (λ (z : List ℕ). option_map (λ octets. octets ++ z) (life m items)) s
@@ -95,14 +94,14 @@ cases_of true = inl refl
 cases_of false = inr refl
 
 lost_life : (n : ℕ) (items : List Item) → life n (items ++ was_lost n ∷ []) ≡ None
-lost_life n items = life-turn n items (was_lost n) (itself n)
+lost_life n items = life-bound n items (was_lost n) (itself n)
 
 up_life : (n : ℕ) (items : List Item) → life n (items ++ came_up n ∷ []) ≡ Some []
-up_life n items = life-turn n items (came_up n) (itself n) ∙ ap (λ (b : Bool). if b then Some [] else None) (itself n)
+up_life n items = life-bound n items (came_up n) (itself n) ∙ ap (λ (b : Bool). if b then Some [] else None) (itself n)
 
 -- the peer was lost
 pub played_lost : (config : Config) (items : List Item) (n : ℕ) (old new : Desked)
-    → Turns n nothing nothing old.held new.held → new.config ≡ old.config → new.sessions ≡ remove_entry (is_at (nat_cmp n)) old.sessions
+    → Changes n nothing nothing old.held new.held → new.config ≡ old.config → new.sessions ≡ remove_entry (is_at (nat_cmp n)) old.sessions
     → Played config items old → Played config (items ++ was_lost n ∷ []) new
 played_lost config items n old new t c s p = record {
   config_is = c ∙ p.config_is;
@@ -113,7 +112,7 @@ played_lost config items n old new t c s p = record {
     | inl e ↦ own m e
     | inr e ↦
         peer_spared config (peer_of m config.peers) (life m items) (life m (items ++ was_lost n ∷ [])) (session_at m old.sessions) (session_at m new.sessions) n m old.held new.held
-        (life_other m items (was_lost n) (turned_same m n false e) refl refl)
+        (life_other m items (was_lost n) (same_swapped m n false e) refl refl)
         (ap (session_at m) s ∙ session_gone m n old.sessions p.sessions ∙ not_chosen (m == n) _ _ e)
         (spares_others n nothing nothing old.held new.held t p.listed) e (p.each m)
   ];
@@ -125,14 +124,14 @@ played_lost config items n old new t c s p = record {
         subst (λ (x : Option (List ℕ)). PeerIs config (peer_of n config.peers) x (session_at n new.sessions) n new.held) (sym (lost_life n items))
         (subst (λ (x : Option Live). PeerIs config (peer_of n config.peers) None x n new.held)
         (sym (ap (session_at n) s ∙ session_gone n n old.sessions p.sessions ∙ chosen (n == n) _ _ (itself n)))
-        (keeps_nothing n old.held new.held t p.listed)) in
+        (left_nothing n old.held new.held t p.listed)) in
         subst (λ (k : ℕ). PeerIs config (peer_of k config.peers) (life k (items ++ was_lost n ∷ [])) (session_at k new.sessions) k new.held) (sym (one_number m n e)) at
 
 -- a lost peer came up
-keeps_down : (config : Config) (peer : Option Peer) (s : Option Live) (n : ℕ) (held : Held) → PeerIs config peer None s n held → Keeps n [] held
-keeps_down config peer None n held k = k
-keeps_down config None (Some s) n held k = absurd k
-keeps_down config (Some peer) (Some s) n held k = absurd k
+left_down : (config : Config) (peer : Option Peer) (s : Option Live) (n : ℕ) (held : Held) → PeerIs config peer None s n held → IsLeft n [] held
+left_down config peer None n held k = k
+left_down config None (Some s) n held k = absurd k
+left_down config (Some peer) (Some s) n held k = absurd k
 
 pub played_up : (config : Config) (items : List Item) (n : ℕ) (peer : Peer) (session : Live) (mid new : Desked)
     → peer_of n config.peers ≡ Some peer → session ≡ live config peer (framing [] false None) at_start None
@@ -150,17 +149,17 @@ played_up config items n peer session mid new q v c h s p = record {
         (subst (λ (x : Option Live). PeerIs config (peer_of m config.peers) (life m (items ++ came_up n ∷ [])) x m mid.held)
         (sym (ap (session_at m) s ∙ session_put m n session mid.sessions ∙ not_chosen (m == n) _ _ e))
         (subst (λ (x : Option (List ℕ)). PeerIs config (peer_of m config.peers) x (session_at m mid.sessions) m mid.held)
-        (life_other m items (was_lost n) (turned_same m n false e) refl refl ∙ sym (life_other m items (came_up n) (turned_same m n false e) (turned_same m n false e) refl))
+        (life_other m items (was_lost n) (same_swapped m n false e) refl refl ∙ sym (life_other m items (came_up n) (same_swapped m n false e) (same_swapped m n false e) refl))
         (p.each m)))
   ];
 }
   where
-    down : Keeps n [] mid.held
-    down = keeps_down config (peer_of n config.peers) (session_at n mid.sessions) n mid.held
+    down : IsLeft n [] mid.held
+    down = left_down config (peer_of n config.peers) (session_at n mid.sessions) n mid.held
         (subst (λ (x : Option (List ℕ)). PeerIs config (peer_of n config.peers) x (session_at n mid.sessions) n mid.held) (lost_life n items) (p.each n))
 
-    first : Stands config peer n [] session mid.held
-    first = subst (λ (z : Live). Stands config peer n [] z mid.held) (sym v) (record { updates = []; fed = follows_none config peer; says = says_none config peer; keeps = down })
+    first : IsUp config peer n [] session mid.held
+    first = subst (λ (z : Live). IsUp config peer n [] z mid.held) (sym v) (record { updates = []; fed = follows_none config peer; replied = replied_none config peer; left = down })
 
     at : PeerIs config (peer_of n config.peers) (life n (items ++ came_up n ∷ [])) (session_at n new.sessions) n new.held
     at =
@@ -178,15 +177,9 @@ received_life n items piece =
     life-more n items (received n piece) refl refl
     ∙ ap (λ (z : List ℕ). option_map (λ octets. octets ++ z) (life n items)) (chosen (n == n) piece [] (itself n))
 
--- what a session does with a piece, for all octets that it may have been fed with
-abbrev pub Takes : ℕ → Live → Live → Held → Held → List ℕ → Type 0
-Takes n session session' held held' piece =
-    (config : Config) (whose : Peer) (octets : List ℕ) → IsListed held → Stands config whose n octets session held
-    → Stands config whose n (octets ++ piece) session' held' × Spares n held held'
-
 -- the session of a peer that is up took a piece
 pub played_octets : (config : Config) (items : List Item) (n : ℕ) (piece : List ℕ) (session session' : Live) (old new : Desked)
-    → session_at n old.sessions ≡ Some session → Takes n session session' old.held new.held piece
+    → session_at n old.sessions ≡ Some session → TakesPiece n session session' old.held new.held piece
     → new.config ≡ old.config → ((m : ℕ) → session_at m new.sessions ≡ (if m == n then Some session' else session_at m old.sessions))
     → IsStrictlySortedBy nat_cmp (keys_of new.sessions)
     → Played config items old → Played config (items ++ received n piece ∷ []) new
@@ -215,19 +208,14 @@ played_octets config items n piece session session' old new there takes c s sort
             | inl e ↦ subst (λ (z : ℕ). PeerIs config (peer_of z config.peers) (life z (items ++ received n piece ∷ [])) (session_at z new.sessions) z new.held) (sym (one_number m n e)) at
             | inr e ↦
                 peer_spared config (peer_of m config.peers) (life m items) (life m (items ++ received n piece ∷ [])) (session_at m old.sessions) (session_at m new.sessions) n m old.held new.held
-                (life_other m items (received n piece) refl refl (not_chosen (n == m) piece [] (turned_same m n false e)))
+                (life_other m items (received n piece) refl refl (not_chosen (n == m) piece [] (same_swapped m n false e)))
                 (s m ∙ not_chosen (m == n) _ _ e) took.1 e (p.each m)
           ];
         }
 
--- what a session replies to a piece, for all octets that it may have been fed with
-abbrev pub RepliesAll : ℕ → Live → Held → List ℕ → List ℕ → List ℕ → Type 0
-RepliesAll n session held piece before now =
-    (config : Config) (whose : Peer) (octets : List ℕ) → IsListed held → Stands config whose n octets session held → RepliesTo config whose octets piece before now
-
 -- the session of a peer that is up replied to a piece
 pub played_replied : (config : Config) (items : List Item) (n : ℕ) (piece before now : List ℕ) (session : Live) (desk : Desked)
-    → session_at n desk.sessions ≡ Some session → RepliesAll n session desk.held piece before now → Played config items desk
+    → session_at n desk.sessions ≡ Some session → RepliesPiece n session desk.held piece before now → Played config items desk
     → Replied config n (life n items) piece before now
 played_replied config items n piece before now session desk there replies p =
     by (peer_of n config.peers) (life n items) refl (subst (λ (x : Option Live). PeerIs config (peer_of n config.peers) (life n items) x n desk.held) there (p.each n))
@@ -269,7 +257,7 @@ played_skipped config items n piece desk none p = record {
     skipped : (m : ℕ) → life m (items ++ received n piece ∷ []) ≡ life m items
     skipped m = elim (cases_of (m == n)) [
       | inl e ↦ subst (λ (z : ℕ). life z (items ++ received n piece ∷ []) ≡ life z items) (sym (one_number m n e)) own
-      | inr e ↦ life_other m items (received n piece) refl refl (not_chosen (n == m) piece [] (turned_same m n false e))
+      | inr e ↦ life_other m items (received n piece) refl refl (not_chosen (n == m) piece [] (same_swapped m n false e))
     ]
 
 -- and not answered
@@ -297,7 +285,7 @@ played_none config desk e = subst (λ (d : Desked). Played config [] d) (sym e) 
 
 -- of the desk's parts
 pub desk_lost : (config : Config) (items : List Item) (n : ℕ) (own : Config) (table table' : Held) (sessions sessions' : List (ℕ × Live)) (old : Desked)
-    → old ≡ record { config = own; held = table; sessions = sessions } → Turns n nothing nothing table table' → sessions' ≡ remove_entry (is_at (nat_cmp n)) sessions
+    → old ≡ record { config = own; held = table; sessions = sessions } → Changes n nothing nothing table table' → sessions' ≡ remove_entry (is_at (nat_cmp n)) sessions
     → Played config items old → Played config (items ++ was_lost n ∷ []) (record { config = own; held = table'; sessions = sessions' })
 desk_lost config items n own table table' sessions sessions' old e t s p =
     played_lost config items n (record { config = own; held = table; sessions = sessions }) (record { config = own; held = table'; sessions = sessions' }) t refl s
@@ -305,7 +293,7 @@ desk_lost config items n own table table' sessions sessions' old e t s p =
 
 pub desk_octets : (config : Config) (items : List Item) (n : ℕ) (piece : List ℕ) (session session' : Live) (own : Config) (table table' : Held) (sessions sessions' : List (ℕ × Live)) (old : Desked)
     → old ≡ record { config = own; held = table; sessions = sessions }
-    → session_at n sessions ≡ Some session → Takes n session session' table table' piece
+    → session_at n sessions ≡ Some session → TakesPiece n session session' table table' piece
     → ((m : ℕ) → session_at m sessions' ≡ (if m == n then Some session' else session_at m sessions))
     → (IsStrictlySortedBy nat_cmp (keys_of sessions) → IsStrictlySortedBy nat_cmp (keys_of sessions'))
     → Played config items old → Played config (items ++ received n piece ∷ []) (record { config = own; held = table'; sessions = sessions' })
@@ -349,14 +337,14 @@ session_set : (m n : ℕ) (session : Live) (sessions : List (ℕ × Live)) → I
     → session_at m (set_value (is_at (nat_cmp n)) sessions session) ≡ (if m == n then Some session else session_at m sessions)
 session_set m n session sessions there =
     lookup-set_value (eq_by_cmp_equiv nat_cmp_total) (is_at (nat_cmp n)) (λ x y h. ap is_eq (IsTotalOrder.congr nat_cmp_total n x y (is_equal (nat_cmp n x) h))) m session sessions there
-    ∙ ap (λ (b : Bool). cond b (Some session) (session_at m sessions)) (nat_same n m ∙ turned_same m n (m == n) refl)
+    ∙ ap (λ (b : Bool). cond b (Some session) (session_at m sessions)) (nat_same n m ∙ same_swapped m n (m == n) refl)
 
 is_there : (o : Option Live) (session : Live) → o ≡ Some session → IsSome o
 is_there o session h = subst (λ (x : Option Live). IsSome x) (sym h) refl
 
 pub desk_fed : (config : Config) (items : List Item) (n : ℕ) (piece : List ℕ) (session session' : Live) (own : Config) (table table' : Held) (sessions sessions' : List (ℕ × Live)) (old : Desked)
     → old ≡ record { config = own; held = table; sessions = sessions }
-    → session_at n sessions ≡ Some session → Takes n session session' table table' piece
+    → session_at n sessions ≡ Some session → TakesPiece n session session' table table' piece
     → sessions' ≡ set_value (is_at (nat_cmp n)) sessions session'
     → Played config items old → Played config (items ++ received n piece ∷ []) (record { config = own; held = table'; sessions = sessions' })
 desk_fed config items n piece session session' own table table' sessions sessions' old e there takes s p =
@@ -366,7 +354,7 @@ desk_fed config items n piece session session' own table table' sessions session
     p
 
 pub desk_replied : (config : Config) (items : List Item) (n : ℕ) (piece before now : List ℕ) (session : Live) (own : Config) (table : Held) (sessions : List (ℕ × Live)) (old : Desked)
-    → old ≡ record { config = own; held = table; sessions = sessions } → session_at n sessions ≡ Some session → RepliesAll n session table piece before now
+    → old ≡ record { config = own; held = table; sessions = sessions } → session_at n sessions ≡ Some session → RepliesPiece n session table piece before now
     → Played config items old → Replied config n (life n items) piece before now
 desk_replied config items n piece before now session own table sessions old e there replies p =
     played_replied config items n piece before now session (record { config = own; held = table; sessions = sessions }) there replies
@@ -378,3 +366,13 @@ pub desk_silent : (config : Config) (items : List Item) (n : ℕ) (piece before 
 desk_silent config items n piece before own table sessions old e none p =
     played_silent config items n piece before (record { config = own; held = table; sessions = sessions }) none
     (subst (λ (d : Desked). Played config items d) e p)
+
+abbrev desk_of : Config → Held → List (ℕ × Live) → Desked
+desk_of own table sessions = record { config = own; held = table; sessions = sessions }
+
+-- the sessions stayed as they were
+pub desk_stays : (config : Config) (items : List Item) (own : Config) (table : Held) (sessions sessions' : List (ℕ × Live)) (old : Desked)
+    → old ≡ record { config = own; held = table; sessions = sessions } → sessions' ≡ sessions
+    → Played config items old → Played config items (record { config = own; held = table; sessions = sessions' })
+desk_stays config items own table sessions sessions' old e s p =
+    subst (λ (d : Desked). Played config items d) (e ∙ ap (λ (z : List (ℕ × Live)). desk_of own table z) (sym s)) p

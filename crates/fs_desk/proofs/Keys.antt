@@ -15,8 +15,7 @@ use Rattle.fs_order.specs.Order.{rule_cmp}
 use Rattle.fs_order.specs.Total.{rule_total}
 use Rattle.fs_unicast.specs.Places.{place_cmp}
 use Rattle.fs_unicast.specs.declared.unicast.Place.{Place}
-use Rattle.fs_desk.specs.Updates.{is_prefix}
-use Rattle.fs_desk.specs.Held.{flow_key_cmp, FlowKey}
+use Rattle.fs_desk.specs.Leaves.{is_prefix, flow_key_cmp, FlowKey}
 use denote.Enum.Bare.{sameb}
 use Rattle.fs_base.specs.contracts.prefix.Family.{the_type}
 

@@ -19,20 +19,19 @@ use Rattle.fs_unicast.specs.Places.{place_cmp, Route}
 use Rattle.fs_unicast.specs.declared.unicast.Place.{Place}
 use Rattle.fs_validate.specs.declared.route.FlowRoute.{FlowRoute}
 use Rattle.fs_rules.specs.Held.{Held, put_route, without_route, without_peer_unicast, without_peer_flows}
-use Rattle.fs_desk.specs.Updates.{is_prefix, is_rule}
-use Rattle.fs_desk.specs.Held.{unicast_at, flow_at, flow_key, flow_key_cmp, FlowKey, given_of}
-use Rattle.fs_desk.specs.Turning.{Turns, same, nothing, taken_of, given_at, rules_taken, rules_given, given_or}
-use Rattle.fs_desk.proofs.EntryLists.{lookup-insert_entry, sorted-insert_entry, sorted-remove_entry, is_equal}
-use Rattle.fs_desk.proofs.Listed.{at_key, put_by, at_key-put_by, at_key-without, at_key-filter, listed-put_by, listed-filter}
-use Rattle.fs_desk.proofs.PlaceKeys.{place_total, flow_key_total, place_same, key_same}
+use Rattle.fs_desk.specs.Leaves.{is_prefix, is_rule, unicast_at, flow_at, flow_key, flow_key_cmp, FlowKey, given_of}
+use Rattle.fs_desk.specs.Apply.{Changes, Loses, same, nothing, taken_of, given_at, rules_taken, rules_given, given_or}
+use Rattle.fs_desk.proofs.Entries.{lookup-insert_entry, sorted-insert_entry, sorted-remove_entry, is_equal}
+use Rattle.fs_desk.proofs.KeyedLists.{at_key, put_by, at_key-put_by, at_key-without, at_key-filter, listed-put_by, listed-filter}
+use Rattle.fs_desk.proofs.Keys.{place_total, flow_key_total, place_same, key_same}
 
-turned_eq : (r : Ordering) → is_eq (ordering_reverse r) ≡ is_eq r
-turned_eq Less = refl
-turned_eq Equal = refl
-turned_eq Greater = refl
+reverse_eq : (r : Ordering) → is_eq (ordering_reverse r) ≡ is_eq r
+reverse_eq Less = refl
+reverse_eq Equal = refl
+reverse_eq Greater = refl
 
-place_turned : (a b : Place) → is_eq (place_cmp a b) ≡ is_eq (place_cmp b a)
-place_turned a b = ap is_eq (IsTotalOrder.antisymm place_total a b) ∙ turned_eq (place_cmp b a)
+place_swapped : (a b : Place) → is_eq (place_cmp a b) ≡ is_eq (place_cmp b a)
+place_swapped a b = ap is_eq (IsTotalOrder.antisymm place_total a b) ∙ reverse_eq (place_cmp b a)
 
 either_false : (b : Bool) → (b || false) ≡ b
 either_false true = refl
@@ -49,15 +48,15 @@ taken_choice true false before = refl
 taken_choice false true before = refl
 taken_choice false false before = refl
 
-pub turns_taken : (peer : ℕ) (prefix : Prefix) (held : Held) (place : Place) → place ≡ record { prefix = prefix; peer = peer }
-    → Turns peer (taken_of (shown prefix ∷ [])) same held (record held { unicast = remove_entry (is_at (place_cmp place)) held.unicast })
-turns_taken peer prefix held place e = record {
+pub changes_taken : (peer : ℕ) (prefix : Prefix) (held : Held) (place : Place) → place ≡ record { prefix = prefix; peer = peer }
+    → Changes peer (taken_of (shown prefix ∷ [])) same held (record held { unicast = remove_entry (is_at (place_cmp place)) held.unicast })
+changes_taken peer prefix held place e = record {
   config_is = refl;
   listed = λ l. record { unicast = sorted-remove_entry place_cmp place_total (is_at (place_cmp place)) held.unicast l.unicast; flows = l.flows };
   unicast = λ l q.
       lookup-remove_entry (eq_by_cmp_equiv place_total) (is_at (place_cmp place)) (λ x y h. ap is_eq (IsTotalOrder.congr place_total place x y (is_equal (place_cmp place x) h))) q held.unicast
       (IsDistinct-from_sorted place_cmp (keys_of held.unicast) l.unicast)
-      ∙ ap (λ (b : Bool). cond b None (unicast_at q held.unicast)) (place_turned place q ∙ place_same q place)
+      ∙ ap (λ (b : Bool). cond b None (unicast_at q held.unicast)) (place_swapped place q ∙ place_same q place)
       ∙ ap (λ (p : Place). cond (is_prefix q.prefix (shown p.prefix) && (q.peer == p.peer)) None (unicast_at q held.unicast)) e
       ∙ taken_choice (is_prefix q.prefix (shown prefix)) (q.peer == peer) (unicast_at q held.unicast);
   flows = λ l rule other. untouched (other == peer) (flow_at rule other held.flows);
@@ -69,9 +68,9 @@ given_choice true false path before = refl
 given_choice false true path before = refl
 given_choice false false path before = refl
 
-pub turns_given : (peer : ℕ) (prefix : Prefix) (path : Path) (held : Held) (place : Place) → place ≡ record { prefix = prefix; peer = peer }
-    → Turns peer (given_at (shown prefix ∷ []) path) same held (record held { unicast = insert_entry place_cmp held.unicast place path })
-turns_given peer prefix path held place e = record {
+pub changes_given : (peer : ℕ) (prefix : Prefix) (path : Path) (held : Held) (place : Place) → place ≡ record { prefix = prefix; peer = peer }
+    → Changes peer (given_at (shown prefix ∷ []) path) same held (record held { unicast = insert_entry place_cmp held.unicast place path })
+changes_given peer prefix path held place e = record {
   config_is = refl;
   listed = λ l. record { unicast = sorted-insert_entry place_cmp place_total place path held.unicast l.unicast; flows = l.flows };
   unicast = λ l q.
@@ -89,9 +88,9 @@ rule_taken_choice true false found = refl
 rule_taken_choice false true found = refl
 rule_taken_choice false false found = refl
 
-pub turns_rule_taken : (peer : ℕ) (rule : Ruled) (held : Held)
-    → Turns peer same (rules_taken (rule ∷ [])) held (record held { flows = without_route rule peer held.flows })
-turns_rule_taken peer rule held = record {
+pub changes_rule_taken : (peer : ℕ) (rule : Ruled) (held : Held)
+    → Changes peer same (rules_taken (rule ∷ [])) held (record held { flows = without_route rule peer held.flows })
+changes_rule_taken peer rule held = record {
   config_is = refl;
   listed = λ l. record { unicast = l.unicast; flows = listed-filter flow_key flow_key_cmp flow_key_total (λ r. not (is_eq (flow_key_cmp (rule, peer) (flow_key r)))) held.flows l.flows };
   unicast = λ l place. untouched (place.peer == peer) (unicast_at place held.unicast);
@@ -113,9 +112,9 @@ rule_given_choice true false r found = refl
 rule_given_choice false true r found = refl
 rule_given_choice false false r found = refl
 
-pub turns_rule_given : (r : FlowRoute) (held : Held)
-    → Turns r.peer same (rules_given (r.rule ∷ []) r.path r.actions) held (record held { flows = put_route r held.flows })
-turns_rule_given r held = record {
+pub changes_rule_given : (r : FlowRoute) (held : Held)
+    → Changes r.peer same (rules_given (r.rule ∷ []) r.path r.actions) held (record held { flows = put_route r held.flows })
+changes_rule_given r held = record {
   config_is = refl;
   listed = λ l. record {
     unicast = l.unicast;
@@ -165,9 +164,9 @@ same_from peer a b h = at (is_eq (rule_cmp a.0 b.0)) (sym (key_same a.0 b.0 a.1 
     at true e = grind (arith, nat_tests)
     at false e = absurd (true≢false (sym e))
 
-pub turns_lost : (peer : ℕ) (held : Held)
-    → Turns peer nothing nothing held (record held { unicast = without_peer_unicast peer held.unicast; flows = without_peer_flows peer held.flows })
-turns_lost peer held = record {
+pub changes_lost : (peer : ℕ) (held : Held)
+    → Changes peer nothing nothing held (record held { unicast = without_peer_unicast peer held.unicast; flows = without_peer_flows peer held.flows })
+changes_lost peer held = record {
   config_is = refl;
   listed = λ l. record {
     unicast = listed-filter (λ (e : Route). e.0) place_cmp place_total (λ (e : Route). not (e.0.peer == peer)) held.unicast l.unicast;
@@ -185,21 +184,21 @@ turns_lost peer held = record {
 
 -- the same, of the table behind the call
 pub taken_to : (peer : ℕ) (prefix : Prefix) (held new : Held) (place : Place) → place ≡ record { prefix = prefix; peer = peer }
-    → new ≡ record held { unicast = remove_entry (is_at (place_cmp place)) held.unicast } → Turns peer (taken_of (shown prefix ∷ [])) same held new
-taken_to peer prefix held new place e h = subst (λ (n : Held). Turns peer (taken_of (shown prefix ∷ [])) same held n) (sym h) (turns_taken peer prefix held place e)
+    → new ≡ record held { unicast = remove_entry (is_at (place_cmp place)) held.unicast } → Changes peer (taken_of (shown prefix ∷ [])) same held new
+taken_to peer prefix held new place e h = subst (λ (n : Held). Changes peer (taken_of (shown prefix ∷ [])) same held n) (sym h) (changes_taken peer prefix held place e)
 
 pub given_to : (peer : ℕ) (prefix : Prefix) (path : Path) (held new : Held) (place : Place) → place ≡ record { prefix = prefix; peer = peer }
-    → new ≡ record held { unicast = insert_entry place_cmp held.unicast place path } → Turns peer (given_at (shown prefix ∷ []) path) same held new
-given_to peer prefix path held new place e h = subst (λ (n : Held). Turns peer (given_at (shown prefix ∷ []) path) same held n) (sym h) (turns_given peer prefix path held place e)
+    → new ≡ record held { unicast = insert_entry place_cmp held.unicast place path } → Changes peer (given_at (shown prefix ∷ []) path) same held new
+given_to peer prefix path held new place e h = subst (λ (n : Held). Changes peer (given_at (shown prefix ∷ []) path) same held n) (sym h) (changes_given peer prefix path held place e)
 
 pub rule_taken_to : (peer : ℕ) (rule : Ruled) (held new : Held)
-    → new ≡ record held { flows = without_route rule peer held.flows } → Turns peer same (rules_taken (rule ∷ [])) held new
-rule_taken_to peer rule held new h = subst (λ (n : Held). Turns peer same (rules_taken (rule ∷ [])) held n) (sym h) (turns_rule_taken peer rule held)
+    → new ≡ record held { flows = without_route rule peer held.flows } → Changes peer same (rules_taken (rule ∷ [])) held new
+rule_taken_to peer rule held new h = subst (λ (n : Held). Changes peer same (rules_taken (rule ∷ [])) held n) (sym h) (changes_rule_taken peer rule held)
 
 pub rule_given_to : (r : FlowRoute) (held new : Held)
-    → new ≡ record held { flows = put_route r held.flows } → Turns r.peer same (rules_given (r.rule ∷ []) r.path r.actions) held new
-rule_given_to r held new h = subst (λ (n : Held). Turns r.peer same (rules_given (r.rule ∷ []) r.path r.actions) held n) (sym h) (turns_rule_given r held)
+    → new ≡ record held { flows = put_route r held.flows } → Changes r.peer same (rules_given (r.rule ∷ []) r.path r.actions) held new
+rule_given_to r held new h = subst (λ (n : Held). Changes r.peer same (rules_given (r.rule ∷ []) r.path r.actions) held n) (sym h) (changes_rule_given r held)
 
 pub lost_to : (peer : ℕ) (held new : Held)
-    → new ≡ record held { unicast = without_peer_unicast peer held.unicast; flows = without_peer_flows peer held.flows } → Turns peer nothing nothing held new
-lost_to peer held new h = subst (λ (n : Held). Turns peer nothing nothing held n) (sym h) (turns_lost peer held)
+    → Loses peer held new → Changes peer nothing nothing held new
+lost_to peer held new h = subst (λ (n : Held). Changes peer nothing nothing held n) (sym h) (changes_lost peer held)

@@ -111,8 +111,8 @@ module _ {X K : Type 0} (key : X → K) (R : K → K → Ordering) where
     above_same k q [] h a = tt
     above_same k q (x ∷ xs) h a = (IsTotalOrder.congr o k q (key x) h ∙ a.0, above_same k q xs h a.1)
 
-    turned : (k q : K) → R k q ≡ Greater → R q k ≡ Less
-    turned k q h = IsTotalOrder.antisymm o q k ∙ ap ordering_reverse h
+    less_back : (k q : K) → R k q ≡ Greater → R q k ≡ Less
+    less_back k q h = IsTotalOrder.antisymm o q k ∙ ap ordering_reverse h
 
     pub listed-put_by : (x : X) (xs : List X) → IsListed xs → IsListed (put_by x xs)
     unfolding IsStrictlySortedBy
@@ -122,7 +122,7 @@ module _ {X K : Type 0} (key : X → K) (R : K → K → Ordering) where
         by : (r : Ordering) → R (key x) (key y) ≡ r → IsListed (put_by x ys) → IsListed (match_ordering r (x ∷ y ∷ ys) (x ∷ ys) (y ∷ put_by x ys))
         by Less h later = ((h, above_less (key x) (key y) ys h s.0), s)
         by Equal h later = (above_same (key x) (key y) ys h s.0, s.1)
-        by Greater h later = (above_put (key y) x ys (turned (key x) (key y) h) s.0, later)
+        by Greater h later = (above_put (key y) x ys (less_back (key x) (key y) h) s.0, later)
 
     above_filter : (p : X → Bool) (k : K) (xs : List X) → AllByRecursion (λ q. R k q ≡ Less) (map key xs) → AllByRecursion (λ q. R k q ≡ Less) (map key (filter p xs))
     above_filter p k [] a = tt
@@ -178,7 +178,7 @@ module _ {X K : Type 0} (key : X → K) (R : K → K → Ordering) where
       where
         by : (r : Ordering) → R (key x) (key y) ≡ r → (((k : K) → at_key k xs ≡ at_key k ys) → xs ≡ ys) → x ∷ xs ≡ y ∷ ys
         by Less e later = absurd (something x (sym (at_less (key x) y ys t e) ∙ sym (h (key x)) ∙ at_own x xs))
-        by Greater e later = absurd (something y (sym (at_less (key y) x xs s (turned (key x) (key y) e)) ∙ h (key y) ∙ at_own y ys))
+        by Greater e later = absurd (something y (sym (at_less (key y) x xs s (less_back (key x) (key y) e)) ∙ h (key y) ∙ at_own y ys))
         by Equal e later =
             let first : x ≡ y = ap (λ p. unwrap_or p x) (sym (at_own x xs) ∙ h (key x) ∙ at_equal (key x) y ys e) in
             let rest : xs ≡ ys = later (λ k. stripped (is_eq (R k (key x))) (is_eq (R k (key y))) x y (at_key k xs) (at_key k ys) (same_side k x y e)
@@ -207,11 +207,11 @@ module _ {X K : Type 0} (key : X → K) (R : K → K → Ordering) where
     none_kept false = refl
 
     -- of a list from which the keys that fail a test are taken away
-    pub at_key-filter : (keeps : K → Bool) → ((k q : K) → R k q ≡ Equal → keeps k ≡ keeps q) → (k : K) (xs : List X)
-        → at_key k (filter (λ x. keeps (key x)) xs) ≡ (if keeps k then at_key k xs else None)
-    at_key-filter keeps same k [] = none_kept (keeps k)
-    at_key-filter keeps same k (x ∷ xs) =
-        at_kept k x (keeps (key x)) (filter (λ y. keeps (key y)) xs)
-        ∙ kept_out (keeps k) (is_eq (R k (key x))) (keeps (key x)) x (at_key k (filter (λ y. keeps (key y)) xs)) (at_key k xs)
+    pub at_key-filter : (left : K → Bool) → ((k q : K) → R k q ≡ Equal → left k ≡ left q) → (k : K) (xs : List X)
+        → at_key k (filter (λ x. left (key x)) xs) ≡ (if left k then at_key k xs else None)
+    at_key-filter left same k [] = none_kept (left k)
+    at_key-filter left same k (x ∷ xs) =
+        at_kept k x (left (key x)) (filter (λ y. left (key y)) xs)
+        ∙ kept_out (left k) (is_eq (R k (key x))) (left (key x)) x (at_key k (filter (λ y. left (key y)) xs)) (at_key k xs)
         (λ c. same k (key x) (is_equal (R k (key x)) c))
-        (at_key-filter keeps same k xs)
+        (at_key-filter left same k xs)

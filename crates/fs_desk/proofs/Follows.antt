@@ -8,15 +8,20 @@ use Rattle.fs_attrs.specs.declared.update.Update.{Update}
 use Rattle.fs_speaker.specs.declared.state.Closed.{Closed}
 use Rattle.fs_speaker.specs.Session.{Standing, at_start, Last, still, closed, with_update, session_from}
 use Rattle.fs_speaker.specs.Steps.{Live, live, Step, waits, takes, stops, step_of, Does, step_with}
-use Rattle.fs_desk.specs.Following.{with_updates, Follows, IsOver, listed}
+use Rattle.fs_desk.specs.Receive.{with_updates, Follows, IsOver}
 use Rattle.fs_speaker.proofs.Joined.{session_takes, session_stops, session_waits}
+
+-- an update that a call answered, as a list
+abbrev as_list : Option Update → List Update
+as_list None = []
+as_list (Some update) = update ∷ []
 
 -- a session that has not begun
 pub follows_none : (config : Config) (peer : Peer) → Follows config peer [] [] (live config peer (framing [] false None) at_start None) []
 follows_none config peer = record { alive = refl; config_is = refl; peer_is = refl; waiting = refl; goes = λ more. refl }
 
 one_more : (updates : List Update) (update : Option Update) (rest : List Update × Last)
-    → with_updates updates (with_update update rest) ≡ with_updates (updates ++ listed update) rest
+    → with_updates updates (with_update update rest) ≡ with_updates (updates ++ as_list update) rest
 one_more updates None rest = ap (λ (u : List Update). (u ++ rest.0, rest.1)) (sym (append-nil updates))
 one_more updates (Some update) rest = ap (λ (u : List Update). (u, rest.1)) (sym (append_assoc updates (update ∷ []) rest.0))
 
@@ -43,7 +48,7 @@ module _ (config : Config) (peer : Peer) (octets rest : List ℕ) (old new : Liv
   -- what one step makes of the record
   by_step : Follows config peer octets rest old updates → new.closed ≡ None → new.config ≡ config → new.peer ≡ peer
       → (step : Step) → step_of config peer old.standing (pending old.framing ++ rest) ≡ step → Does step old new rest count update
-      → Follows config peer octets (drop count rest) new (updates ++ listed update)
+      → Follows config peer octets (drop count rest) new (updates ++ as_list update)
   by_step f alive c p waits h did = record {
     alive = alive;
     config_is = c;
@@ -59,7 +64,7 @@ module _ (config : Config) (peer : Peer) (octets rest : List ℕ) (old new : Liv
         ∙ ap (λ (s : Standing). with_updates updates (session_from config peer s (pending new.framing ++ more))) (sym did.2)
         ∙ ap (λ (z : List ℕ). with_updates updates (session_from config peer new.standing (pending new.framing ++ (z ++ more)))) (sym (all_gone rest count did.0))
         ∙ ap (λ (u : List Update). with_updates u (session_from config peer new.standing (pending new.framing ++ (drop count rest ++ more)))) (sym (append-nil updates))
-        ∙ ap (λ (o : Option Update). with_updates (updates ++ listed o) (session_from config peer new.standing (pending new.framing ++ (drop count rest ++ more)))) (sym did.3);
+        ∙ ap (λ (o : Option Update). with_updates (updates ++ as_list o) (session_from config peer new.standing (pending new.framing ++ (drop count rest ++ more)))) (sym did.3);
   }
   by_step f alive c p (takes next taken behind) h did = record {
     alive = alive;
@@ -71,17 +76,17 @@ module _ (config : Config) (peer : Peer) (octets rest : List ℕ) (old new : Liv
         ∙ ap (λ (z : List ℕ). with_updates updates (session_from config peer old.standing z)) (sym (append_assoc (pending old.framing) rest more))
         ∙ ap (λ (r : List Update × Last). with_updates updates r) (session_takes config peer old.standing next taken (pending old.framing ++ rest) behind more h)
         ∙ one_more updates taken (session_from config peer next (behind ++ more))
-        ∙ ap (λ (o : Option Update). with_updates (updates ++ listed o) (session_from config peer next (behind ++ more))) (sym did.4)
-        ∙ ap (λ (s : Standing). with_updates (updates ++ listed update) (session_from config peer s (behind ++ more))) (sym did.3)
-        ∙ ap (λ (z : List ℕ). with_updates (updates ++ listed update) (session_from config peer new.standing (z ++ more))) did.1
-        ∙ ap (λ (z : List ℕ). with_updates (updates ++ listed update) (session_from config peer new.standing (z ++ (drop count rest ++ more)))) (sym did.2);
+        ∙ ap (λ (o : Option Update). with_updates (updates ++ as_list o) (session_from config peer next (behind ++ more))) (sym did.4)
+        ∙ ap (λ (s : Standing). with_updates (updates ++ as_list update) (session_from config peer s (behind ++ more))) (sym did.3)
+        ∙ ap (λ (z : List ℕ). with_updates (updates ++ as_list update) (session_from config peer new.standing (z ++ more))) did.1
+        ∙ ap (λ (z : List ℕ). with_updates (updates ++ as_list update) (session_from config peer new.standing (z ++ (drop count rest ++ more)))) (sym did.2);
   }
   by_step f alive c p (stops why) h did = absurd did
 
   -- what a call took is gone from the rest
   pub follows_fed : Follows config peer octets rest old updates → new.closed ≡ None → new.config ≡ old.config → new.peer ≡ old.peer
       → Does (step_with old rest) old new rest count update
-      → Follows config peer octets (drop count rest) new (updates ++ listed update)
+      → Follows config peer octets (drop count rest) new (updates ++ as_list update)
   follows_fed f alive c p did =
       let with_config : Does (step_of config old.peer old.standing (pending old.framing ++ rest)) old new rest count update =
       subst (λ (d : Config). Does (step_of d old.peer old.standing (pending old.framing ++ rest)) old new rest count update) f.config_is did in

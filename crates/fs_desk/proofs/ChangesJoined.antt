@@ -1,22 +1,30 @@
--- Changes of the table one after the other, and what each call of the table changes.
-use Rattle.std.proofs.Common.{◌≡◌, ◌==◌, ℕ, List, [], ◌∷◌, ◌++◌, Bool, true, false, ◌||◌, Option, Some, None, if◌then◌else◌, option_map, refl, ap, sym, ◌∙◌, append_assoc, append-nil, is_some, ◌⊎◌, inl, inr}
+-- Changes of the table one after the other, up to that of an update.
+use Rattle.std.proofs.Common.{◌≡◌, ◌==◌, ◌<◌, ◌+◌, ℕ, List, [], ◌∷◌, ◌++◌, Bool, true, false, ◌||◌, Option, Some, None, if◌then◌else◌, option_map, length, take, map, get_or, refl, ap, sym, ◌∙◌, append_assoc, append-nil, is_some, ◌⊎◌, inl, inr}
 use Rattle.std.specs.List.{list_any}
+use Rattle.std.proofs.lemmas.List.{take_more, map-append}
 use Rattle.fs_base.specs.declared.path.Path.{Path}
 use Rattle.fs_base.specs.declared.prefix.Prefix.{Prefix}
 use Rattle.fs_nlri.specs.Parts.{Ruled}
+use Rattle.fs_nlri.specs.Rule.{shown}
 use Rattle.fs_rules.specs.Held.{Held}
 use Rattle.fs_attrs.specs.Prefixes.{Shown}
 use Rattle.fs_attrs.specs.declared.update.Update.{Update}
 use Rattle.fs_attrs.specs.Update.{unicast_in, flows_in, given_prefixes}
-use Rattle.fs_desk.specs.Last.{last_such}
-use Rattle.fs_desk.specs.Updates.{Given, is_prefix, is_rule, given_with}
-use Rattle.fs_desk.specs.Held.{unicast_at, flow_at}
-use Rattle.fs_desk.specs.Turning.{Turns, same, taken_of, given_at, rules_taken, rules_given, given_or, told, told_of}
-use Rattle.fs_desk.proofs.LastLemmas.{last-more, later_of}
+use Rattle.fs_desk.specs.Leaves.{last_such, Given, is_prefix, is_rule, given_with, unicast_at, flow_at}
+use Rattle.fs_desk.specs.Apply.{Changes, same, taken_of, given_at, rules_taken, rules_given, given_or, told, told_of}
+use Rattle.fs_desk.proofs.Updates.{last-more, later_of}
+
+-- one more prefix of a list that a loop goes over
+pub shown_more : (prefixes : List Prefix) (i : ℕ) (prefix : Prefix) → i < length prefixes → prefix ≡ get_or prefixes i prefix
+    → map shown (take (i + 1) prefixes) ≡ map shown (take i prefixes) ++ shown prefix ∷ []
+shown_more prefixes i prefix within at =
+    ap (map shown) (take_more prefixes i prefix within)
+    ∙ map-append shown (take i prefixes) (get_or prefixes i prefix ∷ [])
+    ∙ ap (λ (x : Prefix). map shown (take i prefixes) ++ shown x ∷ []) (sym at)
 
 -- nothing changes
-pub turns_none : (peer : ℕ) (held : Held) → Turns peer same same held held
-turns_none peer held = record {
+pub changes_none : (peer : ℕ) (held : Held) → Changes peer same same held held
+changes_none peer held = record {
   config_is = refl;
   listed = λ l. l;
   unicast = λ l place. either_way (place.peer == peer) (unicast_at place held.unicast);
@@ -28,10 +36,10 @@ turns_none peer held = record {
     either_way false a = refl
 
 -- one change and then another
-pub turns_then : (peer : ℕ) (f f' : Prefix → Option Path → Option Path) (g g' : Ruled → Option Given → Option Given) (old mid new : Held)
-    → Turns peer f g old mid → Turns peer f' g' mid new
-    → Turns peer (λ p o. f' p (f p o)) (λ r o. g' r (g r o)) old new
-turns_then peer f f' g g' old mid new t u = record {
+pub changes_then : (peer : ℕ) (f f' : Prefix → Option Path → Option Path) (g g' : Ruled → Option Given → Option Given) (old mid new : Held)
+    → Changes peer f g old mid → Changes peer f' g' mid new
+    → Changes peer (λ p o. f' p (f p o)) (λ r o. g' r (g r o)) old new
+changes_then peer f f' g g' old mid new t u = record {
   config_is = u.config_is ∙ t.config_is;
   listed = λ l. u.listed (t.listed l);
   unicast = λ l place.
@@ -47,10 +55,10 @@ turns_then peer f f' g g' old mid new t u = record {
     joined false f' f mid old h = h
 
 -- a change may be said in other words
-pub turns_as : (peer : ℕ) (f f' : Prefix → Option Path → Option Path) (g g' : Ruled → Option Given → Option Given) (old new : Held)
+pub changes_as : (peer : ℕ) (f f' : Prefix → Option Path → Option Path) (g g' : Ruled → Option Given → Option Given) (old new : Held)
     → ((p : Prefix) (o : Option Path) → f p o ≡ f' p o) → ((r : Ruled) (o : Option Given) → g r o ≡ g' r o)
-    → Turns peer f g old new → Turns peer f' g' old new
-turns_as peer f f' g g' old new a b t = record {
+    → Changes peer f g old new → Changes peer f' g' old new
+changes_as peer f f' g g' old new a b t = record {
   config_is = t.config_is;
   listed = t.listed;
   unicast = λ l place. t.unicast l place ∙ said (place.peer == peer) _ _ _ (a place.prefix (unicast_at place old.unicast));
@@ -82,37 +90,37 @@ both_chosen false false value before = refl
 
 -- one more prefix taken
 pub taken_more : (peer : ℕ) (prefixes : List Shown) (prefix : Shown) (old mid new : Held)
-    → Turns peer (taken_of prefixes) same old mid → Turns peer (taken_of (prefix ∷ [])) same mid new
-    → Turns peer (taken_of (prefixes ++ prefix ∷ [])) same old new
+    → Changes peer (taken_of prefixes) same old mid → Changes peer (taken_of (prefix ∷ [])) same mid new
+    → Changes peer (taken_of (prefixes ++ prefix ∷ [])) same old new
 taken_more peer prefixes prefix old mid new t u =
-    turns_as peer (λ p o. taken_of (prefix ∷ []) p (taken_of prefixes p o)) (taken_of (prefixes ++ prefix ∷ [])) (λ r o. o) same old new
+    changes_as peer (λ p o. taken_of (prefix ∷ []) p (taken_of prefixes p o)) (taken_of (prefixes ++ prefix ∷ [])) (λ r o. o) same old new
     (λ p o.
     both_chosen (list_any (is_prefix p) prefixes) (is_prefix p prefix) None o
     ∙ ap (λ (b : Bool). if b then None else o) (sym (any-more (is_prefix p) prefixes prefix)))
     (λ r o. refl)
-    (turns_then peer (taken_of prefixes) (taken_of (prefix ∷ [])) same same old mid new t u)
+    (changes_then peer (taken_of prefixes) (taken_of (prefix ∷ [])) same same old mid new t u)
 
 pub given_more : (peer : ℕ) (path : Path) (prefixes : List Shown) (prefix : Shown) (old mid new : Held)
-    → Turns peer (given_at prefixes path) same old mid → Turns peer (given_at (prefix ∷ []) path) same mid new
-    → Turns peer (given_at (prefixes ++ prefix ∷ []) path) same old new
+    → Changes peer (given_at prefixes path) same old mid → Changes peer (given_at (prefix ∷ []) path) same mid new
+    → Changes peer (given_at (prefixes ++ prefix ∷ []) path) same old new
 given_more peer path prefixes prefix old mid new t u =
-    turns_as peer (λ p o. given_at (prefix ∷ []) path p (given_at prefixes path p o)) (given_at (prefixes ++ prefix ∷ []) path) (λ r o. o) same old new
+    changes_as peer (λ p o. given_at (prefix ∷ []) path p (given_at prefixes path p o)) (given_at (prefixes ++ prefix ∷ []) path) (λ r o. o) same old new
     (λ p o.
     both_chosen (list_any (is_prefix p) prefixes) (is_prefix p prefix) (Some path) o
     ∙ ap (λ (b : Bool). if b then Some path else o) (sym (any-more (is_prefix p) prefixes prefix)))
     (λ r o. refl)
-    (turns_then peer (given_at prefixes path) (given_at (prefix ∷ []) path) same same old mid new t u)
+    (changes_then peer (given_at prefixes path) (given_at (prefix ∷ []) path) same same old mid new t u)
 
 pub rules_taken_more : (peer : ℕ) (rules : List Ruled) (rule : Ruled) (old mid new : Held)
-    → Turns peer same (rules_taken rules) old mid → Turns peer same (rules_taken (rule ∷ [])) mid new
-    → Turns peer same (rules_taken (rules ++ rule ∷ [])) old new
+    → Changes peer same (rules_taken rules) old mid → Changes peer same (rules_taken (rule ∷ [])) mid new
+    → Changes peer same (rules_taken (rules ++ rule ∷ [])) old new
 rules_taken_more peer rules rule old mid new t u =
-    turns_as peer (λ p o. o) same (λ r o. rules_taken (rule ∷ []) r (rules_taken rules r o)) (rules_taken (rules ++ rule ∷ [])) old new
+    changes_as peer (λ p o. o) same (λ r o. rules_taken (rule ∷ []) r (rules_taken rules r o)) (rules_taken (rules ++ rule ∷ [])) old new
     (λ p o. refl)
     (λ r o.
     both_chosen (list_any (is_rule r) rules) (is_rule r rule) None o
     ∙ ap (λ (b : Bool). if b then None else o) (sym (any-more (is_rule r) rules rule)))
-    (turns_then peer same same (rules_taken rules) (rules_taken (rule ∷ [])) old mid new t u)
+    (changes_then peer same same (rules_taken rules) (rules_taken (rule ∷ [])) old mid new t u)
 
 given_twice : (before : Option Given) (a b : Option Ruled) (path : Path) (actions : List (List ℕ))
     → given_or (given_or before a path actions) b path actions ≡ given_or before (later_of a b) path actions
@@ -120,15 +128,15 @@ given_twice before a (Some rule) path actions = refl
 given_twice before a None path actions = refl
 
 pub rules_given_more : (peer : ℕ) (path : Path) (actions : List (List ℕ)) (rules : List Ruled) (rule : Ruled) (old mid new : Held)
-    → Turns peer same (rules_given rules path actions) old mid → Turns peer same (rules_given (rule ∷ []) path actions) mid new
-    → Turns peer same (rules_given (rules ++ rule ∷ []) path actions) old new
+    → Changes peer same (rules_given rules path actions) old mid → Changes peer same (rules_given (rule ∷ []) path actions) mid new
+    → Changes peer same (rules_given (rules ++ rule ∷ []) path actions) old new
 rules_given_more peer path actions rules rule old mid new t u =
-    turns_as peer (λ p o. o) same (λ r o. rules_given (rule ∷ []) path actions r (rules_given rules path actions r o)) (rules_given (rules ++ rule ∷ []) path actions) old new
+    changes_as peer (λ p o. o) same (λ r o. rules_given (rule ∷ []) path actions r (rules_given rules path actions r o)) (rules_given (rules ++ rule ∷ []) path actions) old new
     (λ p o. refl)
     (λ r o.
     given_twice o (last_such (is_rule r) rules) (if is_rule r rule then Some rule else None) path actions
     ∙ ap (λ (a : Option Ruled). given_or o a path actions) (sym (last-more (is_rule r) rules rule)))
-    (turns_then peer same same (rules_given rules path actions) (rules_given (rule ∷ []) path actions) old mid new t u)
+    (changes_then peer same same (rules_given rules path actions) (rules_given (rule ∷ []) path actions) old mid new t u)
 
 any-join : {A : Type 0} (test : A → Bool) (xs ys : List A) → list_any test (xs ++ ys) ≡ (list_any test xs || list_any test ys)
 any-join test [] ys = refl
@@ -146,26 +154,26 @@ joined_choice false false value before = refl
 
 -- prefixes of two lists, and rules
 pub taken_join : (peer : ℕ) (first later : List Shown) (rules : List Ruled) (old mid new : Held)
-    → Turns peer (taken_of first) same old mid → Turns peer (taken_of later) (rules_taken rules) mid new
-    → Turns peer (taken_of (first ++ later)) (rules_taken rules) old new
+    → Changes peer (taken_of first) same old mid → Changes peer (taken_of later) (rules_taken rules) mid new
+    → Changes peer (taken_of (first ++ later)) (rules_taken rules) old new
 taken_join peer first later rules old mid new t u =
-    turns_as peer (λ p o. taken_of later p (taken_of first p o)) (taken_of (first ++ later)) (λ r o. rules_taken rules r o) (rules_taken rules) old new
+    changes_as peer (λ p o. taken_of later p (taken_of first p o)) (taken_of (first ++ later)) (λ r o. rules_taken rules r o) (rules_taken rules) old new
     (λ p o.
     joined_choice (list_any (is_prefix p) first) (list_any (is_prefix p) later) None o
     ∙ ap (λ (b : Bool). if b then None else o) (sym (any-join (is_prefix p) first later)))
     (λ r o. refl)
-    (turns_then peer (taken_of first) (taken_of later) same (rules_taken rules) old mid new t u)
+    (changes_then peer (taken_of first) (taken_of later) same (rules_taken rules) old mid new t u)
 
 pub given_join : (peer : ℕ) (path : Path) (first later : List Shown) (rules : Ruled → Option Given → Option Given) (old mid new : Held)
-    → Turns peer (given_at first path) same old mid → Turns peer (given_at later path) rules mid new
-    → Turns peer (given_at (first ++ later) path) rules old new
+    → Changes peer (given_at first path) same old mid → Changes peer (given_at later path) rules mid new
+    → Changes peer (given_at (first ++ later) path) rules old new
 given_join peer path first later rules old mid new t u =
-    turns_as peer (λ p o. given_at later path p (given_at first path p o)) (given_at (first ++ later) path) rules rules old new
+    changes_as peer (λ p o. given_at later path p (given_at first path p o)) (given_at (first ++ later) path) rules rules old new
     (λ p o.
     joined_choice (list_any (is_prefix p) first) (list_any (is_prefix p) later) (Some path) o
     ∙ ap (λ (b : Bool). if b then Some path else o) (sym (any-join (is_prefix p) first later)))
     (λ r o. refl)
-    (turns_then peer (given_at first path) (given_at later path) same rules old mid new t u)
+    (changes_then peer (given_at first path) (given_at later path) same rules old mid new t u)
 
 -- what an update says, by whether it is treated as a withdrawal
 told_with : Bool → Update → Prefix → Option Path → Option Path
@@ -278,26 +286,38 @@ some_rule u path h n r o =
     ∙ ap (λ (rules : List Ruled). elim (last_such (is_rule r) (flows_in u.reach)) [ Some given ↦ given_with u given | None ↦ if list_any (is_rule r) rules then None else o ]) (sym (append-nil (flows_in u.unreach)))
     ∙ ap (λ (w : Bool). told_rule_with w u r o) (sym h)
 
+-- whether an update gives a path
+pub path_back : (w : Bool) (path given : Option Path) → given ≡ (if w then None else path) → given ≡ None → (w ≡ true) ⊎ ((w ≡ false) × (path ≡ None))
+path_back true path given e n = inl refl
+path_back false path given e n = inr (refl, sym e ∙ n)
+
+pub path_there : (w : Bool) (path given : Option Path) (found : Path) → given ≡ (if w then None else path) → given ≡ Some found → (w ≡ false) × (path ≡ Some found)
+path_there true path given found e n = absurd (none_there found (sym e ∙ n))
+  where
+    none_there : (found : Path) → None ≡ Some found → ⊥
+    none_there found h = absurd cc
+path_there false path given found e n = (refl, sym e ∙ n)
+
 -- an update that only takes
 pub told_back : (peer : ℕ) (u : Update) (old mid new : Held) → (u.as_withdraw ≡ true) ⊎ ((u.as_withdraw ≡ false) × (u.path ≡ None))
-    → Turns peer (taken_of (u.classic_out ++ unicast_in u.unreach)) (rules_taken (flows_in u.unreach)) old mid
-    → Turns peer (taken_of (u.classic_in ++ unicast_in u.reach)) (rules_taken (flows_in u.reach)) mid new
-    → Turns peer (told u) (told_of u) old new
+    → Changes peer (taken_of (u.classic_out ++ unicast_in u.unreach)) (rules_taken (flows_in u.unreach)) old mid
+    → Changes peer (taken_of (u.classic_in ++ unicast_in u.reach)) (rules_taken (flows_in u.reach)) mid new
+    → Changes peer (told u) (told_of u) old new
 told_back peer u old mid new (inl h) t v =
-    turns_as peer (λ p o. taken_of (u.classic_in ++ unicast_in u.reach) p (taken_of (u.classic_out ++ unicast_in u.unreach) p o)) (told u)
+    changes_as peer (λ p o. taken_of (u.classic_in ++ unicast_in u.reach) p (taken_of (u.classic_out ++ unicast_in u.unreach) p o)) (told u)
     (λ r o. rules_taken (flows_in u.reach) r (rules_taken (flows_in u.unreach) r o)) (told_of u) old new (back_prefix u h) (back_rule u h)
-    (turns_then peer _ _ _ _ old mid new t v)
+    (changes_then peer _ _ _ _ old mid new t v)
 told_back peer u old mid new (inr h) t v =
-    turns_as peer (λ p o. taken_of (u.classic_in ++ unicast_in u.reach) p (taken_of (u.classic_out ++ unicast_in u.unreach) p o)) (told u)
+    changes_as peer (λ p o. taken_of (u.classic_in ++ unicast_in u.reach) p (taken_of (u.classic_out ++ unicast_in u.unreach) p o)) (told u)
     (λ r o. rules_taken (flows_in u.reach) r (rules_taken (flows_in u.unreach) r o)) (told_of u) old new (none_prefix u h.0 h.1) (none_rule u h.0 h.1)
-    (turns_then peer _ _ _ _ old mid new t v)
+    (changes_then peer _ _ _ _ old mid new t v)
 
 -- an update that gives
 pub told_given : (peer : ℕ) (u : Update) (path : Path) (old mid new : Held) → u.as_withdraw ≡ false → u.path ≡ Some path
-    → Turns peer (taken_of (u.classic_out ++ unicast_in u.unreach)) (rules_taken (flows_in u.unreach)) old mid
-    → Turns peer (given_at (u.classic_in ++ unicast_in u.reach) path) (rules_given (flows_in u.reach) path u.actions) mid new
-    → Turns peer (told u) (told_of u) old new
+    → Changes peer (taken_of (u.classic_out ++ unicast_in u.unreach)) (rules_taken (flows_in u.unreach)) old mid
+    → Changes peer (given_at (u.classic_in ++ unicast_in u.reach) path) (rules_given (flows_in u.reach) path u.actions) mid new
+    → Changes peer (told u) (told_of u) old new
 told_given peer u path old mid new h n t v =
-    turns_as peer (λ p o. given_at (u.classic_in ++ unicast_in u.reach) path p (taken_of (u.classic_out ++ unicast_in u.unreach) p o)) (told u)
+    changes_as peer (λ p o. given_at (u.classic_in ++ unicast_in u.reach) path p (taken_of (u.classic_out ++ unicast_in u.unreach) p o)) (told u)
     (λ r o. rules_given (flows_in u.reach) path u.actions r (rules_taken (flows_in u.unreach) r o)) (told_of u) old new (some_prefix u path h n) (some_rule u path h n)
-    (turns_then peer _ _ _ _ old mid new t v)
+    (changes_then peer _ _ _ _ old mid new t v)
