@@ -8,14 +8,14 @@ use Rattle.fs_tape.specs.Tape.{Item}
 use Rattle.fs_desk.specs.Desk.{Desked}
 use Rattle.fs_cli.specs.Enforced.{EndsEarly, Enforces}
 use Rattle.fs_cli.specs.Files.{Names, config_stage}
-use Rattle.fs_desk.specs.Held.{Leaves}
+use Rattle.fs_desk.specs.Leaves.{Leaves}
 use Rattle.fs_cli.specs.Inputs.{tape_stage, capture_stage, accepted_stage}
 use Rattle.fs_cli.specs.Judged.{verdict_of, answered, Answers}
 use Rattle.fs_cli.specs.Stage.{Stage, Found, and_then, status_of, HasReason}
 use Rattle.fs_cli.specs.Tapes.{IsPlayed}
 use Rattle.fs_cli.specs.declared.refusal.Refusal.{Refusal}
 use Rattle.fs_cli.proofs.Answering.{reason_then, answers_for}
-use Rattle.fs_desk.proofs.Leaving.{played_leaves}
+use Rattle.fs_desk.proofs.Leaves.{played_leaves}
 
 -- what is answered for a refusal that a `?` hands on
 pub answered_err : {T : Type 0} (P : ℕ → Type 0) (r : Result T Refusal) (cause : Refusal) → IsErrAnd r (λ e. e ≡ cause) → P (status_of cause) → P (answered r)

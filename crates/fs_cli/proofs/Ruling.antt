@@ -20,7 +20,7 @@ use Rattle.fs_cli.specs.declared.refusal.Refusal.{Refusal}
 use Rattle.fs_cli.specs.declared.refusal.Refusal.TheVariants.{Outside, Config as Refused, Tape, Capture, Memory, Limit}
 use Rattle.fs_cli.proofs.Answering.{take_nothing}
 use Rattle.fs_cli.proofs.Enforcing.{accepted_with}
-use Rattle.fs_desk.proofs.Leaving.{played_leaves}
+use Rattle.fs_desk.proofs.Leaves.{played_leaves}
 
 -- no configuration is refused for a tape
 config_not_tape : (limit : ℕ) (holds : Names) (config : List ℕ) (reason : TapeReason) (place : ℕ) → config_stage limit holds config ≡ Stopped (Tape reason place) → ⊥

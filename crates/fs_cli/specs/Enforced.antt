@@ -8,7 +8,7 @@ use Rattle.fs_pcap.specs.Capture.{capture_of}
 use Rattle.fs_rules.specs.Held.{Held}
 use Rattle.fs_tape.specs.Tape.{Item, tape_of}
 use Rattle.fs_cli.specs.Files.{Names}
-use Rattle.fs_desk.specs.Held.{Leaves}
+use Rattle.fs_desk.specs.Leaves.{Leaves}
 use Rattle.fs_cli.specs.Inputs.{accepted_stage, capture_stage}
 use Rattle.fs_cli.specs.Judged.{Answers, verdict_of}
 use Rattle.fs_cli.specs.Output.{output_of}

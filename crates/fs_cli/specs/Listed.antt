@@ -5,11 +5,12 @@ use Rattle.fs_base.specs.Sink.{Grew}
 use Rattle.fs_base.specs.Records.{done}
 use Rattle.fs_base.specs.declared.config.Config.{Config}
 use Rattle.fs_conf.specs.Config.{config_of}
-use Rattle.fs_listing.specs.Listing.{listing, tape_fault_line}
+use Rattle.fs_listing.specs.Listing.{listing}
+use Rattle.fs_listing.specs.TapeFault.{tape_fault_line}
 use Rattle.fs_rules.specs.Held.{Held}
 use Rattle.fs_tape.specs.Tape.{Item, tape_of}
 use Rattle.fs_cli.specs.Files.{Names}
-use Rattle.fs_desk.specs.Held.{Leaves}
+use Rattle.fs_desk.specs.Leaves.{Leaves}
 use Rattle.fs_cli.specs.Inputs.{accepted_stage}
 use Rattle.fs_cli.specs.Judged.{Verdict, Answers}
 use Rattle.fs_cli.specs.Listing.{Fails}

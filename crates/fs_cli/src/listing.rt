@@ -4,7 +4,8 @@ ghost use Rattle.std.specs.Prelude.{◌≤◌, IfErr, List};
 ghost use Rattle.fs_base.specs.Outside.{Rose};
 ghost use Rattle.fs_base.specs.declared.config.Config.{Config};
 ghost use Rattle.fs_tape.specs.Tape.{Item};
-ghost use Rattle.fs_listing.specs.Listing.{listing, tape_fault_line};
+ghost use Rattle.fs_listing.specs.Listing.{listing};
+ghost use Rattle.fs_listing.specs.TapeFault.{tape_fault_line};
 ghost use Rattle.fs_desk.specs.Desk.{Played};
 ghost use Rattle.fs_cli.specs.Judged.{IsLate};
 ghost use Rattle.fs_cli.specs.Listing.{Writes};
@@ -12,7 +13,7 @@ ghost use Rattle.fs_cli.specs.Listing.{Writes};
 use crate::refusal::Refusal;
 use fs_base::{Sink, write_all};
 use fs_desk::Desk;
-use fs_listing::{append_tape_fault, desk_text};
+use fs_listing::{desk_text, tape_fault_text};
 use fs_tape::TapeReason;
 use std::alloc::Global;
 
@@ -33,8 +34,7 @@ pub fn list_desk<S: Sink>(alloc: Global, desk: &Desk<'_>, sink: &mut S) -> Resul
         → Writes (listing config items desk.now.held) (Rose (S.faults sink.old) (S.faults sink.new)) (S.written sink.old) (S.written sink.new) result }
 {
     let text = desk_text(alloc, desk)?;
-    write_all(sink, &text)?;
-    Ok(())
+    write_text(&text, sink)
 }
 
 /// Writes the line of a tape's fault, in one piece.
@@ -51,8 +51,16 @@ pub fn list_tape_fault<S: Sink>(
     ensures later { S.faults sink.old ≤ S.faults sink.new }
     ensures written { Writes (tape_fault_line reason place) (Rose (S.faults sink.old) (S.faults sink.new)) (S.written sink.old) (S.written sink.new) result }
 {
-    let mut text = Vec::new(alloc);
-    append_tape_fault(reason, place, &mut text)?;
-    write_all(sink, &text)?;
+    let text = tape_fault_text(alloc, reason, place)?;
+    write_text(&text, sink)
+}
+
+/// Writes a text in one piece.
+fn write_text<S: Sink>(text: &[u8], sink: &mut S) -> Result<(), Refusal>
+    ensures late { IfErr result IsLate }
+    ensures later { S.faults sink.old ≤ S.faults sink.new }
+    ensures written { Writes text.now (Rose (S.faults sink.old) (S.faults sink.new)) (S.written sink.old) (S.written sink.new) result }
+{
+    write_all(sink, text)?;
     Ok(())
 }

@@ -1,18 +1,16 @@
-mod EntryLists
-mod Following
-mod Kept
-mod LastLemmas
-mod LifeLemmas
-pub mod Leaving
-mod Listed
-mod OneHeld
-mod OneList
-mod PlaceKeys
-mod Playing
-mod Receiving
-mod Saying
-mod Speaking
+mod ChangesJoined
+mod Entries
+mod Follows
+mod KeyedLists
+mod KeyedSame
+mod Keys
+pub mod Leaves
+mod Life
+mod Pieces
+mod Played
+mod Replies
+mod Replying
+mod SameRoutes
 pub mod Standing
-mod Stepped
-mod TableTurns
-mod Turned
+mod TableChanges
+mod Updates

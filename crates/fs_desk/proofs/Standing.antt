@@ -11,11 +11,11 @@ use Rattle.fs_speaker.specs.Steps.{Live as Session}
 use Rattle.fs_tape.specs.Tape.{Item}
 use Rattle.fs_desk.specs.Life.{life}
 use Rattle.fs_desk.specs.Desk.{Desked, session_at, PeerIs, Played, standing_of, standing_at_desk}
-use Rattle.fs_desk.specs.Following.{IsFed}
+use Rattle.fs_desk.specs.Receive.{IsFed}
 use Rattle.fs_speaker.specs.declared.state.Standing.{Standing}
 use Rattle.fs_speaker.specs.declared.state.Standing.TheVariants.{Down, Up, Ended}
 use Rattle.fs_speaker.specs.State.{standing_at, standing_by}
-use Rattle.fs_desk.proofs.Following.{follows_session, over_session}
+use Rattle.fs_desk.proofs.Follows.{follows_session, over_session}
 
 -- what a session came to is what the desk keeps of it
 fed_stands : (config : Config) (peer : Peer) (octets : List ℕ) (session : Session) (updates : List Update) (why : Option Closed)
@@ -33,7 +33,7 @@ session_with config peer octets = elim peer [ None ↦ ([], still at_start) | So
 peer_stands : (config : Config) (number : ℕ) (held : Held) (peer : Option Peer) (octets : Option (List ℕ)) (session : Option Session)
     → PeerIs config peer octets session number held → peer_of number config.peers ≡ peer
     → standing_by session ≡ (elim octets [ None ↦ Down | Some sent ↦ standing_at (session_of config number sent).1 ])
-peer_stands config number held peer None None keeps own = refl
+peer_stands config number held peer None None left own = refl
 peer_stands config number held (Some peer) (Some octets) (Some session) stands own =
     fed_stands config peer octets session stands.updates session.closed stands.fed
     ∙ sym (ap (λ (p : Option Peer). standing_at (session_with config p octets).1) own)

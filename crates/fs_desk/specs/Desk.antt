@@ -1,5 +1,5 @@
 -- What the desk keeps, and what the items that were played make of it.
-use Rattle.std.specs.Prelude.{◌≡◌, ℕ, List, [], ◌++◌, Option, Some, None}
+use Rattle.std.specs.Prelude.{◌≡◌, ℕ, List, [], ◌∷◌, ◌++◌, Option, Some, None}
 use Rattle.std.specs.Ordering.{nat_cmp}
 use Rattle.std.specs.List.Sorted.{IsStrictlySortedBy}
 use Rattle.std.specs.Map.{lookup, keys_of}
@@ -16,8 +16,8 @@ use Rattle.fs_speaker.specs.State.{standing_at, standing_by}
 use Rattle.fs_speaker.specs.Steps.{Live}
 use Rattle.fs_tape.specs.Tape.{Item}
 use Rattle.fs_desk.specs.Life.{life}
-use Rattle.fs_desk.specs.Held.{IsListed}
-use Rattle.fs_desk.specs.Keeping.{Keeps, Stands}
+use Rattle.fs_desk.specs.Leaves.{IsListed}
+use Rattle.fs_desk.specs.Receive.{IsLeft, IsUp}
 
 -- the configuration, the routes held, and the sessions of the peers that are up
 pub record Desked : Type 0 where
@@ -30,8 +30,8 @@ session_at number sessions = lookup (is_at (nat_cmp number)) sessions
 
 -- a peer that is down holds nothing; one that is up is configured, and its session has been fed with its life's octets
 abbrev pub PeerIs : Config → Option Peer → Option (List ℕ) → Option Live → ℕ → Held → Type 0
-PeerIs config peer None None number held = Keeps number [] held
-PeerIs config (Some peer) (Some octets) (Some session) number held = Stands config peer number octets session held
+PeerIs config peer None None number held = IsLeft number [] held
+PeerIs config (Some peer) (Some octets) (Some session) number held = IsUp config peer number octets session held
 PeerIs config _ _ _ number held = ⊥
 
 -- the desk stands as these items leave it
@@ -40,20 +40,31 @@ pub record Played (config : Config) (items : List Item) (desk : Desked) : Type 0
   pub held_is : desk.held.config ≡ config
   pub listed : IsListed desk.held
   pub sessions : IsStrictlySortedBy nat_cmp (keys_of desk.sessions)
-  pub each : (number : ℕ) → PeerIs config (peer_of number config.peers) (life number items) (session_at number desk.sessions) number desk.held
+  pub each : (number : ℕ)
+      → PeerIs config (peer_of number config.peers) (life number items) (session_at number desk.sessions) number
+      desk.held
 
--- what was replied before still stands
-abbrev pub Grew : List ℕ → List ℕ → Type 0
-Grew before now = (more : List ℕ) × (now ≡ before ++ more)
+-- one more item was played
+abbrev pub Plays : Item → Desked → Desked → Type 0
+Plays item old new =
+    (config : Config) (items : List Item) → Played config items old → Played config (items ++ item ∷ []) new
 
--- What a piece of a peer's octets adds to the replies. Octets of a peer that is down are not answered. Those of one that
--- is up add what is replied to all octets of its life beyond what is replied to those before.
+-- What a piece of a peer's octets adds to the replies. Octets of a peer that is down are not answered. Those of one
+-- that is up add what is replied to all octets of its life beyond what is replied to those before.
 abbrev pub Replied : Config → ℕ → Option (List ℕ) → List ℕ → List ℕ → List ℕ → Type 0
 Replied config number None piece before now = now ≡ before
 Replied config number (Some octets) piece before now =
-    (more : List ℕ) × (now ≡ before ++ more) × (replies_of config number (octets ++ piece) ≡ replies_of config number octets ++ more)
+    (more : List ℕ) × (now ≡ before ++ more)
+    × (replies_of config number (octets ++ piece) ≡ replies_of config number octets ++ more)
 
--- how it stands with a peer behind these items: it is down without a life, and else the session of its life's octets tells
+-- so behind whatever was played before
+abbrev pub RepliesBehind : ℕ → Desked → List ℕ → List ℕ → List ℕ → Type 0
+RepliesBehind peer desk piece before now =
+    (config : Config) (items : List Item) → Played config items desk
+    → Replied config peer (life peer items) piece before now
+
+-- how it stands with a peer behind these items: it is down without a life, and else the session of its life's octets
+-- tells
 abbrev pub standing_of : Config → List Item → ℕ → Standing
 standing_of config items number =
     elim (life number items) [ None ↦ Down | Some octets ↦ standing_at (session_of config number octets).1 ]

@@ -1,11 +1,6 @@
+pub mod Apply
 pub mod Desk
-pub mod Feeding
-pub mod Following
-pub mod Held
-pub mod Keeping
-pub mod Last
+pub mod Laws
+pub mod Leaves
 pub mod Life
-pub mod Memories
-pub mod Received
-pub mod Turning
-pub mod Updates
+pub mod Receive

@@ -1,9 +1,9 @@
 //! What an update of a peer does to the table.
 
-ghost use Rattle.std.specs.Prelude.{◌++◌, map, OnOk};
+ghost use Rattle.std.specs.Prelude.{◌≡◌, ◌++◌, None, map, OnOk, if◌then◌else◌};
 ghost use Rattle.fs_nlri.specs.Rule.{shown};
 ghost use Rattle.fs_attrs.specs.Update.{unicast_in, flows_in};
-ghost use Rattle.fs_desk.specs.Turning.{Turns, same, taken_of, given_at, rules_taken, rules_given, told, told_of};
+ghost use Rattle.fs_desk.specs.Apply.{Applies, Announces, Changes, Withdraws, same, taken_of, given_at, rules_taken, rules_given};
 
 use fs_actions::Actions;
 use fs_attrs::{PrefixList, Routes, RuleList, Update};
@@ -20,7 +20,7 @@ pub fn apply<L: Ledger>(
     update: Update,
     steps: &mut Steps<L>,
 ) -> Result<(), Memory>
-    ensures { OnOk result (Turns peer (told update) (told_of update) table.old table.new) }
+    ensures { OnOk result (Applies peer update table.old table.new) }
 {
     let Update {
         classic_out,
@@ -32,16 +32,19 @@ pub fn apply<L: Ledger>(
         as_withdraw,
     } = update;
     withdraw(table, peer, &classic_out, unreach, steps);
-    if as_withdraw {
-        withdraw(table, peer, &classic_in, reach, steps);
-        return Ok(());
-    }
-    let Some(path) = path else {
+    let Some(path) = path_given(path, as_withdraw) else {
         withdraw(table, peer, &classic_in, reach, steps);
         return Ok(());
     };
     give_prefixes(table, peer, &classic_in, &path, steps)?;
     give_routes(table, peer, reach, &path, &actions, steps)
+}
+
+/// The path of the routes that an update gives. It gives none where its routes are to be treated as withdrawn.
+fn path_given(path: Option<Path>, as_withdraw: bool) -> Option<Path>
+    ensures { result ≡ (if as_withdraw then None else path) }
+{
+    if as_withdraw { None } else { path }
 }
 
 fn withdraw<L: Ledger>(
@@ -51,7 +54,7 @@ fn withdraw<L: Ledger>(
     routes: Option<Routes>,
     steps: &mut Steps<L>,
 )
-    ensures { Turns peer (taken_of (prefixes.now ++ unicast_in routes)) (rules_taken (flows_in routes)) table.old table.new }
+    ensures { Withdraws peer (prefixes.now ++ unicast_in routes) (flows_in routes) table.old table.new }
 {
     withdraw_prefixes(table, peer, prefixes, steps);
     withdraw_routes(table, peer, routes, steps);
@@ -63,7 +66,7 @@ fn withdraw_routes<L: Ledger>(
     routes: Option<Routes>,
     steps: &mut Steps<L>,
 )
-    ensures { Turns peer (taken_of (unicast_in routes)) (rules_taken (flows_in routes)) table.old table.new }
+    ensures { Withdraws peer (unicast_in routes) (flows_in routes) table.old table.new }
 {
     match routes {
         Some(Routes::Unicast(_, prefixes)) => withdraw_prefixes(table, peer, &prefixes, steps),
@@ -80,7 +83,8 @@ fn give_routes<L: Ledger>(
     actions: &Actions,
     steps: &mut Steps<L>,
 ) -> Result<(), Memory>
-    ensures { OnOk result (Turns peer (given_at (unicast_in routes) path.now) (rules_given (flows_in routes) path.now actions.now) table.old table.new) }
+    ensures { OnOk result
+        (Announces peer (unicast_in routes) (flows_in routes) path.now actions.now table.old table.new) }
 {
     match routes {
         Some(Routes::Unicast(_, prefixes)) => give_prefixes(table, peer, &prefixes, path, steps),
@@ -95,7 +99,7 @@ fn withdraw_prefixes<L: Ledger>(
     prefixes: &PrefixList,
     steps: &mut Steps<L>,
 )
-    ensures { Turns peer (taken_of prefixes.now) same table.old table.new }
+    ensures { Changes peer (taken_of prefixes.now) same table.old table.new }
 {
     withdraw_each(table, peer, prefixes.as_slice(), steps);
 }
@@ -106,7 +110,7 @@ fn withdraw_each<L: Ledger>(
     prefixes: &[Prefix],
     steps: &mut Steps<L>,
 )
-    ensures { Turns peer (taken_of (map shown prefixes.now)) same table.old table.new }
+    ensures { Changes peer (taken_of (map shown prefixes.now)) same table.old table.new }
 {
     for prefix in prefixes {
         table.withdraw_unicast(peer, prefix, steps);
@@ -120,7 +124,7 @@ fn give_prefixes<L: Ledger>(
     path: &Path,
     steps: &mut Steps<L>,
 ) -> Result<(), Memory>
-    ensures { OnOk result (Turns peer (given_at prefixes.now path.now) same table.old table.new) }
+    ensures { OnOk result (Changes peer (given_at prefixes.now path.now) same table.old table.new) }
 {
     give_each(table, peer, prefixes.as_slice(), path, steps)
 }
@@ -132,7 +136,7 @@ fn give_each<L: Ledger>(
     path: &Path,
     steps: &mut Steps<L>,
 ) -> Result<(), Memory>
-    ensures { OnOk result (Turns peer (given_at (map shown prefixes.now) path.now) same table.old table.new) }
+    ensures { OnOk result (Changes peer (given_at (map shown prefixes.now) path.now) same table.old table.new) }
 {
     for prefix in prefixes {
         table.put_unicast(peer, *prefix, path.copy()?, steps)?;
@@ -146,7 +150,7 @@ fn withdraw_rules<L: Ledger>(
     rules: RuleList,
     steps: &mut Steps<L>,
 )
-    ensures { Turns peer same (rules_taken rules) table.old table.new }
+    ensures { Changes peer same (rules_taken rules) table.old table.new }
 {
     for rule in rules.into_vec() {
         table.withdraw_flow(peer, &Ranked { rule }, steps);
@@ -161,7 +165,7 @@ fn give_rules<L: Ledger>(
     actions: &Actions,
     steps: &mut Steps<L>,
 ) -> Result<(), Memory>
-    ensures { OnOk result (Turns peer same (rules_given rules path.now actions.now) table.old table.new) }
+    ensures { OnOk result (Changes peer same (rules_given rules path.now actions.now) table.old table.new) }
 {
     for rule in rules.into_vec() {
         table.put_flow(peer, rule, path.copy()?, actions.copy()?, steps)?;

@@ -4,6 +4,7 @@
 mod apply;
 mod desk;
 mod laws;
+mod receive;
 
 pub use desk::Desk;
 pub use laws::same_routes;

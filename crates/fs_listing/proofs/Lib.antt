@@ -1,3 +1,2 @@
-mod Fronts
 mod Numbers
 mod PeerLines

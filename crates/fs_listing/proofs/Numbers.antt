@@ -13,7 +13,7 @@ use Rattle.std.proofs.lemmas.Map.Lookups.{btree_set_from_contains, exact_unsigne
 use Rattle.std.proofs.lemmas.Map.Views.{btree_set_contains_iff}
 use Rattle.fs_base.specs.Config.{peer_of}
 use Rattle.fs_base.specs.declared.config.Peer.{Peer}
-use Rattle.fs_listing.specs.Listing.{numbers_below}
+use Rattle.fs_listing.specs.Peers.{numbers_below}
 
 abbrev pub number_of : Peer → ℕ
 number_of peer = peer.number

@@ -6,7 +6,9 @@ use Rattle.fs_speaker.specs.declared.state.Standing.{Standing}
 use Rattle.fs_tape.specs.Tape.{Item}
 use Rattle.fs_desk.specs.Desk.{Desked, Played, standing_of, standing_at_desk}
 use Rattle.fs_desk.proofs.Standing.{desk_stands}
-use Rattle.fs_listing.specs.Listing.{peer_line, peers_text, numbers_of, listing_of, family_text, listing, desk_text}
+use Rattle.fs_listing.specs.Listing.{listing_of, listing, desk_text}
+use Rattle.fs_listing.specs.Peers.{peer_line, peers_text, numbers_of}
+use Rattle.fs_listing.specs.Rules.{family_text}
 
 peers_same : (numbers : List ℕ) (a b : ℕ → Standing) → ((n : ℕ) → a n ≡ b n) → peers_text numbers a ≡ peers_text numbers b
 peers_same [] a b same = refl

@@ -1,1 +1,4 @@
 pub mod Listing
+pub mod Peers
+pub mod Rules
+pub mod TapeFault

@@ -14,15 +14,20 @@ use std::alloc::Global;
 
 /// The listing: a line for each configured peer, by number, then for IPv4 and for IPv6 the admitted rules in order and
 /// the held routes that aren't valid.
+///
+/// # Errors
+///
+/// `Memory` where the machine refused memory.
 pub fn desk_text(alloc: Global, desk: &Desk<'_>) -> Result<Vec<u8>, Memory>
-    ensures { IfOk result (λ text. (config : Config) (items : List Item) → Played config items desk.now → text.items ≡ listing config items desk.now.held) }
+    ensures { IfOk result (λ text. (config : Config) (items : List Item) → Played config items desk.now
+        → text.items ≡ listing config items desk.now.held) }
 {
     let mut text = Vec::new(alloc);
     append_desk(alloc, desk, &mut text)?;
     Ok(text)
 }
 
-/// Appends the listing. What is appended up to want of memory stays.
+/// Appends the listing.
 fn append_desk(alloc: Global, desk: &Desk<'_>, text: &mut Vec<u8>) -> Result<(), Memory>
     ensures { OnOk result (text.new.items ≡ text.old.items ++ desk_text desk.now) }
 {

@@ -1,19 +1,18 @@
 //! The lines of peers.
 
-ghost use Rattle.std.specs.Prelude.{◌≡◌, ◌++◌, IfOk, OnOk, OnErr, take};
-ghost use Rattle.std.specs.Vec.{vec_len};
+ghost use Rattle.std.specs.Prelude.{◌≡◌, ◌++◌, IfOk, OnOk};
 ghost use Rattle.fs_desk.specs.Desk.{standing_at_desk};
-ghost use Rattle.fs_listing.specs.Listing.{codes_text, numbers_of, standing_text, state_name, peer_line, peers_text};
+ghost use Rattle.fs_listing.specs.Peers.{codes_text, desk_peers, numbers_of, standing_text, state_name, peer_line, peers_text};
 
-use crate::pieces::{append, append_decimal};
 use fs_base::{Memory, Peer};
 use fs_desk::Desk;
+use fs_line::{append, append_decimal};
 use fs_speaker::{Closed, Standing, State};
 use std::alloc::Global;
 
 /// Appends the lines of the configured peers, by their numbers.
 pub fn append_peers(alloc: Global, desk: &Desk<'_>, text: &mut Vec<u8>) -> Result<(), Memory>
-    ensures { OnOk result (text.new.items ≡ text.old.items ++ peers_text (numbers_of desk.now.config.peers) (standing_at_desk desk.now)) }
+    ensures { OnOk result (text.new.items ≡ text.old.items ++ desk_peers desk.now) }
 {
     let numbers = numbers_of(alloc, desk.config().peers.as_slice())?;
     append_each(desk, &numbers, text)
@@ -30,7 +29,7 @@ fn append_each(desk: &Desk<'_>, numbers: &[u16], text: &mut Vec<u8>) -> Result<(
 }
 
 /// The numbers of the peers, each once, by size.
-pub fn numbers_of(alloc: Global, peers: &[Peer]) -> Result<Vec<u16>, Memory>
+fn numbers_of(alloc: Global, peers: &[Peer]) -> Result<Vec<u16>, Memory>
     ensures { IfOk result (λ numbers. numbers.items ≡ numbers_of peers.now) }
 {
     let mut numbers = Vec::with_capacity(alloc, peers.len())?;
@@ -42,24 +41,9 @@ pub fn numbers_of(alloc: Global, peers: &[Peer]) -> Result<Vec<u16>, Memory>
     Ok(numbers)
 }
 
-/// Appends the line of a peer: its number and how it stands with it. After `Memory` `text` is as before.
-pub fn append_peer(number: u16, standing: Standing, text: &mut Vec<u8>) -> Result<(), Memory>
-    ensures ok { OnOk result (text.new.items ≡ text.old.items ++ peer_line number standing) }
-    ensures err { OnErr result (text.new.items ≡ text.old.items) }
-{
-    let start = text.len();
-    let written = append_line(number, standing, text);
-    if written.is_err() {
-        text.truncate(start);
-    }
-    written
-}
-
-// What these functions append up to want of memory stays; `append_peer` takes it away.
-
-fn append_line(number: u16, standing: Standing, text: &mut Vec<u8>) -> Result<(), Memory>
-    ensures ok { OnOk result (text.new.items ≡ text.old.items ++ peer_line number standing) }
-    ensures front { take (vec_len text.old) text.new.items ≡ text.old.items }
+/// Appends the line of a peer: its number and how it stands with it.
+fn append_peer(number: u16, standing: Standing, text: &mut Vec<u8>) -> Result<(), Memory>
+    ensures { OnOk result (text.new.items ≡ text.old.items ++ peer_line number standing) }
 {
     append(b"peer ", text)?;
     append_decimal(number, text)?;
@@ -68,9 +52,9 @@ fn append_line(number: u16, standing: Standing, text: &mut Vec<u8>) -> Result<()
     append(b"\n", text)
 }
 
+/// Appends how it stands with a peer.
 fn append_standing(standing: Standing, text: &mut Vec<u8>) -> Result<(), Memory>
-    ensures ok { OnOk result (text.new.items ≡ text.old.items ++ standing_text standing) }
-    ensures front { take (vec_len text.old) text.new.items ≡ text.old.items }
+    ensures { OnOk result (text.new.items ≡ text.old.items ++ standing_text standing) }
 {
     match standing {
         Standing::Down => append(b"down", text),
@@ -90,8 +74,7 @@ fn append_standing(standing: Standing, text: &mut Vec<u8>) -> Result<(), Memory>
 
 /// Appends a word and the two codes of a NOTIFICATION (RFC 4271 section 4.5).
 fn append_codes(word: &[u8], code: u8, subcode: u8, text: &mut Vec<u8>) -> Result<(), Memory>
-    ensures ok { OnOk result (text.new.items ≡ text.old.items ++ codes_text word.now code subcode) }
-    ensures front { take (vec_len text.old) text.new.items ≡ text.old.items }
+    ensures { OnOk result (text.new.items ≡ text.old.items ++ codes_text word.now code subcode) }
 {
     append(word, text)?;
     append_decimal(code, text)?;

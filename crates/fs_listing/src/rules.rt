@@ -1,50 +1,28 @@
 //! The lines of rules.
 
-ghost use Rattle.std.specs.Prelude.{◌≡◌, ◌+◌, ◌++◌, flat_map, map, option_map, OnOk, OnErr, take};
-ghost use Rattle.std.specs.Vec.{vec_len};
+ghost use Rattle.std.specs.Prelude.{◌≡◌, ◌+◌, ◌++◌, map, option_map, OnOk};
 ghost use Rattle.hex.specs.Hex.{encode_lower};
 ghost use Rattle.fs_nlri.specs.Rule.{canonical_frame};
 ghost use Rattle.fs_rules.specs.Lent.{shown_admitted, shown_held};
-ghost use Rattle.fs_listing.specs.Listing.{actions_text, admitted_line, admitted_lines, head_text, invalid_line, invalid_text, number_text, reason_of, tail_text, family_text};
+ghost use Rattle.fs_listing.specs.Rules.{actions_text, admitted_line, admitted_lines, family_text, head_text, invalid_line, invalid_lines, invalid_text, number_text, reason_of, tail_text};
 
-use crate::pieces::{append, append_decimal, append_hex, family_name};
 use fs_actions::Actions;
 use fs_base::{Family, Memory};
+use fs_line::{append, append_decimal, append_hex, family_name};
 use fs_nlri::{Rule, encode};
 use fs_rules::{Admitted, HeldFlow, Table};
 use fs_validate::Validity;
 use std::alloc::Global;
 
 /// Appends the lines of a family's rules: of the admitted ones in order, each with its number from 1, and then of each
-/// held route that isn't valid, with the reason, in the order of rules, then by peer. After `Memory` `text` is as
-/// before.
+/// held route that isn't valid, with the reason, in the order of rules, then by peer.
 pub fn append_rules(
     alloc: Global,
     family: Family,
     table: &Table<'_>,
     text: &mut Vec<u8>,
 ) -> Result<(), Memory>
-    ensures ok { OnOk result (text.new.items ≡ text.old.items ++ family_text family table.now) }
-    ensures err { OnErr result (text.new.items ≡ text.old.items) }
-{
-    let start = text.len();
-    let written = append_lines(alloc, family, table, text);
-    if written.is_err() {
-        text.truncate(start);
-    }
-    written
-}
-
-// What these functions append up to want of memory stays; `append_rules` takes it away.
-
-fn append_lines(
-    alloc: Global,
-    family: Family,
-    table: &Table<'_>,
-    text: &mut Vec<u8>,
-) -> Result<(), Memory>
-    ensures ok { OnOk result (text.new.items ≡ text.old.items ++ family_text family table.now) }
-    ensures front { take (vec_len text.old) text.new.items ≡ text.old.items }
+    ensures { OnOk result (text.new.items ≡ text.old.items ++ family_text family table.now) }
 {
     let admitted = table.admitted(family)?;
     append_admitted(alloc, family, &admitted, text)?;
@@ -59,8 +37,7 @@ fn append_admitted(
     rules: &[Admitted<'_>],
     text: &mut Vec<u8>,
 ) -> Result<(), Memory>
-    ensures ok { OnOk result (text.new.items ≡ text.old.items ++ admitted_lines family 1 (map shown_admitted rules.now)) }
-    ensures front { take (vec_len text.old) text.new.items ≡ text.old.items }
+    ensures { OnOk result (text.new.items ≡ text.old.items ++ admitted_lines family 1 (map shown_admitted rules.now)) }
 {
     for (place, rule) in rules.iter().enumerate() {
         append_admitted_rule(alloc, family, place + 1, rule, text)?;
@@ -76,8 +53,7 @@ fn append_admitted_rule(
     rule: &Admitted<'_>,
     text: &mut Vec<u8>,
 ) -> Result<(), Memory>
-    ensures ok { OnOk result (text.new.items ≡ text.old.items ++ admitted_line family number (shown_admitted rule.now)) }
-    ensures front { take (vec_len text.old) text.new.items ≡ text.old.items }
+    ensures { OnOk result (text.new.items ≡ text.old.items ++ admitted_line family number (shown_admitted rule.now)) }
 {
     append_number(family, number, text)?;
     append_head(alloc, rule.rule, rule.peer, text)?;
@@ -86,8 +62,7 @@ fn append_admitted_rule(
 
 /// Appends the family's name and the number of a rule.
 fn append_number(family: Family, number: usize, text: &mut Vec<u8>) -> Result<(), Memory>
-    ensures ok { OnOk result (text.new.items ≡ text.old.items ++ number_text family number) }
-    ensures front { take (vec_len text.old) text.new.items ≡ text.old.items }
+    ensures { OnOk result (text.new.items ≡ text.old.items ++ number_text family number) }
 {
     append(family_name(family), text)?;
     append(b" ", text)?;
@@ -96,8 +71,7 @@ fn append_number(family: Family, number: usize, text: &mut Vec<u8>) -> Result<()
 
 /// Appends the rule's canonical octets and the peer's number.
 fn append_head(alloc: Global, rule: &Rule, peer: u16, text: &mut Vec<u8>) -> Result<(), Memory>
-    ensures ok { OnOk result (text.new.items ≡ text.old.items ++ head_text rule.now peer) }
-    ensures front { take (vec_len text.old) text.new.items ≡ text.old.items }
+    ensures { OnOk result (text.new.items ≡ text.old.items ++ head_text rule.now peer) }
 {
     append(b" ", text)?;
     append_frame(alloc, rule, text)?;
@@ -107,8 +81,7 @@ fn append_head(alloc: Global, rule: &Rule, peer: u16, text: &mut Vec<u8>) -> Res
 
 /// Appends the rule's canonical frame in hexadecimal.
 fn append_frame(alloc: Global, rule: &Rule, text: &mut Vec<u8>) -> Result<(), Memory>
-    ensures ok { OnOk result (text.new.items ≡ text.old.items ++ encode_lower (canonical_frame rule.now)) }
-    ensures err { OnErr result (text.new.items ≡ text.old.items) }
+    ensures { OnOk result (text.new.items ≡ text.old.items ++ encode_lower (canonical_frame rule.now)) }
 {
     let mut frame = Vec::new(alloc);
     encode(rule, &mut frame)?;
@@ -117,8 +90,7 @@ fn append_frame(alloc: Global, rule: &Rule, text: &mut Vec<u8>) -> Result<(), Me
 
 /// Appends what an admitted rule's line says of its actions, and the line's end.
 fn append_tail(alloc: Global, actions: &Actions, text: &mut Vec<u8>) -> Result<(), Memory>
-    ensures ok { OnOk result (text.new.items ≡ text.old.items ++ tail_text actions.now) }
-    ensures front { take (vec_len text.old) text.new.items ≡ text.old.items }
+    ensures { OnOk result (text.new.items ≡ text.old.items ++ tail_text actions.now) }
 {
     append(b" actions ", text)?;
     append_actions(alloc, actions, text)?;
@@ -127,8 +99,7 @@ fn append_tail(alloc: Global, actions: &Actions, text: &mut Vec<u8>) -> Result<(
 
 /// Appends the communities of the actions in hexadecimal, or `-` where there are none.
 fn append_actions(alloc: Global, actions: &Actions, text: &mut Vec<u8>) -> Result<(), Memory>
-    ensures ok { OnOk result (text.new.items ≡ text.old.items ++ actions_text actions.now) }
-    ensures err { OnErr result (text.new.items ≡ text.old.items) }
+    ensures { OnOk result (text.new.items ≡ text.old.items ++ actions_text actions.now) }
 {
     if actions.as_slice().is_empty() {
         return append(b"-", text);
@@ -145,8 +116,7 @@ fn append_invalid(
     routes: &[HeldFlow<'_>],
     text: &mut Vec<u8>,
 ) -> Result<(), Memory>
-    ensures ok { OnOk result (text.new.items ≡ text.old.items ++ flat_map (invalid_text family) (map shown_held routes.now)) }
-    ensures front { take (vec_len text.old) text.new.items ≡ text.old.items }
+    ensures { OnOk result (text.new.items ≡ text.old.items ++ invalid_lines family (map shown_held routes.now)) }
 {
     for route in routes {
         append_route(alloc, family, route, text)?;
@@ -161,8 +131,7 @@ fn append_route(
     route: &HeldFlow<'_>,
     text: &mut Vec<u8>,
 ) -> Result<(), Memory>
-    ensures ok { OnOk result (text.new.items ≡ text.old.items ++ invalid_text family (shown_held route.now)) }
-    ensures front { take (vec_len text.old) text.new.items ≡ text.old.items }
+    ensures { OnOk result (text.new.items ≡ text.old.items ++ invalid_text family (shown_held route.now)) }
 {
     match reason_of(route.validity) {
         Some(reason) => append_invalid_route(alloc, family, route, reason, text),
@@ -178,8 +147,7 @@ fn append_invalid_route(
     reason: &[u8],
     text: &mut Vec<u8>,
 ) -> Result<(), Memory>
-    ensures ok { OnOk result (text.new.items ≡ text.old.items ++ invalid_line family (shown_held route.now) reason.now) }
-    ensures front { take (vec_len text.old) text.new.items ≡ text.old.items }
+    ensures { OnOk result (text.new.items ≡ text.old.items ++ invalid_line family (shown_held route.now) reason.now) }
 {
     append(family_name(family), text)?;
     append(b" invalid", text)?;

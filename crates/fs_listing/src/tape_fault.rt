@@ -1,30 +1,29 @@
 //! The line of a tape's fault.
 
-ghost use Rattle.std.specs.Prelude.{◌≡◌, ◌++◌, OnOk, OnErr, take};
-ghost use Rattle.std.specs.Vec.{vec_len};
-ghost use Rattle.fs_listing.specs.Listing.{tape_reason_name, tape_fault_line};
+ghost use Rattle.std.specs.Prelude.{◌≡◌, ◌++◌, IfOk, OnOk};
+ghost use Rattle.fs_listing.specs.TapeFault.{tape_reason_name, tape_fault_line};
 
-use crate::pieces::{append, append_decimal};
 use fs_base::Memory;
+use fs_line::{append, append_decimal};
 use fs_tape::TapeReason;
+use std::alloc::Global;
 
-/// Appends the line of a tape's fault: its name and its place. After `Memory` `text` is as before.
-pub fn append_tape_fault(reason: TapeReason, place: u64, text: &mut Vec<u8>) -> Result<(), Memory>
-    ensures ok { OnOk result (text.new.items ≡ text.old.items ++ tape_fault_line reason place) }
-    ensures err { OnErr result (text.new.items ≡ text.old.items) }
+/// The line of a tape's fault: its name and its place, the octet at which the tape is wrong.
+///
+/// # Errors
+///
+/// `Memory` where the machine refused memory.
+pub fn tape_fault_text(alloc: Global, reason: TapeReason, place: u64) -> Result<Vec<u8>, Memory>
+    ensures { IfOk result (λ text. text.items ≡ tape_fault_line reason place) }
 {
-    let start = text.len();
-    let written = append_line(reason, place, text);
-    if written.is_err() {
-        text.truncate(start);
-    }
-    written
+    let mut text = Vec::new(alloc);
+    append_line(reason, place, &mut text)?;
+    Ok(text)
 }
 
-/// Appends the line. What was appended up to want of memory stays.
+/// Appends the line.
 fn append_line(reason: TapeReason, place: u64, text: &mut Vec<u8>) -> Result<(), Memory>
-    ensures ok { OnOk result (text.new.items ≡ text.old.items ++ tape_fault_line reason place) }
-    ensures front { take (vec_len text.old) text.new.items ≡ text.old.items }
+    ensures { OnOk result (text.new.items ≡ text.old.items ++ tape_fault_line reason place) }
 {
     append(b"tape ", text)?;
     append(reason_name(reason), text)?;

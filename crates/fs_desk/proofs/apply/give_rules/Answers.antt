@@ -1,5 +1,5 @@
-use Rattle.fs_desk.proofs.Turned.{rules_given_more}
-use Rattle.fs_desk.proofs.TableTurns.{rule_given_to}
+use Rattle.fs_desk.proofs.ChangesJoined.{rules_given_more}
+use Rattle.fs_desk.proofs.TableChanges.{rule_given_to}
 use Rattle.fs_desk.proofs.apply.give_rules.Goals as goal
 
 pub loop-rule-preserved : goal.loop-rule-preserved

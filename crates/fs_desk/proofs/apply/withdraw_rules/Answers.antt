@@ -1,5 +1,5 @@
-use Rattle.fs_desk.proofs.Turned.{rules_taken_more}
-use Rattle.fs_desk.proofs.TableTurns.{rule_taken_to}
+use Rattle.fs_desk.proofs.ChangesJoined.{rules_taken_more}
+use Rattle.fs_desk.proofs.TableChanges.{rule_taken_to}
 use Rattle.fs_desk.proofs.apply.withdraw_rules.Goals as goal
 
 pub loop-rule-preserved : goal.loop-rule-preserved

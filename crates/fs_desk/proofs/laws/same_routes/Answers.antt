@@ -1,4 +1,4 @@
-use Rattle.fs_desk.proofs.OneHeld.{one_held}
+use Rattle.fs_desk.proofs.SameRoutes.{one_held}
 use Rattle.fs_desk.proofs.laws.same_routes.Goals as goal
 
 pub returns : goal.returns

@@ -1,5 +1,5 @@
 use Rattle.std.proofs.Common.{◌≡◌, ◌++◌, drop}
-use Rattle.fs_listing.specs.Listing.{peers_text}
+use Rattle.fs_listing.specs.Peers.{peers_text}
 use Rattle.fs_desk.specs.Desk.{standing_at_desk}
 use Rattle.fs_listing.proofs.peers.append_each.Given as goal
 

@@ -1,4 +1,4 @@
-use Rattle.fs_desk.proofs.Playing.{played_new}
+use Rattle.fs_desk.proofs.Played.{played_new}
 use Rattle.fs_desk.proofs.desk.Desk.new.Goals as goal
 
 pub returns : goal.returns

@@ -1,7 +1,7 @@
 use Rattle.std.specs.BTreeMap.{BTreeMap}
 use Rattle.fs_speaker.specs.Steps.{Live}
 use Rattle.std.proofs.Common.{ap, ℕ, sym, Result, Ok, Err, OnOk}
-use Rattle.fs_desk.proofs.Playing.{desk_fed, desk_skipped, desk_replied, desk_silent}
+use Rattle.fs_desk.proofs.Played.{desk_fed, desk_skipped, desk_replied, desk_silent}
 use Rattle.fs_desk.proofs.desk.Desk.octets.Goals as goal
 
 on_ok : {T E P Q : Type 0} (result : Result T E) → (P → Q) → OnOk result P → OnOk result Q
@@ -14,7 +14,7 @@ returns-in-Some-clause-played c =
     (λ takes config items played.
     desk_fed config items c.args.peer c.args.piece.now c.in-Some.session.now c.receive.new.session c.self.inside.config.now c.self.inside.table c.receive.new.table
     c.self.inside.sessions.entries _ c.args.self.now (sym c.self.view_is) (sym c.in-Some.ensures.value) takes (c.get_mut.follows.holds c.receive.new.session).0 played)
-    c.receive.ensures.stands
+    c.receive.ensures.taken
 
 pub returns-in-None-clause-played : goal.returns-in-None-clause-played
 returns-in-None-clause-played c = λ config items played.

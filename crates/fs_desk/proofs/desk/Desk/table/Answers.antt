@@ -1,8 +1,8 @@
 use Rattle.std.proofs.Common.{ap, sym, subst}
 use Rattle.fs_rules.specs.Held.{Held}
 use Rattle.fs_desk.specs.Desk.{Desked}
-use Rattle.fs_desk.specs.Held.{Leaves}
-use Rattle.fs_desk.proofs.Leaving.{played_leaves}
+use Rattle.fs_desk.specs.Leaves.{Leaves}
+use Rattle.fs_desk.proofs.Leaves.{played_leaves}
 use Rattle.fs_desk.proofs.desk.Desk.table.Goals as goal
 
 pub returns-clause-left : goal.returns-clause-left

@@ -1,0 +1,131 @@
+-- A session that is fed octet by octet and the session of all octets that the peer sent.
+use Rattle.std.proofs.Common.{◌≡◌, ℕ, List, [], ◌∷◌, ◌++◌, length, drop, false, Option, Some, None, refl, ap, sym, ◌∙◌, append_assoc, append-nil, subst, arith}
+use Rattle.std.proofs.lemmas.List.{drop_all}
+use Rattle.fs_base.specs.declared.config.Config.{Config}
+use Rattle.fs_base.specs.declared.config.Peer.{Peer}
+use Rattle.fs_message.specs.Framing.{framing, pending}
+use Rattle.fs_attrs.specs.declared.update.Update.{Update}
+use Rattle.fs_speaker.specs.declared.state.Closed.{Closed}
+use Rattle.fs_speaker.specs.Session.{Standing, at_start, Last, still, closed, with_update, session_from}
+use Rattle.fs_speaker.specs.Steps.{Live, live, Step, waits, takes, stops, step_of, Does, step_with}
+use Rattle.fs_desk.specs.Receive.{with_updates, Follows, IsOver}
+use Rattle.fs_speaker.proofs.Joined.{session_takes, session_stops, session_waits}
+
+-- an update that a call answered, as a list
+abbrev as_list : Option Update → List Update
+as_list None = []
+as_list (Some update) = update ∷ []
+
+-- a session that has not begun
+pub follows_none : (config : Config) (peer : Peer) → Follows config peer [] [] (live config peer (framing [] false None) at_start None) []
+follows_none config peer = record { alive = refl; config_is = refl; peer_is = refl; waiting = refl; goes = λ more. refl }
+
+one_more : (updates : List Update) (update : Option Update) (rest : List Update × Last)
+    → with_updates updates (with_update update rest) ≡ with_updates (updates ++ as_list update) rest
+one_more updates None rest = ap (λ (u : List Update). (u ++ rest.0, rest.1)) (sym (append-nil updates))
+one_more updates (Some update) rest = ap (λ (u : List Update). (u, rest.1)) (sym (append_assoc updates (update ∷ []) rest.0))
+
+-- all octets that are sent next are the rest
+pub follows_piece : (config : Config) (peer : Peer) (octets piece : List ℕ) (session : Live) (updates : List Update)
+    → Follows config peer octets [] session updates → Follows config peer (octets ++ piece) piece session updates
+follows_piece config peer octets piece session updates f = record {
+  alive = f.alive;
+  config_is = f.config_is;
+  peer_is = f.peer_is;
+  waiting = f.waiting;
+  goes = λ more. ap (λ (z : List ℕ). session_from config peer at_start z) (append_assoc octets piece more) ∙ f.goes (piece ++ more);
+}
+
+-- the octets in hand come to nothing more
+pub nothing_waits : (config : Config) (peer : Peer) (now : Standing) → step_of config peer now [] ≡ waits
+nothing_waits config peer now = refl
+
+-- of the whole list nothing is left
+pub all_gone : (octets : List ℕ) (count : ℕ) → count ≡ length octets → drop count octets ≡ []
+all_gone octets count h = drop_all count octets (omega (arith, h))
+
+module _ (config : Config) (peer : Peer) (octets rest : List ℕ) (old new : Live) (updates : List Update) (count : ℕ) (update : Option Update) where
+  -- what one step makes of the record
+  by_step : Follows config peer octets rest old updates → new.closed ≡ None → new.config ≡ config → new.peer ≡ peer
+      → (step : Step) → step_of config peer old.standing (pending old.framing ++ rest) ≡ step → Does step old new rest count update
+      → Follows config peer octets (drop count rest) new (updates ++ as_list update)
+  by_step f alive c p waits h did = record {
+    alive = alive;
+    config_is = c;
+    peer_is = p;
+    waiting =
+        ap (λ (z : List ℕ). step_of config peer new.standing z) did.1
+        ∙ ap (λ (s : Standing). step_of config peer s (pending old.framing ++ rest)) did.2
+        ∙ h;
+    goes = λ more.
+        f.goes more
+        ∙ ap (λ (z : List ℕ). with_updates updates (session_from config peer old.standing z)) (sym (append_assoc (pending old.framing) rest more))
+        ∙ ap (λ (z : List ℕ). with_updates updates (session_from config peer old.standing (z ++ more))) (sym did.1)
+        ∙ ap (λ (s : Standing). with_updates updates (session_from config peer s (pending new.framing ++ more))) (sym did.2)
+        ∙ ap (λ (z : List ℕ). with_updates updates (session_from config peer new.standing (pending new.framing ++ (z ++ more)))) (sym (all_gone rest count did.0))
+        ∙ ap (λ (u : List Update). with_updates u (session_from config peer new.standing (pending new.framing ++ (drop count rest ++ more)))) (sym (append-nil updates))
+        ∙ ap (λ (o : Option Update). with_updates (updates ++ as_list o) (session_from config peer new.standing (pending new.framing ++ (drop count rest ++ more)))) (sym did.3);
+  }
+  by_step f alive c p (takes next taken behind) h did = record {
+    alive = alive;
+    config_is = c;
+    peer_is = p;
+    waiting = ap (λ (z : List ℕ). step_of config peer new.standing z) did.2;
+    goes = λ more.
+        f.goes more
+        ∙ ap (λ (z : List ℕ). with_updates updates (session_from config peer old.standing z)) (sym (append_assoc (pending old.framing) rest more))
+        ∙ ap (λ (r : List Update × Last). with_updates updates r) (session_takes config peer old.standing next taken (pending old.framing ++ rest) behind more h)
+        ∙ one_more updates taken (session_from config peer next (behind ++ more))
+        ∙ ap (λ (o : Option Update). with_updates (updates ++ as_list o) (session_from config peer next (behind ++ more))) (sym did.4)
+        ∙ ap (λ (s : Standing). with_updates (updates ++ as_list update) (session_from config peer s (behind ++ more))) (sym did.3)
+        ∙ ap (λ (z : List ℕ). with_updates (updates ++ as_list update) (session_from config peer new.standing (z ++ more))) did.1
+        ∙ ap (λ (z : List ℕ). with_updates (updates ++ as_list update) (session_from config peer new.standing (z ++ (drop count rest ++ more)))) (sym did.2);
+  }
+  by_step f alive c p (stops why) h did = absurd did
+
+  -- what a call took is gone from the rest
+  pub follows_fed : Follows config peer octets rest old updates → new.closed ≡ None → new.config ≡ old.config → new.peer ≡ old.peer
+      → Does (step_with old rest) old new rest count update
+      → Follows config peer octets (drop count rest) new (updates ++ as_list update)
+  follows_fed f alive c p did =
+      let with_config : Does (step_of config old.peer old.standing (pending old.framing ++ rest)) old new rest count update =
+      subst (λ (d : Config). Does (step_of d old.peer old.standing (pending old.framing ++ rest)) old new rest count update) f.config_is did in
+      let with_peer : Does (step_of config peer old.standing (pending old.framing ++ rest)) old new rest count update =
+      subst (λ (q : Peer). Does (step_of config q old.standing (pending old.framing ++ rest)) old new rest count update) f.peer_is with_config in
+      by_step f alive (c ∙ f.config_is) (p ∙ f.peer_is) (step_of config peer old.standing (pending old.framing ++ rest)) refl with_peer
+
+pub over_more : (config : Config) (peer : Peer) (octets piece : List ℕ) (why : Closed) → IsOver config peer octets why → IsOver config peer (octets ++ piece) why
+over_more config peer octets piece why o = record {
+  updates = o.updates;
+  stays = λ more. ap (λ (z : List ℕ). session_from config peer at_start z) (append_assoc octets piece more) ∙ o.stays (piece ++ more);
+}
+
+-- a call that closed the session
+pub follows_closed : (config : Config) (peer : Peer) (octets rest : List ℕ) (old : Live) (updates : List Update) (why : Closed)
+    → Follows config peer octets rest old updates → step_with old rest ≡ stops why → IsOver config peer octets why
+follows_closed config peer octets rest old updates why f h =
+    let at : step_of config peer old.standing (pending old.framing ++ rest) ≡ stops why =
+    ap (λ (d : Config). step_of d peer old.standing (pending old.framing ++ rest)) (sym f.config_is)
+    ∙ ap (λ (q : Peer). step_of old.config q old.standing (pending old.framing ++ rest)) (sym f.peer_is)
+    ∙ h in
+    record {
+      updates = updates ++ [];
+      stays = λ more.
+          f.goes more
+          ∙ ap (λ (z : List ℕ). with_updates updates (session_from config peer old.standing z)) (sym (append_assoc (pending old.framing) rest more))
+          ∙ ap (λ (r : List Update × Last). with_updates updates r) (session_stops config peer old.standing why (pending old.framing ++ rest) more at);
+    }
+
+-- what the session of all the octets is, where nothing is left to take
+pub follows_session : (config : Config) (peer : Peer) (octets : List ℕ) (session : Live) (updates : List Update)
+    → Follows config peer octets [] session updates → session_from config peer at_start octets ≡ (updates, still session.standing)
+follows_session config peer octets session updates f =
+    ap (λ (z : List ℕ). session_from config peer at_start z) (sym (append-nil octets))
+    ∙ f.goes []
+    ∙ ap (λ (z : List ℕ). with_updates updates (session_from config peer session.standing z)) (append-nil (pending session.framing))
+    ∙ ap (λ (r : List Update × Last). with_updates updates r) (session_waits config peer session.standing (pending session.framing) f.waiting)
+    ∙ ap (λ (u : List Update). (u, still session.standing)) (append-nil updates)
+
+pub over_session : (config : Config) (peer : Peer) (octets : List ℕ) (why : Closed) (o : IsOver config peer octets why)
+    → session_from config peer at_start octets ≡ (o.updates, closed why)
+over_session config peer octets why o = ap (λ (z : List ℕ). session_from config peer at_start z) (sym (append-nil octets)) ∙ o.stays []

@@ -1,0 +1,217 @@
+-- Lists that are kept in the order of a key, one element a key: what putting, taking away and looking up do.
+use Rattle.std.proofs.Common.{◌≡◌, List, [], ◌∷◌, Bool, true, false, not, cond, Option, Some, None, if◌then◌else◌, refl, ap, sym, ◌∙◌, map, filter, find, true≢false, unwrap_or}
+use Rattle.std.specs.declared.cmp.Ordering.{Ordering}
+use Rattle.std.specs.declared.cmp.Ordering.TheVariants.{Less, Equal, Greater}
+use Rattle.std.specs.Ordering.{is_eq, match_ordering, ordering_reverse}
+use Rattle.std.specs.Cmp.{IsTotalOrder, alike_right, tied_back, tied_itself}
+use Rattle.std.specs.List.{AllByRecursion}
+use Rattle.std.proofs.lemmas.Map.Keys.{sorted_head, sorted_tail}
+use Rattle.std.specs.List.Sorted.{IsStrictlySortedBy}
+
+module _ {X K : Type 0} (key : X → K) (R : K → K → Ordering) where
+  -- the element of that key
+  abbrev pub at_key : K → List X → Option X
+  at_key k xs = find (λ x. is_eq (R k (key x))) xs
+
+  -- with this element in its place, for the one of its key if there is one
+  abbrev pub put_by : X → List X → List X
+  put_by x [] = x ∷ []
+  put_by x (y ∷ ys) = match_ordering (R (key x) (key y)) (x ∷ y ∷ ys) (x ∷ ys) (y ∷ put_by x ys)
+
+  -- without the element of that key
+  abbrev pub without_key : K → List X → List X
+  without_key k xs = filter (λ x. not (is_eq (R k (key x)))) xs
+
+  module _ (o : IsTotalOrder R) where
+    same_side : (k : K) (x y : X) → R (key x) (key y) ≡ Equal → is_eq (R k (key x)) ≡ is_eq (R k (key y))
+    same_side k x y e = ap is_eq (alike_right o (key x) (key y) k e)
+
+    twice : (b : Bool) (x y : X) (rest : Option X) → cond b (Some x) rest ≡ cond b (Some x) (cond b (Some y) rest)
+    twice true x y rest = refl
+    twice false x y rest = refl
+
+    apart : (k : K) (x y : X) → R (key x) (key y) ≡ Greater → is_eq (R k (key x)) ≡ true → is_eq (R k (key y)) ≡ false
+    apart k x y g e = of (R k (key x)) (R k (key y)) refl refl e
+      where
+        of : (r s : Ordering) → R k (key x) ≡ r → R k (key y) ≡ s → is_eq r ≡ true → is_eq s ≡ false
+        of Equal Less p q h = refl
+        of Equal Greater p q h = refl
+        of Equal Equal p q h = absurd (true≢false (sym (ap is_eq (sym g ∙ sym (IsTotalOrder.congr o k (key x) (key y) p) ∙ q))))
+        of Less s p q h = absurd (true≢false (sym h))
+        of Greater s p q h = absurd (true≢false (sym h))
+
+    swapped : (b c : Bool) (x y : X) (rest : Option X) → (b ≡ true → c ≡ false)
+        → cond c (Some y) (cond b (Some x) rest) ≡ cond b (Some x) (cond c (Some y) rest)
+    swapped true true x y rest h = absurd (true≢false (h refl))
+    swapped true false x y rest h = refl
+    swapped false c x y rest h = refl
+
+    pub at_key-put_by : (k : K) (x : X) (xs : List X) → at_key k (put_by x xs) ≡ (if is_eq (R k (key x)) then Some x else at_key k xs)
+    at_key-put_by k x [] = refl
+    at_key-put_by k x (y ∷ ys) = by (R (key x) (key y)) refl (at_key-put_by k x ys)
+      where
+        by : (r : Ordering) → R (key x) (key y) ≡ r
+            → at_key k (put_by x ys) ≡ (if is_eq (R k (key x)) then Some x else at_key k ys)
+            → at_key k (match_ordering r (x ∷ y ∷ ys) (x ∷ ys) (y ∷ put_by x ys)) ≡ cond (is_eq (R k (key x))) (Some x) (cond (is_eq (R k (key y))) (Some y) (at_key k ys))
+        by Less h later = refl
+        by Equal h later = twice (is_eq (R k (key x))) x y (at_key k ys) ∙ ap (λ b. cond (is_eq (R k (key x))) (Some x) (cond b (Some y) (at_key k ys))) (same_side k x y h)
+        by Greater h later = ap (λ rest. cond (is_eq (R k (key y))) (Some y) rest) later ∙ swapped (is_eq (R k (key x))) (is_eq (R k (key y))) x y (at_key k ys) (apart k x y h)
+
+    gone : (b c d : Bool) (x : X) (rest old : Option X) → (b ≡ true → c ≡ d) → (b ≡ false → c ≡ true → d ≡ true → ⊥) → rest ≡ (if b then None else old)
+        → cond (not d) (cond c (Some x) rest) rest ≡ (if b then None else cond c (Some x) old)
+    gone true true true x rest old f g h = h
+    gone true true false x rest old f g h = absurd (true≢false (f refl))
+    gone true false true x rest old f g h = absurd (true≢false (sym (f refl)))
+    gone true false false x rest old f g h = h
+    gone false true true x rest old f g h = absurd (g refl refl refl)
+    gone false true false x rest old f g h = refl
+    gone false false true x rest old f g h = h
+    gone false false false x rest old f g h = h
+
+    is_equal : (r : Ordering) → is_eq r ≡ true → r ≡ Equal
+    is_equal Less h = absurd (true≢false (sym h))
+    is_equal Equal h = refl
+    is_equal Greater h = absurd (true≢false (sym h))
+
+    left_out : (k : K) (x : X) (b : Bool) (xs : List X) → at_key k (cond b (x ∷ xs) xs) ≡ cond b (cond (is_eq (R k (key x))) (Some x) (at_key k xs)) (at_key k xs)
+    left_out k x true xs = refl
+    left_out k x false xs = refl
+
+    nothing : (b : Bool) → None ≡ (if b then None else (let o : Option X = None in o))
+    nothing true = refl
+    nothing false = refl
+
+    pub at_key-without : (k q : K) (xs : List X) → at_key k (without_key q xs) ≡ (if is_eq (R k q) then None else at_key k xs)
+    at_key-without k q [] = nothing (is_eq (R k q))
+    at_key-without k q (x ∷ xs) =
+        left_out k x (not (is_eq (R q (key x)))) (without_key q xs)
+        ∙ gone (is_eq (R k q)) (is_eq (R k (key x))) (is_eq (R q (key x))) x (at_key k (without_key q xs)) (at_key k xs)
+        (λ h. ap is_eq (IsTotalOrder.congr o k q (key x) (is_equal (R k q) h)))
+        (λ h e f. true≢false (sym e ∙ ap is_eq (alike_right o (key x) q k (tied_back o q (key x) (is_equal (R q (key x)) f))) ∙ h))
+        (at_key-without k q xs)
+
+    -- the keys rise strictly
+    abbrev pub IsListed : List X → Type 0
+    IsListed xs = IsStrictlySortedBy R (map key xs)
+
+    above_put : (k : K) (x : X) (xs : List X) → R k (key x) ≡ Less → AllByRecursion (λ q. R k q ≡ Less) (map key xs) → AllByRecursion (λ q. R k q ≡ Less) (map key (put_by x xs))
+    above_put k x [] h a = (h, tt)
+    above_put k x (y ∷ ys) h a = by (R (key x) (key y)) (above_put k x ys h a.1)
+      where
+        by : (r : Ordering) → AllByRecursion (λ q. R k q ≡ Less) (map key (put_by x ys)) → AllByRecursion (λ q. R k q ≡ Less) (map key (match_ordering r (x ∷ y ∷ ys) (x ∷ ys) (y ∷ put_by x ys)))
+        by Less later = (h, a)
+        by Equal later = (h, a.1)
+        by Greater later = (a.0, later)
+
+    above_less : (k q : K) (xs : List X) → R k q ≡ Less → AllByRecursion (λ p. R q p ≡ Less) (map key xs) → AllByRecursion (λ p. R k p ≡ Less) (map key xs)
+    above_less k q [] h a = tt
+    above_less k q (x ∷ xs) h a = (IsTotalOrder.trans o k q (key x) h a.0, above_less k q xs h a.1)
+
+    above_same : (k q : K) (xs : List X) → R k q ≡ Equal → AllByRecursion (λ p. R q p ≡ Less) (map key xs) → AllByRecursion (λ p. R k p ≡ Less) (map key xs)
+    above_same k q [] h a = tt
+    above_same k q (x ∷ xs) h a = (IsTotalOrder.congr o k q (key x) h ∙ a.0, above_same k q xs h a.1)
+
+    less_back : (k q : K) → R k q ≡ Greater → R q k ≡ Less
+    less_back k q h = IsTotalOrder.antisymm o q k ∙ ap ordering_reverse h
+
+    pub listed-put_by : (x : X) (xs : List X) → IsListed xs → IsListed (put_by x xs)
+    unfolding IsStrictlySortedBy
+    listed-put_by x [] s = (tt, tt)
+    listed-put_by x (y ∷ ys) s = by (R (key x) (key y)) refl (listed-put_by x ys s.1)
+      where
+        by : (r : Ordering) → R (key x) (key y) ≡ r → IsListed (put_by x ys) → IsListed (match_ordering r (x ∷ y ∷ ys) (x ∷ ys) (y ∷ put_by x ys))
+        by Less h later = ((h, above_less (key x) (key y) ys h s.0), s)
+        by Equal h later = (above_same (key x) (key y) ys h s.0, s.1)
+        by Greater h later = (above_put (key y) x ys (less_back (key x) (key y) h) s.0, later)
+
+    above_filter : (p : X → Bool) (k : K) (xs : List X) → AllByRecursion (λ q. R k q ≡ Less) (map key xs) → AllByRecursion (λ q. R k q ≡ Less) (map key (filter p xs))
+    above_filter p k [] a = tt
+    above_filter p k (x ∷ xs) a = by (p x) (above_filter p k xs a.1)
+      where
+        by : (b : Bool) → AllByRecursion (λ q. R k q ≡ Less) (map key (filter p xs)) → AllByRecursion (λ q. R k q ≡ Less) (map key (cond b (x ∷ filter p xs) (filter p xs)))
+        by true later = (a.0, later)
+        by false later = later
+
+    pub listed-filter : (p : X → Bool) (xs : List X) → IsListed xs → IsListed (filter p xs)
+    unfolding IsStrictlySortedBy
+    listed-filter p [] s = tt
+    listed-filter p (x ∷ xs) s = by (p x) (listed-filter p xs s.1)
+      where
+        by : (b : Bool) → IsListed (filter p xs) → IsListed (cond b (x ∷ filter p xs) (filter p xs))
+        by true later = (above_filter p (key x) xs s.0, later)
+        by false later = later
+
+    none_above : (k : K) (xs : List X) → AllByRecursion (λ q. R k q ≡ Less) (map key xs) → at_key k xs ≡ None
+    none_above k [] a = refl
+    none_above k (x ∷ xs) a = ap (λ r. cond (is_eq r) (Some x) (at_key k xs)) a.0 ∙ none_above k xs a.1
+
+    at_own : (x : X) (xs : List X) → at_key (key x) (x ∷ xs) ≡ Some x
+    at_own x xs = ap (λ r. cond (is_eq r) (Some x) (at_key (key x) xs)) (tied_itself o (key x))
+
+    at_equal : (k : K) (x : X) (xs : List X) → R k (key x) ≡ Equal → at_key k (x ∷ xs) ≡ Some x
+    at_equal k x xs h = ap (λ r. cond (is_eq r) (Some x) (at_key k xs)) h
+
+    at_less : (k : K) (x : X) (xs : List X) → IsListed (x ∷ xs) → R k (key x) ≡ Less → at_key k (x ∷ xs) ≡ None
+    at_less k x xs s h =
+        ap (λ r. cond (is_eq r) (Some x) (at_key k xs)) h ∙ none_above k xs (above_less k (key x) xs h (sorted_head R (key x) (map key xs) s))
+
+    behind_equal : (k : K) (x : X) (xs : List X) → IsListed (x ∷ xs) → R k (key x) ≡ Equal → at_key k xs ≡ None
+    behind_equal k x xs s h = none_above k xs (above_same k (key x) xs h (sorted_head R (key x) (map key xs) s))
+
+    something : (x : X) → None ≡ Some x → ⊥
+    something x e = true≢false (sym (ap (λ p. elim p [ None ↦ false | Some y ↦ true ]) e))
+
+    stripped : (b c : Bool) (x y : X) (p q : Option X) → b ≡ c → (b ≡ true → p ≡ None) → (b ≡ true → q ≡ None)
+        → cond b (Some x) p ≡ cond c (Some y) q → p ≡ q
+    stripped true true x y p q e f g h = f refl ∙ sym (g refl)
+    stripped true false x y p q e f g h = absurd (true≢false e)
+    stripped false true x y p q e f g h = absurd (true≢false (sym e))
+    stripped false false x y p q e f g h = h
+
+    -- a list of that order is known by its elements
+    pub same_listed : (xs ys : List X) → IsListed xs → IsListed ys → ((k : K) → at_key k xs ≡ at_key k ys) → xs ≡ ys
+    same_listed [] [] s t h = refl
+    same_listed [] (y ∷ ys) s t h = absurd (something y (h (key y) ∙ at_own y ys))
+    same_listed (x ∷ xs) [] s t h = absurd (something x (sym (h (key x)) ∙ at_own x xs))
+    same_listed (x ∷ xs) (y ∷ ys) s t h =
+        by (R (key x) (key y)) refl (same_listed xs ys (sorted_tail R (key x) (map key xs) s) (sorted_tail R (key y) (map key ys) t))
+      where
+        by : (r : Ordering) → R (key x) (key y) ≡ r → (((k : K) → at_key k xs ≡ at_key k ys) → xs ≡ ys) → x ∷ xs ≡ y ∷ ys
+        by Less e later = absurd (something x (sym (at_less (key x) y ys t e) ∙ sym (h (key x)) ∙ at_own x xs))
+        by Greater e later = absurd (something y (sym (at_less (key y) x xs s (less_back (key x) (key y) e)) ∙ h (key y) ∙ at_own y ys))
+        by Equal e later =
+            let first : x ≡ y = ap (λ p. unwrap_or p x) (sym (at_own x xs) ∙ h (key x) ∙ at_equal (key x) y ys e) in
+            let rest : xs ≡ ys = later (λ k. stripped (is_eq (R k (key x))) (is_eq (R k (key y))) x y (at_key k xs) (at_key k ys) (same_side k x y e)
+            (λ b. behind_equal k x xs s (is_equal (R k (key x)) b))
+            (λ b. behind_equal k y ys t (sym (alike_right o (key x) (key y) k e) ∙ is_equal (R k (key x)) b))
+            (h k)) in
+            ap (λ z. z ∷ xs) first ∙ ap (λ zs. y ∷ zs) rest
+
+    kept_out : (b c d : Bool) (x : X) (rest old : Option X) → (c ≡ true → b ≡ d) → rest ≡ (if b then old else None)
+        → cond d (cond c (Some x) rest) rest ≡ (if b then cond c (Some x) old else None)
+    kept_out true true true x rest old f h = refl
+    kept_out true true false x rest old f h = absurd (true≢false (f refl))
+    kept_out true false true x rest old f h = h
+    kept_out true false false x rest old f h = h
+    kept_out false true true x rest old f h = absurd (true≢false (sym (f refl)))
+    kept_out false true false x rest old f h = h
+    kept_out false false true x rest old f h = h
+    kept_out false false false x rest old f h = h
+
+    at_kept : (k : K) (x : X) (b : Bool) (xs : List X) → at_key k (cond b (x ∷ xs) xs) ≡ cond b (cond (is_eq (R k (key x))) (Some x) (at_key k xs)) (at_key k xs)
+    at_kept k x true xs = refl
+    at_kept k x false xs = refl
+
+    none_kept : (b : Bool) → None ≡ (if b then (let o : Option X = None in o) else None)
+    none_kept true = refl
+    none_kept false = refl
+
+    -- of a list from which the keys that fail a test are taken away
+    pub at_key-filter : (left : K → Bool) → ((k q : K) → R k q ≡ Equal → left k ≡ left q) → (k : K) (xs : List X)
+        → at_key k (filter (λ x. left (key x)) xs) ≡ (if left k then at_key k xs else None)
+    at_key-filter left same k [] = none_kept (left k)
+    at_key-filter left same k (x ∷ xs) =
+        at_kept k x (left (key x)) (filter (λ y. left (key y)) xs)
+        ∙ kept_out (left k) (is_eq (R k (key x))) (left (key x)) x (at_key k (filter (λ y. left (key y)) xs)) (at_key k xs)
+        (λ c. same k (key x) (is_equal (R k (key x)) c))
+        (at_key-filter left same k xs)

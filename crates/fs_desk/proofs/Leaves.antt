@@ -1,0 +1,52 @@
+-- What a desk that followed a tape holds is what the tape leaves.
+use Rattle.std.proofs.Common.{◌≡◌, ◌==◌, ◌∙◌, ℕ, List, [], true, Option, Some, None, ap, sym, subst, arith}
+use Rattle.std.proofs.lemmas.Bool.Decides.{nat_tests}
+use Rattle.fs_base.specs.Config.{peer_of}
+use Rattle.fs_base.specs.declared.config.Config.{Config}
+use Rattle.fs_base.specs.declared.config.Peer.{Peer}
+use Rattle.fs_attrs.specs.declared.update.Update.{Update}
+use Rattle.fs_rules.specs.Held.{Held}
+use Rattle.fs_speaker.specs.Session.{still, at_start, session_from}
+use Rattle.fs_speaker.specs.Steps.{Live}
+use Rattle.fs_speaker.specs.declared.state.Closed.{Closed}
+use Rattle.fs_tape.specs.Tape.{Item}
+use Rattle.fs_desk.specs.Desk.{Desked, session_at, PeerIs, Played}
+use Rattle.fs_desk.specs.Receive.{IsFed, IsLeft}
+use Rattle.fs_desk.specs.Leaves.{Leaves, counted, updates_of}
+use Rattle.fs_desk.specs.Life.{life}
+use Rattle.fs_desk.proofs.Follows.{follows_session, over_session}
+
+-- the updates that a session counts are those of all octets that it was fed with
+fed_updates : (config : Config) (peer : Peer) (octets : List ℕ) (session : Live) (why : Option Closed) (updates : List Update)
+    → IsFed config peer octets session why updates → counted (session_from config peer at_start octets) ≡ updates
+fed_updates config peer octets session None updates f = ap counted (follows_session config peer octets session updates f)
+fed_updates config peer octets session (Some why) updates f = ap counted (over_session config peer octets why f.0) ∙ sym f.1
+
+-- of a peer, if there is one, and its life, if it has one
+left_of : (config : Config) (peer : Option Peer) (lived : Option (List ℕ)) (session : Option Live) (number : ℕ) (held : Held)
+    → PeerIs config peer lived session number held
+    → IsLeft number
+    (elim lived [ None ↦ [] | Some octets ↦ counted (elim peer [ None ↦ ([], still at_start) | Some p ↦ session_from config p at_start octets ]) ])
+    held
+left_of config peer None None number held k = k
+left_of config None None (Some session) number held k = absurd k
+left_of config (Some peer) None (Some session) number held k = absurd k
+left_of config None (Some octets) None number held k = absurd k
+left_of config (Some peer) (Some octets) None number held k = absurd k
+left_of config None (Some octets) (Some session) number held k = absurd k
+left_of config (Some peer) (Some octets) (Some session) number held k =
+    subst (λ (updates : List Update). IsLeft number updates held) (sym (fed_updates config peer octets session session.closed k.updates k.fed)) k.left
+
+itself : (n : ℕ) → (n == n) ≡ true
+itself n = grind (arith, nat_tests)
+
+pub played_leaves : (config : Config) (items : List Item) (desk : Desked) → Played config items desk → Leaves config items desk.held
+played_leaves config items desk p =
+    let left : (number : ℕ) → IsLeft number (updates_of config items number) desk.held =
+    λ number. left_of config (peer_of number config.peers) (life number items) (session_at number desk.sessions) number desk.held (p.each number) in
+    record {
+      config_is = p.held_is;
+      listed = p.listed;
+      unicast = λ place. (left place.peer).unicast place (itself place.peer);
+      flows = λ rule peer. (left peer).flows rule;
+    }

@@ -1,0 +1,154 @@
+-- One session and the table, through a piece of the peer's octets.
+use Rattle.std.proofs.Common.{◌≡◌, inl, inr, ℕ, List, [], ◌∷◌, ◌++◌, drop, Option, Some, None, refl, ap, sym, ◌∙◌, subst, append-nil, is_some, true, false, true≢false}
+use Rattle.fs_base.specs.declared.config.Config.{Config}
+use Rattle.fs_base.specs.declared.config.Peer.{Peer}
+use Rattle.fs_attrs.specs.declared.update.Update.{Update}
+use Rattle.fs_rules.specs.Held.{Held}
+use Rattle.fs_speaker.specs.declared.state.Closed.{Closed}
+use Rattle.fs_speaker.specs.declared.state.Closed.TheVariants.{Fault, Notified, NoFamily, Memory}
+use Rattle.fs_speaker.specs.Session.{at_start}
+use Rattle.fs_speaker.specs.Replies.{replies_from}
+use Rattle.fs_speaker.specs.Steps.{Live, Step, stops, Does, step_with, CloseIs}
+use Rattle.fs_desk.specs.Apply.{Changes, nothing, told, told_of}
+use Rattle.fs_desk.specs.Leaves.{IsListed}
+use Rattle.fs_desk.specs.Receive.{wants_memory, Follows, IsFed, HasReplied, IsLeft, Spares, IsUp, HasTaken, MessageTaken, TakesMessage, HasRepliedMore}
+use Rattle.fs_desk.proofs.Follows.{follows_piece, follows_fed, follows_closed, over_more}
+use Rattle.fs_desk.proofs.Replying.{replied_exactly, replied_over}
+use Rattle.fs_desk.proofs.Updates.{left_more, left_nothing, spares_others, spares_none, spares_then}
+
+-- a message without an update was taken
+pub fed_none : (peer : ℕ) (old new : Live) (table : Held) (piece : List ℕ) (count : ℕ)
+    → (old.closed ≡ None → Does (step_with old piece) old new piece count None) → new.closed ≡ None → new.config ≡ old.config → new.peer ≡ old.peer
+    → TakesMessage peer old new table table piece (Some count)
+fed_none peer old new table piece count did alive c p = λ config whose octets updates f l k. record {
+  updates = updates ++ [];
+  follows = follows_fed config whose octets piece old new updates count None f alive c p (did f.alive);
+  left = subst (λ (u : List Update). IsLeft peer u table) (sym (append-nil updates)) k;
+  spares = spares_none peer table l;
+}
+
+-- a message with an update was taken, and the table has it
+pub fed_update : (peer : ℕ) (old new : Live) (table table' : Held) (piece : List ℕ) (count : ℕ) (update : Update)
+    → (old.closed ≡ None → Does (step_with old piece) old new piece count (Some update)) → new.closed ≡ None → new.config ≡ old.config → new.peer ≡ old.peer
+    → Changes peer (told update) (told_of update) table table'
+    → TakesMessage peer old new table table' piece (Some count)
+fed_update peer old new table table' piece count update did alive c p t = λ config whose octets updates f l k. record {
+  updates = updates ++ update ∷ [];
+  follows = follows_fed config whose octets piece old new updates count (Some update) f alive c p (did f.alive);
+  left = left_more peer updates update table table' k t l;
+  spares = spares_others peer (told update) (told_of update) table table' t l;
+}
+
+pub close_is : (step : Step) (why : Closed) → (why ≡ Memory → ⊥) → CloseIs step why → step ≡ stops why
+close_is step (Fault code subcode) n h = h
+close_is step (Notified code subcode) n h = h
+close_is step NoFamily n h = h
+close_is step Memory n h = absurd (n refl)
+
+-- the session was closed, and the table has nothing of the peer
+pub fed_closed : (peer : ℕ) (old new : Live) (table table' : Held) (piece : List ℕ) (why : Closed)
+    → (old.closed ≡ None → CloseIs (step_with old piece) why) → (why ≡ Memory → ⊥) → new.closed ≡ Some why
+    → Changes peer nothing nothing table table'
+    → TakesMessage peer old new table table' piece None
+fed_closed peer old new table table' piece why did n closed t = λ config whose octets updates f l k. inr (record {
+  why = why;
+  closed = closed;
+  over = follows_closed config whose octets piece old updates why f (close_is (step_with old piece) why n (did f.alive));
+  left = left_nothing peer table table' t l;
+  spares = spares_others peer nothing nothing table table' t l;
+})
+
+-- nothing is left of the piece
+pub fed_nothing : (peer : ℕ) (session : Live) (table : Held) (piece : List ℕ) → piece ≡ [] → TakesMessage peer session session table table piece None
+fed_nothing peer session table piece e = λ config whose octets updates f l k. inl (e, refl, refl)
+
+-- before the first octet of a piece
+pub taken_none : (config : Config) (whose : Peer) (peer : ℕ) (octets piece : List ℕ) (session : Live) (table : Held)
+    → IsUp config whose peer octets session table → session.closed ≡ None → IsListed table
+    → HasTaken config whose peer (octets ++ piece) piece session table table
+taken_none config whose peer octets piece session table s open_ l = record {
+  updates = s.updates;
+  follows = follows_piece config whose octets piece session s.updates (subst (λ (o : Option Closed). IsFed config whose octets session o s.updates) open_ s.fed);
+  left = s.left;
+  spares = spares_none peer table l;
+}
+
+pub taken_more_of : (config : Config) (whose : Peer) (peer : ℕ) (octets rest : List ℕ) (session new : Live) (table now table' : Held) (count : ℕ)
+    → HasTaken config whose peer octets rest session table now → TakesMessage peer session new now table' rest (Some count)
+    → HasTaken config whose peer octets (drop count rest) new table table'
+taken_more_of config whose peer octets rest session new table now table' count r feeds =
+    let g = feeds config whose octets r.updates r.follows r.spares.listed r.left in
+    record {
+      updates = g.updates;
+      follows = g.follows;
+      left = g.left;
+      spares = spares_then peer table now table' r.spares g.spares;
+    }
+
+pub taken_all : (config : Config) (whose : Peer) (peer : ℕ) (octets rest : List ℕ) (session new : Live) (table now table' : Held) (said first replies' : List ℕ)
+    → HasTaken config whose peer octets rest session table now → HasRepliedMore config whose octets new said first replies' → TakesMessage peer session new now table' rest None
+    → IsUp config whose peer octets new table' × Spares peer table table'
+taken_all config whose peer octets rest session new table now table' said first replies' r t feeds =
+    by (feeds config whose octets r.updates r.follows r.spares.listed r.left)
+  where
+    stands : (updates : List Update) → IsFed config whose octets new new.closed updates → IsLeft peer updates table' → IsUp config whose peer octets new table'
+    stands updates fed k = record {
+      updates = updates;
+      fed = fed;
+      replied = replied_exactly config whose octets new new.closed updates (said ++ t.more) fed t.replied;
+      left = k;
+    }
+
+    by : MessageTaken config whose octets peer session new now table' rest None → IsUp config whose peer octets new table' × Spares peer table table'
+    by (inl e) =
+        let f : Follows config whose octets [] session r.updates = subst (λ (z : List ℕ). Follows config whose octets z session r.updates) e.0 r.follows in
+        let fed : IsFed config whose octets session session.closed r.updates = subst (λ (o : Option Closed). IsFed config whose octets session o r.updates) (sym f.alive) f in (
+          stands r.updates
+              (subst (λ (v : Live). IsFed config whose octets v v.closed r.updates) (sym e.1) fed)
+              (subst (λ (h : Held). IsLeft peer r.updates h) (sym e.2) r.left),
+          subst (λ (h : Held). Spares peer table h) (sym e.2) r.spares,
+        )
+    by (inr e) = (
+      stands [] (subst (λ (o : Option Closed). IsFed config whose octets new o []) (sym e.closed) (e.over, refl)) e.left,
+      spares_then peer table now table' r.spares e.spares,
+    )
+
+-- a closed session stays as it is
+pub up_over : (config : Config) (whose : Peer) (peer : ℕ) (octets piece : List ℕ) (session : Live) (table : Held) (why : Closed)
+    → session.closed ≡ Some why → IsListed table → IsUp config whose peer octets session table
+    → IsUp config whose peer (octets ++ piece) session table × Spares peer table table
+up_over config whose peer octets piece session table why h l s =
+    let o : IsFed config whose octets session (Some why) s.updates = subst (λ (c : Option Closed). IsFed config whose octets session c s.updates) h s.fed in
+    let fed : IsFed config whose (octets ++ piece) session session.closed s.updates =
+    subst (λ (c : Option Closed). IsFed config whose (octets ++ piece) session c s.updates) (sym h) (over_more config whose octets piece why o.0, o.1) in
+    let said : HasReplied config whose octets session (Some why) (replies_from config whose at_start octets) =
+    subst (λ (c : Option Closed). HasReplied config whose octets session c (replies_from config whose at_start octets)) h s.replied in (
+      record {
+        updates = s.updates;
+        fed = fed;
+        replied =
+            replied_exactly config whose (octets ++ piece) session session.closed s.updates (replies_from config whose at_start octets) fed
+            (subst (λ (c : Option Closed). HasReplied config whose (octets ++ piece) session c (replies_from config whose at_start octets)) (sym h)
+            (replied_over config whose octets piece session why (replies_from config whose at_start octets) said));
+        left = s.left;
+      },
+      spares_none peer table l,
+    )
+
+pub some_there : {A : Type 0} (o : Option A) → is_some o ≡ true → (a : A) × (o ≡ Some a)
+some_there (Some a) h = (a, refl)
+some_there None h = absurd (true≢false (sym h))
+
+pub none_there : {A : Type 0} (o : Option A) → is_some o ≡ false → o ≡ None
+none_there (Some a) h = absurd (true≢false h)
+none_there None h = refl
+
+pub up_ended : (config : Config) (whose : Peer) (peer : ℕ) (octets piece : List ℕ) (session : Live) (table : Held)
+    → is_some session.closed ≡ true → IsListed table → IsUp config whose peer octets session table
+    → IsUp config whose peer (octets ++ piece) session table × Spares peer table table
+up_ended config whose peer octets piece session table h l s =
+    let found = some_there session.closed h in
+    up_over config whose peer octets piece session table found.0 found.1 l s
+
+pub not_memory : (why : Closed) → wants_memory why ≡ false → why ≡ Memory → ⊥
+not_memory why h e = true≢false (sym (ap wants_memory e) ∙ h)

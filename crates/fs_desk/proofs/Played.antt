@@ -1,0 +1,378 @@
+-- The desk behind one more item of the tape.
+use Rattle.std.proofs.Common.{◌≡◌, ◌==◌, ℕ, List, [], ◌∷◌, ◌++◌, Bool, true, false, cond, Option, Some, None, if◌then◌else◌, option_map, refl, ap, sym, ◌∙◌, subst, true≢false, append-nil, arith, ◌⊎◌, inl, inr, unwrap_or, IsSome}
+use Rattle.std.proofs.lemmas.Bool.Decides.{nat_tests}
+use Rattle.std.specs.Ordering.{nat_cmp, is_eq}
+use Rattle.std.specs.Cmp.{IsTotalOrder, nat_cmp_total, eq_by_cmp_equiv}
+use Rattle.std.specs.List.Sorted.{IsStrictlySortedBy}
+use Rattle.std.specs.Map.{remove_entry, set_value, keys_of}
+use Rattle.std.specs.BTreeMap.{insert_entry, is_at}
+use Rattle.std.proofs.lemmas.Map.{lookup-remove_entry, lookup-set_value, keys-set_value}
+use Rattle.std.proofs.lemmas.Map.Keys.{IsDistinct-from_sorted}
+use Rattle.fs_base.specs.Config.{peer_of}
+use Rattle.fs_base.specs.declared.config.Config.{Config}
+use Rattle.fs_base.specs.declared.config.Peer.{Peer}
+use Rattle.fs_message.specs.Framing.{framing}
+use Rattle.fs_rules.specs.Held.{Held}
+use Rattle.fs_speaker.specs.Session.{at_start}
+use Rattle.fs_speaker.specs.Replies.{replies_from}
+use Rattle.fs_speaker.specs.Steps.{Live, live, begins}
+use Rattle.fs_tape.specs.Tape.{Item, came_up, received, was_lost}
+use Rattle.fs_desk.specs.Life.{bounds_life, begins_life, sent_in, life}
+use Rattle.fs_desk.specs.Apply.{Changes, nothing}
+use Rattle.fs_desk.specs.Leaves.{IsListed}
+use Rattle.fs_desk.specs.Receive.{IsLeft, Spares, IsUp, TakesPiece, RepliesPiece}
+use Rattle.fs_desk.specs.Desk.{Desked, session_at, PeerIs, Played, Replied}
+use Rattle.fs_desk.proofs.Entries.{lookup-insert_entry, sorted-insert_entry, sorted-remove_entry, is_equal}
+use Rattle.fs_desk.proofs.Life.{life-bound, life-more}
+use Rattle.fs_desk.proofs.Follows.{follows_none}
+use Rattle.fs_desk.proofs.Replying.{replied_none}
+use Rattle.fs_desk.proofs.Updates.{left_nothing, left_spared, spares_others}
+
+nat_same : (m n : ℕ) → is_eq (nat_cmp m n) ≡ (m == n)
+nat_same m n = grind (arith, nat_tests)
+
+same_swapped : (m n : ℕ) (b : Bool) → (m == n) ≡ b → (n == m) ≡ b
+same_swapped m n b h = grind (arith, nat_tests, h)
+
+one_number : (m n : ℕ) → (m == n) ≡ true → m ≡ n
+one_number m n h = grind (arith, nat_tests, h)
+
+itself : (n : ℕ) → (n == n) ≡ true
+itself n = grind (arith, nat_tests)
+
+-- of the peer's session, with another put in its place or taken away
+session_put : (m n : ℕ) (session : Live) (sessions : List (ℕ × Live)) → session_at m (insert_entry nat_cmp sessions n session) ≡ (if m == n then Some session else session_at m sessions)
+session_put m n session sessions =
+    lookup-insert_entry nat_cmp nat_cmp_total m n session sessions
+    ∙ ap (λ (b : Bool). if b then Some session else session_at m sessions) (nat_same m n)
+
+session_gone : (m n : ℕ) (sessions : List (ℕ × Live)) → IsStrictlySortedBy nat_cmp (keys_of sessions)
+    → session_at m (remove_entry (is_at (nat_cmp n)) sessions) ≡ (if m == n then None else session_at m sessions)
+session_gone m n sessions s =
+    lookup-remove_entry (eq_by_cmp_equiv nat_cmp_total) (is_at (nat_cmp n)) (λ x y h. ap is_eq (IsTotalOrder.congr nat_cmp_total n x y (is_equal (nat_cmp n x) h))) m sessions
+    (IsDistinct-from_sorted nat_cmp (keys_of sessions) s)
+    ∙ ap (λ (b : Bool). cond b None (session_at m sessions)) (nat_same n m ∙ same_swapped m n (m == n) refl)
+
+chosen : {A : Type 0} (b : Bool) (x y : A) → b ≡ true → (if b then x else y) ≡ x
+chosen true x y h = refl
+chosen false x y h = absurd (true≢false (sym h))
+
+not_chosen : {A : Type 0} (b : Bool) (x y : A) → b ≡ false → (if b then x else y) ≡ y
+not_chosen true x y h = absurd (true≢false h)
+not_chosen false x y h = refl
+
+-- a peer whose life and session are the same, where the table spares it
+peer_spared : (config : Config) (peer : Option Peer) (l l' : Option (List ℕ)) (s s' : Option Live) (n m : ℕ) (old new : Held)
+    → l' ≡ l → s' ≡ s → Spares n old new → (m == n) ≡ false → PeerIs config peer l s m old → PeerIs config peer l' s' m new
+peer_spared config peer l l' s s' n m old new e f spares apart p =
+    subst (λ (x : Option (List ℕ)). PeerIs config peer x s' m new) (sym e)
+    (subst (λ (x : Option Live). PeerIs config peer l x m new) (sym f) (at peer l s p))
+  where
+    at : (q : Option Peer) (x : Option (List ℕ)) (y : Option Live) → PeerIs config q x y m old → PeerIs config q x y m new
+    at q None None k = left_spared n m [] old new spares apart k
+    at None None (Some y) k = absurd k
+    at (Some q) None (Some y) k = absurd k
+    at None (Some x) None k = absurd k
+    at (Some q) (Some x) None k = absurd k
+    at None (Some x) (Some y) k = absurd k
+    at (Some q) (Some x) (Some y) k = record { updates = k.updates; fed = k.fed; replied = k.replied; left = left_spared n m k.updates old new spares apart k.left }
+
+-- an item of another peer doesn't touch a life
+life_other : (m : ℕ) (items : List Item) (item : Item) → bounds_life m item ≡ false → begins_life m item ≡ false → sent_in m item ≡ [] → life m (items ++ item ∷ []) ≡ life m items
+life_other m items item t u s =
+    life-more m items item t u
+    ∙ ap (λ (z : List ℕ). option_map (λ octets. octets ++ z) (life m items)) s
+    ∙ at (life m items)
+  where
+    at : (o : Option (List ℕ)) → option_map (λ octets. octets ++ []) o ≡ o
+    at None = refl
+    at (Some octets) = ap Some (append-nil octets)
+
+-- whether two numbers are one
+cases_of : (b : Bool) → (b ≡ true) ⊎ (b ≡ false)
+cases_of true = inl refl
+cases_of false = inr refl
+
+lost_life : (n : ℕ) (items : List Item) → life n (items ++ was_lost n ∷ []) ≡ None
+lost_life n items = life-bound n items (was_lost n) (itself n)
+
+up_life : (n : ℕ) (items : List Item) → life n (items ++ came_up n ∷ []) ≡ Some []
+up_life n items = life-bound n items (came_up n) (itself n) ∙ ap (λ (b : Bool). if b then Some [] else None) (itself n)
+
+-- the peer was lost
+pub played_lost : (config : Config) (items : List Item) (n : ℕ) (old new : Desked)
+    → Changes n nothing nothing old.held new.held → new.config ≡ old.config → new.sessions ≡ remove_entry (is_at (nat_cmp n)) old.sessions
+    → Played config items old → Played config (items ++ was_lost n ∷ []) new
+played_lost config items n old new t c s p = record {
+  config_is = c ∙ p.config_is;
+  held_is = t.config_is ∙ p.held_is;
+  listed = t.listed p.listed;
+  sessions = subst (λ (z : List (ℕ × Live)). IsStrictlySortedBy nat_cmp (keys_of z)) (sym s) (sorted-remove_entry nat_cmp nat_cmp_total (is_at (nat_cmp n)) old.sessions p.sessions);
+  each = λ m. elim (cases_of (m == n)) [
+    | inl e ↦ own m e
+    | inr e ↦
+        peer_spared config (peer_of m config.peers) (life m items) (life m (items ++ was_lost n ∷ [])) (session_at m old.sessions) (session_at m new.sessions) n m old.held new.held
+        (life_other m items (was_lost n) (same_swapped m n false e) refl refl)
+        (ap (session_at m) s ∙ session_gone m n old.sessions p.sessions ∙ not_chosen (m == n) _ _ e)
+        (spares_others n nothing nothing old.held new.held t p.listed) e (p.each m)
+  ];
+}
+  where
+    own : (m : ℕ) → (m == n) ≡ true → PeerIs config (peer_of m config.peers) (life m (items ++ was_lost n ∷ [])) (session_at m new.sessions) m new.held
+    own m e =
+        let at : PeerIs config (peer_of n config.peers) (life n (items ++ was_lost n ∷ [])) (session_at n new.sessions) n new.held =
+        subst (λ (x : Option (List ℕ)). PeerIs config (peer_of n config.peers) x (session_at n new.sessions) n new.held) (sym (lost_life n items))
+        (subst (λ (x : Option Live). PeerIs config (peer_of n config.peers) None x n new.held)
+        (sym (ap (session_at n) s ∙ session_gone n n old.sessions p.sessions ∙ chosen (n == n) _ _ (itself n)))
+        (left_nothing n old.held new.held t p.listed)) in
+        subst (λ (k : ℕ). PeerIs config (peer_of k config.peers) (life k (items ++ was_lost n ∷ [])) (session_at k new.sessions) k new.held) (sym (one_number m n e)) at
+
+-- a lost peer came up
+left_down : (config : Config) (peer : Option Peer) (s : Option Live) (n : ℕ) (held : Held) → PeerIs config peer None s n held → IsLeft n [] held
+left_down config peer None n held k = k
+left_down config None (Some s) n held k = absurd k
+left_down config (Some peer) (Some s) n held k = absurd k
+
+pub played_up : (config : Config) (items : List Item) (n : ℕ) (peer : Peer) (session : Live) (mid new : Desked)
+    → peer_of n config.peers ≡ Some peer → session ≡ live config peer (framing [] false None) at_start None
+    → new.config ≡ mid.config → new.held ≡ mid.held → new.sessions ≡ insert_entry nat_cmp mid.sessions n session
+    → Played config (items ++ was_lost n ∷ []) mid → Played config (items ++ came_up n ∷ []) new
+played_up config items n peer session mid new q v c h s p = record {
+  config_is = c ∙ p.config_is;
+  held_is = ap (λ (z : Held). z.config) h ∙ p.held_is;
+  listed = subst (λ (z : Held). IsListed z) (sym h) p.listed;
+  sessions = subst (λ (z : List (ℕ × Live)). IsStrictlySortedBy nat_cmp (keys_of z)) (sym s) (sorted-insert_entry nat_cmp nat_cmp_total n session mid.sessions p.sessions);
+  each = λ m. elim (cases_of (m == n)) [
+    | inl e ↦ own m e
+    | inr e ↦
+        subst (λ (z : Held). PeerIs config (peer_of m config.peers) (life m (items ++ came_up n ∷ [])) (session_at m new.sessions) m z) (sym h)
+        (subst (λ (x : Option Live). PeerIs config (peer_of m config.peers) (life m (items ++ came_up n ∷ [])) x m mid.held)
+        (sym (ap (session_at m) s ∙ session_put m n session mid.sessions ∙ not_chosen (m == n) _ _ e))
+        (subst (λ (x : Option (List ℕ)). PeerIs config (peer_of m config.peers) x (session_at m mid.sessions) m mid.held)
+        (life_other m items (was_lost n) (same_swapped m n false e) refl refl ∙ sym (life_other m items (came_up n) (same_swapped m n false e) (same_swapped m n false e) refl))
+        (p.each m)))
+  ];
+}
+  where
+    down : IsLeft n [] mid.held
+    down = left_down config (peer_of n config.peers) (session_at n mid.sessions) n mid.held
+        (subst (λ (x : Option (List ℕ)). PeerIs config (peer_of n config.peers) x (session_at n mid.sessions) n mid.held) (lost_life n items) (p.each n))
+
+    first : IsUp config peer n [] session mid.held
+    first = subst (λ (z : Live). IsUp config peer n [] z mid.held) (sym v) (record { updates = []; fed = follows_none config peer; replied = replied_none config peer; left = down })
+
+    at : PeerIs config (peer_of n config.peers) (life n (items ++ came_up n ∷ [])) (session_at n new.sessions) n new.held
+    at =
+        subst (λ (z : Held). PeerIs config (peer_of n config.peers) (life n (items ++ came_up n ∷ [])) (session_at n new.sessions) n z) (sym h)
+        (subst (λ (x : Option Live). PeerIs config (peer_of n config.peers) (life n (items ++ came_up n ∷ [])) x n mid.held)
+        (sym (ap (session_at n) s ∙ session_put n n session mid.sessions ∙ chosen (n == n) _ _ (itself n)))
+        (subst (λ (x : Option (List ℕ)). PeerIs config (peer_of n config.peers) x (Some session) n mid.held) (sym (up_life n items))
+        (subst (λ (x : Option Peer). PeerIs config x (Some []) (Some session) n mid.held) (sym q) first)))
+
+    own : (m : ℕ) → (m == n) ≡ true → PeerIs config (peer_of m config.peers) (life m (items ++ came_up n ∷ [])) (session_at m new.sessions) m new.held
+    own m e = subst (λ (k : ℕ). PeerIs config (peer_of k config.peers) (life k (items ++ came_up n ∷ [])) (session_at k new.sessions) k new.held) (sym (one_number m n e)) at
+
+received_life : (n : ℕ) (items : List Item) (piece : List ℕ) → life n (items ++ received n piece ∷ []) ≡ option_map (λ octets. octets ++ piece) (life n items)
+received_life n items piece =
+    life-more n items (received n piece) refl refl
+    ∙ ap (λ (z : List ℕ). option_map (λ octets. octets ++ z) (life n items)) (chosen (n == n) piece [] (itself n))
+
+-- the session of a peer that is up took a piece
+pub played_octets : (config : Config) (items : List Item) (n : ℕ) (piece : List ℕ) (session session' : Live) (old new : Desked)
+    → session_at n old.sessions ≡ Some session → TakesPiece n session session' old.held new.held piece
+    → new.config ≡ old.config → ((m : ℕ) → session_at m new.sessions ≡ (if m == n then Some session' else session_at m old.sessions))
+    → IsStrictlySortedBy nat_cmp (keys_of new.sessions)
+    → Played config items old → Played config (items ++ received n piece ∷ []) new
+played_octets config items n piece session session' old new there takes c s sorted p =
+    by (peer_of n config.peers) (life n items) refl refl (subst (λ (x : Option Live). PeerIs config (peer_of n config.peers) (life n items) x n old.held) there (p.each n))
+  where
+    by : (q : Option Peer) (l : Option (List ℕ)) → peer_of n config.peers ≡ q → life n items ≡ l → PeerIs config q l (Some session) n old.held
+        → Played config (items ++ received n piece ∷ []) new
+    by None None f g k = absurd k
+    by (Some peer) None f g k = absurd k
+    by None (Some octets) f g k = absurd k
+    by (Some peer) (Some octets) f g k =
+        let took = takes config peer octets p.listed k in
+        let at : PeerIs config (peer_of n config.peers) (life n (items ++ received n piece ∷ [])) (session_at n new.sessions) n new.held =
+        subst (λ (x : Option Live). PeerIs config (peer_of n config.peers) (life n (items ++ received n piece ∷ [])) x n new.held)
+        (sym (s n ∙ chosen (n == n) _ _ (itself n)))
+        (subst (λ (x : Option (List ℕ)). PeerIs config (peer_of n config.peers) x (Some session') n new.held)
+        (sym (received_life n items piece ∙ ap (option_map (λ z. z ++ piece)) g))
+        (subst (λ (x : Option Peer). PeerIs config x (Some (octets ++ piece)) (Some session') n new.held) (sym f) took.0)) in
+        record {
+          config_is = c ∙ p.config_is;
+          held_is = took.1.config_is ∙ p.held_is;
+          listed = took.1.listed;
+          sessions = sorted;
+          each = λ m. elim (cases_of (m == n)) [
+            | inl e ↦ subst (λ (z : ℕ). PeerIs config (peer_of z config.peers) (life z (items ++ received n piece ∷ [])) (session_at z new.sessions) z new.held) (sym (one_number m n e)) at
+            | inr e ↦
+                peer_spared config (peer_of m config.peers) (life m items) (life m (items ++ received n piece ∷ [])) (session_at m old.sessions) (session_at m new.sessions) n m old.held new.held
+                (life_other m items (received n piece) refl refl (not_chosen (n == m) piece [] (same_swapped m n false e)))
+                (s m ∙ not_chosen (m == n) _ _ e) took.1 e (p.each m)
+          ];
+        }
+
+-- the session of a peer that is up replied to a piece
+pub played_replied : (config : Config) (items : List Item) (n : ℕ) (piece before now : List ℕ) (session : Live) (desk : Desked)
+    → session_at n desk.sessions ≡ Some session → RepliesPiece n session desk.held piece before now → Played config items desk
+    → Replied config n (life n items) piece before now
+played_replied config items n piece before now session desk there replies p =
+    by (peer_of n config.peers) (life n items) refl (subst (λ (x : Option Live). PeerIs config (peer_of n config.peers) (life n items) x n desk.held) there (p.each n))
+  where
+    of : List ℕ → Option Peer → List ℕ
+    of octets q = elim q [ None ↦ [] | Some peer ↦ replies_from config peer at_start octets ]
+
+    by : (q : Option Peer) (l : Option (List ℕ)) → peer_of n config.peers ≡ q → PeerIs config q l (Some session) n desk.held → Replied config n l piece before now
+    by None None f k = absurd k
+    by (Some peer) None f k = absurd k
+    by None (Some octets) f k = absurd k
+    by (Some peer) (Some octets) f k =
+        let r = replies config peer octets p.listed k in
+        (r.0, r.1, ap (of (octets ++ piece)) f ∙ r.2 ∙ ap (λ (z : List ℕ). z ++ r.0) (sym (ap (of octets) f)))
+
+no_life : (config : Config) (peer : Option Peer) (l : Option (List ℕ)) (n : ℕ) (held : Held) → PeerIs config peer l None n held → l ≡ None
+no_life config peer None n held k = refl
+no_life config None (Some octets) n held k = absurd k
+no_life config (Some peer) (Some octets) n held k = absurd k
+
+-- the octets of a peer that is down are skipped
+pub played_skipped : (config : Config) (items : List Item) (n : ℕ) (piece : List ℕ) (desk : Desked)
+    → session_at n desk.sessions ≡ None → Played config items desk → Played config (items ++ received n piece ∷ []) desk
+played_skipped config items n piece desk none p = record {
+  config_is = p.config_is;
+  held_is = p.held_is;
+  listed = p.listed;
+  sessions = p.sessions;
+  each = λ m. subst (λ (x : Option (List ℕ)). PeerIs config (peer_of m config.peers) x (session_at m desk.sessions) m desk.held) (sym (skipped m)) (p.each m);
+}
+  where
+    down : life n items ≡ None
+    down = no_life config (peer_of n config.peers) (life n items) n desk.held
+        (subst (λ (x : Option Live). PeerIs config (peer_of n config.peers) (life n items) x n desk.held) none (p.each n))
+
+    own : life n (items ++ received n piece ∷ []) ≡ life n items
+    own = received_life n items piece ∙ ap (option_map (λ z. z ++ piece)) down ∙ sym down
+
+    skipped : (m : ℕ) → life m (items ++ received n piece ∷ []) ≡ life m items
+    skipped m = elim (cases_of (m == n)) [
+      | inl e ↦ subst (λ (z : ℕ). life z (items ++ received n piece ∷ []) ≡ life z items) (sym (one_number m n e)) own
+      | inr e ↦ life_other m items (received n piece) refl refl (not_chosen (n == m) piece [] (same_swapped m n false e))
+    ]
+
+-- and not answered
+pub played_silent : (config : Config) (items : List Item) (n : ℕ) (piece before : List ℕ) (desk : Desked)
+    → session_at n desk.sessions ≡ None → Played config items desk → Replied config n (life n items) piece before before
+played_silent config items n piece before desk none p =
+    subst (λ (l : Option (List ℕ)). Replied config n l piece before before)
+    (sym (no_life config (peer_of n config.peers) (life n items) n desk.held
+    (subst (λ (x : Option Live). PeerIs config (peer_of n config.peers) (life n items) x n desk.held) none (p.each n))))
+    refl
+
+-- before the first item
+pub played_none : (config : Config) (desk : Desked) → desk ≡ record { config = config; held = record { config = config; unicast = []; flows = [] }; sessions = [] } → Played config [] desk
+unfolding IsStrictlySortedBy
+played_none config desk e = subst (λ (d : Desked). Played config [] d) (sym e) first
+  where
+    first : Played config [] (record { config = config; held = record { config = config; unicast = []; flows = [] }; sessions = [] })
+    first = record {
+      config_is = refl;
+      held_is = refl;
+      listed = record { unicast = tt; flows = tt };
+      sessions = tt;
+      each = λ m. record { unicast = λ place h. refl; flows = λ rule. refl };
+    }
+
+-- of the desk's parts
+pub desk_lost : (config : Config) (items : List Item) (n : ℕ) (own : Config) (table table' : Held) (sessions sessions' : List (ℕ × Live)) (old : Desked)
+    → old ≡ record { config = own; held = table; sessions = sessions } → Changes n nothing nothing table table' → sessions' ≡ remove_entry (is_at (nat_cmp n)) sessions
+    → Played config items old → Played config (items ++ was_lost n ∷ []) (record { config = own; held = table'; sessions = sessions' })
+desk_lost config items n own table table' sessions sessions' old e t s p =
+    played_lost config items n (record { config = own; held = table; sessions = sessions }) (record { config = own; held = table'; sessions = sessions' }) t refl s
+    (subst (λ (d : Desked). Played config items d) e p)
+
+pub desk_octets : (config : Config) (items : List Item) (n : ℕ) (piece : List ℕ) (session session' : Live) (own : Config) (table table' : Held) (sessions sessions' : List (ℕ × Live)) (old : Desked)
+    → old ≡ record { config = own; held = table; sessions = sessions }
+    → session_at n sessions ≡ Some session → TakesPiece n session session' table table' piece
+    → ((m : ℕ) → session_at m sessions' ≡ (if m == n then Some session' else session_at m sessions))
+    → (IsStrictlySortedBy nat_cmp (keys_of sessions) → IsStrictlySortedBy nat_cmp (keys_of sessions'))
+    → Played config items old → Played config (items ++ received n piece ∷ []) (record { config = own; held = table'; sessions = sessions' })
+desk_octets config items n piece session session' own table table' sessions sessions' old e there takes s sorted p =
+    let q : Played config items (record { config = own; held = table; sessions = sessions }) = subst (λ (d : Desked). Played config items d) e p in
+    played_octets config items n piece session session' (record { config = own; held = table; sessions = sessions }) (record { config = own; held = table'; sessions = sessions' }) there takes refl s (sorted q.sessions) q
+
+pub desk_skipped : (config : Config) (items : List Item) (n : ℕ) (piece : List ℕ) (own : Config) (table : Held) (sessions sessions' : List (ℕ × Live)) (old : Desked)
+    → old ≡ record { config = own; held = table; sessions = sessions } → session_at n sessions ≡ None → sessions' ≡ sessions
+    → Played config items old → Played config (items ++ received n piece ∷ []) (record { config = own; held = table; sessions = sessions' })
+desk_skipped config items n piece own table sessions sessions' old e none same p =
+    subst (λ (z : List (ℕ × Live)). Played config (items ++ received n piece ∷ []) (record { config = own; held = table; sessions = z })) (sym same)
+    (played_skipped config items n piece (record { config = own; held = table; sessions = sessions }) none (subst (λ (d : Desked). Played config items d) e p))
+
+pub played_new : (config : Config) (table : Held) (sessions : List (ℕ × Live)) → table ≡ record { config = config; unicast = []; flows = [] } → sessions ≡ []
+    → Played config [] (record { config = config; held = table; sessions = sessions })
+played_new config table sessions e f =
+    played_none config (record { config = config; held = table; sessions = sessions })
+    (ap (λ (h : Held). let d : Desked = record { config = config; held = h; sessions = sessions } in d) e
+    ∙ ap (λ (s : List (ℕ × Live)). let d : Desked = record { config = config; held = record { config = config; unicast = []; flows = [] }; sessions = s } in d) f)
+
+begun : (own : Config) (o : Option Peer) (session : Live) → option_map (λ (peer : Peer). live own peer (framing [] false None) at_start None) o ≡ Some session
+    → (peer : Peer) × (o ≡ Some peer) × (session ≡ live own peer (framing [] false None) at_start None)
+begun own None session h = absurd cc
+begun own (Some peer) session h = (peer, refl, ap (λ (s : Option Live). unwrap_or s session) (sym h))
+
+-- a new session of a lost peer is kept
+pub desk_up : (config : Config) (items : List Item) (n : ℕ) (session : Live) (own : Config) (table : Held) (sessions sessions' : List (ℕ × Live)) (mid : Desked)
+    → mid ≡ record { config = own; held = table; sessions = sessions } → begins own n ≡ Some session → sessions' ≡ insert_entry nat_cmp sessions n session
+    → Played config (items ++ was_lost n ∷ []) mid → Played config (items ++ came_up n ∷ []) (record { config = own; held = table; sessions = sessions' })
+desk_up config items n session own table sessions sessions' mid e b s p =
+    let q : Played config (items ++ was_lost n ∷ []) (record { config = own; held = table; sessions = sessions }) = subst (λ (d : Desked). Played config (items ++ was_lost n ∷ []) d) e p in
+    let found = begun own (peer_of n own.peers) session b in
+    played_up config items n found.0 session (record { config = own; held = table; sessions = sessions }) (record { config = own; held = table; sessions = sessions' })
+    (ap (λ (c : Config). peer_of n c.peers) (sym q.config_is) ∙ found.1)
+    (found.2 ∙ ap (λ (c : Config). live c found.0 (framing [] false None) at_start None) q.config_is)
+    refl refl s q
+
+-- a session's value is written back in its place
+session_set : (m n : ℕ) (session : Live) (sessions : List (ℕ × Live)) → IsSome (session_at n sessions)
+    → session_at m (set_value (is_at (nat_cmp n)) sessions session) ≡ (if m == n then Some session else session_at m sessions)
+session_set m n session sessions there =
+    lookup-set_value (eq_by_cmp_equiv nat_cmp_total) (is_at (nat_cmp n)) (λ x y h. ap is_eq (IsTotalOrder.congr nat_cmp_total n x y (is_equal (nat_cmp n x) h))) m session sessions there
+    ∙ ap (λ (b : Bool). cond b (Some session) (session_at m sessions)) (nat_same n m ∙ same_swapped m n (m == n) refl)
+
+is_there : (o : Option Live) (session : Live) → o ≡ Some session → IsSome o
+is_there o session h = subst (λ (x : Option Live). IsSome x) (sym h) refl
+
+pub desk_fed : (config : Config) (items : List Item) (n : ℕ) (piece : List ℕ) (session session' : Live) (own : Config) (table table' : Held) (sessions sessions' : List (ℕ × Live)) (old : Desked)
+    → old ≡ record { config = own; held = table; sessions = sessions }
+    → session_at n sessions ≡ Some session → TakesPiece n session session' table table' piece
+    → sessions' ≡ set_value (is_at (nat_cmp n)) sessions session'
+    → Played config items old → Played config (items ++ received n piece ∷ []) (record { config = own; held = table'; sessions = sessions' })
+desk_fed config items n piece session session' own table table' sessions sessions' old e there takes s p =
+    desk_octets config items n piece session session' own table table' sessions sessions' old e there takes
+    (λ m. ap (session_at m) s ∙ session_set m n session' sessions (is_there (session_at n sessions) session there))
+    (λ sorted. subst (λ (ks : List ℕ). IsStrictlySortedBy nat_cmp ks) (sym (ap keys_of s ∙ keys-set_value (is_at (nat_cmp n)) sessions session')) sorted)
+    p
+
+pub desk_replied : (config : Config) (items : List Item) (n : ℕ) (piece before now : List ℕ) (session : Live) (own : Config) (table : Held) (sessions : List (ℕ × Live)) (old : Desked)
+    → old ≡ record { config = own; held = table; sessions = sessions } → session_at n sessions ≡ Some session → RepliesPiece n session table piece before now
+    → Played config items old → Replied config n (life n items) piece before now
+desk_replied config items n piece before now session own table sessions old e there replies p =
+    played_replied config items n piece before now session (record { config = own; held = table; sessions = sessions }) there replies
+    (subst (λ (d : Desked). Played config items d) e p)
+
+pub desk_silent : (config : Config) (items : List Item) (n : ℕ) (piece before : List ℕ) (own : Config) (table : Held) (sessions : List (ℕ × Live)) (old : Desked)
+    → old ≡ record { config = own; held = table; sessions = sessions } → session_at n sessions ≡ None
+    → Played config items old → Replied config n (life n items) piece before before
+desk_silent config items n piece before own table sessions old e none p =
+    played_silent config items n piece before (record { config = own; held = table; sessions = sessions }) none
+    (subst (λ (d : Desked). Played config items d) e p)
+
+abbrev desk_of : Config → Held → List (ℕ × Live) → Desked
+desk_of own table sessions = record { config = own; held = table; sessions = sessions }
+
+-- the sessions stayed as they were
+pub desk_stays : (config : Config) (items : List Item) (own : Config) (table : Held) (sessions sessions' : List (ℕ × Live)) (old : Desked)
+    → old ≡ record { config = own; held = table; sessions = sessions } → sessions' ≡ sessions
+    → Played config items old → Played config items (record { config = own; held = table; sessions = sessions' })
+desk_stays config items own table sessions sessions' old e s p =
+    subst (λ (d : Desked). Played config items d) (e ∙ ap (λ (z : List (ℕ × Live)). desk_of own table z) (sym s)) p

@@ -1,0 +1,167 @@
+-- What a piece of a peer's octets does to its session, to the replies and to the table.
+use Rattle.std.specs.Prelude.{◌≡◌, ◌==◌, ◌⊎◌, ℕ, List, [], ◌++◌, drop, Bool, true, false, Option, Some, None}
+use Rattle.fs_base.specs.declared.config.Config.{Config}
+use Rattle.fs_base.specs.declared.config.Peer.{Peer}
+use Rattle.fs_nlri.specs.Parts.{Ruled}
+use Rattle.fs_unicast.specs.declared.unicast.Place.{Place}
+use Rattle.fs_message.specs.Framing.{pending}
+use Rattle.fs_attrs.specs.declared.update.Update.{Update}
+use Rattle.fs_rules.specs.Held.{Held}
+use Rattle.fs_speaker.specs.declared.state.Closed.{Closed}
+use Rattle.fs_speaker.specs.declared.state.Closed.TheVariants.{Fault, Notified, NoFamily, Memory}
+use Rattle.fs_speaker.specs.Session.{at_start, Last, closed, session_from}
+use Rattle.fs_speaker.specs.Replies.{replies_from}
+use Rattle.fs_speaker.specs.Steps.{Live, waits, step_of}
+use Rattle.fs_desk.specs.Leaves.{unicast_left, flow_left, IsListed, unicast_at, flow_at}
+
+-- a session that was closed for want of memory, and not by the peer's octets
+abbrev pub wants_memory : Closed → Bool
+wants_memory Memory = true
+wants_memory (Fault code subcode) = false
+wants_memory (Notified code subcode) = false
+wants_memory NoFamily = false
+
+abbrev pub with_updates : List Update → List Update × Last → List Update × Last
+with_updates updates rest = (updates ++ rest.0, rest.1)
+
+-- Of all the octets a session has yet to take `rest`. It has taken these updates, and what it is still to make of its
+-- octets in hand, of the rest, and of all that follows, is what the session of them all makes of these.
+pub record Follows (config : Config) (peer : Peer) (octets rest : List ℕ) (session : Live) (updates : List Update)
+    : Type 0 where
+  pub alive : session.closed ≡ None
+  pub config_is : session.config ≡ config
+  pub peer_is : session.peer ≡ peer
+  pub waiting : step_of config peer session.standing (pending session.framing) ≡ waits
+  pub goes : (more : List ℕ)
+      → session_from config peer at_start (octets ++ more)
+      ≡ with_updates updates (session_from config peer session.standing (pending session.framing ++ (rest ++ more)))
+
+-- The session of the octets closed so, and stays so whatever follows.
+pub record IsOver (config : Config) (peer : Peer) (octets : List ℕ) (why : Closed) : Type 0 where
+  pub updates : List Update
+  pub stays : (more : List ℕ) → session_from config peer at_start (octets ++ more) ≡ (updates, closed why)
+
+-- The session has been fed with these octets. While it is open it has taken these updates; a closed one counts none.
+abbrev pub IsFed : Config → Peer → List ℕ → Live → Option Closed → List Update → Type 0
+IsFed config peer octets session None updates = Follows config peer octets [] session updates
+IsFed config peer octets session (Some why) updates = IsOver config peer octets why × (updates ≡ [])
+
+-- Of all the octets a session has yet to take `rest`. It has replied `said`, and what is still to be replied is what it
+-- replies to its octets in hand, to the rest, and to all that follows.
+abbrev pub IsReplying : Config → Peer → List ℕ → List ℕ → Live → List ℕ → Type 0
+IsReplying config peer octets rest session said =
+    (more : List ℕ)
+    → replies_from config peer at_start (octets ++ more)
+    ≡ said ++ replies_from config peer session.standing (pending session.framing ++ (rest ++ more))
+
+-- The session has been fed with these octets and has replied so. A closed one replies nothing more, whatever follows.
+abbrev pub HasReplied : Config → Peer → List ℕ → Live → Option Closed → List ℕ → Type 0
+HasReplied config peer octets session None said = IsReplying config peer octets [] session said
+HasReplied config peer octets session (Some why) said =
+    (more : List ℕ) → replies_from config peer at_start (octets ++ more) ≡ said
+
+-- the peer holds what these updates leave
+pub record IsLeft (peer : ℕ) (updates : List Update) (held : Held) : Type 0 where
+  pub unicast : (place : Place) → (place.peer == peer) ≡ true
+      → unicast_at place held.unicast ≡ unicast_left place.prefix updates
+  pub flows : (rule : Ruled) → flow_at rule peer held.flows ≡ flow_left rule updates
+
+-- what other peers hold stays
+pub record Spares (peer : ℕ) (old new : Held) : Type 0 where
+  pub config_is : new.config ≡ old.config
+  pub listed : IsListed new
+  pub unicast : (place : Place) → (place.peer == peer) ≡ false
+      → unicast_at place new.unicast ≡ unicast_at place old.unicast
+  pub flows : (rule : Ruled) (other : ℕ) → (other == peer) ≡ false
+      → flow_at rule other new.flows ≡ flow_at rule other old.flows
+
+-- a peer of that number whose session has been fed with these octets and has replied to them, and what it holds
+pub record IsUp (config : Config) (peer : Peer) (number : ℕ) (octets : List ℕ) (session : Live) (held : Held)
+    : Type 0 where
+  pub updates : List Update
+  pub fed : IsFed config peer octets session session.closed updates
+  pub replied : HasReplied config peer octets session session.closed (replies_from config peer at_start octets)
+  pub left : IsLeft number updates held
+
+-- Of the octets all but `rest` was taken: the session follows, the peer holds what its updates leave, and other peers
+-- what they held in `table`.
+pub record HasTaken (config : Config) (whose : Peer) (peer : ℕ) (octets rest : List ℕ) (session : Live)
+    (table now : Held) : Type 0 where
+  pub updates : List Update
+  pub follows : Follows config whose octets rest session updates
+  pub left : IsLeft peer updates now
+  pub spares : Spares peer table now
+
+-- A piece, to whatever the peer sent before: the session has been fed with both, the peer holds what they leave, and
+-- other peers what they held.
+abbrev pub TakesPiece : ℕ → Live → Live → Held → Held → List ℕ → Type 0
+TakesPiece peer old new table table' piece =
+    (config : Config) (whose : Peer) (octets : List ℕ) → IsListed table → IsUp config whose peer octets old table
+    → IsUp config whose peer (octets ++ piece) new table' × Spares peer table table'
+
+-- a piece behind these octets adds to the replies what is replied to all of them beyond what is replied to those before
+abbrev pub RepliesTo : Config → Peer → List ℕ → List ℕ → List ℕ → List ℕ → Type 0
+RepliesTo config whose octets piece before now =
+    (more : List ℕ) × (now ≡ before ++ more)
+    × (replies_from config whose at_start (octets ++ piece) ≡ replies_from config whose at_start octets ++ more)
+
+-- so to whatever the peer sent before
+abbrev pub RepliesPiece : ℕ → Live → Held → List ℕ → List ℕ → List ℕ → Type 0
+RepliesPiece peer session table piece before now =
+    (config : Config) (whose : Peer) (octets : List ℕ) → IsListed table → IsUp config whose peer octets session table
+    → RepliesTo config whose octets piece before now
+
+-- what was replied before still stands
+abbrev pub Extends : List ℕ → List ℕ → Type 0
+Extends before now = (more : List ℕ) × (now ≡ before ++ more)
+
+-- the session has closed, and nothing of the peer is held any more
+pub record HasClosed (config : Config) (whose : Peer) (octets : List ℕ) (peer : ℕ) (new : Live) (table table' : Held)
+    : Type 0 where
+  pub why : Closed
+  pub closed : new.closed ≡ Some why
+  pub over : IsOver config whose octets why
+  pub left : IsLeft peer [] table'
+  pub spares : Spares peer table table'
+
+-- a message was taken; or nothing was left of the piece, or the session closed
+abbrev pub MessageTaken : Config → Peer → List ℕ → ℕ → Live → Live → Held → Held → List ℕ → Option ℕ → Type 0
+MessageTaken config whose octets peer old new table table' piece (Some count) =
+    HasTaken config whose peer octets (drop count piece) new table table'
+MessageTaken config whose octets peer old new table table' piece None =
+    ((piece ≡ []) × (new ≡ old) × (table' ≡ table)) ⊎ HasClosed config whose octets peer new table table'
+
+-- so of any octets that an open session has been fed with before
+abbrev pub TakesMessage : ℕ → Live → Live → Held → Held → List ℕ → Option ℕ → Type 0
+TakesMessage peer old new table table' piece taken =
+    (config : Config) (whose : Peer) (octets : List ℕ) (updates : List Update)
+    → Follows config whose octets piece old updates → IsListed table → IsLeft peer updates table
+    → MessageTaken config whose octets peer old new table table' piece taken
+
+-- The session has said all: what it had said before, and what was appended to the replies since.
+pub record IsReplyingMore (config : Config) (whose : Peer) (octets rest : List ℕ) (session : Live)
+    (said replies replies' : List ℕ) : Type 0 where
+  pub more : List ℕ
+  pub grows : replies' ≡ replies ++ more
+  pub replied : IsReplying config whose octets rest session (said ++ more)
+
+-- so where nothing is left to take, or the session was closed
+pub record HasRepliedMore (config : Config) (whose : Peer) (octets : List ℕ) (session : Live)
+    (said replies replies' : List ℕ) : Type 0 where
+  pub more : List ℕ
+  pub grows : replies' ≡ replies ++ more
+  pub replied : HasReplied config whose octets session session.closed (said ++ more)
+
+-- what was replied to a message, or at a closing
+abbrev pub MessageReplied : Config → Peer → List ℕ → Live → List ℕ → List ℕ → List ℕ → List ℕ → Option ℕ → Type 0
+MessageReplied config whose octets new said replies replies' piece (Some count) =
+    IsReplyingMore config whose octets (drop count piece) new said replies replies'
+MessageReplied config whose octets new said replies replies' piece None =
+    HasRepliedMore config whose octets new said replies replies'
+
+-- so of any octets that an open session has been fed with before, and of all that it has said
+abbrev pub RepliesMessage : Live → Live → List ℕ → List ℕ → List ℕ → Option ℕ → Type 0
+RepliesMessage old new replies replies' piece taken =
+    (config : Config) (whose : Peer) (octets : List ℕ) (updates : List Update) (said : List ℕ)
+    → Follows config whose octets piece old updates → IsReplying config whose octets piece old said
+    → MessageReplied config whose octets new said replies replies' piece taken
