@@ -4,8 +4,6 @@
 
 mod community;
 mod list;
-#[cfg(test)]
-mod tests;
 
 pub use community::{Action, Rate, Redirect};
 pub use list::{ActionFault, Actions, from_communities};

@@ -7,8 +7,6 @@ mod path;
 mod prefixes;
 mod read;
 mod routes;
-#[cfg(test)]
-mod tests;
 mod texts;
 mod update;
 mod writable;

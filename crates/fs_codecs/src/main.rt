@@ -69,6 +69,7 @@ fn answer(alloc: Global, names: &Names, call: &str, input: &str) -> Result<Strin
         "hold" => lists::hold(alloc, names, input),
         "keep" => lists::keep(alloc, names, input),
         "rule" => rules::read(alloc, names, input),
+        "destination" => rules::destination(alloc, names, input),
         "feed" => rules::feed(alloc, names, input),
         "make" => rules::make(alloc, names, input),
         "long" => rules::long(alloc, input),

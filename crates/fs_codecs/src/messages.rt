@@ -4,7 +4,8 @@ use crate::names::Names;
 use crate::stop::Stop;
 use crate::words::{first, hexadecimal, numbered, short};
 use fs_message::{
-    Deframer, MessageFault, Notice, Open, write_keepalive, write_notice, write_open, write_update_frame,
+    Deframer, MessageFault, Notice, Open, write_keepalive, write_notice, write_open,
+    write_update_frame,
 };
 use std::alloc::Global;
 

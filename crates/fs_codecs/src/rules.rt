@@ -23,6 +23,20 @@ pub fn read(alloc: Global, names: &Names, input: &str) -> Result<String, Stop> {
     }
 }
 
+/// How many components the rule of a frame has, and its destination.
+pub fn destination(alloc: Global, names: &Names, input: &str) -> Result<String, Stop> {
+    let (ranked, _) = ranked(alloc, names, input)?;
+    let count = ranked.rule.components().len();
+    match ranked.rule.destination() {
+        Some(prefix) => {
+            let bits = prefix.bits;
+            let length = prefix.length;
+            Ok(format!(in alloc; "{count} to {bits:x}/{length}")?)
+        }
+        None => Ok(format!(in alloc; "{count} to any")?),
+    }
+}
+
 /// The canonical frame in hexadecimal.
 pub fn frame_text(alloc: Global, rule: &Rule) -> Result<String, Stop> {
     let mut frame = Vec::new(alloc);

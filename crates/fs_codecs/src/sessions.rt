@@ -38,9 +38,14 @@ pub fn play(alloc: Global, names: &Names, input: &str) -> Result<String, Stop> {
     let came = feed(&mut session, &octets, size, &mut replies);
     let state = state_text(alloc, &session)?;
     let stays = stays_closed(&mut session, &mut replies);
-    let Came { updates, withdrawals } = came;
+    let Came {
+        updates,
+        withdrawals,
+    } = came;
     let replied = hexadecimal(alloc, &replies)?;
-    Ok(format!(in alloc; "{state}{stays} updates {updates} withdrawals {withdrawals} replies {replied}")?)
+    Ok(format!(in alloc;
+        "{state}{stays} updates {updates} withdrawals {withdrawals} replies {replied}"
+    )?)
 }
 
 /// How many updates came, and how many of them are to be taken as withdrawals.

@@ -71,7 +71,12 @@ fn update_text(alloc: Global, update: &Update) -> Result<String, Stop> {
     Ok(text)
 }
 
-fn add_prefixes(alloc: Global, word: &str, prefixes: &[Prefix], text: &mut String) -> Result<(), Stop> {
+fn add_prefixes(
+    alloc: Global,
+    word: &str,
+    prefixes: &[Prefix],
+    text: &mut String,
+) -> Result<(), Stop> {
     if prefixes.is_empty() {
         return Ok(());
     }
@@ -121,7 +126,11 @@ fn family_name(family: Family) -> &'static str {
 fn add_path(alloc: Global, path: &Path, text: &mut String) -> Result<(), Stop> {
     let origin = path.origin;
     text.push_str(format!(in alloc; " origin {origin}")?.as_str())?;
-    text.push_str(if path.external { " external" } else { " internal" })?;
+    text.push_str(if path.external {
+        " external"
+    } else {
+        " internal"
+    })?;
     for segment in path.segments.as_slice() {
         add_segment(alloc, segment, text)?;
     }

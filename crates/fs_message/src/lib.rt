@@ -8,8 +8,6 @@ mod header;
 mod laws;
 mod notice;
 mod open_;
-#[cfg(test)]
-mod tests;
 mod write;
 
 pub use deframer::{Deframer, Frame};

@@ -24,8 +24,3 @@ pub use frame::decode;
 pub use laws::{canonical_is_frame, canonical_tells, every_outcome, no_frame_goes_on, one_outcome};
 pub use rule::Rule;
 pub use writing::encode;
-
-#[cfg(test)]
-mod examples;
-#[cfg(test)]
-mod tests;

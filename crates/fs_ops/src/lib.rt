@@ -17,6 +17,3 @@ pub use error::OpsFault;
 pub use kind::Kind;
 pub use mask_list::MaskList;
 pub use num_list::NumList;
-
-#[cfg(test)]
-mod tests;

@@ -5,8 +5,6 @@ mod comparison;
 mod component;
 mod laws;
 mod ranked;
-#[cfg(test)]
-mod tests;
 
 pub use comparison::{compare, precedes};
 pub use laws::{destinations_first, equal_only_itself, precedence};

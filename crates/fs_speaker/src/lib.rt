@@ -4,8 +4,6 @@
 mod laws;
 mod session;
 mod state;
-#[cfg(test)]
-mod tests;
 mod turn;
 
 pub use laws::steps_make_the_session;
