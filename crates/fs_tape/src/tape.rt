@@ -4,9 +4,7 @@ ghost use Rattle.std.specs.Result.{IsErrOf};
 ghost use Rattle.fs_base.specs.Outside.{Rose};
 ghost use Rattle.fs_base.specs.Config.{peer_of};
 ghost use Rattle.fs_base.specs.declared.config.Config.{Config};
-ghost use Rattle.fs_tape.specs.Tape.{item_of, items_to_come};
-ghost use Rattle.fs_tape.specs.Written.{ReadsBack};
-ghost use Rattle.fs_tape.specs.Turn.{Advances, Grows, IsItem, Opens, answer_of, ended_after, short_answer, short_fault, shown};
+ghost use Rattle.fs_tape.specs.Tape.{Advances, Grows, IsItem, Opens, answer_of, ended_after, item_from, item_of, items_to_come, short_answer, short_fault};
 
 use crate::fault::{Ended, TapeFault, TapeReason};
 use crate::header::{HEAD, Header, read_head};
@@ -23,7 +21,7 @@ pub struct Tape {
 }
 
 impl Model for Tape {
-    ghost use Rattle.fs_tape.specs.Turn.{TapeState};
+    ghost use Rattle.fs_tape.specs.Tape.{TapeState};
 
     ghost Value = { TapeState };
 
@@ -31,7 +29,7 @@ impl Model for Tape {
 }
 
 impl Tape {
-    ghost use Rattle.fs_tape.specs.Turn.{coming};
+    ghost use Rattle.fs_tape.specs.Tape.{coming};
 
     /// Reads the magic, up to the limit.
     ///
@@ -99,7 +97,7 @@ impl Tape {
         ensures others { IsTrue F.tells → (other : ℕ) → other ≢ self.old.slot → F.left files.new other ≡ F.left files.old other }
         ensures holds { IsTrue F.tells → F.holds files.new ≡ F.holds files.old }
     {
-        turn(&mut self.counted, &mut self.end, files, config, into)
+        next_record(&mut self.counted, &mut self.end, files, config, into)
     }
 }
 
@@ -127,7 +125,7 @@ fn stopped(counted: &Counted, count: usize) -> Result<Option<TapeItem>, TapeFaul
 }
 
 /// What `next` does to the fields of a tape.
-fn turn<F: Files>(
+fn next_record<F: Files>(
     counted: &mut Counted,
     end: &mut Option<Ended>,
     files: &mut F,
@@ -231,7 +229,7 @@ fn advance<F: Files>(
 }
 
 fn item(kind: Kind, peer: u16, size: usize) -> TapeItem
-    ensures shown { (into : List ℕ) → shown result into ≡ item_of (record { kind = kind; peer = peer }) (take size into) }
+    ensures told { (into : List ℕ) → item_from result into ≡ item_of (record { kind = kind; peer = peer }) (take size into) }
     ensures known { (config : Config) → IsSome (peer_of peer config.peers) → size ≤ 65536 → IsItem config result }
 {
     match kind {
@@ -240,9 +238,3 @@ fn item(kind: Kind, peer: u16, size: usize) -> TapeItem
         Kind::Lost => TapeItem::Lost(peer),
     }
 }
-
-/// What is written of items is read back as these items: of each peer that is configured, with payloads of at most 65536
-/// octets, below the limit.
-pub fn reads_back()
-    ensures { ReadsBack }
-{}
