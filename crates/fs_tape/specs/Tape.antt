@@ -62,6 +62,10 @@ pub record TapeState : Type 0 where
   pub place : ℕ
   pub end : Option Ended
 
+-- a tape of this slot and limit stands behind its magic, and hasn't ended
+abbrev pub IsBegun : (slot limit : ℕ) → TapeState → Type 0
+IsBegun slot limit tape = tape ≡ record { slot = slot; limit = limit; place = 8; end = None }
+
 -- the items that a tape which hasn't ended is still to give, of what its slot has left, and how it will end
 abbrev pub coming : Config → TapeState → List ℕ → List Item × End TapeReason
 coming config tape left = items_to_come config tape.limit tape.place left
@@ -91,6 +95,10 @@ abbrev pub item_from : TapeItem → List ℕ → Item
 item_from (UpItem peer) into = came_up peer
 item_from (Octets peer count) into = received peer (take count into)
 item_from (LostItem peer) into = was_lost peer
+
+-- an item is what a head and the payload behind it say, whatever stands in the buffer
+abbrev pub Tells : Said → (size : ℕ) → TapeItem → Type 0
+Tells said size item = (into : List ℕ) → item_from item into ≡ item_of said (take size into)
 
 -- What was to come is the item that the answer gives, and what is to come now; or nothing but the end that it tells.
 abbrev pub Advances :

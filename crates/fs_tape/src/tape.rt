@@ -1,10 +1,11 @@
 //! A tape, read record by record.
-ghost use Rattle.std.specs.Prelude.{◌≡◌, ◌≢◌, ◌≤◌, ◌+◌, ℕ, None, IsSome, IsTrue, IfOk, IfSome, OnErr, List, length, take};
+ghost use Rattle.std.specs.Prelude.{◌≡◌, ◌≤◌, ◌+◌, ℕ, None, IsSome, IsTrue, IfOk, IfSome, OnErr, List, length, take};
 ghost use Rattle.std.specs.Result.{IsErrOf};
+ghost use Rattle.fs_base.specs.Files.{OnlySlot};
 ghost use Rattle.fs_base.specs.Outside.{Rose};
 ghost use Rattle.fs_base.specs.Config.{peer_of};
 ghost use Rattle.fs_base.specs.declared.config.Config.{Config};
-ghost use Rattle.fs_tape.specs.Tape.{Advances, Grows, IsItem, Opens, answer_of, ended_after, item_from, item_of, items_to_come, short_answer, short_fault};
+ghost use Rattle.fs_tape.specs.Tape.{Advances, Grows, IsBegun, IsItem, Opens, Tells, answer_of, ended_after, items_to_come, short_answer, short_fault};
 
 use crate::fault::{Ended, TapeFault, TapeReason};
 use crate::header::{HEAD, Header, read_head};
@@ -41,12 +42,12 @@ impl Tape {
         requires { counted.taken ≡ 0 }
         ensures later { F.faults files.old ≤ F.faults files.new }
         ensures read { IsErrOf result TapeFault.Read → Rose (F.faults files.old) (F.faults files.new) }
-        ensures state { IfOk result (λ tape. tape ≡ record { slot = counted.slot; limit = counted.limit; place = 8; end = None }) }
+        ensures state { IfOk result (IsBegun counted.slot counted.limit) }
         ensures within { IfOk result (λ tape. tape.place ≤ tape.limit) }
 
-        ensures opens { IsTrue F.tells → Opens counted.limit (F.left files.old counted.slot) (F.left files.new counted.slot) result }
-        ensures others { IsTrue F.tells → (other : ℕ) → other ≢ counted.slot → F.left files.new other ≡ F.left files.old other }
-        ensures holds { IsTrue F.tells → F.holds files.new ≡ F.holds files.old }
+        ensures opens { IsTrue F.tells
+            → Opens counted.limit (F.left files.old counted.slot) (F.left files.new counted.slot) result }
+        ensures others { OnlySlot F.tells F.left F.holds counted.slot files.old files.new }
     {
         let mut front = [0u8; 8];
         let Ok(count) = fill(&mut counted, files, &mut front) else {
@@ -79,10 +80,14 @@ impl Tape {
     ) -> Result<Option<TapeItem>, TapeFault>
         requires { 65536 ≤ length into.old }
         ensures later { F.faults files.old ≤ F.faults files.new }
-        ensures read { self.old.end ≡ None → IsErrOf result TapeFault.Read → Rose (F.faults files.old) (F.faults files.new) }
+        ensures read { self.old.end ≡ None
+            → IsErrOf result TapeFault.Read
+            → Rose (F.faults files.old) (F.faults files.new) }
         ensures slot { self.new.slot ≡ self.old.slot }
         ensures limit { self.new.limit ≡ self.old.limit }
-        ensures again { IfSome self.old.end (λ ended. (result ≡ answer_of ended) × (self.new ≡ self.old) × (files.new ≡ files.old)) }
+        ensures again { IfSome self.old.end (λ ended. result ≡ answer_of ended) }
+        ensures stays { IsSome self.old.end → self.new ≡ self.old }
+        ensures unread { IsSome self.old.end → files.new ≡ files.old }
         ensures ended { self.new.end ≡ ended_after result }
         ensures grows { Grows self.old.place self.new.place self.new.limit result }
         ensures known { IfOk result (λ found. IfSome found (IsItem config.now)) }
@@ -94,8 +99,7 @@ impl Tape {
             (coming config.now self.new (F.left files.new self.old.slot))
             into.new
             result }
-        ensures others { IsTrue F.tells → (other : ℕ) → other ≢ self.old.slot → F.left files.new other ≡ F.left files.old other }
-        ensures holds { IsTrue F.tells → F.holds files.new ≡ F.holds files.old }
+        ensures others { OnlySlot F.tells F.left F.holds self.old.slot files.old files.new }
     {
         next_record(&mut self.counted, &mut self.end, files, config, into)
     }
@@ -137,7 +141,9 @@ fn next_record<F: Files>(
     ensures read { end.old ≡ None → IsErrOf result TapeFault.Read → Rose (F.faults files.old) (F.faults files.new) }
     ensures slot { counted.new.slot ≡ counted.old.slot }
     ensures limit { counted.new.limit ≡ counted.old.limit }
-    ensures again { IfSome end.old (λ ended. (result ≡ answer_of ended) × (counted.new ≡ counted.old) × (end.new ≡ end.old) × (files.new ≡ files.old)) }
+    ensures again { IfSome end.old (λ ended. result ≡ answer_of ended) }
+    ensures stays { IsSome end.old → (counted.new ≡ counted.old) × (end.new ≡ end.old) }
+    ensures unread { IsSome end.old → files.new ≡ files.old }
     ensures ended { end.new ≡ ended_after result }
     ensures grows { Grows counted.old.taken counted.new.taken counted.new.limit result }
     ensures known { IfOk result (λ found. IfSome found (IsItem config.now)) }
@@ -149,8 +155,7 @@ fn next_record<F: Files>(
         (items_to_come config.now counted.new.limit counted.new.taken (F.left files.new counted.old.slot))
         into.new
         result }
-    ensures others { IsTrue F.tells → (other : ℕ) → other ≢ counted.old.slot → F.left files.new other ≡ F.left files.old other }
-    ensures holds { IsTrue F.tells → F.holds files.new ≡ F.holds files.old }
+    ensures others { OnlySlot F.tells F.left F.holds counted.old.slot files.old files.new }
 {
     if let Some(ended) = *end {
         return answer(ended);
@@ -202,8 +207,7 @@ fn advance<F: Files>(
         (items_to_come config.now counted.new.limit counted.new.taken (F.left files.new counted.old.slot))
         into.new
         result }
-    ensures others { IsTrue F.tells → (other : ℕ) → other ≢ counted.old.slot → F.left files.new other ≡ F.left files.old other }
-    ensures holds { IsTrue F.tells → F.holds files.new ≡ F.holds files.old }
+    ensures others { OnlySlot F.tells F.left F.holds counted.old.slot files.old files.new }
 {
     let mut head = [0u8; HEAD];
     let Ok(count) = fill(counted, files, &mut head) else {
@@ -229,7 +233,7 @@ fn advance<F: Files>(
 }
 
 fn item(kind: Kind, peer: u16, size: usize) -> TapeItem
-    ensures told { (into : List ℕ) → item_from result into ≡ item_of (record { kind = kind; peer = peer }) (take size into) }
+    ensures told { Tells (record { kind = kind; peer = peer }) size result }
     ensures known { (config : Config) → IsSome (peer_of peer config.peers) → size ≤ 65536 → IsItem config result }
 {
     match kind {
