@@ -7,11 +7,7 @@ mod error;
 mod filling;
 mod laws;
 mod outside;
-#[cfg(test)]
-mod outside_tests;
 mod path;
-#[cfg(test)]
-mod path_tests;
 mod prefix;
 mod steps;
 mod whole;
