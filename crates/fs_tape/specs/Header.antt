@@ -13,7 +13,11 @@ use Rattle.fs_tape.specs.declared.item.Kind.{Kind as RecordKind}
 use Rattle.fs_tape.specs.declared.item.Kind.TheVariants.{Up, Received, Lost}
 
 abbrev pub kind_of : ℕ → Option RecordKind
-kind_of octet = if octet == 1 then Some Up else if octet == 2 then Some Received else if octet == 3 then Some Lost else None
+kind_of octet =
+    if octet == 1 then Some Up
+    else if octet == 2 then Some Received
+    else if octet == 3 then Some Lost
+    else None
 
 -- only octets received have a payload, of at most 65536 octets
 abbrev pub allows : RecordKind → ℕ → Bool
@@ -40,7 +44,8 @@ peer_field config kind octets =
 
 abbrev pub head_of : Config → List ℕ → Head Said TapeReason
 head_of config [] = partial
-head_of config (octet ∷ octets) = elim (kind_of octet) [ None ↦ wrong Kind 0 | Some kind ↦ peer_field config kind octets ]
+head_of config (octet ∷ octets) =
+    elim (kind_of octet) [ None ↦ wrong Kind 0 | Some kind ↦ peer_field config kind octets ]
 
 -- the head that the code answers
 abbrev pub header_of : Header → Head Said TapeReason

@@ -7,8 +7,6 @@ mod item;
 mod laws;
 mod magic;
 mod tape;
-#[cfg(test)]
-mod tests;
 
 pub use fault::{Ended, TapeFault, TapeReason};
 pub use item::TapeItem;

@@ -26,7 +26,13 @@ impl Model for Tape {
 
     ghost Value = { TapeState };
 
-    ghost view = { λ tape. record { slot = tape.counted.slot; limit = tape.counted.limit; place = tape.counted.taken; end = tape.end } };
+    ghost view = { λ tape.
+        record {
+          slot = tape.counted.slot;
+          limit = tape.counted.limit;
+          place = tape.counted.taken;
+          end = tape.end;
+        } };
 }
 
 impl Tape {
@@ -70,8 +76,8 @@ impl Tape {
     ///
     /// # Errors
     ///
-    /// The first field that stands whole and is wrong, as soon as it is read; `Cut` where the tape ends within a record;
-    /// `Limit` where the limit is reached and no field before it is wrong; `Read` where the files failed.
+    /// The first field that stands whole and is wrong, as soon as it is read; `Cut` where the tape ends within a
+    /// record; `Limit` where the limit is reached and no field before it is wrong; `Read` where the files failed.
     pub fn next<F: Files>(
         &mut self,
         files: &mut F,
