@@ -1,12 +1,12 @@
 -- An input of records is done exactly where it is below the limit and is the text of its records.
-use Rattle.std.proofs.Common.{◌≡◌, ℕ, List, [], ◌++◌, Bool, true, false, None, ◌<◌, ◌≤◌, ◌+◌, ◌-◌, ◌==◌, length, take, refl, ap, sym, ◌∙◌, subst, arith, eqb-true, append-nil}
+use Rattle.std.proofs.Common.{◌≡◌, ℕ, List, [], ◌++◌, Bool, true, false, Some, None, ◌<◌, ◌≤◌, ◌+◌, ◌-◌, ◌==◌, length, take, drop, refl, ap, sym, ◌∙◌, subst, arith, eqb-true, append-nil}
 use Rattle.std.specs.Prelude.{flat_map, nat_le, if◌then◌else◌}
 use Rattle.std.specs.List.{AllByRecursion}
 use Rattle.std.proofs.lemmas.Bool.Decides.{nat_tests}
 use Rattle.std.proofs.lemmas.Grind.{common_steps}
 use Rattle.fs_base.specs.Language.{IsOctets}
 use Rattle.fs_base.specs.Parts.{ReadsText, SpellsText, at_limit, parts_of, to_come, window}
-use Rattle.fs_base.specs.Records.{Head, whole, wrong, partial, End, done, limited, bad, Format, end_by, ends_short, first_record, records_to_come, stop}
+use Rattle.fs_base.specs.Records.{Head, whole, wrong, partial, End, done, limited, bad, Format, end_by, ends_short, first_record, record_in, records_to_come}
 use Rattle.fs_base.proofs.Parts.{parts_spelled, spelled_parts}
 use Rattle.fs_base.proofs.Records.{records_shrink}
 
@@ -87,3 +87,35 @@ text_done {B = B} {R} format text Fits some empty reads limit taken left items h
     ap (parts_of (first_record format)) judged
     ∙ parts_spelled (first_record format) text Fits (records_shrink format some) (none_at format empty) reads items h.fit in
     rw (parts, free, none_taken format.head_size [] refl, empty) refl
+
+-- what a record that was read says: its head, its payload behind that, and what follows
+pub record IsFound {A B R : Type 0} (format : Format A B R) (octets : List ℕ) (found : B × List ℕ) : Type 0 where
+  pub said : A
+  pub size : ℕ
+  pub head : format.head_of (take format.head_size octets) ≡ whole said size
+  pub held : format.head_size + size ≤ length octets
+  pub item : format.item_of said (take size (drop format.head_size octets)) ≡ found.0
+  pub rest : drop (format.head_size + size) octets ≡ found.1
+
+found_in : {A B R : Type 0} (format : Format A B R) (octets : List ℕ) (head : Head A R) (found : B × List ℕ)
+    → format.head_of (take format.head_size octets) ≡ head → record_in format head octets ≡ Some found → IsFound format octets found
+found_in {B = B} format octets (whole said size) found e h = by (nat_le (format.head_size + size) (length octets)) refl h
+  where
+    by : (test : Bool) → nat_le (format.head_size + size) (length octets) ≡ test
+        → (if test then Some (format.item_of said (take size (drop format.head_size octets)), drop (format.head_size + size) octets) else None) ≡ Some found
+        → IsFound format octets found
+    by true t f = record {
+      said = said;
+      size = size;
+      head = e;
+      held = (grind (arith, nat_tests));
+      item = (cc);
+      rest = (cc);
+    }
+    by false t f = cc
+found_in format octets (wrong reason offset) found e h = cc
+found_in format octets partial found e h = cc
+
+pub record_found : {A B R : Type 0} (format : Format A B R) (octets : List ℕ) (found : B × List ℕ)
+    → first_record format octets ≡ Some found → IsFound format octets found
+record_found format octets found h = found_in format octets (format.head_of (take format.head_size octets)) found refl h

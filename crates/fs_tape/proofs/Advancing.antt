@@ -3,8 +3,7 @@ use Rattle.std.proofs.Common.{◌≡◌, ℕ, List, [], Bool, true, false, Ok, E
 use Rattle.std.specs.Prelude.{if◌then◌else◌}
 use Rattle.std.proofs.lemmas.Bool.Decides.{nat_tests}
 use Rattle.fs_base.specs.Records.{End, done, limited, bad, ends_short}
-use Rattle.fs_tape.specs.Tape.{Item}
-use Rattle.fs_tape.specs.Turn.{Advances, short_answer, short_fault}
+use Rattle.fs_tape.specs.Tape.{Advances, Item, short_answer, short_fault}
 use Rattle.fs_tape.specs.declared.fault.TapeReason.{TapeReason}
 use Rattle.fs_tape.specs.declared.fault.TapeReason.TheVariants.{Cut}
 use Rattle.fs_tape.specs.declared.fault.TapeFault.TheVariants.{Limit, Bad}

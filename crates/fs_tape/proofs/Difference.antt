@@ -3,7 +3,7 @@ use Rattle.std.proofs.Common.{◌≡◌, ◌≢◌, ℕ, List, [], ◌∷◌, So
 use Rattle.std.specs.Prelude.{if◌then◌else◌}
 use Rattle.std.proofs.lemmas.Bool.Decides.{nat_tests}
 use Rattle.std.proofs.lemmas.Grind.{common_steps}
-use Rattle.fs_tape.specs.Tape.{difference_from}
+use Rattle.fs_tape.specs.Magic.{difference_from}
 
 pub difference_step : (place : ℕ) (xs ys : List ℕ) → place < length xs → place < length ys
     → difference_from place (drop place xs) (drop place ys)

@@ -1,3 +1,3 @@
 pub mod Difference
 pub mod Advancing
-pub mod Written
+pub mod ReadsBack

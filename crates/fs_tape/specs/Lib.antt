@@ -1,3 +1,4 @@
+pub mod Magic
+pub mod Header
 pub mod Tape
-pub mod Turn
-pub mod Written
+pub mod Laws

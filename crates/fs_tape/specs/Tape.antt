@@ -1,15 +1,21 @@
--- A tape, in this project's own format: eight octets of magic, and then records. A record has its kind (one octet: 1 a
--- peer came up, 2 it sent octets, 3 it was lost), the peer's number (two octets), the payload's length (four octets),
--- and the payload. Numbers are big-endian.
-use Rattle.std.specs.Prelude.{ℕ, List, [], ◌∷◌, Option, Some, None, Bool, ◌+◌, ◌==◌, length, take, drop, nat_le, nat_lt, if◌then◌else◌, is_none, option_map}
-use Rattle.byteorder.specs.Endian.{big_number}
+-- A tape, in this project's own format: eight octets of magic, and then records. A record has a head and the payload
+-- whose length the head tells.
+use Rattle.std.specs.Prelude.{ℕ, List, [], Option, Some, None, IsSome, Result, Ok, Err, Bool, ◌≡◌, ◌≤◌, ◌<◌, ◌==◌, ◌&&◌, not, length, take, drop, nat_le, nat_lt, if◌then◌else◌, option_map, ⊤}
+use Rattle.fs_base.specs.Parts.{with_part}
 use Rattle.fs_base.specs.Config.{peer_of}
-use Rattle.fs_base.specs.Records.{Head, whole, wrong, partial, End, limited, bad, Format, records_to_come}
+use Rattle.fs_base.specs.Records.{End, done, limited, bad, Format, records_to_come}
 use Rattle.fs_base.specs.declared.config.Config.{Config}
+use Rattle.fs_tape.specs.Header.{Said, head_of}
+use Rattle.fs_tape.specs.Magic.{first_difference, magic}
 use Rattle.fs_tape.specs.declared.fault.TapeReason.{TapeReason}
-use Rattle.fs_tape.specs.declared.fault.TapeReason.TheVariants.{Magic, Kind, Peer, Length, Cut}
-use Rattle.fs_tape.specs.declared.item.Kind.{Kind as RecordKind}
+use Rattle.fs_tape.specs.declared.fault.TapeReason.TheVariants.{Magic, Cut}
+use Rattle.fs_tape.specs.declared.fault.TapeFault.{TapeFault}
+use Rattle.fs_tape.specs.declared.fault.TapeFault.TheVariants.{Read, Limit, Bad}
+use Rattle.fs_tape.specs.declared.fault.Ended.{Ended}
+use Rattle.fs_tape.specs.declared.fault.Ended.TheVariants.{Done, Fault}
 use Rattle.fs_tape.specs.declared.item.Kind.TheVariants.{Up, Received, Lost}
+use Rattle.fs_tape.specs.declared.item.TapeItem.{TapeItem}
+use Rattle.fs_tape.specs.declared.item.TapeItem.TheVariants.{Up as UpItem, Octets, Lost as LostItem}
 
 -- what a record says
 pub data Item : Type 0 where
@@ -17,55 +23,12 @@ pub data Item : Type 0 where
   received : ℕ → List ℕ → Item
   was_lost : ℕ → Item
 
--- the octets "FSTAPE1" and a newline
-abbrev pub magic : List ℕ
-magic = 70 ∷ 83 ∷ 84 ∷ 65 ∷ 80 ∷ 69 ∷ 49 ∷ 10 ∷ []
-
--- the first place at which two lists differ, where their fronts have this place
-abbrev pub difference_from : ℕ → List ℕ → List ℕ → Option ℕ
-difference_from place [] ys = None
-difference_from place (x ∷ xs) [] = Some place
-difference_from place (x ∷ xs) (y ∷ ys) = if x == y then difference_from (place + 1) xs ys else Some place
-
-abbrev pub first_difference : List ℕ → List ℕ → Option ℕ
-first_difference xs ys = difference_from 0 xs ys
-
 -- what ends a tape of these first octets (eight, or all where there are fewer) before its records
 abbrev pub opening : Bool → List ℕ → Option (End TapeReason)
 opening limit front =
     if nat_lt (length front) 8
     then Some (if limit then limited else bad Cut (length front))
     else option_map (λ place. bad Magic place) (first_difference magic front)
-
-abbrev pub kind_of : ℕ → Option RecordKind
-kind_of octet = if octet == 1 then Some Up else if octet == 2 then Some Received else if octet == 3 then Some Lost else None
-
--- only octets received have a payload, of at most 65536 octets
-abbrev pub allows : RecordKind → ℕ → Bool
-allows Up size = size == 0
-allows Received size = nat_le size 65536
-allows Lost size = size == 0
-
--- what a head says beside the payload's length
-pub record Said : Type 0 where
-  pub kind : RecordKind
-  pub peer : ℕ
-
-abbrev pub size_field : RecordKind → ℕ → List ℕ → Head Said TapeReason
-size_field kind peer octets =
-    if nat_lt (length octets) 4 then partial
-    else if allows kind (big_number 4 octets) then whole (record { kind = kind; peer = peer }) (big_number 4 octets)
-    else wrong Length 3
-
-abbrev pub peer_field : Config → RecordKind → List ℕ → Head Said TapeReason
-peer_field config kind octets =
-    if nat_lt (length octets) 2 then partial
-    else if is_none (peer_of (big_number 2 octets) config.peers) then wrong Peer 1
-    else size_field kind (big_number 2 octets) (drop 2 octets)
-
-abbrev pub head_of : Config → List ℕ → Head Said TapeReason
-head_of config [] = partial
-head_of config (octet ∷ octets) = elim (kind_of octet) [ None ↦ wrong Kind 0 | Some kind ↦ peer_field config kind octets ]
 
 abbrev pub item_of : Said → List ℕ → Item
 item_of said payload =
@@ -85,3 +48,76 @@ tape_of config limit content =
       | Some end ↦ ([], end)
       | None ↦ items_to_come config limit 8 (drop 8 content)
     ]
+
+-- an item is of a configured peer, and its payload fits the buffer
+abbrev pub IsItem : Config → TapeItem → Type 0
+IsItem config (UpItem peer) = IsSome (peer_of peer config.peers)
+IsItem config (Octets peer count) = IsSome (peer_of peer config.peers) × (count ≤ 65536)
+IsItem config (LostItem peer) = IsSome (peer_of peer config.peers)
+
+-- What a tape shows: its slot and limit, how many octets of it were taken, and how it ended, where it did.
+pub record TapeState : Type 0 where
+  pub slot : ℕ
+  pub limit : ℕ
+  pub place : ℕ
+  pub end : Option Ended
+
+-- a tape of this slot and limit stands behind its magic, and hasn't ended
+abbrev pub IsBegun : (slot limit : ℕ) → TapeState → Type 0
+IsBegun slot limit tape = tape ≡ record { slot = slot; limit = limit; place = 8; end = None }
+
+-- the items that a tape which hasn't ended is still to give, of what its slot has left, and how it will end
+abbrev pub coming : Config → TapeState → List ℕ → List Item × End TapeReason
+coming config tape left = items_to_come config tape.limit tape.place left
+
+-- what a tape that ended answers from then on
+abbrev pub answer_of : Ended → Result (Option TapeItem) TapeFault
+answer_of Done = Ok None
+answer_of (Fault fault) = Err fault
+
+-- how a tape stands ended behind an answer
+abbrev pub ended_after : Result (Option TapeItem) TapeFault → Option Ended
+ended_after (Ok (Some item)) = None
+ended_after (Ok None) = Some Done
+ended_after (Err fault) = Some (Fault fault)
+
+-- An opened tape stands behind a whole magic. A fault is what ends it before its records.
+abbrev pub Opens : {T : Type 0} → ℕ → List ℕ → List ℕ → Result T TapeFault → Type 0
+Opens limit left left' (Ok tape) =
+    (opening (nat_le limit (length left)) (take 8 (take limit left)) ≡ None) × (left' ≡ drop 8 left)
+Opens limit left left' (Err Read) = ⊤
+Opens limit left left' (Err Limit) = opening (nat_le limit (length left)) (take 8 (take limit left)) ≡ Some limited
+Opens limit left left' (Err (Bad reason place)) =
+    opening (nat_le limit (length left)) (take 8 (take limit left)) ≡ Some (bad reason place)
+
+-- an item as its record tells it; its payload stands at the front of the buffer
+abbrev pub item_from : TapeItem → List ℕ → Item
+item_from (UpItem peer) into = came_up peer
+item_from (Octets peer count) into = received peer (take count into)
+item_from (LostItem peer) into = was_lost peer
+
+-- an item is what a head and the payload behind it say, whatever stands in the buffer
+abbrev pub Tells : Said → (size : ℕ) → TapeItem → Type 0
+Tells said size item = (into : List ℕ) → item_from item into ≡ item_of said (take size into)
+
+-- What was to come is the item that the answer gives, and what is to come now; or nothing but the end that it tells.
+abbrev pub Advances :
+    List Item × End TapeReason → List Item × End TapeReason → List ℕ → Result (Option TapeItem) TapeFault → Type 0
+Advances before now into (Ok (Some item)) = before ≡ with_part (item_from item into) now
+Advances before now into (Ok None) = before ≡ ([], done)
+Advances before now into (Err Read) = ⊤
+Advances before now into (Err Limit) = before ≡ ([], limited)
+Advances before now into (Err (Bad reason place)) = before ≡ ([], bad reason place)
+
+-- an item raises the place, up to the limit at most
+abbrev pub Grows : ℕ → ℕ → ℕ → Result (Option TapeItem) TapeFault → Type 0
+Grows old new limit (Ok (Some item)) = (old < new) × (new ≤ limit)
+Grows old new limit _ = ⊤
+
+-- the fault of a tape of which no octet is left to be taken
+abbrev pub short_fault : ℕ → ℕ → TapeFault
+short_fault taken limit = if taken == limit then Limit else Bad Cut taken
+
+-- what a tape answers where so many octets of a head were the last to be taken
+abbrev pub short_answer : ℕ → ℕ → ℕ → Result (Option TapeItem) TapeFault
+short_answer taken limit count = if count == 0 && not (taken == limit) then Ok None else Err (short_fault taken limit)

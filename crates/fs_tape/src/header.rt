@@ -1,7 +1,6 @@
 //! The fields of a record's head, each judged as soon as it stands whole.
 ghost use Rattle.std.specs.Prelude.{◌≡◌, ◌≤◌, ◌+◌, length};
-ghost use Rattle.fs_tape.specs.Tape.{allows, head_of, kind_of, peer_field, size_field};
-ghost use Rattle.fs_tape.specs.Turn.{IsKnown, IsOf, IsWithin, header_of};
+ghost use Rattle.fs_tape.specs.Header.{IsConfigured, IsHeadWithin, IsOfPeer, allows, head_of, header_of, kind_of, peer_field, size_field};
 
 use crate::fault::TapeReason;
 use crate::item::Kind;
@@ -25,8 +24,8 @@ pub(crate) enum Header {
 /// Reads the head of a record, of at most seven octets.
 pub(crate) fn read_head(config: &Config, octets: &[u8]) -> Header
     ensures exact { header_of result ≡ head_of config.now octets.now }
-    ensures within { IsWithin (length octets.now) (header_of result) }
-    ensures known { IsKnown config.now (header_of result) }
+    ensures within { IsHeadWithin (length octets.now) (header_of result) }
+    ensures configured { IsConfigured config.now (header_of result) }
 {
     let [octet, rest @ ..] = octets else {
         return Header::Partial;
@@ -54,8 +53,8 @@ fn read_kind(octet: u8) -> Option<Kind>
 /// Goes on behind the kind.
 fn read_peer(config: &Config, kind: Kind, octets: &[u8]) -> Header
     ensures exact { header_of result ≡ peer_field config.now kind octets.now }
-    ensures within { IsWithin (1 + length octets.now) (header_of result) }
-    ensures known { IsKnown config.now (header_of result) }
+    ensures within { IsHeadWithin (1 + length octets.now) (header_of result) }
+    ensures configured { IsConfigured config.now (header_of result) }
 {
     if octets.len() < 2 {
         return Header::Partial;
@@ -73,8 +72,8 @@ fn read_peer(config: &Config, kind: Kind, octets: &[u8]) -> Header
 /// Goes on behind the peer's number.
 fn read_size(kind: Kind, peer: u16, octets: &[u8]) -> Header
     ensures exact { header_of result ≡ size_field kind peer octets.now }
-    ensures within { IsWithin (3 + length octets.now) (header_of result) }
-    ensures same { IsOf peer (header_of result) }
+    ensures within { IsHeadWithin (3 + length octets.now) (header_of result) }
+    ensures same { IsOfPeer peer (header_of result) }
 {
     if octets.len() < 4 {
         return Header::Partial;

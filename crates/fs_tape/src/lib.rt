@@ -4,11 +4,11 @@
 mod fault;
 mod header;
 mod item;
+mod laws;
 mod magic;
 mod tape;
-#[cfg(test)]
-mod tests;
 
 pub use fault::{Ended, TapeFault, TapeReason};
 pub use item::TapeItem;
-pub use tape::{Tape, reads_back};
+pub use laws::reads_back;
+pub use tape::Tape;

@@ -1,7 +1,7 @@
 //! The octets that a tape begins with.
 
 ghost use Rattle.std.specs.Prelude.{◌≡◌, ◌≤◌, length};
-ghost use Rattle.fs_tape.specs.Tape.{first_difference, magic};
+ghost use Rattle.fs_tape.specs.Magic.{first_difference, magic};
 
 /// The octets that a tape begins with.
 pub(crate) const MAGIC: [u8; 8] = *b"FSTAPE1\n";

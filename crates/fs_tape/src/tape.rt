@@ -1,12 +1,11 @@
 //! A tape, read record by record.
-ghost use Rattle.std.specs.Prelude.{◌≡◌, ◌≢◌, ◌≤◌, ◌+◌, ℕ, None, IsSome, IsTrue, IfOk, IfSome, OnErr, List, length, take};
+ghost use Rattle.std.specs.Prelude.{◌≡◌, ◌≤◌, ◌+◌, ℕ, None, IsSome, IsTrue, IfOk, IfSome, OnErr, List, length, take};
 ghost use Rattle.std.specs.Result.{IsErrOf};
+ghost use Rattle.fs_base.specs.Files.{OnlySlot};
 ghost use Rattle.fs_base.specs.Outside.{Rose};
 ghost use Rattle.fs_base.specs.Config.{peer_of};
 ghost use Rattle.fs_base.specs.declared.config.Config.{Config};
-ghost use Rattle.fs_tape.specs.Tape.{item_of, items_to_come};
-ghost use Rattle.fs_tape.specs.Written.{ReadsBack};
-ghost use Rattle.fs_tape.specs.Turn.{Advances, Grows, IsItem, Opens, answer_of, ended_after, short_answer, short_fault, shown};
+ghost use Rattle.fs_tape.specs.Tape.{Advances, Grows, IsBegun, IsItem, Opens, Tells, answer_of, ended_after, items_to_come, short_answer, short_fault};
 
 use crate::fault::{Ended, TapeFault, TapeReason};
 use crate::header::{HEAD, Header, read_head};
@@ -23,15 +22,21 @@ pub struct Tape {
 }
 
 impl Model for Tape {
-    ghost use Rattle.fs_tape.specs.Turn.{TapeState};
+    ghost use Rattle.fs_tape.specs.Tape.{TapeState};
 
     ghost Value = { TapeState };
 
-    ghost view = { λ tape. record { slot = tape.counted.slot; limit = tape.counted.limit; place = tape.counted.taken; end = tape.end } };
+    ghost view = { λ tape.
+        record {
+          slot = tape.counted.slot;
+          limit = tape.counted.limit;
+          place = tape.counted.taken;
+          end = tape.end;
+        } };
 }
 
 impl Tape {
-    ghost use Rattle.fs_tape.specs.Turn.{coming};
+    ghost use Rattle.fs_tape.specs.Tape.{coming};
 
     /// Reads the magic, up to the limit.
     ///
@@ -43,12 +48,12 @@ impl Tape {
         requires { counted.taken ≡ 0 }
         ensures later { F.faults files.old ≤ F.faults files.new }
         ensures read { IsErrOf result TapeFault.Read → Rose (F.faults files.old) (F.faults files.new) }
-        ensures state { IfOk result (λ tape. tape ≡ record { slot = counted.slot; limit = counted.limit; place = 8; end = None }) }
+        ensures state { IfOk result (IsBegun counted.slot counted.limit) }
         ensures within { IfOk result (λ tape. tape.place ≤ tape.limit) }
 
-        ensures opens { IsTrue F.tells → Opens counted.limit (F.left files.old counted.slot) (F.left files.new counted.slot) result }
-        ensures others { IsTrue F.tells → (other : ℕ) → other ≢ counted.slot → F.left files.new other ≡ F.left files.old other }
-        ensures holds { IsTrue F.tells → F.holds files.new ≡ F.holds files.old }
+        ensures opens { IsTrue F.tells
+            → Opens counted.limit (F.left files.old counted.slot) (F.left files.new counted.slot) result }
+        ensures others { OnlySlot F.tells F.left F.holds counted.slot files.old files.new }
     {
         let mut front = [0u8; 8];
         let Ok(count) = fill(&mut counted, files, &mut front) else {
@@ -71,8 +76,8 @@ impl Tape {
     ///
     /// # Errors
     ///
-    /// The first field that stands whole and is wrong, as soon as it is read; `Cut` where the tape ends within a record;
-    /// `Limit` where the limit is reached and no field before it is wrong; `Read` where the files failed.
+    /// The first field that stands whole and is wrong, as soon as it is read; `Cut` where the tape ends within a
+    /// record; `Limit` where the limit is reached and no field before it is wrong; `Read` where the files failed.
     pub fn next<F: Files>(
         &mut self,
         files: &mut F,
@@ -81,10 +86,14 @@ impl Tape {
     ) -> Result<Option<TapeItem>, TapeFault>
         requires { 65536 ≤ length into.old }
         ensures later { F.faults files.old ≤ F.faults files.new }
-        ensures read { self.old.end ≡ None → IsErrOf result TapeFault.Read → Rose (F.faults files.old) (F.faults files.new) }
+        ensures read { self.old.end ≡ None
+            → IsErrOf result TapeFault.Read
+            → Rose (F.faults files.old) (F.faults files.new) }
         ensures slot { self.new.slot ≡ self.old.slot }
         ensures limit { self.new.limit ≡ self.old.limit }
-        ensures again { IfSome self.old.end (λ ended. (result ≡ answer_of ended) × (self.new ≡ self.old) × (files.new ≡ files.old)) }
+        ensures again { IfSome self.old.end (λ ended. result ≡ answer_of ended) }
+        ensures stays { IsSome self.old.end → self.new ≡ self.old }
+        ensures unread { IsSome self.old.end → files.new ≡ files.old }
         ensures ended { self.new.end ≡ ended_after result }
         ensures grows { Grows self.old.place self.new.place self.new.limit result }
         ensures known { IfOk result (λ found. IfSome found (IsItem config.now)) }
@@ -96,10 +105,9 @@ impl Tape {
             (coming config.now self.new (F.left files.new self.old.slot))
             into.new
             result }
-        ensures others { IsTrue F.tells → (other : ℕ) → other ≢ self.old.slot → F.left files.new other ≡ F.left files.old other }
-        ensures holds { IsTrue F.tells → F.holds files.new ≡ F.holds files.old }
+        ensures others { OnlySlot F.tells F.left F.holds self.old.slot files.old files.new }
     {
-        turn(&mut self.counted, &mut self.end, files, config, into)
+        next_record(&mut self.counted, &mut self.end, files, config, into)
     }
 }
 
@@ -127,7 +135,7 @@ fn stopped(counted: &Counted, count: usize) -> Result<Option<TapeItem>, TapeFaul
 }
 
 /// What `next` does to the fields of a tape.
-fn turn<F: Files>(
+fn next_record<F: Files>(
     counted: &mut Counted,
     end: &mut Option<Ended>,
     files: &mut F,
@@ -139,7 +147,9 @@ fn turn<F: Files>(
     ensures read { end.old ≡ None → IsErrOf result TapeFault.Read → Rose (F.faults files.old) (F.faults files.new) }
     ensures slot { counted.new.slot ≡ counted.old.slot }
     ensures limit { counted.new.limit ≡ counted.old.limit }
-    ensures again { IfSome end.old (λ ended. (result ≡ answer_of ended) × (counted.new ≡ counted.old) × (end.new ≡ end.old) × (files.new ≡ files.old)) }
+    ensures again { IfSome end.old (λ ended. result ≡ answer_of ended) }
+    ensures stays { IsSome end.old → (counted.new ≡ counted.old) × (end.new ≡ end.old) }
+    ensures unread { IsSome end.old → files.new ≡ files.old }
     ensures ended { end.new ≡ ended_after result }
     ensures grows { Grows counted.old.taken counted.new.taken counted.new.limit result }
     ensures known { IfOk result (λ found. IfSome found (IsItem config.now)) }
@@ -151,8 +161,7 @@ fn turn<F: Files>(
         (items_to_come config.now counted.new.limit counted.new.taken (F.left files.new counted.old.slot))
         into.new
         result }
-    ensures others { IsTrue F.tells → (other : ℕ) → other ≢ counted.old.slot → F.left files.new other ≡ F.left files.old other }
-    ensures holds { IsTrue F.tells → F.holds files.new ≡ F.holds files.old }
+    ensures others { OnlySlot F.tells F.left F.holds counted.old.slot files.old files.new }
 {
     if let Some(ended) = *end {
         return answer(ended);
@@ -204,8 +213,7 @@ fn advance<F: Files>(
         (items_to_come config.now counted.new.limit counted.new.taken (F.left files.new counted.old.slot))
         into.new
         result }
-    ensures others { IsTrue F.tells → (other : ℕ) → other ≢ counted.old.slot → F.left files.new other ≡ F.left files.old other }
-    ensures holds { IsTrue F.tells → F.holds files.new ≡ F.holds files.old }
+    ensures others { OnlySlot F.tells F.left F.holds counted.old.slot files.old files.new }
 {
     let mut head = [0u8; HEAD];
     let Ok(count) = fill(counted, files, &mut head) else {
@@ -231,7 +239,7 @@ fn advance<F: Files>(
 }
 
 fn item(kind: Kind, peer: u16, size: usize) -> TapeItem
-    ensures shown { (into : List ℕ) → shown result into ≡ item_of (record { kind = kind; peer = peer }) (take size into) }
+    ensures told { Tells (record { kind = kind; peer = peer }) size result }
     ensures known { (config : Config) → IsSome (peer_of peer config.peers) → size ≤ 65536 → IsItem config result }
 {
     match kind {
@@ -240,9 +248,3 @@ fn item(kind: Kind, peer: u16, size: usize) -> TapeItem
         Kind::Lost => TapeItem::Lost(peer),
     }
 }
-
-/// What is written of items is read back as these items: of each peer that is configured, with payloads of at most 65536
-/// octets, below the limit.
-pub fn reads_back()
-    ensures { ReadsBack }
-{}

@@ -1,5 +1,5 @@
 use Rattle.std.proofs.Common.{rules, sym, ◌∙◌}
-use Rattle.fs_tape.specs.Tape.{magic}
+use Rattle.fs_tape.specs.Magic.{magic}
 use Rattle.fs_tape.proofs.Difference.{difference_found, difference_same}
 use Rattle.fs_tape.proofs.magic.wrong_octet.Goals as goal
 

@@ -1,7 +1,8 @@
 use Rattle.std.proofs.Common.{rules, arith, ◌≡◌, ◌∙◌, refl, ap, ◌+◌, ◌-◌, ◌<◌, ◌≤◌, ◌++◌, length, take, drop}
 use Rattle.std.proofs.lemmas.List.{take-append-le, length-take}
 use Rattle.fs_base.proofs.Records.{wrong_comes, short_comes, cut_comes, record_comes}
-use Rattle.fs_tape.specs.Tape.{item_of, items_to_come, records, Said}
+use Rattle.fs_tape.specs.Header.{Said}
+use Rattle.fs_tape.specs.Tape.{item_of, items_to_come, records}
 use Rattle.fs_tape.proofs.Advancing.{short_advances, cut_advances}
 use Rattle.fs_tape.proofs.tape.advance.Goals as goal
 
@@ -46,7 +47,7 @@ returns-else-count-size-clause-advances g c = λ told.
     let size : length c.fill-in-Whole.new.into ≡ c.in-Whole.size = search rules in
     let octets : take c.in-Whole.size (c.fill-in-Whole.new.into ++ drop c.in-Whole.size c.args.into.now) ≡ take c.in-Whole.size c.fill-in-Whole.new.into =
     take-append-le c.in-Whole.size c.fill-in-Whole.new.into _ (omega arith) in
-    let tells = c.item.ensures.shown (c.fill-in-Whole.new.into ++ drop c.in-Whole.size c.args.into.now) ∙ ap (item_of said) octets in
+    let tells = c.item.ensures.told (c.fill-in-Whole.new.into ++ drop c.in-Whole.size c.args.into.now) ∙ ap (item_of said) octets in
     record_comes (records c.args.config.now) (omega arith) c.args.counted.now.limit c.args.counted.now.taken
     (g.F.Files.left c.args.files.now c.args.counted.now.slot) _ _ c.fill.new.into c.fill-in-Whole.new.into c.in-Ok.count
     said c.in-Whole.size c.in-Ok-fill.count
@@ -60,4 +61,4 @@ returns-else-count-size-clause-advances g c = λ told.
     ) refl
 
 pub returns-else-count-size-clause-known : goal.returns-else-count-size-clause-known
-returns-else-count-size-clause-known g c = c.item.ensures.known c.args.config.now c.in-Whole.ensures.known c.in-Whole.ensures.within.1
+returns-else-count-size-clause-known g c = c.item.ensures.known c.args.config.now c.in-Whole.ensures.configured c.in-Whole.ensures.within.1
