@@ -4,10 +4,24 @@ use Rattle.std.specs.List.{AllByRecursion, list_all, list_any}
 use Rattle.std.proofs.lemmas.Nat.{and_assoc, and_comm, and_mask}
 use Rattle.std.proofs.Math.Nat.{mod-eq_of_lt}
 use Rattle.std.proofs.lemmas.Bool.{eqb-true}
-use Rattle.fs_ops.specs.Operator.{joins, width_of}
+use Rattle.fs_ops.specs.Operator.{joins, meant_bits, width_of}
+use Rattle.fs_ops.specs.OperatorList.{AreNormal}
 use Rattle.fs_ops.specs.Evaluation.{groups_of, has_bit, holds, masks, onto_group}
+use Rattle.fs_nlri.specs.Parts.{ListBody}
+use Rattle.fs_nlri.specs.Sound.{IsSoundBody}
 use Rattle.fs_packet.specs.Matches.{tcp_flags}
-use Rattle.fs_packet.specs.Sound.{AreWide}
+
+-- each value fits its width
+abbrev pub AreWide : List (ℕ × ℕ) → Type 0
+AreWide pairs = AllByRecursion (λ pair. pair.1 < 256 ^ width_of pair.0) pairs
+
+wide_pairs : (bits : ℕ) (pairs : List (ℕ × ℕ)) → AreNormal bits pairs → AreWide pairs
+wide_pairs bits [] h = tt
+wide_pairs bits (pair ∷ []) h = (h.0.fits, tt)
+wide_pairs bits (pair ∷ next ∷ pairs) h = (h.0.fits, wide_pairs bits (next ∷ pairs) h.2)
+
+pub sound_is_wide : (pairs : List (ℕ × ℕ)) → IsSoundBody (ListBody pairs) → AreWide pairs
+sound_is_wide pairs h = wide_pairs (meant_bits h.0) pairs h.1.normal
 
 any_same : {X : Type 0} (f g : X → Bool) (xs : List X) → AllByRecursion (λ x. f x ≡ g x) xs → list_any f xs ≡ list_any g xs
 any_same f g [] h = refl

@@ -1,5 +1,5 @@
 pub mod Flags
-pub mod Sounds
+pub mod Matched
 pub mod Tags
 pub mod Walks
 pub mod Headers

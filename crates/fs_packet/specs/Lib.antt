@@ -3,5 +3,4 @@ pub mod Chain
 pub mod Fields
 pub mod View
 pub mod Matches
-pub mod Sound
 pub mod Reading

@@ -4,8 +4,9 @@ ghost use Rattle.std.specs.Prelude.{◌≡◌, ◌≤◌, ◌==◌, ◌&&◌};
 ghost use Rattle.std.specs.List.{list_all};
 ghost use Rattle.fs_base.specs.Bits.{cleared, width_of};
 ghost use Rattle.fs_nlri.specs.Component.{body_of, part_of, parts_of};
+ghost use Rattle.fs_nlri.specs.Parts.{ListBody};
+ghost use Rattle.fs_nlri.specs.Sound.{AreSound, IsSoundBody};
 ghost use Rattle.fs_packet.specs.Matches.{flags_hold, holds_of, is_match, is_prefix_of, part_matches};
-ghost use Rattle.fs_packet.specs.Sound.{AreSound, AreWide, IsSoundBody};
 
 use crate::fields::View;
 use fs_base::{Address, Family, Prefix};
@@ -72,7 +73,7 @@ fn number_matches(list: &NumList, number: Option<u64>) -> bool
 /// Whether the list holds of the TCP flags. A value of one octet has no bits above the flags' octet, so one number
 /// serves values of either width.
 fn flags_match(list: &MaskList, octets: Option<u16>) -> bool
-    requires { AreWide list.now }
+    requires { IsSoundBody (ListBody list.now) }
     ensures { result ≡ flags_hold list.now octets }
 {
     match octets {
@@ -106,8 +107,5 @@ fn begins_with(family: Family, address: u128, length: u8, bits: u128) -> bool
     requires { length ≤ width_of family }
     ensures { result ≡ (cleared (width_of family) length address == bits) }
 {
-    match Prefix::new(family, address, length) {
-        Some(first) => first.bits == bits,
-        None => unreachable!(),
-    }
+    Prefix::of_bits(family, address, length).bits == bits
 }

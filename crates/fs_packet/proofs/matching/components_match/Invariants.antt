@@ -1,4 +1,4 @@
-use Rattle.fs_packet.proofs.Sounds.{Matching}
+use Rattle.fs_packet.proofs.Matched.{Matching}
 use Rattle.fs_packet.proofs.matching.components_match.Given as goal
 
 abbrev pub invariant-loop-component : goal.invariant-loop-component

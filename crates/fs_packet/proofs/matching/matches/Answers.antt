@@ -1,5 +1,4 @@
-use Rattle.fs_packet.proofs.Sounds.{rule_sound}
 use Rattle.fs_packet.proofs.matching.matches.Goals as goal
 
 pub components_match-requires : goal.components_match-requires
-components_match-requires c = rw c.components.ensures.parts (rule_sound c.args.rule.now c.components.ensures.rule)
+components_match-requires c = rw c.components.ensures.parts c.components.ensures.sound
