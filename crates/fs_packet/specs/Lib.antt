@@ -1,7 +1,5 @@
-pub mod Link
-pub mod Chain
 pub mod Fields
-pub mod View
+pub mod Chain
 pub mod Matches
 pub mod Sound
 pub mod Reading
