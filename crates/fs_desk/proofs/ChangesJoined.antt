@@ -2,6 +2,8 @@
 use Rattle.std.proofs.Common.{◌≡◌, ◌==◌, ◌<◌, ◌+◌, ℕ, List, [], ◌∷◌, ◌++◌, Bool, true, false, ◌||◌, Option, Some, None, if◌then◌else◌, option_map, length, take, map, get_or, refl, ap, sym, ◌∙◌, append_assoc, append-nil, is_some, ◌⊎◌, inl, inr}
 use Rattle.std.specs.List.{list_any}
 use Rattle.std.proofs.lemmas.List.{take_more, map-append}
+use Rattle.std.proofs.lemmas.List.Folds.{list_any-append}
+use Rattle.fs_base.proofs.Bools.{or_none}
 use Rattle.fs_base.specs.declared.path.Path.{Path}
 use Rattle.fs_base.specs.declared.prefix.Prefix.{Prefix}
 use Rattle.fs_nlri.specs.Parts.{Ruled}
@@ -12,6 +14,7 @@ use Rattle.fs_attrs.specs.declared.update.Update.{Update}
 use Rattle.fs_attrs.specs.Update.{unicast_in, flows_in, given_prefixes}
 use Rattle.fs_desk.specs.Leaves.{last_such, Given, is_prefix, is_rule, given_with, unicast_at, flow_at}
 use Rattle.fs_desk.specs.Apply.{Changes, same, taken_of, given_at, rules_taken, rules_given, given_or, told, told_of}
+use Rattle.fs_desk.proofs.Life.{any-more}
 use Rattle.fs_desk.proofs.Updates.{last-more, later_of}
 
 -- one more prefix of a list that a loop goes over
@@ -68,18 +71,6 @@ changes_as peer f f' g g' old new a b t = record {
     said : {A : Type 0} (b : Bool) (x y old : A) → x ≡ y → (if b then x else old) ≡ (if b then y else old)
     said true x y old h = h
     said false x y old h = refl
-
-any-more : {A : Type 0} (test : A → Bool) (xs : List A) (x : A) → list_any test (xs ++ x ∷ []) ≡ (list_any test xs || test x)
-any-more test [] x = at (test x)
-  where
-    at : (b : Bool) → (b || false) ≡ b
-    at true = refl
-    at false = refl
-any-more test (y ∷ ys) x = ap (λ b. test y || b) (any-more test ys x) ∙ at (test y) (list_any test ys) (test x)
-  where
-    at : (a b c : Bool) → (a || (b || c)) ≡ ((a || b) || c)
-    at true b c = refl
-    at false b c = refl
 
 -- the later of two choices counts, where both choose one value
 both_chosen : {A : Type 0} (a b : Bool) (value before : A) → (if (b || false) then value else (if a then value else before)) ≡ (if (a || b) then value else before)
@@ -138,14 +129,6 @@ rules_given_more peer path actions rules rule old mid new t u =
     ∙ ap (λ (a : Option Ruled). given_or o a path actions) (sym (last-more (is_rule r) rules rule)))
     (changes_then peer same same (rules_given rules path actions) (rules_given (rule ∷ []) path actions) old mid new t u)
 
-any-join : {A : Type 0} (test : A → Bool) (xs ys : List A) → list_any test (xs ++ ys) ≡ (list_any test xs || list_any test ys)
-any-join test [] ys = refl
-any-join test (x ∷ xs) ys = ap (λ b. test x || b) (any-join test xs ys) ∙ at (test x) (list_any test xs) (list_any test ys)
-  where
-    at : (a b c : Bool) → (a || (b || c)) ≡ ((a || b) || c)
-    at true b c = refl
-    at false b c = refl
-
 joined_choice : {A : Type 0} (a b : Bool) (value before : A) → (if b then value else (if a then value else before)) ≡ (if (a || b) then value else before)
 joined_choice true true value before = refl
 joined_choice true false value before = refl
@@ -160,7 +143,7 @@ taken_join peer first later rules old mid new t u =
     changes_as peer (λ p o. taken_of later p (taken_of first p o)) (taken_of (first ++ later)) (λ r o. rules_taken rules r o) (rules_taken rules) old new
     (λ p o.
     joined_choice (list_any (is_prefix p) first) (list_any (is_prefix p) later) None o
-    ∙ ap (λ (b : Bool). if b then None else o) (sym (any-join (is_prefix p) first later)))
+    ∙ ap (λ (b : Bool). if b then None else o) (sym (list_any-append (is_prefix p) first later)))
     (λ r o. refl)
     (changes_then peer (taken_of first) (taken_of later) same (rules_taken rules) old mid new t u)
 
@@ -171,7 +154,7 @@ given_join peer path first later rules old mid new t u =
     changes_as peer (λ p o. given_at later path p (given_at first path p o)) (given_at (first ++ later) path) rules rules old new
     (λ p o.
     joined_choice (list_any (is_prefix p) first) (list_any (is_prefix p) later) (Some path) o
-    ∙ ap (λ (b : Bool). if b then Some path else o) (sym (any-join (is_prefix p) first later)))
+    ∙ ap (λ (b : Bool). if b then Some path else o) (sym (list_any-append (is_prefix p) first later)))
     (λ r o. refl)
     (changes_then peer (given_at first path) (given_at later path) same rules old mid new t u)
 
@@ -186,17 +169,13 @@ all_any : (p : Prefix) (u : Update) (rest : List Shown)
     → list_any (is_prefix p) (u.classic_out ++ (unicast_in u.unreach ++ rest)) ≡ (list_any (is_prefix p) (u.classic_out ++ unicast_in u.unreach) || list_any (is_prefix p) rest)
 all_any p u rest =
     ap (list_any (is_prefix p)) (sym (append_assoc u.classic_out (unicast_in u.unreach) rest))
-    ∙ any-join (is_prefix p) (u.classic_out ++ unicast_in u.unreach) rest
+    ∙ list_any-append (is_prefix p) (u.classic_out ++ unicast_in u.unreach) rest
 
 taken_both : (a b : Bool) (o : Option Path) → (if b then None else (if a then None else o)) ≡ (if (a || b) then None else o)
 taken_both true true o = refl
 taken_both true false o = refl
 taken_both false true o = refl
 taken_both false false o = refl
-
-or_false : (b : Bool) → (b || false) ≡ b
-or_false true = refl
-or_false false = refl
 
 back_prefix : (u : Update) → u.as_withdraw ≡ true → (p : Prefix) (o : Option Path)
     → taken_of (u.classic_in ++ unicast_in u.reach) p (taken_of (u.classic_out ++ unicast_in u.unreach) p o) ≡ told u p o
@@ -210,7 +189,7 @@ none_prefix : (u : Update) → u.as_withdraw ≡ false → u.path ≡ None → (
     → taken_of (u.classic_in ++ unicast_in u.reach) p (taken_of (u.classic_out ++ unicast_in u.unreach) p o) ≡ told u p o
 none_prefix u h n p o =
     ap (λ (b : Bool). if list_any (is_prefix p) (given_prefixes u) then None else if b then None else o)
-    (sym (or_false (list_any (is_prefix p) (u.classic_out ++ unicast_in u.unreach))) ∙ sym (all_any p u []))
+    (sym (or_none (list_any (is_prefix p) (u.classic_out ++ unicast_in u.unreach)) false refl) ∙ sym (all_any p u []))
     ∙ ap (λ (path : Option Path). if list_any (is_prefix p) (given_prefixes u) then path
     else if list_any (is_prefix p) (u.classic_out ++ (unicast_in u.unreach ++ [])) then None else o) (sym n)
     ∙ ap (λ (w : Bool). if list_any (is_prefix p) (if w then [] else given_prefixes u) then u.path
@@ -220,7 +199,7 @@ some_prefix : (u : Update) (path : Path) → u.as_withdraw ≡ false → u.path 
     → given_at (u.classic_in ++ unicast_in u.reach) path p (taken_of (u.classic_out ++ unicast_in u.unreach) p o) ≡ told u p o
 some_prefix u path h n p o =
     ap (λ (b : Bool). if list_any (is_prefix p) (given_prefixes u) then Some path else if b then None else o)
-    (sym (or_false (list_any (is_prefix p) (u.classic_out ++ unicast_in u.unreach))) ∙ sym (all_any p u []))
+    (sym (or_none (list_any (is_prefix p) (u.classic_out ++ unicast_in u.unreach)) false refl) ∙ sym (all_any p u []))
     ∙ ap (λ (path : Option Path). if list_any (is_prefix p) (given_prefixes u) then path
     else if list_any (is_prefix p) (u.classic_out ++ (unicast_in u.unreach ++ [])) then None else o) (sym n)
     ∙ ap (λ (w : Bool). if list_any (is_prefix p) (if w then [] else given_prefixes u) then u.path
@@ -244,7 +223,7 @@ back_rule : (u : Update) → u.as_withdraw ≡ true → (r : Ruled) (o : Option 
 unfolding told_rule_with
 back_rule u h r o =
     taken_rules_both (list_any (is_rule r) (flows_in u.unreach)) (list_any (is_rule r) (flows_in u.reach)) o
-    ∙ ap (λ (b : Bool). if b then None else o) (sym (any-join (is_rule r) (flows_in u.unreach) (flows_in u.reach)))
+    ∙ ap (λ (b : Bool). if b then None else o) (sym (list_any-append (is_rule r) (flows_in u.unreach) (flows_in u.reach)))
     ∙ ap (λ (w : Bool). told_rule_with w u r o) (sym h)
 
 -- the last of a list that passes is there exactly where some element passes

@@ -1,6 +1,5 @@
 -- What a desk that followed a tape holds is what the tape leaves.
-use Rattle.std.proofs.Common.{◌≡◌, ◌==◌, ◌∙◌, ℕ, List, [], true, Option, Some, None, ap, sym, subst, arith}
-use Rattle.std.proofs.lemmas.Bool.Decides.{nat_tests}
+use Rattle.std.proofs.Common.{◌≡◌, ◌==◌, ◌∙◌, ℕ, List, [], true, Option, Some, None, ap, sym, subst}
 use Rattle.fs_base.specs.Config.{peer_of}
 use Rattle.fs_base.specs.declared.config.Config.{Config}
 use Rattle.fs_base.specs.declared.config.Peer.{Peer}
@@ -15,6 +14,7 @@ use Rattle.fs_desk.specs.Receive.{IsFed, IsLeft}
 use Rattle.fs_desk.specs.Leaves.{Leaves, counted, updates_of}
 use Rattle.fs_desk.specs.Life.{life}
 use Rattle.fs_desk.proofs.Follows.{follows_session, over_session}
+use Rattle.fs_desk.proofs.Updates.{itself}
 
 -- the updates that a session counts are those of all octets that it was fed with
 fed_updates : (config : Config) (peer : Peer) (octets : List ℕ) (session : Live) (why : Option Closed) (updates : List Update)
@@ -36,9 +36,6 @@ left_of config (Some peer) (Some octets) None number held k = absurd k
 left_of config None (Some octets) (Some session) number held k = absurd k
 left_of config (Some peer) (Some octets) (Some session) number held k =
     subst (λ (updates : List Update). IsLeft number updates held) (sym (fed_updates config peer octets session session.closed k.updates k.fed)) k.left
-
-itself : (n : ℕ) → (n == n) ≡ true
-itself n = grind (arith, nat_tests)
 
 pub played_leaves : (config : Config) (items : List Item) (desk : Desked) → Played config items desk → Leaves config items desk.held
 played_leaves config items desk p =

@@ -1,20 +1,14 @@
 -- What one more item of a tape changes of a peer's life.
 use Rattle.std.proofs.Common.{◌≡◌, ℕ, List, [], ◌∷◌, ◌++◌, Bool, true, false, ◌||◌, Option, Some, None, if◌then◌else◌, option_map, refl, ap, sym, ◌∙◌, true≢false, append_assoc, append-nil}
 use Rattle.std.specs.List.{list_any}
+use Rattle.std.proofs.lemmas.List.Folds.{list_any-append}
+use Rattle.fs_base.proofs.Bools.{or_none}
 use Rattle.fs_tape.specs.Tape.{Item}
 use Rattle.fs_desk.specs.Life.{bounds_life, sent_in, sent_by, begins_life, life}
 
-bounds-more : (peer : ℕ) (items : List Item) (item : Item) → list_any (bounds_life peer) (items ++ item ∷ []) ≡ (list_any (bounds_life peer) items || bounds_life peer item)
-bounds-more peer [] item = at (bounds_life peer item)
-  where
-    at : (b : Bool) → (b || false) ≡ b
-    at true = refl
-    at false = refl
-bounds-more peer (first ∷ items) item = ap (λ b. bounds_life peer first || b) (bounds-more peer items item) ∙ at (bounds_life peer first) (list_any (bounds_life peer) items) (bounds_life peer item)
-  where
-    at : (a b c : Bool) → (a || (b || c)) ≡ ((a || b) || c)
-    at true b c = refl
-    at false b c = refl
+-- one more element of a list that is searched
+pub any-more : {A : Type 0} (test : A → Bool) (xs : List A) (x : A) → list_any test (xs ++ x ∷ []) ≡ (list_any test xs || test x)
+any-more test xs x = list_any-append test xs (x ∷ []) ∙ ap (λ (b : Bool). list_any test xs || b) (or_none (test x) false refl)
 
 sent-more : (peer : ℕ) (items : List Item) (item : Item) → sent_by peer (items ++ item ∷ []) ≡ sent_by peer items ++ sent_in peer item
 sent-more peer [] item = append-nil (sent_in peer item)
@@ -33,7 +27,7 @@ pub life-bound : (peer : ℕ) (items : List Item) (item : Item) → bounds_life 
     → life peer (items ++ item ∷ []) ≡ (if begins_life peer item then Some [] else None)
 life-bound peer [] item e = refl
 life-bound peer (first ∷ items) item e =
-    ap (λ b. if b then life peer (items ++ item ∷ []) else if begins_life peer first then Some (sent_by peer (items ++ item ∷ [])) else None) (bounds-more peer items item)
+    ap (λ b. if b then life peer (items ++ item ∷ []) else if begins_life peer first then Some (sent_by peer (items ++ item ∷ [])) else None) (any-more (bounds_life peer) items item)
     ∙ bounded (list_any (bounds_life peer) items) (bounds_life peer item) _ _ e
     ∙ life-bound peer items item e
 
@@ -42,7 +36,7 @@ pub life-more : (peer : ℕ) (items : List Item) (item : Item) → bounds_life p
     → life peer (items ++ item ∷ []) ≡ option_map (λ octets. octets ++ sent_in peer item) (life peer items)
 life-more peer [] item e f = ap (λ b. if b then Some [] else None) f
 life-more peer (first ∷ items) item e f =
-    ap (λ b. if b then life peer (items ++ item ∷ []) else if begins_life peer first then Some (sent_by peer (items ++ item ∷ [])) else None) (bounds-more peer items item)
+    ap (λ b. if b then life peer (items ++ item ∷ []) else if begins_life peer first then Some (sent_by peer (items ++ item ∷ [])) else None) (any-more (bounds_life peer) items item)
     ∙ at (list_any (bounds_life peer) items) (bounds_life peer item) (begins_life peer first) e (life-more peer items item e f) (sent-more peer items item)
   where
     at : (b c u : Bool) → c ≡ false → life peer (items ++ item ∷ []) ≡ option_map (λ octets. octets ++ sent_in peer item) (life peer items)

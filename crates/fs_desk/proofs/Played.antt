@@ -26,7 +26,7 @@ use Rattle.fs_desk.proofs.Entries.{lookup-insert_entry, sorted-insert_entry, sor
 use Rattle.fs_desk.proofs.Life.{life-bound, life-more}
 use Rattle.fs_desk.proofs.Follows.{follows_none}
 use Rattle.fs_desk.proofs.Replying.{replied_none}
-use Rattle.fs_desk.proofs.Updates.{left_nothing, left_spared, spares_others}
+use Rattle.fs_desk.proofs.Updates.{chosen, not_chosen, itself, left_nothing, left_spared, spares_others}
 
 nat_same : (m n : ℕ) → is_eq (nat_cmp m n) ≡ (m == n)
 nat_same m n = grind (arith, nat_tests)
@@ -36,9 +36,6 @@ same_swapped m n b h = grind (arith, nat_tests, h)
 
 one_number : (m n : ℕ) → (m == n) ≡ true → m ≡ n
 one_number m n h = grind (arith, nat_tests, h)
-
-itself : (n : ℕ) → (n == n) ≡ true
-itself n = grind (arith, nat_tests)
 
 -- of the peer's session, with another put in its place or taken away
 session_put : (m n : ℕ) (session : Live) (sessions : List (ℕ × Live)) → session_at m (insert_entry nat_cmp sessions n session) ≡ (if m == n then Some session else session_at m sessions)
@@ -52,14 +49,6 @@ session_gone m n sessions s =
     lookup-remove_entry (eq_by_cmp_equiv nat_cmp_total) (is_at (nat_cmp n)) (λ x y h. ap is_eq (IsTotalOrder.congr nat_cmp_total n x y (is_equal (nat_cmp n x) h))) m sessions
     (IsDistinct-from_sorted nat_cmp (keys_of sessions) s)
     ∙ ap (λ (b : Bool). cond b None (session_at m sessions)) (nat_same n m ∙ same_swapped m n (m == n) refl)
-
-chosen : {A : Type 0} (b : Bool) (x y : A) → b ≡ true → (if b then x else y) ≡ x
-chosen true x y h = refl
-chosen false x y h = absurd (true≢false (sym h))
-
-not_chosen : {A : Type 0} (b : Bool) (x y : A) → b ≡ false → (if b then x else y) ≡ y
-not_chosen true x y h = absurd (true≢false h)
-not_chosen false x y h = refl
 
 -- a peer whose life and session are the same, where the table spares it
 peer_spared : (config : Config) (peer : Option Peer) (l l' : Option (List ℕ)) (s s' : Option Live) (n m : ℕ) (old new : Held)

@@ -33,10 +33,6 @@ reverse_eq Greater = refl
 place_swapped : (a b : Place) → is_eq (place_cmp a b) ≡ is_eq (place_cmp b a)
 place_swapped a b = ap is_eq (IsTotalOrder.antisymm place_total a b) ∙ reverse_eq (place_cmp b a)
 
-either_false : (b : Bool) → (b || false) ≡ b
-either_false true = refl
-either_false false = refl
-
 untouched : {A : Type 0} (b : Bool) (a : A) → a ≡ (if b then a else a)
 untouched true a = refl
 untouched false a = refl

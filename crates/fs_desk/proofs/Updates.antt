@@ -83,16 +83,16 @@ flow_left-more rule updates update =
     ∙ told_rule (list_any (is_rule rule) (takes_rules update)) (rule_given rule update) update (last_such (tells_of_rule rule) updates)
     (λ u. option_and_then (given_with u) (rule_given rule u)) refl
 
-chosen : {A : Type 0} (b : Bool) (x y : A) → b ≡ true → (if b then x else y) ≡ x
+pub chosen : {A : Type 0} (b : Bool) (x y : A) → b ≡ true → (if b then x else y) ≡ x
 chosen true x y h = refl
 chosen false x y h = absurd (true≢false (sym h))
 
-not_chosen : {A : Type 0} (b : Bool) (x y : A) → b ≡ false → (if b then x else y) ≡ y
+pub not_chosen : {A : Type 0} (b : Bool) (x y : A) → b ≡ false → (if b then x else y) ≡ y
 not_chosen true x y h = absurd (true≢false h)
 not_chosen false x y h = refl
 
-own : (n : ℕ) → (n == n) ≡ true
-own n = grind (arith, nat_tests)
+pub itself : (n : ℕ) → (n == n) ≡ true
+itself n = grind (arith, nat_tests)
 
 -- the peer's next update
 pub left_more : (peer : ℕ) (updates : List Update) (update : Update) (old new : Held)
@@ -105,7 +105,7 @@ left_more peer updates update old new k t l = record {
       ∙ sym (unicast_left-more place.prefix updates update);
   flows = λ rule.
       t.flows l rule peer
-      ∙ chosen (peer == peer) _ _ (own peer)
+      ∙ chosen (peer == peer) _ _ (itself peer)
       ∙ ap (told_of update rule) (k.flows rule)
       ∙ sym (flow_left-more rule updates update);
 }
@@ -114,7 +114,7 @@ left_more peer updates update old new k t l = record {
 pub left_nothing : (peer : ℕ) (old new : Held) → Changes peer nothing nothing old new → IsListed old → IsLeft peer [] new
 left_nothing peer old new t l = record {
   unicast = λ place h. t.unicast l place ∙ chosen (place.peer == peer) _ _ h;
-  flows = λ rule. t.flows l rule peer ∙ chosen (peer == peer) _ _ (own peer);
+  flows = λ rule. t.flows l rule peer ∙ chosen (peer == peer) _ _ (itself peer);
 }
 
 -- a change at one peer leaves the others alone
