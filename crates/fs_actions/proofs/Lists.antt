@@ -63,7 +63,7 @@ below_all : (a x : List ℕ) (xs : List (List ℕ)) → by_octets a x ≡ Less �
 below_all a x [] e h = tt
 below_all a x (y ∷ ys) e h = (nat_list_cmp_total.trans a x y e h.0, below_all a x ys e h.1)
 
-rising_with : (a : List ℕ) (xs : List (List ℕ)) → IsStrictlySortedBy by_octets xs → IsStrictlySortedBy by_octets (with_action a xs)
+pub rising_with : (a : List ℕ) (xs : List (List ℕ)) → IsStrictlySortedBy by_octets xs → IsStrictlySortedBy by_octets (with_action a xs)
 unfolding IsStrictlySortedBy
 rising_with a [] s = (tt, tt)
 rising_with a (x ∷ xs) s = at (by_octets a x) refl (rising_with a xs s.1)

@@ -3,7 +3,9 @@
 #![tactic(auto)]
 
 mod community;
+mod laws;
 mod list;
 
 pub use community::{Action, Rate, Redirect};
+pub use laws::actions_are_the_listed;
 pub use list::{ActionFault, Actions, from_communities};
