@@ -1,14 +1,14 @@
 -- What is in the list of a field's actions: exactly the normal forms of its listed communities.
-use Rattle.std.proofs.Common.{◌≡◌, ◌↔◌, ℕ, zero, suc, ◌<◌, List, [], ◌∷◌, length, get_or, refl, sym, ap, ◌∙◌, subst, arith, ◌⊎◌, inl, inr, Contains, Ordering, filter_map, Option, Some, None}
+use Rattle.std.proofs.Common.{◌≡◌, ℕ, zero, suc, ◌<◌, List, [], ◌∷◌, length, get_or, refl, sym, ap, ◌∙◌, arith, ◌⊎◌, inl, inr, Contains, Ordering, filter_map, Option, Some, None}
 use Rattle.std.specs.declared.cmp.Ordering.TheVariants.{Less, Equal, Greater}
 use Rattle.std.specs.Ordering.{match_ordering}
 use Rattle.std.specs.List.{cons_option}
 use Rattle.std.specs.List.Sorted.{IsStrictlySortedBy}
 use Rattle.std.proofs.lemmas.Map.Lookups.{exact_bytes}
-use Rattle.fs_actions.specs.Communities.{communities, normal_form}
-use Rattle.fs_actions.specs.Actions.{with_action, with_actions, actions_of}
+use Rattle.fs_actions.specs.Community.{normal_form}
+use Rattle.fs_actions.specs.Actions.{communities, with_action, with_actions, actions_of}
 use Rattle.fs_actions.specs.Laws.{IsListed, AreListed}
-use Rattle.fs_actions.proofs.Lists.{by_octets, rising_with}
+use Rattle.fs_actions.proofs.Insertion.{by_octets, rising_with}
 
 abbrev IsAmong : List ℕ → List (List ℕ) → Type 0
 IsAmong x [] = ⊥

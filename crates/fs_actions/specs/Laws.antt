@@ -3,7 +3,8 @@ use Rattle.std.specs.Prelude.{◌≡◌, ◌↔◌, ℕ, List, Some, Contains}
 use Rattle.std.specs.List.Sorted.{IsStrictlySortedBy}
 use Rattle.std.specs.Cmp.Lexicographic.{slice_cmp}
 use Rattle.std.specs.Ordering.{nat_cmp}
-use Rattle.fs_actions.specs.Communities.{communities, normal_form}
+use Rattle.fs_actions.specs.Community.{normal_form}
+use Rattle.fs_actions.specs.Actions.{communities}
 
 -- a listed community stands in the field, and this is its normal form
 pub record IsListed (octets action : List ℕ) : Type 0 where
