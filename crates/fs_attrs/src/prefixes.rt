@@ -46,7 +46,7 @@ fn next_prefix(family: Family, octets: &[u8]) -> Option<(Prefix, &[u8])>
         return None;
     }
     let (bits, behind) = rest.split_at_checked((usize::from(*length) + 7) / 8)?;
-    let prefix = Prefix::new(family, left_aligned(bits, family.width()), *length)?;
+    let prefix = Prefix::of_bits(family, left_aligned(bits, family.width()), *length);
     Some((prefix, behind))
 }
 

@@ -138,8 +138,8 @@ fn read_given(
     as_withdraw: bool,
 ) -> Result<(Option<Path>, Actions), Memory>
     requires { as_withdraw ≡ withdraws terms.now (attributes_of attributes.now) gives }
-    ensures path { IfOk result (λ given. given.0 ≡ given_path terms.now (attributes_of attributes.now) gives as_withdraw) }
-    ensures actions { IfOk result (λ given. given.1 ≡ given_actions (attributes_of attributes.now) gives as_withdraw) }
+    ensures path { IfOk result (λ got. got.0 ≡ given_path terms.now (attributes_of attributes.now) gives as_withdraw) }
+    ensures actions { IfOk result (λ got. got.1 ≡ given_actions (attributes_of attributes.now) gives as_withdraw) }
 {
     if gives && !as_withdraw {
         let path = read_path(alloc, attributes, terms)?;

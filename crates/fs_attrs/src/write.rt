@@ -163,7 +163,8 @@ fn append_routes(routes: &Routes, out: &mut Vec<u8>) -> Result<(), Memory>
 /// Appends the attributes of what is announced.
 fn append_path(path: &Path, update: &Update, terms: &Terms, out: &mut Vec<u8>) -> Result<(), Memory>
     requires { IsTrue (is_written_path terms.now path.now) }
-    ensures appended { AddsAttributes result out.old.items out.new.items (path_in terms.now update.now (Some path.now)) }
+    ensures appended { AddsAttributes result out.old.items out.new.items
+        (path_in terms.now update.now (Some path.now)) }
     ensures sound { OnOk result (IsPath update.now.actions path.now) }
 {
     append_attribute(ORIGIN, &[path.origin], out)?;

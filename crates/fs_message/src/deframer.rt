@@ -122,7 +122,8 @@ fn take_piece(
     ensures fault { fault.new ≡ fault_after result }
     ensures stands { stands.new ≡ stands_after result }
     ensures some { IfOk result (λ fed. (fed.0 ≤ length piece.now) × (0 < length piece.now → 0 < fed.0)) }
-    ensures exact { FeedsFrom fault.old stands.old (take count.old held.old.items) piece.now (take count.new held.new.items) result }
+    ensures exact { FeedsFrom fault.old stands.old (take count.old held.old.items) piece.now
+        (take count.new held.new.items) result }
 {
     if let Some(fault) = *fault {
         return Err(fault);

@@ -121,12 +121,12 @@ fn feed_piece(
 ) -> Result<(usize, Option<Update>), Closed>
     requires { IsLive closed.old deframer.old }
     ensures live { IsLive closed.new deframer.new }
-    ensures again { StaysClosed (at_ends ends.now deframer.old phase.old closed.old) (at_ends ends.now deframer.new phase.new closed.new)
-        result replies.old.items replies.new.items }
+    ensures again { StaysClosed (at_ends ends.now deframer.old phase.old closed.old)
+        (at_ends ends.now deframer.new phase.new closed.new) result replies.old.items replies.new.items }
     ensures closed { closed.new ≡ closed_after result }
     ensures some { IfOk result (λ fed. (fed.0 ≤ length piece.now) × (0 < length piece.now → 0 < fed.0)) }
-    ensures exact { GoesOn (at_ends ends.now deframer.old phase.old closed.old) (at_ends ends.now deframer.new phase.new closed.new)
-        piece.now replies.old.items replies.new.items result }
+    ensures exact { GoesOn (at_ends ends.now deframer.old phase.old closed.old)
+        (at_ends ends.now deframer.new phase.new closed.new) piece.now replies.old.items replies.new.items result }
 {
     if let Some(why) = *closed {
         return Err(why);
@@ -156,8 +156,8 @@ fn advance(
     requires { deframer.old.fault ≡ None }
     ensures live { IfOk result (λ _. deframer.new.fault ≡ None) }
     ensures some { IfOk result (λ fed. (fed.0 ≤ length piece.now) × (0 < length piece.now → 0 < fed.0)) }
-    ensures exact { Feeds (at_ends ends.now deframer.old phase.old None) (at_ends ends.now deframer.new phase.new (closed_after result))
-        piece.now replies.old.items replies.new.items result }
+    ensures exact { Feeds (at_ends ends.now deframer.old phase.old None)
+        (at_ends ends.now deframer.new phase.new (closed_after result)) piece.now replies.old.items replies.new.items result }
 {
     let count = match deframer.feed(piece) {
         Ok((count, _)) => count,
