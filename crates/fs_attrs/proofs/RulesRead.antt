@@ -138,7 +138,8 @@ pairs_are : (kind : Kind) (widths octets : List ℕ) → Any (λ code. code < 4)
 unfolding pairs_at
 pairs_are kind widths octets some zero rest pairs read enough = absurd (omega arith)
 pairs_are kind widths octets some (suc most) [] pairs read enough =
-    let e : length octets ≡ length octets - length ([] {A = ℕ}) + 0 = omega arith in
+    let empty : List ℕ = [] in
+    let e : length octets ≡ length octets - length empty + 0 = omega arith in
     subst (λ (n : ℕ). IsFault widths octets (ListCut n)) e (cut_between kind widths octets [] pairs some read refl)
 pairs_are kind widths octets some (suc most) (operator ∷ tail) pairs read enough =
     let inside : suc (length tail) ≤ length octets = omega (arith, ap (λ (l : List ℕ). length l) read.split, length-append (text read.before) (operator ∷ tail)) in
@@ -179,8 +180,12 @@ pairs_are kind widths octets some (suc most) (operator ∷ tail) pairs read enou
     ]
 
 joined_none : (count : ℕ) (later : PairsRead) → count ≡ 0 → joined [] count later ≡ later
-joined_none count (Ok later) none = ap (λ (n : ℕ). let read : PairsRead = Ok (later.0, n + later.1) in read) none
-joined_none count (Err bad) none = ap (λ (n : ℕ). let read : PairsRead = Err (bad.0, n + bad.1) in read) none
+joined_none count (Ok (pairs, size)) none =
+    let e : count + size ≡ size = omega (arith, none) in
+    ap (λ (n : ℕ). let read : PairsRead = Ok (pairs, n) in read) e
+joined_none count (Err (reason, place)) none =
+    let e : count + place ≡ place = omega (arith, none) in
+    ap (λ (n : ℕ). let read : PairsRead = Err (reason, n) in read) e
 
 list_is : (kind : Kind) (widths : List ℕ) (bits : Option ℕ) (octets : List ℕ) → Any (λ code. code < 4) widths
     → IsBodyOutcome (ListForm kind widths bits) octets (body_at (ListForm kind widths bits) octets)
@@ -214,7 +219,7 @@ body_is (ListForm kind widths bits) octets some = list_is kind widths bits octet
 -- a component that may come next, or the fault of the value
 abbrev IsTyped : Family → List ℕ → ℕ → List ℕ → ℕ → Result (Body × ℕ) (Reason × ℕ) → Type 0
 IsTyped family octets kind tail last (Ok found) =
-    (form : Form) × (form_of family kind ≡ Some form) × (last < kind) × SpellsBody form (take found.1 tail) found.0
+    (form : Form) × (form_of family kind ≡ Some form) × (last < kind) × (found.1 ≤ length tail) × SpellsBody form (take found.1 tail) found.0
 IsTyped family octets kind tail last (Err bad) = IsValueBad family octets bad.0 (length octets - length (kind ∷ tail) + bad.1)
 
 typed_is : (family : Family) (octets : List ℕ) (kind : ℕ) (tail : List ℕ) (last : ℕ) (parts : List Part) → HasRead family octets (kind ∷ tail) last parts
@@ -229,7 +234,7 @@ typed_is family octets kind tail last parts read = by (form_of family kind) refl
 
     behind : (form : Form) → form_of family kind ≡ Some form → last < kind → (found : Result (Body × ℕ) (Reason × ℕ)) → IsBodyOutcome form tail found
         → IsTyped family octets kind tail last (behind_type found)
-    behind form is rises (Ok found) h = (form, is, rises, h.1)
+    behind form is rises (Ok found) h = (form, is, rises, h.0, h.1)
     behind form is rises (Err bad) h =
         let e : length octets - length (kind ∷ tail) + 1 + bad.1 ≡ length octets - length (kind ∷ tail) + (1 + bad.1) = omega arith in
         subst (λ (n : ℕ). IsValueBad family octets bad.0 n) e (bad_at family octets kind tail last parts (Some form) (Bad bad.0 bad.1) read rises is h)
@@ -264,7 +269,8 @@ components_are : (family : Family) (octets : List ℕ) (most : ℕ) (rest : List
 unfolding components_of
 components_are family octets zero rest last parts read enough = absurd (omega arith)
 components_are family octets (suc most) [] last parts read enough =
-    let none : length ([] {A = ℕ}) < 1 = omega arith in
+    let empty : List ℕ = [] in
+    let none : length empty < 1 = omega arith in
     subst (λ (l : List Part). Spells family 0 octets l) (sym (append-nil parts)) (finished family octets [] last parts read none)
 components_are family octets (suc most) (kind ∷ tail) last parts read enough =
     elim (typed_at (form_of family kind) last kind tail) as (λ found. IsTyped family octets kind tail last found
@@ -275,15 +281,15 @@ components_are family octets (suc most) (kind ∷ tail) last parts read enough =
       | Ok found ↦ λ h.
           let next : List ℕ = drop found.1 tail in
           let less : length next < most = omega (arith, length-drop found.1 tail) in
-          let later = components_are family octets most next kind (parts ++ part kind found.0 ∷ [])
-          (more_part family octets kind tail last parts h.0 found.1 found.0 read h.2 h.1 h.3) less in
-          on found.1 found.0 later
+          let inside : suc (length tail) ≤ length octets = omega (arith, ap (λ (l : List ℕ). length l) read.split, length-append read.front (kind ∷ tail)) in
+          let within : found.1 ≤ length tail = h.3 in
+          let e : length octets - length next ≡ length octets - length (kind ∷ tail) + (1 + found.1) = omega (arith, inside, within, length-drop found.1 tail) in
+          subst (IsValueOutcome family octets)
+          (parts_more parts (part kind found.0) (length octets - length (kind ∷ tail)) (1 + found.1) (length octets - length next) (components_of family most kind next) e)
+          (components_are family octets most next kind (parts ++ part kind found.0 ∷ [])
+          (more_part family octets kind tail last parts h.0 found.1 found.0 read h.2 h.1 h.4) less)
       | Err bad ↦ λ h. h
     ] (typed_is family octets kind tail last parts read)
-  where
-    on : (count : ℕ) (body : Body) → IsValueOutcome family octets (joined_parts (parts ++ part kind body ∷ []) (length octets - length (drop count tail)) (components_of family most kind (drop count tail)))
-        → IsValueOutcome family octets (joined_parts parts (length octets - length (kind ∷ tail)) (with_component (part kind body) (1 + count) (components_of family most kind (drop count tail))))
-    on count body later = later
 
 value_is : (family : Family) (octets : List ℕ) → IsValueOutcome family octets (components_in family octets)
 value_is family octets =
@@ -293,7 +299,9 @@ value_is family octets =
   where
     by : (found : PartsRead) → length octets - length octets ≡ 0 → IsValueOutcome family octets (joined_parts [] (length octets - length octets) found) → IsValueOutcome family octets found
     by (Ok found) none h = h
-    by (Err bad) none h = subst (λ (n : ℕ). IsValueBad family octets bad.0 (n + bad.1)) none h
+    by (Err bad) none h =
+        let e : length octets - length octets + bad.1 ≡ bad.1 = omega (arith, none) in
+        subst (λ (n : ℕ). IsValueBad family octets bad.0 n) e h
 
 -- Frames
 
