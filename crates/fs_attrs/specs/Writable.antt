@@ -7,7 +7,6 @@ use Rattle.fs_base.specs.declared.prefix.Family.{Family}
 use Rattle.fs_base.specs.declared.prefix.Family.TheVariants.{V4, V6}
 use Rattle.fs_base.specs.Bits.{afi_of}
 use Rattle.fs_nlri.specs.Parts.{Ruled}
-use Rattle.fs_message.specs.Write.{message_text}
 use Rattle.fs_attrs.specs.declared.update.Terms.{Terms}
 use Rattle.fs_attrs.specs.declared.update.Routes.{Routes}
 use Rattle.fs_attrs.specs.declared.update.Routes.TheVariants.{Unicast, Flow}
