@@ -20,14 +20,14 @@ use Rattle.fs_nlri.specs.declared.fault.NlriFault.TheVariants.{Bad}
 use Rattle.fs_nlri.specs.Forms.{Form, V4Form, V6Form, ListForm, form_of, forms}
 use Rattle.fs_nlri.specs.Parts.{Body, Part, part, Ruled}
 use Rattle.fs_nlri.specs.Spelling.{SpellsBody, Spells, IsRange, IsLength, IsFrame, octets_for}
-use Rattle.fs_nlri.specs.Rule.{is_range}
-use Rattle.fs_nlri.specs.Fault.{IsValueBad}
+use Rattle.fs_nlri.specs.Making.{is_range}
+use Rattle.fs_nlri.specs.Fault.{IsValueBad, IsOpen}
 use Rattle.fs_nlri.specs.Outcome.{IsFrameOutcome, IsFieldOutcome}
 use Rattle.fs_nlri.proofs.Bodies.{v4_empty, v4_length, v4_cut, v6_empty, v6_length, v6_one, v6_offset, v6_cut}
 use Rattle.fs_nlri.proofs.BodyReaders.{list_bad}
 use Rattle.fs_nlri.proofs.ValueSteps.{HasRead, start, finished, no_type, not_above, bad_at}
 use Rattle.fs_nlri.proofs.Frames.{frame_found, frame_bad}
-use Rattle.fs_nlri.proofs.Every.{IsBodyOutcome, IsValueOutcome, IsLengthOutcome, AllowsSome, allows_at, all_allow, v4_whole, v6_whole, range_or_not, more_part, none_is_not_some, some_is, open_empty, open_one, passes_end, frame_some}
+use Rattle.fs_nlri.proofs.Every.{IsBodyOutcome, IsValueOutcome, AllowsSome, allows_at, all_allow, v4_whole, v6_whole, range_or_not, more_part, none_is_not_some, some_is, open_empty, open_one, passes_end, frame_some}
 use Rattle.fs_attrs.specs.Rules.{v4_at, v6_at, with_pair, pairs_at, list_body, body_at, behind_type, typed_at, with_component, components_of, components_in, length_at, framed, sized_at, frame_at, with_rule, frames_of, rules_of}
 
 -- Prefixes
@@ -303,6 +303,10 @@ value_is family octets =
         subst (λ (n : ℕ). IsValueBad family octets bad.0 n) e h
 
 -- Frames
+
+abbrev IsLengthOutcome : List ℕ → Option (ℕ × ℕ) → Type 0
+IsLengthOutcome octets None = IsOpen octets
+IsLengthOutcome octets (Some found) = (found.0 ≤ length octets) × IsLength (take found.0 octets) found.1
 
 length_is : (octets : List ℕ) → IsOctets octets → IsLengthOutcome octets (length_at octets)
 length_is [] small = open_empty

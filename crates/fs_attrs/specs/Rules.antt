@@ -14,7 +14,7 @@ use Rattle.fs_nlri.specs.declared.fault.Reason.TheVariants.{Cut, NoType, Order, 
 use Rattle.fs_nlri.specs.Forms.{Form, V4Form, V6Form, ListForm, form_of, kept_bits}
 use Rattle.fs_nlri.specs.Parts.{Body, V4Body, V6Body, ListBody, Part, part, Ruled, ruled}
 use Rattle.fs_nlri.specs.Spelling.{octets_for, first_bits}
-use Rattle.fs_nlri.specs.Rule.{is_range}
+use Rattle.fs_nlri.specs.Making.{is_range}
 
 -- a prefix of IPv4
 abbrev pub v4_at : List ℕ → Result (Body × ℕ) (Reason × ℕ)

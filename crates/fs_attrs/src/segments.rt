@@ -5,18 +5,11 @@ ghost use Rattle.fs_attrs.specs.Segments.{as_width, first_as, numbers_of, first_
 
 use crate::texts::{append_u16, append_u32};
 use byteorder::{BigEndian, ByteOrder};
-use fs_base::{Memory, Numbers, Segment, Segments};
+use fs_base::{
+    AS_CONFED_SEQUENCE, AS_CONFED_SET, AS_SEQUENCE, AS_SET, Memory, Numbers, Segment, Segments,
+};
 use fs_message::as_in_two;
 use std::alloc::Global;
-
-/// The forms of segments: those of RFC 4271, and those of a confederation.
-const AS_SET: u8 = 1;
-
-const AS_SEQUENCE: u8 = 2;
-
-const AS_CONFED_SEQUENCE: u8 = 3;
-
-const AS_CONFED_SET: u8 = 4;
 
 /// A segment of AS_PATH: its form, and the octets of its AS numbers.
 #[derive(Clone, Copy, Drop)]

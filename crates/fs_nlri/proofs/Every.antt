@@ -208,7 +208,7 @@ every_value family octets = by (suc (length octets)) octets 0 [] (start family o
 -- Frames
 
 -- a length at the front with what it says, or none that is whole
-abbrev pub IsLengthOutcome : List ℕ → Option (ℕ × ℕ) → Type 0
+abbrev IsLengthOutcome : List ℕ → Option (ℕ × ℕ) → Type 0
 IsLengthOutcome octets None = IsOpen octets
 IsLengthOutcome octets (Some read) = (read.0 ≤ length octets) × IsLength (take read.0 octets) read.1
 
