@@ -1,2 +1,3 @@
-pub mod Joined
-pub mod Lists
+pub mod Insertion
+pub mod ReadBack
+pub mod Listed

@@ -1,2 +1,3 @@
-pub mod Communities
+pub mod Community
 pub mod Actions
+pub mod Laws

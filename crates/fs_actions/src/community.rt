@@ -1,8 +1,7 @@
 //! One community, and what it says (RFC 8955 section 7).
 
 ghost use Rattle.std.specs.Prelude.{◌≡◌, ℕ, List, IfSome};
-ghost use Rattle.fs_actions.specs.Communities.{IsAction, kept_of, normal_form};
-ghost use Rattle.fs_actions.specs.Actions.{has_flag, is_discard, is_nothing, limit_of, mark_of, rate_of, redirect_of};
+ghost use Rattle.fs_actions.specs.Community.{IsAction, significant_of, normal_form, has_flag, is_discard, is_nothing, limit_of, mark_of, rate_of, redirect_of};
 
 use byteorder::{BigEndian, ByteOrder};
 use std::marker::Model;
@@ -24,7 +23,7 @@ const MARKING: u16 = 0x8009;
 
 /// Which bits of a listed community count. Normal form clears the others.
 #[derive(Clone, Copy, Debug, PartialEq, Eq, Drop)]
-pub(crate) enum Kept {
+pub(crate) enum Significant {
     EveryBit,
     /// The type and sub-type, and these bits of the last octet.
     OfLastOctet(u8),
@@ -81,9 +80,9 @@ impl Action {
         ensures value { result ≡ normal_form community.now }
         ensures action { IfSome result IsAction }
     {
-        match bits_kept(BigEndian::read_u16(community))? {
-            Kept::EveryBit => Some(Action { octets: *community }),
-            Kept::OfLastOctet(bits) => Some(Action {
+        match significant_bits(BigEndian::read_u16(community))? {
+            Significant::EveryBit => Some(Action { octets: *community }),
+            Significant::OfLastOctet(bits) => Some(Action {
                 octets: [
                     community[0],
                     community[1],
@@ -175,16 +174,16 @@ impl Action {
     }
 }
 
-/// What normal form keeps of the community of a type and sub-type, or None where it isn't listed.
-fn bits_kept(kind: u16) -> Option<Kept>
-    ensures { result ≡ kept_of kind }
+/// The bits that count of the community of a type and sub-type, or None where it isn't listed.
+fn significant_bits(kind: u16) -> Option<Significant>
+    ensures { result ≡ significant_of kind }
 {
     match kind {
         RATE_IN_BYTES | RATE_IN_PACKETS | REDIRECT_AS2 | REDIRECT_IP4 | REDIRECT_AS4 => Some(
-            Kept::EveryBit,
+            Significant::EveryBit,
         ),
-        TRAFFIC_ACTION => Some(Kept::OfLastOctet(0x03)),
-        MARKING => Some(Kept::OfLastOctet(0x3f)),
+        TRAFFIC_ACTION => Some(Significant::OfLastOctet(0x03)),
+        MARKING => Some(Significant::OfLastOctet(0x3f)),
         _ => None,
     }
 }

@@ -2,8 +2,10 @@
 //! that are actions, in normal form, and what they say of a packet.
 #![tactic(auto)]
 
+mod actions;
 mod community;
-mod list;
+mod laws;
 
+pub use actions::{ActionFault, Actions, from_communities};
 pub use community::{Action, Rate, Redirect};
-pub use list::{ActionFault, Actions, from_communities};
+pub use laws::actions_are_the_listed;

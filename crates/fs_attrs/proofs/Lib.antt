@@ -1,9 +1,9 @@
-mod Fields
-mod Gathering
-mod Outcome
-mod PathBack
-mod ReadBack
-mod Scanning
-pub mod Shrinking
-mod TextsBack
-mod Written
+mod PartLists
+mod RulesRead
+mod FieldOutcome
+mod PartSizes
+mod AttributeScans
+mod TextsReadBack
+mod PathReadBack
+mod WrittenAttributes
+mod UpdateReadBack

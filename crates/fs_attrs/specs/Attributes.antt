@@ -2,6 +2,8 @@
 use Rattle.std.specs.Prelude.{ℕ, ◌==◌, Bool, false, ◌||◌, bit_and, nat_le, nat_lt, if◌then◌else◌, List, [], ◌∷◌, length, take, drop, Option, Some, None, option_map, option_and_then, find, filter}
 use Rattle.byteorder.specs.Endian.{big_number}
 use Rattle.fs_base.specs.Parts.{parts_of}
+use Rattle.fs_attrs.specs.declared.attributes.Fields.{Fields}
+use Rattle.fs_attrs.specs.declared.attributes.Lent.{Lent}
 
 -- A path attribute: its type and its value. Of its flags only that of the longer length is read.
 pub record Attribute : Type 0 where
@@ -63,3 +65,10 @@ body_with withdrawn rest = if are_attributes rest.0 then Some (body withdrawn (a
 -- None where a length or an attribute passes the end of what holds it
 abbrev pub body_of : List ℕ → Option Body
 body_of octets = option_and_then (λ first. option_and_then (λ rest. body_with first.0 rest) (long_field first.1)) (long_field octets)
+
+-- an attribute, and a body, that are lent
+abbrev pub lent : Lent → Attribute
+lent given = attribute given.kind given.value.now
+
+abbrev pub lent_body : Fields → Body
+lent_body fields = body fields.withdrawn.now (attributes_of fields.attributes.now) fields.announced.now

@@ -1,9 +1,12 @@
 pub mod Attributes
 pub mod Prefixes
+pub mod Lists
+pub mod Segments
 pub mod Paths
 pub mod Rules
+pub mod Routes
 pub mod Update
-pub mod Reading
-pub mod Writing
+pub mod Texts
 pub mod Writable
-pub mod Sound
+pub mod Write
+pub mod Laws

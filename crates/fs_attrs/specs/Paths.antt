@@ -1,45 +1,13 @@
--- The path attributes of routes (RFC 4271, section 4.3; RFC 4456, section 8; RFC 5065, section 3; RFC 6793, section 4).
-use Rattle.std.specs.Prelude.{ℕ, ◌*◌, ◌==◌, Bool, false, not, ◌&&◌, ◌||◌, nat_le, nat_lt, if◌then◌else◌, List, [], ◌∷◌, length, take, drop, get_or, Option, Some, None, option_and_then, unwrap_or}
+-- The path attributes of routes (RFC 4271, section 4.3; RFC 4456, section 8).
+use Rattle.std.specs.Prelude.{ℕ, ◌==◌, Bool, false, not, ◌&&◌, ◌||◌, nat_le, if◌then◌else◌, List, [], length, get_or, Option, Some, None, option_and_then, unwrap_or}
 use Rattle.std.specs.Option.{is_none, option_map_or}
 use Rattle.std.specs.List.{list_any}
 use Rattle.byteorder.specs.Endian.{big_number}
-use Rattle.fs_base.specs.declared.path.Segment.{Segment}
 use Rattle.fs_base.specs.declared.path.Path.{Path}
-use Rattle.fs_base.specs.Parts.{parts_of}
-use Rattle.fs_actions.specs.Communities.{are_communities}
+use Rattle.fs_actions.specs.Actions.{are_communities}
 use Rattle.fs_attrs.specs.Attributes.{Attribute, value_of}
+use Rattle.fs_attrs.specs.Segments.{segments_of, are_segments, is_confederation}
 use Rattle.fs_attrs.specs.declared.update.Terms.{Terms}
-
--- AS numbers have four octets where the session has four-octet AS numbers, else two
-abbrev pub as_width : Bool → ℕ
-as_width four = if four then 4 else 2
-
--- an AS number, and what follows it
-abbrev pub first_as : Bool → List ℕ → Option (ℕ × List ℕ)
-first_as four octets =
-    if nat_lt (length octets) (as_width four) then None else Some (big_number (as_width four) octets, drop (as_width four) octets)
-
-abbrev pub numbers_of : Bool → List ℕ → List ℕ
-numbers_of four octets = (parts_of (first_as four) octets).0
-
-abbrev pub segment : ℕ → List ℕ → Segment
-segment form numbers = record { form = form; numbers = numbers }
-
--- Form (1 set, 2 sequence, 3 confederation sequence, 4 confederation set), a count above 0, and so many AS numbers.
-abbrev pub first_segment : Bool → List ℕ → Option (Segment × List ℕ)
-first_segment four (form ∷ count ∷ rest) =
-    if ((nat_le 1 form && nat_le form 4) && nat_lt 0 count) && nat_le (count * as_width four) (length rest)
-    then Some (segment form (numbers_of four (take (count * as_width four) rest)), drop (count * as_width four) rest) else None
-first_segment four _ = None
-
-abbrev pub segments_of : Bool → List ℕ → List Segment
-segments_of four octets = (parts_of (first_segment four) octets).0
-
-abbrev pub are_segments : Bool → List ℕ → Bool
-are_segments four octets = length (parts_of (first_segment four) octets).1 == 0
-
-abbrev pub is_confederation : Segment → Bool
-is_confederation segment = nat_le 3 segment.form
 
 -- ORIGIN is one octet 0, 1 or 2.
 abbrev pub origin_wrong : List ℕ → Bool

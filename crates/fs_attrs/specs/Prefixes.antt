@@ -24,3 +24,7 @@ prefixes_of family octets = (parts_of (first_prefix family) octets).0
 
 abbrev pub are_prefixes : Family → List ℕ → Bool
 are_prefixes family octets = length (parts_of (first_prefix family) octets).1 == 0
+
+-- the prefixes of a field, or None where one is malformed
+abbrev pub all_prefixes : Family → List ℕ → Option (List Shown)
+all_prefixes family octets = if are_prefixes family octets then Some (prefixes_of family octets) else None

@@ -1,21 +1,18 @@
--- The updates that can be written, and what is answered where one is.
-use Rattle.std.specs.Prelude.{◌≡◌, ℕ, ◌+◌, ◌<◌, ◌≤◌, ◌==◌, Bool, true, false, not, ◌&&◌, ◌||◌, nat_le, if◌then◌else◌, List, ◌++◌, length, Option, Some, None, Result, Ok, Err}
+-- The updates that can be written.
+use Rattle.std.specs.Prelude.{◌==◌, Bool, true, false, not, ◌&&◌, ◌||◌, nat_le, if◌then◌else◌, List, length, Option, Some, None}
 use Rattle.std.specs.List.{list_all}
 use Rattle.std.specs.Option.{is_some, is_none}
-use Rattle.fs_base.specs.declared.path.Segment.{Segment}
 use Rattle.fs_base.specs.declared.path.Path.{Path}
 use Rattle.fs_base.specs.declared.prefix.Family.{Family}
 use Rattle.fs_base.specs.declared.prefix.Family.TheVariants.{V4, V6}
 use Rattle.fs_base.specs.Bits.{afi_of}
 use Rattle.fs_nlri.specs.Parts.{Ruled}
-use Rattle.fs_message.specs.Stream.{message_text}
 use Rattle.fs_attrs.specs.declared.update.Terms.{Terms}
 use Rattle.fs_attrs.specs.declared.update.Routes.{Routes}
 use Rattle.fs_attrs.specs.declared.update.Routes.TheVariants.{Unicast, Flow}
 use Rattle.fs_attrs.specs.declared.update.Update.{Update}
-use Rattle.fs_attrs.specs.declared.update.WriteFault.{WriteFault}
-use Rattle.fs_attrs.specs.declared.update.WriteFault.TheVariants.{TooLong, Memory}
 use Rattle.fs_attrs.specs.Prefixes.{Shown}
+use Rattle.fs_attrs.specs.Segments.{is_written_segment}
 
 abbrev pub are_prefixes_of : Family → List Shown → Bool
 are_prefixes_of family prefixes = list_all (λ prefix. afi_of prefix.0 == afi_of family) prefixes
@@ -32,12 +29,6 @@ are_attribute_routes (Flow family rules) = not (length rules == 0) && are_rules_
 abbrev pub if_routes : Option Routes → Bool
 if_routes (Some routes) = are_attribute_routes routes
 if_routes None = true
-
--- One to 255 numbers, in a set or a sequence; only internal peers are told segments of a confederation.
-abbrev pub is_written_segment : Bool → Segment → Bool
-is_written_segment external segment =
-    ((nat_le 1 (length segment.numbers) && nat_le (length segment.numbers) 255) && nat_le 1 segment.form)
-    && nat_le segment.form (if external then 2 else 4)
 
 -- An external peer is told no LOCAL_PREF and no ORIGINATOR_ID.
 abbrev pub is_path_of_session : Terms → Path → Bool
@@ -61,9 +52,3 @@ abbrev pub is_writable : Terms → Update → Bool
 is_writable terms update =
     ((((not update.as_withdraw && are_prefixes_of V4 update.classic_out) && are_prefixes_of V4 update.classic_in)
     && if_routes update.reach) && if_routes update.unreach) && has_its_path terms update update.path
-
--- The message that has this body is appended; or it would pass 4096 octets, or memory is wanting, and nothing is.
-abbrev pub Writes : Result (Unit {0}) WriteFault → List ℕ → List ℕ → List ℕ → Type 0
-Writes (Ok _) body old new = (19 + length body ≤ 4096) × (new ≡ old ++ message_text 2 body)
-Writes (Err TooLong) body old new = (4096 < 19 + length body) × (new ≡ old)
-Writes (Err Memory) body old new = new ≡ old

@@ -1,18 +1,19 @@
 //! The bodies of UPDATE messages (RFC 4271, RFC 4760, RFC 7606, RFC 8955, RFC 8956).
 #![tactic(auto)]
 
-mod body;
+mod attributes;
+mod laws;
 mod lists;
-mod path;
+mod paths;
 mod prefixes;
-mod read;
 mod routes;
+mod segments;
 mod texts;
 mod update;
 mod writable;
 mod write;
 
+pub use laws::rules_are_the_outcome;
 pub use lists::{PrefixList, RuleList};
-pub use read::read_update;
-pub use update::{Routes, Terms, Update, UpdateFault, WriteFault};
+pub use update::{Routes, Terms, Update, UpdateFault, WriteFault, read_update};
 pub use write::write_update;

@@ -25,7 +25,7 @@ impl Model for PrefixList {
 
 impl PrefixList {
     ghost use Rattle.std.specs.Prelude.{All};
-    ghost use Rattle.fs_attrs.specs.Sound.{IsPrefix};
+    ghost use Rattle.fs_attrs.specs.Lists.{IsPrefix};
 
     /// The list of these prefixes, in their order.
     pub fn new(items: Vec<Prefix>) -> PrefixList

@@ -3,7 +3,7 @@
 ghost use Rattle.std.specs.Prelude.{◌≡◌, ◌==◌, ◌+◌, ◌-◌, ◌*◌, ◌^◌, ◌≤◌, length, map, Some, None, if◌then◌else◌, option_map, IfOk};
 ghost use Rattle.byteorder.specs.Endian.{big_number};
 ghost use Rattle.fs_nlri.specs.Rule.{shown};
-ghost use Rattle.fs_attrs.specs.Prefixes.{first_prefix, are_prefixes, prefixes_of};
+ghost use Rattle.fs_attrs.specs.Prefixes.{first_prefix, all_prefixes};
 
 use crate::lists::PrefixList;
 use byteorder::{BigEndian, ByteOrder};
@@ -16,7 +16,7 @@ pub(crate) fn read_prefixes(
     family: Family,
     octets: &[u8],
 ) -> Result<Option<PrefixList>, Memory>
-    ensures { IfOk result (λ found. found ≡ (if are_prefixes family octets.now then Some (prefixes_of family octets.now) else None)) }
+    ensures { IfOk result (λ found. found ≡ all_prefixes family octets.now) }
 {
     let mut prefixes = Vec::new(alloc);
     let mut rest = octets;
@@ -46,7 +46,7 @@ fn next_prefix(family: Family, octets: &[u8]) -> Option<(Prefix, &[u8])>
         return None;
     }
     let (bits, behind) = rest.split_at_checked((usize::from(*length) + 7) / 8)?;
-    let prefix = Prefix::new(family, left_aligned(bits, family.width()), *length)?;
+    let prefix = Prefix::of_bits(family, left_aligned(bits, family.width()), *length);
     Some((prefix, behind))
 }
 

@@ -3,11 +3,9 @@
 ghost use Rattle.std.specs.Prelude.{◌≡◌, IfOk, IfErr};
 ghost use Rattle.fs_nlri.specs.Feed.{Frames};
 ghost use Rattle.fs_attrs.specs.Attributes.{attributes_of, value_of};
-ghost use Rattle.fs_attrs.specs.Update.{unicast_routes, flow_routes, routes_of, is_read, reach_of, unreach_of, if_there, optional_of, has_routes};
-ghost use Rattle.fs_attrs.specs.Reading.{ReadsAs, field_fault};
-ghost use Rattle.fs_attrs.specs.Rules.{IsFieldFault};
+ghost use Rattle.fs_attrs.specs.Routes.{unicast_routes, flow_routes, routes_of, is_read, reach_of, unreach_of, if_there, optional_of, has_routes, ReadsAs, field_fault, IsFieldFault};
 
-use crate::body::{MP_REACH, MP_UNREACH, is_before, value};
+use crate::attributes::{MP_REACH, MP_UNREACH, is_before, value};
 use crate::lists::RuleList;
 use crate::prefixes::read_prefixes;
 use crate::update::{Routes, UpdateFault};

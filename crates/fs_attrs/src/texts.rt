@@ -1,4 +1,4 @@
-//! What is written of routes, segments and attributes.
+//! The texts of fields, attributes, next hops, prefixes and rules.
 
 ghost use Rattle.std.specs.Prelude.{◌≡◌, ◌+◌, ◌-◌, ◌*◌, ◌^◌, ◌<◌, ◌≤◌, ◌++◌, [], ◌∷◌, length, map, flat_map, All, OnOk};
 ghost use Rattle.byteorder.specs.Endian.{big_bytes};
@@ -7,13 +7,13 @@ ghost use Rattle.fs_base.specs.declared.prefix.Family.TheVariants.{V4};
 ghost use Rattle.fs_nlri.specs.Spelling.{octets_for};
 ghost use Rattle.fs_nlri.specs.Rule.{IsRule, shown, first_octets};
 ghost use Rattle.fs_attrs.specs.Attributes.{attribute};
-ghost use Rattle.fs_attrs.specs.Sound.{AreNumbers};
-ghost use Rattle.fs_attrs.specs.Writing.{long_text, prefix_text, prefixes_text, rules_text, as_text, segment_text, segments_text, flags_of, attribute_text, next_hop};
+ghost use Rattle.fs_attrs.specs.Texts.{long_text, prefix_text, prefixes_text, rules_text, flags_of, attribute_text, next_hop, AddsAttributes};
 
-use crate::body::{EXTENDED_COMMUNITIES, EXTENDED_LENGTH, MP_REACH, MP_UNREACH, ORIGINATOR_ID};
+use crate::attributes::{
+    EXTENDED_COMMUNITIES, EXTENDED_LENGTH, MP_REACH, MP_UNREACH, ORIGINATOR_ID,
+};
 use byteorder::{BigEndian, ByteOrder};
-use fs_base::{Address, Family, Memory, Prefix, Segment};
-use fs_message::as_in_two;
+use fs_base::{Address, Family, Memory, Prefix};
 use fs_nlri::{Rule, encode};
 
 /// The flags of attributes: well-known ones are transitive (RFC 4271, section 4.3).
@@ -23,7 +23,7 @@ const TRANSITIVE: u8 = 0x40;
 
 /// Appends an attribute; a value of more than 255 octets has its length in two octets.
 pub(crate) fn append_attribute(kind: u8, value: &[u8], out: &mut Vec<u8>) -> Result<(), Memory>
-    ensures { OnOk result (out.new.items ≡ out.old.items ++ flat_map attribute_text (attribute kind value.now ∷ [])) }
+    ensures { AddsAttributes result out.old.items out.new.items (attribute kind value.now ∷ []) }
 {
     if value.len() > 255 {
         out.extend_from_slice(&[flags(kind) | EXTENDED_LENGTH, kind])?;
@@ -63,7 +63,7 @@ pub(crate) fn append_u16(number: u16, out: &mut Vec<u8>) -> Result<(), Memory>
     Ok(())
 }
 
-fn append_u32(number: u32, out: &mut Vec<u8>) -> Result<(), Memory>
+pub(crate) fn append_u32(number: u32, out: &mut Vec<u8>) -> Result<(), Memory>
     ensures { OnOk result (out.new.items ≡ out.old.items ++ big_bytes 4 number) }
 {
     out.extend_from_slice(&octets_of(number))?;
@@ -161,49 +161,4 @@ pub(crate) fn append_rules(rules: &[Rule], out: &mut Vec<u8>) -> Result<(), Memo
         encode(rule, out)?;
     }
     Ok(())
-}
-
-/// Appends the segments of an AS_PATH.
-pub(crate) fn append_segments(
-    segments: &[Segment],
-    four: bool,
-    out: &mut Vec<u8>,
-) -> Result<(), Memory>
-    requires { All (λ segment. length segment.numbers ≤ 255) segments.now }
-    ensures appended { OnOk result (out.new.items ≡ out.old.items ++ segments_text four segments.now) }
-    ensures sound { OnOk result (All AreNumbers segments.now) }
-{
-    for segment in segments {
-        append_segment(segment, four, out)?;
-    }
-    Ok(())
-}
-
-fn append_segment(segment: &Segment, four: bool, out: &mut Vec<u8>) -> Result<(), Memory>
-    requires { length segment.now.numbers ≤ 255 }
-    ensures appended { OnOk result (out.new.items ≡ out.old.items ++ segment_text four segment.now) }
-    ensures sound { OnOk result (AreNumbers segment.now) }
-{
-    let numbers = segment.numbers.as_slice();
-    out.extend_from_slice(&[segment.form, numbers.len() as u8])?;
-    append_numbers(numbers, four, out)
-}
-
-fn append_numbers(numbers: &[u32], four: bool, out: &mut Vec<u8>) -> Result<(), Memory>
-    ensures appended { OnOk result (out.new.items ≡ out.old.items ++ flat_map (as_text four) numbers.now) }
-    ensures sound { OnOk result (All (λ asn. asn < 2 ^ 32) numbers.now) }
-{
-    for number in numbers {
-        append_as(*number, four, out)?;
-    }
-    Ok(())
-}
-
-fn append_as(asn: u32, four: bool, out: &mut Vec<u8>) -> Result<(), Memory>
-    ensures { OnOk result (out.new.items ≡ out.old.items ++ as_text four asn) }
-{
-    if four {
-        return append_u32(asn, out);
-    }
-    append_u16(as_in_two(asn), out)
 }

@@ -1,10 +1,20 @@
-//! What an UPDATE says, and on what terms it is read or written.
+//! What an UPDATE says, and reading its body.
 
+ghost use Rattle.std.specs.Prelude.{◌≡◌, false, IfOk, not};
+ghost use Rattle.fs_actions.specs.Actions.{actions_of, are_communities};
+ghost use Rattle.fs_attrs.specs.Attributes.{attributes_of};
+ghost use Rattle.fs_attrs.specs.Paths.{is_wrong, withdraws};
+ghost use Rattle.fs_attrs.specs.Update.{communities_in, given_path, given_actions, update_of, Reads};
+
+use crate::attributes::{EXTENDED_COMMUNITIES, MP_REACH, MP_UNREACH, is_twice, split, value};
 use crate::lists::{PrefixList, RuleList};
-use fs_actions::Actions;
+use crate::paths::{is_withdrawal, read_path};
+use crate::prefixes::read_prefixes;
+use crate::routes::{are_given, read_optional};
+use fs_actions::{ActionFault, Actions, from_communities};
 use fs_base::{Address, Family, Memory, Path};
 use fs_nlri::Reason;
-use std::alloc::{AllocError, AllocFailed};
+use std::alloc::{AllocError, AllocFailed, Global};
 
 /// The session that an UPDATE belongs to: whether the peer is external, whether AS numbers in AS_PATH have
 /// four octets (RFC 6793), and the address of the sender, for next hops that are written.
@@ -82,5 +92,74 @@ impl From<Memory> for WriteFault {
 
     fn from(_error: fs_base::Memory) -> WriteFault {
         WriteFault::Memory
+    }
+}
+
+/// Reads an UPDATE's body. The faults are judged in this order: 3/1 a length or an attribute passes its end,
+/// or MP_REACH_NLRI or MP_UNREACH_NLRI stands twice; 3/10 a malformed prefix in the withdrawn routes or in the
+/// last field; 3/9 a malformed MP_REACH_NLRI or MP_UNREACH_NLRI, as they stand. Other malformed attributes
+/// have the given routes withdrawn (RFC 7606).
+pub fn read_update(alloc: Global, body: &[u8], terms: &Terms) -> Result<Update, UpdateFault>
+    ensures { Reads result (update_of terms.now body.now) }
+{
+    let Some(fields) = split(body) else {
+        return Err(UpdateFault::List);
+    };
+    if is_twice(fields.attributes, MP_REACH) || is_twice(fields.attributes, MP_UNREACH) {
+        return Err(UpdateFault::List);
+    }
+    let Some(classic_out) = read_prefixes(alloc, Family::V4, fields.withdrawn)? else {
+        return Err(UpdateFault::Network);
+    };
+    let Some(classic_in) = read_prefixes(alloc, Family::V4, fields.announced)? else {
+        return Err(UpdateFault::Network);
+    };
+    let (reach, unreach) = read_optional(alloc, fields.attributes)?;
+    let gives = are_given(&reach) || !classic_in.is_empty();
+    let as_withdraw = is_withdrawal(fields.attributes, terms, gives);
+    let (path, actions) = read_given(alloc, fields.attributes, terms, gives, as_withdraw)?;
+    Ok(Update {
+        classic_out,
+        unreach,
+        reach,
+        classic_in,
+        path,
+        actions,
+        as_withdraw,
+    })
+}
+
+/// The path and the actions of what is given, if anything is.
+fn read_given(
+    alloc: Global,
+    attributes: &[u8],
+    terms: &Terms,
+    gives: bool,
+    as_withdraw: bool,
+) -> Result<(Option<Path>, Actions), Memory>
+    requires { as_withdraw ≡ withdraws terms.now (attributes_of attributes.now) gives }
+    ensures path { IfOk result (λ got. got.0 ≡ given_path terms.now (attributes_of attributes.now) gives as_withdraw) }
+    ensures actions { IfOk result (λ got. got.1 ≡ given_actions (attributes_of attributes.now) gives as_withdraw) }
+{
+    if gives && !as_withdraw {
+        let path = read_path(alloc, attributes, terms)?;
+        let actions = read_actions(alloc, attributes)?;
+        return Ok((Some(path), actions));
+    }
+    Ok((None, Actions::none(alloc)))
+}
+
+/// The actions of the extended communities.
+fn read_actions(alloc: Global, attributes: &[u8]) -> Result<Actions, Memory>
+    requires { is_wrong (λ value. not (are_communities value)) 16 (attributes_of attributes.now) ≡ false }
+    ensures { IfOk result (λ actions. actions ≡ actions_of (communities_in (attributes_of attributes.now))) }
+{
+    let Some(value) = value(attributes, EXTENDED_COMMUNITIES) else {
+        return Ok(Actions::none(alloc));
+    };
+    match from_communities(alloc, value) {
+        Ok(actions) => Ok(actions),
+        Err(ActionFault::Memory) => Err(Memory),
+        Err(ActionFault::BadLength) => unreachable!(),
     }
 }

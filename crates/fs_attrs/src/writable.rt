@@ -3,9 +3,11 @@
 ghost use Rattle.std.specs.Prelude.{◌≡◌, ◌==◌};
 ghost use Rattle.std.specs.List.{list_all};
 ghost use Rattle.fs_base.specs.Bits.{afi_of};
-ghost use Rattle.fs_attrs.specs.Writable.{are_prefixes_of, are_rules_of, are_attribute_routes, if_routes, is_written_segment, is_path_of_session, is_written_path, announces, has_its_path, is_writable};
+ghost use Rattle.fs_attrs.specs.Writable.{are_prefixes_of, are_rules_of, are_attribute_routes, if_routes, is_path_of_session, is_written_path, announces, has_its_path, is_writable};
+ghost use Rattle.fs_attrs.specs.Segments.{is_written_segment};
 
 use crate::lists::{PrefixList, RuleList};
+use crate::segments::is_written;
 use crate::update::{Routes, Terms, Update};
 use fs_base::{Family, Path, Prefix, Segment};
 
@@ -79,7 +81,7 @@ fn is_path(path: &Path, terms: &Terms) -> bool
 fn are_segments(segments: &[Segment], external: bool) -> bool
     ensures { result ≡ list_all (is_written_segment external) segments.now }
 {
-    segments.iter().all(|segment| is_segment(segment, external))
+    segments.iter().all(|segment| is_written(segment, external))
 }
 
 fn is_of_session(path: &Path, terms: &Terms) -> bool
@@ -89,12 +91,4 @@ fn is_of_session(path: &Path, terms: &Terms) -> bool
         return path.external && path.local_pref == 100 && path.originator.is_none();
     }
     !path.external
-}
-
-fn is_segment(segment: &Segment, external: bool) -> bool
-    ensures { result ≡ is_written_segment external segment.now }
-{
-    let count = segment.numbers.as_slice().len();
-    let highest = if external { 2 } else { 4 };
-    1 <= count && count <= 255 && 1 <= segment.form && segment.form <= highest
 }

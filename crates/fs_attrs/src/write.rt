@@ -4,20 +4,22 @@ ghost use Rattle.std.specs.Prelude.{◌≡◌, ◌^◌, ◌<◌, ◌≤◌, ◌+
 ghost use Rattle.byteorder.specs.Endian.{big_bytes};
 ghost use Rattle.fs_base.specs.Language.{IsOctets};
 ghost use Rattle.fs_attrs.specs.Attributes.{attribute};
-ghost use Rattle.fs_attrs.specs.Writing.{segments_text, hop_of, family_of, routes_text, reach_text, unreach_text, attribute_text, reach_in, unreach_in, next_hop_in, local_pref_in, originator_in, actions_in, path_in, written_attributes, update_text};
-ghost use Rattle.fs_attrs.specs.Writable.{is_writable, is_written_path, has_its_path, Writes};
-ghost use Rattle.fs_attrs.specs.Sound.{AreRoutes, IfRoutes, AreNumbers, IsPath, IsSound, ReadsBack};
+ghost use Rattle.fs_attrs.specs.Segments.{segments_text, AreNumbers};
+ghost use Rattle.fs_attrs.specs.Write.{as_path_in, hop_field, hop_of, family_of, routes_text, reach_text, unreach_text, reach_in, unreach_in, next_hop_in, local_pref_in, originator_in, actions_in, path_in, written_attributes, update_text, Writes, AreRoutes, IfRoutes, IsPath, IsSound, ReadsBack};
+ghost use Rattle.fs_attrs.specs.Texts.{attribute_text, AddsAttributes};
+ghost use Rattle.fs_attrs.specs.Writable.{is_writable, is_written_path, has_its_path};
 ghost use Rattle.fs_actions.specs.Actions.{IsActions};
 
-use crate::body::{
+use crate::attributes::{
     AS_PATH, EXTENDED_COMMUNITIES, LOCAL_PREF, MP_REACH, MP_UNREACH, NEXT_HOP, ORIGIN,
     ORIGINATOR_ID,
 };
 use crate::lists::PrefixList;
 use crate::routes::{FLOW, UNICAST};
+use crate::segments::append_segments;
 use crate::texts::{
-    append_attribute, append_long, append_next_hop, append_prefixes, append_rules, append_segments,
-    append_u16, octets_of, v4_next_hop,
+    append_attribute, append_long, append_next_hop, append_prefixes, append_rules, append_u16,
+    octets_of, v4_next_hop,
 };
 use crate::update::{Routes, Terms, Update, WriteFault};
 use fs_actions::Actions;
@@ -70,7 +72,7 @@ fn append_body(update: &Update, terms: &Terms, out: &mut Vec<u8>) -> Result<(), 
 
 fn append_attributes(update: &Update, terms: &Terms, out: &mut Vec<u8>) -> Result<(), Memory>
     requires { IsTrue (has_its_path terms.now update.now update.now.path) }
-    ensures appended { OnOk result (out.new.items ≡ out.old.items ++ flat_map attribute_text (written_attributes terms.now update.now)) }
+    ensures appended { AddsAttributes result out.old.items out.new.items (written_attributes terms.now update.now) }
     ensures reach { OnOk result (IfRoutes update.now.reach) }
     ensures unreach { OnOk result (IfRoutes update.now.unreach) }
     ensures path { OnOk result (IfSome update.now.path (IsPath update.now.actions)) }
@@ -84,7 +86,7 @@ fn append_attributes(update: &Update, terms: &Terms, out: &mut Vec<u8>) -> Resul
 }
 
 fn append_reach(reach: &Option<Routes>, terms: &Terms, out: &mut Vec<u8>) -> Result<(), Memory>
-    ensures appended { OnOk result (out.new.items ≡ out.old.items ++ flat_map attribute_text (reach_in terms.now reach.now)) }
+    ensures appended { AddsAttributes result out.old.items out.new.items (reach_in terms.now reach.now) }
     ensures sound { OnOk result (IfRoutes reach.now) }
 {
     let Some(routes) = reach else {
@@ -107,7 +109,7 @@ fn append_reached(routes: &Routes, address: Address, out: &mut Vec<u8>) -> Resul
 }
 
 fn append_unreach(unreach: &Option<Routes>, out: &mut Vec<u8>) -> Result<(), Memory>
-    ensures appended { OnOk result (out.new.items ≡ out.old.items ++ flat_map attribute_text (unreach_in unreach.now)) }
+    ensures appended { AddsAttributes result out.old.items out.new.items (unreach_in unreach.now) }
     ensures sound { OnOk result (IfRoutes unreach.now) }
 {
     let Some(routes) = unreach else {
@@ -134,7 +136,7 @@ fn append_family(routes: &Routes, out: &mut Vec<u8>) -> Result<(), Memory>
 
 /// Appends the next hop behind its length; of flow routes there is none (RFC 8955, section 4).
 fn append_hop(routes: &Routes, address: Address, out: &mut Vec<u8>) -> Result<(), Memory>
-    ensures { OnOk result (out.new.items ≡ out.old.items ++ (length (hop_of address routes.now) ∷ hop_of address routes.now)) }
+    ensures { OnOk result (out.new.items ≡ out.old.items ++ hop_field address routes.now) }
 {
     match routes {
         Routes::Unicast(family, _) => {
@@ -161,7 +163,8 @@ fn append_routes(routes: &Routes, out: &mut Vec<u8>) -> Result<(), Memory>
 /// Appends the attributes of what is announced.
 fn append_path(path: &Path, update: &Update, terms: &Terms, out: &mut Vec<u8>) -> Result<(), Memory>
     requires { IsTrue (is_written_path terms.now path.now) }
-    ensures appended { OnOk result (out.new.items ≡ out.old.items ++ flat_map attribute_text (path_in terms.now update.now (Some path.now))) }
+    ensures appended { AddsAttributes result out.old.items out.new.items
+        (path_in terms.now update.now (Some path.now)) }
     ensures sound { OnOk result (IsPath update.now.actions path.now) }
 {
     append_attribute(ORIGIN, &[path.origin], out)?;
@@ -174,7 +177,7 @@ fn append_path(path: &Path, update: &Update, terms: &Terms, out: &mut Vec<u8>) -
 
 fn append_as_path(segments: &[Segment], terms: &Terms, out: &mut Vec<u8>) -> Result<(), Memory>
     requires { All (λ segment. length segment.numbers ≤ 255) segments.now }
-    ensures appended { OnOk result (out.new.items ≡ out.old.items ++ flat_map attribute_text (attribute 2 (segments_text terms.now.four segments.now) ∷ [])) }
+    ensures appended { AddsAttributes result out.old.items out.new.items (as_path_in terms.now segments.now) }
     ensures sound { OnOk result (All AreNumbers segments.now) }
 {
     let mut value = Vec::new(*out.allocator());
@@ -188,7 +191,7 @@ fn append_hop_of_classic(
     terms: &Terms,
     out: &mut Vec<u8>,
 ) -> Result<(), Memory>
-    ensures { OnOk result (out.new.items ≡ out.old.items ++ flat_map attribute_text (next_hop_in terms.now announced.now)) }
+    ensures { AddsAttributes result out.old.items out.new.items (next_hop_in terms.now announced.now) }
 {
     if announced.is_empty() {
         return Ok(());
@@ -198,7 +201,7 @@ fn append_hop_of_classic(
 
 /// Appends LOCAL_PREF to an internal peer.
 fn append_local_pref(local_pref: u32, terms: &Terms, out: &mut Vec<u8>) -> Result<(), Memory>
-    ensures appended { OnOk result (out.new.items ≡ out.old.items ++ flat_map attribute_text (local_pref_in terms.now local_pref)) }
+    ensures appended { AddsAttributes result out.old.items out.new.items (local_pref_in terms.now local_pref) }
     ensures sound { OnOk result (local_pref < 2 ^ 32) }
 {
     if terms.external {
@@ -208,7 +211,7 @@ fn append_local_pref(local_pref: u32, terms: &Terms, out: &mut Vec<u8>) -> Resul
 }
 
 fn append_originator(originator: Option<u32>, out: &mut Vec<u8>) -> Result<(), Memory>
-    ensures appended { OnOk result (out.new.items ≡ out.old.items ++ flat_map attribute_text (originator_in originator)) }
+    ensures appended { AddsAttributes result out.old.items out.new.items (originator_in originator) }
     ensures sound { OnOk result (IfSome originator (λ id. id < 2 ^ 32)) }
 {
     match originator {
@@ -219,14 +222,14 @@ fn append_originator(originator: Option<u32>, out: &mut Vec<u8>) -> Result<(), M
 
 /// Appends an attribute of four octets.
 fn append_number(kind: u8, number: u32, out: &mut Vec<u8>) -> Result<(), Memory>
-    ensures { OnOk result (out.new.items ≡ out.old.items ++ flat_map attribute_text (attribute kind (big_bytes 4 number) ∷ [])) }
+    ensures { AddsAttributes result out.old.items out.new.items (attribute kind (big_bytes 4 number) ∷ []) }
 {
     append_attribute(kind, &octets_of(number), out)
 }
 
 /// Appends the actions, if there are any, as extended communities.
 fn append_actions(actions: &Actions, out: &mut Vec<u8>) -> Result<(), Memory>
-    ensures appended { OnOk result (out.new.items ≡ out.old.items ++ flat_map attribute_text (actions_in actions.now)) }
+    ensures appended { AddsAttributes result out.old.items out.new.items (actions_in actions.now) }
     ensures sound { OnOk result (IsActions actions.now) }
 {
     if actions.as_slice().is_empty() {

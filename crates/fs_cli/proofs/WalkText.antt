@@ -5,7 +5,7 @@ use Rattle.std.proofs.Math.Seq.{get_or-append_seam}
 use Rattle.std.proofs.lemmas.List.Elements.{All-from_recursion}
 use Rattle.std.proofs.lemmas.List.{length-map}
 use Rattle.std.proofs.Math.Nat.{le_refl}
-use Rattle.fs_actions.specs.Actions.{has_flag}
+use Rattle.fs_actions.specs.Community.{has_flag}
 use Rattle.fs_line.specs.Line.{rules_at}
 use Rattle.fs_packet.specs.Fields.{Viewed}
 use Rattle.fs_packet.specs.Matches.{is_match}

@@ -2,7 +2,7 @@
 use Rattle.std.specs.Prelude.{◌≡◌, ◌+◌, ℕ, List, [], ◌∷◌, map, if◌then◌else◌}
 use Rattle.std.specs.List.{list_any}
 use Rattle.fs_base.specs.declared.prefix.Family.{Family}
-use Rattle.fs_actions.specs.Actions.{has_flag}
+use Rattle.fs_actions.specs.Community.{has_flag}
 use Rattle.fs_packet.specs.Fields.{Viewed}
 use Rattle.fs_packet.specs.Matches.{is_match}
 use Rattle.fs_rules.specs.Held.{Held}

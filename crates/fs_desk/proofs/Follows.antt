@@ -3,13 +3,13 @@ use Rattle.std.proofs.Common.{◌≡◌, ℕ, List, [], ◌∷◌, ◌++◌, len
 use Rattle.std.proofs.lemmas.List.{drop_all}
 use Rattle.fs_base.specs.declared.config.Config.{Config}
 use Rattle.fs_base.specs.declared.config.Peer.{Peer}
-use Rattle.fs_message.specs.Framing.{framing, pending}
+use Rattle.fs_message.specs.Deframer.{framing, pending}
 use Rattle.fs_attrs.specs.declared.update.Update.{Update}
 use Rattle.fs_speaker.specs.declared.state.Closed.{Closed}
-use Rattle.fs_speaker.specs.Session.{Standing, at_start, Last, still, closed, with_update, session_from}
-use Rattle.fs_speaker.specs.Steps.{Live, live, Step, waits, takes, stops, step_of, Does, step_with}
+use Rattle.fs_speaker.specs.Transition.{Phase}
+use Rattle.fs_speaker.specs.Session.{at_start, Last, still, closed, with_update, session_from, Live, live, Step, waits, takes, stops, step_of, Does, step_with}
 use Rattle.fs_desk.specs.Receive.{with_updates, Follows, IsOver}
-use Rattle.fs_speaker.proofs.Joined.{session_takes, session_stops, session_waits}
+use Rattle.fs_speaker.proofs.SessionSteps.{session_takes, session_stops, session_waits}
 
 -- an update that a call answered, as a list
 abbrev as_list : Option Update → List Update
@@ -37,7 +37,7 @@ follows_piece config peer octets piece session updates f = record {
 }
 
 -- the octets in hand come to nothing more
-pub nothing_waits : (config : Config) (peer : Peer) (now : Standing) → step_of config peer now [] ≡ waits
+pub nothing_waits : (config : Config) (peer : Peer) (now : Phase) → step_of config peer now [] ≡ waits
 nothing_waits config peer now = refl
 
 -- of the whole list nothing is left
@@ -47,39 +47,39 @@ all_gone octets count h = drop_all count octets (omega (arith, h))
 module _ (config : Config) (peer : Peer) (octets rest : List ℕ) (old new : Live) (updates : List Update) (count : ℕ) (update : Option Update) where
   -- what one step makes of the record
   by_step : Follows config peer octets rest old updates → new.closed ≡ None → new.config ≡ config → new.peer ≡ peer
-      → (step : Step) → step_of config peer old.standing (pending old.framing ++ rest) ≡ step → Does step old new rest count update
+      → (step : Step) → step_of config peer old.phase (pending old.framing ++ rest) ≡ step → Does step old new rest count update
       → Follows config peer octets (drop count rest) new (updates ++ as_list update)
   by_step f alive c p waits h did = record {
     alive = alive;
     config_is = c;
     peer_is = p;
     waiting =
-        ap (λ (z : List ℕ). step_of config peer new.standing z) did.1
-        ∙ ap (λ (s : Standing). step_of config peer s (pending old.framing ++ rest)) did.2
+        ap (λ (z : List ℕ). step_of config peer new.phase z) did.1
+        ∙ ap (λ (s : Phase). step_of config peer s (pending old.framing ++ rest)) did.2
         ∙ h;
     goes = λ more.
         f.goes more
-        ∙ ap (λ (z : List ℕ). with_updates updates (session_from config peer old.standing z)) (sym (append_assoc (pending old.framing) rest more))
-        ∙ ap (λ (z : List ℕ). with_updates updates (session_from config peer old.standing (z ++ more))) (sym did.1)
-        ∙ ap (λ (s : Standing). with_updates updates (session_from config peer s (pending new.framing ++ more))) (sym did.2)
-        ∙ ap (λ (z : List ℕ). with_updates updates (session_from config peer new.standing (pending new.framing ++ (z ++ more)))) (sym (all_gone rest count did.0))
-        ∙ ap (λ (u : List Update). with_updates u (session_from config peer new.standing (pending new.framing ++ (drop count rest ++ more)))) (sym (append-nil updates))
-        ∙ ap (λ (o : Option Update). with_updates (updates ++ as_list o) (session_from config peer new.standing (pending new.framing ++ (drop count rest ++ more)))) (sym did.3);
+        ∙ ap (λ (z : List ℕ). with_updates updates (session_from config peer old.phase z)) (sym (append_assoc (pending old.framing) rest more))
+        ∙ ap (λ (z : List ℕ). with_updates updates (session_from config peer old.phase (z ++ more))) (sym did.1)
+        ∙ ap (λ (s : Phase). with_updates updates (session_from config peer s (pending new.framing ++ more))) (sym did.2)
+        ∙ ap (λ (z : List ℕ). with_updates updates (session_from config peer new.phase (pending new.framing ++ (z ++ more)))) (sym (all_gone rest count did.0))
+        ∙ ap (λ (u : List Update). with_updates u (session_from config peer new.phase (pending new.framing ++ (drop count rest ++ more)))) (sym (append-nil updates))
+        ∙ ap (λ (o : Option Update). with_updates (updates ++ as_list o) (session_from config peer new.phase (pending new.framing ++ (drop count rest ++ more)))) (sym did.3);
   }
   by_step f alive c p (takes next taken behind) h did = record {
     alive = alive;
     config_is = c;
     peer_is = p;
-    waiting = ap (λ (z : List ℕ). step_of config peer new.standing z) did.2;
+    waiting = ap (λ (z : List ℕ). step_of config peer new.phase z) did.2;
     goes = λ more.
         f.goes more
-        ∙ ap (λ (z : List ℕ). with_updates updates (session_from config peer old.standing z)) (sym (append_assoc (pending old.framing) rest more))
-        ∙ ap (λ (r : List Update × Last). with_updates updates r) (session_takes config peer old.standing next taken (pending old.framing ++ rest) behind more h)
+        ∙ ap (λ (z : List ℕ). with_updates updates (session_from config peer old.phase z)) (sym (append_assoc (pending old.framing) rest more))
+        ∙ ap (λ (r : List Update × Last). with_updates updates r) (session_takes config peer old.phase next taken (pending old.framing ++ rest) behind more h)
         ∙ one_more updates taken (session_from config peer next (behind ++ more))
         ∙ ap (λ (o : Option Update). with_updates (updates ++ as_list o) (session_from config peer next (behind ++ more))) (sym did.4)
-        ∙ ap (λ (s : Standing). with_updates (updates ++ as_list update) (session_from config peer s (behind ++ more))) (sym did.3)
-        ∙ ap (λ (z : List ℕ). with_updates (updates ++ as_list update) (session_from config peer new.standing (z ++ more))) did.1
-        ∙ ap (λ (z : List ℕ). with_updates (updates ++ as_list update) (session_from config peer new.standing (z ++ (drop count rest ++ more)))) (sym did.2);
+        ∙ ap (λ (s : Phase). with_updates (updates ++ as_list update) (session_from config peer s (behind ++ more))) (sym did.3)
+        ∙ ap (λ (z : List ℕ). with_updates (updates ++ as_list update) (session_from config peer new.phase (z ++ more))) did.1
+        ∙ ap (λ (z : List ℕ). with_updates (updates ++ as_list update) (session_from config peer new.phase (z ++ (drop count rest ++ more)))) (sym did.2);
   }
   by_step f alive c p (stops why) h did = absurd did
 
@@ -88,11 +88,11 @@ module _ (config : Config) (peer : Peer) (octets rest : List ℕ) (old new : Liv
       → Does (step_with old rest) old new rest count update
       → Follows config peer octets (drop count rest) new (updates ++ as_list update)
   follows_fed f alive c p did =
-      let with_config : Does (step_of config old.peer old.standing (pending old.framing ++ rest)) old new rest count update =
-      subst (λ (d : Config). Does (step_of d old.peer old.standing (pending old.framing ++ rest)) old new rest count update) f.config_is did in
-      let with_peer : Does (step_of config peer old.standing (pending old.framing ++ rest)) old new rest count update =
-      subst (λ (q : Peer). Does (step_of config q old.standing (pending old.framing ++ rest)) old new rest count update) f.peer_is with_config in
-      by_step f alive (c ∙ f.config_is) (p ∙ f.peer_is) (step_of config peer old.standing (pending old.framing ++ rest)) refl with_peer
+      let with_config : Does (step_of config old.peer old.phase (pending old.framing ++ rest)) old new rest count update =
+      subst (λ (d : Config). Does (step_of d old.peer old.phase (pending old.framing ++ rest)) old new rest count update) f.config_is did in
+      let with_peer : Does (step_of config peer old.phase (pending old.framing ++ rest)) old new rest count update =
+      subst (λ (q : Peer). Does (step_of config q old.phase (pending old.framing ++ rest)) old new rest count update) f.peer_is with_config in
+      by_step f alive (c ∙ f.config_is) (p ∙ f.peer_is) (step_of config peer old.phase (pending old.framing ++ rest)) refl with_peer
 
 pub over_more : (config : Config) (peer : Peer) (octets piece : List ℕ) (why : Closed) → IsOver config peer octets why → IsOver config peer (octets ++ piece) why
 over_more config peer octets piece why o = record {
@@ -104,27 +104,27 @@ over_more config peer octets piece why o = record {
 pub follows_closed : (config : Config) (peer : Peer) (octets rest : List ℕ) (old : Live) (updates : List Update) (why : Closed)
     → Follows config peer octets rest old updates → step_with old rest ≡ stops why → IsOver config peer octets why
 follows_closed config peer octets rest old updates why f h =
-    let at : step_of config peer old.standing (pending old.framing ++ rest) ≡ stops why =
-    ap (λ (d : Config). step_of d peer old.standing (pending old.framing ++ rest)) (sym f.config_is)
-    ∙ ap (λ (q : Peer). step_of old.config q old.standing (pending old.framing ++ rest)) (sym f.peer_is)
+    let at : step_of config peer old.phase (pending old.framing ++ rest) ≡ stops why =
+    ap (λ (d : Config). step_of d peer old.phase (pending old.framing ++ rest)) (sym f.config_is)
+    ∙ ap (λ (q : Peer). step_of old.config q old.phase (pending old.framing ++ rest)) (sym f.peer_is)
     ∙ h in
     record {
       updates = updates ++ [];
       stays = λ more.
           f.goes more
-          ∙ ap (λ (z : List ℕ). with_updates updates (session_from config peer old.standing z)) (sym (append_assoc (pending old.framing) rest more))
-          ∙ ap (λ (r : List Update × Last). with_updates updates r) (session_stops config peer old.standing why (pending old.framing ++ rest) more at);
+          ∙ ap (λ (z : List ℕ). with_updates updates (session_from config peer old.phase z)) (sym (append_assoc (pending old.framing) rest more))
+          ∙ ap (λ (r : List Update × Last). with_updates updates r) (session_stops config peer old.phase why (pending old.framing ++ rest) more at);
     }
 
 -- what the session of all the octets is, where nothing is left to take
 pub follows_session : (config : Config) (peer : Peer) (octets : List ℕ) (session : Live) (updates : List Update)
-    → Follows config peer octets [] session updates → session_from config peer at_start octets ≡ (updates, still session.standing)
+    → Follows config peer octets [] session updates → session_from config peer at_start octets ≡ (updates, still session.phase)
 follows_session config peer octets session updates f =
     ap (λ (z : List ℕ). session_from config peer at_start z) (sym (append-nil octets))
     ∙ f.goes []
-    ∙ ap (λ (z : List ℕ). with_updates updates (session_from config peer session.standing z)) (append-nil (pending session.framing))
-    ∙ ap (λ (r : List Update × Last). with_updates updates r) (session_waits config peer session.standing (pending session.framing) f.waiting)
-    ∙ ap (λ (u : List Update). (u, still session.standing)) (append-nil updates)
+    ∙ ap (λ (z : List ℕ). with_updates updates (session_from config peer session.phase z)) (append-nil (pending session.framing))
+    ∙ ap (λ (r : List Update × Last). with_updates updates r) (session_waits config peer session.phase (pending session.framing) f.waiting)
+    ∙ ap (λ (u : List Update). (u, still session.phase)) (append-nil updates)
 
 pub over_session : (config : Config) (peer : Peer) (octets : List ℕ) (why : Closed) (o : IsOver config peer octets why)
     → session_from config peer at_start octets ≡ (o.updates, closed why)

@@ -6,9 +6,8 @@ use Rattle.fs_attrs.specs.declared.update.Update.{Update}
 use Rattle.fs_rules.specs.Held.{Held}
 use Rattle.fs_speaker.specs.declared.state.Closed.{Closed}
 use Rattle.fs_speaker.specs.declared.state.Closed.TheVariants.{Fault, Notified, NoFamily, Memory}
-use Rattle.fs_speaker.specs.Session.{at_start}
+use Rattle.fs_speaker.specs.Session.{at_start, Live, Step, stops, Does, step_with, CloseIs}
 use Rattle.fs_speaker.specs.Replies.{replies_from}
-use Rattle.fs_speaker.specs.Steps.{Live, Step, stops, Does, step_with, CloseIs}
 use Rattle.fs_desk.specs.Apply.{Changes, nothing, told, told_of}
 use Rattle.fs_desk.specs.Leaves.{IsListed}
 use Rattle.fs_desk.specs.Receive.{wants_memory, Follows, IsFed, HasReplied, IsLeft, Spares, IsUp, HasTaken, MessageTaken, TakesMessage, HasRepliedMore}

@@ -8,9 +8,8 @@ use Rattle.fs_attrs.specs.declared.update.Update.{Update}
 use Rattle.fs_rules.specs.Held.{Held}
 use Rattle.fs_speaker.specs.declared.state.Closed.{Closed}
 use Rattle.fs_speaker.specs.declared.state.Closed.TheVariants.{Memory}
-use Rattle.fs_speaker.specs.Session.{at_start, reply_at}
+use Rattle.fs_speaker.specs.Session.{at_start, reply_at, Live, Does, CloseIs, reply_of, step_with}
 use Rattle.fs_speaker.specs.Replies.{replies_from}
-use Rattle.fs_speaker.specs.Steps.{Live, Does, CloseIs, reply_of, step_with}
 use Rattle.fs_desk.specs.Receive.{Follows, IsFed, IsReplying, HasReplied, IsUp, RepliesTo, Extends, IsReplyingMore, HasRepliedMore, RepliesMessage}
 use Rattle.fs_desk.proofs.Pieces.{close_is, some_there}
 use Rattle.fs_desk.proofs.Replying.{replying_piece, replying_fed, replying_closed, replied_all}

@@ -6,8 +6,7 @@ use Rattle.fs_base.specs.declared.config.Peer.{Peer}
 use Rattle.fs_attrs.specs.declared.update.Update.{Update}
 use Rattle.fs_rules.specs.Held.{Held}
 use Rattle.fs_speaker.specs.declared.state.Closed.{Closed}
-use Rattle.fs_speaker.specs.Session.{Last, still, at_start, session_of, session_from}
-use Rattle.fs_speaker.specs.Steps.{Live as Session}
+use Rattle.fs_speaker.specs.Session.{Last, still, at_start, session_of, session_from, Live as Session}
 use Rattle.fs_tape.specs.Tape.{Item}
 use Rattle.fs_desk.specs.Life.{life}
 use Rattle.fs_desk.specs.Desk.{Desked, session_at, PeerIs, Played, standing_of, standing_at_desk}
@@ -20,7 +19,7 @@ use Rattle.fs_desk.proofs.Follows.{follows_session, over_session}
 -- what a session came to is what the desk keeps of it
 fed_stands : (config : Config) (peer : Peer) (octets : List ℕ) (session : Session) (updates : List Update) (why : Option Closed)
     → IsFed config peer octets session why updates
-    → (elim why [ Some closed ↦ Ended closed | None ↦ Up session.standing.state ]) ≡ standing_at (session_from config peer at_start octets).1
+    → (elim why [ Some closed ↦ Ended closed | None ↦ Up session.phase.state ]) ≡ standing_at (session_from config peer at_start octets).1
 fed_stands config peer octets session updates None follows =
     sym (ap (λ (r : List Update × Last). standing_at r.1) (follows_session config peer octets session updates follows))
 fed_stands config peer octets session updates (Some why) over =

@@ -11,9 +11,8 @@ use Rattle.fs_rules.specs.Held.{Held}
 use Rattle.fs_speaker.specs.declared.state.Standing.{Standing}
 use Rattle.fs_speaker.specs.declared.state.Standing.TheVariants.{Down}
 use Rattle.fs_speaker.specs.Replies.{replies_of}
-use Rattle.fs_speaker.specs.Session.{session_of}
+use Rattle.fs_speaker.specs.Session.{session_of, Live}
 use Rattle.fs_speaker.specs.State.{standing_at, standing_by}
-use Rattle.fs_speaker.specs.Steps.{Live}
 use Rattle.fs_tape.specs.Tape.{Item}
 use Rattle.fs_desk.specs.Life.{life}
 use Rattle.fs_desk.specs.Leaves.{IsListed}

@@ -4,14 +4,13 @@ use Rattle.fs_base.specs.declared.config.Config.{Config}
 use Rattle.fs_base.specs.declared.config.Peer.{Peer}
 use Rattle.fs_nlri.specs.Parts.{Ruled}
 use Rattle.fs_unicast.specs.declared.unicast.Place.{Place}
-use Rattle.fs_message.specs.Framing.{pending}
+use Rattle.fs_message.specs.Deframer.{pending}
 use Rattle.fs_attrs.specs.declared.update.Update.{Update}
 use Rattle.fs_rules.specs.Held.{Held}
 use Rattle.fs_speaker.specs.declared.state.Closed.{Closed}
 use Rattle.fs_speaker.specs.declared.state.Closed.TheVariants.{Fault, Notified, NoFamily, Memory}
-use Rattle.fs_speaker.specs.Session.{at_start, Last, closed, session_from}
+use Rattle.fs_speaker.specs.Session.{at_start, Last, closed, session_from, Live, waits, step_of}
 use Rattle.fs_speaker.specs.Replies.{replies_from}
-use Rattle.fs_speaker.specs.Steps.{Live, waits, step_of}
 use Rattle.fs_desk.specs.Leaves.{unicast_left, flow_left, IsListed, unicast_at, flow_at}
 
 -- a session that was closed for want of memory, and not by the peer's octets
@@ -31,10 +30,10 @@ pub record Follows (config : Config) (peer : Peer) (octets rest : List ℕ) (ses
   pub alive : session.closed ≡ None
   pub config_is : session.config ≡ config
   pub peer_is : session.peer ≡ peer
-  pub waiting : step_of config peer session.standing (pending session.framing) ≡ waits
+  pub waiting : step_of config peer session.phase (pending session.framing) ≡ waits
   pub goes : (more : List ℕ)
       → session_from config peer at_start (octets ++ more)
-      ≡ with_updates updates (session_from config peer session.standing (pending session.framing ++ (rest ++ more)))
+      ≡ with_updates updates (session_from config peer session.phase (pending session.framing ++ (rest ++ more)))
 
 -- The session of the octets closed so, and stays so whatever follows.
 pub record IsOver (config : Config) (peer : Peer) (octets : List ℕ) (why : Closed) : Type 0 where
@@ -52,7 +51,7 @@ abbrev pub IsReplying : Config → Peer → List ℕ → List ℕ → Live → L
 IsReplying config peer octets rest session said =
     (more : List ℕ)
     → replies_from config peer at_start (octets ++ more)
-    ≡ said ++ replies_from config peer session.standing (pending session.framing ++ (rest ++ more))
+    ≡ said ++ replies_from config peer session.phase (pending session.framing ++ (rest ++ more))
 
 -- The session has been fed with these octets and has replied so. A closed one replies nothing more, whatever follows.
 abbrev pub HasReplied : Config → Peer → List ℕ → Live → Option Closed → List ℕ → Type 0

@@ -8,7 +8,8 @@ use Rattle.std.proofs.lemmas.List.Folds.{flat_map-map}
 use Rattle.std.proofs.lemmas.Grind.{common_steps, flat_map-append}
 use denote.Ref.{Bor}
 use Rattle.fs_actions.specs.declared.community.Rate.{Rate}
-use Rattle.fs_actions.specs.Actions.{first_of, limit_of}
+use Rattle.fs_actions.specs.Actions.{first_of}
+use Rattle.fs_actions.specs.Community.{limit_of}
 use Rattle.fs_line.specs.Line.{actions_walked, numbered, numbers_text, rate_text, rules_at}
 
 -- the actions of the rules at these places

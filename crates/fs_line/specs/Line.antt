@@ -4,7 +4,8 @@ use Rattle.std.specs.Option.{option_map_or}
 use Rattle.std.specs.List.{join_with_byte, list_any, slice_index_or}
 use Rattle.std.specs.Int.{to_be_bytes, w32}
 use Rattle.hex.specs.Hex.{encode_lower}
-use Rattle.fs_actions.specs.Actions.{first_of, has_flag, is_discard, limit_of, mark_of, redirect_of}
+use Rattle.fs_actions.specs.Actions.{first_of}
+use Rattle.fs_actions.specs.Community.{has_flag, is_discard, limit_of, mark_of, redirect_of}
 use Rattle.fs_actions.specs.declared.community.Rate.{Rate}
 use Rattle.fs_actions.specs.declared.community.Rate.TheVariants.{Bytes, Packets}
 use Rattle.fs_actions.specs.declared.community.Redirect.{Redirect}

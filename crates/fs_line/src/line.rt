@@ -6,7 +6,7 @@ ghost use Rattle.std.specs.Option.{option_map_or};
 ghost use Rattle.std.specs.List.{list_any};
 ghost use Rattle.hex.specs.Hex.{encode_lower};
 ghost use Rattle.fs_base.specs.Outside.{HasCause};
-ghost use Rattle.fs_actions.specs.Actions.{has_flag, limit_of};
+ghost use Rattle.fs_actions.specs.Community.{has_flag, limit_of};
 ghost use Rattle.fs_line.specs.Line.{actions_walked, address_text, effects_text, line_of, mark_text, numbered, rate_text, redirect_text, numbers_text, rules_at, unread_line_of, verdict_text};
 ghost use Rattle.fs_line.specs.Output.{Goes, Stops};
 

@@ -2,7 +2,8 @@
 
 ghost use Rattle.std.specs.Prelude.{◌≡◌, ◌<◌, All, length, map};
 ghost use Rattle.std.specs.List.{list_any};
-ghost use Rattle.fs_actions.specs.Actions.{first_of, has_flag, is_discard, mark_of, redirect_of};
+ghost use Rattle.fs_actions.specs.Actions.{first_of};
+ghost use Rattle.fs_actions.specs.Community.{has_flag, is_discard, mark_of, redirect_of};
 ghost use Rattle.fs_line.specs.Line.{actions_walked, rules_at};
 
 use fs_actions::{Actions, Redirect};

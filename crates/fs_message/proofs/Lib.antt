@@ -1,3 +1,3 @@
-mod Begun
-mod Gathering
-pub mod Staying
+mod BegunMessages
+mod CapabilityLists
+pub mod StreamLaws

@@ -1,5 +1,8 @@
+pub mod Header
 pub mod Stream
-pub mod Framing
-pub mod Shown
+pub mod Deframer
+pub mod Capabilities
 pub mod Open
-pub mod Found
+pub mod Notice
+pub mod Write
+pub mod Laws

@@ -1,9 +1,7 @@
 //! The parameters of an OPEN and their capabilities (RFC 5492).
 
 ghost use Rattle.std.specs.Prelude.{◌≡◌, ◌==◌, ◌||◌, option_map, length, [], ◌∷◌, if◌then◌else◌};
-ghost use Rattle.fs_message.specs.Open.{field, first_field, is_capability, names_family};
-ghost use Rattle.fs_message.specs.Found.{found_in, with_later, gathered, all_gathered};
-ghost use Rattle.fs_message.specs.Shown.{field_of};
+ghost use Rattle.fs_message.specs.Capabilities.{field, first_field, names_family, found_in, added, with_later, gathered, all_gathered, field_of};
 
 use byteorder::{BigEndian, ByteOrder};
 
@@ -83,7 +81,7 @@ fn found_at_end(found: Found, rest: &[u8]) -> Option<Found>
 
 /// What is found, with one more capability.
 fn with_capability(found: Found, capability: Field<'_>) -> Option<Found>
-    ensures { result ≡ (if is_capability (field_of capability.entry) then Some (with_later found (found_in (field_of capability.entry ∷ []))) else None) }
+    ensures { result ≡ added found (field_of capability.entry) }
 {
     match capability.kind {
         MULTIPROTOCOL | FOUR_OCTET_AS if capability.value.len() != 4 => None,

@@ -27,20 +27,19 @@ pub struct Deframer {
 }
 
 impl Model for Deframer {
-    ghost use Rattle.std.specs.Prelude.{◌≡◌, ◌≤◌, length, take};
-    ghost use Rattle.fs_message.specs.Framing.{Framing, framing, IsFraming};
+    ghost use Rattle.std.specs.Prelude.{take};
+    ghost use Rattle.fs_message.specs.Deframer.{Framing, framing, IsRoom};
 
     ghost Value = { Framing };
 
     ghost view = { λ d. framing (take d.count d.held.items) d.stands d.fault };
 
-    ghost invariant = { λ d. (length d.held.items ≡ 4096) × (d.count ≤ 4096) × IsFraming (take d.count d.held.items) d.stands d.fault };
+    ghost invariant = { λ d. IsRoom d.held.items d.count d.stands d.fault };
 }
 
 impl Deframer {
-    ghost use Rattle.fs_message.specs.Stream.{allows};
-    ghost use Rattle.fs_message.specs.Framing.{framing, pending, standing_message, Feeds, stands_after, fault_after};
-    ghost use Rattle.fs_message.specs.Shown.{frame_of};
+    ghost use Rattle.fs_message.specs.Header.{allows};
+    ghost use Rattle.fs_message.specs.Deframer.{framing, pending, standing_message, Feeds, stands_after, fault_after, frame_of};
 
     /// A deframer before the first message. It takes the 4096 octets of the longest message here, and no
     /// memory later.
@@ -88,9 +87,9 @@ impl Deframer {
     }
 }
 
-ghost use Rattle.fs_message.specs.Framing.{Feeds, IsBegun, IsWhole, IsFraming, stands_after, fault_after, pending_of};
-ghost use Rattle.fs_message.specs.Stream.{Message, message_of, allows};
-ghost use Rattle.fs_message.specs.Shown.{frame_of};
+ghost use Rattle.fs_message.specs.Deframer.{Feeds, IsBegun, IsWhole, IsFraming, stands_after, fault_after, Repeats, FeedsFrom, frame_of};
+ghost use Rattle.fs_message.specs.Stream.{Message, message_of};
+ghost use Rattle.fs_message.specs.Header.{allows};
 
 /// The message in the first `count` octets of `held`.
 fn message_in(held: &[u8], count: usize) -> Frame<'_>
@@ -119,11 +118,12 @@ fn take_piece(
     ensures room { length held.new.items ≡ 4096 }
     ensures within { count.new ≤ 4096 }
     ensures kept { IsFraming (take count.new held.new.items) stands.new fault.new }
-    ensures again { IfSome fault.old (λ fault. (result ≡ Err fault) × (held.new.items ≡ held.old.items) × (count.new ≡ count.old)) }
+    ensures again { Repeats fault.old result held.old.items held.new.items count.old count.new }
     ensures fault { fault.new ≡ fault_after result }
     ensures stands { stands.new ≡ stands_after result }
     ensures some { IfOk result (λ fed. (fed.0 ≤ length piece.now) × (0 < length piece.now → 0 < fed.0)) }
-    ensures exact { fault.old ≡ None → Feeds (pending_of stands.old (take count.old held.old.items)) piece.now (take count.new held.new.items) result }
+    ensures exact { FeedsFrom fault.old stands.old (take count.old held.old.items) piece.now
+        (take count.new held.new.items) result }
 {
     if let Some(fault) = *fault {
         return Err(fault);

@@ -2,7 +2,7 @@
 
 ghost use Rattle.std.specs.Prelude.{◌≡◌, ◌≤◌, length, IfNone, not, ◌==◌, take};
 ghost use Rattle.std.specs.List.{list_any};
-ghost use Rattle.fs_message.specs.Stream.{marks_wrong, size_wrong, kind_wrong, allows, header_fault, size_at};
+ghost use Rattle.fs_message.specs.Header.{marker_wrong, size_wrong, kind_wrong, allows, header_fault, size_at};
 
 use crate::MessageFault;
 use byteorder::{BigEndian, ByteOrder};
@@ -30,7 +30,7 @@ pub(crate) fn fault_of(octets: &[u8]) -> Option<MessageFault>
     ensures exact { result ≡ header_fault octets.now }
     ensures sized { IfNone result (19 ≤ length octets.now → (19 ≤ size_at octets.now) × (size_at octets.now ≤ 4096)) }
 {
-    if has_wrong_mark(octets) {
+    if has_wrong_marker(octets) {
         return Some(MessageFault::NOT_SYNCHRONIZED);
     }
     if octets.len() < 18 {
@@ -53,8 +53,8 @@ pub(crate) fn fault_of(octets: &[u8]) -> Option<MessageFault>
     None
 }
 
-fn has_wrong_mark(octets: &[u8]) -> bool
-    ensures { result ≡ marks_wrong octets.now }
+fn has_wrong_marker(octets: &[u8]) -> bool
+    ensures { result ≡ marker_wrong octets.now }
 {
     octets.iter().take(16).any(|octet| *octet != 255)
 }

@@ -2,7 +2,7 @@
 
 ghost use Rattle.fs_base.specs.Parts.{Shrinks, Stable};
 ghost use Rattle.fs_message.specs.Stream.{first_message};
-ghost use Rattle.fs_message.specs.Framing.{FaultStays};
+ghost use Rattle.fs_message.specs.Laws.{FaultStays};
 
 /// A message of a stream has octets, and it stands there whatever follows it; so does a fault. So the
 /// messages and the fault of a stream are those of its pieces, one after the other.

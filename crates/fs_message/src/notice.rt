@@ -1,7 +1,7 @@
 //! NOTIFICATION (RFC 4271, section 4.5).
 
 ghost use Rattle.std.specs.Prelude.{◌≡◌, ◌≤◌, length};
-ghost use Rattle.fs_message.specs.Open.{notice_of};
+ghost use Rattle.fs_message.specs.Notice.{notice_of};
 
 /// The codes of a NOTIFICATION.
 #[derive(Clone, Copy, Debug, PartialEq, Eq, Drop)]

@@ -1,8 +1,7 @@
 //! OPEN (RFC 4271, sections 4.2 and 6.2).
 
-ghost use Rattle.std.specs.Prelude.{◌≡◌, ◌≤◌, List, length};
-ghost use Rattle.fs_message.specs.Open.{Field, fields_fault, opened, open_of};
-ghost use Rattle.fs_message.specs.Found.{found_in};
+ghost use Rattle.std.specs.Prelude.{◌≡◌, ◌≤◌, length};
+ghost use Rattle.fs_message.specs.Open.{fields_fault, open_of, OpensAs};
 
 use crate::MessageFault;
 use crate::capabilities::{Found, read_parameters};
@@ -67,7 +66,7 @@ fn fault_of_fields(body: &[u8]) -> Option<MessageFault>
 /// What an OPEN says whose capabilities are found.
 fn opened(found: Found, body: &[u8], expected_as: u32) -> Result<Open, MessageFault>
     requires { 10 ≤ length body.now }
-    ensures { (capabilities : List Field) → found ≡ found_in capabilities → result ≡ opened expected_as body.now capabilities }
+    ensures { OpensAs found expected_as body.now result }
 {
     let asn = found.asn.unwrap_or(BigEndian::read_u16(&body[1..]) as u32);
     if asn != expected_as {

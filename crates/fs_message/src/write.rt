@@ -1,9 +1,8 @@
 //! The texts of messages (RFC 4271, section 4).
 
-ghost use Rattle.std.specs.Prelude.{◌≡◌, ◌≤◌, ◌++◌, [], ◌∷◌, length, replicate, MatchResult};
+ghost use Rattle.std.specs.Prelude.{◌≡◌, ◌≤◌, ◌++◌, [], ◌∷◌, length, replicate};
 ghost use Rattle.byteorder.specs.Endian.{big_bytes};
-ghost use Rattle.fs_message.specs.Stream.{message_text};
-ghost use Rattle.fs_message.specs.Open.{as_field, open_body};
+ghost use Rattle.fs_message.specs.Write.{message_text, AppendsWhole, as_field, open_body};
 
 use crate::header::{HEADER, KEEPALIVE, NOTIFICATION, OPEN, UPDATE};
 use byteorder::{BigEndian, ByteOrder};
@@ -12,7 +11,7 @@ use fs_base::Memory;
 /// Appends our OPEN: AS `asn`, hold time 0, identifier `id`, and the four families and the four-octet AS as
 /// capabilities. Refused for memory, it leaves `out` as it was.
 pub fn write_open(asn: u32, id: u32, out: &mut Vec<u8>) -> Result<(), Memory>
-    ensures { MatchResult result (λ _. out.new.items ≡ out.old.items ++ message_text 1 (open_body asn id)) (λ _. out.new.items ≡ out.old.items) }
+    ensures { AppendsWhole result out.old.items out.new.items (message_text 1 (open_body asn id)) }
 {
     write_message(OPEN, &open_octets(asn, id), out)
 }
@@ -20,28 +19,28 @@ pub fn write_open(asn: u32, id: u32, out: &mut Vec<u8>) -> Result<(), Memory>
 /// Appends the UPDATE with this body, of at most 4077 octets. Refused for memory, it leaves `out` as it was.
 pub fn write_update_frame(body: &[u8], out: &mut Vec<u8>) -> Result<(), Memory>
     requires { length body.now ≤ 4077 }
-    ensures { MatchResult result (λ _. out.new.items ≡ out.old.items ++ message_text 2 body.now) (λ _. out.new.items ≡ out.old.items) }
+    ensures { AppendsWhole result out.old.items out.new.items (message_text 2 body.now) }
 {
     write_message(UPDATE, body, out)
 }
 
 /// Appends a NOTIFICATION without data. Refused for memory, it leaves `out` as it was.
 pub fn write_notice(code: u8, subcode: u8, out: &mut Vec<u8>) -> Result<(), Memory>
-    ensures { MatchResult result (λ _. out.new.items ≡ out.old.items ++ message_text 3 (code ∷ subcode ∷ [])) (λ _. out.new.items ≡ out.old.items) }
+    ensures { AppendsWhole result out.old.items out.new.items (message_text 3 (code ∷ subcode ∷ [])) }
 {
     write_message(NOTIFICATION, &[code, subcode], out)
 }
 
 /// Appends a KEEPALIVE. Refused for memory, it leaves `out` as it was.
 pub fn write_keepalive(out: &mut Vec<u8>) -> Result<(), Memory>
-    ensures { MatchResult result (λ _. out.new.items ≡ out.old.items ++ message_text 4 []) (λ _. out.new.items ≡ out.old.items) }
+    ensures { AppendsWhole result out.old.items out.new.items (message_text 4 []) }
 {
     write_message(KEEPALIVE, &[], out)
 }
 
 fn write_message(kind: u8, body: &[u8], out: &mut Vec<u8>) -> Result<(), Memory>
     requires { length body.now ≤ 4077 }
-    ensures { MatchResult result (λ _. out.new.items ≡ out.old.items ++ message_text kind body.now) (λ _. out.new.items ≡ out.old.items) }
+    ensures { AppendsWhole result out.old.items out.new.items (message_text kind body.now) }
 {
     let size = HEADER + body.len();
     out.reserve(size)?;

@@ -1,7 +1,7 @@
 -- The walk of a packet over the admitted rules of its family (RFC 8955 section 7.3).
 use Rattle.std.specs.Prelude.{ℕ, ◌+◌, Bool, Option, List, [], ◌∷◌, find, nat_le, if◌then◌else◌}
 use Rattle.std.specs.List.{list_any}
-use Rattle.fs_actions.specs.Actions.{has_flag}
+use Rattle.fs_actions.specs.Community.{has_flag}
 use Rattle.fs_packet.specs.Fields.{Viewed}
 use Rattle.fs_packet.specs.Matches.{is_match}
 use Rattle.fs_validate.specs.declared.route.FlowRoute.{FlowRoute}

@@ -1,3 +1,3 @@
-pub mod Joined
-mod Refused
-pub mod Replied
+pub mod SessionSteps
+mod Closing
+pub mod ReplySteps

@@ -1,5 +1,5 @@
-pub mod Replies
+pub mod Transition
 pub mod Session
-pub mod Steps
+pub mod Replies
 pub mod Laws
 pub mod State

@@ -1,92 +1,28 @@
--- The session that the octets received from a peer make (RFC 4271, sections 6 and 8). Timers and the opening of
--- connections are left out.
-use Rattle.std.specs.Prelude.{ℕ, ◌==◌, Bool, false, not, if◌then◌else◌, List, [], ◌∷◌, ◌++◌, Option, Some, None, Result, Ok, Err}
+-- The session that the octets received from a peer make (RFC 4271, sections 6 and 8), what a session keeps, and what
+-- one call of it does with a piece of the peer's octets. Timers and the opening of connections are left out.
+use Rattle.std.specs.Prelude.{◌≡◌, ℕ, ◌≤◌, false, ⊤, List, [], ◌∷◌, ◌++◌, length, drop, Option, Some, None, option_map, Result, Ok, Err, IfSome}
 use Rattle.fs_base.specs.declared.config.Config.{Config}
 use Rattle.fs_base.specs.declared.config.Peer.{Peer}
 use Rattle.fs_base.specs.Config.{peer_of}
 use Rattle.fs_base.specs.Parts.{parts_of}
 use Rattle.fs_message.specs.declared.fault.MessageFault.{MessageFault}
-use Rattle.fs_message.specs.declared.notice.Notice.{Notice}
-use Rattle.fs_message.specs.declared.open_.Open.{Open}
-use Rattle.fs_message.specs.Stream.{Message, first_message, wrong_at, message_text}
-use Rattle.fs_message.specs.Open.{open_of, notice_of, open_body}
-use Rattle.fs_attrs.specs.declared.update.Terms.{Terms}
+use Rattle.fs_message.specs.Stream.{Message, first_message, wrong_at}
+use Rattle.fs_message.specs.Write.{message_text, open_body}
+use Rattle.fs_message.specs.Deframer.{Framing, framing, pending}
 use Rattle.fs_attrs.specs.declared.update.Update.{Update}
-use Rattle.fs_attrs.specs.declared.update.UpdateFault.{UpdateFault}
-use Rattle.fs_attrs.specs.declared.update.UpdateFault.TheVariants.{List as ListFault, Network, Optional, Memory as NoMemory}
-use Rattle.fs_attrs.specs.Update.{update_of}
 use Rattle.fs_speaker.specs.declared.state.State.{State}
-use Rattle.fs_speaker.specs.declared.state.State.TheVariants.{WaitOpen, WaitKeep, Established, Closed as IsClosed}
+use Rattle.fs_speaker.specs.declared.state.State.TheVariants.{WaitOpen, Closed as IsClosed}
 use Rattle.fs_speaker.specs.declared.state.Closed.{Closed}
-use Rattle.fs_speaker.specs.declared.state.Closed.TheVariants.{Fault, Notified, Memory}
+use Rattle.fs_speaker.specs.declared.state.Closed.TheVariants.{Memory, Fault}
+use Rattle.fs_speaker.specs.declared.session.Ends.{Ends}
+use Rattle.fs_speaker.specs.Transition.{Phase, phase, faulted, transition_of}
 
--- Where an open session stands: its state, and whether the peer's OPEN had a four-octet AS (RFC 6793).
-pub record Standing : Type 0 where
-  pub state : State
-  pub four : Bool
-
-abbrev pub standing : State → Bool → Standing
-standing state four = record { state = state; four = four }
-
-abbrev pub at_start : Standing
-at_start = standing WaitOpen false
-
--- A peer is external where its AS isn't ours. Its AS numbers in AS_PATH have four octets where its OPEN says so.
-abbrev pub terms_of : Config → Peer → Bool → Terms
-terms_of config peer four = record { external = not (peer.asn == config.local_as); four = four; address = peer.address }
-
--- the codes of an UPDATE's faults (RFC 4271, section 6.3)
-abbrev pub closing_of : UpdateFault → Closed
-closing_of ListFault = Fault 3 1
-closing_of Network = Fault 3 10
-closing_of (Optional wrong) = Fault 3 9
-closing_of NoMemory = Memory
-
-abbrev pub faulted : MessageFault → Closed
-faulted fault = Fault fault.code fault.subcode
-
-abbrev pub notified : Notice → Closed
-notified notice = Notified notice.code notice.subcode
-
--- a message that the state doesn't take: Finite State Machine Error
-abbrev pub not_taken : Result (Standing × Option Update) Closed
-not_taken = Err (Fault 5 0)
-
-abbrev pub taken : Standing → Option Update → Result (Standing × Option Update) Closed
-taken next update = Ok (next, update)
-
-abbrev pub opened : Result Open MessageFault → Result (Standing × Option Update) Closed
-opened (Ok found) = taken (standing WaitKeep found.four) None
-opened (Err fault) = Err (faulted fault)
-
-abbrev pub updates : Standing → Result Update UpdateFault → Result (Standing × Option Update) Closed
-updates now (Ok update) = taken now (Some update)
-updates now (Err fault) = Err (closing_of fault)
-
-abbrev pub at_wait_open : Peer → Message → Result (Standing × Option Update) Closed
-at_wait_open peer message = if message.kind == 1 then opened (open_of peer.asn message.body) else not_taken
-
-abbrev pub at_wait_keep : Bool → Message → Result (Standing × Option Update) Closed
-at_wait_keep four message = if message.kind == 4 then taken (standing Established four) None else not_taken
-
--- The table of states: what one message does. NOTIFICATION closes in each state.
-abbrev pub turn_at : Config → Peer → State → Bool → Message → Result (Standing × Option Update) Closed
-turn_at config peer WaitOpen four message = at_wait_open peer message
-turn_at config peer WaitKeep four message = at_wait_keep four message
-turn_at config peer Established four message =
-    if message.kind == 2 then updates (standing Established four) (update_of (terms_of config peer four) message.body)
-    else if message.kind == 4 then taken (standing Established four) None
-    else if message.kind == 5 then taken (standing Established four) None
-    else not_taken
-turn_at config peer IsClosed four message = not_taken
-
-abbrev pub turn_of : Config → Peer → Standing → Message → Result (Standing × Option Update) Closed
-turn_of config peer now message =
-    if message.kind == 3 then Err (notified (notice_of message.body)) else turn_at config peer now.state now.four message
+abbrev pub at_start : Phase
+at_start = phase WaitOpen false
 
 -- What a session comes to: it stands somewhere, or it closed.
 pub data Last : Type 0 where
-  still : Standing → Last
+  still : Phase → Last
   closed : Closed → Last
 
 abbrev pub with_update : Option Update → List Update × Last → List Update × Last
@@ -94,21 +30,21 @@ with_update None later = later
 with_update (Some update) later = (update ∷ later.0, later.1)
 
 -- the rest behind the last message closes where it has a fault
-abbrev pub rest_closes : Standing → Option MessageFault → Last
+abbrev pub rest_closes : Phase → Option MessageFault → Last
 rest_closes now None = still now
 rest_closes now (Some fault) = closed (faulted fault)
 
--- The messages in turn, until one closes; if none does, a fault of the rest does.
-unfoldable pub plays : Config → Peer → Standing → List Message → Option MessageFault → List Update × Last
+-- The messages one after the other, until one closes; if none does, a fault of the rest does.
+unfoldable pub plays : Config → Peer → Phase → List Message → Option MessageFault → List Update × Last
 plays config peer now [] wrong = ([], rest_closes now wrong)
 plays config peer now (message ∷ messages) wrong =
-    elim (turn_of config peer now message) [
+    elim (transition_of config peer now message) [
       | Err why ↦ ([], closed why)
       | Ok next ↦ with_update next.1 (plays config peer next.0 messages wrong)
     ]
 
 -- A session goes on from where it stands with all these octets.
-abbrev pub session_from : Config → Peer → Standing → List ℕ → List Update × Last
+abbrev pub session_from : Config → Peer → Phase → List ℕ → List Update × Last
 session_from config peer now octets =
     plays config peer now (parts_of first_message octets).0 (wrong_at (parts_of first_message octets).1)
 
@@ -125,3 +61,96 @@ reply_to config _ = []
 abbrev pub reply_at : Closed → List ℕ
 reply_at (Fault code subcode) = message_text 3 (code ∷ subcode ∷ [])
 reply_at _ = []
+
+-- What a session keeps: whose it is, the octets of the message begun, its phase, and how it closed.
+pub record Live : Type 0 where
+  pub config : Config
+  pub peer : Peer
+  pub framing : Framing
+  pub phase : Phase
+  pub closed : Option Closed
+
+abbrev pub live : Config → Peer → Framing → Phase → Option Closed → Live
+live config peer framing phase closed = record { config = config; peer = peer; framing = framing; phase = phase; closed = closed }
+
+-- a session with the peer of this number, before its first octet
+abbrev pub begins : Config → ℕ → Option Live
+begins config number = option_map (λ peer. live config peer (framing [] false None) at_start None) (peer_of number config.peers)
+
+abbrev pub state_of : Live → State
+state_of session = elim session.closed [ Some why ↦ IsClosed | None ↦ session.phase.state ]
+
+-- while a session is open its deframer has met no fault
+abbrev pub IsLive : Option Closed → Framing → Type 0
+IsLive (Some why) framing = ⊤
+IsLive None framing = framing.fault ≡ None
+
+-- What the octets in hand come to: no message ends, one does and is taken, or the session closes.
+pub data Step : Type 0 where
+  waits : Step
+  takes : (phase : Phase) (update : Option Update) (behind : List ℕ) → Step
+  stops : Closed → Step
+
+abbrev pub step_at : Result (Phase × Option Update) Closed → List ℕ → Step
+step_at (Ok next) behind = takes next.0 next.1 behind
+step_at (Err why) behind = stops why
+
+abbrev pub rest_step : Option MessageFault → Step
+rest_step None = waits
+rest_step (Some fault) = stops (faulted fault)
+
+abbrev pub step_of : Config → Peer → Phase → List ℕ → Step
+step_of config peer now octets = elim (first_message octets) [
+  | Some found ↦ step_at (transition_of config peer now found.0) found.1
+  | None ↦ rest_step (wrong_at octets)
+]
+
+abbrev pub Does : Step → Live → Live → List ℕ → ℕ → Option Update → Type 0
+Does waits old new piece count update =
+    (count ≡ length piece) × (pending new.framing ≡ pending old.framing ++ piece) × (new.phase ≡ old.phase) × (update ≡ None)
+Does (takes next taken behind) old new piece count update =
+    (count ≤ length piece) × (behind ≡ drop count piece) × (pending new.framing ≡ []) × (new.phase ≡ next) × (update ≡ taken)
+Does (stops why) old new piece count update = ⊥
+
+abbrev pub reply_of : Live → Step → List ℕ
+reply_of old (takes next update behind) = reply_to old.config old.phase.state
+reply_of old _ = []
+
+-- the session closes so; for want of memory it may close at any time
+abbrev pub CloseIs : Step → Closed → Type 0
+CloseIs step Memory = ⊤
+CloseIs step why = step ≡ stops why
+
+abbrev pub step_with : Live → List ℕ → Step
+step_with old piece = step_of old.config old.peer old.phase (pending old.framing ++ piece)
+
+abbrev pub Feeds : Live → Live → List ℕ → List ℕ → List ℕ → Result (ℕ × Option Update) Closed → Type 0
+Feeds old new piece replies replies' (Ok fed) =
+    Does (step_with old piece) old new piece fed.0 fed.1 × (replies' ≡ replies ++ reply_of old (step_with old piece))
+Feeds old new piece replies replies' (Err why) = CloseIs (step_with old piece) why × (replies' ≡ replies ++ reply_at why)
+
+abbrev pub closed_after : {A : Type 0} → Result A Closed → Option Closed
+closed_after (Ok _) = None
+closed_after (Err why) = Some why
+
+-- a fault is answered with its NOTIFICATION, or memory is wanting and nothing is
+abbrev pub Refuses : ℕ → ℕ → List ℕ → List ℕ → Closed → Type 0
+Refuses code subcode replies replies' Memory = replies' ≡ replies
+Refuses code subcode replies replies' why = (why ≡ Fault code subcode) × (replies' ≡ replies ++ reply_at why)
+
+-- a session that closes so
+abbrev pub ClosesAs : Closed → List ℕ → List ℕ → Closed → Type 0
+ClosesAs why replies replies' Memory = replies' ≡ replies
+ClosesAs why replies replies' other = (other ≡ why) × (replies' ≡ replies ++ reply_at other)
+
+-- the fields of a session
+abbrev pub at_ends : Ends → Framing → Phase → Option Closed → Live
+at_ends ends framing phase closed = live ends.config.now ends.peer framing phase closed
+
+-- A closed session answers the same again and stays as it is.
+abbrev pub StaysClosed : Live → Live → Result (ℕ × Option Update) Closed → (replies replies' : List ℕ) → Type 0
+StaysClosed old new result replies replies' = IfSome old.closed (λ why. (result ≡ Err why) × (new ≡ old) × (replies' ≡ replies))
+
+-- An open one goes on.
+abbrev pub GoesOn : Live → Live → List ℕ → (replies replies' : List ℕ) → Result (ℕ × Option Update) Closed → Type 0
+GoesOn old new piece replies replies' result = old.closed ≡ None → Feeds old new piece replies replies' result

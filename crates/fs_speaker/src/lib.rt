@@ -4,7 +4,7 @@
 mod laws;
 mod session;
 mod state;
-mod turn;
+mod transition;
 
 pub use laws::steps_make_the_session;
 pub use session::Session;

@@ -1,7 +1,7 @@
 //! The receiving end of a session.
 
 use crate::state::{Closed, State};
-use crate::turn::{Progress, turn};
+use crate::transition::{Phase, transition};
 use fs_attrs::Update;
 use fs_base::{Config, Memory, Peer};
 use fs_message::{Deframer, write_keepalive, write_notice, write_open};
@@ -12,21 +12,25 @@ use std::marker::Model;
 /// peer's UPDATEs and says what is to be replied.
 #[derive(Drop)]
 pub struct Session<'a> {
+    ends: Ends<'a>,
+    deframer: Deframer,
+    phase: Phase,
+    closed: Option<Closed>,
+}
+
+/// Whose session it is: the configuration of our end, and the peer.
+#[derive(Clone, Copy, Drop)]
+struct Ends<'a> {
     config: &'a Config,
     peer: Peer,
-    deframer: Deframer,
-    progress: Progress,
-    closed: Option<Closed>,
-    alloc: Global,
 }
 
 impl<'a> Model for Session<'a> {
-    ghost use Rattle.fs_speaker.specs.Session.{standing};
-    ghost use Rattle.fs_speaker.specs.Steps.{Live, live, IsLive};
+    ghost use Rattle.fs_speaker.specs.Session.{Live, live, IsLive};
 
     ghost Value = { Live };
 
-    ghost view = { λ s. live s.config.now s.peer s.deframer (standing s.progress.state s.progress.four) s.closed };
+    ghost view = { λ s. live s.ends.config.now s.ends.peer s.deframer s.phase s.closed };
 
     ghost invariant = { λ s. IsLive s.closed s.deframer };
 }
@@ -34,7 +38,7 @@ impl<'a> Model for Session<'a> {
 impl<'a> Session<'a> {
     ghost use Rattle.std.specs.Prelude.{◌≡◌, ◌<◌, ◌≤◌, ◌++◌, length, IfOk, IfSome, IsSome};
     ghost use Rattle.fs_base.specs.Config.{peer_of};
-    ghost use Rattle.fs_speaker.specs.Steps.{begins, state_of, closed_after, Feeds};
+    ghost use Rattle.fs_speaker.specs.Session.{begins, state_of, closed_after, StaysClosed, GoesOn};
 
     /// A session with a peer of the configuration, before its first octet.
     pub fn new(alloc: Global, config: &'a Config, peer: u16) -> Result<Session<'a>, Memory>
@@ -45,15 +49,16 @@ impl<'a> Session<'a> {
             unreachable!();
         };
         Ok(Session {
-            config,
-            peer: *found,
+            ends: Ends {
+                config,
+                peer: *found,
+            },
             deframer: Deframer::new(alloc)?,
-            progress: Progress {
+            phase: Phase {
                 state: State::WaitOpen,
                 four: false,
             },
             closed: None,
-            alloc,
         })
     }
 
@@ -67,18 +72,16 @@ impl<'a> Session<'a> {
         piece: &[u8],
         replies: &mut Vec<u8>,
     ) -> Result<(usize, Option<Update>), Closed>
-        ensures again { IfSome self.old.closed (λ why. (result ≡ Err why) × (self.new ≡ self.old) × (replies.new.items ≡ replies.old.items)) }
+        ensures again { StaysClosed self.old self.new result replies.old.items replies.new.items }
         ensures closed { self.new.closed ≡ closed_after result }
         ensures same { (self.new.config ≡ self.old.config) × (self.new.peer ≡ self.old.peer) }
         ensures some { IfOk result (λ fed. (fed.0 ≤ length piece.now) × (0 < length piece.now → 0 < fed.0)) }
-        ensures exact { self.old.closed ≡ None → Feeds self.old self.new piece.now replies.old.items replies.new.items result }
+        ensures exact { GoesOn self.old self.new piece.now replies.old.items replies.new.items result }
     {
         feed_piece(
-            self.alloc,
-            self.config,
-            &self.peer,
+            &self.ends,
             &mut self.deframer,
-            &mut self.progress,
+            &mut self.phase,
             &mut self.closed,
             piece,
             replies,
@@ -98,38 +101,37 @@ impl<'a> Session<'a> {
     {
         match self.closed {
             Some(_) => State::Closed,
-            None => self.progress.state,
+            None => self.phase.state,
         }
     }
 }
 
-ghost use Rattle.std.specs.Prelude.{◌≡◌, ◌<◌, ◌≤◌, ◌++◌, length, IfOk, IfSome, MatchResult};
-ghost use Rattle.fs_speaker.specs.Session.{standing, reply_to};
-ghost use Rattle.fs_speaker.specs.Steps.{live, closed_after, Feeds, IsLive, Refuses, ClosesAs};
+ghost use Rattle.std.specs.Prelude.{◌≡◌, ◌<◌, ◌≤◌, length, IfOk, IfSome};
+ghost use Rattle.fs_message.specs.Write.{AppendsWhole};
+ghost use Rattle.fs_speaker.specs.Session.{at_ends, closed_after, reply_to, Feeds, IsLive, StaysClosed, GoesOn, Refuses, ClosesAs};
 
 /// The fields of a [`Session`] with a piece fed to it.
 fn feed_piece(
-    alloc: Global,
-    config: &Config,
-    peer: &Peer,
+    ends: &Ends<'_>,
     deframer: &mut Deframer,
-    progress: &mut Progress,
+    phase: &mut Phase,
     closed: &mut Option<Closed>,
     piece: &[u8],
     replies: &mut Vec<u8>,
 ) -> Result<(usize, Option<Update>), Closed>
     requires { IsLive closed.old deframer.old }
     ensures live { IsLive closed.new deframer.new }
-    ensures again { IfSome closed.old (λ why. (result ≡ Err why) × (deframer.new ≡ deframer.old) × (progress.new ≡ progress.old) × (closed.new ≡ closed.old) × (replies.new.items ≡ replies.old.items)) }
+    ensures again { StaysClosed (at_ends ends.now deframer.old phase.old closed.old)
+        (at_ends ends.now deframer.new phase.new closed.new) result replies.old.items replies.new.items }
     ensures closed { closed.new ≡ closed_after result }
     ensures some { IfOk result (λ fed. (fed.0 ≤ length piece.now) × (0 < length piece.now → 0 < fed.0)) }
-    ensures exact { closed.old ≡ None → Feeds (live config.now peer.now deframer.old (standing progress.old.state progress.old.four) closed.old)
-        (live config.now peer.now deframer.new (standing progress.new.state progress.new.four) closed.new) piece.now replies.old.items replies.new.items result }
+    ensures exact { GoesOn (at_ends ends.now deframer.old phase.old closed.old)
+        (at_ends ends.now deframer.new phase.new closed.new) piece.now replies.old.items replies.new.items result }
 {
     if let Some(why) = *closed {
         return Err(why);
     }
-    let fed = advance(alloc, config, peer, deframer, progress, piece, replies);
+    let fed = advance(ends, deframer, phase, piece, replies);
     *closed = closing(&fed);
     fed
 }
@@ -145,19 +147,17 @@ fn closing(fed: &Result<(usize, Option<Update>), Closed>) -> Option<Closed>
 
 /// Goes on with an open session.
 fn advance(
-    alloc: Global,
-    config: &Config,
-    peer: &Peer,
+    ends: &Ends<'_>,
     deframer: &mut Deframer,
-    progress: &mut Progress,
+    phase: &mut Phase,
     piece: &[u8],
     replies: &mut Vec<u8>,
 ) -> Result<(usize, Option<Update>), Closed>
     requires { deframer.old.fault ≡ None }
     ensures live { IfOk result (λ _. deframer.new.fault ≡ None) }
     ensures some { IfOk result (λ fed. (fed.0 ≤ length piece.now) × (0 < length piece.now → 0 < fed.0)) }
-    ensures exact { Feeds (live config.now peer.now deframer.old (standing progress.old.state progress.old.four) None)
-        (live config.now peer.now deframer.new (standing progress.new.state progress.new.four) (closed_after result)) piece.now replies.old.items replies.new.items result }
+    ensures exact { Feeds (at_ends ends.now deframer.old phase.old None)
+        (at_ends ends.now deframer.new phase.new (closed_after result)) piece.now replies.old.items replies.new.items result }
 {
     let count = match deframer.feed(piece) {
         Ok((count, _)) => count,
@@ -166,18 +166,19 @@ fn advance(
     let Some(frame) = deframer.message() else {
         return Ok((count, None));
     };
-    let (next, update) = match turn(alloc, config, peer, progress, &frame) {
-        Ok(turned) => turned,
+    let alloc = *replies.allocator();
+    let (next, update) = match transition(alloc, ends.config, &ends.peer, phase, &frame) {
+        Ok(done) => done,
         Err(why) => return Err(close(why, replies)),
     };
-    reply(config, progress.state, replies)?;
-    *progress = next;
+    reply(ends.config, phase.state, replies)?;
+    *phase = next;
     Ok((count, update))
 }
 
 /// Answers a message that was taken: an OPEN by our OPEN and a KEEPALIVE.
 fn reply(config: &Config, state: State, replies: &mut Vec<u8>) -> Result<(), Memory>
-    ensures { MatchResult result (λ _. replies.new.items ≡ replies.old.items ++ reply_to config.now state) (λ _. replies.new.items ≡ replies.old.items) }
+    ensures { AppendsWhole result replies.old.items replies.new.items (reply_to config.now state) }
 {
     if state != State::WaitOpen {
         return Ok(());

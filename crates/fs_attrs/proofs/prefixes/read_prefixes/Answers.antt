@@ -5,8 +5,8 @@ use Rattle.fs_base.specs.declared.prefix.Prefix.{Prefix}
 use Rattle.fs_base.specs.Parts.{parts_of}
 use Rattle.fs_nlri.specs.Rule.{shown}
 use Rattle.fs_attrs.specs.Prefixes.{Shown, first_prefix}
-use Rattle.fs_attrs.proofs.Shrinking.{prefix_shrinks}
-use Rattle.fs_attrs.proofs.Gathering.{behind, gathered_more, gathered_all, if_whole}
+use Rattle.fs_attrs.proofs.PartSizes.{prefix_shrinks}
+use Rattle.fs_attrs.proofs.PartLists.{behind, gathered_more, gathered_all, if_whole}
 use Rattle.fs_attrs.proofs.prefixes.read_prefixes.Goals as goal
 
 pub loop-prefix-preserved : goal.loop-prefix-preserved

@@ -3,7 +3,7 @@ use Rattle.std.specs.Prelude.{map}
 use Rattle.fs_base.specs.Parts.{parts_of}
 use Rattle.fs_nlri.specs.Rule.{shown}
 use Rattle.fs_attrs.specs.Prefixes.{first_prefix}
-use Rattle.fs_attrs.proofs.Gathering.{behind}
+use Rattle.fs_attrs.proofs.PartLists.{behind}
 use Rattle.fs_attrs.proofs.prefixes.read_prefixes.Given as goal
 
 abbrev pub invariant-loop-prefix : goal.invariant-loop-prefix

@@ -2,9 +2,8 @@ use Rattle.std.proofs.Common.{ℕ, ◌<◌, Err, subst, sym, arith}
 use Rattle.std.proofs.lemmas.List.Elements.{All-from_get_or}
 use Rattle.fs_base.specs.Language.{IsOctets}
 use Rattle.fs_attrs.specs.declared.update.UpdateFault.{UpdateFault}
-use Rattle.fs_attrs.specs.Reading.{ReadsAs}
-use Rattle.fs_attrs.specs.Update.{flow_routes}
-use Rattle.fs_attrs.proofs.Outcome.{flow_found, flow_bad}
+use Rattle.fs_attrs.specs.Routes.{ReadsAs, flow_routes}
+use Rattle.fs_attrs.proofs.FieldOutcome.{flow_found, flow_bad}
 use Rattle.fs_attrs.proofs.routes.read_flow.Goals as goal
 
 pub returns-in-Ok : goal.returns-in-Ok

@@ -3,9 +3,8 @@ use Rattle.std.specs.Prelude.{Result}
 use Rattle.fs_base.specs.Language.{IsOctets}
 use Rattle.fs_attrs.specs.declared.update.WriteFault.{WriteFault}
 use Rattle.fs_attrs.specs.declared.update.WriteFault.TheVariants.{TooLong, Memory}
-use Rattle.fs_attrs.specs.Writing.{update_text}
-use Rattle.fs_attrs.specs.Writable.{Writes}
-use Rattle.fs_attrs.proofs.ReadBack.{read_back}
+use Rattle.fs_attrs.specs.Write.{update_text, Writes}
+use Rattle.fs_attrs.proofs.UpdateReadBack.{read_back}
 use Rattle.fs_attrs.proofs.write.write_update.Goals as goal
 
 -- what holds of a body that fits a message

@@ -1,6 +1,6 @@
 use Rattle.std.proofs.Common.{◌≤◌, take}
 use Rattle.std.specs.Prelude.{flat_map, filter_map}
-use Rattle.fs_actions.specs.Actions.{limit_of}
+use Rattle.fs_actions.specs.Community.{limit_of}
 use Rattle.fs_line.specs.Line.{rate_text}
 use Rattle.fs_line.specs.Output.{Goes}
 use Rattle.fs_line.proofs.line.write_rates_of.Given as goal

@@ -1,6 +1,6 @@
 use Rattle.std.proofs.Common.{◌≡◌, drop, map}
 use Rattle.std.specs.List.{list_any}
-use Rattle.fs_actions.specs.Actions.{is_discard}
+use Rattle.fs_actions.specs.Community.{is_discard}
 use Rattle.fs_line.specs.Line.{actions_walked, rules_at}
 use Rattle.fs_line.proofs.walked.discards.Given as goal
 

@@ -1,5 +1,6 @@
 use Rattle.std.proofs.Common.{◌≡◌, drop, map}
-use Rattle.fs_actions.specs.Actions.{first_of, mark_of}
+use Rattle.fs_actions.specs.Actions.{first_of}
+use Rattle.fs_actions.specs.Community.{mark_of}
 use Rattle.fs_line.specs.Line.{actions_walked, rules_at}
 use Rattle.fs_line.proofs.walked.first_mark.Given as goal
 

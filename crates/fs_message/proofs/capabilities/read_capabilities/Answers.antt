@@ -1,8 +1,7 @@
 use Rattle.std.proofs.Common.{sym, ap, ◌∙◌}
 use Rattle.fs_message.specs.declared.capabilities.Found.{Found}
-use Rattle.fs_message.specs.Found.{gathered}
-use Rattle.fs_message.specs.Shown.{field_of}
-use Rattle.fs_message.proofs.Gathering.{gathered_more, gathered_not, gathered_end, capability_added, capability_refused}
+use Rattle.fs_message.specs.Capabilities.{gathered, field_of}
+use Rattle.fs_message.proofs.CapabilityLists.{gathered_more, gathered_not, gathered_end, capability_added, capability_refused}
 use Rattle.fs_message.proofs.capabilities.read_capabilities.Goals as goal
 
 pub returns-in_default-with_capability : goal.returns-in_default-with_capability

@@ -1,7 +1,7 @@
 use Rattle.std.proofs.Common.{◌≡◌, ◌==◌, false, sym, ◌∙◌, arith}
 use Rattle.std.proofs.lemmas.Bool.Decides.{nat_tests}
-use Rattle.fs_message.specs.Shown.{field_of}
-use Rattle.fs_message.proofs.Gathering.{all_more, all_unknown, all_malformed, all_end}
+use Rattle.fs_message.specs.Capabilities.{field_of}
+use Rattle.fs_message.proofs.CapabilityLists.{all_more, all_unknown, all_malformed, all_end}
 use Rattle.fs_message.proofs.capabilities.read_parameters.Goals as goal
 
 pub returns-then-parameter-ne-CAPABILITIES : goal.returns-then-parameter-ne-CAPABILITIES

@@ -1,8 +1,9 @@
 use Rattle.std.proofs.Common.{◌≡◌, ℕ, ◌<◌, ◌≤◌, ◌++◌, length, take, None, List, refl, sym, ap, ◌∙◌, subst, arith}
 use Rattle.std.proofs.lemmas.List.{length-take}
-use Rattle.fs_message.specs.Framing.{IsBegun}
-use Rattle.fs_message.specs.Stream.{header_fault, wrong_at}
-use Rattle.fs_message.proofs.Begun.{Headed, Bodied, headed_short, short_begun, bodied_short, bodied_whole, bodied_is_whole, bodied_some, header_judged, headed_of, bodied_of, size_fits}
+use Rattle.fs_message.specs.Deframer.{IsBegun}
+use Rattle.fs_message.specs.Header.{header_fault}
+use Rattle.fs_message.specs.Stream.{wrong_at}
+use Rattle.fs_message.proofs.BegunMessages.{Headed, Bodied, headed_short, short_begun, bodied_short, bodied_whole, bodied_is_whole, bodied_some, header_judged, headed_of, bodied_of, size_fits}
 use Rattle.fs_message.proofs.deframer.go_on_in.Goals as goal
 
 pub returns-in-Some-clause-exact : goal.returns-in-Some-clause-exact

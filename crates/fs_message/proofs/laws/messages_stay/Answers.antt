@@ -1,4 +1,4 @@
-use Rattle.fs_message.proofs.Staying.{message_shrinks, message_stable, fault_stays}
+use Rattle.fs_message.proofs.StreamLaws.{message_shrinks, message_stable, fault_stays}
 use Rattle.fs_message.proofs.laws.messages_stay.Goals as goal
 
 pub returns-clause-shrinks : goal.returns-clause-shrinks

@@ -1,7 +1,7 @@
 use Rattle.std.proofs.Common.{sym, arith}
 use Rattle.std.proofs.lemmas.Bool.Decides.{nat_tests}
 use Rattle.std.proofs.lemmas.Grind.{common_steps}
-use Rattle.fs_message.proofs.Gathering.{fields_right, fields_sized}
+use Rattle.fs_message.proofs.CapabilityLists.{fields_right, fields_sized}
 use Rattle.fs_message.proofs.open_.fault_of_fields.Goals as goal
 
 pub returns-then-body : goal.returns-then-body

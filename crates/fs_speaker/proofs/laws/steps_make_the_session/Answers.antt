@@ -1,4 +1,4 @@
-use Rattle.fs_speaker.proofs.Joined.{session_takes, session_stops, session_waits}
+use Rattle.fs_speaker.proofs.SessionSteps.{session_takes, session_stops, session_waits}
 use Rattle.fs_speaker.proofs.laws.steps_make_the_session.Goals as goal
 
 pub returns-clause-takes : goal.returns-clause-takes

@@ -4,7 +4,7 @@ use Rattle.std.specs.Prelude.{map}
 use Rattle.std.specs.List.{AllByRecursion}
 use Rattle.fs_base.specs.declared.prefix.Prefix.{Prefix}
 use Rattle.fs_nlri.specs.Rule.{shown}
-use Rattle.fs_attrs.specs.Sound.{IsPrefix}
+use Rattle.fs_attrs.specs.Lists.{IsPrefix}
 use Rattle.fs_attrs.proofs.lists.PrefixList.as_slice.Goals as goal
 
 all_prefixes : (prefixes : List Prefix) → AllByRecursion IsPrefix (map shown prefixes)

@@ -1,5 +1,5 @@
 use Rattle.std.specs.BTreeMap.{BTreeMap}
-use Rattle.fs_speaker.specs.Steps.{Live}
+use Rattle.fs_speaker.specs.Session.{Live}
 use Rattle.std.proofs.Common.{ap, ℕ, sym, Result, Ok, Err, OnOk}
 use Rattle.fs_desk.proofs.Played.{desk_fed, desk_skipped, desk_replied, desk_silent}
 use Rattle.fs_desk.proofs.desk.Desk.octets.Goals as goal

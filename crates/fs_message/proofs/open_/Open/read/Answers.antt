@@ -1,8 +1,7 @@
 use Rattle.std.proofs.Common.{◌≡◌, ℕ, List, drop, [], Some, sym, ap, ◌∙◌}
 use Rattle.std.proofs.lemmas.List.{take_rest}
-use Rattle.fs_message.specs.Open.{capabilities_of}
-use Rattle.fs_message.specs.Found.{found_in, all_gathered}
-use Rattle.fs_message.proofs.Gathering.{open_found}
+use Rattle.fs_message.specs.Capabilities.{capabilities_of, found_in, all_gathered}
+use Rattle.fs_message.proofs.CapabilityLists.{open_found}
 use Rattle.fs_message.proofs.open_.Open.read.Goals as goal
 
 pub returns : goal.returns

@@ -1,5 +1,0 @@
-use Rattle.fs_actions.proofs.Lists.{no_actions}
-use Rattle.fs_actions.proofs.list.Actions.none.Goals as goal
-
-pub invariant_of-result : goal.invariant_of-result
-invariant_of-result c = rw c.new.ensures.items no_actions

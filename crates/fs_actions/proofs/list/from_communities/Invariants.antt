@@ -1,5 +1,0 @@
-use Rattle.fs_actions.proofs.Lists.{Gathered}
-use Rattle.fs_actions.proofs.list.from_communities.Given as goal
-
-abbrev pub invariant-loop-community : goal.invariant-loop-community
-invariant-loop-community l = Gathered l.communities l.community-index l.list.items

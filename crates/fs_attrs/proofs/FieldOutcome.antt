@@ -1,0 +1,33 @@
+-- What is read of a field of frames is its one outcome.
+use Rattle.std.proofs.Common.{◌≡◌, ℕ, List, Option, Some, Result, Ok, Err, ap}
+use Rattle.fs_base.specs.declared.prefix.Family.{Family}
+use Rattle.fs_nlri.specs.declared.fault.Reason.{Reason}
+use Rattle.fs_nlri.specs.Parts.{Ruled}
+use Rattle.fs_nlri.specs.Feed.{Frames}
+use Rattle.fs_nlri.specs.Outcome.{AreBadFrames}
+use Rattle.fs_nlri.proofs.OneOutcome.{one_field_outcome}
+use Rattle.fs_attrs.proofs.RulesRead.{outcome_is}
+use Rattle.fs_base.specs.Language.{IsOctets}
+use Rattle.fs_attrs.specs.declared.update.Routes.{Routes}
+use Rattle.fs_attrs.specs.declared.update.Routes.TheVariants.{Flow}
+use Rattle.fs_nlri.specs.declared.fault.NlriFault.{NlriFault}
+use Rattle.fs_nlri.specs.declared.fault.NlriFault.TheVariants.{Bad, Memory as NoMemory}
+use Rattle.fs_attrs.specs.Routes.{ReadsAs, field_fault, IsFieldFault, Wrong, flow_routes}
+use Rattle.fs_attrs.specs.Rules.{rules_of}
+
+abbrev routes_at : Family → Result (List Ruled) (Reason × ℕ) → Result (Option Routes) Wrong
+routes_at family found = elim found [ Ok rules ↦ Ok (Some (Flow family rules)) | Err bad ↦ Err (Some bad) ]
+
+rules_are : (family : Family) (octets : List ℕ) (rules : List Ruled) → IsOctets octets → Frames family octets rules → rules_of family octets ≡ Ok rules
+rules_are family octets rules small frames = one_field_outcome family octets (rules_of family octets) (Ok rules) small (outcome_is family octets small) frames
+
+fault_is : (family : Family) (octets : List ℕ) (reason : Reason) (place : ℕ) → IsOctets octets → AreBadFrames family octets reason place → rules_of family octets ≡ Err (reason, place)
+fault_is family octets reason place small bad = one_field_outcome family octets (rules_of family octets) (Err (reason, place)) small (outcome_is family octets small) bad
+
+pub flow_found : (family : Family) (octets : List ℕ) (rules : List Ruled) → IsOctets octets → Frames family octets rules → flow_routes family octets ≡ Ok (Some (Flow family rules))
+flow_found family octets rules small frames = ap (routes_at family) (rules_are family octets rules small frames)
+
+pub flow_bad : (family : Family) (octets : List ℕ) (fault : NlriFault) → IsOctets octets → IsFieldFault family octets fault
+    → ReadsAs (Err (field_fault fault)) (flow_routes family octets)
+flow_bad family octets (Bad reason place) small bad = ap (routes_at family) (fault_is family octets reason place small bad)
+flow_bad family octets NoMemory small bad = tt

@@ -1,0 +1,332 @@
+-- The body that is written is read as the update that it was written of.
+use Rattle.std.proofs.Common.{◌≡◌, ℕ, suc, ◌+◌, ◌<◌, ◌≤◌, ◌==◌, Bool, true, false, not, ◌&&◌, ◌||◌, nat_le, nat_lt, List, [], ◌∷◌, ◌++◌, length, drop, Option, Some, None, Result, Ok, Err, refl, sym, ap, subst, ◌∙◌, arith, length-append, append_assoc}
+use Rattle.std.specs.Prelude.{bit_or, option_map, flat_map, IfSome}
+use Rattle.std.specs.Option.{is_some}
+use Rattle.std.specs.List.{AllByRecursion, list_all}
+use Rattle.std.proofs.lemmas.List.Elements.{recursion_from_All}
+use Rattle.std.proofs.lemmas.List.{drop_at, nil_from_length}
+use Rattle.std.proofs.lemmas.Bool.{and_parts, not-true, eqb-true}
+use Rattle.std.proofs.lemmas.Bool.Decides.{nat_tests}
+use Rattle.byteorder.specs.Endian.{big_number, big_bytes}
+use Rattle.byteorder.specs.Numbers.{big_number-reads_back}
+use Rattle.fs_base.specs.declared.config.Address.{Address}
+use Rattle.fs_base.specs.declared.prefix.Family.{Family}
+use Rattle.fs_base.specs.declared.prefix.Family.TheVariants.{V4, V6}
+use Rattle.fs_base.specs.declared.path.Path.{Path}
+use Rattle.fs_base.specs.Bits.{width_of, afi_of, cleared}
+use Rattle.fs_base.specs.Language.{IsOctets}
+use Rattle.fs_base.proofs.Octets.{octets_left, octets_right, octets_tail}
+use Rattle.fs_nlri.specs.Parts.{Ruled}
+use Rattle.fs_nlri.specs.Rule.{IsRule, canonical_frame}
+use Rattle.fs_nlri.specs.Feed.{Frames}
+use Rattle.fs_nlri.proofs.Again.{canonical_is_frame}
+use Rattle.fs_attrs.specs.declared.update.Terms.{Terms}
+use Rattle.fs_attrs.specs.declared.update.Routes.{Routes}
+use Rattle.fs_attrs.specs.declared.update.Routes.TheVariants.{Unicast, Flow}
+use Rattle.fs_attrs.specs.declared.update.Update.{Update}
+use Rattle.fs_attrs.specs.declared.update.UpdateFault.{UpdateFault}
+use Rattle.fs_attrs.specs.declared.update.UpdateFault.TheVariants.{List as ListFault}
+use Rattle.fs_attrs.specs.Attributes.{Attribute, attribute, Body, body, body_of, value_of, stands_before}
+use Rattle.fs_attrs.specs.Prefixes.{Shown, prefixes_of}
+use Rattle.fs_attrs.specs.Paths.{withdraws}
+use Rattle.fs_attrs.specs.Routes.{Wrong, reach_of, unreach_of, routes_of, is_read, unicast_routes, if_there, both_of, optional_of, has_routes}
+use Rattle.fs_attrs.specs.Update.{gives_routes, updated_with, updated, read_body}
+use Rattle.fs_attrs.specs.Texts.{flags_of, long_text, prefixes_text, rules_text, attribute_text}
+use Rattle.fs_attrs.specs.Write.{reach_in, unreach_in, path_in, hop_of, family_of, routes_text, reach_text, unreach_text, written_attributes, update_text, AreRoutes, IfRoutes, IsPath, IsSound, path_kept, keeps_numbers, ReadsBack}
+use Rattle.fs_attrs.specs.Writable.{are_prefixes_of, are_rules_of, are_attribute_routes, if_routes, is_path_of_session, is_written_path, announces, has_its_path, is_writable}
+use Rattle.fs_attrs.specs.Segments.{is_written_segment, are_low}
+use Rattle.fs_attrs.specs.Lists.{IsPrefix}
+use Rattle.fs_attrs.proofs.FieldOutcome.{flow_found}
+use Rattle.fs_attrs.proofs.PathReadBack.{IsGiven, path_read, path_given, none_given, actions_read}
+use Rattle.fs_attrs.proofs.TextsReadBack.{attribute_at, long_read, attributes_read, IsShown, prefixes_whole, prefixes_read}
+use Rattle.fs_attrs.proofs.WrittenAttributes.{reach_value, unreach_value, reach_once, unreach_once}
+
+-- the fields
+
+fields_read : (out announced : List ℕ) (list : List Attribute) → length out < 65536 → length (flat_map attribute_text list) < 65536
+    → body_of (long_text out ++ (long_text (flat_map attribute_text list) ++ announced)) ≡ Some (body out list announced)
+fields_read out announced list a b =
+    rw (long_read out (long_text (flat_map attribute_text list) ++ announced) a, long_read (flat_map attribute_text list) announced b, attributes_read list b)
+    (ap (λ (z : List Attribute × List ℕ). Some (body out z.0 announced)) (attributes_read list b))
+
+-- families
+
+same_family : (one other : Family) → (afi_of one == afi_of other) ≡ true → one ≡ other
+same_family V4 V4 h = refl
+same_family V6 V6 h = refl
+same_family V4 V6 h = cc
+same_family V6 V4 h = cc
+
+shown_in : (family : Family) (prefixes : List Shown) → are_prefixes_of family prefixes ≡ true → AllByRecursion IsPrefix prefixes → AllByRecursion (IsShown family) prefixes
+shown_in family [] h all = tt
+shown_in family (prefix ∷ prefixes) h all =
+    let parts = and_parts (afi_of prefix.0 == afi_of family) (are_prefixes_of family prefixes) h in
+    let same : prefix.0 ≡ family = same_family prefix.0 family parts.0 in (
+      record {
+        same = same;
+        short = subst (λ (f : Family). prefix.2 ≤ width_of f) same all.0.short;
+        clear = subst (λ (f : Family). prefix.1 ≡ cleared (width_of f) prefix.2 prefix.1) same all.0.clear;
+      },
+      shown_in family prefixes parts.1 all.1,
+    )
+
+frames_of : (family : Family) (rules : List Ruled) → are_rules_of family rules ≡ true → AllByRecursion IsRule rules → Frames family (rules_text rules) rules
+frames_of family [] h all = refl
+frames_of family (rule ∷ rules) h all =
+    let parts = and_parts (afi_of rule.family == afi_of family) (are_rules_of family rules) h in
+    (canonical_frame rule, rules_text rules, refl, same_family rule.family family parts.0, canonical_is_frame rule all.0, frames_of family rules parts.1 all.1)
+
+-- the routes of attributes
+
+routes_in : (afi safi : ℕ) → Routes → Type 0
+routes_in afi safi routes = routes_of afi safi (routes_text routes) ≡ Ok (Some routes)
+
+unicast_back : (prefixes : List Shown) → are_prefixes_of V6 prefixes ≡ true → AllByRecursion IsPrefix prefixes → unicast_routes V6 (prefixes_text prefixes) ≡ Ok (Some (Unicast V6 prefixes))
+unicast_back prefixes h all =
+    let shown = shown_in V6 prefixes h all in
+    rw (prefixes_whole V6 prefixes shown, prefixes_read V6 prefixes shown) refl
+
+-- the afi and the safi that are written of routes
+abbrev safi_of : Routes → ℕ
+safi_of (Unicast family prefixes) = 1
+safi_of (Flow family rules) = 133
+
+abbrev afi_at : Routes → ℕ
+afi_at (Unicast family prefixes) = afi_of family
+afi_at (Flow family rules) = afi_of family
+
+routes_back : (routes : Routes) → are_attribute_routes routes ≡ true → AreRoutes routes → IsOctets (routes_text routes) → routes_of (afi_at routes) (safi_of routes) (routes_text routes) ≡ Ok (Some routes)
+routes_back (Unicast V4 prefixes) h all small = cc
+routes_back (Unicast V6 prefixes) h all small = unicast_back prefixes (and_parts (not (length prefixes == 0)) (are_prefixes_of V6 prefixes) h).1 (recursion_from_All IsPrefix prefixes all)
+routes_back (Flow V4 rules) h all small = flow_found V4 (rules_text rules) rules small (frames_of V4 rules (and_parts (not (length rules == 0)) (are_rules_of V4 rules) h).1 (recursion_from_All IsRule rules all))
+routes_back (Flow V6 rules) h all small = flow_found V6 (rules_text rules) rules small (frames_of V6 rules (and_parts (not (length rules == 0)) (are_rules_of V6 rules) h).1 (recursion_from_All IsRule rules all))
+
+abbrev head_of : ℕ → ℕ → List ℕ
+head_of afi safi = big_bytes 2 afi ++ (safi ∷ [])
+
+unreach_at : (afi safi : ℕ) (routes : List ℕ) → afi < 65536 → unreach_of (head_of afi safi ++ routes) ≡ routes_of afi safi routes
+unreach_at afi safi routes small =
+    let number : big_number 2 (big_bytes 2 afi ++ (safi ∷ routes)) ≡ afi = big_number-reads_back 2 afi (safi ∷ routes) small in
+    let long : nat_lt (length (head_of afi safi ++ routes)) 3 ≡ false = grind (arith, nat_tests) in
+    rw (long, number) refl
+
+reach_at : (afi safi : ℕ) (hop routes : List ℕ) → afi < 65536 → is_read afi safi ≡ true
+    → reach_of (head_of afi safi ++ ((length hop ∷ hop) ++ (0 ∷ routes))) ≡ routes_of afi safi routes
+reach_at afi safi hop routes small read =
+    let value : List ℕ = head_of afi safi ++ ((length hop ∷ hop) ++ (0 ∷ routes)) in
+    let number : big_number 2 (big_bytes 2 afi ++ (safi ∷ ((length hop ∷ hop) ++ (0 ∷ routes)))) ≡ afi = big_number-reads_back 2 afi (safi ∷ ((length hop ∷ hop) ++ (0 ∷ routes))) small in
+    let both : length (hop ++ (0 ∷ routes)) ≡ length hop + suc (length routes) = length-append hop (0 ∷ routes) in
+    let three : nat_lt (length value) 3 ≡ false = grind (arith, nat_tests) in
+    let four : nat_lt (length value) 4 ≡ false = grind (arith, nat_tests) in
+    let hops : nat_lt (length value) (5 + length hop) ≡ false = grind (arith, nat_tests) in
+    let front : List ℕ = head_of afi safi ++ (length hop ∷ (hop ++ (0 ∷ []))) in
+    let joined : value ≡ front ++ routes = ap (λ (z : List ℕ). head_of afi safi ++ (length hop ∷ z)) (sym (append_assoc hop (0 ∷ []) routes)) in
+    let ends : length (hop ++ (0 ∷ [])) ≡ length hop + 1 = length-append hop (0 ∷ []) in
+    let size : length front ≡ 5 + length hop = omega arith in
+    let behind : drop (5 + length hop) value ≡ routes = ap (λ (z : List ℕ). drop (5 + length hop) z) joined ∙ drop_at front routes (5 + length hop) size in
+    rw (three, number, read, four, hops, behind) refl
+
+afi_small : (family : Family) → afi_of family < 65536
+afi_small V4 = omega arith
+afi_small V6 = omega arith
+
+reach_back : (address : Address) (routes : Routes) → are_attribute_routes routes ≡ true → AreRoutes routes → IsOctets (routes_text routes) → reach_of (reach_text address routes) ≡ Ok (Some routes)
+reach_back address (Unicast V4 prefixes) h all small = cc
+reach_back address (Unicast V6 prefixes) h all small = reach_at 2 1 (hop_of address (Unicast V6 prefixes)) (prefixes_text prefixes) (omega arith) refl ∙ routes_back (Unicast V6 prefixes) h all small
+reach_back address (Flow V4 rules) h all small = reach_at 1 133 [] (rules_text rules) (omega arith) refl ∙ routes_back (Flow V4 rules) h all small
+reach_back address (Flow V6 rules) h all small = reach_at 2 133 [] (rules_text rules) (omega arith) refl ∙ routes_back (Flow V6 rules) h all small
+
+unreach_back : (routes : Routes) → are_attribute_routes routes ≡ true → AreRoutes routes → IsOctets (routes_text routes) → unreach_of (unreach_text routes) ≡ Ok (Some routes)
+unreach_back (Unicast V4 prefixes) h all small = cc
+unreach_back (Unicast V6 prefixes) h all small = unreach_at 2 1 (prefixes_text prefixes) (omega arith) ∙ routes_back (Unicast V6 prefixes) h all small
+unreach_back (Flow V4 rules) h all small = unreach_at 1 133 (rules_text rules) (omega arith) ∙ routes_back (Flow V4 rules) h all small
+unreach_back (Flow V6 rules) h all small = unreach_at 2 133 (rules_text rules) (omega arith) ∙ routes_back (Flow V6 rules) h all small
+
+reach_there : (address : Address) (reach : Option Routes) → if_routes reach ≡ true → IfRoutes reach → IfSome reach (λ (routes : Routes). IsOctets (routes_text routes)) → if_there reach_of (option_map (reach_text address) reach) ≡ Ok reach
+reach_there address None h all small = refl
+reach_there address (Some routes) h all small = reach_back address routes h all small
+
+unreach_there : (unreach : Option Routes) → if_routes unreach ≡ true → IfRoutes unreach → IfSome unreach (λ (routes : Routes). IsOctets (routes_text routes)) → if_there unreach_of (option_map unreach_text unreach) ≡ Ok unreach
+unreach_there None h all small = refl
+unreach_there (Some routes) h all small = unreach_back routes h all small
+
+both_ok : (reach unreach : Option Routes) (first : Bool) → both_of (Ok reach) (Ok unreach) first ≡ Ok (reach, unreach)
+both_ok reach unreach true = refl
+both_ok reach unreach false = refl
+
+-- what is written of routes are octets where the body is
+
+attributes_octets : (terms : Terms) (update : Update) → IsOctets (update_text terms update) → IsOctets (flat_map attribute_text (written_attributes terms update))
+attributes_octets terms update small =
+    let out : List ℕ = long_text (prefixes_text update.classic_out) in
+    let octets : List ℕ = flat_map attribute_text (written_attributes terms update) in
+    octets_right (big_bytes 2 (length octets)) octets
+    (octets_left (long_text octets) (prefixes_text update.classic_in) (octets_right out (long_text octets ++ prefixes_text update.classic_in) small))
+
+value_octets : (wide : Bool) (given : Attribute) → IsOctets (attribute_at wide given) → IsOctets given.value
+value_octets true given small =
+    octets_right (big_bytes 2 (length given.value)) given.value (octets_right (bit_or (flags_of given.kind) 16 ∷ given.kind ∷ []) (long_text given.value) small)
+value_octets false given small = octets_right (flags_of given.kind ∷ given.kind ∷ length given.value ∷ []) given.value small
+
+reach_octets : (terms : Terms) (update : Update) → IsOctets (update_text terms update) → IfSome update.reach (λ (routes : Routes). IsOctets (routes_text routes))
+reach_octets terms update small = by update.reach (attributes_octets terms update small) where
+  rest : List Attribute
+  rest = unreach_in update.unreach ++ path_in terms update update.path
+
+  by : (reach : Option Routes) → IsOctets (flat_map attribute_text (reach_in terms reach ++ rest)) → IfSome reach (λ (routes : Routes). IsOctets (routes_text routes))
+  by None octets = tt
+  by (Some routes) octets =
+      let given : Attribute = attribute 14 (reach_text terms.address routes) in
+      let value : IsOctets (reach_text terms.address routes) =
+      value_octets (nat_lt 255 (length given.value)) given (octets_left (attribute_text given) (flat_map attribute_text rest) octets) in
+      octets_tail 0 (routes_text routes)
+      (octets_right (length (hop_of terms.address routes) ∷ hop_of terms.address routes) (0 ∷ routes_text routes)
+      (octets_right (family_of routes) ((length (hop_of terms.address routes) ∷ hop_of terms.address routes) ++ (0 ∷ routes_text routes)) value))
+
+unreach_octets : (terms : Terms) (update : Update) → IsOctets (update_text terms update) → IfSome update.unreach (λ (routes : Routes). IsOctets (routes_text routes))
+unreach_octets terms update small = by update.unreach (behind update.reach (attributes_octets terms update small)) where
+  rest : List Attribute
+  rest = path_in terms update update.path
+
+  behind : (reach : Option Routes) → IsOctets (flat_map attribute_text (reach_in terms reach ++ (unreach_in update.unreach ++ rest))) → IsOctets (flat_map attribute_text (unreach_in update.unreach ++ rest))
+  behind None octets = octets
+  behind (Some routes) octets = octets_right (attribute_text (attribute 14 (reach_text terms.address routes))) (flat_map attribute_text (unreach_in update.unreach ++ rest)) octets
+
+  by : (unreach : Option Routes) → IsOctets (flat_map attribute_text (unreach_in unreach ++ rest)) → IfSome unreach (λ (routes : Routes). IsOctets (routes_text routes))
+  by None octets = tt
+  by (Some routes) octets =
+      let given : Attribute = attribute 15 (unreach_text routes) in
+      octets_right (family_of routes) (routes_text routes)
+      (value_octets (nat_lt 255 (length given.value)) given (octets_left (attribute_text given) (flat_map attribute_text rest) octets))
+
+optional_read : (terms : Terms) (update : Update) → if_routes update.reach ≡ true → if_routes update.unreach ≡ true → IsSound update → IsOctets (update_text terms update)
+    → optional_of (written_attributes terms update) ≡ Ok (update.reach, update.unreach)
+optional_read terms update r u sound small =
+    let attributes : List Attribute = written_attributes terms update in
+    let first : Bool = stands_before 15 14 attributes in
+    let reach : if_there reach_of (value_of 14 attributes) ≡ Ok update.reach =
+    ap (λ (z : Option (List ℕ)). if_there reach_of z) (reach_value terms update) ∙ reach_there terms.address update.reach r sound.reach (reach_octets terms update small) in
+    let unreach : if_there unreach_of (value_of 15 attributes) ≡ Ok update.unreach =
+    ap (λ (z : Option (List ℕ)). if_there unreach_of z) (unreach_value terms update) ∙ unreach_there update.unreach u sound.unreach (unreach_octets terms update small) in
+    ap (λ (z : Result (Option Routes) Wrong). both_of z (if_there unreach_of (value_of 15 attributes)) first) reach
+    ∙ ap (λ (z : Result (Option Routes) Wrong). both_of (Ok update.reach) z first) unreach
+    ∙ both_ok update.reach update.unreach first
+
+routes_given : (reach : Option Routes) → if_routes reach ≡ true → has_routes reach ≡ is_some reach
+routes_given None h = refl
+routes_given (Some (Unicast V4 prefixes)) h = cc
+routes_given (Some (Unicast V6 prefixes)) h = (and_parts (not (length prefixes == 0)) (are_prefixes_of V6 prefixes) h).0
+routes_given (Some (Flow family rules)) h = (and_parts (not (length rules == 0)) (are_rules_of family rules) h).0
+
+-- the update
+
+same_update : (update : Update) (out announced : List Shown) (unreach reach : Option Routes) (path : Option Path) (actions : List (List ℕ)) (withdrawn : Bool)
+    → out ≡ update.classic_out → unreach ≡ update.unreach → reach ≡ update.reach → announced ≡ update.classic_in → path ≡ update.path → actions ≡ update.actions → withdrawn ≡ update.as_withdraw
+    → record { classic_out = out; unreach = unreach; reach = reach; classic_in = announced; path = path; actions = actions; as_withdraw = withdrawn } ≡ update
+same_update update out announced unreach reach path actions withdrawn a b c d e f g = rw (a, b, c, d, e, f, g) refl
+
+abbrev fields : Terms → Update → Body
+fields terms update = body (prefixes_text update.classic_out) (written_attributes terms update) (prefixes_text update.classic_in)
+
+-- the parts of the test
+pub record IsWritten (terms : Terms) (update : Update) : Type 0 where
+  pub plain : update.as_withdraw ≡ false
+  pub out : are_prefixes_of V4 update.classic_out ≡ true
+  pub announced : are_prefixes_of V4 update.classic_in ≡ true
+  pub reach : if_routes update.reach ≡ true
+  pub unreach : if_routes update.unreach ≡ true
+  pub path : has_its_path terms update update.path ≡ true
+
+pub written_parts : (terms : Terms) (update : Update) → is_writable terms update ≡ true → IsWritten terms update
+written_parts terms update h =
+    let plain : Bool = not update.as_withdraw in
+    let out : Bool = are_prefixes_of V4 update.classic_out in
+    let announced : Bool = are_prefixes_of V4 update.classic_in in
+    let reach : Bool = if_routes update.reach in
+    let unreach : Bool = if_routes update.unreach in
+    let five = and_parts ((((plain && out) && announced) && reach) && unreach) (has_its_path terms update update.path) h in
+    let four = and_parts (((plain && out) && announced) && reach) unreach five.0 in
+    let three = and_parts ((plain && out) && announced) reach four.0 in
+    let two = and_parts (plain && out) announced three.0 in
+    let one = and_parts plain out two.0 in
+    record { plain = not-true update.as_withdraw one.0; out = one.1; announced = two.1; reach = three.1; unreach = four.1; path = five.1 }
+
+body_read : (terms : Terms) (update : Update) → IsWritten terms update → IsSound update → IsOctets (update_text terms update)
+    → read_body terms (fields terms update) ≡ Ok (updated terms (fields terms update) (update.reach, update.unreach))
+body_read terms update is sound small =
+    rw (
+      reach_once terms update,
+      unreach_once terms update,
+      prefixes_whole V4 update.classic_out (shown_in V4 update.classic_out is.out (recursion_from_All IsPrefix update.classic_out sound.classic_out)),
+      prefixes_whole V4 update.classic_in (shown_in V4 update.classic_in is.announced (recursion_from_All IsPrefix update.classic_in sound.classic_in)),
+      optional_read terms update is.reach is.unreach sound small,
+    ) refl
+
+gives_is : (terms : Terms) (update : Update) → IsWritten terms update → IsSound update → gives_routes (fields terms update) update.reach ≡ announces update
+gives_is terms update is sound =
+    rw (routes_given update.reach is.reach, prefixes_read V4 update.classic_in (shown_in V4 update.classic_in is.announced (recursion_from_All IsPrefix update.classic_in sound.classic_in))) refl
+
+abbrev updated_at : Terms → Update → Bool → Bool → Update
+updated_at terms update gives withdrawn = updated_with terms (fields terms update) (update.reach, update.unreach) gives withdrawn
+
+out_read : (terms : Terms) (update : Update) → IsWritten terms update → IsSound update → prefixes_of V4 (prefixes_text update.classic_out) ≡ update.classic_out
+out_read terms update is sound = prefixes_read V4 update.classic_out (shown_in V4 update.classic_out is.out (recursion_from_All IsPrefix update.classic_out sound.classic_out))
+
+announced_read : (terms : Terms) (update : Update) → IsWritten terms update → IsSound update → prefixes_of V4 (prefixes_text update.classic_in) ≡ update.classic_in
+announced_read terms update is sound = prefixes_read V4 update.classic_in (shown_in V4 update.classic_in is.announced (recursion_from_All IsPrefix update.classic_in sound.classic_in))
+
+given_of : (terms : Terms) (actions : List (List ℕ)) (path : Path) → is_written_path terms path ≡ true → IsPath actions path → (terms.four || list_all are_low path.segments) ≡ true
+    → IsGiven terms actions path
+given_of terms actions path h sound kept =
+    let last = and_parts (is_path_of_session terms path && nat_le path.origin 2) (list_all (is_written_segment terms.external) path.segments) h in
+    let first = and_parts (is_path_of_session terms path) (nat_le path.origin 2) last.0 in
+    record { session = first.0; origin = first.1; written = last.1; sound = sound; kept = kept }
+
+with_path : (terms : Terms) (update : Update) (path : Path) → update.path ≡ Some path → IsWritten terms update → IsSound update → keeps_numbers terms update ≡ true
+    → updated_at terms update (announces update) (withdraws terms (written_attributes terms update) (announces update)) ≡ update
+with_path terms update path there is sound kept =
+    let parts = and_parts (announces update) (is_written_path terms path) (subst (λ (z : Option Path). has_its_path terms update z ≡ true) there is.path) in
+    let given = given_of terms update.actions path parts.1 (subst (λ (z : Option Path). IfSome z (IsPath update.actions)) there sound.path)
+    (subst (λ (z : Option Path). (terms.four || path_kept z) ≡ true) there kept) in
+    ap (λ (g : Bool). updated_at terms update g (withdraws terms (written_attributes terms update) g)) parts.0
+    ∙ ap (λ (w : Bool). updated_at terms update true w) (path_given terms update path there given)
+    ∙ same_update update _ _ update.unreach update.reach _ _ false (out_read terms update is sound) refl refl (announced_read terms update is sound)
+    (ap (λ (p : Path). Some p) (path_read terms update path there given) ∙ sym there) (actions_read terms update path there given.sound.actions) (sym is.plain)
+
+without_path : (terms : Terms) (update : Update) → update.path ≡ None → IsWritten terms update → IsSound update
+    → updated_at terms update (announces update) (withdraws terms (written_attributes terms update) (announces update)) ≡ update
+without_path terms update none is sound =
+    let parts = and_parts (not (announces update)) (length update.actions == 0) (subst (λ (z : Option Path). has_its_path terms update z ≡ true) none is.path) in
+    let empty : update.actions ≡ [] = nil_from_length update.actions (eqb-true (length update.actions) 0 parts.1) in
+    ap (λ (g : Bool). updated_at terms update g (withdraws terms (written_attributes terms update) g)) (not-true (announces update) parts.0)
+    ∙ ap (λ (w : Bool). updated_at terms update false w) (none_given terms update none)
+    ∙ same_update update _ _ update.unreach update.reach None [] false (out_read terms update is sound) refl refl (announced_read terms update is sound)
+    (sym none) (sym empty) (sym is.plain)
+
+by_path : (terms : Terms) (update : Update) (path : Option Path) → update.path ≡ path → IsWritten terms update → IsSound update → keeps_numbers terms update ≡ true
+    → updated_at terms update (announces update) (withdraws terms (written_attributes terms update) (announces update)) ≡ update
+by_path terms update None there is sound kept = without_path terms update there is sound
+by_path terms update (Some path) there is sound kept = with_path terms update path there is sound kept
+
+updated_is : (terms : Terms) (update : Update) → IsWritten terms update → IsSound update → keeps_numbers terms update ≡ true
+    → updated terms (fields terms update) (update.reach, update.unreach) ≡ update
+updated_is terms update is sound kept =
+    ap (λ (g : Bool). updated_at terms update g (withdraws terms (written_attributes terms update) g)) (gives_is terms update is sound)
+    ∙ by_path terms update update.path refl is sound kept
+
+abbrev body_result : Terms → Option Body → Result Update UpdateFault
+body_result terms found = elim found [ None ↦ Err ListFault | Some fields ↦ read_body terms fields ]
+
+pub read_back : (terms : Terms) (update : Update) → is_writable terms update ≡ true → IsSound update → IsOctets (update_text terms update) → 19 + length (update_text terms update) ≤ 4096 → ReadsBack terms update
+read_back terms update h sound octets small kept =
+    let is = written_parts terms update h in
+    let out : List ℕ = prefixes_text update.classic_out in
+    let list : List ℕ = flat_map attribute_text (written_attributes terms update) in
+    let announced : List ℕ = prefixes_text update.classic_in in
+    let a : length (long_text out ++ (long_text list ++ announced)) ≡ length (long_text out) + length (long_text list ++ announced) = length-append (long_text out) (long_text list ++ announced) in
+    let b : length (long_text list ++ announced) ≡ length (long_text list) + length announced = length-append (long_text list) announced in
+    let c : length (long_text out) ≡ length (big_bytes 2 (length out)) + length out = length-append (big_bytes 2 (length out)) out in
+    let d : length (long_text list) ≡ length (big_bytes 2 (length list)) + length list = length-append (big_bytes 2 (length list)) list in
+    ap (body_result terms) (fields_read out announced (written_attributes terms update) (omega arith) (omega arith))
+    ∙ body_read terms update is sound octets
+    ∙ ap (λ (u : Update). Ok u) (updated_is terms update is sound kept)

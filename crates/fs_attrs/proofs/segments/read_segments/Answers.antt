@@ -1,0 +1,19 @@
+use Rattle.std.proofs.Common.{ℕ, List, [], ◌∷◌, ◌++◌, sym, ap, ◌∙◌}
+use Rattle.fs_base.specs.declared.path.Segment.{Segment}
+use Rattle.fs_base.specs.Parts.{parts_of}
+use Rattle.fs_attrs.specs.Segments.{first_segment, segment, lent_segment}
+use Rattle.fs_attrs.proofs.PartSizes.{segment_shrinks}
+use Rattle.fs_attrs.proofs.PartLists.{behind, gathered_more, gathered_all}
+use Rattle.fs_attrs.proofs.segments.read_segments.Goals as goal
+
+pub loop-segment-preserved : goal.loop-segment-preserved
+loop-segment-preserved c =
+    let pushed = c.in_ok-push.ensures.items ∙ ap (λ (n : List ℕ). c.loop-segment.segments.items ++ segment c.in-Some.segment.form n ∷ []) c.in_ok-numbers.ensures in
+    ap (λ (z : List Segment). behind z (parts_of (first_segment c.args.four) c.in-Some.behind.now)) pushed
+    ∙ gathered_more (first_segment c.args.four) (segment_shrinks c.args.four) c.loop-segment.segments.items c.loop-segment.rest.now
+    (lent_segment c.args.four c.in-Some.segment, c.in-Some.behind.now) (sym c.in-Some.ensures)
+    ∙ c.loop-segment.invariant
+
+pub returns : goal.returns
+returns c =
+    c.new.ensures ∙ ap (λ (z : List Segment × List ℕ). z.0) (sym (gathered_all (first_segment c.args.four) c.loop-segment.segments.items c.loop-segment.rest.now (sym c.in_default.ensures)) ∙ c.loop-segment.invariant)

@@ -1,0 +1,11 @@
+use Rattle.std.proofs.Common.{◌≡◌, length}
+use Rattle.fs_base.specs.Parts.{parts_of}
+use Rattle.fs_attrs.specs.Segments.{first_segment}
+use Rattle.fs_attrs.proofs.PartLists.{behind}
+use Rattle.fs_attrs.proofs.segments.read_segments.Given as goal
+
+abbrev pub invariant-loop-segment : goal.invariant-loop-segment
+invariant-loop-segment l = behind l.segments.items (parts_of (first_segment l.four) l.rest) ≡ parts_of (first_segment l.four) l.octets
+
+abbrev pub decreases-loop-segment : goal.decreases-loop-segment
+decreases-loop-segment l = length l.rest

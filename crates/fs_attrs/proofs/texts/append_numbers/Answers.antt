@@ -1,6 +1,0 @@
-use Rattle.std.proofs.Common.{ℕ, ◌^◌, ◌<◌, arith}
-use Rattle.std.proofs.lemmas.List.Elements.{All-from_get_or}
-use Rattle.fs_attrs.proofs.texts.append_numbers.Goals as goal
-
-pub returns-clause-sound : goal.returns-clause-sound
-returns-clause-sound c = All-from_get_or (λ (asn : ℕ). asn < 2 ^ 32) c.args.numbers.now 0 (λ i lt. omega (arith, c.type_inv.numbers i))

@@ -1,7 +1,0 @@
-use Rattle.std.proofs.Common.{◌≡◌, ◌++◌, take, All}
-use Rattle.fs_attrs.specs.Sound.{AreNumbers}
-use Rattle.fs_attrs.specs.Writing.{segments_text}
-use Rattle.fs_attrs.proofs.texts.append_segments.Given as goal
-
-abbrev pub invariant-loop-segment : goal.invariant-loop-segment
-invariant-loop-segment l = (l.out.items ≡ l.initial.out.items ++ segments_text l.four (take l.segment-index l.segments)) × All AreNumbers (take l.segment-index l.segments)
