@@ -2,10 +2,10 @@
 use Rattle.std.proofs.Common.{◌≡◌, ℕ, ◌/◌, ◌<◌, ◌≤◌, List, length, drop, slice_index, Option, Some, Ok, Err, sym, subst, ◌∙◌, arith, false, not, ◌==◌, ◌&&◌, nat_lt, if◌then◌else◌}
 use Rattle.std.proofs.lemmas.Bool.Decides.{nat_tests}
 use Rattle.fs_base.specs.declared.prefix.Family.TheVariants.{V4, V6}
-use Rattle.fs_packet.specs.Link.{number_at}
+use Rattle.fs_packet.specs.Fields.{number_at}
 use Rattle.fs_packet.specs.Chain.{last_field, protocol_at}
 use Rattle.fs_packet.specs.Fields.{viewed}
-use Rattle.fs_packet.specs.View.{v4_fragment, v4_size, v4_transport, v4_view, v6_chain, v6_fragment, v6_length, v6_view}
+use Rattle.fs_packet.specs.Reading.{v4_fragment, v4_size, v4_transport, v4_view, v6_chain, v6_fragment, v6_length, v6_view}
 use Rattle.fs_packet.specs.declared.fields.Unread.TheVariants.{Short, Version, Header, Length}
 
 some_octet : (n : ℕ) → 0 < n → (n == 0) ≡ false

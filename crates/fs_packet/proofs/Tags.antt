@@ -1,7 +1,8 @@
 -- One tag more of an Ethernet header.
 use Rattle.std.proofs.Common.{◌≡◌, ℕ, zero, suc, ◌+◌, ◌-◌, ◌*◌, ◌<◌, ◌≤◌, List, length, Err, refl, sym, ◌∙◌, arith, true, false, Bool, nat_lt, if◌then◌else◌}
 use Rattle.std.proofs.lemmas.Bool.Decides.{nat_tests}
-use Rattle.fs_packet.specs.Link.{behind_tags, behind_type, is_tag, number_at}
+use Rattle.fs_packet.specs.Fields.{number_at}
+use Rattle.fs_packet.specs.Reading.{behind_tags, behind_type, is_tag}
 use Rattle.fs_packet.specs.declared.fields.Unread.TheVariants.{Short}
 
 -- what is left gives what the whole gives

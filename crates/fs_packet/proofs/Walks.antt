@@ -6,7 +6,7 @@ use Rattle.std.proofs.lemmas.Bool.Decides.{nat_tests}
 use Rattle.fs_base.specs.Parts.{Shrinks, parts_of, with_part}
 use Rattle.fs_base.proofs.Parts.{parts_end, parts_step}
 use Rattle.std.proofs.lemmas.Bool.{leb-true}
-use Rattle.fs_packet.specs.Link.{number_at}
+use Rattle.fs_packet.specs.Fields.{number_at}
 use Rattle.fs_packet.specs.Chain.{behind_fragment, chain_of, extension_size, first_header, header_of, is_extension, last_field}
 
 -- what is left of the walk gives what the whole gives

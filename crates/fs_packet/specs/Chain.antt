@@ -1,7 +1,7 @@
 -- The headers of an IPv6 packet that stand before the upper layer's (RFC 8200 section 4).
 use Rattle.std.specs.Prelude.{ℕ, ◌+◌, ◌*◌, ◌/◌, ◌==◌, Bool, ◌&&◌, ◌||◌, List, [], ◌∷◌, length, drop, slice_index, nat_le, if◌then◌else◌, Option, Some, None}
 use Rattle.fs_base.specs.Parts.{parts_of}
-use Rattle.fs_packet.specs.Link.{number_at}
+use Rattle.fs_packet.specs.Fields.{number_at}
 
 -- hop-by-hop options, routing, fragment, authentication, destination options
 abbrev pub is_extension : ℕ → Bool
@@ -22,14 +22,17 @@ behind_fragment field octets = if field / 8 == 0 then drop 8 octets else []
 -- header before the octets of that
 abbrev pub header_of : (number : ℕ) → List ℕ → Option ℕ × List ℕ
 header_of number octets =
-    if number == 44 then (Some (number_at 2 octets 2), slice_index octets 0 ∷ behind_fragment (number_at 2 octets 2) octets)
+    if number == 44
+    then (Some (number_at 2 octets 2), slice_index octets 0 ∷ behind_fragment (number_at 2 octets 2) octets)
     else (None, slice_index octets 0 ∷ drop (extension_size number (slice_index octets 1)) octets)
 
 -- the header at the front of the octets, before which its number stands
 abbrev pub first_header : List ℕ → Option (Option ℕ × List ℕ)
 first_header [] = None
 first_header (number ∷ octets) =
-    if is_extension number && nat_le (extension_size number (slice_index octets 1)) (length octets) then Some (header_of number octets) else None
+    if is_extension number && nat_le (extension_size number (slice_index octets 1)) (length octets)
+    then Some (header_of number octets)
+    else None
 
 -- the headers behind a number, and the number and the octets that are no such header
 abbrev pub chain_of : (number : ℕ) → List ℕ → List (Option ℕ) × List ℕ

@@ -1,10 +1,23 @@
--- What is read of a packet.
-use Rattle.std.specs.Prelude.{ℕ, ◌/◌, ◌≤◌, ◌==◌, Bool, false, ◌&&◌, ◌||◌, List, length, slice_index, bit_and, nat_le, if◌then◌else◌, Option, Some, None}
+-- What is read of a packet, or why it isn't read.
+use Rattle.std.specs.Prelude.{ℕ, ◌/◌, ◌<◌, ◌≤◌, ◌==◌, Bool, false, ◌&&◌, ◌||◌, List, length, drop, slice_index, bit_and, nat_le, if◌then◌else◌, Option, Some, None}
+use Rattle.byteorder.specs.Endian.{big_number}
 use Rattle.fs_base.specs.declared.prefix.Family.{Family}
 use Rattle.fs_base.specs.declared.prefix.Family.TheVariants.{V4, V6}
 use Rattle.fs_base.specs.declared.config.Address.{Address}
 use Rattle.fs_base.specs.declared.config.Address.TheVariants.{V4 as V4Address, V6 as V6Address}
-use Rattle.fs_packet.specs.Link.{number_at}
+use Rattle.fs_packet.specs.declared.fields.Unread.{Unread}
+use Rattle.fs_packet.specs.declared.fields.Unread.TheVariants.{Foreign, Short, Version, Header, Length}
+
+abbrev pub unread_number : Unread → ℕ
+unread_number Foreign = 1
+unread_number Short = 2
+unread_number Version = 3
+unread_number Header = 4
+unread_number Length = 5
+
+-- the number in n octets from a place on
+abbrev pub number_at : (n : ℕ) → List ℕ → (place : ℕ) → ℕ
+number_at n octets place = big_number n (drop place octets)
 
 pub record Viewed : Type 0 where
   pub family : Family
@@ -29,6 +42,10 @@ source_at V6 packet = V6Address (number_at 16 packet 8)
 abbrev pub destination_at : Family → List ℕ → Address
 destination_at V4 packet = V4Address (number_at 4 packet 16)
 destination_at V6 packet = V6Address (number_at 16 packet 24)
+
+abbrev pub family_of : Address → Family
+family_of (V4Address address) = V4
+family_of (V6Address address) = V6
 
 -- the high six bits of the traffic octet (RFC 2474 section 3)
 abbrev pub dscp_at : Family → List ℕ → ℕ
@@ -59,7 +76,8 @@ is_icmp family (Some protocol) = protocol == icmp_number family
 
 -- a number of the upper layer's header, present where that has so many octets
 abbrev pub field_at : Bool → (held n : ℕ) → List ℕ → (place : ℕ) → Option ℕ
-field_at present held n transport place = if present && nat_le held (length transport) then Some (number_at n transport place) else None
+field_at present held n transport place =
+    if present && nat_le held (length transport) then Some (number_at n transport place) else None
 
 -- the fields by their places: in the packet, and in the octets of the upper layer's header that are held
 abbrev pub viewed : Family → List ℕ → (len : ℕ) → Option ℕ → (fragment : ℕ) → List ℕ → Viewed
@@ -83,3 +101,8 @@ viewed family packet len protocol fragment transport = record {
 abbrev pub HasHeader : Family → List ℕ → Type 0
 HasHeader V4 packet = 20 ≤ length packet
 HasHeader V6 packet = 40 ≤ length packet
+
+-- what is true of each view: its header is whole, and its fragment bits are of a rule's four
+pub record IsView (family : Family) (packet : List ℕ) (fragment : ℕ) : Type 0 where
+  pub header : HasHeader family packet
+  pub bits : fragment < 16

@@ -1,6 +1,4 @@
-pub mod Link
-pub mod Chain
 pub mod Fields
-pub mod View
+pub mod Chain
 pub mod Matches
 pub mod Reading

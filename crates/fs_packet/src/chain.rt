@@ -71,7 +71,8 @@ fn protocol(number: u8) -> Option<u8>
 /// The header of this number at the front of the octets, where it is one that stands before the upper layer's and
 /// is held whole.
 fn header_at(number: u8, octets: &[u8]) -> Option<Header<'_>>
-    ensures header { option_map (λ header. (header.field, header.next ∷ header.behind.now)) result ≡ first_header (number ∷ octets.now) }
+    ensures header { option_map (λ header. (header.field, header.next ∷ header.behind.now)) result
+        ≡ first_header (number ∷ octets.now) }
     ensures shorter { IfSome result (λ header. length header.behind.now < length octets.now) }
 {
     let [next, second, ..] = octets else {

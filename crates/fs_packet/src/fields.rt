@@ -1,6 +1,6 @@
 //! The fields of a packet.
 
-ghost use Rattle.std.specs.Prelude.{◌≡◌};
+ghost use Rattle.std.specs.Prelude.{◌≡◌, ◌<◌};
 ghost use Rattle.fs_packet.specs.Fields.{has_ports, is_icmp, is_tcp};
 
 use byteorder::{BigEndian, ByteOrder};
@@ -23,7 +23,7 @@ pub enum Unread {
 }
 
 impl Unread {
-    ghost use Rattle.fs_packet.specs.Link.{unread_number};
+    ghost use Rattle.fs_packet.specs.Fields.{unread_number};
 
     /// The number that a line for the record prints, 1 to 5.
     pub fn number(self) -> u8
@@ -54,16 +54,18 @@ pub struct View<'a> {
 }
 
 impl<'a> Model for View<'a> {
-    ghost use Rattle.fs_packet.specs.Fields.{Viewed, viewed, HasHeader};
+    ghost use Rattle.fs_packet.specs.Fields.{IsView, Viewed, viewed};
 
     ghost Value = { Viewed };
 
     ghost view = { λ v. viewed v.family v.packet.now v.length v.protocol v.fragment v.transport.now };
 
-    ghost invariant = { λ v. HasHeader v.family v.packet.now };
+    ghost invariant = { λ v. IsView v.family v.packet.now v.fragment };
 }
 
 impl<'a> View<'a> {
+    ghost use Rattle.fs_packet.specs.Fields.{family_of};
+
     /// The address family.
     pub fn family(&self) -> Family
         ensures { result ≡ self.now.family }
@@ -73,7 +75,8 @@ impl<'a> View<'a> {
 
     /// The source address.
     pub fn source(&self) -> Address
-        ensures { result ≡ self.now.source }
+        ensures value { result ≡ self.now.source }
+        ensures family { family_of result ≡ self.now.family }
     {
         match self.family {
             Family::V4 => Address::V4(BigEndian::read_u32(&self.packet[12..])),
@@ -83,7 +86,8 @@ impl<'a> View<'a> {
 
     /// The destination address.
     pub fn destination(&self) -> Address
-        ensures { result ≡ self.now.destination }
+        ensures value { result ≡ self.now.destination }
+        ensures family { family_of result ≡ self.now.family }
     {
         match self.family {
             Family::V4 => Address::V4(BigEndian::read_u32(&self.packet[16..])),
@@ -167,7 +171,8 @@ impl<'a> View<'a> {
 
     /// The fragment bits of a rule: DF 1, of IPv4 alone; IsF 2; FF 4; LF 8.
     pub fn fragment(&self) -> u8
-        ensures { result ≡ self.now.fragment }
+        ensures value { result ≡ self.now.fragment }
+        ensures bits { result < 16 }
     {
         self.fragment
     }

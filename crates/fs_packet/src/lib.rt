@@ -4,13 +4,10 @@
 
 mod chain;
 mod fields;
-mod link;
 mod matching;
 mod reading;
-#[cfg(test)]
-mod tests;
 
 pub use fields::{Unread, View};
-pub use link::Link;
+pub use fs_pcap::Link;
 pub use matching::matches;
 pub use reading::view;

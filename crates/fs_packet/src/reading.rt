@@ -1,16 +1,16 @@
 //! Reading of a record's headers.
 
-ghost use Rattle.std.specs.Prelude.{◌≡◌, ◌≤◌, ◌+◌, ◌==◌, ◌&&◌, [], length, if◌then◌else◌};
+ghost use Rattle.std.specs.Prelude.{◌≡◌, ◌<◌, ◌≤◌, ◌+◌, ◌==◌, ◌&&◌, [], length, if◌then◌else◌};
 ghost use Rattle.fs_base.specs.declared.prefix.Family.{Family};
-ghost use Rattle.fs_packet.specs.Link.{behind_tags, behind_type, family_of_type, is_tag, number_at};
-ghost use Rattle.fs_packet.specs.View.{fragment_of, held_from, packet_view, raw_view, v4_fragment, v4_starts, v4_view, v6_fragment, v6_view, view_of};
-ghost use Rattle.fs_packet.specs.Reading.{found_in};
+ghost use Rattle.fs_packet.specs.Fields.{number_at};
+ghost use Rattle.fs_packet.specs.Reading.{behind_tags, behind_type, family_of_type, found_in, fragment_of, held_from, is_tag, packet_view};
+ghost use Rattle.fs_packet.specs.Reading.{raw_view, v4_fragment, v4_starts, v4_view, v6_fragment, v6_view, view_of};
 
 use crate::chain::walk;
 use crate::fields::{Unread, View};
-use crate::link::Link;
 use byteorder::{BigEndian, ByteOrder};
 use fs_base::Family;
+use fs_pcap::Link;
 
 /// EtherTypes.
 const IPV4: u16 = 0x0800;
@@ -219,14 +219,16 @@ fn v4_starts(field: u16) -> bool
 }
 
 fn v4_fragment(field: u16) -> u8
-    ensures { result ≡ v4_fragment field }
+    ensures value { result ≡ v4_fragment field }
+    ensures bits { result < 16 }
 {
     let bits = fragment_bits(v4_starts(field), field & 0x2000 != 0);
     if field & 0x4000 == 0 { bits } else { bits + 1 }
 }
 
 fn v6_fragment(field: u16) -> u8
-    ensures { result ≡ v6_fragment field }
+    ensures value { result ≡ v6_fragment field }
+    ensures bits { result < 16 }
 {
     fragment_bits(field >> 3 == 0, field & 1 != 0)
 }

@@ -3,8 +3,7 @@ use Rattle.std.proofs.Common.{◌≡◌, ℕ, List, [], Bool, true, false, Ok, E
 use Rattle.std.specs.Prelude.{if◌then◌else◌}
 use Rattle.std.proofs.lemmas.Bool.Decides.{nat_tests}
 use Rattle.fs_base.specs.Records.{End, done, limited, bad, ends_short}
-use Rattle.fs_pcap.specs.Capture.{Captured}
-use Rattle.fs_pcap.specs.Turn.{Advances, short_answer, short_fault}
+use Rattle.fs_pcap.specs.Capture.{Advances, Captured, short_answer, short_fault}
 use Rattle.fs_pcap.specs.declared.fault.CaptureReason.{CaptureReason}
 use Rattle.fs_pcap.specs.declared.fault.CaptureReason.TheVariants.{Cut}
 use Rattle.fs_pcap.specs.declared.fault.CaptureFault.TheVariants.{Limit, Bad}

@@ -1,3 +1,5 @@
 pub mod Advancing
 pub mod Opening
-pub mod Written
+pub mod Headings
+pub mod Packets
+pub mod ReadsBack

@@ -7,8 +7,8 @@ use Rattle.fs_base.specs.Filling.{Fills}
 use Rattle.fs_base.specs.Parts.{window}
 use Rattle.fs_base.specs.Records.{Head, partial, limited, bad}
 use Rattle.fs_base.proofs.Records.{head_filled}
-use Rattle.fs_pcap.specs.Capture.{Heading, header_of, opening, opened_by}
-use Rattle.fs_pcap.specs.Turn.{Opens, short_fault}
+use Rattle.fs_pcap.specs.Capture.{Opens, opened_by, opening, short_fault}
+use Rattle.fs_pcap.specs.Header.{Heading, header_of}
 use Rattle.fs_pcap.specs.declared.fault.CaptureReason.{CaptureReason}
 use Rattle.fs_pcap.specs.declared.fault.CaptureReason.TheVariants.{Cut}
 use Rattle.fs_pcap.specs.declared.fault.CaptureFault.TheVariants.{Limit, Bad}

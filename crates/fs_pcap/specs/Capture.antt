@@ -1,14 +1,19 @@
--- A capture of the libpcap file format, version 2.4. Its header has 24 octets: a magic of 4, which tells the order of the
--- octets in all numbers; the version's major and minor number, 2 each; 12 octets that aren't read; and the link type, 4,
--- whose low 16 bits count. A record has seconds, a fraction of them, the captured length and the original length, 4
--- octets each, and then the captured octets.
-use Rattle.std.specs.Prelude.{ℕ, List, [], Option, Some, None, Result, Ok, Err, Bool, ◌%◌, ◌==◌, ◌||◌, not, length, take, drop, nat_le, nat_lt, if◌then◌else◌}
-use Rattle.byteorder.specs.Endian.{big_number, little_number}
-use Rattle.fs_base.specs.Records.{Head, whole, wrong, partial, End, limited, bad, Format, records_to_come}
-use Rattle.fs_pcap.specs.declared.order.Endian.{Endian}
-use Rattle.fs_pcap.specs.declared.order.Endian.TheVariants.{Big, Little}
+-- A capture of the libpcap file format, version 2.4: a header, and records. A record has a head and the captured
+-- octets.
+use Rattle.std.specs.Prelude.{ℕ, List, [], Option, Some, None, Result, Ok, Err, Bool, ◌≡◌, ◌≤◌, ◌<◌, ◌==◌, ◌&&◌, not, length, take, drop, nat_le, if◌then◌else◌, ⊤}
+use Rattle.fs_base.specs.Parts.{with_part}
+use Rattle.fs_base.specs.Records.{Head, whole, wrong, partial, End, done, limited, bad, Format, records_to_come}
+use Rattle.fs_pcap.specs.Head.{Said, head_of}
+use Rattle.fs_pcap.specs.Header.{Heading, header_of}
+use Rattle.fs_pcap.specs.declared.capture.Caught.{Caught}
+use Rattle.fs_pcap.specs.declared.fault.CaptureFault.{CaptureFault}
+use Rattle.fs_pcap.specs.declared.fault.CaptureFault.TheVariants.{Read, Limit, Bad}
 use Rattle.fs_pcap.specs.declared.fault.CaptureReason.{CaptureReason}
-use Rattle.fs_pcap.specs.declared.fault.CaptureReason.TheVariants.{Magic, Version, Link, RecordTooLong, Cut}
+use Rattle.fs_pcap.specs.declared.fault.CaptureReason.TheVariants.{Cut}
+use Rattle.fs_pcap.specs.declared.fault.Ended.{Ended}
+use Rattle.fs_pcap.specs.declared.fault.Ended.TheVariants.{Done, Fault}
+use Rattle.fs_pcap.specs.declared.link.Link.{Link}
+use Rattle.fs_pcap.specs.declared.order.Endian.{Endian}
 
 -- a captured packet
 pub record Captured : Type 0 where
@@ -17,61 +22,9 @@ pub record Captured : Type 0 where
   pub original : ℕ
   pub octets : List ℕ
 
--- what a capture's header says
-pub record Heading : Type 0 where
-  pub order : Endian
-  pub link : ℕ
-
--- the number in the first octets
-abbrev pub number : Endian → ℕ → List ℕ → ℕ
-number Big size octets = big_number size octets
-number Little size octets = little_number size octets
-
--- the magics a1b2c3d4 (microseconds) and a1b23c4d (nanoseconds), in either order
-abbrev pub order_of : ℕ → Option Endian
-order_of magic =
-    if magic == 0xa1b2c3d4 || magic == 0xa1b23c4d then Some Big
-    else if magic == 0xd4c3b2a1 || magic == 0x4d3cb2a1 then Some Little
-    else None
-
--- Ethernet, raw IP, Linux cooked, Linux cooked version 2, raw IPv4, raw IPv6
-abbrev pub is_link : ℕ → Bool
-is_link link = link == 1 || link == 101 || link == 113 || link == 276 || link == 228 || link == 229
-
--- what the header says behind the magic
-abbrev pub ordered_header : Endian → List ℕ → Head Heading CaptureReason
-ordered_header order header =
-    if nat_lt (length header) 6 then partial
-    else if not (number order 2 (drop 4 header) == 2) then wrong Version 4
-    else if nat_lt (length header) 8 then partial
-    else if not (number order 2 (drop 6 header) == 4) then wrong Version 4
-    else if nat_lt (length header) 24 then partial
-    else if not (is_link (number order 4 (drop 20 header) % 65536)) then wrong Link 20
-    else whole (record { order = order; link = number order 4 (drop 20 header) % 65536 }) 0
-
--- what the first 24 octets say: all, the first field that stands whole and is wrong with its place, or too few octets
-abbrev pub header_of : List ℕ → Head Heading CaptureReason
-header_of header =
-    if nat_lt (length header) 4 then partial
-    else elim (order_of (big_number 4 header)) [ None ↦ wrong Magic 0 | Some order ↦ ordered_header order header ]
-
--- what a record's head says beside the captured length
-pub record Said : Type 0 where
-  pub seconds : ℕ
-  pub fraction : ℕ
-  pub original : ℕ
-
-abbrev pub head_of : Endian → List ℕ → Head Said CaptureReason
-head_of order head =
-    if nat_lt (length head) 12 then partial
-    else if nat_lt 262144 (number order 4 (drop 8 head)) then wrong RecordTooLong 8
-    else if nat_lt (length head) 16 then partial
-    else whole
-    (record { seconds = number order 4 head; fraction = number order 4 (drop 4 head); original = number order 4 (drop 12 head) })
-    (number order 4 (drop 8 head))
-
 abbrev pub packet_of : Said → List ℕ → Captured
-packet_of said octets = record { seconds = said.seconds; fraction = said.fraction; original = said.original; octets = octets }
+packet_of said octets =
+    record { seconds = said.seconds; fraction = said.fraction; original = said.original; octets = octets }
 
 abbrev pub records : Endian → Format Said Captured CaptureReason
 records order = record { head_size = 16; head_of = head_of order; item_of = packet_of; cut = Cut }
@@ -88,15 +41,16 @@ opened_by limit size partial = Err (if limit then limited else bad Cut size)
 
 abbrev pub opening : ℕ → List ℕ → Result Heading (End CaptureReason)
 opening limit content =
-    opened_by (nat_le limit (length content)) (length (take 24 (take limit content))) (header_of (take 24 (take limit content)))
+    let header = take 24 (take limit content) in
+    opened_by (nat_le limit (length content)) (length header) (header_of header)
 
 -- a capture: its link type, where its header has no fault; its packets; and how it ends
 pub record Recorded : Type 0 where
-  pub link : Option ℕ
+  pub link : Option Link
   pub packets : List Captured
   pub end : End CaptureReason
 
-abbrev pub recorded : ℕ → List Captured × End CaptureReason → Recorded
+abbrev pub recorded : Link → List Captured × End CaptureReason → Recorded
 recorded link found = record { link = Some link; packets = found.0; end = found.1 }
 
 -- The capture of this content. Only its first `limit` octets are judged.
@@ -106,3 +60,66 @@ capture_of limit content =
       | Ok heading ↦ recorded heading.link (packets_to_come heading.order limit 24 (drop 24 content))
       | Err end ↦ record { link = None; packets = []; end = end }
     ]
+
+-- What a capture shows: its slot and limit, how many octets of it were taken, how it ended, where it did, and what its
+-- header says.
+pub record CaptureState : Type 0 where
+  pub slot : ℕ
+  pub limit : ℕ
+  pub place : ℕ
+  pub end : Option Ended
+  pub heading : Heading
+
+-- the packets that a capture which hasn't ended is still to give, of what its slot has left, and how it will end
+abbrev pub coming : CaptureState → List ℕ → List Captured × End CaptureReason
+coming capture left = packets_to_come capture.heading.order capture.limit capture.place left
+
+-- what a capture that ended answers from then on
+abbrev pub answer_of : Ended → Result (Option Caught) CaptureFault
+answer_of Done = Ok None
+answer_of (Fault fault) = Err fault
+
+-- how a capture stands ended behind an answer
+abbrev pub ended_after : Result (Option Caught) CaptureFault → Option Ended
+ended_after (Ok (Some caught)) = None
+ended_after (Ok None) = Some Done
+ended_after (Err fault) = Some (Fault fault)
+
+-- An opened capture stands behind a whole header, and shows what it says. A fault is what ends it before its records.
+abbrev pub Opens : {T : Type 0} → (T → Heading) → ℕ → List ℕ → List ℕ → Result T CaptureFault → Type 0
+Opens heading limit left left' (Ok capture) = (opening limit left ≡ Ok (heading capture)) × (left' ≡ drop 24 left)
+Opens heading limit left left' (Err Read) = ⊤
+Opens heading limit left left' (Err Limit) = opening limit left ≡ Err limited
+Opens heading limit left left' (Err (Bad reason place)) = opening limit left ≡ Err (bad reason place)
+
+-- a packet as its record tells it; its octets stand at the front of the buffer
+abbrev pub packet_from : Caught → List ℕ → Captured
+packet_from caught into = record {
+  seconds = caught.seconds;
+  fraction = caught.fraction;
+  original = caught.original;
+  octets = take caught.taken into;
+}
+
+-- What was to come is the packet that the answer gives, and what is to come now; or nothing but the end that it tells.
+abbrev pub Advances :
+    List Captured × End CaptureReason → List Captured × End CaptureReason → List ℕ
+    → Result (Option Caught) CaptureFault → Type 0
+Advances before now into (Ok (Some caught)) = before ≡ with_part (packet_from caught into) now
+Advances before now into (Ok None) = before ≡ ([], done)
+Advances before now into (Err Read) = ⊤
+Advances before now into (Err Limit) = before ≡ ([], limited)
+Advances before now into (Err (Bad reason place)) = before ≡ ([], bad reason place)
+
+-- A record raises the place, up to the limit at most. Its octets are those that were captured, at most 262144.
+abbrev pub Grows : ℕ → ℕ → ℕ → Result (Option Caught) CaptureFault → Type 0
+Grows old new limit (Ok (Some caught)) = (old < new) × (new ≤ limit) × (caught.taken ≤ 262144)
+Grows old new limit _ = ⊤
+
+-- the fault of a capture of which no octet is left to be taken
+abbrev pub short_fault : ℕ → ℕ → CaptureFault
+short_fault taken limit = if taken == limit then Limit else Bad Cut taken
+
+-- what a capture answers where so many octets of a head were the last to be taken
+abbrev pub short_answer : ℕ → ℕ → ℕ → Result (Option Caught) CaptureFault
+short_answer taken limit count = if count == 0 && not (taken == limit) then Ok None else Err (short_fault taken limit)

@@ -1,3 +1,6 @@
+pub mod Order
+pub mod Link
+pub mod Header
+pub mod Head
 pub mod Capture
-pub mod Turn
-pub mod Written
+pub mod Laws

@@ -1,14 +1,14 @@
 //! A capture, read record by record.
-ghost use Rattle.std.specs.Prelude.{◌≡◌, ◌≢◌, ◌≤◌, ℕ, None, IsTrue, IfOk, IfSome, length};
+ghost use Rattle.std.specs.Prelude.{◌≡◌, ◌≤◌, ℕ, None, IsSome, IsTrue, IfOk, IfSome, length};
 ghost use Rattle.std.specs.Result.{IsErrOf};
+ghost use Rattle.fs_base.specs.Files.{OnlySlot};
 ghost use Rattle.fs_base.specs.Outside.{Rose};
-ghost use Rattle.fs_pcap.specs.Capture.{packets_to_come};
-ghost use Rattle.fs_pcap.specs.Written.{ReadsBack};
-ghost use Rattle.fs_pcap.specs.Turn.{Advances, Grows, Opens, answer_of, ended_after, short_answer, short_fault};
+ghost use Rattle.fs_pcap.specs.Capture.{Advances, Grows, Opens, answer_of, ended_after, packets_to_come, short_answer, short_fault};
 
 use crate::fault::{CaptureFault, CaptureReason, Ended};
 use crate::head::{HEAD_SIZE, Head, read_head};
 use crate::header::{HEADER_SIZE, Header, read_header};
+use crate::link::Link;
 use crate::order::Endian;
 use fs_base::{Counted, Files, fill};
 use std::marker::Model;
@@ -29,11 +29,11 @@ pub struct Capture {
     counted: Counted,
     end: Option<Ended>,
     order: Endian,
-    link: u32,
+    link: Link,
 }
 
 impl Model for Capture {
-    ghost use Rattle.fs_pcap.specs.Turn.{CaptureState};
+    ghost use Rattle.fs_pcap.specs.Capture.{CaptureState};
 
     ghost Value = { CaptureState };
 
@@ -48,7 +48,7 @@ impl Model for Capture {
 }
 
 impl Capture {
-    ghost use Rattle.fs_pcap.specs.Turn.{coming};
+    ghost use Rattle.fs_pcap.specs.Capture.{coming};
 
     /// Reads the header, up to the limit.
     ///
@@ -73,8 +73,7 @@ impl Capture {
             (F.left files.old counted.slot)
             (F.left files.new counted.slot)
             result }
-        ensures others { IsTrue F.tells → (other : ℕ) → other ≢ counted.slot → F.left files.new other ≡ F.left files.old other }
-        ensures holds { IsTrue F.tells → F.holds files.new ≡ F.holds files.old }
+        ensures others { OnlySlot F.tells F.left F.holds counted.slot files.old files.new }
     {
         let mut header = [0u8; HEADER_SIZE];
         let Ok(count) = fill(&mut counted, files, &mut header) else {
@@ -95,15 +94,15 @@ impl Capture {
         }
     }
 
-    /// The link type: the low 16 bits of the header's, one of 1, 101, 113, 276, 228 and 229.
-    pub fn link(&self) -> u32
+    /// The link type: what stands before each packet.
+    pub fn link(&self) -> Link
         ensures { result ≡ self.now.heading.link }
     {
         self.link
     }
 
-    /// Reads the next record. Its octets stand at the front of `into`. `None`: the capture ended behind its last record.
-    /// After that, and after any fault, each call answers the same again and reads nothing.
+    /// Reads the next record. Its octets stand at the front of `into`. `None`: the capture ended behind its last
+    /// record. After that, and after any fault, each call answers the same again and reads nothing.
     ///
     /// # Errors
     ///
@@ -116,11 +115,15 @@ impl Capture {
     ) -> Result<Option<Caught>, CaptureFault>
         requires { 262144 ≤ length into.old }
         ensures later { F.faults files.old ≤ F.faults files.new }
-        ensures read { self.old.end ≡ None → IsErrOf result CaptureFault.Read → Rose (F.faults files.old) (F.faults files.new) }
+        ensures read { self.old.end ≡ None
+            → IsErrOf result CaptureFault.Read
+            → Rose (F.faults files.old) (F.faults files.new) }
         ensures slot { self.new.slot ≡ self.old.slot }
         ensures limit { self.new.limit ≡ self.old.limit }
         ensures heading { self.new.heading ≡ self.old.heading }
-        ensures again { IfSome self.old.end (λ ended. (result ≡ answer_of ended) × (self.new ≡ self.old) × (files.new ≡ files.old)) }
+        ensures again { IfSome self.old.end (λ ended. result ≡ answer_of ended) }
+        ensures stays { IsSome self.old.end → self.new ≡ self.old }
+        ensures unread { IsSome self.old.end → files.new ≡ files.old }
         ensures ended { self.new.end ≡ ended_after result }
         ensures grows { Grows self.old.place self.new.place self.new.limit result }
 
@@ -131,10 +134,9 @@ impl Capture {
             (coming self.new (F.left files.new self.old.slot))
             into.new
             result }
-        ensures others { IsTrue F.tells → (other : ℕ) → other ≢ self.old.slot → F.left files.new other ≡ F.left files.old other }
-        ensures holds { IsTrue F.tells → F.holds files.new ≡ F.holds files.old }
+        ensures others { OnlySlot F.tells F.left F.holds self.old.slot files.old files.new }
     {
-        turn(&mut self.counted, &mut self.end, files, self.order, into)
+        next_record(&mut self.counted, &mut self.end, files, self.order, into)
     }
 }
 
@@ -162,7 +164,7 @@ fn stopped(counted: &Counted, count: usize) -> Result<Option<Caught>, CaptureFau
 }
 
 /// What `next` does to the fields of a capture.
-fn turn<F: Files>(
+fn next_record<F: Files>(
     counted: &mut Counted,
     end: &mut Option<Ended>,
     files: &mut F,
@@ -171,10 +173,14 @@ fn turn<F: Files>(
 ) -> Result<Option<Caught>, CaptureFault>
     requires { 262144 ≤ length into.old }
     ensures later { F.faults files.old ≤ F.faults files.new }
-    ensures read { end.old ≡ None → IsErrOf result CaptureFault.Read → Rose (F.faults files.old) (F.faults files.new) }
+    ensures read { end.old ≡ None
+        → IsErrOf result CaptureFault.Read
+        → Rose (F.faults files.old) (F.faults files.new) }
     ensures slot { counted.new.slot ≡ counted.old.slot }
     ensures limit { counted.new.limit ≡ counted.old.limit }
-    ensures again { IfSome end.old (λ ended. (result ≡ answer_of ended) × (counted.new ≡ counted.old) × (end.new ≡ end.old) × (files.new ≡ files.old)) }
+    ensures again { IfSome end.old (λ ended. result ≡ answer_of ended) }
+    ensures stays { IsSome end.old → (counted.new ≡ counted.old) × (end.new ≡ end.old) }
+    ensures unread { IsSome end.old → files.new ≡ files.old }
     ensures ended { end.new ≡ ended_after result }
     ensures grows { Grows counted.old.taken counted.new.taken counted.new.limit result }
 
@@ -185,8 +191,7 @@ fn turn<F: Files>(
         (packets_to_come order counted.new.limit counted.new.taken (F.left files.new counted.old.slot))
         into.new
         result }
-    ensures others { IsTrue F.tells → (other : ℕ) → other ≢ counted.old.slot → F.left files.new other ≡ F.left files.old other }
-    ensures holds { IsTrue F.tells → F.holds files.new ≡ F.holds files.old }
+    ensures others { OnlySlot F.tells F.left F.holds counted.old.slot files.old files.new }
 {
     if let Some(ended) = *end {
         return answer(ended);
@@ -237,8 +242,7 @@ fn advance<F: Files>(
         (packets_to_come order counted.new.limit counted.new.taken (F.left files.new counted.old.slot))
         into.new
         result }
-    ensures others { IsTrue F.tells → (other : ℕ) → other ≢ counted.old.slot → F.left files.new other ≡ F.left files.old other }
-    ensures holds { IsTrue F.tells → F.holds files.new ≡ F.holds files.old }
+    ensures others { OnlySlot F.tells F.left F.holds counted.old.slot files.old files.new }
 {
     let mut head = [0u8; HEAD_SIZE];
     let Ok(count) = fill(counted, files, &mut head) else {
@@ -272,9 +276,3 @@ fn advance<F: Files>(
         }
     }
 }
-
-/// What is written of packets is read back as these packets: in either order of octets, with each of the six link types
-/// and at most 262144 octets captured of each packet, below the limit.
-pub fn reads_back()
-    ensures { ReadsBack }
-{}

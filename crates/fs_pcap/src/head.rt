@@ -1,7 +1,6 @@
 //! The head of a record, each field judged as soon as it stands whole.
 ghost use Rattle.std.specs.Prelude.{◌≡◌, length};
-ghost use Rattle.fs_pcap.specs.Capture.{head_of};
-ghost use Rattle.fs_pcap.specs.Turn.{IsWithin, said_of};
+ghost use Rattle.fs_pcap.specs.Head.{IsHeadWithin, head_of, said_of};
 
 use crate::fault::CaptureReason;
 use crate::order::Endian;
@@ -28,7 +27,7 @@ pub(crate) enum Head {
 /// Reads the head of a record, of at most 16 octets.
 pub(crate) fn read_head(order: Endian, head: &[u8]) -> Head
     ensures exact { said_of result ≡ head_of order head.now }
-    ensures within { IsWithin (length head.now) (said_of result) }
+    ensures within { IsHeadWithin (length head.now) (said_of result) }
 {
     if head.len() < 12 {
         return Head::Partial;

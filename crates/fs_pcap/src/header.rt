@@ -1,9 +1,9 @@
 //! The header of a capture, each field judged as soon as it stands whole.
 ghost use Rattle.std.specs.Prelude.{◌≡◌, ◌≤◌, length};
-ghost use Rattle.fs_pcap.specs.Capture.{header_of, is_link, ordered_header};
-ghost use Rattle.fs_pcap.specs.Turn.{IsWithinHeader, heading_of};
+ghost use Rattle.fs_pcap.specs.Header.{IsHeaderWithin, header_of, heading_of, link_field, ordered_header};
 
 use crate::fault::CaptureReason;
+use crate::link::Link;
 use crate::order::{Endian, read_order};
 use byteorder::{BigEndian, ByteOrder};
 
@@ -13,7 +13,7 @@ pub(crate) const HEADER_SIZE: usize = 24;
 /// What the octets of a capture's header say.
 #[derive(Clone, Copy, Debug, PartialEq, Eq, Drop)]
 pub(crate) enum Header {
-    Whole { order: Endian, link: u32 },
+    Whole { order: Endian, link: Link },
     Wrong { reason: CaptureReason, place: u8 },
     Partial,
 }
@@ -21,7 +21,7 @@ pub(crate) enum Header {
 /// Reads a capture's header, of at most 24 octets.
 pub(crate) fn read_header(header: &[u8]) -> Header
     ensures exact { heading_of result ≡ header_of header.now }
-    ensures within { IsWithinHeader (length header.now) (heading_of result) }
+    ensures within { IsHeaderWithin (length header.now) (heading_of result) }
 {
     if header.len() < 4 {
         return Header::Partial;
@@ -39,7 +39,7 @@ pub(crate) fn read_header(header: &[u8]) -> Header
 fn read_ordered(order: Endian, header: &[u8]) -> Header
     requires { 4 ≤ length header.now }
     ensures exact { heading_of result ≡ ordered_header order header.now }
-    ensures within { IsWithinHeader (length header.now) (heading_of result) }
+    ensures within { IsHeaderWithin (length header.now) (heading_of result) }
 {
     const WRONG_VERSION: Header = Header::Wrong {
         reason: CaptureReason::Version,
@@ -60,19 +60,18 @@ fn read_ordered(order: Endian, header: &[u8]) -> Header
     if header.len() < HEADER_SIZE {
         return Header::Partial;
     }
-    let link = order.read_u32(&header[20..]) % 65536;
-    if !is_read(link) {
-        return Header::Wrong {
-            reason: CaptureReason::Link,
-            place: 20,
-        };
-    }
-    Header::Whole { order, link }
+    read_link(order, order.read_u32(&header[20..]))
 }
 
-/// Whether packets of this link type are read.
-fn is_read(link: u32) -> bool
-    ensures { result ≡ is_link link }
+/// Reads the number of the link type, of which the low 16 bits count.
+fn read_link(order: Endian, word: u32) -> Header
+    ensures { heading_of result ≡ link_field order word }
 {
-    matches!(link, 1 | 101 | 113 | 276 | 228 | 229)
+    match Link::of(word % 65536) {
+        Some(link) => Header::Whole { order, link },
+        None => Header::Wrong {
+            reason: CaptureReason::Link,
+            place: 20,
+        },
+    }
 }

@@ -5,10 +5,12 @@ mod capture;
 mod fault;
 mod head;
 mod header;
+mod laws;
+mod link;
 mod order;
-#[cfg(test)]
-mod tests;
 
-pub use capture::{Capture, Caught, reads_back};
+pub use capture::{Capture, Caught};
 pub use fault::{CaptureFault, CaptureReason, Ended};
+pub use laws::reads_back;
+pub use link::Link;
 pub use order::Endian;

@@ -1,7 +1,7 @@
 //! The order of the octets in a capture's numbers.
 
 ghost use Rattle.std.specs.Prelude.{◌≡◌, ◌≤◌, length};
-ghost use Rattle.fs_pcap.specs.Capture.{number, order_of};
+ghost use Rattle.fs_pcap.specs.Order.{number, order_of};
 
 use byteorder::{BigEndian, ByteOrder, LittleEndian};
 

@@ -1,6 +1,6 @@
 use Rattle.std.proofs.Common.{ℕ, List, Option, ◌+◌, ◌==◌, ◌&&◌, slice_index, drop, ap, sym, ◌∙◌, arith}
 use Rattle.fs_packet.specs.Chain.{chain_of, last_field, protocol_at}
-use Rattle.fs_packet.specs.View.{held_from, v6_fragment}
+use Rattle.fs_packet.specs.Reading.{held_from, v6_fragment}
 use Rattle.fs_packet.proofs.Headers.{v6_read}
 use Rattle.fs_packet.proofs.reading.v6_view.Goals as goal
 
@@ -13,5 +13,5 @@ returns c =
     ((λ i. (sym c.number_at-payload.ensures i == 0) && (slice_index c.args.packet.now 6 == 0)) ∙ sym c.if-is_jumbogram.ensures)
     (ap (λ (n : ℕ). 40 + n) c.number_at-payload.ensures)
     (c.walk-chain.ensures.protocol ∙ ap (λ (found : List (Option ℕ) × List ℕ). protocol_at found.1) chain)
-    (c.v6_fragment.ensures ∙ ap v6_fragment (c.walk-chain.ensures.field ∙ ap (λ (found : List (Option ℕ) × List ℕ). last_field 0 found.0) chain))
+    (c.v6_fragment.ensures.value ∙ ap v6_fragment (c.walk-chain.ensures.field ∙ ap (λ (found : List (Option ℕ) × List ℕ). last_field 0 found.0) chain))
     (c.walk-chain.ensures.behind ∙ ap (λ (found : List (Option ℕ) × List ℕ). drop 1 found.1) chain)

@@ -2,7 +2,8 @@ use Rattle.std.proofs.Common.{rules, arith, ◌≡◌, ◌∙◌, refl, ◌+◌,
 use Rattle.std.proofs.lemmas.List.{take-append-le, length-take}
 use Rattle.fs_base.proofs.Records.{wrong_comes, short_comes, cut_comes, record_comes}
 use Rattle.fs_pcap.specs.declared.fault.CaptureReason.TheVariants.{RecordTooLong}
-use Rattle.fs_pcap.specs.Capture.{packets_to_come, records, Said}
+use Rattle.fs_pcap.specs.Capture.{packets_to_come, records}
+use Rattle.fs_pcap.specs.Head.{Said}
 use Rattle.fs_pcap.proofs.Advancing.{short_advances, cut_advances}
 use Rattle.fs_pcap.proofs.capture.advance.Goals as goal
 

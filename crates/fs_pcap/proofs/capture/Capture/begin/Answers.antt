@@ -1,6 +1,6 @@
 use Rattle.std.proofs.Common.{rules, arith, ◌<◌, ◌≤◌}
 use Rattle.std.proofs.lemmas.List.{length-take}
-use Rattle.fs_pcap.specs.Turn.{CaptureState}
+use Rattle.fs_pcap.specs.Capture.{CaptureState}
 use Rattle.fs_pcap.proofs.Opening.{opens_with, opens_short, opens_behind}
 use Rattle.fs_pcap.proofs.capture.Capture.begin.Goals as goal
 
