@@ -1,12 +1,13 @@
 -- The configuration file: a TOML document with these keys and no others.
-use Rattle.std.specs.Prelude.{ℕ, pos, ◌==◌, nat_le, Bool, true, false, not, ◌&&◌, if◌then◌else◌, List, [], ◌∷◌, length, codes, Option, Some, None, option_map, option_and_then}
+use Rattle.std.specs.Prelude.{ℕ, ◌==◌, nat_le, Bool, true, false, not, ◌&&◌, if◌then◌else◌, List, [], ◌∷◌, length, codes, Option, Some, None, option_map, option_and_then}
 use Rattle.std.specs.List.{list_any}
-use Rattle.std.specs.Str.{is_utf8, bytes_eq}
-use Rattle.toml.specs.Data.{Data, integer, boolean, as_str, as_array, as_table, Items, no_items, item, Members, no_members, member, get_member}
+use Rattle.std.specs.Str.{is_utf8}
+use Rattle.toml.specs.Data.{Data, as_str, as_array, as_table, Items, no_items, item, Members, get_member}
 use Rattle.toml.specs.Parse.{parse_document}
 use Rattle.fs_base.specs.declared.config.Config.{Config}
 use Rattle.fs_base.specs.declared.config.Peer.{Peer}
 use Rattle.fs_conf.specs.Address.{ipv4_of, address_of}
+use Rattle.fs_conf.specs.Fields.{flag_or, keys_among, number_in}
 
 infixl 10 ◌>>=◌
 abbrev ◌>>=◌ : {A B : Type 0} → Option A → (A → Option B) → Option B
@@ -16,26 +17,9 @@ o >>= f = option_and_then f o
 abbrev pub kept_if : {A : Type 0} → (A → Bool) → A → Option A
 kept_if test value = if test value then Some value else None
 
--- an integer from low to high
-abbrev pub number_in : ℕ → ℕ → Option Data → Option ℕ
-number_in low high (Some (integer (pos n))) = if nat_le low n && nat_le n high then Some n else None
-number_in low high _ = None
-
--- a boolean, and this one where the key is missing
-abbrev pub flag_or : Bool → Option Data → Option Bool
-flag_or default None = Some default
-flag_or default (Some (boolean flag)) = Some flag
-flag_or default (Some _) = None
-
 -- what a string writes
 abbrev pub written : {A : Type 0} → (List ℕ → Option A) → Option Data → Option A
 written read found = (found >>= as_str) >>= read
-
--- each key of the members is one of these
-abbrev pub keys_among : List (List ℕ) → Members → Bool
-keys_among names no_members = true
-keys_among names (member key value rest) =
-    list_any (λ name. bytes_eq name key) names && keys_among names rest
 
 -- an AS number, which isn't 0 (RFC 7607)
 abbrev pub as_number : Option Data → Option ℕ

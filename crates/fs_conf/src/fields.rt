@@ -2,12 +2,11 @@
 
 ghost use Rattle.std.specs.Prelude.{◌≡◌, ◌≤◌, map, string_bytes, option_map, option_and_then, IfSome};
 ghost use Rattle.std.specs.BTreeMap.{keys};
-ghost use Rattle.std.specs.List.{list_all, list_any};
+ghost use Rattle.std.specs.List.{list_all};
 ghost use Rattle.std.specs.Option.{option_copied};
-ghost use Rattle.std.specs.Str.{bytes_eq};
 ghost use Rattle.toml.specs.Data.{get_member, as_str, as_array};
 ghost use Rattle.toml.specs.View.{view, array_view, table_view};
-ghost use Rattle.fs_conf.specs.Config.{number_in, flag_or, keys_among};
+ghost use Rattle.fs_conf.specs.Fields.{flag_or, is_named, keys_among, number_in};
 
 use toml::value::Array;
 use toml::{Table, Value};
@@ -53,14 +52,15 @@ pub(crate) fn text_at<'a>(table: &'a Table, key: &str) -> Option<&'a str>
 
 /// The array at a key.
 pub(crate) fn array_at<'a>(table: &'a Table, key: &str) -> Option<&'a Array>
-    ensures { option_map (λ v. array_view v.now) result ≡ option_and_then as_array (get_member key.now (table_view table.now)) }
+    ensures { option_map (λ v. array_view v.now) result
+        ≡ option_and_then as_array (get_member key.now (table_view table.now)) }
 {
     value_at(table, key)?.as_array()
 }
 
 // Whether each key of the table is one of these names.
 fn each_key_among(table: &Table, names: &[&str]) -> bool
-    ensures { result ≡ list_all (λ key. list_any (λ name. bytes_eq name.now (string_bytes key)) names.now) (keys table.now) }
+    ensures { result ≡ list_all (λ key. is_named names.now (string_bytes key)) (keys table.now) }
 {
     table.keys().all(|key| names.contains(&key.as_str()))
 }

@@ -4,7 +4,5 @@
 mod address;
 mod config;
 mod fields;
-#[cfg(test)]
-mod tests;
 
 pub use config::{ConfFault, read_config};

@@ -5,7 +5,7 @@ use Rattle.std.specs.Map.{keys_of}
 use Rattle.std.specs.Str.{bytes_eq}
 use Rattle.toml.specs.View.{members_view}
 use Rattle.toml.specs.declared.value.Value.{Value}
-use Rattle.fs_conf.specs.Config.{keys_among}
+use Rattle.fs_conf.specs.Fields.{keys_among}
 use Rattle.fs_conf.proofs.fields.has_only.Goals as goal
 
 any_now : (names : List (Bor (List ℕ))) (key : List ℕ)
