@@ -71,7 +71,7 @@ pub record Live : Type 0 where
   pub closed : Option Closed
 
 abbrev pub live : Config → Peer → Framing → Phase → Option Closed → Live
-live config peer framing phase closed = record { config = config; peer = peer; framing = framing; phase = phase; closed = closed }
+live config peer framing phase how = record { config = config; peer = peer; framing = framing; phase = phase; closed = how }
 
 -- a session with the peer of this number, before its first octet
 abbrev pub begins : Config → ℕ → Option Live
@@ -145,7 +145,7 @@ ClosesAs why replies replies' other = (other ≡ why) × (replies' ≡ replies +
 
 -- the fields of a session
 abbrev pub at_ends : Ends → Framing → Phase → Option Closed → Live
-at_ends ends framing phase closed = live ends.config.now ends.peer framing phase closed
+at_ends ends framing phase how = live ends.config.now ends.peer framing phase how
 
 -- A closed session answers the same again and stays as it is.
 abbrev pub StaysClosed : Live → Live → Result (ℕ × Option Update) Closed → (replies replies' : List ℕ) → Type 0

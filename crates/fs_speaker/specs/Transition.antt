@@ -78,4 +78,4 @@ transition_of config peer now message =
 -- what is answered, where memory is there
 abbrev pub IsTransition : Result (Phase × Option Update) Closed → Result (Phase × Option Update) Closed → Type 0
 IsTransition (Err Memory) wanted = ⊤
-IsTransition result wanted = result ≡ wanted
+IsTransition result wanted = wanted ≡ result
