@@ -2,7 +2,7 @@
 
 ghost use Rattle.std.specs.Prelude.{◌≡◌, ◌≢◌, ◌+◌, ◌-◌, ◌^◌, min};
 
-use std::io;
+use crate::fault::Fault;
 
 /// How many cases were tried, and in how many of them what came wasn't what was expected.
 #[derive(Drop)]
@@ -27,14 +27,14 @@ impl Tally {
     ///
     /// # Errors
     ///
-    /// Those of printing. The case is counted all the same.
+    /// `Outside` where printing fails. The case is counted all the same.
     pub fn compare<R: Print>(
         &mut self,
         rt: &R,
         case: &str,
         expected: &str,
         came: &str,
-    ) -> io::Result<()>
+    ) -> Result<(), Fault>
         ensures cases { self.new.cases ≡ min (self.old.cases + 1) (2 ^ 64 - 1) }
         ensures same { expected.now ≡ came.now → self.new.differ ≡ self.old.differ }
         ensures differ { expected.now ≢ came.now → self.new.differ ≡ min (self.old.differ + 1) (2 ^ 64 - 1) }
@@ -44,17 +44,19 @@ impl Tally {
             return Ok(());
         }
         self.differ = self.differ.saturating_add(1);
-        println!(rt; "{case}: expected {expected:?}, came {came:?}")
+        println!(rt; "{case}: expected {expected:?}, came {came:?}")?;
+        Ok(())
     }
 
     /// Prints the two counts.
     ///
     /// # Errors
     ///
-    /// Those of printing.
-    pub fn finish<R: Print>(&self, rt: &R, name: &str) -> io::Result<()> {
+    /// `Outside` where printing fails.
+    pub fn finish<R: Print>(&self, rt: &R, name: &str) -> Result<(), Fault> {
         let cases = self.cases;
         let differ = self.differ;
-        println!(rt; "{name}: {cases} cases, {differ} differ")
+        println!(rt; "{name}: {cases} cases, {differ} differ")?;
+        Ok(())
     }
 }

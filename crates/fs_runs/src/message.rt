@@ -1,0 +1,123 @@
+//! BGP messages (RFC 4271 section 4), whose lengths are reckoned.
+
+use crate::pieces::Pieces;
+use fs_cases::Fault;
+use std::alloc::Global;
+
+/// A message of this type: the marker, its length, the type and the body.
+pub fn message(alloc: Global, kind: u8, body: &[u8]) -> Result<Vec<u8>, Fault> {
+    let Ok(length) = u16::try_from(body.len()) else {
+        return Err(Fault::TooLarge);
+    };
+    let mut octets = vec![in alloc; 0xff; 16]?;
+    octets.extend_from_slice(&length.saturating_add(19).to_be_bytes())?;
+    octets.push(kind)?;
+    octets.extend_from_slice(body)?;
+    Ok(octets)
+}
+
+/// Octets behind their length, which has two octets.
+fn append_counted(field: &[u8], body: &mut Vec<u8>) -> Result<(), Fault> {
+    let Ok(length) = u16::try_from(field.len()) else {
+        return Err(Fault::TooLarge);
+    };
+    body.extend_from_slice(&length.to_be_bytes())?;
+    body.extend_from_slice(field)?;
+    Ok(())
+}
+
+/// A path attribute with a length of one octet: flags and type, and then the value.
+fn append_attribute(pieces: &Pieces, attribute: &str, field: &mut Vec<u8>) -> Result<(), Fault> {
+    let (head, value) = match attribute.split_once(' ') {
+        Some((head, value)) => (head, value),
+        None => (attribute, ""),
+    };
+    let value = pieces.octets(value)?;
+    let Ok(length) = u8::try_from(value.len()) else {
+        return Err(Fault::TooLarge);
+    };
+    field.extend_from_slice(&pieces.octets(head)?)?;
+    field.push(length)?;
+    field.extend_from_slice(&value)?;
+    Ok(())
+}
+
+/// Path attributes with commas between them.
+fn attributes(alloc: Global, pieces: &Pieces, text: &str) -> Result<Vec<u8>, Fault> {
+    let mut field = Vec::new(alloc);
+    for attribute in text.split(',') {
+        let attribute = attribute.trim();
+        if !attribute.is_empty() {
+            append_attribute(pieces, attribute, &mut field)?;
+        }
+    }
+    Ok(field)
+}
+
+/// The body of an UPDATE.
+fn update_body(
+    alloc: Global,
+    withdrawn: &[u8],
+    attributes: &[u8],
+    announced: &[u8],
+) -> Result<Vec<u8>, Fault> {
+    let mut body = Vec::new(alloc);
+    append_counted(withdrawn, &mut body)?;
+    append_counted(attributes, &mut body)?;
+    body.extend_from_slice(announced)?;
+    Ok(body)
+}
+
+/// An UPDATE: withdrawn prefixes, attributes and announced prefixes, with `|` between them.
+pub fn update(alloc: Global, pieces: &Pieces, fields: &str) -> Result<Vec<u8>, Fault> {
+    let Some((withdrawn, others)) = fields.split_once('|') else {
+        return Err(Fault::NoField);
+    };
+    let Some((listed, announced)) = others.split_once('|') else {
+        return Err(Fault::NoField);
+    };
+    let body = update_body(
+        alloc,
+        &pieces.octets(withdrawn)?,
+        &attributes(alloc, pieces, listed)?,
+        &pieces.octets(announced)?,
+    )?;
+    message(alloc, 2, &body)
+}
+
+/// An UPDATE that announces IPv4 prefixes: the AS_PATH, the next hop and the prefixes.
+pub fn unicast(alloc: Global, pieces: &Pieces, fields: &str) -> Result<Vec<u8>, Fault> {
+    let Some((path, others)) = fields.split_once('|') else {
+        return Err(Fault::NoField);
+    };
+    let Some((hop, prefixes)) = others.split_once('|') else {
+        return Err(Fault::NoField);
+    };
+    let path = path.trim();
+    let hop = hop.trim();
+    let text = format!(in alloc; "|4001 00,4002 {path},4003 {hop}|{prefixes}")?;
+    update(alloc, pieces, text.as_str())
+}
+
+/// An UPDATE that announces rules: the AFI, the AS_PATH, the rules, each with its length, and the communities of their
+/// actions, if any.
+pub fn flow(alloc: Global, pieces: &Pieces, fields: &str) -> Result<Vec<u8>, Fault> {
+    let Some((afi, others)) = fields.split_once('|') else {
+        return Err(Fault::NoField);
+    };
+    let Some((path, others)) = others.split_once('|') else {
+        return Err(Fault::NoField);
+    };
+    let Some((rules, actions)) = others.split_once('|') else {
+        return Err(Fault::NoField);
+    };
+    let afi = afi.trim();
+    let path = path.trim();
+    let rules = rules.trim();
+    let actions = actions.trim();
+    let head = if actions.is_empty() { "" } else { "c010 " };
+    let text = format!(in alloc;
+        "|800e {afi} 85 00 00 {rules},4001 00,4002 {path},{head}{actions}|"
+    )?;
+    update(alloc, pieces, text.as_str())
+}

@@ -1,0 +1,253 @@
+//! What the lines of a case file make: the files of the runs, what a run is given, and what it must write.
+
+use crate::fields::{count, octet, peer, wide};
+use crate::outcome::{Outcome, Terms, ended};
+use crate::pieces::Pieces;
+use crate::tape::Kind;
+use crate::{capture, message, tape};
+use fs_cases::{Fault, Tally, number, parts};
+use std::alloc::Global;
+
+/// The most calls that are made to fail in turn.
+const CALLS: u64 = 1000;
+
+/// Files, what the next run is given, and what it must write.
+#[derive(Drop)]
+pub struct Scene {
+    alloc: Global,
+    pieces: Pieces,
+    terms: Terms,
+    case: String,
+    expected: String,
+}
+
+impl Scene {
+    pub fn new(alloc: Global) -> Scene {
+        Scene {
+            alloc,
+            pieces: Pieces::new(alloc),
+            terms: Terms::new(alloc),
+            case: String::new(alloc),
+            expected: String::new(alloc),
+        }
+    }
+
+    /// Follows a line. `times N` before a line is that line N times, with the numbers from 1 in place of its `#`.
+    pub fn line<R: Print>(&mut self, rt: &R, tally: &mut Tally, line: &str) -> Result<(), Fault> {
+        let Some((word, rest)) = parts(line) else {
+            return Ok(());
+        };
+        if word != "times" {
+            return self.follow(rt, tally, word, rest);
+        }
+        let Some((times, line)) = rest.split_once(' ') else {
+            return Err(Fault::NoField);
+        };
+        let Some((word, rest)) = line.split_once(' ') else {
+            return Err(Fault::NoField);
+        };
+        for place in 0..number(times)? {
+            let rest = self.numbered(rest, place.saturating_add(1))?;
+            self.follow(rt, tally, word, rest.as_str())?;
+        }
+        Ok(())
+    }
+
+    /// The text with a number in place of each `#`.
+    fn numbered(&self, text: &str, number: u64) -> Result<String, Fault> {
+        let digits = format!(in self.alloc; "{number}")?;
+        let mut numbered = String::new(self.alloc);
+        let mut begun = false;
+        for part in text.split('#') {
+            if begun {
+                numbered.push_str(digits.as_str())?;
+            }
+            begun = true;
+            numbered.push_str(part)?;
+        }
+        Ok(numbered)
+    }
+
+    fn follow<R: Print>(
+        &mut self,
+        rt: &R,
+        tally: &mut Tally,
+        word: &str,
+        rest: &str,
+    ) -> Result<(), Fault> {
+        match word {
+            "case" => self.begin_case(rest),
+            "out" => self.expect(rest),
+            "words" => self.take_words(rest),
+            "limit" | "room" | "fail_file" | "fail_write" => self.set(word, rest),
+            "ends" => self.end_case(rt, tally, rest),
+            "calls" => self.count_calls(rt, tally, rest),
+            "file" => self.pieces.begin(rest),
+            "let" => self.define(rest),
+            "put" => self.put(rest),
+            _ => self.append(word, rest),
+        }
+    }
+
+    fn begin_case(&mut self, name: &str) -> Result<(), Fault> {
+        self.case = String::from_str(self.alloc, name)?;
+        Ok(())
+    }
+
+    /// Something is written: a line, or nothing.
+    fn expect(&mut self, text: &str) -> Result<(), Fault> {
+        if text.is_empty() {
+            return Ok(());
+        }
+        let spelled = self.pieces.spelled(text)?;
+        let octets = fs_cases::text(self.alloc, spelled.as_str())?;
+        let line = String::from_utf8(octets).map_err(|_| Fault::NoText)?;
+        self.expected.push_str(line.as_str())?;
+        self.expected.push_str("\n")?;
+        Ok(())
+    }
+
+    fn take_words(&mut self, words: &str) -> Result<(), Fault> {
+        self.terms.words.clear();
+        if words.is_empty() {
+            return Ok(());
+        }
+        for word in words.split(' ') {
+            let word = self.pieces.spelled(word)?;
+            self.terms.words.push(word)?;
+        }
+        Ok(())
+    }
+
+    fn set(&mut self, word: &str, digits: &str) -> Result<(), Fault> {
+        match word {
+            "limit" => self.terms.limit = number(digits)?,
+            "room" => self.terms.room = count(digits)?,
+            "fail_file" => self.terms.failing_files.push(number(digits)?)?,
+            _ => self.terms.failing_writes.push(number(digits)?)?,
+        }
+        Ok(())
+    }
+
+    /// A piece, in one line: its name and its octets.
+    fn define(&mut self, rest: &str) -> Result<(), Fault> {
+        let Some((name, field)) = rest.split_once(' ') else {
+            return Err(Fault::NoField);
+        };
+        let octets = self.pieces.octets(field)?;
+        self.pieces.begin(name)?;
+        self.pieces.append(&octets)
+    }
+
+    /// Octets over others: the place and the octets.
+    fn put(&mut self, rest: &str) -> Result<(), Fault> {
+        let Some((place, field)) = rest.split_once(' ') else {
+            return Err(Fault::NoField);
+        };
+        let octets = self.pieces.octets(field)?;
+        self.pieces.put(count(place)?, &octets)
+    }
+
+    /// What a word appends to the open file.
+    fn append(&mut self, word: &str, rest: &str) -> Result<(), Fault> {
+        let octets = match word {
+            "text" | "line" => self.text(word, rest)?,
+            "hex" => self.pieces.octets(rest)?,
+            "update" => message::update(self.alloc, &self.pieces, rest)?,
+            "unicast" => message::unicast(self.alloc, &self.pieces, rest)?,
+            "flow" => message::flow(self.alloc, &self.pieces, rest)?,
+            "packet" => capture::packet(self.alloc, &self.pieces.octets(rest)?)?,
+            "capture" => capture::header(self.alloc, wide(rest)?)?,
+            _ => self.pair(word, rest)?,
+        };
+        self.pieces.append(&octets)
+    }
+
+    fn text(&self, word: &str, rest: &str) -> Result<Vec<u8>, Fault> {
+        let mut octets = fs_cases::text(self.alloc, rest)?;
+        if word == "line" {
+            octets.push(b'\n')?;
+        }
+        Ok(octets)
+    }
+
+    /// What a word makes of a number and a field.
+    fn pair(&self, word: &str, rest: &str) -> Result<Vec<u8>, Fault> {
+        let (digits, field) = match rest.split_once(' ') {
+            Some((digits, field)) => (digits, field),
+            None => (rest, ""),
+        };
+        match word {
+            "front" => self.pieces.front(count(digits)?, field),
+            "message" => message::message(self.alloc, octet(digits)?, &self.pieces.octets(field)?),
+            "captured" => capture::record(self.alloc, &self.pieces.octets(field)?, wide(digits)?),
+            "singly" => tape::singly(self.alloc, peer(digits)?, &self.pieces.octets(field)?),
+            "up" => tape::record(self.alloc, Kind::Up, peer(digits)?, &[]),
+            "lost" => tape::record(self.alloc, Kind::Lost, peer(digits)?, &[]),
+            "from" => {
+                let payload = self.pieces.octets(field)?;
+                tape::record(self.alloc, Kind::Octets, peer(digits)?, &payload)
+            }
+            _ => return Err(Fault::NoWord),
+        }
+    }
+
+    fn outcome(&self) -> Result<Outcome, Fault> {
+        ended(self.alloc, &self.pieces, &self.terms)
+    }
+
+    /// Runs the words, and compares how the run ends.
+    fn end_case<R: Print>(&mut self, rt: &R, tally: &mut Tally, status: &str) -> Result<(), Fault> {
+        let outcome = self.outcome()?;
+        let status = octet(status)?;
+        let expected = shown(self.alloc, status, self.expected.as_str())?;
+        let came = shown(self.alloc, outcome.status, outcome.text.as_str())?;
+        tally.compare(rt, self.case.as_str(), expected.as_str(), came.as_str())?;
+        self.expected.clear();
+        self.terms.reset();
+        Ok(())
+    }
+
+    /// Lets each call of the files fail in turn until no call is left, and then each of the output.
+    fn count_calls<R: Print>(
+        &mut self,
+        rt: &R,
+        tally: &mut Tally,
+        counts: &str,
+    ) -> Result<(), Fault> {
+        let files = self.failing_runs(true)?;
+        let writes = self.failing_runs(false)?;
+        let came = format!(in self.alloc; "{files} {writes}")?;
+        tally.compare(rt, self.case.as_str(), counts, came.as_str())?;
+        self.expected.clear();
+        self.terms.reset();
+        Ok(())
+    }
+
+    /// How many calls can fail: with each of them the run ends with 1 and has written a front of what it must write, and
+    /// behind the last it ends with 0 and has written all. Other ends are told by a count that no run has.
+    fn failing_runs(&mut self, of_files: bool) -> Result<u64, Fault> {
+        for call in 0..CALLS {
+            self.terms.reset();
+            if of_files {
+                self.terms.failing_files.push(call)?;
+            } else {
+                self.terms.failing_writes.push(call)?;
+            }
+            let outcome = self.outcome()?;
+            let whole = self.expected.as_str();
+            if outcome.status == 0 && outcome.text.as_str() == whole {
+                return Ok(call);
+            }
+            if outcome.status != 1 || !whole.starts_with(outcome.text.as_str()) {
+                return Ok(CALLS + call);
+            }
+        }
+        Ok(CALLS)
+    }
+}
+
+/// A status and a text as one.
+fn shown(alloc: Global, status: u8, text: &str) -> Result<String, Fault> {
+    Ok(format!(in alloc; "{status}\n{text}")?)
+}
