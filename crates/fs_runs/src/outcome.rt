@@ -42,7 +42,7 @@ impl Terms {
 const AMPLE: u64 = 1 << 40;
 
 /// More than any run writes.
-const ROOM: usize = 100_000;
+const ROOM: usize = 200_000;
 
 /// How a run ended: its status, and what it wrote.
 #[derive(Drop)]

@@ -80,7 +80,7 @@ impl Scene {
             "out" => self.expect(rest),
             "words" => self.take_words(rest),
             "limit" | "room" | "fail_file" | "fail_write" => self.set(word, rest),
-            "ends" => self.end_case(rt, tally, rest),
+            "ends" | "stops" => self.end_case(rt, tally, word, rest),
             "calls" => self.count_calls(rt, tally, rest),
             "file" => self.pieces.begin(rest),
             "let" => self.define(rest),
@@ -196,12 +196,24 @@ impl Scene {
         ended(self.alloc, &self.pieces, &self.terms)
     }
 
-    /// Runs the words, and compares how the run ends.
-    fn end_case<R: Print>(&mut self, rt: &R, tally: &mut Tally, status: &str) -> Result<(), Fault> {
+    /// Runs the words, and compares how the run ends. One that stops may have written a front of what is expected.
+    fn end_case<R: Print>(
+        &mut self,
+        rt: &R,
+        tally: &mut Tally,
+        word: &str,
+        status: &str,
+    ) -> Result<(), Fault> {
         let outcome = self.outcome()?;
-        let status = octet(status)?;
-        let expected = shown(self.alloc, status, self.expected.as_str())?;
-        let came = shown(self.alloc, outcome.status, outcome.text.as_str())?;
+        let whole = self.expected.as_str();
+        let written = outcome.text.as_str();
+        let is_front = word == "stops" && whole.starts_with(written);
+        let expected = shown(self.alloc, octet(status)?, whole)?;
+        let came = shown(
+            self.alloc,
+            outcome.status,
+            if is_front { whole } else { written },
+        )?;
         tally.compare(rt, self.case.as_str(), expected.as_str(), came.as_str())?;
         self.expected.clear();
         self.terms.reset();
