@@ -1,5 +1,5 @@
 -- What one message does to a session: the table of states (RFC 4271, sections 6 and 8.2.2).
-use Rattle.std.specs.Prelude.{◌≡◌, ℕ, ◌==◌, Bool, not, if◌then◌else◌, Option, Some, None, Result, Ok, Err, ⊤}
+use Rattle.std.specs.Prelude.{◌≡◌, ◌==◌, Bool, not, if◌then◌else◌, Option, Some, None, Result, Ok, Err, ⊤}
 use Rattle.fs_base.specs.declared.config.Config.{Config}
 use Rattle.fs_base.specs.declared.config.Peer.{Peer}
 use Rattle.fs_message.specs.declared.fault.MessageFault.{MessageFault}
