@@ -1,4 +1,4 @@
-//! Cases of what stands in BGP messages: operator lists, rules and their order, actions, messages, updates and sessions.
+//! Cases of what stands in BGP messages: operator lists, rules and their order, actions, messages, updates, sessions.
 //! Each argument is the name of a case file; the head of the first one says how its lines are written.
 #![tactic(auto)]
 

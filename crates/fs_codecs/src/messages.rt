@@ -9,8 +9,8 @@ use fs_message::{
 };
 use std::alloc::Global;
 
-/// The kinds of the messages that stand in the octets, each with the length of its body, and the fault behind them, once
-/// more where it is answered again; cut into pieces of the length that stands in front.
+/// The kinds of the messages that stand in the octets, each with the length of its body, and the fault behind them, with
+/// a word where it is answered again; cut into pieces of the length that stands in front.
 pub fn frames(alloc: Global, names: &Names, input: &str) -> Result<String, Stop> {
     let (size, octets) = numbered(input)?;
     let octets = names.octets(octets)?;

@@ -89,7 +89,7 @@ pub fn feed(alloc: Global, names: &Names, input: &str) -> Result<String, Stop> {
     Ok(text)
 }
 
-/// The canonical frame of a rule that is made of components, each a word and the octets of its list; or why there is none.
+/// The canonical frame of a rule that is made of components, each a word and the octets of its list; or why it is none.
 pub fn make(alloc: Global, names: &Names, input: &str) -> Result<String, Stop> {
     let (family, mut rest) = family(input)?;
     let mut components = Vec::new(alloc);

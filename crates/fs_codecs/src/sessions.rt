@@ -24,8 +24,8 @@ fn configuration(alloc: Global) -> Result<Config, Stop> {
     })
 }
 
-/// Feeds the octets in pieces of the length that stands in front. The session's state, how many updates came and how many
-/// of them are to be taken as withdrawals, and the replies.
+/// Feeds the octets in pieces of the length that stands in front. The session's state, how many updates came and how
+/// many of them are to be taken as withdrawals, and the replies.
 pub fn play(alloc: Global, names: &Names, input: &str) -> Result<String, Stop> {
     let (size, octets) = numbered(input)?;
     let octets = names.octets(octets)?;

@@ -38,7 +38,8 @@ impl From<Fault> for Stop {
     fn from(fault: Fault) -> Stop {
         match fault {
             Fault::Memory => Stop::Memory,
-            Fault::NoHexadecimal | Fault::NoNumber => Stop::Line,
+            Fault::Outside => Stop::Outside,
+            _ => Stop::Line,
         }
     }
 }

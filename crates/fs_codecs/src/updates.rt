@@ -12,7 +12,7 @@ use fs_attrs::{
 use fs_base::{Address, Family, Path, Prefix, Segment};
 use std::alloc::Global;
 
-/// The terms of that name, of a peer at 198.51.100.1: `external` or `internal`, and `-two` where AS numbers have two octets.
+/// The terms of that name, of a peer at 198.51.100.1: `external` or `internal`, with `-two` for AS numbers of two octets.
 fn terms_of(name: &str) -> Result<Terms, Stop> {
     let (external, four) = match name {
         "external" => (true, true),
@@ -151,8 +151,7 @@ fn add_segment(alloc: Global, segment: &Segment, text: &mut String) -> Result<()
     Ok(())
 }
 
-/// The message that is written of what a body says, without its marker; it is read on the first terms and written on the
-/// second.
+/// The message that is written of what a body says; the body is read on the first terms and written on the second.
 pub fn rewrite(alloc: Global, names: &Names, input: &str) -> Result<String, Stop> {
     let (read_on, rest) = first(input);
     let (written_on, body) = first(rest);
