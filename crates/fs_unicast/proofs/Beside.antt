@@ -4,16 +4,13 @@ use Rattle.std.specs.List.{last_or}
 use Rattle.std.specs.List.Sorted.{IsStrictlySortedBy}
 use Rattle.std.specs.BTreeMap.Range.{range_contains}
 use Rattle.std.specs.declared.ops.Bound.TheVariants.{Included, Excluded, Unbounded}
+use Rattle.fs_base.proofs.Bools.{and_true}
 use Rattle.fs_base.proofs.Listing.{each, each_weaker, filter_on, find_on}
 use Rattle.fs_unicast.specs.declared.unicast.Place.{Place}
-use Rattle.fs_unicast.specs.Places.{place_cmp}
+use Rattle.fs_unicast.specs.Unicast.{place_cmp}
 use Rattle.fs_unicast.specs.Turns.{find_last, later}
 use Rattle.fs_unicast.proofs.PlaceOrder.{below_not_upto, upto_below}
 use Rattle.fs_unicast.proofs.Finding.{first_filtered, last_filtered, find_none, none_found, after_found}
-
-and_true : (b : Bool) → (b && true) ≡ b
-and_true true = refl
-and_true false = refl
 
 module _ {X : Type 0} (key : X → Place) (xs : List X) where
   first_on : (test other : X → Bool) → ((x : X) → test x ≡ other x) → (found : List X) → found ≡ filter test xs → slice_get found 0 ≡ find other xs

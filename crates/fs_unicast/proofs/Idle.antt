@@ -8,10 +8,10 @@ use Rattle.std.specs.declared.ops.Bound.TheVariants.{Included, Excluded}
 use Rattle.std.specs.Cmp.{both_ways}
 use Rattle.std.specs.Map.{keys_of}
 use Rattle.std.specs.Set.{remove_key}
-use Rattle.fs_base.proofs.Bools.{or_first, or_second}
+use Rattle.fs_base.proofs.Bools.{or_first, or_second, or_implied, or_implies}
 use Rattle.fs_base.proofs.Listing.{each, each_weaker, each_both, each_none, none_each, all_each, each_all, any_each, all_on}
 use Rattle.fs_unicast.specs.declared.unicast.Place.{Place}
-use Rattle.fs_unicast.specs.Places.{Route, place_cmp}
+use Rattle.fs_unicast.specs.Unicast.{Route, place_cmp}
 use Rattle.fs_unicast.specs.Turns.{neighbour_of, is_same, lies_between, are_parted, is_alone, parts_alone, is_needed, IsPartedAfter, IsParted, find_last}
 use Rattle.fs_unicast.proofs.PlaceOrder.{below_upto, upto_below, upto_upto, lt_le, below_itself, upto_itself, below_not_upto, equal_upto, equal_back}
 use Rattle.fs_unicast.proofs.Finding.{found_each, found_passes, none_found, any_found, after_found, last_each, last_passes, no_last, any_last, before_last}
@@ -51,18 +51,10 @@ not_both true true c h k l = absurd (true≢false (sym l ∙ h))
 not_both true false c h k l = absurd (true≢false (sym k))
 not_both false b c h k l = refl
 
-implied : (a b : Bool) → (not a || b) ≡ true → a ≡ true → b ≡ true
-implied true b h k = h
-implied false b h k = absurd (true≢false (sym k))
-
-implies : (a b : Bool) → (a ≡ true → b ≡ true) → (not a || b) ≡ true
-implies true b h = h refl
-implies false b h = refl
-
 module _ (turns : List Place) (held : List Route) (t : Place) where
   -- a turn that alone lies between two places
   between_alone : (x y : Place) → is_alone turns x y t ≡ true → are_parted turns x y ≡ true → lies_between x y t ≡ true
-  between_alone x y alone part = any_each (lies_between x y) (λ u. (not (lies_between x y u) || is_eq (place_cmp t u)) ≡ true) (lies_between x y t ≡ true) turns part (all_each (λ u. not (lies_between x y u) || is_eq (place_cmp t u)) turns alone) (λ u lies f. moved u lies (eq_equal (place_cmp t u) (implied (lies_between x y u) (is_eq (place_cmp t u)) f lies))) where
+  between_alone x y alone part = any_each (lies_between x y) (λ u. (not (lies_between x y u) || is_eq (place_cmp t u)) ≡ true) (lies_between x y t ≡ true) turns part (all_each (λ u. not (lies_between x y u) || is_eq (place_cmp t u)) turns alone) (λ u lies f. moved u lies (eq_equal (place_cmp t u) (or_implied (lies_between x y u) (is_eq (place_cmp t u)) f lies))) where
     moved : (u : Place) → lies_between x y u ≡ true → place_cmp t u ≡ Equal → lies_between x y t ≡ true
     moved u lies same = both (is_lt (place_cmp x t)) (is_le (place_cmp t y)) (below_upto x u t (first_of (is_lt (place_cmp x u)) (is_le (place_cmp u y)) lies) (equal_back t u same))
         (upto_upto t u y (equal_upto t u same) (second_of (is_lt (place_cmp x u)) (is_le (place_cmp u y)) lies))
@@ -70,7 +62,7 @@ module _ (turns : List Place) (held : List Route) (t : Place) where
   -- it is alone between nearer places too
   alone_within : (x y v w : Place) → is_le (place_cmp x v) ≡ true → is_le (place_cmp w y) ≡ true → is_alone turns x y t ≡ true → is_alone turns v w t ≡ true
   alone_within x y v w h k alone = each_all (λ u. not (lies_between v w u) || is_eq (place_cmp t u)) turns
-      (each_weaker (λ u. (not (lies_between x y u) || is_eq (place_cmp t u)) ≡ true) (λ u. (not (lies_between v w u) || is_eq (place_cmp t u)) ≡ true) (λ u f. implies (lies_between v w u) (is_eq (place_cmp t u)) (λ lies. implied (lies_between x y u) (is_eq (place_cmp t u)) f (outer u lies)))
+      (each_weaker (λ u. (not (lies_between x y u) || is_eq (place_cmp t u)) ≡ true) (λ u. (not (lies_between v w u) || is_eq (place_cmp t u)) ≡ true) (λ u f. or_implies (lies_between v w u) (is_eq (place_cmp t u)) (λ lies. or_implied (lies_between x y u) (is_eq (place_cmp t u)) f (outer u lies)))
       turns (all_each (λ u. not (lies_between x y u) || is_eq (place_cmp t u)) turns alone)) where
         outer : (u : Place) → lies_between v w u ≡ true → lies_between x y u ≡ true
         outer u lies = both (is_lt (place_cmp x u)) (is_le (place_cmp u y)) (upto_below x v u h (first_of (is_lt (place_cmp v u)) (is_le (place_cmp u w)) lies)) (upto_upto u w y (second_of (is_lt (place_cmp v u)) (is_le (place_cmp u w)) lies) k)

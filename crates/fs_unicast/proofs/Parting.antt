@@ -13,7 +13,7 @@ use Rattle.fs_base.proofs.Listing.{each, each_weaker, each_both, each_remove, an
 use Rattle.fs_base.specs.declared.path.Path.{Path}
 use Rattle.fs_unicast.specs.declared.unicast.Place.{Place}
 use Rattle.fs_unicast.specs.Neighbour.{neighbour}
-use Rattle.fs_unicast.specs.Places.{Route, place_cmp}
+use Rattle.fs_unicast.specs.Unicast.{Route, place_cmp}
 use Rattle.fs_unicast.specs.Turns.{neighbour_of, is_same, lies_between, are_parted, IsPartedAfter, IsPartedBefore, IsParted, StaysParted, find_last}
 use Rattle.fs_unicast.proofs.PlaceOrder.{place_total, below_upto, upto_below, upto_upto, lt_le, upto_itself, equal_upto, equal_back}
 use Rattle.fs_unicast.proofs.Finding.{found_each, found_passes, none_found, after_found, last_each, last_passes, no_last, before_last}

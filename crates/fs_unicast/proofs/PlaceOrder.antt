@@ -4,7 +4,7 @@ use Rattle.std.specs.Ordering.{ordering_reverse}
 use Rattle.std.specs.Cmp.{IsTotalOrder, alike_right, tied_itself, on_total, then_total, nat_cmp_total}
 use Rattle.fs_base.specs.PrefixOrder.{prefix_total}
 use Rattle.fs_unicast.specs.declared.unicast.Place.{Place}
-use Rattle.fs_unicast.specs.Places.{place_cmp}
+use Rattle.fs_unicast.specs.Unicast.{place_cmp}
 
 pub place_total : IsTotalOrder place_cmp
 place_total = then_total (on_total (λ p. p.prefix) prefix_total) (on_total (λ p. p.peer) nat_cmp_total)

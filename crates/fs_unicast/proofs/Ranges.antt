@@ -8,6 +8,7 @@ use Rattle.std.specs.Cmp.{tied_itself, nat_cmp_total}
 use Rattle.std.proofs.lemmas.Bool.Decides.{nat_tests}
 use Rattle.std.specs.BTreeMap.Range.{range_contains, entries_between}
 use Rattle.std.specs.declared.ops.Bound.TheVariants.{Included, Excluded, Unbounded}
+use Rattle.fs_base.proofs.Bools.{and_both, and_parts, or_implied, or_implies, same_tests}
 use Rattle.fs_base.specs.declared.prefix.Prefix.{Prefix}
 use Rattle.fs_base.specs.Prefix.{covers, prefix_cmp}
 use Rattle.fs_base.specs.PrefixOrder.{prefix_total}
@@ -15,10 +16,8 @@ use Rattle.fs_base.proofs.Listing.{filter_on, filter_none, filter_first, filter_
 use Rattle.fs_base.proofs.Nesting.{alike, alike_covers, covers_nested, covers_same_length}
 use Rattle.fs_base.specs.Seek.{IsFirst, IsLongest}
 use Rattle.fs_unicast.specs.declared.unicast.Place.{Place}
-use Rattle.fs_unicast.specs.Places.{Route, place_cmp}
-use Rattle.fs_unicast.specs.Small.{HasSmallPeers}
-use Rattle.fs_unicast.specs.Best.{is_same_prefix, is_strictly_under, is_other, others_under, best_at, best_match_of, is_longest, is_from, held_by, candidate}
-use Rattle.fs_unicast.specs.Start.{start_of}
+use Rattle.fs_unicast.specs.Unicast.{Route, place_cmp, HasSmallPeers}
+use Rattle.fs_unicast.specs.Search.{is_same_prefix, is_strictly_under, is_other, others_under, best_at, best_match_of, is_longest, is_from, held_by, candidate, start_of}
 use Rattle.fs_unicast.specs.Turns.{is_within}
 use Rattle.fs_unicast.proofs.PlaceOrder.{below_not_upto}
 use Rattle.fs_unicast.specs.Preference.{best_of}
@@ -104,28 +103,6 @@ pub none_in_range : (low : Prefix) (held found : List Route) → found ≡ entri
 none_in_range low held found e k = each_weaker (λ r. range_contains place_cmp (Included (place low 0)) Unbounded r.0 ≡ false) (λ r. is_le (prefix_cmp low r.0.prefix) ≡ false)
     (λ r h. sym (from_test (prefix_cmp low r.0.prefix) r.0.peer) ∙ h) held (filter_empty (λ r. range_contains place_cmp (Included (place low 0)) Unbounded r.0) held (sym e ∙ k))
 
--- a test that holds where another does, and not where it doesn't
-two_tests : (a b : Bool) → (a ≡ true → b ≡ true) → (b ≡ true → a ≡ true) → a ≡ b
-two_tests true b there back = sym (there refl)
-two_tests false true there back = back refl
-two_tests false false there back = refl
-
-split_and : (a b : Bool) → (a && b) ≡ true → (a ≡ true) × (b ≡ true)
-split_and true b h = (refl, h)
-split_and false b h = absurd (true≢false (sym h))
-
-join_and : (a b : Bool) → a ≡ true → b ≡ true → (a && b) ≡ true
-join_and true b h k = k
-join_and false b h k = h
-
-join_or : (a b : Bool) → (a ≡ true → b ≡ true) → (not a || b) ≡ true
-join_or true b h = h refl
-join_or false b h = refl
-
-split_or : (a b : Bool) → (not a || b) ≡ true → a ≡ true → b ≡ true
-split_or true b h k = h
-split_or false b h k = absurd (true≢false (sym k))
-
 -- where q is the longest prefix that covers d and has a route, the routes at q are those that the best match is of
 pub longest_at : (held : List Route) (d q : Prefix) → IsLongest (λ r. r.0.prefix) held d q
     → filter (λ r. is_same_prefix q r.0.prefix) held ≡ filter (is_longest held d) held
@@ -134,27 +111,27 @@ longest_at held d q h = filter_on (λ r. is_same_prefix q r.0.prefix) (is_longes
   not_longer r s = not (covers s.0.prefix d) || nat_le s.0.prefix.length r.0.prefix.length
 
   there : (r : Route) → is_same_prefix q r.0.prefix ≡ true → is_longest held d r ≡ true
-  there r e = join_and (covers r.0.prefix d) (list_all (λ s. not (covers s.0.prefix d) || nat_le s.0.prefix.length r.0.prefix.length) held) (sym (alike_covers q r.0.prefix d e) ∙ h.over)
-      (each_all (λ s. not (covers s.0.prefix d) || nat_le s.0.prefix.length r.0.prefix.length) held (each_weaker (λ s. covers s.0.prefix d ≡ true → s.0.prefix.length ≤ q.length) (λ s. (not (covers s.0.prefix d) || nat_le s.0.prefix.length r.0.prefix.length) ≡ true) (λ s k. join_or (covers s.0.prefix d) (nat_le s.0.prefix.length r.0.prefix.length) (λ c. le-leb_true s.0.prefix.length r.0.prefix.length (subst (λ n. s.0.prefix.length ≤ n) (alike q r.0.prefix e).length (k c)))) held h.longest)) where
+  there r e = and_both (covers r.0.prefix d) (list_all (λ s. not (covers s.0.prefix d) || nat_le s.0.prefix.length r.0.prefix.length) held) (sym (alike_covers q r.0.prefix d e) ∙ h.over)
+      (each_all (λ s. not (covers s.0.prefix d) || nat_le s.0.prefix.length r.0.prefix.length) held (each_weaker (λ s. covers s.0.prefix d ≡ true → s.0.prefix.length ≤ q.length) (λ s. (not (covers s.0.prefix d) || nat_le s.0.prefix.length r.0.prefix.length) ≡ true) (λ s k. or_implies (covers s.0.prefix d) (nat_le s.0.prefix.length r.0.prefix.length) (λ c. le-leb_true s.0.prefix.length r.0.prefix.length (subst (λ n. s.0.prefix.length ≤ n) (alike q r.0.prefix e).length (k c)))) held h.longest)) where
         le-leb_true : (m n : ℕ) → m ≤ n → nat_le m n ≡ true
         le-leb_true m n k = grind (arith, nat_tests)
 
   back : (r : Route) → (covers r.0.prefix d ≡ true → r.0.prefix.length ≤ q.length) → is_longest held d r ≡ true → is_same_prefix q r.0.prefix ≡ true
   back r short e = any_each (λ s. is_same_prefix q s.0.prefix) (λ s. (not (covers s.0.prefix d) || nat_le s.0.prefix.length r.0.prefix.length) ≡ true) (is_same_prefix q r.0.prefix ≡ true) held h.there (all_each (λ s. not (covers s.0.prefix d) || nat_le s.0.prefix.length r.0.prefix.length) held parts.1) at where
     parts : (covers r.0.prefix d ≡ true) × (list_all (λ s. not (covers s.0.prefix d) || nat_le s.0.prefix.length r.0.prefix.length) held ≡ true)
-    parts = split_and (covers r.0.prefix d) (list_all (λ s. not (covers s.0.prefix d) || nat_le s.0.prefix.length r.0.prefix.length) held) e
+    parts = and_parts (covers r.0.prefix d) (list_all (λ s. not (covers s.0.prefix d) || nat_le s.0.prefix.length r.0.prefix.length) held) e
 
     leb_le : (m n : ℕ) → nat_le m n ≡ true → m ≤ n
     leb_le m n k = grind (arith, nat_tests)
 
     at : (s : Route) → is_same_prefix q s.0.prefix ≡ true → (not (covers s.0.prefix d) || nat_le s.0.prefix.length r.0.prefix.length) ≡ true → is_same_prefix q r.0.prefix ≡ true
-    at s k l = let longer : s.0.prefix.length ≤ r.0.prefix.length = leb_le s.0.prefix.length r.0.prefix.length (split_or (covers s.0.prefix d) (nat_le s.0.prefix.length r.0.prefix.length) l (sym (alike_covers q s.0.prefix d k) ∙ h.over)) in
+    at s k l = let longer : s.0.prefix.length ≤ r.0.prefix.length = leb_le s.0.prefix.length r.0.prefix.length (or_implied (covers s.0.prefix d) (nat_le s.0.prefix.length r.0.prefix.length) l (sym (alike_covers q s.0.prefix d k) ∙ h.over)) in
         let same_length : q.length ≡ s.0.prefix.length = (alike q s.0.prefix k).length in
         let shorter : r.0.prefix.length ≤ q.length = short parts.0 in
         covers_same_length q r.0.prefix (covers_nested q r.0.prefix d h.over parts.0 (omega arith)) (omega arith)
 
   same : (r : Route) → (covers r.0.prefix d ≡ true → r.0.prefix.length ≤ q.length) → is_same_prefix q r.0.prefix ≡ is_longest held d r
-  same r short = two_tests (is_same_prefix q r.0.prefix) (is_longest held d r) (there r) (back r short)
+  same r short = same_tests (is_same_prefix q r.0.prefix) (is_longest held d r) (there r) (back r short)
 
 pub best_at_longest : (held : List Route) (d q : Prefix) → IsLongest (λ r. r.0.prefix) held d q → best_at held q ≡ best_match_of held d
 best_at_longest held d q h = ap (λ rs. best_of (map candidate rs)) (longest_at held d q h)

@@ -1,8 +1,6 @@
 pub mod Neighbour
 pub mod Preference
-pub mod Places
-pub mod Best
+pub mod Unicast
+pub mod Search
 pub mod Turns
-pub mod Shown
-pub mod Small
-pub mod Start
+pub mod Laws

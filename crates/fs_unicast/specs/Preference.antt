@@ -5,6 +5,11 @@ use Rattle.std.specs.Ordering.{nat_cmp, bool_cmp, on, then_cmp, flip_args, is_lt
 use Rattle.std.specs.declared.cmp.Ordering.{Ordering}
 use Rattle.fs_base.specs.declared.path.Path.{Path}
 use Rattle.fs_base.specs.declared.path.Segment.{Segment}
+use Rattle.fs_unicast.specs.declared.preference.Offer.{Offer}
+
+-- what an offer shows: the peer and the path
+abbrev pub offered : Offer → ℕ × Path
+offered o = (o.peer, o.path.now)
 
 -- a sequence counts its numbers, a set counts 1, a confederation's segment 0
 abbrev pub segment_length : Segment → ℕ
@@ -16,7 +21,10 @@ path_length (s ∷ segments) = segment_length s + path_length segments
 
 -- higher LOCAL_PREF, shorter AS_PATH, lower ORIGIN, external before internal, lower peer number
 abbrev pub preference_cmp : ℕ × Path → ℕ × Path → Ordering
-preference_cmp = then_cmp (flip_args (on (λ r. r.1.local_pref) nat_cmp)) (then_cmp (on (λ r. path_length r.1.segments) nat_cmp) (then_cmp (on (λ r. r.1.origin) nat_cmp) (then_cmp (flip_args (on (λ r. r.1.external) bool_cmp)) (on (λ r. r.0) nat_cmp))))
+preference_cmp =
+    then_cmp (flip_args (on (λ r. r.1.local_pref) nat_cmp)) (then_cmp (on (λ r. path_length r.1.segments) nat_cmp)
+    (then_cmp (on (λ r. r.1.origin) nat_cmp)
+    (then_cmp (flip_args (on (λ r. r.1.external) bool_cmp)) (on (λ r. r.0) nat_cmp))))
 
 abbrev pub preferred : ℕ × Path → ℕ × Path → Bool
 preferred x y = is_lt (preference_cmp x y)

@@ -1,5 +1,7 @@
 -- Turns: places that part the routes of other neighbouring ASes.
 use Rattle.std.specs.Prelude.{ℕ, ◌≡◌, ◌==◌, Bool, not, ◌&&◌, ◌||◌, true, false, Option, Some, None, List, [], ◌∷◌, find, if◌then◌else◌}
+use Rattle.std.specs.Borrow.{Bor}
+use Rattle.fs_base.specs.declared.path.Path.{Path}
 use Rattle.std.specs.BTreeMap.{is_at}
 use Rattle.std.specs.List.{AllByRecursion, list_any, list_all}
 use Rattle.std.specs.Option.{option_eq}
@@ -7,7 +9,7 @@ use Rattle.std.specs.Ordering.{is_eq, is_le, is_lt}
 use Rattle.std.specs.Set.{remove_key}
 use Rattle.fs_unicast.specs.declared.unicast.Place.{Place}
 use Rattle.fs_unicast.specs.Neighbour.{neighbour}
-use Rattle.fs_unicast.specs.Places.{Route, place_cmp}
+use Rattle.fs_unicast.specs.Unicast.{Route, place_cmp}
 
 -- the neighbouring AS that a route's path names, or None where no segment counts
 abbrev pub neighbour_of : Route → Option ℕ
@@ -28,13 +30,25 @@ lies_between x y t = is_lt (place_cmp x t) && is_le (place_cmp t y)
 abbrev pub are_parted : List Place → Place → Place → Bool
 are_parted turns x y = list_any (lies_between x y) turns
 
+-- inside the two places
+abbrev pub is_inside : Place → Place → Place → Bool
+is_inside low high t = is_lt (place_cmp low t) && is_lt (place_cmp t high)
+
+-- any two places between which t lies are parted
+abbrev pub PartsAt : List Place → Place → Type 0
+PartsAt turns t = (x y : Place) → lies_between x y t ≡ true → are_parted turns x y ≡ true
+
 -- a turn lies between the place and each later route whose neighbouring AS isn't this
 abbrev pub IsPartedAfter : List Place → List Route → Place → Option ℕ → Type 0
-IsPartedAfter turns held x asn = AllByRecursion (λ r. is_lt (place_cmp x r.0) ≡ true → is_same asn (neighbour_of r) ≡ false → are_parted turns x r.0 ≡ true) held
+IsPartedAfter turns held x asn =
+    AllByRecursion (λ r. is_lt (place_cmp x r.0) ≡ true → is_same asn (neighbour_of r) ≡ false
+    → are_parted turns x r.0 ≡ true) held
 
 -- a turn lies between the place and each earlier route whose neighbouring AS isn't this
 abbrev pub IsPartedBefore : List Place → List Route → Place → Option ℕ → Type 0
-IsPartedBefore turns held y asn = AllByRecursion (λ r. is_lt (place_cmp r.0 y) ≡ true → is_same (neighbour_of r) asn ≡ false → are_parted turns r.0 y ≡ true) held
+IsPartedBefore turns held y asn =
+    AllByRecursion (λ r. is_lt (place_cmp r.0 y) ≡ true → is_same (neighbour_of r) asn ≡ false
+    → are_parted turns r.0 y ≡ true) held
 
 -- between two routes of other neighbouring AS lies a turn
 abbrev pub IsParted : List Place → List Route → Type 0
@@ -59,7 +73,8 @@ is_alone turns x y t = list_all (λ u. not (lies_between x y u) || is_eq (place_
 
 -- the two routes have other neighbouring ASes, and are parted by t alone
 abbrev pub parts_alone : List Place → Place → Route → Route → Bool
-parts_alone turns t x y = lies_between x.0 y.0 t && (not (is_same (neighbour_of x) (neighbour_of y)) && is_alone turns x.0 y.0 t)
+parts_alone turns t x y =
+    lies_between x.0 y.0 t && (not (is_same (neighbour_of x) (neighbour_of y)) && is_alone turns x.0 y.0 t)
 
 -- some two routes are parted by t alone; else it is idle
 abbrev pub is_needed : List Place → List Route → Place → Bool
@@ -72,4 +87,10 @@ without_idle held turns (Some t) = if is_needed turns held t then turns else rem
 
 -- the idle ones of the two turns beside a place are gone: the last up to it, and then the first after it
 abbrev pub tidied : List Route → List Place → Place → List Place
-tidied held turns z = let rest = without_idle held turns (find_last (λ t. is_le (place_cmp t z)) turns) in without_idle held rest (find (λ t. is_lt (place_cmp z t)) rest)
+tidied held turns z =
+    let rest = without_idle held turns (find_last (λ t. is_le (place_cmp t z)) turns) in
+    without_idle held rest (find (λ t. is_lt (place_cmp z t)) rest)
+
+-- a route of the map, as it is lent
+abbrev pub entry_now : Bor Place × Bor Path → Route
+entry_now r = (r.0.now, r.1.now)

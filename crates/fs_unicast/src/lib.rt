@@ -1,6 +1,8 @@
 //! The unicast routes that peers gave, and which of them is best for a prefix or for what lies under it.
 #![tactic(auto)]
 
+mod cover;
+mod laws;
 mod neighbour;
 mod preference;
 mod routes;
@@ -8,9 +10,8 @@ mod search;
 mod turns;
 mod unicast;
 
+pub use cover::{InOrder, longest_cover};
+pub use laws::best_is_preferred;
 pub use neighbour::{first_as, neighbour_as};
-pub use preference::Held;
+pub use preference::Offer;
 pub use unicast::{Place, Unicast};
-
-#[cfg(test)]
-mod tests;

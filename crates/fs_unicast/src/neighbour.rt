@@ -4,14 +4,7 @@ ghost use Rattle.std.specs.Prelude.{◌≡◌};
 ghost use Rattle.std.specs.Option.{option_copied};
 ghost use Rattle.fs_unicast.specs.Neighbour.{is_confederation, leading, first_number, first_as, neighbour, neighbour_as};
 
-use fs_base::Segment;
-
-/// An AS_SEQUENCE (RFC 4271 section 4.3).
-const SEQUENCE: u8 = 2;
-/// An AS_CONFED_SEQUENCE and an AS_CONFED_SET (RFC 5065 section 3).
-const CONFED_SEQUENCE: u8 = 3;
-
-const CONFED_SET: u8 = 4;
+use fs_base::{AS_CONFED_SEQUENCE, AS_CONFED_SET, AS_SEQUENCE, Segment};
 
 /// The leftmost AS of a path: the first number of its leading sequence, where confederation segments don't
 /// count. None for a path that has no other segment or begins with a set.
@@ -48,14 +41,14 @@ fn leading(segments: &[Segment]) -> Option<&Segment>
 fn is_confederation(segment: &Segment) -> bool
     ensures { result ≡ is_confederation segment.now }
 {
-    segment.form == CONFED_SEQUENCE || segment.form == CONFED_SET
+    segment.form == AS_CONFED_SEQUENCE || segment.form == AS_CONFED_SET
 }
 
 /// The first number of a sequence; a set has none.
 fn first_number(segment: &Segment) -> Option<u32>
     ensures { result ≡ first_number segment.now }
 {
-    if segment.form == SEQUENCE {
+    if segment.form == AS_SEQUENCE {
         segment.numbers.as_slice().first().copied()
     } else {
         None

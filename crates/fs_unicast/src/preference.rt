@@ -1,35 +1,29 @@
 //! Which of the routes of one key is preferred.
 
 ghost use Rattle.std.specs.Prelude.{◌≡◌, ◌+◌, ◌*◌, ◌≤◌, ◌<◌, length};
-ghost use Rattle.fs_unicast.specs.Preference.{segment_length, path_length, preference_cmp, preferred, better};
-ghost use Rattle.fs_unicast.specs.Shown.{shown};
+ghost use Rattle.fs_unicast.specs.Preference.{segment_length, path_length, preference_cmp, preferred, better, offered};
 
-use fs_base::{Path, Segment};
+use fs_base::{AS_SEQUENCE, AS_SET, Path, Segment};
 use std::cmp::Ordering;
-
-/// An AS_SET and an AS_SEQUENCE (RFC 4271 section 4.3).
-const SET: u8 = 1;
-
-const SEQUENCE: u8 = 2;
 
 /// A route that a peer gave for some key, seen by its peer's number and its path.
 #[derive(Clone, Copy, Drop)]
-pub struct Held<'a> {
+pub struct Offer<'a> {
     pub peer: u16,
     pub path: &'a Path,
 }
 
-impl Held<'_> {
+impl Offer<'_> {
     /// Whether this route is preferred to the other: by the higher LOCAL_PREF, the shorter AS_PATH, the lower
     /// ORIGIN, an external peer before an internal one, and at last the lower peer number.
-    pub fn is_preferred(&self, other: &Held<'_>) -> bool
-        ensures { result ≡ preferred (shown self.now) (shown other.now) }
+    pub fn is_preferred(&self, other: &Offer<'_>) -> bool
+        ensures { result ≡ preferred (offered self.now) (offered other.now) }
     {
         self.preference(other).is_lt()
     }
 
-    fn preference(&self, other: &Held<'_>) -> Ordering
-        ensures { result ≡ preference_cmp (shown self.now) (shown other.now) }
+    fn preference(&self, other: &Offer<'_>) -> Ordering
+        ensures { result ≡ preference_cmp (offered self.now) (offered other.now) }
     {
         let length = path_length(self.path.segments.as_slice());
         let other_length = path_length(other.path.segments.as_slice());
@@ -59,8 +53,8 @@ fn segment_length(segment: &Segment) -> usize
     ensures { result ≡ segment_length segment.now }
 {
     match segment.form {
-        SEQUENCE => segment.numbers.as_slice().len(),
-        SET => 1,
+        AS_SEQUENCE => segment.numbers.as_slice().len(),
+        AS_SET => 1,
         _ => 0,
     }
 }

@@ -4,8 +4,8 @@ ghost use Rattle.std.specs.Prelude.{◌≡◌, [], OnOk, OnErr, is_some, ◌&&�
 ghost use Rattle.std.specs.BTreeMap.{insert_entry, is_at};
 ghost use Rattle.std.specs.List.{list_any};
 ghost use Rattle.std.specs.Map.{remove_entry, lookup};
-ghost use Rattle.fs_unicast.specs.Best.{is_other};
-ghost use Rattle.fs_unicast.specs.Places.{place_cmp};
+ghost use Rattle.fs_unicast.specs.Search.{is_other};
+ghost use Rattle.fs_unicast.specs.Unicast.{place_cmp};
 ghost use Rattle.fs_unicast.specs.Turns.{is_within};
 
 use crate::neighbour::neighbour;
@@ -93,11 +93,5 @@ impl Routes {
         ensures { result ≡ list_any (λ r. is_within low high.now r.0 && is_other local_as asn r.1) self.now }
     {
         turns::others_within(&self.paths, &self.turns, low, high, local_as, asn)
-    }
-
-    /// How many turns there are.
-    #[cfg(test)]
-    pub fn turn_count(&self) -> usize {
-        self.turns.len()
     }
 }

@@ -1,18 +1,16 @@
 //! Look-ups in the ordered map of routes.
 
 ghost use Rattle.std.specs.Prelude.{◌≡◌, ◌<◌, ◌^◌, option_map};
-ghost use Rattle.fs_unicast.specs.Best.{best_at, best_match_of, others_under, held_by};
-ghost use Rattle.fs_unicast.specs.Preference.{better};
-ghost use Rattle.fs_unicast.specs.Shown.{shown};
-ghost use Rattle.fs_unicast.specs.Small.{HasSmallPeers};
-ghost use Rattle.fs_unicast.specs.Start.{start_of};
+ghost use Rattle.fs_unicast.specs.Search.{best_at, best_match_of, others_under, held_by, start_of};
+ghost use Rattle.fs_unicast.specs.Preference.{better, offered};
+ghost use Rattle.fs_unicast.specs.Unicast.{HasSmallPeers, place_cmp};
 ghost use Rattle.std.specs.Option.{option_copied};
-ghost use Rattle.fs_base.specs.Seek.{IsFirstFrom, IsLongestCover};
+ghost use Rattle.fs_base.specs.Seek.{IsFirstFrom};
 ghost use Rattle.std.specs.List.Sorted.{IsStrictlySortedBy};
 ghost use Rattle.std.specs.Map.{keys_of};
-ghost use Rattle.fs_unicast.specs.Places.{place_cmp};
 
-use crate::preference::Held;
+use crate::cover::{InOrder, longest_cover};
+use crate::preference::Offer;
 use crate::routes::Routes;
 use crate::unicast::Place;
 use fs_base::{Path, Prefix};
@@ -20,9 +18,9 @@ use std::collections::BTreeMap;
 use std::ops::Bound;
 
 /// The most preferred route at the prefix.
-pub fn best_at<'a>(routes: &'a BTreeMap<Place, Path>, prefix: &Prefix) -> Option<Held<'a>>
+pub fn best_at<'a>(routes: &'a BTreeMap<Place, Path>, prefix: &Prefix) -> Option<Offer<'a>>
     requires { HasSmallPeers routes.now.entries }
-    ensures { option_map shown result ≡ best_at routes.now.entries prefix.now }
+    ensures { option_map offered result ≡ best_at routes.now.entries prefix.now }
 {
     let low = Place {
         prefix: *prefix,
@@ -34,7 +32,7 @@ pub fn best_at<'a>(routes: &'a BTreeMap<Place, Path>, prefix: &Prefix) -> Option
     };
     let mut best = None;
     for (place, path) in routes.range(low..=high) {
-        let route = Held {
+        let route = Offer {
             peer: place.peer,
             path,
         };
@@ -43,8 +41,8 @@ pub fn best_at<'a>(routes: &'a BTreeMap<Place, Path>, prefix: &Prefix) -> Option
     best
 }
 
-fn better<'a>(best: Option<Held<'a>>, route: Held<'a>) -> Held<'a>
-    ensures { Some (shown result) ≡ better (option_map shown best.entry) (shown route.entry) }
+fn better<'a>(best: Option<Offer<'a>>, route: Offer<'a>) -> Offer<'a>
+    ensures { Some (offered result) ≡ better (option_map offered best.entry) (offered route.entry) }
 {
     match best {
         Some(best) if !route.is_preferred(&best) => best,
@@ -53,9 +51,9 @@ fn better<'a>(best: Option<Held<'a>>, route: Held<'a>) -> Held<'a>
 }
 
 /// The most preferred route at the longest prefix that covers this one and has a route.
-pub fn best_match<'a>(routes: &'a BTreeMap<Place, Path>, prefix: &Prefix) -> Option<Held<'a>>
+pub fn best_match<'a>(routes: &'a BTreeMap<Place, Path>, prefix: &Prefix) -> Option<Offer<'a>>
     requires { HasSmallPeers routes.now.entries }
-    ensures { option_map shown result ≡ best_match_of routes.now.entries prefix.now }
+    ensures { option_map offered result ≡ best_match_of routes.now.entries prefix.now }
 {
     match longest_cover(routes, prefix) {
         Some(longest) => best_at(routes, &longest),
@@ -63,22 +61,17 @@ pub fn best_match<'a>(routes: &'a BTreeMap<Place, Path>, prefix: &Prefix) -> Opt
     }
 }
 
-/// The longest prefix that covers this one and has a route.
-fn longest_cover(routes: &BTreeMap<Place, Path>, prefix: &Prefix) -> Option<Prefix>
-    ensures { IsLongestCover (λ r. r.0.prefix) routes.now.entries prefix.now result }
-{
-    let mut low = *prefix;
-    loop {
-        let Some(first) = first_from(routes, &low) else {
-            return None;
-        };
-        if first.covers(prefix) {
-            return Some(first);
-        }
-        let Some(both) = low.common(&first) else {
-            return None;
-        };
-        low = both;
+impl InOrder for BTreeMap<Place, Path> {
+    ghost use Rattle.fs_unicast.specs.Unicast.{Route};
+
+    ghost Item = { Route };
+
+    ghost at = { λ r. r.0.prefix };
+
+    ghost items = { λ m. m.entries };
+
+    fn first_from(&self, low: &Prefix) -> Option<Prefix> {
+        first_from(self, low)
     }
 }
 

@@ -6,10 +6,10 @@ ghost use Rattle.std.specs.Ordering.{is_le, is_lt};
 ghost use Rattle.std.specs.List.{list_any};
 ghost use Rattle.std.specs.Map.{keys_of};
 ghost use Rattle.std.specs.List.Sorted.{IsStrictlySortedBy};
-ghost use Rattle.fs_unicast.specs.Best.{is_other};
+ghost use Rattle.fs_unicast.specs.Search.{is_other};
 ghost use Rattle.fs_unicast.specs.Neighbour.{neighbour};
-ghost use Rattle.fs_unicast.specs.Places.{place_cmp};
-ghost use Rattle.fs_unicast.specs.Turns.{is_same, is_within, lies_between, are_parted, find_last, is_alone, is_needed, without_idle, tidied, IsParted, IsPartedBefore, IsPartedAfter, StaysParted};
+ghost use Rattle.fs_unicast.specs.Unicast.{place_cmp};
+ghost use Rattle.fs_unicast.specs.Turns.{entry_now, is_same, is_within, lies_between, are_parted, find_last, is_alone, is_needed, without_idle, tidied, IsParted, IsPartedBefore, IsPartedAfter, StaysParted, PartsAt, is_inside};
 
 use crate::neighbour::{neighbour, neighbour_as};
 use crate::unicast::Place;
@@ -88,7 +88,7 @@ fn is_other(path: &Path, local_as: u32, asn: Option<u32>) -> bool
 
 /// Puts a turn at the place.
 fn put_turn(turns: &mut BTreeSet<Place>, turn: Place) -> Result<(), Memory>
-    ensures ok { OnOk result ((x y : Place) → lies_between x y turn ≡ true → are_parted turns.new.keys x y ≡ true) }
+    ensures ok { OnOk result (PartsAt turns.new.keys turn) }
     ensures stays { StaysParted turns.old.keys turns.new.keys }
 {
     turns.insert(turn)?;
@@ -104,7 +104,7 @@ fn has_neighbour(path: &Path, asn: Option<u32>) -> bool
 
 /// The last route before the place.
 fn last_before<'a>(paths: &'a BTreeMap<Place, Path>, place: &Place) -> Option<(&'a Place, &'a Path)>
-    ensures found { option_map (λ r. (r.0.now, r.1.now)) result ≡ find_last (λ r. is_lt (place_cmp r.0 place.now)) paths.now.entries }
+    ensures found { option_map entry_now result ≡ find_last (λ r. is_lt (place_cmp r.0 place.now)) paths.now.entries }
     ensures ordered { IsStrictlySortedBy place_cmp (keys_of paths.now.entries) }
 {
     paths.range(..*place).next_back()
@@ -112,7 +112,7 @@ fn last_before<'a>(paths: &'a BTreeMap<Place, Path>, place: &Place) -> Option<(&
 
 /// The first route after the place.
 fn first_after<'a>(paths: &'a BTreeMap<Place, Path>, place: &Place) -> Option<(&'a Place, &'a Path)>
-    ensures found { option_map (λ r. (r.0.now, r.1.now)) result ≡ find (λ r. is_lt (place_cmp place.now r.0)) paths.now.entries }
+    ensures found { option_map entry_now result ≡ find (λ r. is_lt (place_cmp place.now r.0)) paths.now.entries }
     ensures ordered { IsStrictlySortedBy place_cmp (keys_of paths.now.entries) }
 {
     paths
@@ -126,7 +126,7 @@ fn first_within<'a>(
     low: &Place,
     high: &Place,
 ) -> Option<(&'a Place, &'a Path)>
-    ensures found { option_map (λ r. (r.0.now, r.1.now)) result ≡ find (λ r. is_within low.now high.now r.0) paths.now.entries }
+    ensures found { option_map entry_now result ≡ find (λ r. is_within low.now high.now r.0) paths.now.entries }
     ensures ordered { IsStrictlySortedBy place_cmp (keys_of paths.now.entries) }
 {
     let (place, path) = paths.range(*low..).next()?;
@@ -139,7 +139,7 @@ fn first_within<'a>(
 
 /// The first route from the place on.
 fn first_from<'a>(paths: &'a BTreeMap<Place, Path>, place: &Place) -> Option<(&'a Place, &'a Path)>
-    ensures found { option_map (λ r. (r.0.now, r.1.now)) result ≡ find (λ r. is_le (place_cmp place.now r.0)) paths.now.entries }
+    ensures found { option_map entry_now result ≡ find (λ r. is_le (place_cmp place.now r.0)) paths.now.entries }
     ensures ordered { IsStrictlySortedBy place_cmp (keys_of paths.now.entries) }
 {
     paths.range(*place..).next()
@@ -147,7 +147,7 @@ fn first_from<'a>(paths: &'a BTreeMap<Place, Path>, place: &Place) -> Option<(&'
 
 /// The first turn after `place` and before `high`.
 fn first_turn(turns: &BTreeSet<Place>, place: &Place, high: &Place) -> Option<Place>
-    ensures found { result ≡ find (λ t. is_lt (place_cmp place.now t) && is_lt (place_cmp t high.now)) turns.now.keys }
+    ensures found { result ≡ find (is_inside place.now high.now) turns.now.keys }
     ensures ordered { IsStrictlySortedBy place_cmp turns.now.keys }
 {
     let turn = next_turn(turns, place)?;

@@ -4,12 +4,12 @@ ghost use Rattle.std.specs.Prelude.{◌≡◌, [], OnOk, OnErr, is_some, option_
 ghost use Rattle.std.specs.BTreeMap.{insert_entry, is_at};
 ghost use Rattle.std.specs.List.Sorted.{IsStrictlySortedBy};
 ghost use Rattle.std.specs.Map.{keys_of, remove_entry, lookup};
-ghost use Rattle.fs_unicast.specs.Places.{place_cmp};
-ghost use Rattle.fs_unicast.specs.Best.{best_at, best_match_of, others_under, held_by};
-ghost use Rattle.fs_unicast.specs.Shown.{shown};
+ghost use Rattle.fs_unicast.specs.Unicast.{place_cmp, put_path, take_path, has_path};
+ghost use Rattle.fs_unicast.specs.Search.{best_at, best_match_of, others_under, held_by};
+ghost use Rattle.fs_unicast.specs.Preference.{offered};
 ghost use Rattle.std.specs.Option.{option_copied};
 
-use crate::preference::Held;
+use crate::preference::Offer;
 use crate::routes::Routes;
 use crate::search;
 use fs_base::{Memory, Path, Prefix, Steps};
@@ -34,7 +34,7 @@ impl Model for Unicast {
     ghost use Rattle.std.specs.Prelude.{List};
     ghost use Rattle.fs_base.specs.declared.path.Path.{Path};
     ghost use Rattle.fs_unicast.specs.declared.unicast.Place.{Place};
-    ghost use Rattle.fs_unicast.specs.Small.{HasSmallPeers};
+    ghost use Rattle.fs_unicast.specs.Unicast.{HasSmallPeers};
 
     ghost Value = { List (Place × Path) };
 
@@ -55,7 +55,7 @@ impl Unicast {
     /// Keeps the path as the peer's route at the prefix, in place of one that it holds there. Where memory is
     /// refused nothing changes.
     pub fn put(&mut self, peer: u16, prefix: Prefix, path: Path) -> Result<(), Memory>
-        ensures ok { OnOk result (self.new ≡ insert_entry place_cmp self.old (record { prefix = prefix; peer = peer }) path) }
+        ensures ok { OnOk result (self.new ≡ put_path peer prefix path self.old) }
         ensures err { OnErr result (self.new ≡ self.old) }
     {
         self.routes.put(Place { prefix, peer }, path)?;
@@ -64,8 +64,8 @@ impl Unicast {
 
     /// Takes the peer's route at the prefix away, and tells whether there was one.
     pub fn remove(&mut self, peer: u16, prefix: &Prefix) -> bool
-        ensures removed { self.new ≡ remove_entry (is_at (place_cmp (record { prefix = prefix.now; peer = peer }))) self.old }
-        ensures held { result ≡ is_some (lookup (is_at (place_cmp (record { prefix = prefix.now; peer = peer }))) self.old) }
+        ensures removed { self.new ≡ take_path peer prefix.now self.old }
+        ensures held { result ≡ has_path peer prefix.now self.old }
     {
         let place = Place {
             prefix: *prefix,
@@ -75,20 +75,20 @@ impl Unicast {
     }
 
     /// The most preferred route at the prefix. One step.
-    pub fn best<L: Ledger>(&self, prefix: &Prefix, steps: &mut Steps<L>) -> Option<Held<'_>>
-        ensures best { option_map shown result ≡ best_at self.now prefix.now }
+    pub fn best<L: Ledger>(&self, prefix: &Prefix, steps: &mut Steps<L>) -> Option<Offer<'_>>
+        ensures best { option_map offered result ≡ best_at self.now prefix.now }
         ensures step { steps.new ≡ steps.old + 1 }
     {
-        steps.take();
+        steps.take(); // at one prefix
         search::best_at(self.routes.paths(), prefix)
     }
 
     /// The most preferred route at the longest prefix that covers this one and has a route. One step.
-    pub fn best_match<L: Ledger>(&self, prefix: &Prefix, steps: &mut Steps<L>) -> Option<Held<'_>>
-        ensures best { option_map shown result ≡ best_match_of self.now prefix.now }
+    pub fn best_match<L: Ledger>(&self, prefix: &Prefix, steps: &mut Steps<L>) -> Option<Offer<'_>>
+        ensures best { option_map offered result ≡ best_match_of self.now prefix.now }
         ensures step { steps.new ≡ steps.old + 1 }
     {
-        steps.take();
+        steps.take(); // up to the longest cover
         search::best_match(self.routes.paths(), prefix)
     }
 

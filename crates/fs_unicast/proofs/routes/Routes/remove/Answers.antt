@@ -1,5 +1,5 @@
 use Rattle.std.specs.BTreeMap.{is_at}
-use Rattle.fs_unicast.specs.Places.{place_cmp}
+use Rattle.fs_unicast.specs.Unicast.{place_cmp}
 use Rattle.fs_unicast.proofs.Parting.{parted_removed}
 use Rattle.fs_unicast.proofs.routes.Routes.remove.Goals as goal
 

@@ -1,6 +1,6 @@
 use Rattle.std.proofs.Common.{◌<◌, ◌^◌, arith}
 use Rattle.fs_base.proofs.Listing.{each_insert}
-use Rattle.fs_unicast.specs.Places.{place_cmp}
+use Rattle.fs_unicast.specs.Unicast.{place_cmp}
 use Rattle.fs_unicast.proofs.unicast.Unicast.put.Goals as goal
 
 pub invariant_of-self-2 : goal.invariant_of-self-2

@@ -1,7 +1,7 @@
 use Rattle.std.proofs.Common.{◌<◌, ◌^◌}
 use Rattle.std.specs.BTreeMap.{is_at}
 use Rattle.fs_base.proofs.Listing.{each_remove}
-use Rattle.fs_unicast.specs.Places.{place_cmp}
+use Rattle.fs_unicast.specs.Unicast.{place_cmp}
 use Rattle.fs_unicast.proofs.unicast.Unicast.remove.Goals as goal
 
 pub invariant_of-self : goal.invariant_of-self

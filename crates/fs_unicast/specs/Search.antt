@@ -6,8 +6,11 @@ use Rattle.fs_base.specs.Prefix.{covers, prefix_cmp}
 use Rattle.fs_base.specs.declared.prefix.Prefix.{Prefix}
 use Rattle.fs_base.specs.declared.path.Path.{Path}
 use Rattle.fs_unicast.specs.Neighbour.{neighbour_as}
-use Rattle.fs_unicast.specs.Places.{Route}
+use Rattle.fs_unicast.specs.Unicast.{Route}
 use Rattle.fs_unicast.specs.Preference.{best_of}
+use Rattle.std.specs.declared.ops.Bound.{Bound}
+use Rattle.std.specs.declared.ops.Bound.TheVariants.{Included, Unbounded}
+use Rattle.fs_unicast.specs.declared.unicast.Place.{Place}
 
 abbrev pub candidate : Route → ℕ × Path
 candidate r = (r.0.peer, r.1)
@@ -21,7 +24,8 @@ best_at held p = best_of (map candidate (filter (λ r. is_same_prefix p r.0.pref
 
 -- its prefix covers d, and no route has a longer one that does
 abbrev pub is_longest : List Route → Prefix → Route → Bool
-is_longest held d r = covers r.0.prefix d && list_all (λ s. not (covers s.0.prefix d) || nat_le s.0.prefix.length r.0.prefix.length) held
+is_longest held d r =
+    covers r.0.prefix d && list_all (λ s. not (covers s.0.prefix d) || nat_le s.0.prefix.length r.0.prefix.length) held
 
 -- the most preferred route at the longest prefix that covers d and has one
 abbrev pub best_match_of : List Route → Prefix → Option (ℕ × Path)
@@ -47,3 +51,8 @@ is_from (Some low) p = is_le (prefix_cmp low p)
 -- the first prefix from there on at which the peer holds a route
 abbrev pub held_by : List Route → ℕ → Option Prefix → Option Prefix
 held_by held peer from = option_map (λ r. r.0.prefix) (find (λ r. is_from from r.0.prefix && (r.0.peer == peer)) held)
+
+-- where the places from a prefix on start, or all places
+abbrev pub start_of : Option Prefix → Bound Place
+start_of None = Unbounded
+start_of (Some prefix) = Included (record { prefix = prefix; peer = 0 })

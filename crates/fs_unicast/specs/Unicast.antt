@@ -1,0 +1,33 @@
+-- Unicast routes, and the order of the places at which they are kept.
+use Rattle.std.specs.Ordering.{nat_cmp, ordering_then}
+use Rattle.std.specs.declared.cmp.Ordering.{Ordering}
+use Rattle.fs_base.specs.Prefix.{prefix_cmp}
+use Rattle.fs_base.specs.declared.path.Path.{Path}
+use Rattle.fs_unicast.specs.declared.unicast.Place.{Place}
+use Rattle.std.specs.Prelude.{ℕ, ◌<◌, ◌^◌, Bool, List, is_some}
+use Rattle.std.specs.BTreeMap.{insert_entry, is_at}
+use Rattle.std.specs.Map.{remove_entry, lookup}
+use Rattle.fs_base.specs.declared.prefix.Prefix.{Prefix}
+use Rattle.std.specs.List.{AllByRecursion}
+
+-- a route: which peer holds it at which prefix, and its path
+abbrev pub Route : Type 0
+Route = Place × Path
+
+abbrev pub place_cmp : Place → Place → Ordering
+place_cmp a b = ordering_then (prefix_cmp a.prefix b.prefix) (nat_cmp a.peer b.peer)
+
+-- a peer's number has sixteen bits
+abbrev pub HasSmallPeers : List Route → Type 0
+HasSmallPeers routes = AllByRecursion (λ r. r.0.peer < 2 ^ 16) routes
+
+-- with the peer's path at the prefix, instead of one that it holds
+abbrev pub put_path : ℕ → Prefix → Path → List Route → List Route
+put_path peer prefix path held = insert_entry place_cmp held (record { prefix = prefix; peer = peer }) path
+
+-- without the peer's path at the prefix
+abbrev pub take_path : ℕ → Prefix → List Route → List Route
+take_path peer prefix held = remove_entry (is_at (place_cmp (record { prefix = prefix; peer = peer }))) held
+
+abbrev pub has_path : ℕ → Prefix → List Route → Bool
+has_path peer prefix held = is_some (lookup (is_at (place_cmp (record { prefix = prefix; peer = peer }))) held)
