@@ -4,14 +4,14 @@ use Rattle.std.specs.List.{list_any, list_all}
 use Rattle.fs_base.specs.Prefix.{covers}
 use Rattle.fs_base.specs.declared.prefix.Prefix.{Prefix}
 use Rattle.fs_base.specs.declared.config.Config.{Config}
-use Rattle.fs_unicast.specs.Places.{Route}
+use Rattle.fs_unicast.specs.Unicast.{Route}
 use Rattle.fs_unicast.specs.Preference.{best_of}
-use Rattle.fs_unicast.specs.Best.{best_match_of, is_longest, others_under, is_other, is_strictly_under, is_same_prefix, candidate}
+use Rattle.fs_unicast.specs.Search.{best_match_of, is_longest, others_under, is_other, is_strictly_under, is_same_prefix, candidate}
 use Rattle.fs_validate.specs.declared.route.FlowRoute.{FlowRoute}
 use Rattle.fs_validate.specs.declared.validity.Validity.TheVariants.{Valid, MoreSpecific, LeftAs, Originator}
-use Rattle.fs_validate.specs.Destination.{destination_prefix}
+use Rattle.fs_nlri.specs.Rule.{destination_prefix}
 use Rattle.fs_validate.specs.Validity.{validity, validity_to, validity_at, neighbour_of_best, has_originator, has_leftmost}
-use Rattle.fs_validate.specs.Locality.{is_related, related, AgreeAt, AgreeFor}
+use Rattle.fs_validate.specs.Laws.{is_related, related, AgreeAt, AgreeFor}
 
 -- a filter by a test that only related elements pass
 filter_within : {X : Type 0} (p q : X → Bool) → ((x : X) → p x ≡ true → q x ≡ true) → (xs : List X) → filter p (filter q xs) ≡ filter p xs

@@ -1,3 +1,3 @@
-pub mod Destination
+pub mod Originator
 pub mod Validity
-pub mod Locality
+pub mod Laws

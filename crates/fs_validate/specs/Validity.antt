@@ -1,51 +1,27 @@
 -- The validity of a flow route, over the list of all held unicast routes (RFC 8955 section 6 as RFC 9117 section 4
 -- revises it).
 use Rattle.std.specs.Prelude.{ℕ, ◌==◌, ◌&&◌, ◌||◌, not, Bool, false, Option, Some, None, List, if◌then◌else◌, option_map}
-use Rattle.std.specs.List.{list_all}
-use Rattle.fs_base.specs.declared.config.Address.{Address}
-use Rattle.fs_base.specs.declared.config.Address.TheVariants.{V4, V6}
 use Rattle.fs_base.specs.declared.config.Config.{Config}
 use Rattle.fs_base.specs.declared.path.Path.{Path}
-use Rattle.fs_base.specs.declared.path.Segment.{Segment}
 use Rattle.fs_base.specs.declared.prefix.Prefix.{Prefix}
-use Rattle.fs_base.specs.Config.{peer_of}
 use Rattle.fs_unicast.specs.Neighbour.{first_as, neighbour_as}
-use Rattle.fs_unicast.specs.Places.{Route}
-use Rattle.fs_unicast.specs.Best.{best_match_of, others_under}
-use Rattle.fs_validate.specs.Destination.{destination_prefix}
+use Rattle.fs_unicast.specs.Unicast.{Route}
+use Rattle.fs_unicast.specs.Search.{best_match_of, others_under}
+use Rattle.fs_nlri.specs.Rule.{destination_prefix}
+use Rattle.fs_validate.specs.Originator.{originator_of, same_originator, is_local}
 use Rattle.fs_validate.specs.declared.route.FlowRoute.{FlowRoute}
 use Rattle.fs_validate.specs.declared.validity.Validity.{Validity}
 use Rattle.fs_validate.specs.declared.validity.Validity.TheVariants.{Valid, NoDestination, Originator, MoreSpecific, LeftAs}
 
--- RFC 9117 section 4.1: the ORIGINATOR_ID where there is one, else the address of the peer
-abbrev pub originator_or : Option ℕ → Option Address → Option Address
-originator_or (Some id) address = Some (V4 id)
-originator_or None address = address
-
-abbrev pub originator_of : Config → ℕ × Path → Option Address
-originator_of config r = originator_or r.1.originator (option_map (λ p. p.address) (peer_of r.0 config.peers))
-
--- an identifier is the IPv4 address with the same bits
-abbrev pub same_address : Address → Address → Bool
-same_address (V4 a) (V4 b) = a == b
-same_address (V6 a) (V6 b) = a == b
-same_address _ _ = false
-
-abbrev pub same_originator : Option Address → Option Address → Bool
-same_originator (Some a) (Some b) = same_address a b
-same_originator _ _ = false
-
--- RFC 9117 section 4.1, rule b.2: the AS_PATH is empty or has only AS_CONFED_SEQUENCEs
-abbrev pub is_local : List Segment → Bool
-is_local segments = list_all (λ s. s.form == 3) segments
-
 -- rule b
 abbrev pub has_best_originator : Config → FlowRoute → Option (ℕ × Path) → Bool
 has_best_originator config route None = false
-has_best_originator config route (Some best) = same_originator (originator_of config (route.peer, route.path)) (originator_of config best)
+has_best_originator config route (Some best) =
+    same_originator (originator_of config (route.peer, route.path)) (originator_of config best)
 
 abbrev pub has_originator : Config → FlowRoute → Option (ℕ × Path) → Bool
-has_originator config route best = (config.empty_path_valid && is_local route.path.segments) || has_best_originator config route best
+has_originator config route best =
+    (config.empty_path_valid && is_local route.path.segments) || has_best_originator config route best
 
 -- rule c: the neighbouring AS that each route strictly under the destination is to have
 abbrev pub neighbour_of_best : Config → Option (ℕ × Path) → Option ℕ
@@ -77,7 +53,8 @@ validity_without config = if config.allow_no_destination then Valid else NoDesti
 
 abbrev pub validity_to : List Route → Config → FlowRoute → Option Prefix → Validity
 validity_to held config route None = validity_without config
-validity_to held config route (Some destination) = validity_at held config route destination (best_match_of held destination)
+validity_to held config route (Some destination) =
+    validity_at held config route destination (best_match_of held destination)
 
 abbrev pub validity : List Route → Config → FlowRoute → Validity
 validity held config route = validity_to held config route (destination_prefix route.rule)

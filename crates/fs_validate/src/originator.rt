@@ -1,12 +1,9 @@
 //! Who brought a route into the network.
 
 ghost use Rattle.std.specs.Prelude.{◌≡◌, option_map};
-ghost use Rattle.fs_validate.specs.Validity.{originator_of, same_originator, is_local};
+ghost use Rattle.fs_validate.specs.Originator.{originator_of, same_originator, is_local};
 
-use fs_base::{Address, Config, Path, Segment};
-
-/// An AS_CONFED_SEQUENCE (RFC 5065 section 3).
-const CONFED_SEQUENCE: u8 = 3;
+use fs_base::{AS_CONFED_SEQUENCE, Address, Config, Path, Segment};
 
 /// The originator of a route: its ORIGINATOR_ID, else the address of the peer that gave it. None where the
 /// configuration doesn't name the peer.
@@ -35,5 +32,5 @@ pub fn is_local(segments: &[Segment]) -> bool
 {
     segments
         .iter()
-        .all(|segment| segment.form == CONFED_SEQUENCE)
+        .all(|segment| segment.form == AS_CONFED_SEQUENCE)
 }

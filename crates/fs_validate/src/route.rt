@@ -1,8 +1,7 @@
 //! Flow specification routes.
 
 ghost use Rattle.std.specs.Prelude.{◌≡◌};
-ghost use Rattle.fs_nlri.specs.Rule.{IsRule};
-ghost use Rattle.fs_validate.specs.Destination.{destination_prefix};
+ghost use Rattle.fs_nlri.specs.Rule.{IsRule, destination_prefix};
 
 use fs_actions::Actions;
 use fs_base::{Path, Prefix};

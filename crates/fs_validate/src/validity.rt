@@ -1,13 +1,13 @@
 //! Whether a flow route may be used.
 
 ghost use Rattle.std.specs.Prelude.{◌≡◌, ◌≤◌, ◌+◌, option_map};
-ghost use Rattle.fs_unicast.specs.Shown.{shown};
+ghost use Rattle.fs_unicast.specs.Preference.{offered};
 ghost use Rattle.fs_validate.specs.Validity.{validity, validity_at, has_originator, has_leftmost, neighbour_of_best, validity_without, same_as};
 
 use crate::originator::{is_local, is_same_originator, originator};
 use crate::route::{FlowRoute, destination};
 use fs_base::{Config, Prefix, Steps};
-use fs_unicast::{Held, Unicast, first_as, neighbour_as};
+use fs_unicast::{Offer, Unicast, first_as, neighbour_as};
 use std::sync::ledger::Ledger;
 
 /// Valid, or the first rule of validation that the route breaks.
@@ -59,9 +59,9 @@ fn valid_at(
     config: &Config,
     route: &FlowRoute,
     destination: &Prefix,
-    best: Option<Held<'_>>,
+    best: Option<Offer<'_>>,
 ) -> Validity
-    ensures { result ≡ validity_at unicast.now config.now route.now destination.now (option_map shown best.entry) }
+    ensures { result ≡ validity_at unicast.now config.now route.now destination.now (option_map offered best.entry) }
 {
     if !has_originator(config, route, best) {
         return Validity::Originator;
@@ -76,8 +76,8 @@ fn valid_at(
 }
 
 /// Rule b: the best match has the same originator, or the route began in the local AS and that is allowed.
-fn has_originator(config: &Config, route: &FlowRoute, best: Option<Held<'_>>) -> bool
-    ensures { result ≡ has_originator config.now route.now (option_map shown best.entry) }
+fn has_originator(config: &Config, route: &FlowRoute, best: Option<Offer<'_>>) -> bool
+    ensures { result ≡ has_originator config.now route.now (option_map offered best.entry) }
 {
     if config.empty_path_valid && is_local(route.path.segments.as_slice()) {
         return true;
@@ -92,8 +92,8 @@ fn has_originator(config: &Config, route: &FlowRoute, best: Option<Held<'_>>) ->
 }
 
 /// The neighbouring AS of the best match.
-fn neighbour_of(config: &Config, best: Option<Held<'_>>) -> Option<u32>
-    ensures { result ≡ neighbour_of_best config.now (option_map shown best.entry) }
+fn neighbour_of(config: &Config, best: Option<Offer<'_>>) -> Option<u32>
+    ensures { result ≡ neighbour_of_best config.now (option_map offered best.entry) }
 {
     match best {
         Some(best) => Some(neighbour_as(best.path.segments.as_slice(), config.local_as)),
@@ -102,8 +102,8 @@ fn neighbour_of(config: &Config, best: Option<Held<'_>>) -> Option<u32>
 }
 
 /// Rule d: of a route from an external peer the leftmost AS is that of the best match.
-fn has_leftmost(route: &FlowRoute, best: Option<Held<'_>>) -> bool
-    ensures { result ≡ has_leftmost route.now (option_map shown best.entry) }
+fn has_leftmost(route: &FlowRoute, best: Option<Offer<'_>>) -> bool
+    ensures { result ≡ has_leftmost route.now (option_map offered best.entry) }
 {
     if !route.path.external {
         return true;

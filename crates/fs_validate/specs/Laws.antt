@@ -1,9 +1,11 @@
 -- The unicast routes that a destination is related to, and when two lists agree on them.
 use Rattle.std.specs.Prelude.{◌≡◌, Bool, ◌||◌, Option, List, filter, MatchOption}
 use Rattle.fs_base.specs.Prefix.{covers}
+use Rattle.fs_base.specs.declared.config.Config.{Config}
 use Rattle.fs_base.specs.declared.prefix.Prefix.{Prefix}
-use Rattle.fs_unicast.specs.Places.{Route}
-use Rattle.fs_validate.specs.Destination.{destination_prefix}
+use Rattle.fs_unicast.specs.Unicast.{Route}
+use Rattle.fs_nlri.specs.Rule.{destination_prefix}
+use Rattle.fs_validate.specs.Validity.{validity}
 use Rattle.fs_validate.specs.declared.route.FlowRoute.{FlowRoute}
 
 abbrev pub is_related : Prefix → Prefix → Bool
@@ -17,3 +19,8 @@ AgreeAt destination held other = MatchOption destination (Unit {0}) (λ d. relat
 
 abbrev pub AgreeFor : FlowRoute → List Route → List Route → Type 0
 AgreeFor route held other = AgreeAt (destination_prefix route.rule) held other
+
+-- lists of unicast routes that agree for a flow route give it the same validity
+abbrev pub Locality : Type 0
+Locality = (config : Config) (route : FlowRoute) (held other : List Route) → AgreeFor route held other
+    → validity held config route ≡ validity other config route

@@ -1,5 +1,5 @@
 use Rattle.fs_validate.proofs.Local.{validity_agrees}
-use Rattle.fs_validate.proofs.locality.agree.Goals as goal
+use Rattle.fs_validate.proofs.laws.agree.Goals as goal
 
 pub returns : goal.returns
 returns c = validity_agrees
