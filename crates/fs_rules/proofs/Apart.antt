@@ -1,31 +1,26 @@
 -- Rules of different destinations are in the order of these.
-use Rattle.std.proofs.Common.{ℕ, ◌≡◌, ◌≤◌, ◌==◌, refl, sym, ap, ap₂, subst, ◌∙◌, Bool, true, false, true≢false, cond, List, [], ◌∷◌, ◌++◌, Option, Some, None, option_map, min, Ordering, Less, Equal, Greater, is_eq, nat_cmp, arith, Result, Ok, Err, OnOk, OnErr}
+use Rattle.std.proofs.Common.{ℕ, ◌≡◌, refl, sym, ap, ap₂, ◌∙◌, true, false, true≢false, List, [], ◌∷◌, ◌++◌, Option, Some, None, option_map, Ordering, Less, Equal, Greater, is_eq, nat_cmp, Result, Ok, Err, OnOk, OnErr}
 use Rattle.std.specs.List.{AllByRecursion}
 use Rattle.std.specs.Map.{keys_of}
 use Rattle.std.specs.Ordering.{ordering_then, ordering_reverse}
-use Rattle.std.proofs.lemmas.Bool.{eqb-true}
 use Rattle.std.proofs.lemmas.Map.Keys.{sorted_head}
 use Rattle.fs_base.specs.declared.prefix.Family.{Family}
 use Rattle.fs_base.specs.declared.prefix.Family.TheVariants.{V4, V6}
 use Rattle.fs_base.specs.declared.prefix.Prefix.{Prefix}
-use Rattle.fs_base.specs.Bits.{width_of, afi_of, cleared}
-use Rattle.fs_base.specs.Made.{prefix_of}
+use Rattle.fs_base.specs.Bits.{afi_of}
 use Rattle.fs_base.specs.Prefix.{prefix_cmp}
 use Rattle.fs_base.proofs.Listing.{each_weaker, each_both, each_append}
-use Rattle.fs_nlri.specs.Forms.{form_of}
-use Rattle.fs_nlri.specs.Parts.{Body, V4Body, V6Body, ListBody, Part, Ruled}
-use Rattle.fs_nlri.specs.Rule.{IsRule, shown, destination_of}
+use Rattle.fs_nlri.specs.Parts.{Ruled}
+use Rattle.fs_nlri.specs.Rule.{IsRule, shown, destination_prefix}
 use Rattle.fs_nlri.proofs.Destination.{destination_shown}
 use Rattle.fs_order.specs.Order.{rule_cmp, parts_cmp}
 use Rattle.fs_order.specs.Total.{rule_total}
 use Rattle.fs_order.specs.Destination.{destination_cmp}
 use Rattle.fs_order.proofs.First.{destinations_first}
 use Rattle.fs_order.proofs.Same.{same_rules}
-use Rattle.fs_validate.specs.Destination.{destination_prefix}
 use Rattle.fs_rules.specs.declared.group.Kept.{Kept}
-use Rattle.fs_rules.specs.Held.{key_cmp, is_key}
-use Rattle.fs_rules.specs.Admitted.{same_rule}
-use Rattle.fs_rules.specs.Grouped.{Entry, kept_in, IsTo, ArePlaced, AreInOrder, IsSound}
+use Rattle.fs_rules.specs.Table.{key_cmp, is_key, same_rule}
+use Rattle.fs_rules.specs.Groups.{Entry, kept_in, IsTo, ArePlaced, AreInOrder, IsSound}
 
 -- rules without a destination come last
 abbrev pub to_cmp : Option Prefix → Option Prefix → Ordering

@@ -1,5 +1,5 @@
 -- The routes of IPv4 stand before those of IPv6.
-use Rattle.std.proofs.Common.{ℕ, ◌≡◌, ◌+◌, ◌≤◌, refl, sym, ap, ap₂, subst, ◌∙◌, Bool, true, false, not, ◌&&◌, ◌||◌, ◌==◌, cond, List, [], ◌∷◌, ◌++◌, filter, map, nat_cmp, is_eq, Result, Ok, Err, OnOk, OnErr, arith}
+use Rattle.std.proofs.Common.{ℕ, ◌≡◌, ◌+◌, ◌≤◌, refl, sym, ap, ap₂, subst, ◌∙◌, Bool, true, false, true≢false, not, ◌&&◌, ◌||◌, ◌==◌, cond, List, [], ◌∷◌, ◌++◌, filter, map, nat_cmp, is_eq, Result, Ok, Err, OnOk, OnErr, arith}
 use Rattle.std.specs.List.{list_any, AllByRecursion}
 use Rattle.std.specs.Ordering.{ordering_then}
 use Rattle.fs_base.specs.Bits.{afi_of}
@@ -7,20 +7,20 @@ use Rattle.fs_base.specs.declared.config.Config.{Config}
 use Rattle.fs_base.specs.declared.prefix.Family.{Family}
 use Rattle.fs_base.specs.declared.prefix.Family.TheVariants.{V4, V6}
 use Rattle.fs_base.specs.declared.prefix.Prefix.{Prefix}
-use Rattle.fs_base.proofs.Listing.{each_weaker, filter-append, filter_all, filter_none, each_none}
+use Rattle.fs_base.proofs.Bools.{and_first}
+use Rattle.fs_base.proofs.Listing.{each_weaker, each_append, filter-append, filter_all, filter_none, each_none}
 use Rattle.fs_nlri.specs.Parts.{Ruled}
 use Rattle.fs_nlri.specs.Rule.{IsRule}
 use Rattle.fs_order.specs.Order.{parts_cmp}
-use Rattle.fs_unicast.specs.Places.{Route}
+use Rattle.fs_unicast.specs.Unicast.{Route}
 use Rattle.fs_rules.specs.declared.group.Kept.{Kept}
-use Rattle.fs_rules.specs.Held.{is_key}
-use Rattle.fs_rules.specs.Admitted.{is_of_family, is_valid}
-use Rattle.fs_rules.specs.Kept.{AreSorted, routes_of, put_kept, mended, retested, is_related_kept, related_kept, is_beaten, is_chosen, chosen}
-use Rattle.fs_rules.specs.Grouped.{IsSound}
-use Rattle.fs_rules.specs.Families.{AreOfFamilies}
+use Rattle.fs_rules.specs.Table.{is_key, is_of_family, is_valid, related_count}
+use Rattle.fs_rules.specs.Group.{AreSorted, routes_of, put_kept, mended, retested, is_related_kept, related_kept, is_beaten, is_chosen, chosen}
+use Rattle.fs_rules.specs.Groups.{IsSound}
+use Rattle.fs_rules.specs.Flows.{AreOfFamilies}
 use Rattle.fs_rules.proofs.Apart.{AllBefore, RuleBefore, families_before}
 use Rattle.fs_rules.proofs.InParts.{chosen-append}
-use Rattle.fs_rules.proofs.Marks.{each-filter, each-put}
+use Rattle.fs_rules.proofs.Changes.{each-filter, each-put, related_is_count}
 use Rattle.fs_rules.proofs.Placing.{related-append}
 use Rattle.fs_rules.proofs.Puts.{put_left, put_right, sorted_front, sorted_back}
 use Rattle.fs_rules.proofs.Takes.{any-append, all_pass}
@@ -81,8 +81,10 @@ mended_sound f p unicast config (k ∷ ks) h = (at (is_related_kept p k), mended
 pub mended_now : (f : Family) (p : Prefix) (unicast : List Route) (config : Config) (old new : List Kept) → new ≡ map (mended p unicast config) old → AllByRecursion (IsSound f) old → AllByRecursion (IsSound f) new
 mended_now f p unicast config old new e h = subst (AllByRecursion (IsSound f)) (sym e) (mended_sound f p unicast config old h)
 
-pub steps_both : (p : Prefix) (xs ys : List Kept) (before between after : ℕ) → between ≤ before + related_kept p xs → after ≤ between + related_kept p ys → after ≤ before + related_kept p (xs ++ ys)
-steps_both p xs ys before between after h k = let e : related_kept p (xs ++ ys) ≡ related_kept p xs + related_kept p ys = related-append p xs ys in omega arith
+pub steps_both : (p : Prefix) (xs ys now : List Kept) (before between after : ℕ) → xs ++ ys ≡ now → between ≤ before + related_kept p xs → after ≤ between + related_kept p ys → after ≤ before + related_count p (routes_of now)
+steps_both p xs ys now before between after v h k = subst (λ n. after ≤ before + n) (related_is_count p (xs ++ ys) ∙ ap (λ ks. related_count p (routes_of ks)) v) sums where
+  sums : after ≤ before + related_kept p (xs ++ ys)
+  sums = let e : related_kept p (xs ++ ys) ≡ related_kept p xs + related_kept p ys = related-append p xs ys in omega arith
 
 -- What is read of a family.
 append_nothing : {X : Type 0} (xs : List X) → xs ++ [] ≡ xs
@@ -93,7 +95,7 @@ of_other : (family f g : Family) (k : Kept) → family ≡ f → IsSound g k →
 of_other family f g k h s = ap₂ (λ a b. afi_of a == afi_of b) s.family h
 
 not_chosen : (family : Family) (ks : List Kept) (k : Kept) → is_of_family family k.route ≡ false → is_chosen family ks k ≡ false
-not_chosen family ks k h = ap (λ b. b && (is_valid k.mark && not (is_beaten ks k))) h
+not_chosen family ks k h = ap (λ b. b && (is_valid k.validity && not (is_beaten ks k))) h
 
 pub chosen_first : (family : Family) (xs ys : List Kept) → family ≡ V4 → AreOfFamilies xs ys → chosen family xs ≡ chosen family (xs ++ ys)
 chosen_first family xs ys h g = sym (chosen-append family xs ys (before_each xs ys g)
@@ -102,6 +104,30 @@ chosen_first family xs ys h g = sym (chosen-append family xs ys (before_each xs 
 pub chosen_second : (family : Family) (xs ys : List Kept) → family ≡ V6 → AreOfFamilies xs ys → chosen family ys ≡ chosen family (xs ++ ys)
 chosen_second family xs ys h g = sym (chosen-append family xs ys (before_each xs ys g)
     ∙ ap (λ zs. zs ++ chosen family ys) (filter_none (is_chosen family xs) xs (each_weaker (IsSound V4) (λ k. is_chosen family xs k ≡ false) (λ k s. not_chosen family xs k (of_other family V6 V4 k h s)) xs g.first)))
+
+same_family : (f g : Family) → (afi_of f == afi_of g) ≡ true → f ≡ g
+same_family V4 V4 h = refl
+same_family V4 V6 h = absurd (true≢false (sym h))
+same_family V6 V4 h = absurd (true≢false (sym h))
+same_family V6 V6 h = refl
+
+sound_where : (family g : Family) (k : Kept) → IsSound g k → is_of_family family k.route ≡ true → IsSound family k
+sound_where family g k s h = record { family = s.family ∙ same_family g family (sym (ap (λ f. afi_of f == afi_of family) s.family) ∙ h); rule = s.rule }
+
+-- what is chosen of a family has rules of it
+chosen_sound : (family : Family) (all ks : List Kept) → AllByRecursion (λ k. is_of_family family k.route ≡ true → IsSound family k) ks → AllByRecursion (IsSound family) (filter (is_chosen family all) ks)
+chosen_sound family all [] h = tt
+chosen_sound family all (k ∷ ks) h = at (is_chosen family all k) refl (chosen_sound family all ks h.1) where
+  at : (b : Bool) → is_chosen family all k ≡ b → AllByRecursion (IsSound family) (filter (is_chosen family all) ks)
+      → AllByRecursion (IsSound family) (cond b (k ∷ filter (is_chosen family all) ks) (filter (is_chosen family all) ks))
+  at true e ih = (h.0 (and_first (is_of_family family k.route) (is_valid k.validity && not (is_beaten all k)) e), ih)
+  at false e ih = ih
+
+pub chosen_each : (family : Family) (xs ys now : List Kept) → xs ++ ys ≡ now → AreOfFamilies xs ys → AllByRecursion (IsSound family) (chosen family now)
+chosen_each family xs ys now e h = subst (λ ks. AllByRecursion (IsSound family) (chosen family ks)) e (chosen_sound family (xs ++ ys) (xs ++ ys)
+    (each_append (λ k. is_of_family family k.route ≡ true → IsSound family k) xs ys
+    (each_weaker (IsSound V4) (λ k. is_of_family family k.route ≡ true → IsSound family k) (λ k s. sound_where family V4 k s) xs h.first)
+    (each_weaker (IsSound V6) (λ k. is_of_family family k.route ≡ true → IsSound family k) (λ k s. sound_where family V6 k s) ys h.second)))
 
 pub family_first : (family : Family) (xs ys : List Kept) → family ≡ V4 → AreOfFamilies xs ys → xs ≡ filter (λ k. is_of_family family k.route) (xs ++ ys)
 family_first family xs ys h g = sym (filter-append (λ k. is_of_family family k.route) xs ys

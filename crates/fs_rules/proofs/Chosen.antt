@@ -1,20 +1,18 @@
--- What the marks tell is what is defined over all held routes.
-use Rattle.std.proofs.Common.{ℕ, zero, suc, ◌≡◌, ◌+◌, ◌≤◌, refl, sym, ap, ap₂, subst, ◌∙◌, Bool, true, false, not, ◌&&◌, ◌||◌, cond, List, [], ◌∷◌, length, filter, map, slice_get, option_map, Result, Ok, Err, IfOk}
+-- What the kept validities tell is what is defined over all held routes.
+use Rattle.std.proofs.Common.{ℕ, zero, suc, ◌≡◌, refl, sym, ap, ap₂, subst, ◌∙◌, Bool, true, false, not, ◌&&◌, ◌||◌, cond, List, [], ◌∷◌, length, filter, map, slice_get, option_map, Result, Ok, Err, IfOk}
 use Rattle.std.specs.List.{list_any}
 use Rattle.fs_base.specs.declared.config.Config.{Config}
 use Rattle.fs_base.specs.declared.prefix.Family.{Family}
 use Rattle.fs_base.proofs.Listing.{each_weaker, filter_on}
-use Rattle.fs_unicast.specs.Places.{Route, place_cmp}
+use Rattle.fs_unicast.specs.Unicast.{Route, place_cmp}
 use Rattle.fs_validate.specs.Validity.{validity}
 use Rattle.fs_validate.specs.declared.route.FlowRoute.{FlowRoute}
 use Rattle.fs_rules.specs.declared.group.Kept.{Kept}
-use Rattle.fs_rules.specs.Held.{Held}
-use Rattle.fs_rules.specs.Admitted.{is_of_family, is_valid, beats, is_most_preferred, admitted}
+use Rattle.fs_rules.specs.Table.{Held, is_of_family, is_valid, beats, is_most_preferred, admitted}
 use Rattle.fs_rules.specs.Lent.{Judged, judged, listed, held_flows}
-use Rattle.fs_rules.specs.Marked.{marked}
-use Rattle.fs_rules.specs.Kept.{routes_of, AreRight, Keeps, is_chosen, chosen, mended, related_kept}
-use Rattle.fs_rules.specs.Related.{related_count}
-use Rattle.fs_rules.proofs.Marks.{routes-filter, AgreeOff, keeps-mended, agree_insert, agree_remove, related_is_count}
+use Rattle.fs_rules.specs.Lists.{judgement}
+use Rattle.fs_rules.specs.Group.{routes_of, AreRight, Keeps, is_chosen, chosen, mended}
+use Rattle.fs_rules.proofs.Changes.{routes-filter, AgreeOff, keeps-mended, agree_insert, agree_remove}
 use Rattle.std.specs.BTreeMap.{insert_entry, is_at}
 use Rattle.std.specs.Map.{remove_entry}
 use Rattle.fs_base.specs.declared.prefix.Prefix.{Prefix}
@@ -39,15 +37,15 @@ pub unicast_changed : (f : List Route → List Route) (config : Config) (unicast
 unicast_changed f config unicast other ks new now v e k = ap (held_of config other) k ∙ ap (λ u. held_of config u (routes_of ks)) e ∙ ap (with_unicast f) v
 
 beaten_is : (config : Config) (unicast : List Route) (r : FlowRoute) (ks : List Kept) → AreRight unicast config ks
-    → list_any (λ s. is_valid s.mark && beats s.route r) ks ≡ list_any (λ s. is_valid (validity unicast config s) && beats s r) (routes_of ks)
+    → list_any (λ s. is_valid s.validity && beats s.route r) ks ≡ list_any (λ s. is_valid (validity unicast config s) && beats s r) (routes_of ks)
 beaten_is config unicast r [] h = refl
 beaten_is config unicast r (k ∷ ks) h = ap₂ (λ a b. (is_valid a && beats k.route r) || b) h.0 (beaten_is config unicast r ks h.1)
 
 pub chosen_is : (family : Family) (config : Config) (unicast : List Route) (ks : List Kept) → Keeps config unicast ks → routes_of (chosen family ks) ≡ admitted family (held_of config unicast (routes_of ks))
 chosen_is family config unicast ks keeps = ap routes_of (filter_on (is_chosen family ks) (λ k. is_of_family family k.route && is_most_preferred (held_of config unicast (routes_of ks)) k.route) ks
-    (each_weaker (λ k. k.mark ≡ validity unicast config k.route) (λ k. is_chosen family ks k ≡ (is_of_family family k.route && is_most_preferred (held_of config unicast (routes_of ks)) k.route)) same ks keeps.right))
+    (each_weaker (λ k. k.validity ≡ validity unicast config k.route) (λ k. is_chosen family ks k ≡ (is_of_family family k.route && is_most_preferred (held_of config unicast (routes_of ks)) k.route)) same ks keeps.right))
     ∙ routes-filter (λ r. is_of_family family r && is_most_preferred (held_of config unicast (routes_of ks)) r) ks where
-      same : (k : Kept) → k.mark ≡ validity unicast config k.route → is_chosen family ks k ≡ (is_of_family family k.route && is_most_preferred (held_of config unicast (routes_of ks)) k.route)
+      same : (k : Kept) → k.validity ≡ validity unicast config k.route → is_chosen family ks k ≡ (is_of_family family k.route && is_most_preferred (held_of config unicast (routes_of ks)) k.route)
       same k e = ap₂ (λ a b. is_of_family family k.route && (is_valid a && not b)) e (beaten_is config unicast k.route ks keeps.right)
 
 pub admitted_is : (family : Family) (config : Config) (unicast : List Route) (ks : List Kept) (now : Held) → Keeps config unicast ks → held_of config unicast (routes_of ks) ≡ now → routes_of (chosen family ks) ≡ admitted family now
@@ -66,21 +64,21 @@ get-map f [] n = refl
 get-map f (x ∷ xs) zero = refl
 get-map f (x ∷ xs) (suc n) = get-map f xs n
 
--- the marks of the held routes of a family
+-- the validities of the held routes of a family
 marked_is : (family : Family) (config : Config) (unicast : List Route) (flows : List FlowRoute) (ks : List Kept) → AreRight unicast config ks
-    → map marked (filter (λ k. is_of_family family k.route) ks) ≡ map (judged (held_of config unicast flows)) (filter (is_of_family family) (routes_of ks))
+    → map judgement (filter (λ k. is_of_family family k.route) ks) ≡ map (judged (held_of config unicast flows)) (filter (is_of_family family) (routes_of ks))
 marked_is family config unicast flows [] h = refl
 marked_is family config unicast flows (k ∷ ks) h = at (is_of_family family k.route) (marked_is family config unicast flows ks h.1) where
-  same : marked k ≡ judged (held_of config unicast flows) k.route
-  same = ap (λ m. let j : Judged = record { rule = k.route.rule; peer = k.route.peer; mark = m } in j) h.0
+  same : judgement k ≡ judged (held_of config unicast flows) k.route
+  same = ap (λ m. let j : Judged = record { rule = k.route.rule; peer = k.route.peer; validity = m } in j) h.0
 
-  at : (b : Bool) → map marked (filter (λ k. is_of_family family k.route) ks) ≡ map (judged (held_of config unicast flows)) (filter (is_of_family family) (routes_of ks))
-      → map marked (cond b (k ∷ filter (λ k. is_of_family family k.route) ks) (filter (λ k. is_of_family family k.route) ks)) ≡ map (judged (held_of config unicast flows)) (cond b (k.route ∷ filter (is_of_family family) (routes_of ks)) (filter (is_of_family family) (routes_of ks)))
+  at : (b : Bool) → map judgement (filter (λ k. is_of_family family k.route) ks) ≡ map (judged (held_of config unicast flows)) (filter (is_of_family family) (routes_of ks))
+      → map judgement (cond b (k ∷ filter (λ k. is_of_family family k.route) ks) (filter (λ k. is_of_family family k.route) ks)) ≡ map (judged (held_of config unicast flows)) (cond b (k.route ∷ filter (is_of_family family) (routes_of ks)) (filter (is_of_family family) (routes_of ks)))
   at true ih = ap₂ (λ x xs. x ∷ xs) same ih
   at false ih = ih
 
 pub held_is : (family : Family) (config : Config) (unicast : List Route) (ks : List Kept) (now : Held) → Keeps config unicast ks → held_of config unicast (routes_of ks) ≡ now
-    → map marked (filter (λ k. is_of_family family k.route) ks) ≡ held_flows family now
+    → map judgement (filter (λ k. is_of_family family k.route) ks) ≡ held_flows family now
 held_is family config unicast ks now keeps v = marked_is family config unicast (routes_of ks) ks keeps.right ∙ ap (held_flows family) v
 
 pub keeps_after : (config : Config) (p : Prefix) (old new : List Route) (ks ms : List Kept) → AgreeOff p old new → ms ≡ map (mended p new config) ks → Keeps config old ks → Keeps config new ms
@@ -91,10 +89,6 @@ agree_put place path old new e = subst (AgreeOff place.prefix old) (sym e) (agre
 
 pub agree_taken : (place : Place) (old new : List Route) → new ≡ remove_entry (is_at (place_cmp place)) old → AgreeOff place.prefix old new
 agree_taken place old new e = subst (AgreeOff place.prefix old) (sym e) (agree_remove place old)
-
-pub steps_after : (p : Prefix) (config : Config) (unicast : List Route) (ks : List Kept) (now : Held) (before after : ℕ) → held_of config unicast (routes_of ks) ≡ now
-    → after ≤ before + related_kept p ks → after ≤ before + related_count p now.flows
-steps_after p config unicast ks now before after v h = subst (λ n. after ≤ before + n) (related_is_count p ks ∙ ap (λ held. related_count p held.flows) v) h
 
 -- what an answer says that isn't for want of memory
 pub ok_along : {T E A : Type 0} (f : T → A) (a b : A) (r : Result T E) → a ≡ b → IfOk r (λ t. f t ≡ a) → IfOk r (λ t. f t ≡ b)

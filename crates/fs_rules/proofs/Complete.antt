@@ -1,5 +1,5 @@
 -- Each rule that has a valid route has a most preferred one.
-use Rattle.std.proofs.Common.{ℕ, ◌≡◌, refl, sym, ap, subst, ◌∙◌, Bool, true, false, true≢false, not, ◌&&◌, ◌||◌, ◌==◌, List, [], ◌∷◌, Ordering, Less, Equal, Greater, is_eq, is_lt, nat_cmp, arith}
+use Rattle.std.proofs.Common.{ℕ, ◌≡◌, refl, sym, ap, subst, ◌∙◌, Bool, true, false, true≢false, not, ◌&&◌, ◌||◌, ◌==◌, filter, map, List, [], ◌∷◌, Ordering, Less, Equal, Greater, is_eq, is_lt, nat_cmp, arith}
 use Rattle.std.specs.List.{list_any, AllByRecursion}
 use Rattle.std.specs.Ordering.{ordering_then}
 use Rattle.std.specs.Cmp.{tied_itself, tied_back}
@@ -7,16 +7,18 @@ use Rattle.std.proofs.lemmas.Bool.Decides.{nat_tests}
 use Rattle.fs_base.specs.declared.prefix.Family.{Family}
 use Rattle.fs_base.specs.Bits.{afi_of}
 use Rattle.fs_base.specs.declared.path.Path.{Path}
-use Rattle.fs_base.proofs.Bools.{or_first, or_second}
-use Rattle.fs_base.proofs.Listing.{each_weaker, none_each, each_none, any_filter}
+use Rattle.fs_base.proofs.Bools.{or_first, or_second, and_both, and_first, and_second, false_from}
+use Rattle.fs_base.proofs.Listing.{each_weaker, each_mapped, none_each, each_none, any_filter}
 use Rattle.fs_order.specs.Order.{rule_cmp}
 use Rattle.fs_order.specs.Total.{rule_total}
 use Rattle.fs_unicast.specs.Preference.{preference_cmp, preferred}
 use Rattle.fs_validate.specs.declared.route.FlowRoute.{FlowRoute}
-use Rattle.fs_rules.specs.Held.{Held}
-use Rattle.fs_rules.specs.Admitted.{is_of_family, stands, same_rule, beats, is_most_preferred, admitted, IsAdmitted}
-use Rattle.fs_rules.specs.Kept.{AreSorted}
-use Rattle.fs_rules.proofs.Orders.{preference_total, admitted_ordered}
+use Rattle.fs_rules.specs.Table.{Held, is_of_family, stands, same_rule, beats, is_most_preferred, admitted, IsAdmitted}
+use Rattle.fs_rules.specs.Group.{AreSorted}
+use Rattle.fs_rules.specs.Lent.{judged, judged_cmp, AreRising, held_flows}
+use Rattle.fs_rules.proofs.Changes.{sorted-filter}
+use Rattle.fs_unicast.proofs.Best.{preference_total}
+use Rattle.fs_rules.proofs.Orders.{admitted_ordered}
 
 abbrev seen : FlowRoute → ℕ × Path
 seen r = (r.peer, r.path)
@@ -30,10 +32,6 @@ less_is : (o : Ordering) → is_lt o ≡ true → o ≡ Less
 less_is Less h = refl
 less_is Equal h = absurd (true≢false (sym h))
 less_is Greater h = absurd (true≢false (sym h))
-
-false_from : (b : Bool) → (b ≡ true → ⊥) → b ≡ false
-false_from true f = absurd (f refl)
-false_from false f = refl
 
 not_itself : (m : FlowRoute) → preferred (seen m) (seen m) ≡ false
 not_itself m = ap is_lt (tied_itself preference_total (seen m))
@@ -67,18 +65,6 @@ best_of_list q (x ∷ xs) h = at (list_any q xs) refl (q x) refl h (best_of_list
   at false e true f k ih = alone e f
   at false e false f k ih = absurd (true≢false (sym k))
 
-both_true : (a b : Bool) → a ≡ true → b ≡ true → (a && b) ≡ true
-both_true true b h k = k
-both_true false b h k = h
-
-left_true : (a b : Bool) → (a && b) ≡ true → a ≡ true
-left_true true b h = refl
-left_true false b h = h
-
-right_true : (a b : Bool) → (a && b) ≡ true → b ≡ true
-right_true true b h = h
-right_true false b h = absurd (true≢false (sym h))
-
 equal_is : (o : Ordering) → is_eq o ≡ true → o ≡ Equal
 equal_is Less h = absurd (true≢false (sym h))
 equal_is Equal h = refl
@@ -100,27 +86,27 @@ module _ (family : Family) (held : Held) where
   has_entry : (r : FlowRoute) → (is_of_family family r && stands held r) ≡ true → list_any (λ t. stands held t && same_rule r t) held.flows ≡ true → list_any (same_rule r) (admitted family held) ≡ true
   has_entry r e there = let found : Found (λ t. stands held t && same_rule r t) held.flows = best_of_list (λ t. stands held t && same_rule r t) held.flows there in entry found where
     entry : Found (λ t. stands held t && same_rule r t) held.flows → list_any (same_rule r) (admitted family held) ≡ true
-    entry found = any_filter (λ s. is_of_family family s && is_most_preferred held s) (same_rule r) held.flows ∙ found.2 (λ s. (is_of_family family s && is_most_preferred held s) && same_rule r s) (both_true (is_of_family family m && is_most_preferred held m) (same_rule r m) (both_true (is_of_family family m) (is_most_preferred held m) of_family most) same) where
+    entry found = any_filter (λ s. is_of_family family s && is_most_preferred held s) (same_rule r) held.flows ∙ found.2 (λ s. (is_of_family family s && is_most_preferred held s) && same_rule r s) (and_both (is_of_family family m && is_most_preferred held m) (same_rule r m) (and_both (is_of_family family m) (is_most_preferred held m) of_family most) same) where
       m : FlowRoute
       m = found.0
 
       same : same_rule r m ≡ true
-      same = right_true (stands held m) (same_rule r m) found.1.passes
+      same = and_second (stands held m) (same_rule r m) found.1.passes
 
       of_family : is_of_family family m ≡ true
-      of_family = same_family family r m same (left_true (is_of_family family r) (stands held r) e)
+      of_family = same_family family r m same (and_first (is_of_family family r) (stands held r) e)
 
       unbeaten : AllByRecursion (λ t. (stands held t && beats t m) ≡ false) held.flows
-      unbeaten = each_weaker (λ t. (stands held t && same_rule r t) ≡ true → preferred (seen t) (seen m) ≡ false) (λ t. (stands held t && beats t m) ≡ false) (λ t k. false_from (stands held t && beats t m) (λ b. true≢false (sym (right_true (same_rule t m) (preferred (seen t) (seen m)) (right_true (stands held t) (beats t m) b)) ∙ k (both_true (stands held t) (same_rule r t) (left_true (stands held t) (beats t m) b) (through t (left_true (same_rule t m) (preferred (seen t) (seen m)) (right_true (stands held t) (beats t m) b))))))) held.flows found.1.best where
+      unbeaten = each_weaker (λ t. (stands held t && same_rule r t) ≡ true → preferred (seen t) (seen m) ≡ false) (λ t. (stands held t && beats t m) ≡ false) (λ t k. false_from (stands held t && beats t m) (λ b. true≢false (sym (and_second (same_rule t m) (preferred (seen t) (seen m)) (and_second (stands held t) (beats t m) b)) ∙ k (and_both (stands held t) (same_rule r t) (and_first (stands held t) (beats t m) b) (through t (and_first (same_rule t m) (preferred (seen t) (seen m)) (and_second (stands held t) (beats t m) b))))))) held.flows found.1.best where
         through : (t : FlowRoute) → same_rule t m ≡ true → same_rule r t ≡ true
         through t k = ap is_eq (rule_total.congr r.rule m.rule t.rule (equal_is (rule_cmp r.rule m.rule) same) ∙ tied_back rule_total t.rule m.rule (equal_is (rule_cmp t.rule m.rule) k))
 
       most : is_most_preferred held m ≡ true
-      most = both_true (stands held m) (not (list_any (λ t. stands held t && beats t m) held.flows)) (left_true (stands held m) (same_rule r m) found.1.passes) (ap not (each_none (λ t. stands held t && beats t m) held.flows unbeaten))
+      most = and_both (stands held m) (not (list_any (λ t. stands held t && beats t m) held.flows)) (and_first (stands held m) (same_rule r m) found.1.passes) (ap not (each_none (λ t. stands held t && beats t m) held.flows unbeaten))
 
   -- a valid route is there, since the route itself is
   itself : (r : FlowRoute) → (is_of_family family r && stands held r) ≡ true → (stands held r && same_rule r r) ≡ true
-  itself r e = both_true (stands held r) (same_rule r r) (right_true (is_of_family family r) (stands held r) e) (ap is_eq (tied_itself rule_total r.rule))
+  itself r e = and_both (stands held r) (same_rule r r) (and_second (is_of_family family r) (stands held r) e) (ap is_eq (tied_itself rule_total r.rule))
 
 each_there : {X : Type 0} (P : X → Type 0) (xs : List X) → ((x : X) → ((p : X → Bool) → p x ≡ true → list_any p xs ≡ true) → P x) → AllByRecursion P xs
 each_there P [] h = tt
@@ -135,3 +121,11 @@ is_admitted_list family held sorted = record {
 
 pub sorted_now : (flows : List FlowRoute) (held : Held) → AreSorted flows → flows ≡ held.flows → AreSorted held.flows
 sorted_now flows held h e = subst AreSorted e h
+
+-- the held flow routes of a family stand in order
+judged_rising : (held : Held) (rs : List FlowRoute) → AreSorted rs → AreRising (map (judged held) rs)
+judged_rising held [] h = tt
+judged_rising held (r ∷ rs) h = (each_mapped (judged held) (λ j. judged_cmp (judged held r) j ≡ Less) rs h.0, judged_rising held rs h.1)
+
+pub held_rising : (family : Family) (held : Held) → AreSorted held.flows → AreRising (held_flows family held)
+held_rising family held h = judged_rising held (filter (is_of_family family) held.flows) (sorted-filter (is_of_family family) held.flows h)

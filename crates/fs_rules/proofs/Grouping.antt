@@ -10,21 +10,21 @@ use Rattle.fs_base.specs.declared.prefix.Prefix.{Prefix}
 use Rattle.fs_base.specs.Prefix.{prefix_cmp}
 use Rattle.fs_base.specs.PrefixOrder.{prefix_total}
 use Rattle.fs_base.proofs.Listing.{each_weaker}
-use Rattle.fs_unicast.specs.Places.{Route}
+use Rattle.fs_unicast.specs.Unicast.{Route}
 use Rattle.fs_nlri.specs.Parts.{Ruled}
-use Rattle.fs_nlri.specs.Rule.{IsRule}
-use Rattle.fs_validate.specs.Destination.{destination_prefix}
-use Rattle.fs_validate.specs.Locality.{is_related}
+use Rattle.fs_nlri.specs.Rule.{IsRule, destination_prefix}
+use Rattle.fs_validate.specs.Laws.{is_related}
 use Rattle.fs_rules.specs.declared.group.Kept.{Kept}
-use Rattle.fs_rules.specs.Held.{is_key}
-use Rattle.fs_rules.specs.Kept.{put_kept, mended, related_kept, chosen}
-use Rattle.fs_rules.specs.Grouped.{Entry, kept_in, IsTo, ArePlaced, AreInOrder, IsSound, IsGrouped, put_entry, keep_at, keep_each, Mends}
-use Rattle.fs_rules.specs.Marked.{chosen_in}
+use Rattle.fs_rules.specs.Table.{is_key}
+use Rattle.fs_rules.specs.Group.{put_kept, mended, related_kept, chosen}
+use Rattle.fs_rules.specs.Groups.{Entry, kept_in, IsTo, ArePlaced, AreInOrder, IsSound, IsGrouped, put_entry, keep_at, keep_each}
+use Rattle.fs_rules.specs.Search.{Mends}
+use Rattle.fs_rules.specs.Reading.{chosen_in}
 use Rattle.fs_rules.proofs.Puts.{put_entries, put_rest, put_placed, each_entry, length-put}
 use Rattle.fs_rules.proofs.Takes.{kept_each, placed_each, placed_at, sorted_at, parts_sorted, taken_kept, taken_rest, length-filter}
 use Rattle.fs_rules.proofs.Mending.{mended_in, mends_placed, mends_ordered, size_related}
 use Rattle.fs_rules.proofs.InParts.{chosen_groups, length-chosen}
-use Rattle.fs_rules.proofs.Marks.{each-filter, each-put}
+use Rattle.fs_rules.proofs.Changes.{each-filter, each-put}
 
 sorted_entry : (p : Prefix) (k : Kept) (es : List Entry) → AreInOrder es → AreInOrder (put_entry p k es)
 sorted_entry p k [] h = parts_sorted p [] tt h

@@ -1,4 +1,4 @@
--- What the marks tell, read one group after the other.
+-- What the kept validities tell, read one group after the other.
 use Rattle.std.proofs.Common.{ℕ, suc, ◌≡◌, ◌+◌, ◌≤◌, refl, sym, ap, ap₂, ◌∙◌, Bool, true, false, true≢false, not, ◌&&◌, ◌||◌, cond, List, [], ◌∷◌, ◌++◌, map, length, find, nat_le, is_some, Option, Some, None, arith}
 use Rattle.std.specs.List.{AllByRecursion}
 use Rattle.std.specs.Map.{keys_of}
@@ -10,18 +10,18 @@ use Rattle.fs_packet.specs.Fields.{Viewed}
 use Rattle.fs_packet.specs.Matches.{is_match}
 use Rattle.fs_validate.specs.declared.route.FlowRoute.{FlowRoute}
 use Rattle.fs_rules.specs.declared.group.Kept.{Kept}
-use Rattle.fs_rules.specs.Admitted.{is_of_family, is_valid, same_rule, beats}
-use Rattle.fs_rules.specs.Kept.{routes_of, is_beaten, is_chosen, chosen}
-use Rattle.fs_rules.specs.Grouped.{Entry, kept_in, IsTo, ArePlaced, AreInOrder, IsSound}
-use Rattle.fs_rules.specs.Marked.{chosen_in}
+use Rattle.fs_rules.specs.Table.{is_of_family, is_valid, same_rule, beats}
+use Rattle.fs_rules.specs.Group.{routes_of, is_beaten, is_chosen, chosen}
+use Rattle.fs_rules.specs.Groups.{Entry, kept_in, IsTo, ArePlaced, AreInOrder, IsSound}
+use Rattle.fs_rules.specs.Reading.{chosen_in}
 use Rattle.fs_rules.specs.Walk.{matching_from}
 use Rattle.fs_unicast.specs.Preference.{preferred}
 use Rattle.fs_rules.proofs.Takes.{length-filter}
 use Rattle.fs_rules.proofs.Apart.{RuleBefore, AllBefore, not_same, not_same_back, group_before, each_back}
 
 -- no route of another rule beats
-no_rival : (k x : Kept) (rest : Bool) → same_rule x.route k.route ≡ false → ((is_valid x.mark && beats x.route k.route) || rest) ≡ rest
-no_rival k x rest h = at (is_valid x.mark) (same_rule x.route k.route) h where
+no_rival : (k x : Kept) (rest : Bool) → same_rule x.route k.route ≡ false → ((is_valid x.validity && beats x.route k.route) || rest) ≡ rest
+no_rival k x rest h = at (is_valid x.validity) (same_rule x.route k.route) h where
   at : (a b : Bool) → b ≡ false → ((a && (b && preferred (x.route.peer, x.route.path) (k.route.peer, k.route.path))) || rest) ≡ rest
   at true true e = absurd (true≢false e)
   at false true e = refl
@@ -31,22 +31,22 @@ no_rival k x rest h = at (is_valid x.mark) (same_rule x.route k.route) h where
 beaten_front : (k : Kept) (xs ys : List Kept) → AllByRecursion (λ y. same_rule y.route k.route ≡ false) ys → is_beaten (xs ++ ys) k ≡ is_beaten xs k
 beaten_front k [] [] h = refl
 beaten_front k [] (y ∷ ys) h = no_rival k y (is_beaten ys k) h.0 ∙ beaten_front k [] ys h.1
-beaten_front k (x ∷ xs) ys h = ap (λ b. (is_valid x.mark && beats x.route k.route) || b) (beaten_front k xs ys h)
+beaten_front k (x ∷ xs) ys h = ap (λ b. (is_valid x.validity && beats x.route k.route) || b) (beaten_front k xs ys h)
 
 beaten_back : (k : Kept) (xs ys : List Kept) → AllByRecursion (λ x. same_rule x.route k.route ≡ false) xs → is_beaten (xs ++ ys) k ≡ is_beaten ys k
 beaten_back k [] ys h = refl
 beaten_back k (x ∷ xs) ys h = no_rival k x (is_beaten (xs ++ ys) k) h.0 ∙ beaten_back k xs ys h.1
 
 chosen_by : (family : Family) (k : Kept) (xs ys : List Kept) → is_beaten xs k ≡ is_beaten ys k → is_chosen family xs k ≡ is_chosen family ys k
-chosen_by family k xs ys e = ap (λ b. is_of_family family k.route && (is_valid k.mark && not b)) e
+chosen_by family k xs ys e = ap (λ b. is_of_family family k.route && (is_valid k.validity && not b)) e
 
 -- what is true of each pair, seen from the second
-each_turned : (xs ys : List Kept) → AllBefore xs ys → AllByRecursion (λ y. AllByRecursion (λ x. RuleBefore x y) xs) ys
-each_turned [] ys h = all ys where
+each_behind : (xs ys : List Kept) → AllBefore xs ys → AllByRecursion (λ y. AllByRecursion (λ x. RuleBefore x y) xs) ys
+each_behind [] ys h = all ys where
   all : (ys : List Kept) → AllByRecursion (λ y. Unit {0}) ys
   all [] = tt
   all (y ∷ ys) = (tt, all ys)
-each_turned (x ∷ xs) ys h = each_both (RuleBefore x) (λ y. AllByRecursion (λ x. RuleBefore x y) xs) (λ y. AllByRecursion (λ x. RuleBefore x y) (x ∷ xs)) (λ y a b. (a, b)) ys h.0 (each_turned xs ys h.1)
+each_behind (x ∷ xs) ys h = each_both (RuleBefore x) (λ y. AllByRecursion (λ x. RuleBefore x y) xs) (λ y. AllByRecursion (λ x. RuleBefore x y) (x ∷ xs)) (λ y a b. (a, b)) ys h.0 (each_behind xs ys h.1)
 
 -- rivals stand in one part where the rules of the first part are before those of the second
 pub chosen-append : (family : Family) (xs ys : List Kept) → AllBefore xs ys → chosen family (xs ++ ys) ≡ chosen family xs ++ chosen family ys
@@ -54,7 +54,7 @@ chosen-append family xs ys h = filter-append (is_chosen family (xs ++ ys)) xs ys
     (filter_on (is_chosen family (xs ++ ys)) (is_chosen family xs) xs (each_weaker (λ x. AllByRecursion (RuleBefore x) ys) (λ x. is_chosen family (xs ++ ys) x ≡ is_chosen family xs x)
     (λ x g. chosen_by family x (xs ++ ys) xs (beaten_front x xs ys (each_weaker (RuleBefore x) (λ y. same_rule y.route x.route ≡ false) (λ y b. not_same_back x y b) ys g))) xs h))
     (filter_on (is_chosen family (xs ++ ys)) (is_chosen family ys) ys (each_weaker (λ y. AllByRecursion (λ x. RuleBefore x y) xs) (λ y. is_chosen family (xs ++ ys) y ≡ is_chosen family ys y)
-    (λ y g. chosen_by family y (xs ++ ys) ys (beaten_back y xs ys (each_weaker (λ x. RuleBefore x y) (λ x. same_rule x.route y.route ≡ false) (λ x b. not_same x y b) xs g))) ys (each_turned xs ys h)))
+    (λ y g. chosen_by family y (xs ++ ys) ys (beaten_back y xs ys (each_weaker (λ x. RuleBefore x y) (λ x. same_rule x.route y.route ≡ false) (λ x b. not_same x y b) xs g))) ys (each_behind xs ys h)))
 
 pub chosen_groups : (family f : Family) (es : List Entry) (rest : List Kept) → AreInOrder es → ArePlaced es → AllByRecursion (IsTo None) rest → AllByRecursion (IsSound f) (kept_in es rest) → chosen_in family es rest ≡ chosen family (kept_in es rest)
 chosen_groups family f [] rest ordered placed bare sound = refl

@@ -1,5 +1,5 @@
 pub mod Placing
-pub mod Marks
+pub mod Changes
 pub mod Chosen
 pub mod Losing
 pub mod Orders
@@ -14,4 +14,3 @@ pub mod Searching
 pub mod InParts
 pub mod Grouping
 pub mod BothFamilies
-pub mod Rising

@@ -8,18 +8,18 @@ use Rattle.std.specs.Map.{keys_of, remove_entry}
 use Rattle.std.specs.List.Sorted.{IsStrictlySortedBy}
 use Rattle.std.specs.Cmp.{tied_itself}
 use Rattle.std.proofs.lemmas.Map.Keys.{sorted_head, sorted_tail}
+use Rattle.fs_base.proofs.Bools.{not_of_true}
 use Rattle.fs_base.specs.PrefixOrder.{prefix_total}
 use Rattle.fs_base.specs.declared.prefix.Prefix.{Prefix}
 use Rattle.fs_base.specs.Prefix.{prefix_cmp}
 use Rattle.fs_base.proofs.SamePrefix.{same_from_cmp}
 use Rattle.fs_base.proofs.Listing.{filter-remove_other, each, each_weaker, each_of_map, each_remove, find_on}
-use Rattle.fs_unicast.specs.Places.{Route, place_cmp}
+use Rattle.fs_unicast.specs.Unicast.{Route, place_cmp}
 use Rattle.fs_unicast.specs.declared.unicast.Place.{Place}
-use Rattle.fs_unicast.specs.Best.{held_by, is_from}
+use Rattle.fs_unicast.specs.Search.{held_by, is_from}
 use Rattle.fs_unicast.proofs.Ranges.{place, place_itself}
 use Rattle.fs_validate.specs.declared.route.FlowRoute.{FlowRoute}
-use Rattle.fs_rules.specs.Held.{Held, without_peer_unicast}
-use Rattle.fs_rules.specs.Related.{related_count, related_sum}
+use Rattle.fs_rules.specs.Table.{Held, without_peer_unicast, related_count, related_sum}
 use Rattle.fs_rules.proofs.Chosen.{with_unicast}
 
 -- the removed place is the peer's, and at the prefix
@@ -36,12 +36,8 @@ prefixes_equal Greater p h = h
 abbrev pub is_place : Prefix → ℕ → Place → Bool
 is_place prefix peer q = is_at (place_cmp (place prefix peer)) q
 
-not_true : (b : Bool) → b ≡ true → not b ≡ false
-not_true true h = refl
-not_true false h = absurd (true≢false (sym h))
-
 pub others_stay : (prefix : Prefix) (peer : ℕ) (unicast : List Route) → without_peer_unicast peer (remove_entry (is_place prefix peer) unicast) ≡ without_peer_unicast peer unicast
-others_stay prefix peer unicast = filter-remove_other (λ q. not (q.peer == peer)) (is_place prefix peer) (λ q h. not_true (q.peer == peer) (peers_equal (prefix_cmp prefix q.prefix) peer q.peer h)) unicast
+others_stay prefix peer unicast = filter-remove_other (λ q. not (q.peer == peer)) (is_place prefix peer) (λ q h. not_of_true (q.peer == peer) (peers_equal (prefix_cmp prefix q.prefix) peer q.peer h)) unicast
 
 -- there is an entry of the peer at the prefix that was found
 pub record Hit (prefix : Prefix) (peer : ℕ) (unicast : List Route) : Type 0 where

@@ -10,13 +10,14 @@ use Rattle.fs_base.specs.declared.prefix.Prefix.{Prefix}
 use Rattle.fs_base.specs.Prefix.{prefix_cmp}
 use Rattle.fs_base.proofs.SamePrefix.{same_from_cmp}
 use Rattle.fs_base.proofs.Listing.{each_weaker}
-use Rattle.fs_unicast.specs.Places.{Route}
-use Rattle.fs_validate.specs.Locality.{is_related}
+use Rattle.fs_unicast.specs.Unicast.{Route}
+use Rattle.fs_validate.specs.Laws.{is_related}
 use Rattle.fs_rules.specs.declared.group.Kept.{Kept}
-use Rattle.fs_rules.specs.Kept.{retested, mended, related_kept}
-use Rattle.fs_rules.specs.Related.{has_related}
+use Rattle.fs_rules.specs.Group.{retested, mended, related_kept}
+use Rattle.fs_rules.specs.Table.{has_related}
 use Rattle.fs_rules.proofs.Placing.{related-append}
-use Rattle.fs_rules.specs.Grouped.{Entry, kept_in, IsTo, ArePlaced, AreInOrder, touched, size, Mends}
+use Rattle.fs_rules.specs.Groups.{Entry, kept_in, IsTo, ArePlaced, AreInOrder}
+use Rattle.fs_rules.specs.Search.{touched, size, Mends}
 
 abbrev pub Same : (t u : Prefix → Bool) → Entry → Type 0
 Same t u e = t e.0 ≡ u e.0

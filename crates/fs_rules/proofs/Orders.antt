@@ -2,17 +2,18 @@
 use Rattle.std.proofs.Common.{ℕ, ◌≡◌, refl, sym, ap, ◌∙◌, ◌⊎◌, inl, inr, Bool, true, false, true≢false, not, ◌&&◌, cond, List, [], ◌∷◌, filter, Ordering, Less, Equal, Greater, is_eq, is_lt, nat_cmp}
 use Rattle.std.specs.List.{list_any, AllByRecursion}
 use Rattle.std.specs.Ordering.{ordering_then, ordering_reverse, bool_cmp}
-use Rattle.std.specs.Cmp.{IsTotalOrder, on_total, then_total, back_total, nat_cmp_total, bool_cmp_total, tied_back}
+use Rattle.std.specs.Cmp.{tied_back}
+use Rattle.fs_base.proofs.Bools.{and_both, and_first, and_second}
 use Rattle.fs_base.specs.declared.path.Path.{Path}
 use Rattle.fs_base.specs.declared.prefix.Family.{Family}
 use Rattle.fs_base.proofs.Listing.{each_weaker, each_both, none_each}
 use Rattle.fs_order.specs.Order.{rule_cmp}
 use Rattle.fs_order.specs.Total.{rule_total}
+use Rattle.fs_unicast.proofs.Best.{preference_total}
 use Rattle.fs_unicast.specs.Preference.{preference_cmp, preferred, path_length}
 use Rattle.fs_validate.specs.declared.route.FlowRoute.{FlowRoute}
-use Rattle.fs_rules.specs.Held.{Held, key_cmp}
-use Rattle.fs_rules.specs.Admitted.{is_of_family, stands, same_rule, beats, is_most_preferred, admitted, AreOrdered}
-use Rattle.fs_rules.specs.Kept.{AreSorted}
+use Rattle.fs_rules.specs.Table.{Held, key_cmp, is_of_family, stands, same_rule, beats, is_most_preferred, admitted, AreOrdered}
+use Rattle.fs_rules.specs.Group.{AreSorted}
 
 -- two routes of different peers are never equally preferred
 apart_peers : (a b c d : Ordering) (m n : ℕ) → nat_cmp m n ≡ Less → ordering_then a (ordering_then b (ordering_then c (ordering_then d (nat_cmp m n)))) ≡ Equal → ⊥
@@ -29,28 +30,12 @@ apart_peers Equal Equal Equal Equal m n h k = cc
 abbrev seen : FlowRoute → ℕ × Path
 seen r = (r.peer, r.path)
 
-pub preference_total : IsTotalOrder preference_cmp
-preference_total = then_total (back_total (on_total (λ (r : ℕ × Path). r.1.local_pref) nat_cmp_total)) (then_total (on_total (λ (r : ℕ × Path). path_length r.1.segments) nat_cmp_total)
-    (then_total (on_total (λ (r : ℕ × Path). r.1.origin) nat_cmp_total) (then_total (back_total (on_total (λ (r : ℕ × Path). r.1.external) bool_cmp_total)) (on_total (λ (r : ℕ × Path). r.0) nat_cmp_total))))
-
 one_preferred : (x y : ℕ × Path) → nat_cmp x.0 y.0 ≡ Less → (preferred x y ≡ true) ⊎ (preferred y x ≡ true)
 one_preferred x y h = at (preference_cmp x y) refl where
   at : (o : Ordering) → preference_cmp x y ≡ o → (preferred x y ≡ true) ⊎ (preferred y x ≡ true)
   at Less e = inl (ap is_lt e)
   at Equal e = absurd (apart_peers (nat_cmp y.1.local_pref x.1.local_pref) (nat_cmp (path_length x.1.segments) (path_length y.1.segments)) (nat_cmp x.1.origin y.1.origin) (bool_cmp y.1.external x.1.external) x.0 y.0 h e)
   at Greater e = inr (ap is_lt (preference_total.antisymm y x ∙ ap ordering_reverse e))
-
-both_true : (a b : Bool) → a ≡ true → b ≡ true → (a && b) ≡ true
-both_true true b h k = k
-both_true false b h k = h
-
-left_true : (a b : Bool) → (a && b) ≡ true → a ≡ true
-left_true true b h = refl
-left_true false b h = h
-
-right_true : (a b : Bool) → (a && b) ≡ true → b ≡ true
-right_true true b h = h
-right_true false b h = absurd (true≢false (sym h))
 
 not_false : (b : Bool) → not b ≡ true → b ≡ false
 not_false true h = absurd (true≢false (sym h))
@@ -61,7 +46,7 @@ abbrev Unbeaten : Held → FlowRoute → FlowRoute → Type 0
 Unbeaten held s t = (stands held t && beats t s) ≡ false
 
 unbeaten : (held : Held) (s : FlowRoute) → is_most_preferred held s ≡ true → AllByRecursion (Unbeaten held s) held.flows
-unbeaten held s h = none_each (λ t. stands held t && beats t s) held.flows (not_false (list_any (λ t. stands held t && beats t s) held.flows) (right_true (stands held s) (not (list_any (λ t. stands held t && beats t s) held.flows)) h))
+unbeaten held s h = none_each (λ t. stands held t && beats t s) held.flows (not_false (list_any (λ t. stands held t && beats t s) held.flows) (and_second (stands held s) (not (list_any (λ t. stands held t && beats t s) held.flows)) h))
 
 -- of two most preferred routes the earlier key has the earlier rule
 rules_apart : (held : Held) (r s : FlowRoute) → key_cmp r.rule r.peer s ≡ Less → stands held r ≡ true → stands held s ≡ true → Unbeaten held s r → Unbeaten held r s → rule_cmp r.rule s.rule ≡ Less
@@ -70,12 +55,12 @@ rules_apart held r s key valid_r valid_s su ru = at (rule_cmp r.rule s.rule) ref
   at Less e k = e
   at Greater e k = cc
   at Equal e k = over (one_preferred (seen r) (seen s) k) where
-    turned : rule_cmp s.rule r.rule ≡ Equal
-    turned = tied_back rule_total r.rule s.rule e
+    swapped : rule_cmp s.rule r.rule ≡ Equal
+    swapped = tied_back rule_total r.rule s.rule e
 
     over : (preferred (seen r) (seen s) ≡ true) ⊎ (preferred (seen s) (seen r) ≡ true) → rule_cmp r.rule s.rule ≡ Less
-    over (inl p) = absurd (true≢false (sym (both_true (stands held r) (beats r s) valid_r (both_true (same_rule r s) (preferred (seen r) (seen s)) (ap is_eq e) p)) ∙ su))
-    over (inr p) = absurd (true≢false (sym (both_true (stands held s) (beats s r) valid_s (both_true (same_rule s r) (preferred (seen s) (seen r)) (ap is_eq turned) p)) ∙ ru))
+    over (inl p) = absurd (true≢false (sym (and_both (stands held r) (beats r s) valid_r (and_both (same_rule r s) (preferred (seen r) (seen s)) (ap is_eq e) p)) ∙ su))
+    over (inr p) = absurd (true≢false (sym (and_both (stands held s) (beats s r) valid_s (and_both (same_rule s r) (preferred (seen s) (seen r)) (ap is_eq swapped) p)) ∙ ru))
 
 abbrev is_entry : Family → Held → FlowRoute → Bool
 is_entry family held r = is_of_family family r && is_most_preferred held r
@@ -110,8 +95,8 @@ entries_ordered family held (r ∷ rs) sorted h = at (is_entry family held r) re
     ih,
   ) where
     valid : (s : FlowRoute) → is_entry family held s ≡ true → stands held s ≡ true
-    valid s f = left_true (stands held s) (not (list_any (λ t. stands held t && beats t s) held.flows)) (right_true (is_of_family family s) (is_most_preferred held s) f)
+    valid s f = and_first (stands held s) (not (list_any (λ t. stands held t && beats t s) held.flows)) (and_second (is_of_family family s) (is_most_preferred held s) f)
   at false e ih = ih
 
 pub admitted_ordered : (family : Family) (held : Held) → AreSorted held.flows → AreOrdered (admitted family held)
-admitted_ordered family held sorted = entries_ordered family held held.flows sorted (each_all (Rivals family held held.flows) (λ s e. unbeaten held s (right_true (is_of_family family s) (is_most_preferred held s) e)) held.flows)
+admitted_ordered family held sorted = entries_ordered family held held.flows sorted (each_all (Rivals family held held.flows) (λ s e. unbeaten held s (and_second (is_of_family family s) (is_most_preferred held s) e)) held.flows)

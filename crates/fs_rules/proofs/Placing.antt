@@ -3,8 +3,8 @@ use Rattle.std.proofs.Common.{ℕ, zero, suc, ◌≡◌, ◌+◌, ◌<◌, refl,
 use Rattle.std.specs.Ordering.{match_ordering, ordering_then}
 use Rattle.fs_nlri.specs.Parts.{Ruled}
 use Rattle.fs_rules.specs.declared.group.Kept.{Kept}
-use Rattle.fs_rules.specs.Held.{key_cmp, is_key}
-use Rattle.fs_rules.specs.Kept.{put_kept, place_in, has_key_at, related_kept, AreSorted, routes_of}
+use Rattle.fs_rules.specs.Table.{key_cmp, is_key}
+use Rattle.fs_rules.specs.Group.{put_kept, place_in, has_key_at, related_kept, AreSorted, routes_of}
 use Rattle.fs_base.specs.declared.prefix.Prefix.{Prefix}
 use Rattle.std.proofs.lemmas.List.{get_or_default}
 use Rattle.std.specs.List.{list_any, AllByRecursion}

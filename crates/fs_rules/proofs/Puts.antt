@@ -12,11 +12,11 @@ use Rattle.fs_base.specs.PrefixOrder.{prefix_total}
 use Rattle.fs_base.proofs.Listing.{each_weaker}
 use Rattle.fs_base.proofs.SamePrefix.{same_from_cmp}
 use Rattle.fs_rules.specs.declared.group.Kept.{Kept}
-use Rattle.fs_rules.specs.Held.{key_cmp}
-use Rattle.fs_rules.specs.Kept.{put_kept, AreSorted, routes_of}
-use Rattle.fs_rules.specs.Grouped.{Entry, kept_in, IsTo, ArePlaced, AreInOrder, IsSound, put_entry, HasSortedGroups}
+use Rattle.fs_rules.specs.Table.{key_cmp}
+use Rattle.fs_rules.specs.Group.{put_kept, AreSorted, routes_of}
+use Rattle.fs_rules.specs.Groups.{Entry, kept_in, IsTo, ArePlaced, AreInOrder, IsSound, put_entry, HasSortedGroups}
 use Rattle.fs_rules.proofs.Apart.{RuleBefore, key_less, key_greater, each_front, each_back, behind_each, before_behind, to_cmp, earlier}
-use Rattle.fs_rules.proofs.Marks.{each-put}
+use Rattle.fs_rules.proofs.Changes.{each-put}
 
 -- a route before all of the second list goes into the first
 pub put_left : (k : Kept) (xs ys : List Kept) → AllByRecursion (RuleBefore k) ys → put_kept k (xs ++ ys) ≡ put_kept k xs ++ ys
@@ -40,8 +40,8 @@ group_before_route family (p, xs) k q h d less sound placed = go xs sound placed
   go [] s t = tt
   go (x ∷ xs) s t = (earlier family x k (Some p) q s.0 h t.0 d less, go xs s.1 t.1)
 
-turned : (p q : Prefix) → prefix_cmp p q ≡ Greater → prefix_cmp q p ≡ Less
-turned p q h = prefix_total.antisymm q p ∙ ap ordering_reverse h
+swapped : (p q : Prefix) → prefix_cmp p q ≡ Greater → prefix_cmp q p ≡ Less
+swapped p q h = prefix_total.antisymm q p ∙ ap ordering_reverse h
 
 pub equal_test : (p q : Prefix) → prefix_cmp p q ≡ Equal → p ≡ q
 equal_test p q h = same_from_cmp p q (ap is_eq h)
@@ -63,7 +63,7 @@ put_entries family p k (e ∷ es) rest h d ordered placed bare sound = at (prefi
       → kept_in (match_ordering o ((p, k ∷ []) ∷ e ∷ es) ((e.0, put_kept k e.1) ∷ es) (e ∷ put_entry p k es)) rest ≡ put_kept k (e.1 ++ later)
   at Less less ih = sym (put_left k [] (e.1 ++ later) (before_behind family (Some p) k h d (e.1 ++ later) sound (behind_each p (e ∷ es) rest (less, each_weaker (λ q. prefix_cmp e.0 q ≡ Less) (λ q. prefix_cmp p q ≡ Less) (λ q g. prefix_total.trans p e.0 q less g) (keys_of es) heads) placed bare)))
   at Equal same ih = sym (put_left k e.1 later (before_behind family (Some p) k h d later later_sound (behind_each p es rest (subst (λ q. AllByRecursion (λ r. prefix_cmp q r ≡ Less) (keys_of es)) (sym (equal_test p e.0 same)) heads) placed.1 bare)))
-  at Greater more ih = ap (λ zs. e.1 ++ zs) ih ∙ sym (put_right k e.1 later (group_before_route family e k (Some p) h d (turned p e.0 more) (each_front (IsSound family) e.1 later sound) placed.0))
+  at Greater more ih = ap (λ zs. e.1 ++ zs) ih ∙ sym (put_right k e.1 later (group_before_route family e k (Some p) h d (swapped p e.0 more) (each_front (IsSound family) e.1 later sound) placed.0))
 
 -- a route without a destination stands behind all groups
 pub put_rest : (family : Family) (k : Kept) (es : List Entry) (rest : List Kept) → IsSound family k → IsTo None k → ArePlaced es → AllByRecursion (IsSound family) (kept_in es rest) → kept_in es (put_kept k rest) ≡ put_kept k (kept_in es rest)

@@ -12,9 +12,8 @@ use Rattle.fs_order.specs.Total.{rule_total}
 use Rattle.fs_validate.specs.declared.route.FlowRoute.{FlowRoute}
 use Rattle.fs_unicast.specs.Preference.{preferred}
 use Rattle.fs_rules.specs.declared.group.Kept.{Kept}
-use Rattle.fs_rules.specs.Held.{key_cmp}
-use Rattle.fs_rules.specs.Admitted.{is_valid, same_rule, beats}
-use Rattle.fs_rules.specs.Kept.{routes_of, AreSorted, place_in, is_beaten}
+use Rattle.fs_rules.specs.Table.{key_cmp, is_valid, same_rule, beats}
+use Rattle.fs_rules.specs.Group.{routes_of, AreSorted, place_in, is_beaten}
 
 -- the order of keys
 abbrev pair_cmp : Ruled × ℕ → Ruled × ℕ → Ordering
@@ -67,11 +66,11 @@ least_after Less n h = cc
 least_after Equal n h = absurd (grind (arith, nat_tests))
 least_after Greater n h = refl
 
-turned_away : (r s : FlowRoute) → rule_cmp r.rule s.rule ≡ Greater → same_rule s r ≡ false
-turned_away r s h = ap is_eq (rule_total.antisymm s.rule r.rule ∙ ap ordering_reverse h)
+greater_apart : (r s : FlowRoute) → rule_cmp r.rule s.rule ≡ Greater → same_rule s r ≡ false
+greater_apart r s h = ap is_eq (rule_total.antisymm s.rule r.rule ∙ ap ordering_reverse h)
 
-no_rival : (k x : Kept) (rest : Bool) → same_rule x.route k.route ≡ false → ((is_valid x.mark && beats x.route k.route) || rest) ≡ rest
-no_rival k x rest h = at (is_valid x.mark) (same_rule x.route k.route) h where
+no_rival : (k x : Kept) (rest : Bool) → same_rule x.route k.route ≡ false → ((is_valid x.validity && beats x.route k.route) || rest) ≡ rest
+no_rival k x rest h = at (is_valid x.validity) (same_rule x.route k.route) h where
   at : (a b : Bool) → b ≡ false → ((a && (b && preferred (x.route.peer, x.route.path) (k.route.peer, k.route.path))) || rest) ≡ rest
   at true true e = absurd (true≢false e)
   at false true e = refl
@@ -85,7 +84,7 @@ beaten_from k (x ∷ xs) = at (key_cmp k.route.rule 0 x.route) refl (beaten_from
       → is_beaten (drop (match_ordering o 0 0 (1 + place_in k.route.rule 0 xs)) (x ∷ xs)) k ≡ is_beaten (x ∷ xs) k
   at Less e ih = refl
   at Equal e ih = refl
-  at Greater e ih = ap (λ n. is_beaten (drop n (x ∷ xs)) k) next ∙ ih ∙ sym (no_rival k x (is_beaten xs k) (turned_away k.route x.route (least_after (rule_cmp k.route.rule x.route.rule) x.route.peer e))) where
+  at Greater e ih = ap (λ n. is_beaten (drop n (x ∷ xs)) k) next ∙ ih ∙ sym (no_rival k x (is_beaten xs k) (greater_apart k.route x.route (least_after (rule_cmp k.route.rule x.route.rule) x.route.peer e))) where
     next : 1 + place_in k.route.rule 0 xs ≡ suc (place_in k.route.rule 0 xs)
     next = omega arith
 
@@ -156,16 +155,16 @@ pub run_ends : (k s : Kept) (rest : List Kept) → AllByRecursion (NotBefore k) 
 run_ends k s rest h sorted other = none_beats k (s ∷ rest) (other, each_weaker (λ t. key_cmp s.route.rule s.route.peer t.route ≡ Less) (λ t. same_rule t.route k.route ≡ false) (λ t less. later_rule k s t (rule_after k s h.0 other) less) rest (each_of_routes (λ t. key_cmp s.route.rule s.route.peer t ≡ Less) rest sorted.0))
 
 -- one more of the rule
-pub run_hits : (k s : Kept) (rest : List Kept) → same_rule s.route k.route ≡ true → (is_valid s.mark && preferred (s.route.peer, s.route.path) (k.route.peer, k.route.path)) ≡ true → is_beaten (s ∷ rest) k ≡ true
-run_hits k s rest same better = at (is_valid s.mark) (same_rule s.route k.route) same better where
+pub run_hits : (k s : Kept) (rest : List Kept) → same_rule s.route k.route ≡ true → (is_valid s.validity && preferred (s.route.peer, s.route.path) (k.route.peer, k.route.path)) ≡ true → is_beaten (s ∷ rest) k ≡ true
+run_hits k s rest same better = at (is_valid s.validity) (same_rule s.route k.route) same better where
   at : (a b : Bool) → b ≡ true → (a && preferred (s.route.peer, s.route.path) (k.route.peer, k.route.path)) ≡ true → ((a && (b && preferred (s.route.peer, s.route.path) (k.route.peer, k.route.path))) || is_beaten rest k) ≡ true
   at true true e h = ap (λ c. c || is_beaten rest k) h
   at false true e h = absurd (true≢false (sym h))
   at true false e h = absurd (true≢false (sym e))
   at false false e h = absurd (true≢false (sym e))
 
-pub run_misses : (k s : Kept) (rest : List Kept) → (is_valid s.mark && preferred (s.route.peer, s.route.path) (k.route.peer, k.route.path)) ≡ false → is_beaten (s ∷ rest) k ≡ is_beaten rest k
-run_misses k s rest better = at (is_valid s.mark) (same_rule s.route k.route) better where
+pub run_misses : (k s : Kept) (rest : List Kept) → (is_valid s.validity && preferred (s.route.peer, s.route.path) (k.route.peer, k.route.path)) ≡ false → is_beaten (s ∷ rest) k ≡ is_beaten rest k
+run_misses k s rest better = at (is_valid s.validity) (same_rule s.route k.route) better where
   at : (a b : Bool) → (a && preferred (s.route.peer, s.route.path) (k.route.peer, k.route.path)) ≡ false → ((a && (b && preferred (s.route.peer, s.route.path) (k.route.peer, k.route.path))) || is_beaten rest k) ≡ is_beaten rest k
   at true true h = ap (λ c. c || is_beaten rest k) h
   at true false h = refl

@@ -15,13 +15,12 @@ use Rattle.std.specs.Cmp.{tied_itself}
 use Rattle.fs_base.proofs.Listing.{each_weaker, each_both, each_append, filter-append, filter_all, each_none}
 use Rattle.fs_base.proofs.SamePrefix.{same_from_cmp}
 use Rattle.fs_nlri.specs.Parts.{Ruled}
-use Rattle.fs_nlri.specs.Rule.{IsRule}
-use Rattle.fs_validate.specs.Destination.{destination_prefix}
+use Rattle.fs_nlri.specs.Rule.{IsRule, destination_prefix}
 use Rattle.fs_rules.specs.declared.group.Kept.{Kept}
-use Rattle.fs_rules.specs.Held.{is_key}
-use Rattle.fs_rules.specs.Grouped.{Entry, kept_in, IsTo, ArePlaced, AreInOrder, with_group, keep_at, keep_each}
+use Rattle.fs_rules.specs.Table.{is_key}
+use Rattle.fs_rules.specs.Groups.{Entry, kept_in, IsTo, ArePlaced, AreInOrder, with_group, keep_at, keep_each}
 use Rattle.fs_rules.proofs.Apart.{key_same, each_front, each_back}
-use Rattle.fs_rules.proofs.Marks.{each-filter}
+use Rattle.fs_rules.proofs.Changes.{each-filter}
 
 kept_with : (p : Prefix) (ks : List Kept) (es : List Entry) (rest : List Kept) → kept_in (with_group p ks es) rest ≡ ks ++ kept_in es rest
 kept_with p [] es rest = refl

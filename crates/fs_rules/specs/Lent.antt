@@ -1,12 +1,16 @@
 -- What the table lends of its routes.
-use Rattle.std.specs.Prelude.{ℕ, List, map, filter}
+use Rattle.std.specs.Prelude.{ℕ, ◌≡◌, List, [], ◌∷◌, ◌++◌, map, filter}
+use Rattle.std.specs.List.{AllByRecursion}
+use Rattle.std.specs.Ordering.{nat_cmp, ordering_then}
+use Rattle.std.specs.declared.cmp.Ordering.{Ordering}
+use Rattle.std.specs.declared.cmp.Ordering.TheVariants.{Less}
 use Rattle.fs_base.specs.declared.prefix.Family.{Family}
 use Rattle.fs_nlri.specs.Parts.{Ruled}
+use Rattle.fs_order.specs.Order.{rule_cmp}
 use Rattle.fs_validate.specs.Validity.{validity}
 use Rattle.fs_validate.specs.declared.route.FlowRoute.{FlowRoute}
 use Rattle.fs_validate.specs.declared.validity.Validity.{Validity}
-use Rattle.fs_rules.specs.Held.{Held}
-use Rattle.fs_rules.specs.Admitted.{is_of_family}
+use Rattle.fs_rules.specs.Table.{Held, is_of_family}
 use Rattle.fs_rules.specs.declared.lent.Admitted.{Admitted}
 use Rattle.fs_rules.specs.declared.lent.HeldFlow.{HeldFlow}
 
@@ -22,18 +26,40 @@ listed r = record { rule = r.rule; peer = r.peer; actions = r.actions }
 abbrev pub shown_admitted : Admitted → Listed
 shown_admitted a = record { rule = a.rule.now; peer = a.peer; actions = a.actions.now }
 
+abbrev pub all_admitted : List Admitted → List Listed
+all_admitted list = map shown_admitted list
+
+-- these are added at the end
+abbrev pub AddsRules : List Listed → List Admitted → List Admitted → Type 0
+AddsRules more old new = all_admitted new ≡ all_admitted old ++ more
+
 -- a held flow route with its validity over all held unicast routes
 pub record Judged : Type 0 where
   pub rule : Ruled
   pub peer : ℕ
-  pub mark : Validity
+  pub validity : Validity
 
 abbrev pub judged : Held → FlowRoute → Judged
-judged held r = record { rule = r.rule; peer = r.peer; mark = validity held.unicast held.config r }
+judged held r = record { rule = r.rule; peer = r.peer; validity = validity held.unicast held.config r }
 
 abbrev pub shown_held : HeldFlow → Judged
-shown_held h = record { rule = h.rule.now; peer = h.peer; mark = h.validity }
+shown_held h = record { rule = h.rule.now; peer = h.peer; validity = h.validity }
+
+abbrev pub all_held : List HeldFlow → List Judged
+all_held list = map shown_held list
+
+abbrev pub AddsHeld : List Judged → List HeldFlow → List HeldFlow → Type 0
+AddsHeld more old new = all_held new ≡ all_held old ++ more
 
 -- the held flow routes of a family, in the order of rules, then by peer
 abbrev pub held_flows : Family → Held → List Judged
 held_flows family held = map (judged held) (filter (is_of_family family) held.flows)
+
+-- by rule, then by peer
+abbrev pub judged_cmp : Judged → Judged → Ordering
+judged_cmp a b = ordering_then (rule_cmp a.rule b.rule) (nat_cmp a.peer b.peer)
+
+-- each is before those after it
+abbrev pub AreRising : List Judged → Type 0
+AreRising [] = Unit {0}
+AreRising (j ∷ js) = AllByRecursion (λ k. judged_cmp j k ≡ Less) js × AreRising js

@@ -1,9 +1,9 @@
-pub mod Held
-pub mod Related
-pub mod Admitted
+pub mod Table
 pub mod Walk
 pub mod Lent
-pub mod Kept
-pub mod Marked
-pub mod Grouped
-pub mod Families
+pub mod Group
+pub mod Lists
+pub mod Groups
+pub mod Reading
+pub mod Search
+pub mod Flows

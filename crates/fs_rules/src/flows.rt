@@ -2,11 +2,10 @@
 
 ghost use Rattle.std.specs.Prelude.{◌≡◌, ◌≤◌, ◌+◌, ◌==◌, not, [], OnOk, OnErr, IfOk, map, filter, length, option_map, slice_get};
 ghost use Rattle.std.specs.List.{list_any, AllByRecursion};
-ghost use Rattle.fs_rules.specs.Admitted.{is_of_family};
-ghost use Rattle.fs_rules.specs.Held.{is_key};
-ghost use Rattle.fs_rules.specs.Kept.{put_kept, mended, related_kept, AreSorted, routes_of, chosen};
-ghost use Rattle.fs_rules.specs.Lent.{listed, shown_admitted, shown_held};
-ghost use Rattle.fs_rules.specs.Marked.{marked, routes_chosen};
+ghost use Rattle.fs_rules.specs.Table.{is_of_family, IsRuleOf, related_count, is_key};
+ghost use Rattle.fs_rules.specs.Group.{put_kept, mended, AreSorted, routes_of, chosen, of_family};
+ghost use Rattle.fs_rules.specs.Lent.{listed, shown_admitted, shown_held, all_admitted, all_held};
+ghost use Rattle.fs_rules.specs.Lists.{judgement, routes_chosen, listing, listings, judgements, nth_listing};
 ghost use Rattle.fs_rules.specs.Walk.{next_match};
 
 use crate::group::Kept;
@@ -20,7 +19,7 @@ use std::alloc::Global;
 use std::marker::Model;
 use std::sync::ledger::Ledger;
 
-/// Flow routes with their marks, in the order of rules and then by peer: those of IPv4 and those of IPv6.
+/// Flow routes with their validities, in the order of rules and then by peer: those of IPv4 and those of IPv6.
 #[derive(Drop)]
 pub(crate) struct Flows {
     v4: Groups,
@@ -30,7 +29,7 @@ pub(crate) struct Flows {
 impl Model for Flows {
     ghost use Rattle.std.specs.Prelude.{List, ◌++◌};
     ghost use Rattle.fs_rules.specs.declared.group.Kept.{Kept};
-    ghost use Rattle.fs_rules.specs.Families.{AreOfFamilies};
+    ghost use Rattle.fs_rules.specs.Flows.{AreOfFamilies};
 
     ghost Value = { List Kept };
 
@@ -91,7 +90,7 @@ impl Flows {
     )
         ensures mended { self.new ≡ map (mended prefix.now unicast.now config.now) self.old }
         ensures later { steps.old ≤ steps.new }
-        ensures steps { steps.new ≤ steps.old + related_kept prefix.now self.old }
+        ensures steps { steps.new ≤ steps.old + related_count prefix.now (routes_of self.old) }
     {
         self.v4.mend(prefix, unicast, config, steps);
         self.v6.mend(prefix, unicast, config, steps);
@@ -100,7 +99,8 @@ impl Flows {
     /// The admitted rules of the family, in order.
     pub(crate) fn admitted(&self, family: Family) -> Result<Vec<Admitted<'_>>, Memory>
         requires { AreSorted (routes_of self.now) }
-        ensures { IfOk result (λ list. map shown_admitted list.items ≡ map (λ k. listed k.route) (chosen family self.now)) }
+        ensures list { IfOk result (λ list. all_admitted list.items ≡ listings family self.now) }
+        ensures rules { AllByRecursion (λ k. IsRuleOf family k.route) (chosen family self.now) }
     {
         match family {
             Family::V4 => self.v4.admitted(family),
@@ -110,7 +110,7 @@ impl Flows {
 
     /// The held flow routes of the family, in order.
     pub(crate) fn held(&self, family: Family) -> Result<Vec<HeldFlow<'_>>, Memory>
-        ensures { IfOk result (λ list. map shown_held list.items ≡ map marked (filter (λ k. is_of_family family k.route) self.now)) }
+        ensures { IfOk result (λ list. all_held list.items ≡ judgements (of_family family self.now)) }
     {
         match family {
             Family::V4 => self.v4.held(),
@@ -132,7 +132,7 @@ impl Flows {
     /// The admitted rule of that number.
     pub(crate) fn admitted_at(&self, family: Family, n: usize) -> Option<Admitted<'_>>
         requires { AreSorted (routes_of self.now) }
-        ensures { option_map shown_admitted result ≡ option_map (λ k. listed k.route) (slice_get (chosen family self.now) n) }
+        ensures { option_map shown_admitted result ≡ nth_listing family self.now n }
     {
         match family {
             Family::V4 => self.v4.admitted_at(family, n),
@@ -142,7 +142,7 @@ impl Flows {
 
     /// The held flow route of that number.
     pub(crate) fn held_at(&self, family: Family, n: usize) -> Option<HeldFlow<'_>>
-        ensures { option_map shown_held result ≡ option_map marked (slice_get (filter (λ k. is_of_family family k.route) self.now) n) }
+        ensures { option_map shown_held result ≡ option_map judgement (slice_get (of_family family self.now) n) }
     {
         match family {
             Family::V4 => self.v4.held_at(n),

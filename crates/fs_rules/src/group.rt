@@ -1,19 +1,17 @@
-//! Flow routes with their marks, in the order of rules and then by peer.
+//! Flow routes with their validities, in the order of rules and then by peer.
 
 ghost use Rattle.std.specs.Prelude.{◌≡◌, ◌≤◌, ◌+◌, ◌<◌, ◌==◌, not, OnOk, OnErr, IfOk, map, filter, length, option_map, slice_get, [], position, drop};
 ghost use Rattle.std.specs.List.{list_any};
 ghost use Rattle.std.specs.Option.{option_copied};
-ghost use Rattle.fs_rules.specs.Held.{is_key, key_cmp};
-ghost use Rattle.fs_unicast.specs.Shown.{shown};
+ghost use Rattle.fs_rules.specs.Table.{is_key, key_cmp, is_of_family, is_valid, same_rule};
+ghost use Rattle.fs_unicast.specs.Preference.{offered, preferred};
 ghost use Rattle.std.specs.Prelude.{◌∷◌, ◌&&◌};
-ghost use Rattle.fs_rules.specs.Admitted.{is_of_family, is_valid, same_rule};
-ghost use Rattle.fs_unicast.specs.Preference.{preferred};
-ghost use Rattle.fs_rules.specs.Kept.{put_kept, place_in, retested, is_beaten, is_chosen, has_key_at, AreSorted, routes_of};
+ghost use Rattle.fs_rules.specs.Group.{put_kept, place_in, retested, is_beaten, is_chosen, has_key_at, AreSorted, routes_of, is_better};
 
 use fs_base::{Config, Family, Memory, Steps};
 use fs_nlri::Rule;
 use fs_order::compare;
-use fs_unicast::{Held, Unicast};
+use fs_unicast::{Offer, Unicast};
 use fs_validate::{FlowRoute, Validity, valid};
 use std::alloc::Global;
 use std::cmp::Ordering;
@@ -24,7 +22,7 @@ use std::sync::ledger::Ledger;
 #[derive(Drop)]
 pub(crate) struct Kept {
     pub route: FlowRoute,
-    pub mark: Validity,
+    pub validity: Validity,
 }
 
 /// How a rule and a peer are ordered to a route's.
@@ -95,7 +93,7 @@ fn retest<L: Ledger>(k: &mut Kept, unicast: &Unicast, config: &Config, steps: &m
     ensures later { steps.old ≤ steps.new }
     ensures steps { steps.new ≤ steps.old + 1 }
 {
-    k.mark = valid(unicast, config, &k.route, steps);
+    k.validity = valid(unicast, config, &k.route, steps);
 }
 
 /// Validates each route anew.
@@ -114,10 +112,10 @@ fn retest_each<L: Ledger>(
     }
 }
 
-fn stands(mark: Validity) -> bool
-    ensures { result ≡ is_valid mark }
+fn stands(validity: Validity) -> bool
+    ensures { result ≡ is_valid validity }
 {
-    mark == Validity::Valid
+    validity == Validity::Valid
 }
 
 fn is_same_rule(s: &FlowRoute, r: &FlowRoute) -> bool
@@ -128,15 +126,15 @@ fn is_same_rule(s: &FlowRoute, r: &FlowRoute) -> bool
 
 /// Whether `s` is valid and preferred to `k`.
 fn is_better(s: &Kept, k: &Kept) -> bool
-    ensures { result ≡ (is_valid s.now.mark && preferred (s.now.route.peer, s.now.route.path) (k.now.route.peer, k.now.route.path)) }
+    ensures { result ≡ is_better s.now k.now }
 {
-    stands(s.mark) && seen(&s.route).is_preferred(&seen(&k.route))
+    stands(s.validity) && seen(&s.route).is_preferred(&seen(&k.route))
 }
 
-fn seen(route: &FlowRoute) -> Held<'_>
-    ensures { shown result ≡ (route.now.peer, route.now.path) }
+fn seen(route: &FlowRoute) -> Offer<'_>
+    ensures { offered result ≡ (route.now.peer, route.now.path) }
 {
-    Held {
+    Offer {
         peer: route.peer,
         path: &route.path,
     }
@@ -164,7 +162,7 @@ pub(crate) fn is_chosen(family: Family, kept: &[Kept], k: &Kept) -> bool
     requires { AreSorted (routes_of kept.now) }
     ensures { result ≡ is_chosen family kept.now k.now }
 {
-    is_of_family(family, &k.route) && stands(k.mark) && !is_beaten(kept, k)
+    is_of_family(family, &k.route) && stands(k.validity) && !is_beaten(kept, k)
 }
 
 pub(crate) fn is_of_family(family: Family, route: &FlowRoute) -> bool

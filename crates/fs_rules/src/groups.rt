@@ -6,11 +6,11 @@ ghost use Rattle.std.specs.Map.{lookup};
 ghost use Rattle.std.specs.BTreeMap.{is_at};
 ghost use Rattle.fs_base.specs.Prefix.{prefix_cmp};
 ghost use Rattle.fs_nlri.specs.Rule.{IsRule};
-ghost use Rattle.fs_rules.specs.Held.{is_key};
-ghost use Rattle.fs_rules.specs.Kept.{put_kept, mended, related_kept, AreSorted, routes_of, chosen};
-ghost use Rattle.fs_rules.specs.Grouped.{IsSound, HasSortedGroups, AreInOrder, put_entry, keep_at, keep_each};
-ghost use Rattle.fs_rules.specs.Lent.{listed, shown_admitted, shown_held};
-ghost use Rattle.fs_rules.specs.Marked.{marked, routes_chosen};
+ghost use Rattle.fs_rules.specs.Table.{is_key};
+ghost use Rattle.fs_rules.specs.Group.{put_kept, mended, related_kept, AreSorted, routes_of, chosen, is_other_key};
+ghost use Rattle.fs_rules.specs.Groups.{IsSound, HasSortedGroups, AreInOrder, put_entry, keep_at, keep_each, IsHeldAt};
+ghost use Rattle.fs_rules.specs.Lent.{listed, shown_admitted, shown_held, all_admitted, all_held};
+ghost use Rattle.fs_rules.specs.Lists.{judgement, routes_chosen, listing, listings, judgements, nth_listing};
 ghost use Rattle.fs_rules.specs.Walk.{next_match};
 
 use crate::group::{Group, Kept};
@@ -40,7 +40,7 @@ pub(crate) struct Groups {
 impl Model for Groups {
     ghost use Rattle.std.specs.Prelude.{List};
     ghost use Rattle.fs_rules.specs.declared.group.Kept.{Kept};
-    ghost use Rattle.fs_rules.specs.Grouped.{kept_in, IsGrouped};
+    ghost use Rattle.fs_rules.specs.Groups.{kept_in, IsGrouped};
 
     ghost Value = { List Kept };
 
@@ -127,7 +127,7 @@ impl Groups {
     pub(crate) fn admitted(&self, family: Family) -> Result<Vec<Admitted<'_>>, Memory>
         requires sorted { AreSorted (routes_of self.now) }
         requires sound { AllByRecursion (IsSound family) self.now }
-        ensures { IfOk result (λ list. map shown_admitted list.items ≡ map (λ k. listed k.route) (chosen family self.now)) }
+        ensures { IfOk result (λ list. all_admitted list.items ≡ listings family self.now) }
     {
         let mut list = Vec::new(self.rest.allocator());
         push_admitted(&self.groups, &self.rest, family, &mut list)?;
@@ -136,7 +136,7 @@ impl Groups {
 
     /// The routes, in order.
     pub(crate) fn held(&self) -> Result<Vec<HeldFlow<'_>>, Memory>
-        ensures { IfOk result (λ list. map shown_held list.items ≡ map marked self.now) }
+        ensures { IfOk result (λ list. all_held list.items ≡ judgements self.now) }
     {
         let mut list = Vec::new(self.rest.allocator());
         push_held(&self.groups, &self.rest, &mut list)?;
@@ -156,14 +156,14 @@ impl Groups {
     pub(crate) fn admitted_at(&self, family: Family, n: usize) -> Option<Admitted<'_>>
         requires sorted { AreSorted (routes_of self.now) }
         requires sound { AllByRecursion (IsSound family) self.now }
-        ensures { option_map shown_admitted result ≡ option_map (λ k. listed k.route) (slice_get (chosen family self.now) n) }
+        ensures { option_map shown_admitted result ≡ nth_listing family self.now n }
     {
         reading::admitted_at(&self.groups, &self.rest, family, n)
     }
 
     /// The route of that number.
     pub(crate) fn held_at(&self, n: usize) -> Option<HeldFlow<'_>>
-        ensures { option_map shown_held result ≡ option_map marked (slice_get self.now n) }
+        ensures { option_map shown_held result ≡ option_map judgement (slice_get self.now n) }
     {
         reading::held_at(&self.groups, &self.rest, n)
     }
@@ -206,8 +206,8 @@ fn take_at(
     peer: u16,
 ) -> bool
     requires { HasSortedGroups groups.old.entries }
-    ensures taken { groups.new.entries ≡ keep_at destination.now (λ k. not (is_key rule.now peer k.route)) groups.old.entries }
-    ensures held { MatchOption (lookup (is_at (prefix_cmp destination.now)) groups.old.entries) (result ≡ false) (λ group. result ≡ list_any (λ k. is_key rule.now peer k.route) group) }
+    ensures taken { groups.new.entries ≡ keep_at destination.now (is_other_key rule.now peer) groups.old.entries }
+    ensures held { IsHeldAt destination.now rule.now peer groups.old.entries result }
 {
     let Some(group) = groups.get_mut(destination) else {
         return false;

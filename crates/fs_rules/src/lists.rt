@@ -1,10 +1,10 @@
-//! The lists that the marks of kept routes tell.
+//! The lists that the validities of kept routes tell.
 
 ghost use Rattle.std.specs.Prelude.{◌≡◌, ◌≤◌, ◌<◌, ◌+◌, ◌^◌, ◌++◌, OnOk, map, filter, length, option_map, slice_get, ◌&&◌, nat_le, find};
 ghost use Rattle.fs_packet.specs.Matches.{is_match};
-ghost use Rattle.fs_rules.specs.Kept.{chosen, AreSorted, routes_of};
-ghost use Rattle.fs_rules.specs.Lent.{listed, shown_admitted, shown_held};
-ghost use Rattle.fs_rules.specs.Marked.{marked, routes_chosen};
+ghost use Rattle.fs_rules.specs.Group.{chosen, AreSorted, routes_of};
+ghost use Rattle.fs_rules.specs.Lent.{listed, shown_admitted, shown_held, all_admitted, all_held, AddsRules, AddsHeld};
+ghost use Rattle.fs_rules.specs.Lists.{judgement, routes_chosen, listing, listings, judgements, nth_listing};
 ghost use Rattle.fs_rules.specs.Walk.{matching_from};
 
 use crate::group::{Kept, is_chosen};
@@ -13,7 +13,7 @@ use fs_base::{Family, Memory};
 use fs_packet::{View, matches};
 
 fn lend(k: &Kept) -> Admitted<'_>
-    ensures { shown_admitted result ≡ listed k.now.route }
+    ensures { shown_admitted result ≡ listing k.now }
 {
     Admitted {
         rule: &k.route.rule,
@@ -23,12 +23,12 @@ fn lend(k: &Kept) -> Admitted<'_>
 }
 
 fn lend_held(k: &Kept) -> HeldFlow<'_>
-    ensures { shown_held result ≡ marked k.now }
+    ensures { shown_held result ≡ judgement k.now }
 {
     HeldFlow {
         rule: &k.route.rule,
         peer: k.route.peer,
-        validity: k.mark,
+        validity: k.validity,
     }
 }
 
@@ -39,7 +39,7 @@ pub(crate) fn push_admitted<'a>(
     list: &mut Vec<Admitted<'a>>,
 ) -> Result<(), Memory>
     requires { AreSorted (routes_of kept.now) }
-    ensures { OnOk result (map shown_admitted list.new.items ≡ map shown_admitted list.old.items ++ map (λ k. listed k.route) (chosen family kept.now)) }
+    ensures { OnOk result (AddsRules (listings family kept.now) list.old.items list.new.items) }
 {
     for k in kept {
         if is_chosen(family, kept, k) {
@@ -51,7 +51,7 @@ pub(crate) fn push_admitted<'a>(
 
 /// Adds the routes to the list, in order.
 pub(crate) fn push_held<'a>(kept: &'a [Kept], list: &mut Vec<HeldFlow<'a>>) -> Result<(), Memory>
-    ensures { OnOk result (map shown_held list.new.items ≡ map shown_held list.old.items ++ map marked kept.now) }
+    ensures { OnOk result (AddsHeld (judgements kept.now) list.old.items list.new.items) }
 {
     for k in kept {
         list.push(lend_held(k))?;
@@ -70,7 +70,7 @@ pub(crate) fn count_admitted(family: Family, kept: &[Kept]) -> usize
 /// The admitted rule of that number.
 pub(crate) fn admitted_at(family: Family, kept: &[Kept], n: usize) -> Option<Admitted<'_>>
     requires { AreSorted (routes_of kept.now) }
-    ensures { option_map shown_admitted result ≡ option_map (λ k. listed k.route) (slice_get (chosen family kept.now) n) }
+    ensures { option_map shown_admitted result ≡ nth_listing family kept.now n }
 {
     let mut left = n;
     for k in kept {
@@ -86,7 +86,7 @@ pub(crate) fn admitted_at(family: Family, kept: &[Kept], n: usize) -> Option<Adm
 
 /// The route of that number.
 pub(crate) fn held_at(kept: &[Kept], n: usize) -> Option<HeldFlow<'_>>
-    ensures { option_map shown_held result ≡ option_map marked (slice_get kept.now n) }
+    ensures { option_map shown_held result ≡ option_map judgement (slice_get kept.now n) }
 {
     match kept.get(n) {
         Some(k) => Some(lend_held(k)),

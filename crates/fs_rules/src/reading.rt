@@ -1,10 +1,11 @@
-//! What the marks tell, read one group after the other.
+//! What the kept validities tell, read one group after the other.
 
 ghost use Rattle.std.specs.Prelude.{◌≡◌, ◌≤◌, ◌+◌, ◌<◌, ◌^◌, ◌++◌, OnOk, map, filter, length, option_map, slice_get};
-ghost use Rattle.fs_rules.specs.Kept.{AreSorted, routes_of};
-ghost use Rattle.fs_rules.specs.Grouped.{kept_in, HasSortedGroups};
-ghost use Rattle.fs_rules.specs.Lent.{listed, shown_admitted, shown_held};
-ghost use Rattle.fs_rules.specs.Marked.{marked, chosen_in};
+ghost use Rattle.fs_rules.specs.Group.{AreSorted, routes_of};
+ghost use Rattle.fs_rules.specs.Groups.{kept_in, HasSortedGroups};
+ghost use Rattle.fs_rules.specs.Lent.{listed, shown_admitted, shown_held, all_admitted, all_held, AddsRules, AddsHeld};
+ghost use Rattle.fs_rules.specs.Lists.{judgement, listing};
+ghost use Rattle.fs_rules.specs.Reading.{chosen_in, listings_in, judgements_in, nth_listing_in, nth_judgement_in};
 ghost use Rattle.fs_rules.specs.Walk.{next_match};
 
 use crate::group::Group;
@@ -23,7 +24,7 @@ pub(crate) fn push_admitted<'a>(
 ) -> Result<(), Memory>
     requires groups { HasSortedGroups groups.now.entries }
     requires rest { AreSorted (routes_of rest.now) }
-    ensures { OnOk result (map shown_admitted list.new.items ≡ map shown_admitted list.old.items ++ map (λ k. listed k.route) (chosen_in family groups.now.entries rest.now)) }
+    ensures { OnOk result (AddsRules (listings_in family groups.now.entries rest.now) list.old.items list.new.items) }
 {
     for (_, group) in groups {
         lists::push_admitted(family, group.as_slice(), list)?;
@@ -37,7 +38,7 @@ pub(crate) fn push_held<'a>(
     rest: &'a Group,
     list: &mut Vec<HeldFlow<'a>>,
 ) -> Result<(), Memory>
-    ensures { OnOk result (map shown_held list.new.items ≡ map shown_held list.old.items ++ map marked (kept_in groups.now.entries rest.now)) }
+    ensures { OnOk result (AddsHeld (judgements_in groups.now.entries rest.now) list.old.items list.new.items) }
 {
     for (_, group) in groups {
         lists::push_held(group.as_slice(), list)?;
@@ -68,7 +69,7 @@ pub(crate) fn admitted_at<'a>(
 ) -> Option<Admitted<'a>>
     requires groups { HasSortedGroups groups.now.entries }
     requires rest { AreSorted (routes_of rest.now) }
-    ensures { option_map shown_admitted result ≡ option_map (λ k. listed k.route) (slice_get (chosen_in family groups.now.entries rest.now) n) }
+    ensures { option_map shown_admitted result ≡ nth_listing_in family groups.now.entries rest.now n }
 {
     let mut left = n;
     for (_, group) in groups {
@@ -87,7 +88,7 @@ pub(crate) fn held_at<'a>(
     rest: &'a Group,
     n: usize,
 ) -> Option<HeldFlow<'a>>
-    ensures { option_map shown_held result ≡ option_map marked (slice_get (kept_in groups.now.entries rest.now) n) }
+    ensures { option_map shown_held result ≡ nth_judgement_in groups.now.entries rest.now n }
 {
     let mut left = n;
     for (_, group) in groups {

@@ -5,12 +5,14 @@ ghost use Rattle.std.specs.BTreeMap.{is_at};
 ghost use Rattle.std.specs.Prelude.{MatchOption};
 ghost use Rattle.fs_base.specs.Prefix.{covers, prefix_cmp};
 ghost use Rattle.fs_base.specs.Seek.{IsFirstFrom, IsLongestCover};
-ghost use Rattle.fs_rules.specs.Grouped.{Mends, IsNextAfter, AreInOrder};
-ghost use Rattle.fs_validate.specs.Locality.{is_related};
+ghost use Rattle.fs_rules.specs.Search.{Mended, IsNextAfter};
+ghost use Rattle.fs_rules.specs.Groups.{AreInOrder};
+ghost use Rattle.fs_validate.specs.Laws.{is_related};
+ghost use Rattle.fs_unicast.specs.Search.{is_same_prefix};
 
 use crate::group::Group;
 use fs_base::{Config, Prefix, Steps};
-use fs_unicast::Unicast;
+use fs_unicast::{InOrder, Unicast};
 use std::collections::BTreeMap;
 use std::ops::Bound;
 use std::sync::ledger::Ledger;
@@ -38,23 +40,31 @@ fn first_after(groups: &BTreeMap<Prefix, Group>, low: &Prefix) -> Option<Prefix>
     }
 }
 
+/// The groups in the order of their destinations.
+#[derive(Clone, Copy, Drop)]
+struct ByDestination<'a> {
+    groups: &'a BTreeMap<Prefix, Group>,
+}
+
+impl InOrder for ByDestination<'_> {
+    ghost use Rattle.fs_rules.specs.Groups.{Entry};
+
+    ghost Item = { Entry };
+
+    ghost at = { λ e. e.0 };
+
+    ghost items = { λ s. s.groups.now.entries };
+
+    fn first_from(&self, low: &Prefix) -> Option<Prefix> {
+        first_from(self.groups, low)
+    }
+}
+
 /// The longest destination that covers the prefix.
 fn longest_cover(groups: &BTreeMap<Prefix, Group>, prefix: &Prefix) -> Option<Prefix>
     ensures { IsLongestCover (λ e. e.0) groups.now.entries prefix.now result }
 {
-    let mut low = *prefix;
-    loop {
-        let Some(first) = first_from(groups, &low) else {
-            return None;
-        };
-        if first.covers(prefix) {
-            return Some(first);
-        }
-        let Some(both) = low.common(&first) else {
-            return None;
-        };
-        low = both;
-    }
+    fs_unicast::longest_cover(&ByDestination { groups }, prefix)
 }
 
 /// Validates the routes to the destination anew.
@@ -65,7 +75,7 @@ fn retest_at<L: Ledger>(
     config: &Config,
     steps: &mut Steps<L>,
 )
-    ensures { Mends unicast.now config.now (is_at (prefix_cmp destination.now)) groups.old.entries groups.new.entries steps.old steps.new }
+    ensures { Mended unicast.now config.now (is_same_prefix destination.now) groups.old groups.new steps.old steps.new }
 {
     if let Some(group) = groups.get_mut(destination) {
         group.retest(unicast, config, steps);
@@ -80,7 +90,7 @@ fn retest_under<L: Ledger>(
     config: &Config,
     steps: &mut Steps<L>,
 )
-    ensures { Mends unicast.now config.now (covers prefix.now) groups.old.entries groups.new.entries steps.old steps.new }
+    ensures { Mended unicast.now config.now (covers prefix.now) groups.old groups.new steps.old steps.new }
 {
     let first = prefix.first_under();
     let mut next = first_from(groups, &first);
@@ -101,7 +111,7 @@ fn retest_over<L: Ledger>(
     config: &Config,
     steps: &mut Steps<L>,
 )
-    ensures { Mends unicast.now config.now (λ q. covers q prefix.now) groups.old.entries groups.new.entries steps.old steps.new }
+    ensures { Mended unicast.now config.now (λ q. covers q prefix.now) groups.old groups.new steps.old steps.new }
 {
     let mut low = *prefix;
     while let Some(destination) = longest_cover(groups, &low) {
@@ -121,7 +131,7 @@ pub(crate) fn retest_related<L: Ledger>(
     config: &Config,
     steps: &mut Steps<L>,
 )
-    ensures { Mends unicast.now config.now (is_related prefix.now) groups.old.entries groups.new.entries steps.old steps.new }
+    ensures { Mended unicast.now config.now (is_related prefix.now) groups.old groups.new steps.old steps.new }
 {
     retest_under(groups, prefix, unicast, config, steps);
     if prefix.length > 0 {

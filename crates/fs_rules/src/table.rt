@@ -2,15 +2,14 @@
 
 ghost use Rattle.std.specs.Prelude.{◌≡◌, ◌≤◌, ◌+◌, [], IfOk, OnOk, OnErr, is_some, option_map, length, map, slice_get};
 ghost use Rattle.std.specs.BTreeMap.{insert_entry, is_at};
+ghost use Rattle.std.specs.List.{AllByRecursion};
 ghost use Rattle.std.specs.List.Sorted.{IsStrictlySortedBy};
 ghost use Rattle.std.specs.Map.{keys_of, remove_entry, lookup};
-ghost use Rattle.fs_unicast.specs.Places.{place_cmp};
-ghost use Rattle.fs_rules.specs.Held.{put_route, without_route, has_route, without_peer_unicast, without_peer_flows};
-ghost use Rattle.fs_rules.specs.Related.{related_count, related_sum};
-ghost use Rattle.fs_rules.specs.Admitted.{admitted, IsAdmitted};
-ghost use Rattle.fs_rules.specs.Lent.{listed, shown_admitted, shown_held, held_flows};
+ghost use Rattle.fs_unicast.specs.Unicast.{place_cmp, has_path};
+ghost use Rattle.fs_rules.specs.Table.{put_route, without_route, has_route, without_peer_unicast, without_peer_flows, related_count, related_sum, admitted, IsAdmitted, IsRuleOf, with_flow, with_path, without_path, without_peer};
+ghost use Rattle.fs_rules.specs.Lent.{listed, shown_admitted, shown_held, held_flows, AreRising};
 ghost use Rattle.fs_rules.specs.Walk.{next_match};
-ghost use Rattle.fs_unicast.specs.Best.{held_by};
+ghost use Rattle.fs_unicast.specs.Search.{held_by};
 
 use crate::flows::Flows;
 use crate::group::Kept;
@@ -36,8 +35,8 @@ pub struct Table<'a> {
 }
 
 impl<'a> Model for Table<'a> {
-    ghost use Rattle.fs_rules.specs.Held.{Held};
-    ghost use Rattle.fs_rules.specs.Kept.{routes_of, Keeps};
+    ghost use Rattle.fs_rules.specs.Table.{Held};
+    ghost use Rattle.fs_rules.specs.Group.{routes_of, Keeps};
 
     ghost Value = { Held };
 
@@ -68,7 +67,7 @@ impl<'a> Table<'a> {
         actions: Actions,
         steps: &mut Steps<L>,
     ) -> Result<(), Memory>
-        ensures ok { OnOk result (self.new ≡ record self.old { flows = put_route (record { peer = peer; rule = rule; path = path; actions = actions }) self.old.flows }) }
+        ensures ok { OnOk result (self.new ≡ with_flow peer rule path actions self.old) }
         ensures err { OnErr result (self.new ≡ self.old) }
         ensures later { steps.old ≤ steps.new }
         ensures steps { steps.new ≤ steps.old + 1 }
@@ -79,8 +78,8 @@ impl<'a> Table<'a> {
             path,
             actions,
         };
-        let mark = valid(&self.unicast, self.config, &route, steps);
-        self.flows.put(Kept { route, mark })?;
+        let validity = valid(&self.unicast, self.config, &route, steps);
+        self.flows.put(Kept { route, validity })?;
         Ok(())
     }
 
@@ -94,7 +93,7 @@ impl<'a> Table<'a> {
         path: Path,
         steps: &mut Steps<L>,
     ) -> Result<(), Memory>
-        ensures ok { OnOk result (self.new ≡ record self.old { unicast = insert_entry place_cmp self.old.unicast (record { prefix = prefix; peer = peer }) path }) }
+        ensures ok { OnOk result (self.new ≡ with_path peer prefix path self.old) }
         ensures err { OnErr result (self.new ≡ self.old) }
         ensures later { steps.old ≤ steps.new }
         ensures steps { steps.new ≤ steps.old + related_count prefix self.old.flows }
@@ -127,8 +126,8 @@ impl<'a> Table<'a> {
         prefix: &Prefix,
         steps: &mut Steps<L>,
     ) -> bool
-        ensures removed { self.new ≡ record self.old { unicast = remove_entry (is_at (place_cmp (record { prefix = prefix.now; peer = peer }))) self.old.unicast } }
-        ensures held { result ≡ is_some (lookup (is_at (place_cmp (record { prefix = prefix.now; peer = peer }))) self.old.unicast) }
+        ensures removed { self.new ≡ without_path peer prefix.now self.old }
+        ensures held { result ≡ has_path peer prefix.now self.old.unicast }
         ensures later { steps.old ≤ steps.new }
         ensures steps { steps.new ≤ steps.old + related_count prefix.now self.old.flows }
     {
@@ -141,7 +140,7 @@ impl<'a> Table<'a> {
 
     /// Takes away all that the peer holds. At most as many steps as all withdrawals of its unicast routes would take.
     pub fn lose<L: Ledger>(&mut self, peer: u16, steps: &mut Steps<L>)
-        ensures removed { self.new ≡ record self.old { unicast = without_peer_unicast peer self.old.unicast; flows = without_peer_flows peer self.old.flows } }
+        ensures removed { self.new ≡ without_peer peer self.old }
         ensures later { steps.old ≤ steps.new }
         ensures steps { steps.new ≤ steps.old + related_sum peer self.old.unicast self.old.flows }
     {
@@ -174,13 +173,15 @@ impl<'a> Table<'a> {
     pub fn admitted(&self, family: Family) -> Result<Vec<Admitted<'_>>, Memory>
         ensures list { IfOk result (λ list. map shown_admitted list.items ≡ map listed (admitted family self.now)) }
         ensures admitted { IsAdmitted family self.now (admitted family self.now) }
+        ensures rules { AllByRecursion (IsRuleOf family) (admitted family self.now) }
     {
         self.flows.admitted(family)
     }
 
     /// All held flow routes of the family with their validity, in the order of rules, then by peer.
     pub fn held(&self, family: Family) -> Result<Vec<HeldFlow<'_>>, Memory>
-        ensures { IfOk result (λ list. map shown_held list.items ≡ held_flows family self.now) }
+        ensures list { IfOk result (λ list. map shown_held list.items ≡ held_flows family self.now) }
+        ensures ordered { AreRising (held_flows family self.now) }
     {
         self.flows.held(family)
     }

@@ -1,5 +1,5 @@
 use Rattle.std.proofs.Common.{◌≡◌, drop}
-use Rattle.fs_rules.specs.Kept.{is_beaten}
+use Rattle.fs_rules.specs.Group.{is_beaten}
 use Rattle.fs_rules.proofs.group.is_beaten.Given as goal
 
 abbrev pub invariant-loop-s : goal.invariant-loop-s

@@ -1,5 +1,5 @@
 use Rattle.std.proofs.Common.{◌≡◌, sym, ◌∙◌, ap, ap₂, insert, set, slice_get}
-use Rattle.fs_rules.specs.Kept.{has_key_at, place_in}
+use Rattle.fs_rules.specs.Group.{has_key_at, place_in}
 use Rattle.fs_rules.proofs.Placing.{put_over, put_into}
 use Rattle.fs_rules.proofs.group.put.Goals as goal
 

@@ -1,6 +1,6 @@
 use Rattle.std.proofs.Common.{◌≡◌, ◌<◌, ◌+◌, ap, ◌∙◌, set, get_or, length, take, map, drop, ◌++◌, arith}
 use Rattle.std.proofs.lemmas.List.Edits.{map_over_more}
-use Rattle.fs_rules.specs.Kept.{retested}
+use Rattle.fs_rules.specs.Group.{retested}
 use Rattle.fs_rules.proofs.Placing.{get_or_again}
 use Rattle.fs_rules.proofs.group.retest_each.Goals as goal
 

@@ -1,5 +1,5 @@
 use Rattle.std.proofs.Common.{◌≡◌, ◌≤◌, ◌+◌, map, take, drop, ◌++◌}
-use Rattle.fs_rules.specs.Kept.{retested}
+use Rattle.fs_rules.specs.Group.{retested}
 use Rattle.fs_rules.proofs.group.retest_each.Given as goal
 
 abbrev pub invariant-loop-k : goal.invariant-loop-k

@@ -1,5 +1,5 @@
 use Rattle.std.proofs.Common.{◌≡◌, ◌<◌, sym, ◌∙◌, ap, ap₂, slice_get, remove, length, arith}
-use Rattle.fs_rules.specs.Kept.{has_key_at, place_in}
+use Rattle.fs_rules.specs.Group.{has_key_at, place_in}
 use Rattle.fs_rules.proofs.Placing.{any_here, take_here, none_here, inside_from_key}
 use Rattle.fs_rules.proofs.group.take.Goals as goal
 

@@ -3,7 +3,7 @@ use Rattle.std.specs.BTreeMap.{insert_entry, is_at}
 use Rattle.std.specs.Map.{set_value}
 use Rattle.std.proofs.lemmas.Map.Steps.{set_value_same}
 use Rattle.fs_base.specs.Prefix.{prefix_cmp}
-use Rattle.fs_rules.specs.Kept.{AreSorted, routes_of, put_kept}
+use Rattle.fs_rules.specs.Group.{AreSorted, routes_of, put_kept}
 use Rattle.fs_rules.proofs.Apart.{ok_weaker, err_weaker}
 use Rattle.fs_rules.proofs.Puts.{put_found, put_new, each_lookup}
 use Rattle.fs_rules.proofs.groups.put_at.Goals as goal

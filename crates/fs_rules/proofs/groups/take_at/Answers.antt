@@ -2,8 +2,8 @@ use Rattle.std.proofs.Common.{◌≡◌, true, false, sym, ◌∙◌, ap, not, l
 use Rattle.std.specs.BTreeMap.{is_at}
 use Rattle.std.specs.Map.{set_value, remove_entry}
 use Rattle.fs_base.specs.Prefix.{prefix_cmp}
-use Rattle.fs_rules.specs.Held.{is_key}
-use Rattle.fs_rules.specs.Kept.{AreSorted, routes_of}
+use Rattle.fs_rules.specs.Table.{is_key}
+use Rattle.fs_rules.specs.Group.{AreSorted, routes_of}
 use Rattle.fs_rules.proofs.Puts.{each_lookup}
 use Rattle.fs_rules.proofs.Takes.{taken_some, taken_all, taken_none}
 use Rattle.fs_rules.proofs.groups.take_at.Goals as goal

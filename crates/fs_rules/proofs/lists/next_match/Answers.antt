@@ -1,5 +1,5 @@
 use Rattle.std.proofs.Common.{◌≡◌, ◌+◌, ◌∷◌, ◌<◌, sym, ap, ◌∙◌, drop, length, arith}
-use Rattle.fs_rules.specs.Kept.{is_chosen}
+use Rattle.fs_rules.specs.Group.{is_chosen}
 use Rattle.fs_rules.proofs.Stepping.{rest_is, next_else, next_then, next_of, fewer, as_many}
 use Rattle.fs_rules.proofs.lists.next_match.Goals as goal
 use Rattle.fs_rules.proofs.lists.next_match.Goals.{then-is_chosen+else-is_next, else-is_chosen}

@@ -1,7 +1,7 @@
 use Rattle.std.proofs.Common.{◌≡◌, ◌++◌, map, drop}
 use Rattle.fs_rules.specs.Lent.{shown_held}
-use Rattle.fs_rules.specs.Marked.{marked}
+use Rattle.fs_rules.specs.Lists.{judgement}
 use Rattle.fs_rules.proofs.lists.push_held.Given as goal
 
 abbrev pub invariant-loop-k : goal.invariant-loop-k
-invariant-loop-k l = map shown_held l.list.items ++ map marked (drop l.k-index l.kept) ≡ map shown_held l.fn.list.items ++ map marked l.kept
+invariant-loop-k l = map shown_held l.list.items ++ map judgement (drop l.k-index l.kept) ≡ map shown_held l.fn.list.items ++ map judgement l.kept

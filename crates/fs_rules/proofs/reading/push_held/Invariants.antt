@@ -1,8 +1,8 @@
 use Rattle.std.proofs.Common.{◌≡◌, ◌++◌, map}
-use Rattle.fs_rules.specs.Grouped.{kept_in}
+use Rattle.fs_rules.specs.Groups.{kept_in}
 use Rattle.fs_rules.specs.Lent.{shown_held}
-use Rattle.fs_rules.specs.Marked.{marked}
+use Rattle.fs_rules.specs.Lists.{judgement}
 use Rattle.fs_rules.proofs.reading.push_held.Given as goal
 
 abbrev pub invariant-loop-group : goal.invariant-loop-group
-invariant-loop-group l = map shown_held l.list.items ++ map marked (kept_in l.group-iterator l.rest) ≡ map shown_held l.fn.list.items ++ map marked (kept_in l.groups.entries l.rest)
+invariant-loop-group l = map shown_held l.list.items ++ map judgement (kept_in l.group-iterator l.rest) ≡ map shown_held l.fn.list.items ++ map judgement (kept_in l.groups.entries l.rest)

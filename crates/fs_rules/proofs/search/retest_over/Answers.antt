@@ -3,7 +3,7 @@ use Rattle.std.specs.List.{AllByRecursion}
 use Rattle.std.specs.BTreeMap.{is_at}
 use Rattle.fs_base.specs.Prefix.{covers, prefix_cmp}
 use Rattle.fs_base.proofs.Nesting.{covers_self, covers_trans}
-use Rattle.fs_rules.specs.Grouped.{Mends}
+use Rattle.fs_rules.specs.Search.{Mends}
 use Rattle.fs_rules.proofs.Mending.{mends_none, mends_on, mends_both, mends_keys, along_keys}
 use Rattle.fs_rules.proofs.Searching.{over, none_over, all_over, apart_over, last_over, more_over, NoLonger}
 use Rattle.fs_rules.proofs.search.retest_over.Goals as goal

@@ -1,6 +1,6 @@
 use Rattle.std.proofs.Common.{◌≡◌, true}
 use Rattle.fs_base.specs.Prefix.{covers}
-use Rattle.fs_rules.specs.Grouped.{Mends}
+use Rattle.fs_rules.specs.Search.{Mends}
 use Rattle.fs_rules.proofs.Searching.{over}
 use Rattle.fs_rules.proofs.search.retest_over.Given as goal
 

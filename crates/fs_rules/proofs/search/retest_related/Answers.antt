@@ -1,6 +1,6 @@
 use Rattle.std.proofs.Common.{◌||◌, arith}
 use Rattle.fs_base.specs.Prefix.{covers}
-use Rattle.fs_validate.specs.Locality.{is_related}
+use Rattle.fs_validate.specs.Laws.{is_related}
 use Rattle.fs_rules.proofs.Mending.{mends_on, mends_both}
 use Rattle.fs_rules.proofs.Searching.{apart_parent, related_parent, related_whole}
 use Rattle.fs_rules.proofs.search.retest_related.Goals as goal

@@ -3,7 +3,7 @@ use Rattle.std.specs.Map.{keys_of}
 use Rattle.std.specs.BTreeMap.{is_at}
 use Rattle.std.specs.Ordering.{is_le}
 use Rattle.fs_base.specs.Prefix.{covers, prefix_cmp}
-use Rattle.fs_rules.specs.Grouped.{Mends, is_before}
+use Rattle.fs_rules.specs.Search.{Mends, is_before}
 use Rattle.fs_rules.proofs.Mending.{mends_none, mends_on, mends_both, mends_keys, along_keys, of_keys}
 use Rattle.fs_rules.proofs.Searching.{done, none_done, from_first, first_there, all_done, all_done_before, apart_now, one_more_done, next_from, next_there, left, left_falls, IsFrom, IsThere}
 use Rattle.fs_rules.proofs.search.retest_under.Goals as goal

@@ -1,5 +1,5 @@
 use Rattle.std.specs.Map.{keys_of}
-use Rattle.fs_rules.specs.Grouped.{Mends}
+use Rattle.fs_rules.specs.Search.{Mends}
 use Rattle.fs_rules.proofs.Searching.{done, IsFrom, IsThere, left}
 use Rattle.fs_rules.proofs.search.retest_under.Given as goal
 

@@ -1,5 +1,5 @@
 use Rattle.std.proofs.Common.{ap, ◌∙◌, option_map, slice_get}
-use Rattle.fs_rules.specs.Kept.{chosen}
+use Rattle.fs_rules.specs.Group.{chosen}
 use Rattle.fs_rules.specs.Lent.{listed}
 use Rattle.fs_rules.proofs.BothFamilies.{chosen_first, chosen_second, sorted_first, sorted_second}
 use Rattle.fs_rules.proofs.flows.Flows.admitted_at.Goals as goal

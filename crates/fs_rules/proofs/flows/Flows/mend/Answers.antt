@@ -1,6 +1,4 @@
-use Rattle.std.proofs.Common.{◌≤◌, ◌+◌, subst}
 use Rattle.fs_base.specs.declared.prefix.Family.TheVariants.{V4, V6}
-use Rattle.fs_rules.specs.Kept.{related_kept}
 use Rattle.fs_rules.proofs.BothFamilies.{mended_now, steps_both}
 use Rattle.fs_rules.proofs.flows.Flows.mend.Goals as goal
 
@@ -8,4 +6,4 @@ pub invariant_of-self : goal.invariant_of-self
 invariant_of-self g c = record { first = mended_now V4 c.args.prefix.now c.args.unicast.now c.args.config.now c.self.inside.v4 c.mend.new.self c.mend.ensures.mended c.self.invariant.first; second = mended_now V6 c.args.prefix.now c.args.unicast.now c.args.config.now c.self.inside.v6 c.mend-2.new.self c.mend-2.ensures.mended c.self.invariant.second }
 
 pub returns-clause-steps : goal.returns-clause-steps
-returns-clause-steps g c = subst (λ ks. c.mend-2.new.steps ≤ c.args.steps.now + related_kept c.args.prefix.now ks) c.self.view_is (steps_both c.args.prefix.now c.self.inside.v4 c.self.inside.v6 c.args.steps.now c.mend.new.steps c.mend-2.new.steps c.mend.ensures.steps c.mend-2.ensures.steps)
+returns-clause-steps g c = steps_both c.args.prefix.now c.self.inside.v4 c.self.inside.v6 c.args.self.now c.args.steps.now c.mend.new.steps c.mend-2.new.steps c.self.view_is c.mend.ensures.steps c.mend-2.ensures.steps

@@ -1,5 +1,5 @@
 use Rattle.std.proofs.Common.{ap, ◌∙◌}
-use Rattle.fs_rules.specs.Kept.{chosen, routes_of}
+use Rattle.fs_rules.specs.Group.{chosen, routes_of}
 use Rattle.fs_rules.specs.Walk.{next_match}
 use Rattle.fs_rules.proofs.BothFamilies.{chosen_first, chosen_second, sorted_first, sorted_second}
 use Rattle.fs_rules.proofs.flows.Flows.next_match.Goals as goal

@@ -1,7 +1,7 @@
 use Rattle.std.proofs.Common.{◌++◌, sym, ap, ◌∙◌}
 use Rattle.fs_base.specs.declared.prefix.Family.TheVariants.{V4, V6}
-use Rattle.fs_rules.specs.Grouped.{IsSound}
-use Rattle.fs_rules.specs.Kept.{put_kept}
+use Rattle.fs_rules.specs.Groups.{IsSound}
+use Rattle.fs_rules.specs.Group.{put_kept}
 use Rattle.fs_rules.proofs.Apart.{ok_weaker}
 use Rattle.fs_rules.proofs.BothFamilies.{each_now, put_first, put_second, sorted_first, sorted_second}
 use Rattle.fs_rules.proofs.flows.Flows.put.Goals as goal

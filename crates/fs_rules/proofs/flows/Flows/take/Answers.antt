@@ -1,7 +1,7 @@
 use Rattle.std.proofs.Common.{◌++◌, sym, ap, ◌∙◌, filter, not}
 use Rattle.std.specs.List.{list_any}
 use Rattle.fs_base.specs.declared.prefix.Family.TheVariants.{V4, V6}
-use Rattle.fs_rules.specs.Held.{is_key}
+use Rattle.fs_rules.specs.Table.{is_key}
 use Rattle.fs_rules.proofs.BothFamilies.{rules_of, filtered, take_first, take_second, held_first, held_second, sorted_first, sorted_second}
 use Rattle.fs_rules.proofs.flows.Flows.take.Goals as goal
 

@@ -1,6 +1,6 @@
 use Rattle.std.proofs.Common.{sym, ap, subst, ◌∙◌, ◌++◌, map}
-use Rattle.fs_rules.specs.Kept.{AreSorted, routes_of}
-use Rattle.fs_rules.specs.Marked.{chosen_in}
+use Rattle.fs_rules.specs.Group.{AreSorted, routes_of}
+use Rattle.fs_rules.specs.Reading.{chosen_in}
 use Rattle.fs_rules.specs.Lent.{listed, shown_admitted}
 use Rattle.fs_rules.proofs.Puts.{sorted_groups, sorted_rest}
 use Rattle.fs_rules.proofs.Grouping.{chosen_now}

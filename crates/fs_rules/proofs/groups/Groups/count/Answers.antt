@@ -1,5 +1,5 @@
 use Rattle.std.proofs.Common.{sym, ap, subst, ◌∙◌, length}
-use Rattle.fs_rules.specs.Kept.{AreSorted, routes_of}
+use Rattle.fs_rules.specs.Group.{AreSorted, routes_of}
 use Rattle.fs_rules.proofs.Puts.{sorted_groups, sorted_rest}
 use Rattle.fs_rules.proofs.Grouping.{chosen_now, few_chosen}
 use Rattle.fs_rules.proofs.groups.Groups.count.Goals as goal

@@ -1,5 +1,5 @@
 use Rattle.std.proofs.Common.{◌≤◌, ◌+◌, ap, ◌∙◌, map, subst}
-use Rattle.fs_rules.specs.Kept.{mended, related_kept}
+use Rattle.fs_rules.specs.Group.{mended, related_kept}
 use Rattle.fs_rules.proofs.Grouping.{grouped_mended, kept_mended, steps_mended}
 use Rattle.fs_rules.proofs.groups.Groups.mend.Goals as goal
 

@@ -1,7 +1,7 @@
 use Rattle.std.proofs.Common.{rules, ◌≡◌, ◌+◌, refl, sym, ap, subst, ◌∙◌, arith}
 use Rattle.std.specs.List.{AllByRecursion}
-use Rattle.fs_rules.specs.Kept.{AreSorted, routes_of, put_kept}
-use Rattle.fs_rules.specs.Grouped.{IsSound, kept_in}
+use Rattle.fs_rules.specs.Group.{AreSorted, routes_of, put_kept}
+use Rattle.fs_rules.specs.Groups.{IsSound, kept_in}
 use Rattle.fs_rules.proofs.Puts.{sorted_groups, sorted_rest, put_entries, put_rest}
 use Rattle.fs_rules.proofs.Grouping.{grouped_put, grouped_rest}
 use Rattle.fs_rules.proofs.groups.Groups.put.Goals as goal

@@ -1,10 +1,10 @@
 use Rattle.std.proofs.Common.{sym, ap, subst, ◌∙◌, not, filter}
 use Rattle.std.specs.List.{list_any, AllByRecursion}
 use Rattle.fs_nlri.specs.Rule.{IsRule}
-use Rattle.fs_rules.specs.Held.{is_key}
-use Rattle.fs_rules.specs.Grouped.{kept_in}
+use Rattle.fs_rules.specs.Table.{is_key}
+use Rattle.fs_rules.specs.Groups.{kept_in}
 use Rattle.fs_rules.proofs.Takes.{taken_kept, taken_held, taken_rest, held_rest}
-use Rattle.fs_rules.specs.Kept.{AreSorted, routes_of}
+use Rattle.fs_rules.specs.Group.{AreSorted, routes_of}
 use Rattle.fs_rules.proofs.Puts.{sorted_groups, sorted_rest}
 use Rattle.fs_rules.proofs.Grouping.{grouped_taken, grouped_taken_rest}
 use Rattle.fs_rules.proofs.groups.Groups.take.Goals as goal

@@ -1,5 +1,5 @@
 use Rattle.std.proofs.Common.{ap, ◌∙◌, length}
-use Rattle.fs_rules.specs.Kept.{chosen}
+use Rattle.fs_rules.specs.Group.{chosen}
 use Rattle.fs_rules.proofs.Chosen.{admitted_is, length-routes}
 use Rattle.fs_rules.proofs.table.Table.count.Goals as goal
 

@@ -1,8 +1,8 @@
 use Rattle.std.proofs.Common.{ap, ◌∙◌, slice_get, filter}
-use Rattle.fs_rules.specs.Admitted.{is_of_family}
-use Rattle.fs_rules.specs.Marked.{marked}
+use Rattle.fs_rules.specs.Table.{is_of_family}
+use Rattle.fs_rules.specs.Lists.{judgement}
 use Rattle.fs_rules.proofs.Chosen.{held_is, get-map}
 use Rattle.fs_rules.proofs.table.Table.held_flow.Goals as goal
 
 pub returns : goal.returns
-returns c = c.held_at.ensures ∙ get-map marked (filter (λ k. is_of_family c.args.family k.route) c.self.inside.flows) c.args.n ∙ ap (λ xs. slice_get xs c.args.n) (held_is c.args.family c.self.inside.config.now c.self.inside.unicast c.self.inside.flows c.args.self.now c.self.invariant c.self.view_is)
+returns c = c.held_at.ensures ∙ get-map judgement (filter (λ k. is_of_family c.args.family k.route) c.self.inside.flows) c.args.n ∙ ap (λ xs. slice_get xs c.args.n) (held_is c.args.family c.self.inside.config.now c.self.inside.unicast c.self.inside.flows c.args.self.now c.self.invariant c.self.view_is)

@@ -1,7 +1,7 @@
 use Rattle.std.proofs.Common.{ap, ◌∙◌, not, ◌==◌}
-use Rattle.fs_rules.specs.Held.{without_peer_flows}
-use Rattle.fs_rules.specs.Kept.{routes_of}
-use Rattle.fs_rules.proofs.Marks.{keeps-filter, routes-filter}
+use Rattle.fs_rules.specs.Table.{without_peer_flows}
+use Rattle.fs_rules.specs.Group.{routes_of}
+use Rattle.fs_rules.proofs.Changes.{keeps-filter, routes-filter}
 use Rattle.fs_rules.proofs.Chosen.{flows_changed, with_flows}
 use Rattle.fs_rules.proofs.table.Table.lose.Goals as goal
 

@@ -1,5 +1,5 @@
 use Rattle.std.proofs.Common.{sym, ap, ◌∙◌, option_map, slice_get}
-use Rattle.fs_rules.specs.Kept.{chosen, routes_of}
+use Rattle.fs_rules.specs.Group.{chosen, routes_of}
 use Rattle.fs_rules.specs.Lent.{listed}
 use Rattle.fs_rules.proofs.Chosen.{admitted_is, get-map, map-map}
 use Rattle.fs_rules.proofs.table.Table.rule.Goals as goal

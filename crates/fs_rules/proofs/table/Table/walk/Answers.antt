@@ -1,5 +1,5 @@
 use Rattle.std.proofs.Common.{ap, ◌∙◌}
-use Rattle.fs_rules.specs.Marked.{routes_chosen}
+use Rattle.fs_rules.specs.Lists.{routes_chosen}
 use Rattle.fs_rules.specs.Walk.{next_match}
 use Rattle.fs_rules.proofs.Chosen.{admitted_is}
 use Rattle.fs_rules.proofs.table.Table.walk.Goals as goal

@@ -1,7 +1,7 @@
 use Rattle.std.proofs.Common.{ap, ◌∙◌, not}
-use Rattle.fs_rules.specs.Held.{is_key, without_route, has_route}
-use Rattle.fs_rules.specs.Kept.{routes_of}
-use Rattle.fs_rules.proofs.Marks.{keeps-filter, routes-filter, any-routes}
+use Rattle.fs_rules.specs.Table.{is_key, without_route, has_route}
+use Rattle.fs_rules.specs.Group.{routes_of}
+use Rattle.fs_rules.proofs.Changes.{keeps-filter, routes-filter, any-routes}
 use Rattle.fs_rules.proofs.Chosen.{flows_changed}
 use Rattle.fs_rules.proofs.table.Table.withdraw_flow.Goals as goal
 

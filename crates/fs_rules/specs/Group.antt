@@ -1,4 +1,4 @@
--- Flow routes kept with their marks.
+-- Flow routes kept with their validities.
 use Rattle.std.specs.Prelude.{◌≡◌, ℕ, ◌+◌, ◌&&◌, not, Bool, false, Option, Some, None, List, [], ◌∷◌, map, filter, if◌then◌else◌}
 use Rattle.std.specs.List.{list_any, AllByRecursion}
 use Rattle.std.specs.Ordering.{match_ordering}
@@ -7,21 +7,20 @@ use Rattle.fs_base.specs.declared.config.Config.{Config}
 use Rattle.fs_base.specs.declared.prefix.Family.{Family}
 use Rattle.fs_base.specs.declared.prefix.Prefix.{Prefix}
 use Rattle.fs_nlri.specs.Parts.{Ruled}
-use Rattle.fs_unicast.specs.Places.{Route}
-use Rattle.fs_validate.specs.Destination.{destination_prefix}
+use Rattle.fs_unicast.specs.Preference.{preferred}
+use Rattle.fs_unicast.specs.Unicast.{Route}
+use Rattle.fs_nlri.specs.Rule.{destination_prefix}
 use Rattle.fs_validate.specs.Validity.{validity}
 use Rattle.fs_validate.specs.declared.route.FlowRoute.{FlowRoute}
 use Rattle.fs_rules.specs.declared.group.Kept.{Kept}
-use Rattle.fs_rules.specs.Held.{key_cmp, is_key}
-use Rattle.fs_rules.specs.Related.{has_related}
-use Rattle.fs_rules.specs.Admitted.{is_of_family, is_valid, beats}
+use Rattle.fs_rules.specs.Table.{key_cmp, is_key, has_related, is_of_family, is_valid, beats}
 
 abbrev pub routes_of : List Kept → List FlowRoute
 routes_of kept = map (λ k. k.route) kept
 
--- each mark is the validity of its route
+-- each validity is that of its route
 abbrev pub AreRight : List Route → Config → List Kept → Type 0
-AreRight unicast config kept = AllByRecursion (λ k. k.mark ≡ validity unicast config k.route) kept
+AreRight unicast config kept = AllByRecursion (λ k. k.validity ≡ validity unicast config k.route) kept
 
 -- each is before those after it
 abbrev pub AreSorted : List FlowRoute → Type 0
@@ -32,10 +31,11 @@ pub record Keeps (config : Config) (unicast : List Route) (kept : List Kept) : T
   pub right : AreRight unicast config kept
   pub sorted : AreSorted (routes_of kept)
 
--- put_route, of routes with their marks
+-- put_route, of routes with their validities
 abbrev pub put_kept : Kept → List Kept → List Kept
 put_kept k [] = k ∷ []
-put_kept k (x ∷ xs) = match_ordering (key_cmp k.route.rule k.route.peer x.route) (k ∷ x ∷ xs) (k ∷ xs) (x ∷ put_kept k xs)
+put_kept k (x ∷ xs) =
+    match_ordering (key_cmp k.route.rule k.route.peer x.route) (k ∷ x ∷ xs) (k ∷ xs) (x ∷ put_kept k xs)
 
 -- how many stand before a key
 abbrev pub place_in : Ruled → ℕ → List Kept → ℕ
@@ -46,7 +46,7 @@ abbrev pub is_related_kept : Prefix → Kept → Bool
 is_related_kept prefix k = has_related prefix (destination_prefix k.route.rule)
 
 abbrev pub retested : List Route → Config → Kept → Kept
-retested unicast config k = record { route = k.route; mark = validity unicast config k.route }
+retested unicast config k = record { route = k.route; validity = validity unicast config k.route }
 
 -- validated anew where it is related to the prefix
 abbrev pub mended : Prefix → List Route → Config → Kept → Kept
@@ -57,17 +57,32 @@ abbrev pub related_kept : Prefix → List Kept → ℕ
 related_kept prefix [] = 0
 related_kept prefix (k ∷ ks) = (if is_related_kept prefix k then 1 else 0) + related_kept prefix ks
 
--- what the marks tell of the most preferred valid route of a rule
+-- s is valid and preferred to k
+abbrev pub is_better : Kept → Kept → Bool
+is_better s k = is_valid s.validity && preferred (s.route.peer, s.route.path) (k.route.peer, k.route.path)
+
+-- a route of another key
+abbrev pub is_other_key : Ruled → ℕ → Kept → Bool
+is_other_key rule peer k = not (is_key rule peer k.route)
+
+abbrev pub has_key : Ruled → ℕ → List Kept → Bool
+has_key rule peer kept = list_any (λ k. is_key rule peer k.route) kept
+
+-- those of a family
+abbrev pub of_family : Family → List Kept → List Kept
+of_family family kept = filter (λ k. is_of_family family k.route) kept
+
+-- what the validities tell of the most preferred valid route of a rule
 abbrev pub is_beaten : List Kept → Kept → Bool
-is_beaten kept k = list_any (λ s. is_valid s.mark && beats s.route k.route) kept
+is_beaten kept k = list_any (λ s. is_valid s.validity && beats s.route k.route) kept
 
 abbrev pub is_chosen : Family → List Kept → Kept → Bool
-is_chosen family kept k = is_of_family family k.route && (is_valid k.mark && not (is_beaten kept k))
+is_chosen family kept k = is_of_family family k.route && (is_valid k.validity && not (is_beaten kept k))
 
 abbrev pub has_key_at : Ruled → ℕ → Option Kept → Bool
 has_key_at rule peer None = false
 has_key_at rule peer (Some k) = is_key rule peer k.route
 
--- the admitted rules of a family, by the marks
+-- the admitted rules of a family, by the validities
 abbrev pub chosen : Family → List Kept → List Kept
 chosen family kept = filter (is_chosen family kept) kept

@@ -1,4 +1,4 @@
--- What a change does to the routes, to the marks and to the order.
+-- What a change does to the routes, to their validities and to the order.
 use Rattle.std.proofs.Common.{◌≡◌, ◌+◌, refl, sym, ap, subst, ◌∙◌, Bool, true, false, true≢false, ◌||◌, cond, List, [], ◌∷◌, filter, map, Option, Some, None, Ordering, Less, Equal, Greater, is_eq, nat_cmp, is_some}
 use Rattle.std.specs.List.{list_any, AllByRecursion}
 use Rattle.std.specs.Ordering.{match_ordering, ordering_then, ordering_reverse}
@@ -12,17 +12,16 @@ use Rattle.fs_base.specs.Prefix.{covers, prefix_cmp}
 use Rattle.fs_base.proofs.Listing.{each_weaker, filter-insert_other, filter-remove_other}
 use Rattle.fs_base.proofs.Nesting.{alike_covers, covers_alike}
 use Rattle.fs_order.specs.Total.{rule_total}
-use Rattle.fs_unicast.specs.Places.{Route, place_cmp}
+use Rattle.fs_unicast.specs.Unicast.{Route, place_cmp}
 use Rattle.fs_unicast.specs.declared.unicast.Place.{Place}
-use Rattle.fs_validate.specs.Destination.{destination_prefix}
-use Rattle.fs_validate.specs.Locality.{is_related, related}
+use Rattle.fs_nlri.specs.Rule.{destination_prefix}
+use Rattle.fs_validate.specs.Laws.{is_related, related}
 use Rattle.fs_validate.specs.Validity.{validity, validity_to}
 use Rattle.fs_validate.specs.declared.route.FlowRoute.{FlowRoute}
 use Rattle.fs_validate.proofs.Local.{validity_local}
 use Rattle.fs_rules.specs.declared.group.Kept.{Kept}
-use Rattle.fs_rules.specs.Held.{key_cmp, put_route}
-use Rattle.fs_rules.specs.Related.{has_related, related_count}
-use Rattle.fs_rules.specs.Kept.{routes_of, AreRight, AreSorted, Keeps, put_kept, mended, retested, is_related_kept, related_kept}
+use Rattle.fs_rules.specs.Table.{key_cmp, put_route, has_related, related_count}
+use Rattle.fs_rules.specs.Group.{routes_of, AreRight, AreSorted, Keeps, put_kept, mended, retested, is_related_kept, related_kept}
 
 -- The order of keys is total.
 abbrev pub flow_cmp : FlowRoute → FlowRoute → Ordering
@@ -57,8 +56,8 @@ each-put_route P r h (x ∷ xs) all = at (key_cmp r.rule r.peer x) (each-put_rou
   at Equal ih = (h, all.1)
   at Greater ih = (all.0, ih)
 
-turned : (r s : FlowRoute) → flow_cmp r s ≡ Greater → flow_cmp s r ≡ Less
-turned r s h = flow_total.antisymm s r ∙ ap ordering_reverse h
+swapped : (r s : FlowRoute) → flow_cmp r s ≡ Greater → flow_cmp s r ≡ Less
+swapped r s h = flow_total.antisymm s r ∙ ap ordering_reverse h
 
 pub sorted-put : (r : FlowRoute) (rs : List FlowRoute) → AreSorted rs → AreSorted (put_route r rs)
 sorted-put r [] h = (tt, tt)
@@ -66,11 +65,11 @@ sorted-put r (x ∷ xs) h = at (key_cmp r.rule r.peer x) refl (sorted-put r xs h
   at : (o : Ordering) → key_cmp r.rule r.peer x ≡ o → AreSorted (put_route r xs) → AreSorted (match_ordering o (r ∷ x ∷ xs) (r ∷ xs) (x ∷ put_route r xs))
   at Less e ih = ((e, each_weaker (λ s. flow_cmp x s ≡ Less) (λ s. flow_cmp r s ≡ Less) (λ s k. flow_total.trans r x s e k) xs h.0), h)
   at Equal e ih = (each_weaker (λ s. flow_cmp x s ≡ Less) (λ s. flow_cmp r s ≡ Less) (λ s k. flow_total.congr r x s e ∙ k) xs h.0, h.1)
-  at Greater e ih = (each-put_route (λ s. flow_cmp x s ≡ Less) r (turned r x e) xs h.0, ih)
+  at Greater e ih = (each-put_route (λ s. flow_cmp x s ≡ Less) r (swapped r x e) xs h.0, ih)
 
-pub keeps-put : (config : Config) (unicast : List Route) (k : Kept) (ks : List Kept) → k.mark ≡ validity unicast config k.route → Keeps config unicast ks → Keeps config unicast (put_kept k ks)
+pub keeps-put : (config : Config) (unicast : List Route) (k : Kept) (ks : List Kept) → k.validity ≡ validity unicast config k.route → Keeps config unicast ks → Keeps config unicast (put_kept k ks)
 keeps-put config unicast k ks h keeps = record {
-  right = each-put (λ k. k.mark ≡ validity unicast config k.route) k h ks keeps.right;
+  right = each-put (λ k. k.validity ≡ validity unicast config k.route) k h ks keeps.right;
   sorted = subst AreSorted (sym (routes-put k ks)) (sorted-put k.route (routes_of ks) keeps.sorted);
 }
 
@@ -98,7 +97,7 @@ sorted-filter p (r ∷ rs) h = at (p r) (sorted-filter p rs h.1) where
 
 pub keeps-filter : (config : Config) (unicast : List Route) (p : FlowRoute → Bool) (ks : List Kept) → Keeps config unicast ks → Keeps config unicast (filter (λ k. p k.route) ks)
 keeps-filter config unicast p ks keeps = record {
-  right = each-filter (λ k. k.mark ≡ validity unicast config k.route) (λ k. p k.route) ks keeps.right;
+  right = each-filter (λ k. k.validity ≡ validity unicast config k.route) (λ k. p k.route) ks keeps.right;
   sorted = subst AreSorted (sym (routes-filter p ks)) (sorted-filter p (routes_of ks) keeps.sorted);
 }
 
@@ -128,7 +127,7 @@ unrelated config r (Some d) p old new agree h = validity_local config r (Some d)
 right-mended : (config : Config) (p : Prefix) (old new : List Route) → AgreeOff p old new → (ks : List Kept) → AreRight old config ks → AreRight new config (map (mended p new config) ks)
 right-mended config p old new agree [] h = tt
 right-mended config p old new agree (k ∷ ks) h = (at (is_related_kept p k) refl, right-mended config p old new agree ks h.1) where
-  at : (b : Bool) → is_related_kept p k ≡ b → (cond b (retested new config k) k).mark ≡ validity new config (cond b (retested new config k) k).route
+  at : (b : Bool) → is_related_kept p k ≡ b → (cond b (retested new config k) k).validity ≡ validity new config (cond b (retested new config k) k).route
   at true e = refl
   at false e = h.0 ∙ unrelated config k.route (destination_prefix k.route.rule) p old new agree e
 
@@ -146,8 +145,8 @@ related_is_count p (k ∷ ks) = ap (λ n. cond (is_related_kept p k) 1 0 + n) (r
 is_related_same : (d p q : Prefix) → is_eq (prefix_cmp p q) ≡ true → is_related d p ≡ is_related d q
 is_related_same d p q h = let e : covers p d ≡ covers q d = alike_covers p q d h in let f : covers d p ≡ covers d q = covers_alike p q d h in cc
 
-turn_related : (p d : Prefix) → is_related p d ≡ false → is_related d p ≡ false
-turn_related p d h = at (covers d p) (covers p d) h where
+related_back : (p d : Prefix) → is_related p d ≡ false → is_related d p ≡ false
+related_back p d h = at (covers d p) (covers p d) h where
   at : (a b : Bool) → (a || b) ≡ false → (b || a) ≡ false
   at true b e = absurd (true≢false e)
   at false b e = at2 b e where
@@ -163,7 +162,7 @@ first_equal Greater q h = h
 pub agree_insert : (place : Place) (path : Path) (unicast : List Route) → AgreeOff place.prefix unicast (insert_entry place_cmp unicast place path)
 agree_insert place path unicast d h = sym (filter-insert_other place_cmp (λ q. is_related d q.prefix) place path out same unicast) where
   out : is_related d place.prefix ≡ false
-  out = turn_related place.prefix d h
+  out = related_back place.prefix d h
 
   same : (q : Place) → place_cmp place q ≡ Equal → is_related d q.prefix ≡ false
   same q e = sym (is_related_same d place.prefix q.prefix (first_equal (prefix_cmp place.prefix q.prefix) (nat_cmp place.peer q.peer) (ap is_eq e))) ∙ out
@@ -171,7 +170,7 @@ agree_insert place path unicast d h = sym (filter-insert_other place_cmp (λ q. 
 pub agree_remove : (place : Place) (unicast : List Route) → AgreeOff place.prefix unicast (remove_entry (is_at (place_cmp place)) unicast)
 agree_remove place unicast d h = sym (filter-remove_other (λ q. is_related d q.prefix) (is_at (place_cmp place)) same unicast) where
   same : (q : Place) → is_at (place_cmp place) q ≡ true → is_related d q.prefix ≡ false
-  same q e = sym (is_related_same d place.prefix q.prefix (first_equal (prefix_cmp place.prefix q.prefix) (nat_cmp place.peer q.peer) e)) ∙ turn_related place.prefix d h
+  same q e = sym (is_related_same d place.prefix q.prefix (first_equal (prefix_cmp place.prefix q.prefix) (nat_cmp place.peer q.peer) e)) ∙ related_back place.prefix d h
 
 -- nothing is removed where nothing is found
 pub remove_nothing : {K X : Type 0} (test : K → Bool) (es : List (K × X)) → is_some (lookup test es) ≡ false → remove_entry test es ≡ es

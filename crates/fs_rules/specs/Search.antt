@@ -1,0 +1,45 @@
+-- Groups found by their destination, and what validating their routes anew does.
+use Rattle.std.specs.Prelude.{◌≡◌, ℕ, ◌+◌, ◌≤◌, Bool, true, Option, Some, None, List, [], ◌∷◌, map, length, MatchOption, if◌then◌else◌}
+use Rattle.std.specs.BTreeMap.{BTreeMap}
+use Rattle.std.specs.List.{list_any, AllByRecursion}
+use Rattle.std.specs.Ordering.{is_eq, is_lt, is_le}
+use Rattle.fs_base.specs.declared.config.Config.{Config}
+use Rattle.fs_base.specs.declared.prefix.Prefix.{Prefix}
+use Rattle.fs_base.specs.Prefix.{prefix_cmp}
+use Rattle.fs_unicast.specs.Unicast.{Route}
+use Rattle.fs_rules.specs.declared.group.Kept.{Kept}
+use Rattle.fs_rules.specs.Group.{retested}
+use Rattle.fs_rules.specs.Groups.{Entry}
+
+-- the groups whose destination passes are validated anew
+abbrev pub touched : List Route → Config → (Prefix → Bool) → Entry → Entry
+touched unicast config test e = if test e.0 then (e.0, map (retested unicast config) e.1) else e
+
+-- how many routes have a destination that passes
+abbrev pub size : (Prefix → Bool) → List Entry → ℕ
+size test [] = 0
+size test (e ∷ es) = (if test e.0 then length e.1 else 0) + size test es
+
+module _ (unicast : List Route) (config : Config) where
+  pub record Mends (test : Prefix → Bool) (old new : List Entry) (before after : ℕ) : Type 0 where
+    pub entries : new ≡ map (touched unicast config test) old
+    pub later : before ≤ after
+    pub steps : after ≤ before + size test old
+
+abbrev pub GroupMap : Type 0
+GroupMap = BTreeMap Prefix (List Kept)
+
+-- of two maps
+abbrev pub Mended : List Route → Config → (Prefix → Bool) → GroupMap → GroupMap → ℕ → ℕ → Type 0
+Mended unicast config test old new before after = Mends unicast config test old.entries new.entries before after
+
+-- before the next key, if there is one
+abbrev pub is_before : Option Prefix → Prefix → Bool
+is_before None q = true
+is_before (Some n) q = is_lt (prefix_cmp q n)
+
+-- the next key after `low`: the keys before it are those up to `low`
+pub record IsNextAfter (groups : List Entry) (low : Prefix) (next : Option Prefix) : Type 0 where
+  pub there : MatchOption next (Unit {0}) (λ n. list_any (λ e. is_eq (prefix_cmp n e.0)) groups ≡ true)
+  pub from : MatchOption next (Unit {0}) (λ n. is_lt (prefix_cmp low n) ≡ true)
+  pub before : AllByRecursion (λ e. is_before next e.0 ≡ is_le (prefix_cmp e.0 low)) groups
