@@ -4,27 +4,27 @@
 #![tactic(auto)]
 
 mod capture;
+mod case_files;
 mod fields;
 mod message;
+mod named;
 mod outcome;
-mod pieces;
-mod scene;
-mod script;
+mod runner;
 mod shape;
 mod tape;
 
+use case_files::CaseFiles;
 use fs_cases::Fault;
-use script::Script;
 use std::process::ExitCode;
 use std::rt::{Env, Files};
 use std::{env, fs};
 
 /// Reads the case files that the arguments name, one after the other.
 fn read_all(rt: &(impl Env + Files + Print + AllocGlobal)) -> Result<(), Fault> {
-    let mut script = Script::new(rt.alloc());
+    let mut case_files = CaseFiles::new(rt.alloc());
     for name in env::args(rt)?.skip(1) {
         let text = fs::read_to_string(rt, name.as_str())?;
-        script.read(rt, name.as_str(), text.as_str())?;
+        case_files.read(rt, name.as_str(), text.as_str())?;
     }
     Ok(())
 }

@@ -1,6 +1,7 @@
 //! BGP messages (RFC 4271 section 4), whose lengths are reckoned.
 
-use crate::pieces::Pieces;
+use crate::fields::field_of;
+use crate::named::NamedOctets;
 use fs_cases::Fault;
 use std::alloc::Global;
 
@@ -27,28 +28,32 @@ fn append_counted(field: &[u8], body: &mut Vec<u8>) -> Result<(), Fault> {
 }
 
 /// A path attribute with a length of one octet: flags and type, and then the value.
-fn append_attribute(pieces: &Pieces, attribute: &str, field: &mut Vec<u8>) -> Result<(), Fault> {
+fn append_attribute(
+    named: &NamedOctets,
+    attribute: &str,
+    field: &mut Vec<u8>,
+) -> Result<(), Fault> {
     let (head, value) = match attribute.split_once(' ') {
         Some((head, value)) => (head, value),
         None => (attribute, ""),
     };
-    let value = pieces.octets(value)?;
+    let value = named.octets(value)?;
     let Ok(length) = u8::try_from(value.len()) else {
         return Err(Fault::TooLarge);
     };
-    field.extend_from_slice(&pieces.octets(head)?)?;
+    field.extend_from_slice(&named.octets(head)?)?;
     field.push(length)?;
     field.extend_from_slice(&value)?;
     Ok(())
 }
 
 /// Path attributes with commas between them.
-fn attributes(alloc: Global, pieces: &Pieces, text: &str) -> Result<Vec<u8>, Fault> {
+fn attributes(alloc: Global, named: &NamedOctets, text: &str) -> Result<Vec<u8>, Fault> {
     let mut field = Vec::new(alloc);
     for attribute in text.split(',') {
         let attribute = attribute.trim();
         if !attribute.is_empty() {
-            append_attribute(pieces, attribute, &mut field)?;
+            append_attribute(named, attribute, &mut field)?;
         }
     }
     Ok(field)
@@ -69,55 +74,36 @@ fn update_body(
 }
 
 /// An UPDATE: withdrawn prefixes, attributes and announced prefixes, with `|` between them.
-pub fn update(alloc: Global, pieces: &Pieces, fields: &str) -> Result<Vec<u8>, Fault> {
-    let Some((withdrawn, others)) = fields.split_once('|') else {
-        return Err(Fault::NoField);
-    };
-    let Some((listed, announced)) = others.split_once('|') else {
-        return Err(Fault::NoField);
-    };
+pub fn update(alloc: Global, named: &NamedOctets, fields: &str) -> Result<Vec<u8>, Fault> {
+    let (withdrawn, others) = field_of(fields)?;
+    let (listed, announced) = field_of(others)?;
     let body = update_body(
         alloc,
-        &pieces.octets(withdrawn)?,
-        &attributes(alloc, pieces, listed)?,
-        &pieces.octets(announced)?,
+        &named.octets(withdrawn)?,
+        &attributes(alloc, named, listed)?,
+        &named.octets(announced)?,
     )?;
     message(alloc, 2, &body)
 }
 
 /// An UPDATE that announces IPv4 prefixes: the AS_PATH, the next hop and the prefixes.
-pub fn unicast(alloc: Global, pieces: &Pieces, fields: &str) -> Result<Vec<u8>, Fault> {
-    let Some((path, others)) = fields.split_once('|') else {
-        return Err(Fault::NoField);
-    };
-    let Some((hop, prefixes)) = others.split_once('|') else {
-        return Err(Fault::NoField);
-    };
-    let path = path.trim();
-    let hop = hop.trim();
+pub fn unicast(alloc: Global, named: &NamedOctets, fields: &str) -> Result<Vec<u8>, Fault> {
+    let (path, others) = field_of(fields)?;
+    let (hop, prefixes) = field_of(others)?;
     let text = format!(in alloc; "|4001 00,4002 {path},4003 {hop}|{prefixes}")?;
-    update(alloc, pieces, text.as_str())
+    update(alloc, named, text.as_str())
 }
 
 /// An UPDATE that announces rules: the AFI, the AS_PATH, the rules, each with its length, and the communities of their
 /// actions, if any.
-pub fn flow(alloc: Global, pieces: &Pieces, fields: &str) -> Result<Vec<u8>, Fault> {
-    let Some((afi, others)) = fields.split_once('|') else {
-        return Err(Fault::NoField);
-    };
-    let Some((path, others)) = others.split_once('|') else {
-        return Err(Fault::NoField);
-    };
-    let Some((rules, actions)) = others.split_once('|') else {
-        return Err(Fault::NoField);
-    };
-    let afi = afi.trim();
-    let path = path.trim();
-    let rules = rules.trim();
+pub fn flow(alloc: Global, named: &NamedOctets, fields: &str) -> Result<Vec<u8>, Fault> {
+    let (afi, others) = field_of(fields)?;
+    let (path, others) = field_of(others)?;
+    let (rules, actions) = field_of(others)?;
     let actions = actions.trim();
     let head = if actions.is_empty() { "" } else { "c010 " };
     let text = format!(in alloc;
         "|800e {afi} 85 00 00 {rules},4001 00,4002 {path},{head}{actions}|"
     )?;
-    update(alloc, pieces, text.as_str())
+    update(alloc, named, text.as_str())
 }

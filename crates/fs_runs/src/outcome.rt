@@ -2,7 +2,7 @@
 
 ghost use Rattle.std.specs.Prelude.{◌≤◌};
 
-use crate::pieces::Pieces;
+use crate::named::NamedOctets;
 use fs_base::{CalmWire, MemFiles, MemSink};
 use fs_cases::Fault;
 use std::alloc::Global;
@@ -52,11 +52,11 @@ pub struct Outcome {
 }
 
 /// The files that the words name.
-fn files_of(alloc: Global, pieces: &Pieces, terms: &Terms) -> Result<MemFiles, Fault> {
+fn files_of(alloc: Global, named: &NamedOctets, terms: &Terms) -> Result<MemFiles, Fault> {
     let failing = Vec::from_slice(alloc, &terms.failing_files)?;
     let mut files = MemFiles::new(alloc, failing);
     for word in &terms.words {
-        if let Some(content) = pieces.copy(word.as_str())? {
+        if let Some(content) = named.copy(word.as_str())? {
             files
                 .add(word.as_str(), content)
                 .map_err(|_| Fault::Memory)?;
@@ -66,8 +66,8 @@ fn files_of(alloc: Global, pieces: &Pieces, terms: &Terms) -> Result<MemFiles, F
 }
 
 /// Runs the words over the files that they name.
-pub fn ended(alloc: Global, pieces: &Pieces, terms: &Terms) -> Result<Outcome, Fault> {
-    let mut files = files_of(alloc, pieces, terms)?;
+pub fn ended(alloc: Global, named: &NamedOctets, terms: &Terms) -> Result<Outcome, Fault> {
+    let mut files = files_of(alloc, named, terms)?;
     let failing = Vec::from_slice(alloc, &terms.failing_writes)?;
     let mut sink = MemSink::new(alloc, terms.room, failing).map_err(|_| Fault::Memory)?;
     let limit = terms.limit.max(1);

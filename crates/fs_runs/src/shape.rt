@@ -68,5 +68,5 @@ fn append_filled(part: &str, fields: &[&str], text: &mut String) -> Result<(), F
             return Ok(());
         }
     }
-    return Err(Fault::NoField)
+    Err(Fault::NoField)
 }

@@ -1,24 +1,25 @@
 //! A case file, from its first line to its last.
 
-use crate::scene::Scene;
+use crate::fields::word_of;
+use crate::runner::Runner;
 use crate::shape::Shape;
 use fs_cases::{Fault, Tally, number, parts};
 use std::alloc::Global;
 
 /// What the case files so far have made. The files that one defines stay for the next.
 #[derive(Drop)]
-pub struct Script {
+pub struct CaseFiles {
     alloc: Global,
-    scene: Scene,
+    runner: Runner,
     shape: Shape,
     in_shape: bool,
 }
 
-impl Script {
-    pub fn new(alloc: Global) -> Script {
-        Script {
+impl CaseFiles {
+    pub fn new(alloc: Global) -> CaseFiles {
+        CaseFiles {
             alloc,
-            scene: Scene::new(alloc),
+            runner: Runner::new(alloc),
             shape: Shape::new(alloc),
             in_shape: false,
         }
@@ -55,7 +56,7 @@ impl Script {
             }
             Some(("row", row)) => self.row(rt, tally, row),
             Some(("rows", rows)) => self.rows(rt, tally, rows),
-            _ => self.scene.line(rt, tally, line),
+            _ => self.runner.line(rt, tally, line),
         }
     }
 
@@ -71,7 +72,7 @@ impl Script {
     fn row<R: Print>(&mut self, rt: &R, tally: &mut Tally, row: &str) -> Result<(), Fault> {
         let lines = self.shape.filled(row)?;
         for line in &lines {
-            self.scene.line(rt, tally, line.as_str())?;
+            self.runner.line(rt, tally, line.as_str())?;
         }
         Ok(())
     }
@@ -81,9 +82,7 @@ impl Script {
         let Some((range, others)) = rows.split_once(';') else {
             return Err(Fault::NoField);
         };
-        let Some((first, last)) = range.trim().split_once(' ') else {
-            return Err(Fault::NoField);
-        };
+        let (first, last) = word_of(range.trim())?;
         for place in number(first)?..number(last)?.saturating_add(1) {
             let row = format!(in self.alloc; "{place};{others}")?;
             self.row(rt, tally, row.as_str())?;

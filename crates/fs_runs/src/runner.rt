@@ -1,8 +1,8 @@
 //! What the lines of a case file make: the files of the runs, what a run is given, and what it must write.
 
-use crate::fields::{count, octet, peer, wide};
+use crate::fields::{count, octet, peer, wide, word_of};
+use crate::named::NamedOctets;
 use crate::outcome::{Outcome, Terms, ended};
-use crate::pieces::Pieces;
 use crate::tape::Kind;
 use crate::{capture, message, tape};
 use fs_cases::{Fault, Tally, number, parts};
@@ -11,21 +11,28 @@ use std::alloc::Global;
 /// The most calls that are made to fail in turn.
 const CALLS: u64 = 1000;
 
+/// Whose calls are made to fail.
+#[derive(Clone, Copy, Drop)]
+enum Called {
+    Files,
+    Output,
+}
+
 /// Files, what the next run is given, and what it must write.
 #[derive(Drop)]
-pub struct Scene {
+pub struct Runner {
     alloc: Global,
-    pieces: Pieces,
+    named: NamedOctets,
     terms: Terms,
     case: String,
     expected: String,
 }
 
-impl Scene {
-    pub fn new(alloc: Global) -> Scene {
-        Scene {
+impl Runner {
+    pub fn new(alloc: Global) -> Runner {
+        Runner {
             alloc,
-            pieces: Pieces::new(alloc),
+            named: NamedOctets::new(alloc),
             terms: Terms::new(alloc),
             case: String::new(alloc),
             expected: String::new(alloc),
@@ -40,12 +47,8 @@ impl Scene {
         if word != "times" {
             return self.follow(rt, tally, word, rest);
         }
-        let Some((times, line)) = rest.split_once(' ') else {
-            return Err(Fault::NoField);
-        };
-        let Some((word, rest)) = line.split_once(' ') else {
-            return Err(Fault::NoField);
-        };
+        let (times, line) = word_of(rest)?;
+        let (word, rest) = word_of(line)?;
         for place in 0..number(times)? {
             let rest = self.numbered(rest, place.saturating_add(1))?;
             self.follow(rt, tally, word, rest.as_str())?;
@@ -82,7 +85,7 @@ impl Scene {
             "limit" | "room" | "fail_file" | "fail_write" => self.set(word, rest),
             "ends" | "stops" => self.end_case(rt, tally, word, rest),
             "calls" => self.count_calls(rt, tally, rest),
-            "file" => self.pieces.begin(rest),
+            "file" => self.named.begin(rest),
             "let" => self.define(rest),
             "put" => self.put(rest),
             _ => self.append(word, rest),
@@ -99,7 +102,7 @@ impl Scene {
         if text.is_empty() {
             return Ok(());
         }
-        let spelled = self.pieces.spelled(text)?;
+        let spelled = self.named.spelled(text)?;
         let octets = fs_cases::text(self.alloc, spelled.as_str())?;
         let line = String::from_utf8(octets).map_err(|_| Fault::NoText)?;
         self.expected.push_str(line.as_str())?;
@@ -113,7 +116,7 @@ impl Scene {
             return Ok(());
         }
         for word in words.split(' ') {
-            let word = self.pieces.spelled(word)?;
+            let word = self.named.spelled(word)?;
             self.terms.words.push(word)?;
         }
         Ok(())
@@ -129,38 +132,34 @@ impl Scene {
         Ok(())
     }
 
-    /// A piece, in one line: its name and its octets.
+    /// A file, in one line: its name and its octets.
     fn define(&mut self, rest: &str) -> Result<(), Fault> {
-        let Some((name, field)) = rest.split_once(' ') else {
-            return Err(Fault::NoField);
-        };
-        let octets = self.pieces.octets(field)?;
-        self.pieces.begin(name)?;
-        self.pieces.append(&octets)
+        let (name, field) = word_of(rest)?;
+        let octets = self.named.octets(field)?;
+        self.named.begin(name)?;
+        self.named.append(&octets)
     }
 
     /// Octets over others: the place and the octets.
     fn put(&mut self, rest: &str) -> Result<(), Fault> {
-        let Some((place, field)) = rest.split_once(' ') else {
-            return Err(Fault::NoField);
-        };
-        let octets = self.pieces.octets(field)?;
-        self.pieces.put(count(place)?, &octets)
+        let (place, field) = word_of(rest)?;
+        let octets = self.named.octets(field)?;
+        self.named.put(count(place)?, &octets)
     }
 
     /// What a word appends to the open file.
     fn append(&mut self, word: &str, rest: &str) -> Result<(), Fault> {
         let octets = match word {
             "text" | "line" => self.text(word, rest)?,
-            "hex" => self.pieces.octets(rest)?,
-            "update" => message::update(self.alloc, &self.pieces, rest)?,
-            "unicast" => message::unicast(self.alloc, &self.pieces, rest)?,
-            "flow" => message::flow(self.alloc, &self.pieces, rest)?,
-            "packet" => capture::packet(self.alloc, &self.pieces.octets(rest)?)?,
+            "hex" => self.named.octets(rest)?,
+            "update" => message::update(self.alloc, &self.named, rest)?,
+            "unicast" => message::unicast(self.alloc, &self.named, rest)?,
+            "flow" => message::flow(self.alloc, &self.named, rest)?,
+            "packet" => capture::packet(self.alloc, &self.named.octets(rest)?)?,
             "capture" => capture::header(self.alloc, wide(rest)?)?,
             _ => self.pair(word, rest)?,
         };
-        self.pieces.append(&octets)
+        self.named.append(&octets)
     }
 
     fn text(&self, word: &str, rest: &str) -> Result<Vec<u8>, Fault> {
@@ -178,22 +177,22 @@ impl Scene {
             None => (rest, ""),
         };
         match word {
-            "front" => self.pieces.front(count(digits)?, field),
-            "message" => message::message(self.alloc, octet(digits)?, &self.pieces.octets(field)?),
-            "captured" => capture::record(self.alloc, &self.pieces.octets(field)?, wide(digits)?),
-            "singly" => tape::singly(self.alloc, peer(digits)?, &self.pieces.octets(field)?),
+            "front" => self.named.front(count(digits)?, field),
+            "message" => message::message(self.alloc, octet(digits)?, &self.named.octets(field)?),
+            "captured" => capture::record(self.alloc, &self.named.octets(field)?, wide(digits)?),
+            "singly" => tape::singly(self.alloc, peer(digits)?, &self.named.octets(field)?),
             "up" => tape::record(self.alloc, Kind::Up, peer(digits)?, &[]),
             "lost" => tape::record(self.alloc, Kind::Lost, peer(digits)?, &[]),
             "from" => {
-                let payload = self.pieces.octets(field)?;
+                let payload = self.named.octets(field)?;
                 tape::record(self.alloc, Kind::Octets, peer(digits)?, &payload)
             }
-            _ => return Err(Fault::NoWord),
+            _ => Err(Fault::NoWord),
         }
     }
 
     fn outcome(&self) -> Result<Outcome, Fault> {
-        ended(self.alloc, &self.pieces, &self.terms)
+        ended(self.alloc, &self.named, &self.terms)
     }
 
     /// Runs the words, and compares how the run ends. One that stops may have written a front of what is expected.
@@ -227,35 +226,37 @@ impl Scene {
         tally: &mut Tally,
         counts: &str,
     ) -> Result<(), Fault> {
-        let files = self.failing_runs(true)?;
-        let writes = self.failing_runs(false)?;
-        let came = format!(in self.alloc; "{files} {writes}")?;
-        tally.compare(rt, self.case.as_str(), counts, came.as_str())?;
+        let files = self.calls(Called::Files)?;
+        let output = self.calls(Called::Output)?;
+        let came = format!(in self.alloc; "{files:?} {output:?}")?;
+        let (files, output) = word_of(counts)?;
+        let expected = format!(in self.alloc; "Some({files}) Some({output})")?;
+        tally.compare(rt, self.case.as_str(), expected.as_str(), came.as_str())?;
         self.expected.clear();
         self.terms.reset();
         Ok(())
     }
 
     /// How many calls can fail: with each of them the run ends with 1 and has written a front of what it must write, and
-    /// behind the last it ends with 0 and has written all. Other ends are told by a count that no run has.
-    fn failing_runs(&mut self, of_files: bool) -> Result<u64, Fault> {
+    /// behind the last it ends with 0 and has written all. None where a run ends otherwise.
+    fn calls(&mut self, called: Called) -> Result<Option<u64>, Fault> {
         for call in 0..CALLS {
             self.terms.reset();
-            if of_files {
-                self.terms.failing_files.push(call)?;
-            } else {
-                self.terms.failing_writes.push(call)?;
+            match called {
+                Called::Files => self.terms.failing_files.push(call)?,
+                Called::Output => self.terms.failing_writes.push(call)?,
             }
             let outcome = self.outcome()?;
             let whole = self.expected.as_str();
-            if outcome.status == 0 && outcome.text.as_str() == whole {
-                return Ok(call);
+            let written = outcome.text.as_str();
+            if outcome.status == 0 && written == whole {
+                return Ok(Some(call));
             }
-            if outcome.status != 1 || !whole.starts_with(outcome.text.as_str()) {
-                return Ok(CALLS + call);
+            if outcome.status != 1 || !whole.starts_with(written) {
+                return Ok(None);
             }
         }
-        Ok(CALLS)
+        Ok(None)
     }
 }
 
