@@ -8,7 +8,7 @@ use Rattle.fs_base.specs.declared.path.Path.{Path}
 use Rattle.fs_base.specs.declared.prefix.Prefix.{Prefix}
 use Rattle.fs_nlri.specs.Parts.{Ruled}
 use Rattle.fs_nlri.specs.Rule.{shown}
-use Rattle.fs_rules.specs.Held.{Held}
+use Rattle.fs_rules.specs.Table.{Held}
 use Rattle.fs_attrs.specs.Prefixes.{Shown}
 use Rattle.fs_attrs.specs.declared.update.Update.{Update}
 use Rattle.fs_attrs.specs.Update.{unicast_in, flows_in, given_prefixes}

@@ -13,7 +13,7 @@ use Rattle.fs_nlri.specs.Parts.{Ruled}
 use Rattle.fs_nlri.specs.Rule.{shown}
 use Rattle.fs_order.specs.Order.{rule_cmp}
 use Rattle.fs_order.specs.Total.{rule_total}
-use Rattle.fs_unicast.specs.Places.{place_cmp}
+use Rattle.fs_unicast.specs.Unicast.{place_cmp}
 use Rattle.fs_unicast.specs.declared.unicast.Place.{Place}
 use Rattle.fs_desk.specs.Leaves.{is_prefix, flow_key_cmp, FlowKey}
 use denote.Enum.Bare.{sameb}

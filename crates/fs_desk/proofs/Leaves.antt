@@ -4,7 +4,7 @@ use Rattle.fs_base.specs.Config.{peer_of}
 use Rattle.fs_base.specs.declared.config.Config.{Config}
 use Rattle.fs_base.specs.declared.config.Peer.{Peer}
 use Rattle.fs_attrs.specs.declared.update.Update.{Update}
-use Rattle.fs_rules.specs.Held.{Held}
+use Rattle.fs_rules.specs.Table.{Held}
 use Rattle.fs_speaker.specs.Session.{still, at_start, session_from, Live}
 use Rattle.fs_speaker.specs.declared.state.Closed.{Closed}
 use Rattle.fs_tape.specs.Tape.{Item}

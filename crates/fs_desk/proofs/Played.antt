@@ -12,7 +12,7 @@ use Rattle.fs_base.specs.Config.{peer_of}
 use Rattle.fs_base.specs.declared.config.Config.{Config}
 use Rattle.fs_base.specs.declared.config.Peer.{Peer}
 use Rattle.fs_message.specs.Deframer.{framing}
-use Rattle.fs_rules.specs.Held.{Held}
+use Rattle.fs_rules.specs.Table.{Held}
 use Rattle.fs_speaker.specs.Session.{at_start, Live, live, begins}
 use Rattle.fs_speaker.specs.Replies.{replies_from}
 use Rattle.fs_tape.specs.Tape.{Item, came_up, received, was_lost}

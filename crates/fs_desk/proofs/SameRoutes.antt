@@ -13,10 +13,10 @@ use Rattle.fs_nlri.specs.Parts.{Ruled}
 use Rattle.fs_order.specs.Order.{rule_cmp}
 use Rattle.fs_order.proofs.Same.{first_equal, second_equal}
 use Rattle.fs_order.proofs.Pairs.{equal_numbers}
-use Rattle.fs_unicast.specs.Places.{place_cmp, Route}
+use Rattle.fs_unicast.specs.Unicast.{place_cmp, Route}
 use Rattle.fs_unicast.specs.declared.unicast.Place.{Place}
 use Rattle.fs_validate.specs.declared.route.FlowRoute.{FlowRoute}
-use Rattle.fs_rules.specs.Held.{Held}
+use Rattle.fs_rules.specs.Table.{Held}
 use Rattle.fs_tape.specs.Tape.{Item}
 use Rattle.fs_desk.specs.Laws.{LeaveSame}
 use Rattle.fs_desk.specs.Leaves.{Leaves, flow_key, flow_key_cmp, given_of, unicast_at, flow_at, Given}

@@ -15,10 +15,10 @@ use Rattle.fs_base.specs.declared.prefix.Prefix.{Prefix}
 use Rattle.fs_nlri.specs.Parts.{Ruled}
 use Rattle.fs_nlri.specs.Rule.{shown}
 use Rattle.fs_order.specs.Order.{rule_cmp}
-use Rattle.fs_unicast.specs.Places.{place_cmp, Route}
+use Rattle.fs_unicast.specs.Unicast.{place_cmp, Route}
 use Rattle.fs_unicast.specs.declared.unicast.Place.{Place}
 use Rattle.fs_validate.specs.declared.route.FlowRoute.{FlowRoute}
-use Rattle.fs_rules.specs.Held.{Held, put_route, without_route, without_peer_unicast, without_peer_flows}
+use Rattle.fs_rules.specs.Table.{Held, put_route, without_route, without_peer_unicast, without_peer_flows}
 use Rattle.fs_desk.specs.Leaves.{is_prefix, is_rule, unicast_at, flow_at, flow_key, flow_key_cmp, FlowKey, given_of}
 use Rattle.fs_desk.specs.Apply.{Changes, Loses, same, nothing, taken_of, given_at, rules_taken, rules_given, given_or}
 use Rattle.fs_desk.proofs.Entries.{lookup-insert_entry, sorted-insert_entry, sorted-remove_entry, is_equal}

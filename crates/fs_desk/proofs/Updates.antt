@@ -7,7 +7,7 @@ use Rattle.fs_base.specs.declared.prefix.Prefix.{Prefix}
 use Rattle.fs_nlri.specs.Parts.{Ruled}
 use Rattle.fs_attrs.specs.declared.update.Update.{Update}
 use Rattle.fs_attrs.specs.Update.{takes_prefixes, takes_rules}
-use Rattle.fs_rules.specs.Held.{Held}
+use Rattle.fs_rules.specs.Table.{Held}
 use Rattle.fs_desk.specs.Leaves.{last_such, is_prefix, gives_at, tells_of, unicast_left, is_rule, Given, rule_given, tells_of_rule, given_with, flow_left, IsListed}
 use Rattle.fs_desk.specs.Apply.{Changes, nothing, told, told_of}
 use Rattle.fs_desk.specs.Receive.{IsLeft, Spares}

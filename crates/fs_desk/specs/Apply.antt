@@ -8,7 +8,7 @@ use Rattle.fs_unicast.specs.declared.unicast.Place.{Place}
 use Rattle.fs_attrs.specs.Prefixes.{Shown}
 use Rattle.fs_attrs.specs.declared.update.Update.{Update}
 use Rattle.fs_attrs.specs.Update.{takes_prefixes, takes_rules}
-use Rattle.fs_rules.specs.Held.{Held, without_peer_unicast, without_peer_flows}
+use Rattle.fs_rules.specs.Table.{Held, without_peer_unicast, without_peer_flows}
 use Rattle.fs_desk.specs.Leaves.{last_such, is_prefix, gives_at, is_rule, Given, rule_given, given_with, IsListed, unicast_at, flow_at}
 
 -- what a change makes of what is held at a prefix, and of a rule

@@ -12,13 +12,13 @@ use Rattle.fs_base.specs.declared.path.Path.{Path}
 use Rattle.fs_base.specs.declared.prefix.Prefix.{Prefix}
 use Rattle.fs_nlri.specs.Parts.{Ruled}
 use Rattle.fs_order.specs.Order.{rule_cmp}
-use Rattle.fs_unicast.specs.Places.{place_cmp, Route}
+use Rattle.fs_unicast.specs.Unicast.{place_cmp, Route}
 use Rattle.fs_unicast.specs.declared.unicast.Place.{Place}
 use Rattle.fs_attrs.specs.Prefixes.{Shown}
 use Rattle.fs_attrs.specs.declared.update.Update.{Update}
 use Rattle.fs_attrs.specs.Update.{takes_prefixes, gives_prefixes, takes_rules, gives_rules}
 use Rattle.fs_validate.specs.declared.route.FlowRoute.{FlowRoute}
-use Rattle.fs_rules.specs.Held.{Held, is_key}
+use Rattle.fs_rules.specs.Table.{Held, is_key}
 use Rattle.fs_speaker.specs.Session.{Last, still, closed, session_of}
 use Rattle.fs_tape.specs.Tape.{Item}
 use Rattle.fs_desk.specs.Life.{life}

@@ -6,7 +6,7 @@ use Rattle.fs_nlri.specs.Parts.{Ruled}
 use Rattle.fs_unicast.specs.declared.unicast.Place.{Place}
 use Rattle.fs_message.specs.Deframer.{pending}
 use Rattle.fs_attrs.specs.declared.update.Update.{Update}
-use Rattle.fs_rules.specs.Held.{Held}
+use Rattle.fs_rules.specs.Table.{Held}
 use Rattle.fs_speaker.specs.declared.state.Closed.{Closed}
 use Rattle.fs_speaker.specs.declared.state.Closed.TheVariants.{Fault, Notified, NoFamily, Memory}
 use Rattle.fs_speaker.specs.Session.{at_start, Last, closed, session_from, Live, waits, step_of}

@@ -21,7 +21,7 @@ pub struct Desk<'a> {
 }
 
 impl<'a> Model for Desk<'a> {
-    ghost use Rattle.fs_desk.specs.Desk.{Desked};
+    ghost use Rattle.fs_desk.specs.Desk.{Desked, Played, Plays, RepliesBehind, standing_at_desk, standing_of};
 
     ghost Value = { Desked };
 
@@ -32,7 +32,6 @@ impl<'a> Desk<'a> {
     ghost use Rattle.fs_base.specs.declared.config.Config.{Config};
     ghost use Rattle.fs_base.specs.Config.{peer_of};
     ghost use Rattle.fs_tape.specs.Tape.{Item, came_up, received, was_lost};
-    ghost use Rattle.fs_desk.specs.Desk.{Played, Plays, RepliesBehind, standing_at_desk, standing_of};
     ghost use Rattle.fs_desk.specs.Leaves.{Leaves};
 
     /// Every configured peer is down, and nothing is held.

@@ -2,7 +2,7 @@
 
 ghost use Rattle.std.specs.Prelude.{◌≡◌, List};
 ghost use Rattle.fs_base.specs.declared.config.Config.{Config};
-ghost use Rattle.fs_rules.specs.Held.{Held};
+ghost use Rattle.fs_rules.specs.Table.{Held};
 ghost use Rattle.fs_tape.specs.Tape.{Item};
 ghost use Rattle.fs_desk.specs.Laws.{LeaveSame};
 ghost use Rattle.fs_desk.specs.Leaves.{Leaves};

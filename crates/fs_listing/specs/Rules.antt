@@ -8,8 +8,7 @@ use Rattle.fs_nlri.specs.Parts.{Ruled}
 use Rattle.fs_nlri.specs.Rule.{canonical_frame}
 use Rattle.fs_validate.specs.declared.validity.Validity.{Validity}
 use Rattle.fs_validate.specs.declared.validity.Validity.TheVariants.{Valid, NoDestination, Originator, MoreSpecific, LeftAs}
-use Rattle.fs_rules.specs.Held.{Held}
-use Rattle.fs_rules.specs.Admitted.{admitted}
+use Rattle.fs_rules.specs.Table.{Held, admitted}
 use Rattle.fs_rules.specs.Lent.{Listed, listed, Judged, held_flows}
 use Rattle.fs_line.specs.Pieces.{family_name}
 
@@ -53,7 +52,7 @@ invalid_line family route reason =
 
 -- a valid route has no such line
 abbrev pub invalid_text : Family → Judged → List ℕ
-invalid_text family route = option_map_or (invalid_line family route) (reason_of route.mark) []
+invalid_text family route = option_map_or (invalid_line family route) (reason_of route.validity) []
 
 abbrev pub invalid_lines : Family → List Judged → List ℕ
 invalid_lines family routes = flat_map (invalid_text family) routes

@@ -1,5 +1,5 @@
 use Rattle.std.proofs.Common.{ap, sym, subst}
-use Rattle.fs_rules.specs.Held.{Held}
+use Rattle.fs_rules.specs.Table.{Held}
 use Rattle.fs_desk.specs.Desk.{Desked}
 use Rattle.fs_desk.specs.Leaves.{Leaves}
 use Rattle.fs_desk.proofs.Leaves.{played_leaves}
