@@ -1,19 +1,33 @@
--- The walk of a packet over the admitted rules of its family (RFC 8955 section 7.3).
-use Rattle.std.specs.Prelude.{ℕ, ◌+◌, Bool, Option, List, [], ◌∷◌, find, nat_le, if◌then◌else◌}
+-- The walk of a packet over the admitted rules of its family, in their order (RFC 8955 sections 5.1 and 7.3).
+use Rattle.std.specs.Prelude.{ℕ, ◌+◌, Bool, Option, Some, None, List, [], ◌∷◌, find, nat_le, if◌then◌else◌}
 use Rattle.std.specs.List.{list_any}
 use Rattle.fs_actions.specs.Community.{has_flag}
 use Rattle.fs_packet.specs.Fields.{Viewed}
 use Rattle.fs_packet.specs.Matches.{is_match}
 use Rattle.fs_validate.specs.declared.route.FlowRoute.{FlowRoute}
+use Rattle.fs_rules.specs.Lent.{Listed}
 
--- the traffic-action whose terminal bit lets later rules be evaluated
-abbrev pub goes_on : FlowRoute → Bool
-goes_on r = list_any (has_flag 1) r.actions
+-- the terminal bit of a traffic-action is set, so that later rules are evaluated too (RFC 8955 section 7.3)
+abbrev pub goes_on : List (List ℕ) → Bool
+goes_on actions = list_any (has_flag 1) actions
 
--- the routes whose rule matches, in order, up to and with the first that ends the walk
-abbrev pub walk_of : Viewed → List FlowRoute → List FlowRoute
-walk_of view [] = []
-walk_of view (r ∷ rs) = if is_match r.rule view then (if goes_on r then r ∷ walk_of view rs else r ∷ []) else walk_of view rs
+-- The entries walked, each with its number and its actions, where the first of these rules has this number: those that
+-- match, in order, up to and with the first whose terminal bit is clear.
+abbrev pub walk_from : ℕ → Viewed → List Listed → List (ℕ × List (List ℕ))
+walk_from number view [] = []
+walk_from number view (rule ∷ rules) =
+    if is_match rule.rule view
+    then (number, rule.actions) ∷ (if goes_on rule.actions then walk_from (number + 1) view rules else [])
+    else walk_from (number + 1) view rules
+
+-- the place of the first of these rules that matches, where the first of them has this place
+abbrev pub first_from : ℕ → Viewed → List Listed → Option ℕ
+first_from place view [] = None
+first_from place view (rule ∷ rules) = if is_match rule.rule view then Some place else first_from (place + 1) view rules
+
+-- the walk over the admitted rules of a family, which are numbered from 1
+abbrev pub walk_of : Viewed → List Listed → List (ℕ × List (List ℕ))
+walk_of view rules = walk_from 1 view rules
 
 -- the numbers of the routes whose rule matches, where the first of them has number m
 abbrev pub matching_from : Viewed → ℕ → List FlowRoute → List ℕ
