@@ -6,7 +6,7 @@ use Rattle.fs_base.specs.declared.config.Peer.{Peer}
 use Rattle.fs_message.specs.Deframer.{framing, pending}
 use Rattle.fs_attrs.specs.declared.update.Update.{Update}
 use Rattle.fs_speaker.specs.declared.state.Closed.{Closed}
-use Rattle.fs_speaker.specs.Transition.{Phase}
+use Rattle.fs_speaker.specs.declared.transition.Phase.{Phase}
 use Rattle.fs_speaker.specs.Session.{at_start, Last, still, closed, with_update, session_from, Live, live, Step, waits, takes, stops, step_of, Does, step_with}
 use Rattle.fs_desk.specs.Receive.{with_updates, Follows, IsOver}
 use Rattle.fs_speaker.proofs.SessionSteps.{session_takes, session_stops, session_waits}

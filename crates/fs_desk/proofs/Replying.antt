@@ -5,7 +5,7 @@ use Rattle.fs_base.specs.declared.config.Peer.{Peer}
 use Rattle.fs_message.specs.Deframer.{framing, pending}
 use Rattle.fs_attrs.specs.declared.update.Update.{Update}
 use Rattle.fs_speaker.specs.declared.state.Closed.{Closed}
-use Rattle.fs_speaker.specs.Transition.{Phase}
+use Rattle.fs_speaker.specs.declared.transition.Phase.{Phase}
 use Rattle.fs_speaker.specs.Session.{at_start, reply_to, reply_at, Live, live, Step, waits, takes, stops, step_of, Does, reply_of, step_with}
 use Rattle.fs_speaker.specs.Replies.{replies_from}
 use Rattle.fs_speaker.proofs.ReplySteps.{replies_takes, replies_stops, replies_waits}

@@ -18,9 +18,9 @@ use Rattle.fs_order.specs.Order.{rule_cmp}
 use Rattle.fs_unicast.specs.Unicast.{place_cmp, Route}
 use Rattle.fs_unicast.specs.declared.unicast.Place.{Place}
 use Rattle.fs_validate.specs.declared.route.FlowRoute.{FlowRoute}
-use Rattle.fs_rules.specs.Table.{Held, put_route, without_route, without_peer_unicast, without_peer_flows}
+use Rattle.fs_rules.specs.Table.{Held, put_route, without_route, without_peer, without_peer_unicast, without_peer_flows}
 use Rattle.fs_desk.specs.Leaves.{is_prefix, is_rule, unicast_at, flow_at, flow_key, flow_key_cmp, FlowKey, given_of}
-use Rattle.fs_desk.specs.Apply.{Changes, Loses, same, nothing, taken_of, given_at, rules_taken, rules_given, given_or}
+use Rattle.fs_desk.specs.Apply.{Changes, same, nothing, taken_of, given_at, rules_taken, rules_given, given_or}
 use Rattle.fs_desk.proofs.Entries.{lookup-insert_entry, sorted-insert_entry, sorted-remove_entry, is_equal}
 use Rattle.fs_desk.proofs.KeyedLists.{at_key, put_by, at_key-put_by, at_key-without, at_key-filter, listed-put_by, listed-filter}
 use Rattle.fs_desk.proofs.Keys.{place_total, flow_key_total, place_same, key_same}
@@ -196,5 +196,5 @@ pub rule_given_to : (r : FlowRoute) (held new : Held)
 rule_given_to r held new h = subst (λ (n : Held). Changes r.peer same (rules_given (r.rule ∷ []) r.path r.actions) held n) (sym h) (changes_rule_given r held)
 
 pub lost_to : (peer : ℕ) (held new : Held)
-    → Loses peer held new → Changes peer nothing nothing held new
+    → new ≡ without_peer peer held → Changes peer nothing nothing held new
 lost_to peer held new h = subst (λ (n : Held). Changes peer nothing nothing held n) (sym h) (changes_lost peer held)

@@ -8,7 +8,7 @@ use Rattle.fs_unicast.specs.declared.unicast.Place.{Place}
 use Rattle.fs_attrs.specs.Prefixes.{Shown}
 use Rattle.fs_attrs.specs.declared.update.Update.{Update}
 use Rattle.fs_attrs.specs.Update.{takes_prefixes, takes_rules}
-use Rattle.fs_rules.specs.Table.{Held, without_peer_unicast, without_peer_flows}
+use Rattle.fs_rules.specs.Table.{Held}
 use Rattle.fs_desk.specs.Leaves.{last_such, is_prefix, gives_at, is_rule, Given, rule_given, given_with, IsListed, unicast_at, flow_at}
 
 -- what a change makes of what is held at a prefix, and of a rule
@@ -36,11 +36,6 @@ same key before = before
 -- nothing is held any more
 abbrev pub nothing : {K A : Type 0} → K → Option A → Option A
 nothing key before = None
-
--- all that a peer holds goes
-abbrev pub Loses : ℕ → Held → Held → Type 0
-Loses peer old new =
-    new ≡ record old { unicast = without_peer_unicast peer old.unicast; flows = without_peer_flows peer old.flows }
 
 abbrev pub taken_of : List Shown → Prefix → Option Path → Option Path
 taken_of prefixes prefix before = if list_any (is_prefix prefix) prefixes then None else before

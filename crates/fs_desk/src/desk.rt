@@ -21,7 +21,7 @@ pub struct Desk<'a> {
 }
 
 impl<'a> Model for Desk<'a> {
-    ghost use Rattle.fs_desk.specs.Desk.{Desked, Played, Plays, RepliesBehind, standing_at_desk, standing_of};
+    ghost use Rattle.fs_desk.specs.Desk.{Desked};
 
     ghost Value = { Desked };
 
@@ -32,6 +32,7 @@ impl<'a> Desk<'a> {
     ghost use Rattle.fs_base.specs.declared.config.Config.{Config};
     ghost use Rattle.fs_base.specs.Config.{peer_of};
     ghost use Rattle.fs_tape.specs.Tape.{Item, came_up, received, was_lost};
+    ghost use Rattle.fs_desk.specs.Desk.{Played, Plays, RepliesBehind, standing_at_desk, standing_of};
     ghost use Rattle.fs_desk.specs.Leaves.{Leaves};
 
     /// Every configured peer is down, and nothing is held.
@@ -119,7 +120,7 @@ impl<'a> Desk<'a> {
     }
 }
 
-ghost use Rattle.fs_desk.specs.Apply.{Loses};
+ghost use Rattle.fs_rules.specs.Table.{without_peer};
 ghost use Rattle.fs_speaker.specs.State.{standing_by};
 
 /// How it stands with the peer of a session.
@@ -137,7 +138,7 @@ fn lose<L: Ledger>(blank: Blank, table: &mut Table<'_>, peer: u16)
     requires name { blank.name ≡ L.name }
     requires parts { blank.parts ≡ L.parts }
     requires some { 0 < L.parts }
-    ensures { Loses peer table.old table.new }
+    ensures { table.new ≡ without_peer peer table.old }
 {
     let mut steps = Steps::<L>::new(blank);
     table.lose(peer, &mut steps);

@@ -1,7 +1,7 @@
 //! What a piece of a peer's octets does to its session, to the replies and to the table.
 
 ghost use Rattle.std.specs.Prelude.{◌≡◌, ◌≤◌, ◌<◌, false, IfOk, IfSome, OnOk, OnErr, length};
-ghost use Rattle.fs_desk.specs.Apply.{Loses};
+ghost use Rattle.fs_rules.specs.Table.{without_peer};
 ghost use Rattle.fs_desk.specs.Receive.{Extends, RepliesMessage, RepliesPiece, TakesMessage, TakesPiece, wants_memory};
 
 use crate::apply::apply;
@@ -107,7 +107,7 @@ fn close<L: Ledger>(
     steps: &mut Steps<L>,
 ) -> Result<(), Memory>
     ensures octets { OnOk result (wants_memory why ≡ false) }
-    ensures lost { OnOk result (Loses peer table.old table.new) }
+    ensures lost { OnOk result (table.new ≡ without_peer peer table.old) }
 {
     if wants_memory(why) {
         return Err(Memory);

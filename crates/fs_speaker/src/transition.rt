@@ -15,9 +15,9 @@ use std::alloc::Global;
 
 /// Where an open session stands: its state, and whether AS numbers have four octets (RFC 6793).
 #[derive(Clone, Copy, Debug, PartialEq, Eq, Drop)]
-pub(crate) struct Phase {
-    pub(crate) state: State,
-    pub(crate) four: bool,
+pub struct Phase {
+    pub state: State,
+    pub four: bool,
 }
 
 /// The codes of a message that the state doesn't take: Finite State Machine Error (RFC 4271, section 6.6).
