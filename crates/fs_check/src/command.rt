@@ -51,6 +51,7 @@ pub fn check<S: Sink>(
     ensures written { Wrote family word.now (S.written sink.old) (S.written sink.new) result }
     ensures later { S.faults sink.old ≤ S.faults sink.new }
     ensures failed { IsErrOf result CheckFault.Failed → Rose (S.faults sink.old) (S.faults sink.new) }
+    ensures unwritten { IsErrOf result CheckFault.Memory → sink.new ≡ sink.old }
 {
     let report = report_on(alloc, family, word)?;
     write_all(sink, &report.text)?;

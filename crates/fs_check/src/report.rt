@@ -1,14 +1,14 @@
 //! The text for a word.
 
-ghost use Rattle.std.specs.Prelude.{◌≡◌, ◌+◌, ◌<◌, ◌≤◌, ◌^◌, ◌++◌, codes, decimal, length, IfOk, OnOk};
+ghost use Rattle.std.specs.Prelude.{◌≡◌, ◌+◌, ◌<◌, ◌≤◌, ◌^◌, ◌++◌, codes, length, IfOk, OnOk};
 ghost use Rattle.hex.specs.Hex.{encode_lower};
 ghost use Rattle.fs_nlri.specs.Rule.{canonical_frame};
 ghost use Rattle.fs_check.specs.Report.{reason_name, frame_line, fault_line, ReportsField, Reports};
 
 use fs_base::{Family, Memory};
+use fs_line::{append, append_decimal, append_hex};
 use fs_nlri::{NlriFault, Reason, Rule, decode, encode};
 use hex::FromHexError;
-use itoa::Buffer;
 use std::alloc::Global;
 
 /// The lines for a word, and whether it is the hexadecimal of frames.
@@ -66,24 +66,15 @@ fn report_field(alloc: Global, family: Family, octets: &[u8]) -> Result<Report, 
     })
 }
 
-fn append_number(number: usize, text: &mut Vec<u8>) -> Result<(), Memory>
-    ensures { OnOk result (text.new.items ≡ text.old.items ++ decimal number) }
-{
-    let mut buffer = Buffer::new();
-    text.extend_from_slice(buffer.format(number).as_bytes())?;
-    Ok(())
-}
-
 fn append_frame(alloc: Global, number: usize, rule: &Rule, text: &mut Vec<u8>) -> Result<(), Memory>
     ensures { OnOk result (text.new.items ≡ text.old.items ++ frame_line number rule.now) }
 {
     let mut frame = Vec::new(alloc);
     encode(rule, &mut frame)?;
-    append_number(number, text)?;
-    text.extend_from_slice(b" ")?;
-    text.extend_from_slice(hex::encode(alloc, frame.as_slice())?.as_bytes())?;
-    text.extend_from_slice(b"\n")?;
-    Ok(())
+    append_decimal(number, text)?;
+    append(b" ", text)?;
+    append_hex(alloc, &frame, text)?;
+    append(b"\n", text)
 }
 
 fn append_fault(
@@ -94,13 +85,12 @@ fn append_fault(
 ) -> Result<(), Memory>
     ensures { OnOk result (text.new.items ≡ text.old.items ++ fault_line number reason place) }
 {
-    append_number(number, text)?;
-    text.extend_from_slice(b" fault ")?;
-    text.extend_from_slice(name_of(reason))?;
-    text.extend_from_slice(b" at ")?;
-    append_number(place, text)?;
-    text.extend_from_slice(b"\n")?;
-    Ok(())
+    append_decimal(number, text)?;
+    append(b" fault ", text)?;
+    append(name_of(reason), text)?;
+    append(b" at ", text)?;
+    append_decimal(place, text)?;
+    append(b"\n", text)
 }
 
 /// The printed name of a reason.

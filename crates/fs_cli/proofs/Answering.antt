@@ -1,29 +1,23 @@
 -- How the answer of a run follows from what its parts did.
-use Rattle.std.proofs.Common.{◌≡◌, ◌⊎◌, inl, inr, ◌≤◌, ◌-◌, arith, ◌%◌, ◌==◌, ◌||◌, ◌∙◌, ℕ, List, [], Bool, true, false, not, Option, Some, None, Result, Ok, Err, if◌then◌else◌, length, take, drop, refl, ap, sym, subst, append-nil, nat_lt, nat_le}
+use Rattle.std.proofs.Common.{◌≡◌, ◌⊎◌, inl, inr, ◌≤◌, ◌-◌, arith, ◌∙◌, ℕ, List, [], Option, Some, None, Result, Ok, Err, take, drop, refl, ap, sym, subst, append-nil}
 use Rattle.std.specs.Result.{MatchResult, IfErr, IsErrAnd, IsErrOf}
 use Rattle.std.proofs.lemmas.Grind.{common_steps}
 use Rattle.fs_base.specs.Outside.{Rose}
 use Rattle.fs_base.specs.Sink.{Grew, GrewPart}
-use Rattle.fs_base.specs.Records.{Head, whole, wrong, partial, End, done, limited, bad}
+use Rattle.fs_base.specs.Records.{End, done, limited, bad}
 use Rattle.fs_base.proofs.Grew.{Grew-refl, Grew-trans, part_whole, part_none, part_more}
 use Rattle.fs_line.specs.Output.{Goes}
 use Rattle.fs_line.proofs.Outputs.{goes_flush, goes_flush_part}
-use Rattle.fs_packet.specs.Link.{link_of}
-use Rattle.fs_packet.specs.declared.link.Link.{Link}
-use Rattle.fs_pcap.specs.Capture.{Captured, Heading, Recorded, recorded, number, is_link, header_of, ordered_header, opened_by, opening, capture_of, packets_to_come}
-use Rattle.fs_pcap.specs.Turn.{Opens, CaptureState, coming}
-use Rattle.fs_pcap.specs.declared.order.Endian.{Endian}
+use Rattle.fs_pcap.specs.declared.link.Link.{Link}
+use Rattle.fs_pcap.specs.Capture.{Captured, Recorded, recorded, opening, capture_of, packets_to_come, Opens, CaptureState, coming}
+use Rattle.fs_pcap.specs.Header.{Heading}
 use Rattle.fs_pcap.specs.declared.fault.CaptureReason.{CaptureReason}
-use Rattle.fs_pcap.specs.declared.fault.CaptureReason.TheVariants.{Magic, Link as WrongLink}
 use Rattle.fs_pcap.specs.declared.fault.CaptureFault.{CaptureFault}
 use Rattle.fs_pcap.specs.declared.fault.CaptureFault.TheVariants.{Read, Limit, Bad}
-use Rattle.fs_rules.specs.Held.{Held}
-use Rattle.fs_cli.specs.Captures.{refused_by}
-use Rattle.fs_cli.specs.Files.{Names}
-use Rattle.fs_cli.specs.Inputs.{capture_stage, status_at}
-use Rattle.fs_cli.specs.Judged.{Partly, Breaks, Verdict, verdict_of, answered, Answers, IsLate}
-use Rattle.fs_cli.specs.Output.{lines_from, lines_of}
-use Rattle.fs_cli.specs.Stage.{Stage, Found, and_then, or_stop, status_of, HasReason}
+use Rattle.fs_rules.specs.Table.{Held}
+use Rattle.fs_cli.specs.Judge.{refused_by, capture_stage, status_at, Partly, Breaks, verdict_of, admitted_rules, lines_from, lines_of}
+use Rattle.fs_cli.specs.Load.{Names}
+use Rattle.fs_cli.specs.Refusal.{Verdict, answered, Answers, IsAtPacket, IsLate, Stage, Found, and_then, or_stop, status_of, HasReason}
 use Rattle.fs_cli.specs.declared.refusal.Refusal.{Refusal}
 use Rattle.fs_cli.specs.declared.refusal.Refusal.TheVariants.{Outside, Memory}
 
@@ -103,7 +97,7 @@ partly_flushed : (before mid now : Option (List ℕ)) (pending text : List ℕ) 
 partly_flushed before mid now pending text (inl p) grew =
     subst (λ (l : List ℕ). GrewPart before now l) (sym p.parts) (part_more before now p.front p.rest (goes_flush_part now p.goes grew))
 partly_flushed before mid now pending text (inr h) grew =
-    part_nothing before mid now text h.1.part (subst (λ (l : List ℕ). GrewPart mid now l) h.0 grew)
+    part_nothing before mid now text h.part (subst (λ (l : List ℕ). GrewPart mid now l) h.empty grew)
 
 text_whole : (end : End CaptureReason) (text : List ℕ) (failed : Type 0) (before now : Option (List ℕ)) (answer : ℕ)
     → answer ≡ status_at end → Grew before now text → Answers (record { status = status_at end; text = text }) failed before now answer
@@ -134,17 +128,17 @@ answers_flushed end before mid now pending text failed (Err refusal) (inr h) gre
 
 -- under these routes, of a capture's packets and its end
 abbrev under : Held → Option Link → List Captured × End CaptureReason → Verdict
-under held link found = record { status = status_at found.1; text = lines_of held link found.0 }
+under held link found = record { status = status_at found.1; text = lines_of (admitted_rules held) link found.0 }
 
 -- of an opened capture
 opened_verdict : (held : Held) (limit : ℕ) (holds : Names) (name octets left : List ℕ) (heading : Heading) (link : Link)
-    → holds name ≡ Some octets → (opening limit octets ≡ Ok heading) × (left ≡ drop 24 octets) → Some link ≡ link_of heading.link
+    → holds name ≡ Some octets → (opening limit octets ≡ Ok heading) × (left ≡ drop 24 octets) → link ≡ heading.link
     → verdict_of held (capture_stage limit holds name)
-    ≡ record { status = status_at (packets_to_come heading.order limit 24 left).1; text = lines_from 0 held link (packets_to_come heading.order limit 24 left).0 }
+    ≡ record { status = status_at (packets_to_come heading.order limit 24 left).1; text = lines_from 0 (admitted_rules held) link (packets_to_come heading.order limit 24 left).0 }
 opened_verdict held limit holds name octets left heading link h o l =
     ap (verdict_of held) (found_capture limit holds name octets h ∙ ap (λ (r : Result Heading (End CaptureReason)). Found (opens_to limit octets r)) o.0)
     ∙ ap (λ (z : List ℕ). verdict_of held (Found (recorded heading.link (packets_to_come heading.order limit 24 z)))) (sym o.1)
-    ∙ ap (λ (k : Option Link). under held k (packets_to_come heading.order limit 24 left)) (sym l)
+    ∙ ap (λ (k : Link). under held (Some k) (packets_to_come heading.order limit 24 left)) (sym l)
 
 -- what is said where one call failed is said where that or another did
 pub answers_for : (verdict : Verdict) (failed failed' : Type 0) (before now : Option (List ℕ)) (answer : ℕ) → Answers verdict failed before now answer → (failed → failed') → Answers verdict failed' before now answer
@@ -177,6 +171,15 @@ pub late_err : {T : Type 0} (r : Result T Refusal) (cause : Refusal) → IsErrAn
 late_err (Ok t) cause h l = absurd h
 late_err (Err e) cause h l = subst IsLate (sym h) l
 
+-- a refusal at a packet is late, and is never for want of memory
+pub late_of : {T : Type 0} (r : Result T Refusal) → IfErr r IsAtPacket → IfErr r IsLate
+late_of (Ok t) h = tt
+late_of (Err e) h = (h.0, h.1)
+
+pub never_memory : {T A : Type 0} (r : Result T Refusal) → IfErr r IsAtPacket → answered r ≡ 6 → A
+never_memory (Ok t) h e = absurd cc
+never_memory (Err refusal) h e = absurd (h.2 e)
+
 -- of a call that answered this
 pub err_of : {T E : Type 0} (r : Result T E) (cause wanted : E) → r ≡ Err cause → cause ≡ wanted → IsErrOf r wanted
 err_of r cause wanted e f = e ∙ ap Err f
@@ -198,71 +201,15 @@ answers_early held stage failed a (Err e) h = answers_memory (verdict_of held st
 -- what it is to answer and write
 pub read_verdict : (held : Held) (limit : ℕ) (holds : Names) (name : List ℕ) (before after : ℕ → List ℕ) (slot counted : ℕ) (capture : CaptureState) (link : Link)
     → slot ≡ 2 → holds name ≡ Some (before 2) → counted ≡ limit → (opening counted (before slot) ≡ Ok capture.heading) × (after slot ≡ drop 24 (before slot))
-    → capture.slot ≡ slot → capture.limit ≡ counted → capture.place ≡ 24 → Some link ≡ link_of capture.heading.link
+    → capture.slot ≡ slot → capture.limit ≡ counted → capture.place ≡ 24 → link ≡ capture.heading.link
     → verdict_of held (capture_stage limit holds name)
-    ≡ record { status = status_at (coming capture (after capture.slot)).1; text = lines_from 0 held link (coming capture (after capture.slot)).0 }
+    ≡ record { status = status_at (coming capture (after capture.slot)).1; text = lines_from 0 (admitted_rules held) link (coming capture (after capture.slot)).0 }
 read_verdict held limit holds name before after slot counted capture link two h l o s c p known =
     opened_verdict held limit holds name (before slot) (after slot) capture.heading link (h ∙ ap (λ (n : ℕ). Some (before n)) (sym two))
     (subst (λ (n : ℕ). opening n (before slot) ≡ Ok capture.heading) l o.0, o.1) known
     ∙ ap (λ (n : ℕ). under held (Some link) (packets_to_come capture.heading.order n 24 (after slot))) (sym (c ∙ l))
     ∙ ap (λ (n : ℕ). under held (Some link) (packets_to_come capture.heading.order capture.limit n (after slot))) (sym p)
     ∙ ap (λ (n : ℕ). under held (Some link) (packets_to_come capture.heading.order capture.limit capture.place (after n))) (sym s)
-
--- An opened capture has one of the known link types.
-
-opened_ok : (reached : Bool) (size : ℕ) (head : Head Heading CaptureReason) (heading : Heading) → opened_by reached size head ≡ Ok heading → (n : ℕ) × (head ≡ whole heading n)
-opened_ok reached size (whole found n) heading e = (n, ap (λ (h : Heading). whole h n) cc)
-opened_ok reached size (wrong reason place) heading e = absurd cc
-opened_ok reached size partial heading e = absurd cc
-
-past_partial : (b : Bool) (rest : Head Heading CaptureReason) (heading : Heading) (n : ℕ) → (if b then partial else rest) ≡ whole heading n → rest ≡ whole heading n
-past_partial true rest heading n e = absurd cc
-past_partial false rest heading n e = e
-
-past_wrong : (b : Bool) (reason : CaptureReason) (place : ℕ) (rest : Head Heading CaptureReason) (heading : Heading) (n : ℕ) → (if b then wrong reason place else rest) ≡ whole heading n → rest ≡ whole heading n
-past_wrong true reason place rest heading n e = absurd cc
-past_wrong false reason place rest heading n e = e
-
-last_link : (b : Bool) (found heading : Heading) (n : ℕ) → (if not b then wrong WrongLink 20 else whole found 0) ≡ whole heading n → (b ≡ true) × (found ≡ heading)
-last_link true found heading n e = (refl, cc)
-last_link false found heading n e = absurd cc
-
-ordered_link : (order : Endian) (header : List ℕ) (heading : Heading) (n : ℕ) → ordered_header order header ≡ whole heading n → is_link heading.link ≡ true
-ordered_link order header heading n e =
-    let a = past_partial (nat_lt (length header) 6) _ heading n e in
-    let b = past_wrong (not (number order 2 (drop 4 header) == 2)) _ _ _ heading n a in
-    let c = past_partial (nat_lt (length header) 8) _ heading n b in
-    let d = past_wrong (not (number order 2 (drop 6 header) == 4)) _ _ _ heading n c in
-    let f = past_partial (nat_lt (length header) 24) _ heading n d in
-    let g = last_link (is_link (number order 4 (drop 20 header) % 65536)) _ heading n f in
-    subst (λ (h : Heading). is_link h.link ≡ true) g.1 g.0
-
-by_order : (order : Option Endian) (header : List ℕ) (heading : Heading) (n : ℕ)
-    → (let found : Head Heading CaptureReason = elim order [ None ↦ wrong Magic 0 | Some o ↦ ordered_header o header ] in found ≡ whole heading n)
-    → is_link heading.link ≡ true
-by_order None header heading n e = absurd cc
-by_order (Some order) header heading n e = ordered_link order header heading n e
-
-header_link : (header : List ℕ) (heading : Heading) (n : ℕ) → header_of header ≡ whole heading n → is_link heading.link ≡ true
-header_link header heading n e = by_order _ header heading n (past_partial (nat_lt (length header) 4) _ heading n e)
-
-one_of : (a b c d e f : Bool) (u v w x y z : Link) → (a || b || c || d || e || f) ≡ true
-    → (if a then Some u else if b then Some v else if c then Some w else if d then Some x else if e then Some y else if f then Some z else None) ≡ None → ⊥
-one_of true b c d e f u v w x y z h n = absurd cc
-one_of false true c d e f u v w x y z h n = absurd cc
-one_of false false true d e f u v w x y z h n = absurd cc
-one_of false false false true e f u v w x y z h n = absurd cc
-one_of false false false false true f u v w x y z h n = absurd cc
-one_of false false false false false true u v w x y z h n = absurd cc
-one_of false false false false false false u v w x y z h n = absurd cc
-
-known_link : (link : ℕ) → is_link link ≡ true → link_of link ≡ None → ⊥
-known_link link h n = one_of (link == 1) (link == 101) (link == 113) (link == 276) (link == 228) (link == 229) _ _ _ _ _ _ h n
-
-pub opened_link : (limit : ℕ) (octets : List ℕ) (heading : Heading) → opening limit octets ≡ Ok heading → link_of heading.link ≡ None → ⊥
-opened_link limit octets heading o n =
-    let found = opened_ok (nat_le limit (length octets)) (length (take 24 (take limit octets))) (header_of (take 24 (take limit octets))) heading o in
-    known_link heading.link (header_link (take 24 (take limit octets)) heading found.0 found.1) n
 
 -- What judging the packets did and what writing out did, as the answer of the whole.
 

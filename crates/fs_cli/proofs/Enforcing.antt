@@ -3,16 +3,15 @@ use Rattle.std.proofs.Common.{◌≡◌, inl, inr, ◌∙◌, ◌-◌, ℕ, List
 use Rattle.std.specs.Result.{IsErrAnd}
 use Rattle.fs_base.specs.declared.config.Config.{Config}
 use Rattle.fs_base.proofs.Grew.{Grew-refl}
-use Rattle.fs_rules.specs.Held.{Held}
+use Rattle.fs_rules.specs.Table.{Held}
 use Rattle.fs_tape.specs.Tape.{Item}
 use Rattle.fs_desk.specs.Desk.{Desked}
-use Rattle.fs_cli.specs.Enforced.{EndsEarly, Enforces}
-use Rattle.fs_cli.specs.Files.{Names, config_stage}
+use Rattle.fs_cli.specs.Enforce.{EndsEarly, EnforcesSo}
+use Rattle.fs_cli.specs.Load.{Names, config_stage}
 use Rattle.fs_desk.specs.Leaves.{Leaves}
-use Rattle.fs_cli.specs.Inputs.{tape_stage, capture_stage, accepted_stage}
-use Rattle.fs_cli.specs.Judged.{verdict_of, answered, Answers}
-use Rattle.fs_cli.specs.Stage.{Stage, Found, and_then, status_of, HasReason}
-use Rattle.fs_cli.specs.Tapes.{IsPlayed}
+use Rattle.fs_cli.specs.Play.{tape_stage, accepted_stage, IsPlayed}
+use Rattle.fs_cli.specs.Judge.{capture_stage, verdict_of}
+use Rattle.fs_cli.specs.Refusal.{answered, Answers, Stage, Found, and_then, status_of, HasReason}
 use Rattle.fs_cli.specs.declared.refusal.Refusal.{Refusal}
 use Rattle.fs_cli.proofs.Answering.{reason_then, answers_for}
 use Rattle.fs_desk.proofs.Leaves.{played_leaves}
@@ -30,7 +29,7 @@ ends_early stage failed failed' a refusal (inr (inr h)) f = record { reason = in
 
 -- the configuration ended the run
 pub config_ends : (limit : ℕ) (holds : Names) (config tape capture : List ℕ) (failed failed' : Type 0) (a : Option (List ℕ)) (refusal : Refusal)
-    → HasReason (config_stage limit holds config) failed refusal → (failed → failed') → Enforces limit holds config tape capture failed' a a (status_of refusal)
+    → HasReason (config_stage limit holds config) failed refusal → (failed → failed') → EnforcesSo limit holds config tape capture failed' a a (status_of refusal)
 config_ends limit holds config tape capture failed failed' a refusal h f =
     inl (ends_early (accepted_stage limit holds config tape) failed failed' a refusal
     (reason_then (config_stage limit holds config) (λ accepted. and_then (tape_stage accepted limit holds tape) (λ items. Found (accepted, items))) failed refusal h) f)
@@ -44,7 +43,7 @@ accepted_with limit holds config tape accepted e =
 -- the tape ended the run
 pub tape_ends : (limit : ℕ) (holds holds' : Names) (config tape capture : List ℕ) (accepted : Config) (failed failed' : Type 0) (a : Option (List ℕ)) (refusal : Refusal)
     → config_stage limit holds config ≡ Found accepted → holds' ≡ holds → HasReason (tape_stage accepted limit holds' tape) failed refusal → (failed → failed')
-    → Enforces limit holds config tape capture failed' a a (status_of refusal)
+    → EnforcesSo limit holds config tape capture failed' a a (status_of refusal)
 tape_ends limit holds holds' config tape capture accepted failed failed' a refusal e same h f =
     let told : HasReason (tape_stage accepted limit holds tape) failed refusal = subst (λ (names : Names). HasReason (tape_stage accepted limit names tape) failed refusal) same h in
     let whole : HasReason (accepted_stage limit holds config tape) failed refusal =
@@ -57,7 +56,7 @@ pub capture_judged : (limit : ℕ) (holds tape_holds capture_holds : Names) (con
     → config_stage limit holds config ≡ Found accepted → tape_holds ≡ holds → capture_holds ≡ tape_holds
     → IsPlayed accepted (tape_stage accepted limit tape_holds tape) desk
     → desk.held ≡ table → Answers (verdict_of table (capture_stage limit capture_holds capture)) failed before now answer → (failed → failed')
-    → Enforces limit holds config tape capture failed' before now answer
+    → EnforcesSo limit holds config tape capture failed' before now answer
 capture_judged limit holds tape_holds capture_holds config tape capture accepted desk table failed failed' before now answer e same same' p t a f =
     let found : tape_stage accepted limit holds tape ≡ Found p.items = subst (λ (names : Names). tape_stage accepted limit names tape ≡ Found p.items) same p.found in
     inr (record {

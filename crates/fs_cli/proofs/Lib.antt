@@ -4,5 +4,5 @@ pub mod Enforcing
 pub mod Judging
 pub mod Ruling
 pub mod Running
-pub mod TapeLoop
-pub mod WalkText
+pub mod Playing
+pub mod Walking

@@ -8,14 +8,12 @@ use Rattle.fs_conf.specs.Config.{config_of}
 use Rattle.fs_tape.specs.Tape.{Item}
 use Rattle.fs_tape.specs.declared.fault.TapeReason.{TapeReason}
 use Rattle.fs_desk.specs.Desk.{Desked}
-use Rattle.fs_cli.specs.Files.{Names, config_stage}
-use Rattle.fs_cli.specs.Inputs.{tape_stage}
-use Rattle.fs_cli.specs.Judged.{answered, Answers, IsLate}
-use Rattle.fs_cli.specs.Listed.{stopped_text, list_verdict, Lists, SaysOf}
+use Rattle.fs_cli.specs.Load.{Names, config_stage}
+use Rattle.fs_cli.specs.Play.{tape_stage, IsPlayed}
+use Rattle.fs_cli.specs.Refusal.{answered, Answers, IsLate, Stage, Found, Stopped, and_then, or_stop, status_of, HasReason}
+use Rattle.fs_cli.specs.Rules.{stopped_text, list_verdict, ListsSo, SaysOf}
 use Rattle.fs_listing.specs.Listing.{listing}
 use Rattle.fs_cli.specs.Listing.{Fails, Writes}
-use Rattle.fs_cli.specs.Stage.{Stage, Found, Stopped, and_then, or_stop, status_of, HasReason}
-use Rattle.fs_cli.specs.Tapes.{IsPlayed}
 use Rattle.fs_cli.specs.declared.refusal.Refusal.{Refusal}
 use Rattle.fs_cli.specs.declared.refusal.Refusal.TheVariants.{Outside, Config as Refused, Tape, Capture, Memory, Limit}
 use Rattle.fs_cli.proofs.Answering.{take_nothing}
@@ -69,7 +67,7 @@ said_partly status text failed before now refusal (inr h) = record {
 
 -- the configuration ended the run
 pub config_unlisted : (limit : ℕ) (holds : Names) (config tape : List ℕ) (failed failed' : Type 0) (a : Option (List ℕ)) (refusal : Refusal)
-    → HasReason (config_stage limit holds config) failed refusal → (failed → failed') → Lists limit holds config tape failed' a a (status_of refusal)
+    → HasReason (config_stage limit holds config) failed refusal → (failed → failed') → ListsSo limit holds config tape failed' a a (status_of refusal)
 config_unlisted limit holds config tape failed failed' a refusal (inl h) f =
     inl (
       refusal,
@@ -84,7 +82,7 @@ config_unlisted limit holds config tape failed failed' a refusal (inr (inr h)) f
 early : (limit : ℕ) (holds : Names) (config tape : List ℕ) (failed : Type 0) (before now : Option (List ℕ)) (refusal other : Refusal)
     → ((refusal ≡ Memory) ⊎ ((refusal ≡ Outside) × failed)) → stopped_text refusal ≡ []
     → ((other ≡ refusal) × Grew before now (stopped_text refusal)) ⊎ Fails (stopped_text refusal) failed before now other
-    → Lists limit holds config tape failed before now (status_of other)
+    → ListsSo limit holds config tape failed before now (status_of other)
 early limit holds config tape failed before now refusal other why none (inl h) =
     inr (inl (at why, subst (λ (t : List ℕ). Grew before now t) none h.1))
   where
@@ -100,7 +98,7 @@ early limit holds config tape failed before now refusal other why none (inr (inr
 tape_said : (limit : ℕ) (holds : Names) (config tape : List ℕ) (accepted : Config) (rose failed : Type 0) (before now : Option (List ℕ)) (refusal other : Refusal)
     → config_stage limit holds config ≡ Found accepted → HasReason (tape_stage accepted limit holds tape) rose refusal → (rose → failed)
     → ((other ≡ refusal) × Grew before now (stopped_text refusal)) ⊎ Fails (stopped_text refusal) failed before now other
-    → Lists limit holds config tape failed before now (status_of other)
+    → ListsSo limit holds config tape failed before now (status_of other)
 tape_said limit holds config tape accepted rose failed before now refusal other e (inl h) f said =
     inl (refusal, accepted_with limit holds config tape accepted e ∙ ap (λ (s : Stage (List Item)). and_then s (λ items. Found (accepted, items))) h, at said)
   where
@@ -121,7 +119,7 @@ fails_for text sink failed before now other f (inr h) = inr (h.0, f h.1, h.2)
 
 pub tape_unlisted : {T : Type 0} (limit : ℕ) (holds holds' : Names) (config tape : List ℕ) (accepted : Config) (rose sink failed : Type 0) (before now : Option (List ℕ)) (refusal : Refusal) (result : Result T Refusal)
     → config_stage limit holds config ≡ Found accepted → holds' ≡ holds → HasReason (tape_stage accepted limit holds' tape) rose refusal → (rose → failed) → (sink → failed)
-    → SaysOf refusal sink before now result → Lists limit holds config tape failed before now (answered result)
+    → SaysOf refusal sink before now result → ListsSo limit holds config tape failed before now (answered result)
 tape_unlisted limit holds holds' config tape accepted rose sink failed before now refusal (Ok value) e same h f g said = absurd said
 tape_unlisted limit holds holds' config tape accepted rose sink failed before now refusal (Err other) e same h f g said =
     tape_said limit holds config tape accepted rose failed before now refusal other e (subst (λ (names : Names). HasReason (tape_stage accepted limit names tape) rose refusal) same h) f (at said)
@@ -134,7 +132,7 @@ tape_unlisted limit holds holds' config tape accepted rose sink failed before no
 -- the desk was listed
 pub desk_listed : {T : Type 0} (limit : ℕ) (holds holds' : Names) (config tape : List ℕ) (accepted : Config) (desk : Desked) (sink failed : Type 0) (before now : Option (List ℕ)) (result : Result T Refusal)
     → config_stage limit holds config ≡ Found accepted → holds' ≡ holds → (played : IsPlayed accepted (tape_stage accepted limit holds' tape) desk) → (sink → failed)
-    → Writes (listing accepted played.items desk.held) sink before now result → Lists limit holds config tape failed before now (answered result)
+    → Writes (listing accepted played.items desk.held) sink before now result → ListsSo limit holds config tape failed before now (answered result)
 desk_listed {T} limit holds holds' config tape accepted desk sink failed before now result e same p f w =
     let found : tape_stage accepted limit holds tape ≡ Found p.items = subst (λ (names : Names). tape_stage accepted limit names tape ≡ Found p.items) same p.found in
     inr (inr (record {

@@ -1,37 +1,39 @@
 -- What the clauses of a run say follows from what it does.
 use Rattle.std.proofs.Common.{◌≡◌, ◌≢◌, ◌⊎◌, inl, inr, ◌<◌, ◌∙◌, ◌^◌, ◌-◌, ◌↔◌, ℕ, List, Option, Some, None, Result, IsTrue, IfSome, refl, ap, sym, subst, arith, true, false, Bool, if◌then◌else◌, length, nat_le}
 use Rattle.std.proofs.lemmas.Bool.Decides.{nat_tests}
+use Rattle.fs_base.specs.Happened.{Happened, happened, FilesFailed, SinkFailed, FilesStood, SinkStood}
 use Rattle.fs_base.specs.Outside.{Rose}
 use Rattle.fs_base.specs.Sink.{Grew}
+use Rattle.fs_base.specs.declared.outside.files.Files as files
+use Rattle.fs_base.specs.declared.outside.sink.Sink as sink
+use Rattle.fs_base.proofs.Grew.{Grew-refl}
 use Rattle.fs_base.specs.Records.{End, done, limited, bad}
 use Rattle.fs_base.specs.declared.config.Config.{Config}
 use Rattle.fs_base.specs.declared.prefix.Family.{Family}
 use Rattle.fs_conf.specs.Config.{config_of}
 use Rattle.fs_pcap.specs.Capture.{Recorded, capture_of}
 use Rattle.fs_pcap.specs.declared.fault.CaptureReason.{CaptureReason}
-use Rattle.fs_rules.specs.Held.{Held}
+use Rattle.fs_rules.specs.Table.{Held}
 use Rattle.fs_tape.specs.Tape.{Item, tape_of}
 use Rattle.fs_tape.specs.declared.fault.TapeReason.{TapeReason}
-use Rattle.fs_cli.specs.Checked.{Checks}
-use Rattle.fs_cli.specs.Enforced.{Enforces, Enforced}
-use Rattle.fs_cli.specs.Files.{Names, fetch, config_stage}
-use Rattle.fs_cli.specs.Form.{Form, Enforce, Rules, Check}
-use Rattle.fs_cli.specs.Listed.{Lists, Listed, listed_status}
+use Rattle.fs_cli.specs.Program.{ChecksSo, Does, Runs, HasStatus, HasCauses, Completes, Promises, world}
+use Rattle.fs_cli.specs.Enforce.{Enforces, EnforcesSo, Enforced, Inputs, inputs, inputs_stage, status_for}
+use Rattle.fs_cli.specs.Load.{Names, fetch, config_stage}
+use Rattle.fs_cli.specs.Command.{Form, Enforce, Rules, Check, form_of}
+use Rattle.fs_cli.specs.Rules.{Lists, ListsSo, Listed, listed_status}
 use Rattle.fs_listing.specs.Listing.{listing}
-use Rattle.fs_cli.specs.Inputs.{Inputs, inputs, played_to, tape_stage, capture_stage, accepted_stage, inputs_stage, status_at, status_for}
-use Rattle.fs_cli.specs.Judged.{verdict_of, answered}
-use Rattle.fs_cli.specs.Output.{output_of}
-use Rattle.fs_cli.specs.Stage.{Stage, Found, Stopped, and_then, or_stop, status_of}
+use Rattle.fs_cli.specs.Play.{played_to, tape_stage, accepted_stage}
+use Rattle.fs_cli.specs.Judge.{capture_stage, status_at, verdict_of, output_of}
+use Rattle.fs_cli.specs.Refusal.{answered, Stage, Found, Stopped, and_then, or_stop, status_of}
 use Rattle.fs_cli.specs.declared.refusal.Refusal.{Refusal}
 use Rattle.fs_cli.specs.declared.refusal.Refusal.TheVariants.{Outside, Config as Refused, Tape, Capture, Memory, Limit}
-use Rattle.fs_cli.specs.Top.{Does, Runs, HasStatus}
 
 -- the words
 
-pub runs_words : (tells : Bool) (limit : ℕ) (holds : Names) (form : Option Form) (files sink : Type 0) (before now : Option (List ℕ)) (answer : ℕ)
-    → Runs tells limit holds form files sink before now answer → (answer ≡ 2) ↔ (form ≡ None)
-runs_words tells limit holds None files sink before now answer r = (λ e. refl, λ e. r.0)
-runs_words tells limit holds (Some form) files sink before now answer r = (λ e. absurd (r.0 e), λ e. absurd cc)
+pub runs_words : (tells : Bool) (limit : ℕ) (holds : Names) (form : Option Form) (call : Happened) (answer : ℕ)
+    → Runs tells limit holds form call answer → (answer ≡ 2) ↔ (form ≡ None)
+runs_words tells limit holds None call answer r = (λ e. refl, λ e. r.0)
+runs_words tells limit holds (Some form) call answer r = (λ e. absurd (r.0 e), λ e. absurd cc)
 
 -- the status
 
@@ -46,7 +48,7 @@ abbrev Caused : Type 0 → ℕ → ℕ → Type 0
 Caused failed status answer = (answer ≡ status) ⊎ (answer ≡ 6) ⊎ ((answer ≡ 1) × failed)
 
 enforce_status : (limit : ℕ) (holds : Names) (config tape capture : List ℕ) (failed : Type 0) (before now : Option (List ℕ)) (answer : ℕ)
-    → Enforces limit holds config tape capture failed before now answer
+    → EnforcesSo limit holds config tape capture failed before now answer
     → Caused failed (status_for (inputs_stage limit holds config tape capture)) answer
 enforce_status limit holds config tape capture failed before now answer (inl early) = at early.reason
   where
@@ -66,7 +68,7 @@ enforce_status limit holds config tape capture failed before now answer (inr jud
     at (inr h) = inr h
 
 check_status : (limit : ℕ) (holds : Names) (family : Family) (word : List ℕ) (files sink : Type 0) (before now : Option (List ℕ)) (answer : ℕ)
-    → Checks family word sink before now answer
+    → ChecksSo family word sink before now answer
     → HasStatus limit holds (Check family word) answer ⊎ (answer ≡ 6) ⊎ ((answer ≡ 1) × (files ⊎ sink))
 check_status limit holds family word files sink before now answer (inl none) = inr (inl none.0)
 check_status limit holds family word files sink before now answer (inr says) = at says.answers.status_is
@@ -77,7 +79,7 @@ check_status limit holds family word files sink before now answer (inr says) = a
     at (inr (inr h)) = inr (inr (h.0, inr h.1))
 
 rules_status : (limit : ℕ) (holds : Names) (config tape : List ℕ) (failed : Type 0) (before now : Option (List ℕ)) (answer : ℕ)
-    → Lists limit holds config tape failed before now answer → Caused failed (listed_status (accepted_stage limit holds config tape)) answer
+    → ListsSo limit holds config tape failed before now answer → Caused failed (listed_status (accepted_stage limit holds config tape)) answer
 rules_status limit holds config tape failed before now answer (inl ends) = at ends.2.status_is
   where
     at : Caused failed (status_of ends.0) answer → Caused failed (listed_status (accepted_stage limit holds config tape)) answer
@@ -90,31 +92,30 @@ rules_status limit holds config tape failed before now answer (inr (inr shows)) 
     at (inl h) = inl (h ∙ sym (ap listed_status shows.found))
     at (inr h) = inr h
 
-pub runs_causes : (tells : Bool) (limit : ℕ) (holds : Names) (form : Option Form) (files sink : Type 0) (before now : Option (List ℕ)) (answer : ℕ)
-    → IsTrue tells → Runs tells limit holds form files sink before now answer
-    → IfSome form (λ form. HasStatus limit holds form answer ⊎ (answer ≡ 6) ⊎ ((answer ≡ 1) × (files ⊎ sink)))
-runs_causes tells limit holds None files sink before now answer told r = tt
-runs_causes tells limit holds (Some (Enforce config tape capture)) files sink before now answer told r =
-    enforce_status limit holds config tape capture (files ⊎ sink) before now answer (r.1 told)
-runs_causes tells limit holds (Some (Rules config tape)) files sink before now answer told r =
-    rules_status limit holds config tape (files ⊎ sink) before now answer (r.1 told)
-runs_causes tells limit holds (Some (Check family word)) files sink before now answer told r =
-    check_status limit holds family word files sink before now answer r.1
+pub runs_causes : (tells : Bool) (limit : ℕ) (holds : Names) (form : Option Form) (call : Happened) (answer : ℕ)
+    → IsTrue tells → Runs tells limit holds form call answer → HasCauses limit holds form call answer
+runs_causes tells limit holds None call answer told r = tt
+runs_causes tells limit holds (Some (Enforce config tape capture)) call answer told r =
+    enforce_status limit holds config tape capture (FilesFailed call ⊎ SinkFailed call) call.before.written call.now.written answer (r.1 told)
+runs_causes tells limit holds (Some (Rules config tape)) call answer told r =
+    rules_status limit holds config tape (FilesFailed call ⊎ SinkFailed call) call.before.written call.now.written answer (r.1 told)
+runs_causes tells limit holds (Some (Check family word)) call answer told r =
+    check_status limit holds family word (FilesFailed call) (SinkFailed call) call.before.written call.now.written answer r.1
 
 -- completeness
 
 not_rose : (before now : ℕ) → now ≡ before → before < 2 ^ 64 - 1 → Rose before now → ⊥
 not_rose before now e l r = omega (arith, e, l, r)
 
-pub causes_complete : (limit : ℕ) (holds : Names) (form : Option Form) (answer : ℕ) (files files' sink sink' : ℕ)
-    → files' ≡ files → files < 2 ^ 64 - 1 → sink' ≡ sink → sink < 2 ^ 64 - 1
-    → IfSome form (λ form. HasStatus limit holds form answer ⊎ (answer ≡ 6) ⊎ ((answer ≡ 1) × (Rose files files' ⊎ Rose sink sink')))
-    → IfSome form (λ form. HasStatus limit holds form answer ⊎ (answer ≡ 6))
-causes_complete limit holds None answer files files' sink sink' e l e' l' h = tt
-causes_complete limit holds (Some form) answer files files' sink sink' e l e' l' (inl h) = inl h
-causes_complete limit holds (Some form) answer files files' sink sink' e l e' l' (inr (inl h)) = inr h
-causes_complete limit holds (Some form) answer files files' sink sink' e l e' l' (inr (inr (one, inl r))) = absurd (not_rose files files' e l r)
-causes_complete limit holds (Some form) answer files files' sink sink' e l e' l' (inr (inr (one, inr r))) = absurd (not_rose sink sink' e' l' r)
+pub causes_complete : (limit : ℕ) (holds : Names) (form : Option Form) (call : Happened) (answer : ℕ)
+    → FilesStood call → SinkStood call → HasCauses limit holds form call answer → Completes limit holds form answer
+causes_complete limit holds None call answer f s h = tt
+causes_complete limit holds (Some form) call answer f s (inl h) = inl h
+causes_complete limit holds (Some form) call answer f s (inr (inl h)) = inr h
+causes_complete limit holds (Some form) call answer f s (inr (inr (one, inl r))) =
+    absurd (not_rose call.before.file_faults call.now.file_faults f.stands f.below r)
+causes_complete limit holds (Some form) call answer f s (inr (inr (one, inr r))) =
+    absurd (not_rose call.before.sink_faults call.now.sink_faults s.stands s.below r)
 
 -- the headline
 
@@ -187,15 +188,15 @@ passed limit holds config tape accepted items found =
     found_same : {A : Type 0} {x y : A} → Found x ≡ Found y → x ≡ y
     found_same e = cc
 
-enforced_well : (limit : ℕ) (holds : Names) (config tape capture : List ℕ) (failed : Type 0) (before now : Option (List ℕ)) (answer : ℕ)
-    → Enforces limit holds config tape capture failed before now answer → answer ≡ 0 → Enforced limit holds config tape capture before now
-enforced_well limit holds config tape capture failed before now answer (inl early) zero = absurd (at early.reason)
+enforced_well : (limit : ℕ) (holds : Names) (config tape capture : List ℕ) (failed : Type 0) (call : Happened) (answer : ℕ)
+    → EnforcesSo limit holds config tape capture failed call.before.written call.now.written answer → answer ≡ 0 → Enforced limit holds config tape capture call
+enforced_well limit holds config tape capture failed call answer (inl early) zero = absurd (at early.reason)
   where
     at : ((refusal : Refusal) × (accepted_stage limit holds config tape ≡ Stopped refusal) × (answer ≡ status_of refusal)) ⊎ (answer ≡ 6) ⊎ ((answer ≡ 1) × failed) → ⊥
     at (inl h) = never_zero h.0 (sym h.2 ∙ zero)
     at (inr (inl h)) = absurd cc
     at (inr (inr h)) = let one : answer ≡ 1 = h.0 in absurd cc
-enforced_well limit holds config tape capture failed before now answer (inr judged) zero = at judged.answers.status_is
+enforced_well limit holds config tape capture failed call answer (inr judged) zero = at judged.answers.status_is
   where
     six : answer ≢ 6
     six = λ e. absurd cc
@@ -207,12 +208,12 @@ enforced_well limit holds config tape capture failed before now answer (inr judg
     inputs_are = passed limit holds config tape judged.accepted judged.items judged.found
 
     by : (held : Held) (content : Option (List ℕ)) → answer ≡ (verdict_of held (and_then (or_stop Outside content) (λ o. Found (capture_of limit o)))).status
-        → Grew before now (verdict_of held (and_then (or_stop Outside content) (λ o. Found (capture_of limit o)))).text
-        → (octets : List ℕ) × (content ≡ Some octets) × ((capture_of limit octets).end ≡ done) × Grew before now (output_of held (capture_of limit octets))
+        → Grew call.before.written call.now.written (verdict_of held (and_then (or_stop Outside content) (λ o. Found (capture_of limit o)))).text
+        → (octets : List ℕ) × (content ≡ Some octets) × ((capture_of limit octets).end ≡ done) × Grew call.before.written call.now.written (output_of held (capture_of limit octets))
     by held None e g = absurd cc
     by held (Some octets) e g = (octets, refl, ended_well (capture_of limit octets).end (sym e ∙ zero), g)
 
-    whole : answer ≡ (verdict_of judged.held (capture_stage limit holds capture)).status → Enforced limit holds config tape capture before now
+    whole : answer ≡ (verdict_of judged.held (capture_stage limit holds capture)).status → Enforced limit holds config tape capture call
     whole h =
         let read = by judged.held (holds capture) h (judged.answers.whole six one) in
         record {
@@ -233,34 +234,34 @@ enforced_well limit holds config tape capture failed before now answer (inr judg
           wrote = read.3;
         }
 
-    at : Caused failed (verdict_of judged.held (capture_stage limit holds capture)).status answer → Enforced limit holds config tape capture before now
+    at : Caused failed (verdict_of judged.held (capture_stage limit holds capture)).status answer → Enforced limit holds config tape capture call
     at (inl h) = whole h
     at (inr (inl h)) = absurd cc
     at (inr (inr h)) = let bad : answer ≡ 1 = h.0 in absurd cc
 
-pub runs_headline : (tells : Bool) (limit : ℕ) (holds : Names) (form : Option Form) (files sink : Type 0) (before now : Option (List ℕ)) (answer : ℕ)
-    → IsTrue tells → Runs tells limit holds form files sink before now answer → answer ≡ 0
-    → (config tape capture : List ℕ) → form ≡ Some (Enforce config tape capture) → Enforced limit holds config tape capture before now
-runs_headline tells limit holds form files sink before now answer told r zero config tape capture e =
-    enforced_well limit holds config tape capture (files ⊎ sink) before now answer
-    ((subst (λ (f : Option Form). Runs tells limit holds f files sink before now answer) e r).1 told) zero
+pub runs_headline : (tells : Bool) (limit : ℕ) (holds : Names) (form : Option Form) (call : Happened) (answer : ℕ)
+    → IsTrue tells → Runs tells limit holds form call answer → answer ≡ 0
+    → (config tape capture : List ℕ) → form ≡ Some (Enforce config tape capture) → Enforced limit holds config tape capture call
+runs_headline tells limit holds form call answer told r zero config tape capture e =
+    enforced_well limit holds config tape capture (FilesFailed call ⊎ SinkFailed call) call answer
+    ((subst (λ (f : Option Form). Runs tells limit holds f call answer) e r).1 told) zero
 
 -- the listing
 
-listed_well : (limit : ℕ) (holds : Names) (config tape : List ℕ) (failed : Type 0) (before now : Option (List ℕ)) (answer : ℕ)
-    → Lists limit holds config tape failed before now answer → answer ≡ 0 → Listed limit holds config tape before now
-listed_well limit holds config tape failed before now answer (inl ends) zero = absurd (at ends.2.status_is)
+listed_well : (limit : ℕ) (holds : Names) (config tape : List ℕ) (failed : Type 0) (call : Happened) (answer : ℕ)
+    → ListsSo limit holds config tape failed call.before.written call.now.written answer → answer ≡ 0 → Listed limit holds config tape call
+listed_well limit holds config tape failed call answer (inl ends) zero = absurd (at ends.2.status_is)
   where
     at : Caused failed (status_of ends.0) answer → ⊥
     at (inl h) = never_zero ends.0 (sym h ∙ zero)
     at (inr (inl h)) = absurd cc
     at (inr (inr h)) = let one : answer ≡ 1 = h.0 in absurd cc
-listed_well limit holds config tape failed before now answer (inr (inl early)) zero = absurd (at early.0)
+listed_well limit holds config tape failed call answer (inr (inl early)) zero = absurd (at early.0)
   where
     at : (answer ≡ 6) ⊎ ((answer ≡ 1) × failed) → ⊥
     at (inl h) = absurd cc
     at (inr h) = let one : answer ≡ 1 = h.0 in absurd cc
-listed_well limit holds config tape failed before now answer (inr (inr shows)) zero =
+listed_well limit holds config tape failed call answer (inr (inr shows)) zero =
     let inputs_are : Passed limit holds config tape shows.accepted shows.items = passed limit holds config tape shows.accepted shows.items shows.found in
     record {
       config_octets = inputs_are.config_octets;
@@ -283,25 +284,86 @@ listed_well limit holds config tape failed before now answer (inr (inr shows)) z
     one : answer ≢ 1
     one = λ e. absurd cc
 
-pub runs_listed : (tells : Bool) (limit : ℕ) (holds : Names) (form : Option Form) (files sink : Type 0) (before now : Option (List ℕ)) (answer : ℕ)
-    → IsTrue tells → Runs tells limit holds form files sink before now answer → answer ≡ 0
-    → (config tape : List ℕ) → form ≡ Some (Rules config tape) → Listed limit holds config tape before now
-runs_listed tells limit holds form files sink before now answer told r zero config tape e =
-    listed_well limit holds config tape (files ⊎ sink) before now answer
-    ((subst (λ (f : Option Form). Runs tells limit holds f files sink before now answer) e r).1 told) zero
+pub runs_listed : (tells : Bool) (limit : ℕ) (holds : Names) (form : Option Form) (call : Happened) (answer : ℕ)
+    → IsTrue tells → Runs tells limit holds form call answer → answer ≡ 0
+    → (config tape : List ℕ) → form ≡ Some (Rules config tape) → Listed limit holds config tape call
+runs_listed tells limit holds form call answer told r zero config tape e =
+    listed_well limit holds config tape (FilesFailed call ⊎ SinkFailed call) call answer
+    ((subst (λ (f : Option Form). Runs tells limit holds f call answer) e r).1 told) zero
 
 -- what a command did, as what is answered
 
-pub does_enforce : {T : Type 0} (tells : Bool) (limit : ℕ) (holds : Names) (form : Form) (config tape capture : List ℕ) (files sink : Type 0) (before now : Option (List ℕ)) (result : Result T Refusal) (answer : ℕ)
-    → form ≡ Enforce config tape capture → answered result ≡ answer → (IsTrue tells → Enforces limit holds config tape capture (files ⊎ sink) before now (answered result))
-    → Does tells limit holds form files sink before now answer
-does_enforce tells limit holds form config tape capture files sink before now result answer e a d =
-    subst (λ (f : Form). Does tells limit holds f files sink before now answer) (sym e)
-    (λ told. subst (λ (n : ℕ). Enforces limit holds config tape capture (files ⊎ sink) before now n) a (d told))
+pub does_enforce : {T : Type 0} (tells : Bool) (limit : ℕ) (holds : Names) (form : Form) (config tape capture : List ℕ) (call : Happened) (result : Result T Refusal) (answer : ℕ)
+    → form ≡ Enforce config tape capture → answered result ≡ answer → (IsTrue tells → Enforces limit holds config tape capture call (answered result))
+    → Does tells limit holds form call answer
+does_enforce tells limit holds form config tape capture call result answer e a d =
+    subst (λ (f : Form). Does tells limit holds f call answer) (sym e)
+    (λ told. subst (λ (n : ℕ). Enforces limit holds config tape capture call n) a (d told))
 
-pub does_rules : {T : Type 0} (tells : Bool) (limit : ℕ) (holds : Names) (form : Form) (config tape : List ℕ) (files sink : Type 0) (before now : Option (List ℕ)) (result : Result T Refusal) (answer : ℕ)
-    → form ≡ Rules config tape → answered result ≡ answer → (IsTrue tells → Lists limit holds config tape (files ⊎ sink) before now (answered result))
-    → Does tells limit holds form files sink before now answer
-does_rules tells limit holds form config tape files sink before now result answer e a d =
-    subst (λ (f : Form). Does tells limit holds f files sink before now answer) (sym e)
-    (λ told. subst (λ (n : ℕ). Lists limit holds config tape (files ⊎ sink) before now n) a (d told))
+pub does_rules : {T : Type 0} (tells : Bool) (limit : ℕ) (holds : Names) (form : Form) (config tape : List ℕ) (call : Happened) (result : Result T Refusal) (answer : ℕ)
+    → form ≡ Rules config tape → answered result ≡ answer → (IsTrue tells → Lists limit holds config tape call (answered result))
+    → Does tells limit holds form call answer
+does_rules tells limit holds form config tape call result answer e a d =
+    subst (λ (f : Form). Does tells limit holds f call answer) (sym e)
+    (λ told. subst (λ (n : ℕ). Lists limit holds config tape call n) a (d told))
+
+-- the promises of a run, whose words ask for no command
+
+pub promises_none : {F S W : Type 0} (limit : ℕ) (of_files : files.Ghosts F) (of_sink : sink.Ghosts S) (files : F) (sink : S) (wire : W) (words : List (List ℕ))
+    → None ≡ form_of words → Promises limit (world of_files of_sink files files sink sink wire wire) words 2
+promises_none limit of_files of_sink files sink wire words e = record {
+  runs = subst (λ (f : Option Form). Runs of_files.tells limit (of_files.holds files) f (happened of_files of_sink files files sink sink) 2) e (refl, Grew-refl (of_sink.written sink));
+  no_command = (λ two. sym e, λ none. refl);
+  nothing_done = λ none. (refl, refl, refl);
+  check_opens_nothing = λ family word asked. refl;
+  wire_unused = refl;
+  config_writes_nothing = λ three. refl;
+  tape_writes_nothing = λ four config tape capture asked. refl;
+  memory_writes_nothing = λ six. refl;
+  causes = λ told. subst (λ (f : Option Form). HasCauses limit (of_files.holds files) f (happened of_files of_sink files files sink sink) 2) e tt;
+  complete = λ told stood sink_stood. subst (λ (f : Option Form). Completes limit (of_files.holds files) f 2) e tt;
+  headline = λ told zero config tape capture asked. absurd cc;
+  listed = λ told zero config tape asked. absurd cc;
+}
+
+no_form : {A : Type 0} (form : Form) (o : Option Form) → Some form ≡ o → o ≡ None → A
+no_form form None e n = absurd cc
+no_form form (Some other) e n = absurd cc
+
+some_form : (form other : Form) (o : Option Form) → Some form ≡ o → o ≡ Some other → form ≡ other
+some_form form other o e asked = let same : Some form ≡ Some other = e ∙ asked in cc
+
+-- of a command that was run
+
+pub promises_some : {F S W : Type 0} (limit : ℕ) (of_files : files.Ghosts F) (of_sink : sink.Ghosts S) (files files' : F) (sink sink' : S) (wire : W) (words : List (List ℕ)) (form : Form) (answer : ℕ)
+    → Some form ≡ form_of words
+    → Does of_files.tells limit (of_files.holds files) form (happened of_files of_sink files files' sink sink') answer
+    → answer ≢ 2
+    → ((answer ≡ 3) ⊎ (answer ≡ 6) → sink' ≡ sink)
+    → (answer ≡ 4 → (config tape capture : List ℕ) → form ≡ Enforce config tape capture → sink' ≡ sink)
+    → ((family : Family) (word : List ℕ) → form ≡ Check family word → files' ≡ files)
+    → Promises limit (world of_files of_sink files files' sink sink' wire wire) words answer
+promises_some limit of_files of_sink files files' sink sink' wire words form answer e does known quiet still unopened =
+    let call : Happened = happened of_files of_sink files files' sink sink' in
+    let holds : Names = of_files.holds files in
+    let ran : Runs of_files.tells limit holds (form_of words) call answer =
+    subst (λ (f : Option Form). Runs of_files.tells limit holds f call answer) e (known, does) in
+    record {
+      runs = ran;
+      no_command = (λ two. absurd (known two), λ none. no_form form (form_of words) e none);
+      nothing_done = λ none. no_form form (form_of words) e none;
+      check_opens_nothing = λ family word asked. unopened family word (some_form form (Check family word) (form_of words) e asked);
+      wire_unused = refl;
+      config_writes_nothing = λ three. quiet (inl three);
+      tape_writes_nothing = λ four config tape capture asked.
+          still four config tape capture (some_form form (Enforce config tape capture) (form_of words) e asked);
+      memory_writes_nothing = λ six. quiet (inr six);
+      causes = λ told. runs_causes of_files.tells limit holds (form_of words) call answer told ran;
+      complete = λ told stood sink_stood.
+          causes_complete limit holds (form_of words) call answer stood sink_stood
+          (runs_causes of_files.tells limit holds (form_of words) call answer told ran);
+      headline = λ told zero config tape capture asked.
+          runs_headline of_files.tells limit holds (form_of words) call answer told ran zero config tape capture asked;
+      listed = λ told zero config tape asked.
+          runs_listed of_files.tells limit holds (form_of words) call answer told ran zero config tape asked;
+    }

@@ -1,9 +1,41 @@
-use Rattle.fs_cli.specs.Form.{Form, Enforce as EnforceForm, Rules as RulesForm, Check as CheckForm}
+-- What the command line may say.
+use Rattle.std.specs.Prelude.{◌==◌, ◌&&◌, ℕ, List, [], ◌∷◌, Bool, false, not, Option, Some, None, if◌then◌else◌, codes, option_map}
+use Rattle.std.specs.Str.{bytes_eq}
+use Rattle.fs_base.specs.declared.prefix.Family.{Family}
+use Rattle.fs_base.specs.declared.prefix.Family.TheVariants.{V4, V6}
 use Rattle.fs_cli.specs.declared.command.Command.{Command}
-use Rattle.fs_cli.specs.declared.command.Command.TheVariants.{Enforce, Rules, Check}
+use Rattle.fs_cli.specs.declared.command.Command.TheVariants.{Enforce as EnforceCommand, Rules as RulesCommand, Check as CheckCommand}
+
+-- a command, with the names of the files that it is to read, or the family and the word that it is to say of
+pub data Form : Type 0 where
+  Enforce : (config tape capture : List ℕ) → Form
+  Rules : (config tape : List ℕ) → Form
+  Check : Family → (word : List ℕ) → Form
+
+-- a word that can name a file: it isn't empty, and doesn't begin with '-'
+abbrev pub is_name : List ℕ → Bool
+is_name [] = false
+is_name (first ∷ rest) = not (first == 45)
+
+abbrev pub family_of : List ℕ → Option Family
+family_of word = if bytes_eq word (codes "v4") then Some V4 else if bytes_eq word (codes "v6") then Some V6 else None
+
+abbrev pub check_form : (family word : List ℕ) → Option Form
+check_form family word = if is_name word then option_map (λ f. Check f word) (family_of family) else None
+
+-- the command of these words, or none
+abbrev pub form_of : List (List ℕ) → Option Form
+form_of (word ∷ config ∷ tape ∷ capture ∷ []) =
+    if bytes_eq word (codes "enforce") && (is_name config && (is_name tape && is_name capture))
+    then Some (Enforce config tape capture) else None
+form_of (word ∷ first ∷ second ∷ []) =
+    if bytes_eq word (codes "check") then check_form first second
+    else if bytes_eq word (codes "rules") && (is_name first && is_name second) then Some (Rules first second)
+    else None
+form_of _ = None
 
 -- what a parsed command says
 abbrev pub form_shown : Command → Form
-form_shown (Enforce config tape capture) = EnforceForm config.now tape.now capture.now
-form_shown (Rules config tape) = RulesForm config.now tape.now
-form_shown (Check family word) = CheckForm family word.now
+form_shown (EnforceCommand config tape capture) = Enforce config.now tape.now capture.now
+form_shown (RulesCommand config tape) = Rules config.now tape.now
+form_shown (CheckCommand family word) = Check family word.now

@@ -1,8 +1,7 @@
 //! What the words of the command line ask for.
 
 ghost use Rattle.std.specs.Prelude.{◌≡◌, ◌∷◌, [], map, option_map, string_bytes};
-ghost use Rattle.fs_cli.specs.Form.{check_form, family_of, form_of, is_name};
-ghost use Rattle.fs_cli.specs.Command.{form_shown};
+ghost use Rattle.fs_cli.specs.Command.{check_form, family_of, form_of, is_name, form_shown};
 
 use fs_base::Family;
 
@@ -44,7 +43,8 @@ fn parse_enforce<'w>(
     tape: &'w str,
     capture: &'w str,
 ) -> Option<Command<'w>>
-    ensures { option_map form_shown result ≡ form_of (word.now ∷ config.entry.now ∷ tape.entry.now ∷ capture.entry.now ∷ []) }
+    ensures { option_map form_shown result
+        ≡ form_of (word.now ∷ config.entry.now ∷ tape.entry.now ∷ capture.entry.now ∷ []) }
 {
     if word == "enforce" && is_name(config) && is_name(tape) && is_name(capture) {
         Some(Command::Enforce {

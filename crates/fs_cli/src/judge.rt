@@ -1,34 +1,29 @@
 //! The packets of a capture, judged by the admitted rules.
 
-ghost use Rattle.std.specs.Prelude.{◌≡◌, ◌≤◌, ◌<◌, ◌^◌, ◌⊎◌, [], Some, None, IsTrue, IfErr, IfOk, IfSome, OnOk, OnErr, MatchResult, length, map, take};
-ghost use Rattle.fs_base.specs.declared.prefix.Family.TheVariants.{V4, V6};
+ghost use Rattle.std.specs.Prelude.{◌≡◌, ◌≤◌, ◌<◌, ◌^◌, ◌⊎◌, [], None, IsTrue};
+ghost use Rattle.std.specs.Prelude.{IfErr, IfOk, IfSome, MatchResult, OnErr, OnOk, drop, length, map, vec_capacity};
+ghost use Rattle.fs_base.specs.Happened.{happened};
 ghost use Rattle.fs_base.specs.Outside.{HasCause, Rose};
-ghost use Rattle.fs_base.specs.Records.{done};
-ghost use Rattle.fs_pcap.specs.Turn.{coming};
-ghost use Rattle.fs_cli.specs.Inputs.{capture_stage};
-ghost use Rattle.fs_cli.specs.Judged.{Answers, Breaks, IsLate, answered, verdict_of};
-ghost use Rattle.fs_cli.specs.Captures.{Yields, Ceases, refused_by};
-ghost use Rattle.fs_line.specs.Output.{Goes, Stops};
-ghost use Rattle.fs_rules.specs.Held.{Held};
-ghost use Rattle.fs_rules.specs.Lent.{shown_admitted};
+ghost use Rattle.fs_base.specs.Sink.{Grew, GrewPart};
+ghost use Rattle.fs_pcap.specs.Capture.{coming};
+ghost use Rattle.fs_cli.specs.Judge.{admitted_rules, capture_stage, Ceases, JudgesAll, packet_text, refused_by, verdict_of, Yields};
+ghost use Rattle.fs_cli.specs.Refusal.{Answers, IsAtPacket, IsLate, answered};
 ghost use Rattle.fs_line.specs.Line.{line_of};
-ghost use Rattle.fs_rules.specs.Admitted.{admitted};
-ghost use Rattle.fs_cli.specs.Output.{packet_text, walk_from, lines_from};
-ghost use Rattle.fs_cli.specs.Places.{places_from};
-ghost use Rattle.fs_cli.specs.Applied.{IsApplied};
+ghost use Rattle.fs_line.specs.Output.{Sends};
+ghost use Rattle.fs_line.specs.Walked.{entries};
+ghost use Rattle.fs_rules.specs.Table.{admitted};
+ghost use Rattle.fs_rules.specs.Lent.{listed, shown_admitted};
+ghost use Rattle.fs_rules.specs.Walk.{first_from, walk_of};
 
-use crate::load::open;
+use crate::load::{CAPTURE_SLOT, open};
 use crate::refusal::Refusal;
-use fs_actions::Actions;
 use fs_base::{Counted, Failed, Family, Files, Memory, Sink};
-use fs_line::{Output, write_packet_line, write_unread_line};
-use fs_packet::{Link, View, matches, view};
-use fs_pcap::{Capture, CaptureFault, Caught};
+use fs_line::{Output, Walked, write_packet_line, write_unread_line};
+use fs_packet::{View, matches, view};
+use fs_pcap::{Capture, CaptureFault, Caught, Link};
 use fs_rules::{Admitted, Table};
 use std::alloc::Global;
-
-/// The slot that the capture is read from.
-const CAPTURE_SLOT: u8 = 2;
+use std::marker::Model;
 
 /// The octets of the longest record of a capture.
 const RECORD: usize = 262144;
@@ -51,6 +46,7 @@ pub fn judge<F: Files, S: Sink>(
     ensures files_later { F.faults files.old ≤ F.faults files.new }
     ensures sink_later { S.faults sink.old ≤ S.faults sink.new }
     ensures late { IfErr result IsLate }
+    ensures unwritten { answered result ≡ 6 → sink.new ≡ sink.old }
 
     ensures answers { IsTrue F.tells
         → Answers
@@ -65,26 +61,10 @@ pub fn judge<F: Files, S: Sink>(
         Ok(capture) => capture,
         Err(fault) => return Err(refusal_of(fault)),
     };
-    let Some(link) = Link::of(capture.link()) else {
-        return Err(Refusal::Capture);
-    };
-    let v4 = applied_rules(alloc, table, Family::V4)?;
-    let v6 = applied_rules(alloc, table, Family::V6)?;
-    let mut walked = vec![in alloc; 0usize; v4.rules.len().max(v6.rules.len())]?;
+    let mut judging = Judging::new(alloc, table, capture.link())?;
     let mut buffer = vec![in alloc; 0u8; RECORD]?;
-    let mut output = Output::new(alloc)?;
-    let judged = judge_packets(
-        files,
-        &mut capture,
-        &mut buffer,
-        link,
-        &v4,
-        &v6,
-        &mut walked,
-        &mut output,
-        sink,
-    );
-    output.flush(sink)?;
+    let judged = judge_packets(files, &mut capture, &mut judging, &mut buffer, sink);
+    judging.flush(sink)?;
     judged
 }
 
@@ -92,43 +72,30 @@ pub fn judge<F: Files, S: Sink>(
 fn judge_packets<F: Files, S: Sink>(
     files: &mut F,
     capture: &mut Capture,
+    judging: &mut Judging<'_>,
     buffer: &mut [u8],
-    link: Link,
-    v4: &Applied<'_>,
-    v6: &Applied<'_>,
-    walked: &mut [usize],
-    output: &mut Output,
     sink: &mut S,
 ) -> Result<(), Refusal>
     requires room { 262144 ≤ length buffer.old }
     requires open { capture.old.end ≡ None }
     requires within { capture.old.place ≤ capture.old.limit }
     requires fits { capture.old.limit < 2 ^ 64 }
-    requires v4 { length v4.now.rules.items ≤ length walked.old }
-    requires v6 { length v6.now.rules.items ≤ length walked.old }
-    requires v4_paired { length v4.now.actions.items ≡ length v4.now.rules.items }
-    requires v6_paired { length v6.now.actions.items ≡ length v6.now.rules.items }
-    ensures late { IfErr result IsLate }
+    ensures late { IfErr result IsAtPacket }
     ensures files_later { F.faults files.old ≤ F.faults files.new }
     ensures sink_later { S.faults sink.old ≤ S.faults sink.new }
 
     ensures judged { IsTrue F.tells
-        → (held : Held)
-        → IsApplied V4 held v4.now
-        → IsApplied V6 held v6.now
-        → MatchResult result
-        (λ _. ((coming capture.old (F.left files.old capture.old.slot)).1 ≡ done) × Goes (S.written sink.old) (S.written sink.new) output.old output.new (lines_from 0 held link (coming capture.old (F.left files.old capture.old.slot)).0))
-        (Breaks
-        (coming capture.old (F.left files.old capture.old.slot)).1
-        (S.written sink.old) (S.written sink.new) output.old output.new
-        (lines_from 0 held link (coming capture.old (F.left files.old capture.old.slot)).0)
-        (Rose (F.faults files.old) (F.faults files.new) ⊎ Rose (S.faults sink.old) (S.faults sink.new))) }
+        → JudgesAll judging.old
+        (coming capture.old (F.left files.old capture.old.slot))
+        (happened F.Files S.Sink files.old files.new sink.old sink.new)
+        judging.new.pending
+        result }
 {
     let mut number = 0;
     'packets: while let Some(caught) = next_packet(files, capture, buffer)? {
         number += 1;
         let octets = &buffer[..caught.taken];
-        judge_packet(link, octets, number, v4, v6, walked, output, sink)?;
+        judging.judge_packet(octets, number, sink)?;
     }
     Ok(())
 }
@@ -141,18 +108,21 @@ fn next_packet<F: Files>(
 ) -> Result<Option<Caught>, Refusal>
     requires room { 262144 ≤ length buffer.old }
     requires open { capture.old.end ≡ None }
-    ensures late { IfErr result IsLate }
+    ensures late { IfErr result IsAtPacket }
     ensures later { F.faults files.old ≤ F.faults files.new }
     ensures holds { IsTrue F.tells → F.holds files.new ≡ F.holds files.old }
     ensures slot { capture.new.slot ≡ capture.old.slot }
     ensures limit { capture.new.limit ≡ capture.old.limit }
     ensures open { IfOk result (λ found. IfSome found (λ _. capture.new.end ≡ None)) }
-    ensures grows { IfOk result (λ found. IfSome found (λ caught. (capture.old.place < capture.new.place) × (capture.new.place ≤ capture.new.limit) × (caught.taken ≤ 262144))) }
+    ensures grows { IfOk result (λ found. IfSome found (λ caught.
+        (capture.old.place < capture.new.place) × (capture.new.place ≤ capture.new.limit) × (caught.taken ≤ 262144))) }
 
     ensures gives { IsTrue F.tells
         → MatchResult result
-        (Yields (coming capture.old (F.left files.old capture.old.slot)) (coming capture.new (F.left files.new capture.old.slot)) buffer.new)
-        (Ceases (coming capture.old (F.left files.old capture.old.slot)) (Rose (F.faults files.old) (F.faults files.new))) }
+        (Yields (coming capture.old (F.left files.old capture.old.slot))
+        (coming capture.new (F.left files.new capture.old.slot)) buffer.new)
+        (Ceases (coming capture.old (F.left files.old capture.old.slot))
+        (Rose (F.faults files.old) (F.faults files.new))) }
 {
     match capture.next(files, buffer) {
         Ok(found) => Ok(found),
@@ -163,7 +133,7 @@ fn next_packet<F: Files>(
 /// The refusal for a capture's fault.
 fn refusal_of(fault: CaptureFault) -> Refusal
     ensures result { result ≡ refused_by fault }
-    ensures late { IsLate result }
+    ensures late { IsAtPacket result }
 {
     match fault {
         CaptureFault::Read => Refusal::Outside,
@@ -172,101 +142,143 @@ fn refusal_of(fault: CaptureFault) -> Refusal
     }
 }
 
-/// The admitted rules of a family, in the order in which they are applied, and the actions of each.
+/// What judging packets takes beside them: their kind of link, the admitted rules of each family, and the output of the
+/// lines. All memory of it is taken before the first packet.
 #[derive(Drop)]
-pub struct Applied<'t> {
-    pub rules: Vec<Admitted<'t>>,
-    pub actions: Vec<&'t Actions>,
-}
-
-/// The admitted rules of the family.
-pub fn applied_rules<'t>(
-    alloc: Global,
-    table: &'t Table<'_>,
-    family: Family,
-) -> Result<Applied<'t>, Memory>
-    ensures applied { IfOk result (IsApplied family table.now) }
-    ensures paired { IfOk result (λ applied. length applied.actions.items ≡ length applied.rules.items) }
-{
-    let rules = table.admitted(family)?;
-    let actions = actions_of(alloc, &rules)?;
-    Ok(Applied { rules, actions })
-}
-
-fn actions_of<'t>(alloc: Global, rules: &[Admitted<'t>]) -> Result<Vec<&'t Actions>, Memory>
-    ensures actions { IfOk result (λ actions. map (λ a. a.now) actions.items ≡ map (λ rule. rule.actions.now) rules.now) }
-    ensures paired { IfOk result (λ actions. length actions.items ≡ length rules.now) }
-{
-    let mut actions = Vec::with_capacity(alloc, rules.len())?;
-    for rule in rules {
-        actions.push(rule.actions)?;
-    }
-    Ok(actions)
-}
-
-/// Writes the line of a record, whose number counts from 1. `walked` has a place for each rule of either family.
-pub fn judge_packet<S: Sink>(
+struct Judging<'t> {
     link: Link,
-    octets: &[u8],
-    number: u64,
-    v4: &Applied<'_>,
-    v6: &Applied<'_>,
-    walked: &mut [usize],
-    output: &mut Output,
-    sink: &mut S,
-) -> Result<(), Failed>
-    requires v4 { length v4.now.rules.items ≤ length walked.old }
-    requires v6 { length v6.now.rules.items ≤ length walked.old }
-    requires v4_paired { length v4.now.actions.items ≡ length v4.now.rules.items }
-    requires v6_paired { length v6.now.actions.items ≡ length v6.now.rules.items }
-    ensures cause { HasCause (S.faults sink.old) (S.faults sink.new) result }
-    ensures dropped { OnErr result (output.new ≡ []) }
-    ensures ok { (held : Held) → IsApplied V4 held v4.now → IsApplied V6 held v6.now → OnOk result (Goes (S.written sink.old) (S.written sink.new) output.old output.new (packet_text number held link octets.now)) }
-    ensures err { (held : Held) → IsApplied V4 held v4.now → IsApplied V6 held v6.now → OnErr result (Stops (S.written sink.old) (S.written sink.new) output.old (packet_text number held link octets.now)) }
-{
-    match view(link, octets) {
-        Ok(view) => match view.family() {
-            Family::V4 => judge_view(&view, number, v4, walked, output, sink),
-            Family::V6 => judge_view(&view, number, v6, walked, output, sink),
-        },
-        Err(unread) => write_unread_line(output, sink, number, unread.number()),
+    v4: Rules<'t>,
+    v6: Rules<'t>,
+    output: Output,
+}
+
+impl<'t> Model for Judging<'t> {
+    ghost use Rattle.fs_cli.specs.Judge.{JudgingState};
+
+    ghost Value = { JudgingState };
+
+    ghost view = { λ a. record { link = a.link; rules = record { v4 = a.v4; v6 = a.v6 }; pending = a.output } };
+}
+
+impl<'t> Judging<'t> {
+    fn new(alloc: Global, table: &'t Table<'_>, link: Link) -> Result<Judging<'t>, Memory>
+        ensures { IfOk result (λ judging.
+            judging ≡ record { link = link; rules = admitted_rules table.now; pending = [] }) }
+    {
+        Ok(Judging {
+            link,
+            v4: Rules::new(alloc, table, Family::V4)?,
+            v6: Rules::new(alloc, table, Family::V6)?,
+            output: Output::new(alloc)?,
+        })
     }
-}
 
-fn judge_view<S: Sink>(
-    view: &View<'_>,
-    number: u64,
-    rules: &Applied<'_>,
-    walked: &mut [usize],
-    output: &mut Output,
-    sink: &mut S,
-) -> Result<(), Failed>
-    requires room { length rules.now.rules.items ≤ length walked.old }
-    requires paired { length rules.now.actions.items ≡ length rules.now.rules.items }
-    ensures cause { HasCause (S.faults sink.old) (S.faults sink.new) result }
-    ensures dropped { OnErr result (output.new ≡ []) }
-    ensures ok { (held : Held) → IsApplied view.now.family held rules.now → OnOk result (Goes (S.written sink.old) (S.written sink.new) output.old output.new (line_of number (walk_from 1 view.now (admitted view.now.family held)))) }
-    ensures err { (held : Held) → IsApplied view.now.family held rules.now → OnErr result (Stops (S.written sink.old) (S.written sink.new) output.old (line_of number (walk_from 1 view.now (admitted view.now.family held)))) }
-{
-    let count = walk(&rules.rules, view, walked);
-    write_packet_line(output, sink, number, &rules.actions, &walked[..count])
-}
-
-/// Puts the places, from 0, of the rules that the packet walks into the front of `walked`, and answers how many they are.
-fn walk(rules: &[Admitted<'_>], view: &View<'_>, walked: &mut [usize]) -> usize
-    requires { length rules.now ≤ length walked.old }
-    ensures within { result ≤ length walked.new }
-    ensures walk { take result walked.new ≡ places_from 0 view.now (map shown_admitted rules.now) }
-{
-    let mut count = 0;
-    for (place, rule) in rules.iter().enumerate() {
-        if matches(rule.rule, view) {
-            walked[count] = place;
-            count += 1;
-            if !rule.actions.more() {
-                return count;
-            }
+    /// Writes the line of a record, whose number counts from 1.
+    fn judge_packet<S: Sink>(
+        &mut self,
+        octets: &[u8],
+        number: u64,
+        sink: &mut S,
+    ) -> Result<(), Failed>
+        ensures same { self.new ≡ record self.old { pending = self.new.pending } }
+        ensures sends { Sends S.Sink sink.old sink.new self.old.pending self.new.pending
+            (packet_text number self.old.rules self.old.link octets.now) result }
+    {
+        match view(self.link, octets) {
+            Ok(view) => match view.family() {
+                Family::V4 => self.v4.judge(&view, number, &mut self.output, sink),
+                Family::V6 => self.v6.judge(&view, number, &mut self.output, sink),
+            },
+            Err(unread) => write_unread_line(&mut self.output, sink, number, unread.number()),
         }
     }
-    count
+
+    /// Writes out the lines that are pending.
+    fn flush<S: Sink>(&mut self, sink: &mut S) -> Result<(), Failed>
+        ensures ok { OnOk result (Grew (S.written sink.old) (S.written sink.new) self.old.pending) }
+        ensures err { OnErr result (GrewPart (S.written sink.old) (S.written sink.new) self.old.pending) }
+        ensures cause { HasCause (S.faults sink.old) (S.faults sink.new) result }
+    {
+        self.output.flush(sink)
+    }
+}
+
+/// The admitted rules of a family in order, and room for a walk over all of them.
+#[derive(Drop)]
+struct Rules<'t> {
+    rules: Vec<Admitted<'t>>,
+    walked: Vec<Walked<'t>>,
+}
+
+impl<'t> Model for Rules<'t> {
+    ghost use Rattle.std.specs.Prelude.{◌≤◌, List, length, map, vec_capacity};
+    ghost use Rattle.fs_rules.specs.Lent.{Listed, shown_admitted};
+
+    ghost Value = { List Listed };
+
+    ghost view = { λ a. map shown_admitted a.rules.items };
+
+    ghost invariant = { λ a. length a.rules.items ≤ vec_capacity a.walked };
+}
+
+impl<'t> Rules<'t> {
+    fn new(alloc: Global, table: &'t Table<'_>, family: Family) -> Result<Rules<'t>, Memory>
+        ensures { IfOk result (λ rules. rules ≡ map listed (admitted family table.now)) }
+    {
+        let rules = table.admitted(family)?;
+        let walked = Vec::with_capacity(alloc, rules.len())?;
+        Ok(Rules { rules, walked })
+    }
+
+    /// Writes the line of a packet of the family that could be read.
+    fn judge<S: Sink>(
+        &mut self,
+        view: &View<'_>,
+        number: u64,
+        output: &mut Output,
+        sink: &mut S,
+    ) -> Result<(), Failed>
+        ensures same { self.new ≡ self.old }
+        ensures sends { Sends S.Sink sink.old sink.new output.old output.new
+            (line_of number (walk_of view.now self.old)) result }
+    {
+        walk(&self.rules, view, &mut self.walked);
+        write_packet_line(output, sink, number, &self.walked)
+    }
+}
+
+/// Puts the rules that the packet walks into `walked`, in place of what stands there: the matching ones in order, up to
+/// and with the first whose terminal bit is clear (RFC 8955 section 7.3).
+fn walk<'t>(rules: &[Admitted<'t>], view: &View<'_>, walked: &mut Vec<Walked<'t>>)
+    requires room { length rules.now ≤ vec_capacity walked.old }
+    ensures room { length rules.now ≤ vec_capacity walked.new }
+    ensures walk { entries walked.new.items ≡ walk_of view.now (map shown_admitted rules.now) }
+{
+    walked.clear();
+    let mut place = 0;
+    'rules: while let Some(found) = first_match(rules, view, place) {
+        let actions = rules[found].actions;
+        walked.push_reserved(Walked {
+            number: found + 1,
+            actions,
+        });
+        if !actions.more() {
+            return;
+        }
+        place = found + 1;
+    }
+}
+
+/// The first place from `from` on of a rule that matches the packet.
+fn first_match(rules: &[Admitted<'_>], view: &View<'_>, from: usize) -> Option<usize>
+    requires { from ≤ length rules.now }
+    ensures first { result ≡ first_from from view.now (map shown_admitted (drop from rules.now)) }
+    ensures within { IfSome result (λ found. (from ≤ found) × (found < length rules.now)) }
+{
+    for place in from..rules.len() {
+        if matches(rules[place].rule, view) {
+            return Some(place);
+        }
+    }
+    None
 }

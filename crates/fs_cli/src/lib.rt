@@ -4,12 +4,15 @@
 mod command;
 mod enforce;
 mod judge;
+mod laws;
 mod listing;
 mod load;
 mod play;
 mod program;
 mod refusal;
 mod rules;
+pub mod status;
 
 pub use fs_desk::{Desk, same_routes};
+pub use laws::same_lines;
 pub use program::{run, run_within};

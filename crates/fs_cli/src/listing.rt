@@ -1,13 +1,13 @@
 //! The listing of the peers and the rules, as a tape leaves them.
 
-ghost use Rattle.std.specs.Prelude.{◌≤◌, IfErr, List};
+ghost use Rattle.std.specs.Prelude.{◌≡◌, ◌≢◌, ◌≤◌, IfErr, List};
 ghost use Rattle.fs_base.specs.Outside.{Rose};
 ghost use Rattle.fs_base.specs.declared.config.Config.{Config};
 ghost use Rattle.fs_tape.specs.Tape.{Item};
 ghost use Rattle.fs_listing.specs.Listing.{listing};
 ghost use Rattle.fs_listing.specs.TapeFault.{tape_fault_line};
 ghost use Rattle.fs_desk.specs.Desk.{Played};
-ghost use Rattle.fs_cli.specs.Judged.{IsLate};
+ghost use Rattle.fs_cli.specs.Refusal.{IsLate, answered};
 ghost use Rattle.fs_cli.specs.Listing.{Writes};
 
 use crate::refusal::Refusal;
@@ -26,12 +26,14 @@ use std::alloc::Global;
 /// front of the listing is.
 pub fn list_desk<S: Sink>(alloc: Global, desk: &Desk<'_>, sink: &mut S) -> Result<(), Refusal>
     ensures late { IfErr result IsLate }
+    ensures unwritten { answered result ≡ 6 → sink.new ≡ sink.old }
     ensures later { S.faults sink.old ≤ S.faults sink.new }
 
     ensures listed { (config : Config)
         → (items : List Item)
         → Played config items desk.now
-        → Writes (listing config items desk.now.held) (Rose (S.faults sink.old) (S.faults sink.new)) (S.written sink.old) (S.written sink.new) result }
+        → Writes (listing config items desk.now.held)
+        (Rose (S.faults sink.old) (S.faults sink.new)) (S.written sink.old) (S.written sink.new) result }
 {
     let text = desk_text(alloc, desk)?;
     write_text(&text, sink)
@@ -48,8 +50,11 @@ pub fn list_tape_fault<S: Sink>(
     place: u64,
     sink: &mut S,
 ) -> Result<(), Refusal>
+    ensures late { IfErr result IsLate }
+    ensures unwritten { answered result ≡ 6 → sink.new ≡ sink.old }
     ensures later { S.faults sink.old ≤ S.faults sink.new }
-    ensures written { Writes (tape_fault_line reason place) (Rose (S.faults sink.old) (S.faults sink.new)) (S.written sink.old) (S.written sink.new) result }
+    ensures written { Writes (tape_fault_line reason place)
+        (Rose (S.faults sink.old) (S.faults sink.new)) (S.written sink.old) (S.written sink.new) result }
 {
     let text = tape_fault_text(alloc, reason, place)?;
     write_text(&text, sink)
@@ -58,8 +63,10 @@ pub fn list_tape_fault<S: Sink>(
 /// Writes a text in one piece.
 fn write_text<S: Sink>(text: &[u8], sink: &mut S) -> Result<(), Refusal>
     ensures late { IfErr result IsLate }
+    ensures known { answered result ≢ 6 }
     ensures later { S.faults sink.old ≤ S.faults sink.new }
-    ensures written { Writes text.now (Rose (S.faults sink.old) (S.faults sink.new)) (S.written sink.old) (S.written sink.new) result }
+    ensures written { Writes text.now
+        (Rose (S.faults sink.old) (S.faults sink.new)) (S.written sink.old) (S.written sink.new) result }
 {
     write_all(sink, text)?;
     Ok(())

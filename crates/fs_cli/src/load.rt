@@ -2,10 +2,9 @@
 
 ghost use Rattle.std.specs.Prelude.{◌≡◌, ◌≤◌, IfErr, IsTrue, Some, MatchResult};
 ghost use Rattle.fs_base.specs.Outside.{Rose};
-ghost use Rattle.fs_cli.specs.Judged.{IsLate};
+ghost use Rattle.fs_cli.specs.Refusal.{IsLate, HasReason, Reaches, or_stop};
 ghost use Rattle.fs_cli.specs.declared.refusal.Refusal.TheVariants.{Outside};
-ghost use Rattle.fs_cli.specs.Stage.{HasReason, Reaches, or_stop};
-ghost use Rattle.fs_cli.specs.Files.{config_stage};
+ghost use Rattle.fs_cli.specs.Load.{config_stage};
 
 use crate::refusal::Refusal;
 use fs_base::{Config, Failed, Files, ReadStop, Whole};
@@ -14,6 +13,12 @@ use std::alloc::Global;
 
 /// The slot that the configuration is read from.
 const CONFIG_SLOT: u8 = 0;
+
+/// The slot that the tape is read from.
+pub const TAPE_SLOT: u8 = 1;
+
+/// The slot that the capture is read from.
+pub const CAPTURE_SLOT: u8 = 2;
 
 /// Opens the file `name` in `slot`.
 ///

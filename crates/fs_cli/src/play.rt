@@ -1,24 +1,20 @@
 //! Playing a tape.
 
-ghost use Rattle.std.specs.Prelude.{◌≡◌, ◌≤◌, ◌<◌, ◌++◌, ◌∷◌, [], Some, None, IsTrue, IfOk, IfSome, OnOk, MatchResult, List, length};
+ghost use Rattle.std.specs.Prelude.{◌≡◌, ◌≤◌, ◌<◌, ◌++◌, ◌∷◌, [], Some, None, List, length};
+ghost use Rattle.std.specs.Prelude.{IsTrue, IfOk, IfSome, OnOk, MatchResult};
 ghost use Rattle.fs_base.specs.Outside.{Rose};
 ghost use Rattle.fs_base.specs.declared.config.Config.{Config};
-ghost use Rattle.fs_tape.specs.Tape.{Item};
-ghost use Rattle.fs_tape.specs.Turn.{IsItem, coming, shown};
-ghost use Rattle.fs_cli.specs.Stage.{HasReason};
-ghost use Rattle.fs_cli.specs.Inputs.{tape_stage, played_to};
+ghost use Rattle.fs_tape.specs.Tape.{Item, IsItem, coming, item_from};
+ghost use Rattle.fs_cli.specs.Refusal.{HasReason};
+ghost use Rattle.fs_cli.specs.Play.{tape_stage, played_to, IsPlayed, Gives, PlaysOn, refused_by};
 ghost use Rattle.fs_desk.specs.Desk.{Played};
-ghost use Rattle.fs_cli.specs.Tapes.{IsPlayed, Gives, PlaysOn, refused_by};
 
-use crate::load::open;
+use crate::load::{TAPE_SLOT, open};
 use crate::refusal::Refusal;
 use fs_base::{Config, Counted, Files, Memory};
 use fs_desk::Desk;
 use fs_tape::{Tape, TapeFault, TapeItem};
 use std::alloc::Global;
-
-/// The slot that the tape is read from.
-const TAPE_SLOT: u8 = 1;
 
 /// The octets of the longest payload of a tape's record.
 const PAYLOAD: usize = 65536;
@@ -42,7 +38,8 @@ pub fn play_tape<'a, F: Files>(
     ensures played { IsTrue F.tells
         → MatchResult result
         (IsPlayed config.entry.now (tape_stage config.entry.now limit (F.holds files.old) name.now))
-        (HasReason (tape_stage config.entry.now limit (F.holds files.old) name.now) (Rose (F.faults files.old) (F.faults files.new))) }
+        (HasReason (tape_stage config.entry.now limit (F.holds files.old) name.now)
+        (Rose (F.faults files.old) (F.faults files.new))) }
 {
     open(files, TAPE_SLOT, name)?;
     let mut tape = match Tape::begin(Counted::new(TAPE_SLOT, limit), files) {
@@ -76,7 +73,8 @@ fn play_items<F: Files>(
     ensures played { IsTrue F.tells
         → MatchResult result
         (λ _. PlaysOn config.now (coming config.now tape.old (F.left files.old tape.old.slot)) desk.old desk.new)
-        (HasReason (played_to (coming config.now tape.old (F.left files.old tape.old.slot))) (Rose (F.faults files.old) (F.faults files.new))) }
+        (HasReason (played_to (coming config.now tape.old (F.left files.old tape.old.slot)))
+        (Rose (F.faults files.old) (F.faults files.new))) }
 {
     let mut replies = Vec::new(alloc);
     'items: while let Some(item) = next_item(files, tape, config, buffer)? {
@@ -96,7 +94,10 @@ fn play_item(
     requires room { 65536 ≤ length buffer.now }
     requires item { IsItem desk.old.config item }
     ensures config { desk.new.config ≡ desk.old.config }
-    ensures played { OnOk result ((config : Config) (items : List Item) → Played config items desk.old → Played config (items ++ shown item buffer.now ∷ []) desk.new) }
+    ensures played { OnOk result ((config : Config)
+        → (items : List Item)
+        → Played config items desk.old
+        → Played config (items ++ item_from item buffer.now ∷ []) desk.new) }
 {
     match item {
         TapeItem::Up(peer) => desk.up(peer),
@@ -123,12 +124,15 @@ fn next_item<F: Files>(
     ensures limit { tape.new.limit ≡ tape.old.limit }
     ensures known { IfOk result (λ found. IfSome found (IsItem config.now)) }
     ensures open { IfOk result (λ found. IfSome found (λ _. tape.new.end ≡ None)) }
-    ensures grows { IfOk result (λ found. IfSome found (λ _. (tape.old.place < tape.new.place) × (tape.new.place ≤ tape.new.limit))) }
+    ensures grows { IfOk result (λ found. IfSome found (λ _.
+        (tape.old.place < tape.new.place) × (tape.new.place ≤ tape.new.limit))) }
 
     ensures gives { IsTrue F.tells
         → MatchResult result
-        (Gives (coming config.now tape.old (F.left files.old tape.old.slot)) (coming config.now tape.new (F.left files.new tape.old.slot)) buffer.new)
-        (HasReason (played_to (coming config.now tape.old (F.left files.old tape.old.slot))) (Rose (F.faults files.old) (F.faults files.new))) }
+        (Gives (coming config.now tape.old (F.left files.old tape.old.slot))
+        (coming config.now tape.new (F.left files.new tape.old.slot)) buffer.new)
+        (HasReason (played_to (coming config.now tape.old (F.left files.old tape.old.slot)))
+        (Rose (F.faults files.old) (F.faults files.new))) }
 {
     match tape.next(files, config, buffer) {
         Ok(found) => Ok(found),

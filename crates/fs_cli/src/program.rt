@@ -1,18 +1,15 @@
 //! The program.
 
-ghost use Rattle.std.specs.Prelude.{◌≡◌, ◌≢◌, ◌≤◌, ◌<◌, ◌-◌, ◌^◌, ◌⊎◌, ◌↔◌, [], ℕ, List, None, Some, IsTrue, IfSome, map, string_bytes};
-ghost use Rattle.fs_base.specs.Outside.{Rose};
-ghost use Rattle.fs_base.specs.Sink.{Grew};
-ghost use Rattle.fs_cli.specs.Checked.{Checks};
-ghost use Rattle.fs_cli.specs.Command.{form_shown};
-ghost use Rattle.fs_cli.specs.Enforced.{Enforced};
-ghost use Rattle.fs_cli.specs.Form.{Enforce, Rules, form_of};
-ghost use Rattle.fs_cli.specs.Listed.{Listed};
-ghost use Rattle.fs_cli.specs.Top.{Does, Runs, HasStatus};
+ghost use Rattle.std.specs.Prelude.{◌≡◌, ◌≢◌, ◌≤◌, ◌⊎◌, ◌^◌, ℕ, List, map, string_bytes};
+ghost use Rattle.fs_base.specs.Happened.{at_sink, happened};
+ghost use Rattle.fs_base.specs.declared.prefix.Family.{Family};
+ghost use Rattle.fs_cli.specs.Program.{Checks, Does, Promises, world};
+ghost use Rattle.fs_cli.specs.Command.{form_shown, Check, Enforce};
 
 use crate::command::{Command, parse};
-use crate::enforce::enforce;
+use crate::enforce::{InputNames, enforce};
 use crate::rules::list_rules;
+use crate::status;
 use fs_base::{Family, Files, Sink, Wire};
 use fs_check::{CheckFault, check};
 use std::alloc::Global;
@@ -20,14 +17,8 @@ use std::alloc::Global;
 /// The most octets that an input may have.
 const LIMIT: u64 = 1 << 40;
 
-/// The status for words that ask for no command.
-const NO_COMMAND: u8 = 2;
-
-/// The status for NLRI that isn't accepted.
-const BAD_NLRI: u8 = 9;
-
 /// Runs the command that the words ask for, over inputs of fewer than 2^40 octets, and answers the status with which the
-/// process is to end. `words` are those after the program's name.
+/// process is to end (see [`status`]). `words` are those after the program's name.
 pub fn run<F: Files, S: Sink, W: Wire>(
     alloc: Global,
     words: &[String],
@@ -35,37 +26,9 @@ pub fn run<F: Files, S: Sink, W: Wire>(
     sink: &mut S,
     wire: &mut W,
 ) -> u8
-    ensures runs { Runs F.tells (2 ^ 40) (F.holds files.old) (form_of (map string_bytes words.now))
-        (Rose (F.faults files.old) (F.faults files.new)) (Rose (S.faults sink.old) (S.faults sink.new))
-        (S.written sink.old) (S.written sink.new) result }
-    ensures words { (result ≡ 2) ↔ (form_of (map string_bytes words.now) ≡ None) }
-    ensures quiet { (result ≡ 2) ⊎ (result ≡ 3) → Grew (S.written sink.old) (S.written sink.new) [] }
-    ensures still { result ≡ 4 → (config tape capture : List ℕ) → form_of (map string_bytes words.now) ≡ Some (Enforce config tape capture) → Grew (S.written sink.old) (S.written sink.new) [] }
-
-    ensures causes { IsTrue F.tells
-        → IfSome (form_of (map string_bytes words.now)) (λ form.
-        HasStatus (2 ^ 40) (F.holds files.old) form result
-        ⊎ (result ≡ 6)
-        ⊎ ((result ≡ 1) × (Rose (F.faults files.old) (F.faults files.new) ⊎ Rose (S.faults sink.old) (S.faults sink.new)))) }
-
-    ensures complete { IsTrue F.tells
-        → F.faults files.new ≡ F.faults files.old
-        → F.faults files.old < 2 ^ 64 - 1
-        → S.faults sink.new ≡ S.faults sink.old
-        → S.faults sink.old < 2 ^ 64 - 1
-        → IfSome (form_of (map string_bytes words.now)) (λ form. HasStatus (2 ^ 40) (F.holds files.old) form result ⊎ (result ≡ 6)) }
-
-    ensures headline { IsTrue F.tells
-        → result ≡ 0
-        → (config tape capture : List ℕ)
-        → form_of (map string_bytes words.now) ≡ Some (Enforce config tape capture)
-        → Enforced (2 ^ 40) (F.holds files.old) config tape capture (S.written sink.old) (S.written sink.new) }
-
-    ensures listed { IsTrue F.tells
-        → result ≡ 0
-        → (config tape : List ℕ)
-        → form_of (map string_bytes words.now) ≡ Some (Rules config tape)
-        → Listed (2 ^ 40) (F.holds files.old) config tape (S.written sink.old) (S.written sink.new) }
+    ensures { Promises (2 ^ 40)
+        (world F.Files S.Sink files.old files.new sink.old sink.new wire.old wire.new)
+        (map string_bytes words.now) result }
 {
     run_within(alloc, words, LIMIT, files, sink, wire)
 }
@@ -83,45 +46,17 @@ pub fn run_within<F: Files, S: Sink, W: Wire>(
     _wire: &mut W,
 ) -> u8
     requires { 1 ≤ limit }
-    ensures runs { Runs F.tells limit (F.holds files.old) (form_of (map string_bytes words.now))
-        (Rose (F.faults files.old) (F.faults files.new)) (Rose (S.faults sink.old) (S.faults sink.new))
-        (S.written sink.old) (S.written sink.new) result }
-    ensures words { (result ≡ 2) ↔ (form_of (map string_bytes words.now) ≡ None) }
-    ensures quiet { (result ≡ 2) ⊎ (result ≡ 3) → Grew (S.written sink.old) (S.written sink.new) [] }
-    ensures still { result ≡ 4 → (config tape capture : List ℕ) → form_of (map string_bytes words.now) ≡ Some (Enforce config tape capture) → Grew (S.written sink.old) (S.written sink.new) [] }
-
-    ensures causes { IsTrue F.tells
-        → IfSome (form_of (map string_bytes words.now)) (λ form.
-        HasStatus limit (F.holds files.old) form result
-        ⊎ (result ≡ 6)
-        ⊎ ((result ≡ 1) × (Rose (F.faults files.old) (F.faults files.new) ⊎ Rose (S.faults sink.old) (S.faults sink.new)))) }
-
-    ensures complete { IsTrue F.tells
-        → F.faults files.new ≡ F.faults files.old
-        → F.faults files.old < 2 ^ 64 - 1
-        → S.faults sink.new ≡ S.faults sink.old
-        → S.faults sink.old < 2 ^ 64 - 1
-        → IfSome (form_of (map string_bytes words.now)) (λ form. HasStatus limit (F.holds files.old) form result ⊎ (result ≡ 6)) }
-
-    ensures headline { IsTrue F.tells
-        → result ≡ 0
-        → (config tape capture : List ℕ)
-        → form_of (map string_bytes words.now) ≡ Some (Enforce config tape capture)
-        → Enforced limit (F.holds files.old) config tape capture (S.written sink.old) (S.written sink.new) }
-
-    ensures listed { IsTrue F.tells
-        → result ≡ 0
-        → (config tape : List ℕ)
-        → form_of (map string_bytes words.now) ≡ Some (Rules config tape)
-        → Listed limit (F.holds files.old) config tape (S.written sink.old) (S.written sink.new) }
+    ensures { Promises limit
+        (world F.Files S.Sink files.old files.new sink.old sink.new _wire.old _wire.new)
+        (map string_bytes words.now) result }
 {
     match parse(words) {
-        None => NO_COMMAND,
+        None => status::NO_COMMAND,
         Some(command) => perform(alloc, command, limit, files, sink),
     }
 }
 
-/// Runs the command, and answers the status.
+/// Runs the command, and answers the status. None of these commands is handed the wire.
 fn perform<F: Files, S: Sink>(
     alloc: Global,
     command: Command<'_>,
@@ -130,24 +65,37 @@ fn perform<F: Files, S: Sink>(
     sink: &mut S,
 ) -> u8
     ensures does { Does F.tells limit (F.holds files.old) (form_shown command.entry)
-        (Rose (F.faults files.old) (F.faults files.new)) (Rose (S.faults sink.old) (S.faults sink.new))
-        (S.written sink.old) (S.written sink.new) result }
+        (happened F.Files S.Sink files.old files.new sink.old sink.new) result }
     ensures known { result ≢ 2 }
-    ensures quiet { result ≡ 3 → Grew (S.written sink.old) (S.written sink.new) [] }
-    ensures still { result ≡ 4 → (config tape capture : List ℕ) → form_shown command.entry ≡ Enforce config tape capture → Grew (S.written sink.old) (S.written sink.new) [] }
+    ensures quiet { (result ≡ 3) ⊎ (result ≡ 6) → sink.new ≡ sink.old }
+    ensures still { result ≡ 4
+        → (config tape capture : List ℕ)
+        → form_shown command.entry ≡ Enforce config tape capture
+        → sink.new ≡ sink.old }
+    ensures unopened { (family : Family)
+        → (word : List ℕ)
+        → form_shown command.entry ≡ Check family word
+        → files.new ≡ files.old }
 {
     match command {
         Command::Enforce {
             config,
             tape,
             capture,
-        } => match enforce(alloc, files, sink, config, tape, capture, limit) {
-            Ok(()) => 0,
-            Err(refusal) => refusal.status(),
-        },
+        } => {
+            let names = InputNames {
+                config,
+                tape,
+                capture,
+            };
+            match enforce(alloc, files, sink, &names, limit) {
+                Ok(()) => status::DONE,
+                Err(refusal) => refusal.status(),
+            }
+        }
         Command::Rules { config, tape } => {
             match list_rules(alloc, files, sink, config, tape, limit) {
-                Ok(()) => 0,
+                Ok(()) => status::DONE,
                 Err(refusal) => refusal.status(),
             }
         }
@@ -155,15 +103,16 @@ fn perform<F: Files, S: Sink>(
     }
 }
 
+/// Says of the word what it is as NLRI of the family.
 fn run_check<S: Sink>(alloc: Global, sink: &mut S, family: Family, word: &str) -> u8
-    ensures checks { Checks family word.now (Rose (S.faults sink.old) (S.faults sink.new)) (S.written sink.old) (S.written sink.new) result }
-    ensures known { result ≢ 2 }
-    ensures quiet { (result ≢ 3) × (result ≢ 4) }
+    ensures checks { Checks family word.now (at_sink S.Sink sink.old sink.new) result }
+    ensures known { (result ≢ 2) × (result ≢ 3) × (result ≢ 4) }
+    ensures quiet { result ≡ 6 → sink.new ≡ sink.old }
 {
     match check(alloc, sink, family, word) {
-        Ok(true) => 0,
-        Ok(false) => BAD_NLRI,
-        Err(CheckFault::Failed) => 1,
-        Err(CheckFault::Memory) => 6,
+        Ok(true) => status::DONE,
+        Ok(false) => status::NLRI,
+        Err(CheckFault::Failed) => status::OUTSIDE,
+        Err(CheckFault::Memory) => status::MEMORY,
     }
 }

@@ -2,6 +2,7 @@
 
 ghost use Rattle.std.specs.Prelude.{◌≡◌};
 
+use crate::status;
 use fs_base::{Failed, Memory};
 use fs_tape::TapeReason;
 use std::alloc::AllocError;
@@ -24,19 +25,19 @@ pub enum Refusal {
 }
 
 impl Refusal {
-    ghost use Rattle.fs_cli.specs.Stage.{status_of};
+    ghost use Rattle.fs_cli.specs.Refusal.{status_of};
 
     /// The status with which the process ends.
     pub fn status(self) -> u8
         ensures { result ≡ status_of self }
     {
         match self {
-            Refusal::Outside => 1,
-            Refusal::Config => 3,
-            Refusal::Tape { .. } => 4,
-            Refusal::Capture => 5,
-            Refusal::Memory => 6,
-            Refusal::Limit => 7,
+            Refusal::Outside => status::OUTSIDE,
+            Refusal::Config => status::CONFIG,
+            Refusal::Tape { .. } => status::TAPE,
+            Refusal::Capture => status::CAPTURE,
+            Refusal::Memory => status::MEMORY,
+            Refusal::Limit => status::LIMIT,
         }
     }
 }

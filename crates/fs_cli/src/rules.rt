@@ -1,10 +1,10 @@
 //! The command `rules`.
 
-ghost use Rattle.std.specs.Prelude.{◌≡◌, ◌≤◌, ◌⊎◌, [], IsTrue};
+ghost use Rattle.std.specs.Prelude.{◌≡◌, ◌≤◌, ◌⊎◌, IsTrue};
+ghost use Rattle.fs_base.specs.Happened.{happened};
 ghost use Rattle.fs_base.specs.Outside.{Rose};
-ghost use Rattle.fs_base.specs.Sink.{Grew};
-ghost use Rattle.fs_cli.specs.Judged.{answered};
-ghost use Rattle.fs_cli.specs.Listed.{Lists, SaysOf};
+ghost use Rattle.fs_cli.specs.Refusal.{answered};
+ghost use Rattle.fs_cli.specs.Rules.{Lists, SaysOf};
 
 use crate::listing::{list_desk, list_tape_fault};
 use crate::load::load_config;
@@ -28,13 +28,11 @@ pub fn list_rules<F: Files, S: Sink>(
 ) -> Result<(), Refusal>
     ensures files_later { F.faults files.old ≤ F.faults files.new }
     ensures sink_later { S.faults sink.old ≤ S.faults sink.new }
-    ensures quiet { answered result ≡ 3 → Grew (S.written sink.old) (S.written sink.new) [] }
+    ensures quiet { (answered result ≡ 3) ⊎ (answered result ≡ 6) → sink.new ≡ sink.old }
 
     ensures lists { IsTrue F.tells
         → Lists limit (F.holds files.old) config.now tape.now
-        (Rose (F.faults files.old) (F.faults files.new) ⊎ Rose (S.faults sink.old) (S.faults sink.new))
-        (S.written sink.old)
-        (S.written sink.new)
+        (happened F.Files S.Sink files.old files.new sink.old sink.new)
         (answered result) }
 {
     let config = load_config(alloc, files, config, limit)?;
@@ -47,7 +45,9 @@ pub fn list_rules<F: Files, S: Sink>(
 /// Writes what is said at a refusal of the tape, and hands the refusal on.
 fn list_refusal<S: Sink>(alloc: Global, refusal: Refusal, sink: &mut S) -> Result<(), Refusal>
     ensures later { S.faults sink.old ≤ S.faults sink.new }
-    ensures said { SaysOf refusal (Rose (S.faults sink.old) (S.faults sink.new)) (S.written sink.old) (S.written sink.new) result }
+    ensures quiet { (answered result ≡ 3) ⊎ (answered result ≡ 6) → sink.new ≡ sink.old }
+    ensures said { SaysOf refusal (Rose (S.faults sink.old) (S.faults sink.new))
+        (S.written sink.old) (S.written sink.new) result }
 {
     if let Refusal::Tape { reason, place } = refusal {
         list_tape_fault(alloc, reason, place, sink)?;

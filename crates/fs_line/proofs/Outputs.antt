@@ -1,9 +1,15 @@
--- How `Goes` and `Stops` of a text follow from those of its parts.
-use Rattle.std.proofs.Common.{◌≡◌, ℕ, ◌+◌, ◌<◌, List, [], ◌∷◌, ◌++◌, length, take, drop, get_or, Option, Result, Ok, Err, OnOk, OnErr, sym, ◌∙◌, ap, subst, append_assoc, append-nil}
+-- How what became of a text follows from what became of its parts.
+use Rattle.std.proofs.Common.{◌≡◌, ℕ, ◌+◌, ◌<◌, List, [], ◌∷◌, ◌++◌, length, take, drop, get_or, Option, Result, Ok, Err, OnOk, OnErr, IsErrAnd, ◌≤◌, arith, sym, ◌∙◌, ap, subst, append_assoc, append-nil}
 use Rattle.std.proofs.lemmas.List.{take_more, take-append-drop}
+use Rattle.fs_base.specs.Outside.{HasCause, Rose}
 use Rattle.fs_base.specs.Sink.{Grew, GrewPart}
 use Rattle.fs_base.proofs.Grew.{Grew-refl, Grew-trans, part_more, part_then}
-use Rattle.fs_line.specs.Output.{Goes, Stops}
+use Rattle.fs_line.specs.Output.{Goes, Stops, Sent}
+
+-- a text has gone on so far
+pub record SentSo (faults faults_now : ℕ) (before now : Option (List ℕ)) (pending pending_now text : List ℕ) : Type 0 where
+  pub later : faults ≤ faults_now
+  pub goes : Goes before now pending pending_now text
 
 -- no text
 pub goes_none : (a : Option (List ℕ)) (p : List ℕ) → Goes a a p p []
@@ -20,18 +26,43 @@ goes_then {a} {b} {c} {p} {q} {r} {xs} {ys} first then =
     }
 
 -- a text, and then a fault in the next
-pub goes_stops : {a b c : Option (List ℕ)} {p q xs ys : List ℕ} → Goes a b p q xs → Stops b c q ys → Stops a c p (xs ++ ys)
-goes_stops {a} {b} {c} {p} {q} {xs} {ys} first stop =
+pub goes_stops : {a b c : Option (List ℕ)} {p q r xs ys : List ℕ} → Goes a b p q xs → Stops b c q r ys → Stops a c p r (xs ++ ys)
+goes_stops {a} {b} {c} {p} {q} {r} {xs} {ys} first stop =
     let P : List ℕ → Type 0 = λ text. GrewPart a c text in
     let same : first.flushed ++ (q ++ ys) ≡ p ++ (xs ++ ys) =
     sym (append_assoc first.flushed q ys) ∙ ap (λ front. front ++ ys) (sym first.whole) ∙ append_assoc p xs ys in
-    record { part = subst P same (part_then a b c first.flushed (q ++ ys) first.grew stop.part) }
+    record { part = subst P same (part_then a b c first.flushed (q ++ ys) first.grew stop.part); empty = stop.empty }
 
 -- a fault in the first part of a text
-pub stops_more : {a b : Option (List ℕ)} {p xs : List ℕ} (ys : List ℕ) → Stops a b p xs → Stops a b p (xs ++ ys)
-stops_more {a} {b} {p} {xs} ys stop =
+pub stops_more : {a b : Option (List ℕ)} {p q xs : List ℕ} (ys : List ℕ) → Stops a b p q xs → Stops a b p q (xs ++ ys)
+stops_more {a} {b} {p} {q} {xs} ys stop =
     let P : List ℕ → Type 0 = λ text. GrewPart a b text in
-    record { part = subst P (append_assoc p xs ys) (part_more a b (p ++ xs) ys stop.part) }
+    record { part = subst P (append_assoc p xs ys) (part_more a b (p ++ xs) ys stop.part); empty = stop.empty }
+
+rose_later : {f g h : ℕ} → f ≤ g → Rose g h → Rose f h
+rose_later {f} {g} {h} before rose = omega (arith, before, rose)
+
+later_both : {f g h : ℕ} → f ≤ g → g ≤ h → f ≤ h
+later_both {f} {g} {h} first then = omega (arith, first, then)
+
+-- what is sent first and then
+pub sends_then : {T U E F : Type 0} {f g h : ℕ} {a b c : Option (List ℕ)} {p q r xs ys : List ℕ} {value : T} {result : Result U F}
+    → Sent {T = T} {E = E} f g a b p q xs (Ok value) → Sent g h b c q r ys result → Sent f h a c p r (xs ++ ys) result
+sends_then {result = Ok value} first then =
+    record { later = later_both first.later then.later; ok = goes_then first.ok then.ok; err = tt }
+sends_then {result = Err error} first then =
+    record { later = later_both first.later then.later; ok = tt; err = (goes_stops first.ok then.err.0, rose_later first.later then.err.1) }
+
+-- the sink failed in the first part of a text, and the error is handed on
+pub sends_stopped : {T U E F : Type 0} {f g : ℕ} {a b : Option (List ℕ)} {p q xs : List ℕ} {error : E} (ys : List ℕ) (R : F → Type 0) (result : Result U F)
+    → IsErrAnd result R → Sent {T = T} {E = E} f g a b p q xs (Err error) → Sent f g a b p q (xs ++ ys) result
+sends_stopped ys R (Ok value) on first = absurd on
+sends_stopped ys R (Err error) on first = record { later = first.later; ok = tt; err = (stops_more ys first.err.0, first.err.1) }
+
+-- a text that is equal
+pub sends_as : {T E : Type 0} {f g : ℕ} {a b : Option (List ℕ)} {p q xs ys : List ℕ} {result : Result T E} → xs ≡ ys → Sent f g a b p q xs result → Sent f g a b p q ys result
+sends_as {f = f} {g = g} {a = a} {b = b} {p = p} {q = q} {result = result} same sent =
+    let P : List ℕ → Type 0 = λ text. Sent f g a b p q text result in subst P same sent
 
 -- a text, and then what is pending written out
 pub goes_flush : {a b : Option (List ℕ)} {p q xs : List ℕ} (c : Option (List ℕ)) → Goes a b p q xs → Grew b c q → Grew a c (p ++ xs)
@@ -43,38 +74,40 @@ pub goes_flush_part : {a b : Option (List ℕ)} {p q xs : List ℕ} (c : Option 
 goes_flush_part {a} {b} {p} {q} {xs} c first part =
     let P : List ℕ → Type 0 = λ text. GrewPart a c text in subst P (sym first.whole) (part_then a b c first.flushed q first.grew part)
 
--- what was pending written out, and then a text written as it is
-pub goes_straight : {a c : Option (List ℕ)} {p xs : List ℕ} (b : Option (List ℕ)) → Grew a b p → Grew b c xs → Goes a c p [] xs
-goes_straight {a} {c} {p} {xs} b flushed written =
-    record { flushed = p ++ xs; grew = Grew-trans a b c p xs flushed written; whole = sym (append-nil (p ++ xs)) }
-
 -- a fault while what is pending is written out
-pub stops_flushing : {a b : Option (List ℕ)} {p : List ℕ} (xs : List ℕ) → GrewPart a b p → Stops a b p xs
-stops_flushing {a} {b} {p} xs part = record { part = part_more a b p xs part }
+pub flush_failed : {T U E F : Type 0} {f g : ℕ} {a b : Option (List ℕ)} {p q : List ℕ} {error : E} (xs : List ℕ) (R : F → Type 0) (result : Result U F)
+    → IsErrAnd result R → GrewPart a b p → q ≡ [] → HasCause {T = T} f g (Err error) → Sent f g a b p q xs result
+flush_failed xs R (Ok value) on part empty cause = absurd on
+flush_failed {a = a} {b = b} {p = p} xs R (Err error) on part empty cause = record {
+  later = cause.later;
+  ok = tt;
+  err = (record { part = part_more a b p xs part; empty = empty }, cause.failed);
+}
 
--- what was pending written out, and then a fault in a text that is written as it is
-pub stops_straight : {a c : Option (List ℕ)} {p xs : List ℕ} (b : Option (List ℕ)) → Grew a b p → GrewPart b c xs → Stops a c p xs
-stops_straight {a} {c} {p} {xs} b flushed part = record { part = part_then a b c p xs flushed part }
-
--- a fact of one outcome, where it holds anyway or follows from another
-pub on_err : {T E X : Type 0} (result : Result T E) → X → OnErr result X
-on_err (Ok value) fact = tt
-on_err (Err error) fact = fact
-
-pub on_ok_from : {T E X Y : Type 0} (result : Result T E) → OnOk result X → (X → Y) → OnOk result Y
-on_ok_from (Ok value) fact next = next fact
-on_ok_from (Err error) fact next = tt
-
-pub on_err_from : {T E X Y : Type 0} (result : Result T E) → OnErr result X → (X → Y) → OnErr result Y
-on_err_from (Ok value) fact next = tt
-on_err_from (Err error) fact next = next fact
+-- what was pending written out, and then a text that is written as it is
+pub sent_straight : {T E : Type 0} {f g h : ℕ} {a c : Option (List ℕ)} {p q xs : List ℕ} (b : Option (List ℕ)) (result : Result T E)
+    → Grew a b p → q ≡ [] → f ≤ g → OnOk result (Grew b c xs) → OnErr result (GrewPart b c xs) → HasCause g h result → Sent f h a c p q xs result
+sent_straight {a = a} {c = c} {p = p} {xs = xs} b (Ok value) flushed empty later ok err cause = record {
+  later = later_both later cause.later;
+  ok = record {
+    flushed = p ++ xs;
+    grew = Grew-trans a b c p xs flushed ok;
+    whole = sym (append-nil (p ++ xs)) ∙ ap (λ rest. (p ++ xs) ++ rest) (sym empty);
+  };
+  err = tt;
+}
+sent_straight {a = a} {c = c} {p = p} {xs = xs} b (Err error) flushed empty later ok err cause = record {
+  later = later_both later cause.later;
+  ok = tt;
+  err = (record { part = part_then a b c p xs flushed err; empty = empty }, rose_later later cause.failed);
+}
 
 -- a text that is equal
 pub goes_as : {a b : Option (List ℕ)} {p q xs ys : List ℕ} → xs ≡ ys → Goes a b p q xs → Goes a b p q ys
 goes_as {a} {b} {p} {q} {xs} {ys} same goes = let P : List ℕ → Type 0 = λ text. Goes a b p q text in subst P same goes
 
-pub stops_as : {a b : Option (List ℕ)} {p xs ys : List ℕ} → xs ≡ ys → Stops a b p xs → Stops a b p ys
-stops_as {a} {b} {p} {xs} {ys} same stops = let P : List ℕ → Type 0 = λ text. Stops a b p text in subst P same stops
+pub stops_as : {a b : Option (List ℕ)} {p q xs ys : List ℕ} → xs ≡ ys → Stops a b p q xs → Stops a b p q ys
+stops_as {a} {b} {p} {q} {xs} {ys} same stops = let P : List ℕ → Type 0 = λ text. Stops a b p q text in subst P same stops
 
 -- a text that is written item by item
 pub text_more : {X : Type 0} (text : List X → List ℕ) → ((xs ys : List X) → text (xs ++ ys) ≡ text xs ++ text ys)
@@ -89,15 +122,36 @@ text_whole text adds xs i d below =
     ∙ ap (λ front. front ++ text (drop (i + 1) xs)) (text_more text adds xs i d below)
     ∙ sym (adds (take (i + 1) xs) (drop (i + 1) xs)) ∙ ap text (take-append-drop (i + 1) xs)
 
--- one more item
-pub goes_more : {X : Type 0} {a b c : Option (List ℕ)} {p q r : List ℕ} (text : List X → List ℕ)
+-- one more item, behind those that were sent, of which none failed
+pub sends_more : {X T E : Type 0} {f g h : ℕ} {a b c : Option (List ℕ)} {p q r : List ℕ} {value : T} (text : List X → List ℕ)
     → ((xs ys : List X) → text (xs ++ ys) ≡ text xs ++ text ys) → (xs : List X) (i : ℕ) (d : X) → i < length xs
-    → Goes a b p q (text (take i xs)) → Goes b c q r (text (get_or xs i d ∷ [])) → Goes a c p r (text (take (i + 1) xs))
-goes_more text adds xs i d below first then = goes_as (text_more text adds xs i d below) (goes_then first then)
+    → SentSo f g a b p q (text (take i xs)) → Sent {T = T} {E = E} g h b c q r (text (get_or xs i d ∷ [])) (Ok value)
+    → SentSo f h a c p r (text (take (i + 1) xs))
+sends_more text adds xs i d below first then = record {
+  later = later_both first.later then.later;
+  goes = goes_as (text_more text adds xs i d below) (goes_then first.goes then.ok);
+}
 
--- a fault in one item
-pub stops_within : {X : Type 0} {a b c : Option (List ℕ)} {p q : List ℕ} (text : List X → List ℕ)
+-- one more item, of which nothing is written
+pub sends_nothing : {X : Type 0} {f g : ℕ} {a b : Option (List ℕ)} {p q : List ℕ} (text : List X → List ℕ)
     → ((xs ys : List X) → text (xs ++ ys) ≡ text xs ++ text ys) → (xs : List X) (i : ℕ) (d : X) → i < length xs
-    → Goes a b p q (text (take i xs)) → Stops b c q (text (get_or xs i d ∷ [])) → Stops a c p (text xs)
-stops_within text adds xs i d below first stop =
-    stops_as (text_whole text adds xs i d below) (goes_stops first (stops_more (text (drop (i + 1) xs)) stop))
+    → [] ≡ text (get_or xs i d ∷ []) → SentSo f g a b p q (text (take i xs)) → SentSo f g a b p q (text (take (i + 1) xs))
+sends_nothing text adds xs i d below none first = record {
+  later = first.later;
+  goes = goes_as (sym (append-nil (text (take i xs))) ∙ ap (λ (more : List ℕ). text (take i xs) ++ more) none ∙ text_more text adds xs i d below) first.goes;
+}
+
+-- the sink failed within one item, and the error is handed on
+pub sends_within : {X T U E F : Type 0} {f g h : ℕ} {a b c : Option (List ℕ)} {p q r : List ℕ} {error : E} (text : List X → List ℕ)
+    → ((xs ys : List X) → text (xs ++ ys) ≡ text xs ++ text ys) → (xs : List X) (i : ℕ) (d : X) → i < length xs → (R : F → Type 0) (result : Result U F) → IsErrAnd result R
+    → SentSo f g a b p q (text (take i xs)) → Sent {T = T} {E = E} g h b c q r (text (get_or xs i d ∷ [])) (Err error)
+    → Sent f h a c p r (text xs) result
+sends_within text adds xs i d below R (Ok value) on first then = absurd on
+sends_within text adds xs i d below R (Err error) on first then = record {
+  later = later_both first.later then.later;
+  ok = tt;
+  err = (
+    stops_as (text_whole text adds xs i d below) (goes_stops first.goes (stops_more (text (drop (i + 1) xs)) then.err.0)),
+    rose_later first.later then.err.1,
+  );
+}

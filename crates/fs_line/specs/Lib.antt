@@ -1,3 +1,4 @@
 pub mod Line
 pub mod Output
 pub mod Pieces
+pub mod Walked

@@ -1,7 +1,7 @@
 -- The lines that `enforce` writes for the packets of a capture.
-use Rattle.std.specs.Prelude.{ℕ, ◌+◌, List, [], ◌∷◌, ◌++◌, map, flat_map, filter_map, if◌then◌else◌, codes, decimal}
+use Rattle.std.specs.Prelude.{ℕ, List, [], ◌∷◌, ◌++◌, map, flat_map, filter_map, if◌then◌else◌, codes, decimal}
 use Rattle.std.specs.Option.{option_map_or}
-use Rattle.std.specs.List.{join_with_byte, list_any, slice_index_or}
+use Rattle.std.specs.List.{join_with_byte, list_any}
 use Rattle.std.specs.Int.{to_be_bytes, w32}
 use Rattle.hex.specs.Hex.{encode_lower}
 use Rattle.fs_actions.specs.Actions.{first_of}
@@ -10,14 +10,7 @@ use Rattle.fs_actions.specs.declared.community.Rate.{Rate}
 use Rattle.fs_actions.specs.declared.community.Rate.TheVariants.{Bytes, Packets}
 use Rattle.fs_actions.specs.declared.community.Redirect.{Redirect}
 use Rattle.fs_actions.specs.declared.community.Redirect.TheVariants.{As2, Ip4, As4}
-
--- the rules at these places, counted from 0: each one's number, from 1, and its actions
-abbrev pub rules_at : List (List (List ℕ)) → List ℕ → List (ℕ × List (List ℕ))
-rules_at actions places = map (λ place. (place + 1, slice_index_or actions place [])) places
-
--- all actions of the rules that a packet has walked, in the order of the walk and within a rule in list order
-abbrev pub actions_walked : List (ℕ × List (List ℕ)) → List (List ℕ)
-actions_walked rules = flat_map (λ rule. rule.1) rules
+use Rattle.fs_line.specs.Walked.{actions_walked, numbers_walked}
 
 -- a packet passes unless a rate lets nothing pass (RFC 8955 sections 7.1 and 7.2)
 abbrev pub verdict_text : List (List ℕ) → List ℕ
@@ -27,10 +20,14 @@ verdict_text actions = if list_any is_discard actions then codes " discard" else
 abbrev pub numbered : List ℕ → ℕ → List ℕ
 numbered word number = word ++ decimal number
 
+-- the numbers of the rules walked after the first
+abbrev pub others_text : List ℕ → List ℕ
+others_text numbers = flat_map (numbered (codes ",")) numbers
+
 -- the numbers of the rules walked, with commas between them
 abbrev pub numbers_text : List ℕ → List ℕ
 numbers_text [] = []
-numbers_text (first ∷ others) = numbered (codes " rules ") first ++ flat_map (numbered (codes ",")) others
+numbers_text (first ∷ others) = numbered (codes " rules ") first ++ others_text others
 
 -- a DSCP value, in decimal (RFC 8955 section 7.5)
 abbrev pub mark_text : ℕ → List ℕ
@@ -54,19 +51,29 @@ abbrev pub rate_text : Rate → List ℕ
 rate_text (Bytes figure) = codes " bytes " ++ encode_lower (to_be_bytes w32 figure)
 rate_text (Packets figure) = codes " packets " ++ encode_lower (to_be_bytes w32 figure)
 
--- what the actions of a walk say beside the verdict: the first marking, the first redirect, sampling by the S bit of any
--- traffic-action (RFC 8955 section 7.3), and each rate that lets something pass
+-- the rates among some actions that let something pass
+abbrev pub rates_text : List (List ℕ) → List ℕ
+rates_text actions = flat_map rate_text (filter_map limit_of actions)
+
+-- the word for sampling, by the S bit of any traffic-action (RFC 8955 section 7.3)
+abbrev pub sample_text : List (List ℕ) → List ℕ
+sample_text actions = if list_any (has_flag 2) actions then codes " sample" else []
+
+-- what the actions of a walk say beside the verdict: the first marking, the first redirect, sampling, and each
+-- rate that lets something pass
 abbrev pub effects_text : List (List ℕ) → List ℕ
 effects_text actions =
     option_map_or mark_text (first_of mark_of actions) []
     ++ (option_map_or redirect_text (first_of redirect_of actions) []
-    ++ ((if list_any (has_flag 2) actions then codes " sample" else [])
-    ++ flat_map rate_text (filter_map limit_of actions)))
+    ++ (sample_text actions ++ rates_text actions))
 
 -- the line of a packet that was judged: the record's number, from 1, and the rules walked
 abbrev pub line_of : ℕ → List (ℕ × List (List ℕ)) → List ℕ
 line_of number rules =
-    decimal number ++ (verdict_text (actions_walked rules) ++ (numbers_text (map (λ rule. rule.0) rules) ++ (effects_text (actions_walked rules) ++ codes "\n")))
+    decimal number
+    ++ (verdict_text (actions_walked rules)
+    ++ (numbers_text (numbers_walked rules)
+    ++ (effects_text (actions_walked rules) ++ codes "\n")))
 
 -- the line of a packet that can't be judged, with the number of the reason
 abbrev pub unread_line_of : ℕ → ℕ → List ℕ

@@ -1,6 +1,8 @@
 -- How text reaches a sink through a buffer that keeps octets back.
-use Rattle.std.specs.Prelude.{◌≡◌, ℕ, List, ◌++◌, Option}
+use Rattle.std.specs.Prelude.{◌≡◌, ◌≤◌, ℕ, List, [], ◌++◌, Option, Result, OnOk, OnErr}
+use Rattle.fs_base.specs.Outside.{Rose}
 use Rattle.fs_base.specs.Sink.{Grew, GrewPart}
+use Rattle.fs_base.specs.declared.outside.sink.Sink as sink
 
 -- What was pending and then the text have gone on: a front of them to the sink, and the rest is pending now.
 pub record Goes (before now : Option (List ℕ)) (pending pending_now text : List ℕ) : Type 0 where
@@ -8,6 +10,18 @@ pub record Goes (before now : Option (List ℕ)) (pending pending_now text : Lis
   pub grew : Grew before now flushed
   pub whole : pending ++ text ≡ flushed ++ pending_now
 
--- The sink has taken a front of what was pending and the text, and no more follows.
-pub record Stops (before now : Option (List ℕ)) (pending text : List ℕ) : Type 0 where
+-- The sink has taken a front of what was pending and the text, and no more follows: nothing is pending.
+pub record Stops (before now : Option (List ℕ)) (pending pending_now text : List ℕ) : Type 0 where
   pub part : GrewPart before now (pending ++ text)
+  pub empty : pending_now ≡ []
+
+-- The text has gone on, or the sink failed within it, as its count of faults tells.
+pub record Sent {T E : Type 0} (faults faults_now : ℕ) (before now : Option (List ℕ)) (pending pending_now text : List ℕ) (result : Result T E) : Type 0 where
+  pub later : faults ≤ faults_now
+  pub ok : OnOk result (Goes before now pending pending_now text)
+  pub err : OnErr result (Stops before now pending pending_now text × Rose faults faults_now)
+
+-- so of a sink before and behind a call; in a clause: `Sends S.Sink sink.old sink.new ..`
+abbrev pub Sends : {S T E : Type 0} → sink.Ghosts S → (old new : S) → (pending pending_now text : List ℕ) → Result T E → Type 0
+Sends of_sink old new pending pending_now text result =
+    Sent (of_sink.faults old) (of_sink.faults new) (of_sink.written old) (of_sink.written new) pending pending_now text result

@@ -5,10 +5,9 @@
 mod line;
 mod output;
 mod pieces;
-#[cfg(test)]
-mod tests;
 mod walked;
 
 pub use line::{write_packet_line, write_unread_line};
 pub use output::Output;
 pub use pieces::{append, append_decimal, append_hex, family_name};
+pub use walked::Walked;

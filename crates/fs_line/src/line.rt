@@ -1,43 +1,35 @@
 //! The lines of packets, written piece by piece without memory.
 
-ghost use Rattle.std.specs.Prelude.{◌≡◌, ◌+◌, ◌^◌, ◌<◌, All, [], ◌++◌, OnErr, OnOk, codes, filter_map, if◌then◌else◌, flat_map, length, map};
+ghost use Rattle.std.specs.Prelude.{◌≡◌, [], ◌++◌, codes};
 ghost use Rattle.std.specs.Int.{to_be_bytes, w32};
 ghost use Rattle.std.specs.Option.{option_map_or};
-ghost use Rattle.std.specs.List.{list_any};
 ghost use Rattle.hex.specs.Hex.{encode_lower};
-ghost use Rattle.fs_base.specs.Outside.{HasCause};
-ghost use Rattle.fs_actions.specs.Community.{has_flag, limit_of};
-ghost use Rattle.fs_line.specs.Line.{actions_walked, address_text, effects_text, line_of, mark_text, numbered, rate_text, redirect_text, numbers_text, rules_at, unread_line_of, verdict_text};
-ghost use Rattle.fs_line.specs.Output.{Goes, Stops};
+ghost use Rattle.fs_line.specs.Line.{address_text, effects_text, line_of, mark_text, numbered, numbers_text, others_text, rate_text, rates_text, redirect_text, sample_text, unread_line_of, verdict_text};
+ghost use Rattle.fs_line.specs.Output.{Sends};
+ghost use Rattle.fs_line.specs.Walked.{actions_walked, entries, numbers_walked};
 
-use super::output::Output;
-use super::walked::{discards, first_mark, first_redirect, samples};
+use crate::output::Output;
+use crate::walked::{Walked, discards, first_mark, first_redirect, samples};
 use fs_actions::{Actions, Rate, Redirect};
 use fs_base::{Failed, Sink};
 use itoa::{Buffer, Integer};
 
-/// Writes the line of a packet that was judged: the record's number, from 1, the verdict, the rules that the
-/// packet has walked, and what they say beside the verdict. `walked` are the rules' places, from 0, in the
-/// order of the walk, and `actions` those of all rules; the line counts rules from 1.
+/// Writes the line of a packet that was judged: the record's number, from 1, the verdict, the numbers of the rules
+/// that the packet has walked, and what they say beside the verdict. `walked` are these rules in the order of the walk.
 ///
 /// Answers Failed where the sink fails. A part of what was to go may then be written, and nothing is pending.
 pub fn write_packet_line<S: Sink>(
     output: &mut Output,
     sink: &mut S,
     number: u64,
-    actions: &[&Actions],
-    walked: &[usize],
+    walked: &[Walked<'_>],
 ) -> Result<(), Failed>
-    requires { All (λ place. place < length actions.now) walked.now }
-    ensures ok { OnOk result (Goes (S.written sink.old) (S.written sink.new) output.old output.new (line_of number (rules_at (map (λ a. a.now) actions.now) walked.now))) }
-    ensures err { OnErr result (Stops (S.written sink.old) (S.written sink.new) output.old (line_of number (rules_at (map (λ a. a.now) actions.now) walked.now))) }
-    ensures dropped { OnErr result (output.new ≡ []) }
-    ensures cause { HasCause (S.faults sink.old) (S.faults sink.new) result }
+    ensures { Sends S.Sink sink.old sink.new output.old output.new (line_of number (entries walked.now)) result }
 {
     write_decimal(output, sink, number)?;
-    output.put(sink, verdict(actions, walked))?;
+    output.put(sink, verdict(walked))?;
     write_rules(output, sink, walked)?;
-    write_effects(output, sink, actions, walked)?;
+    write_effects(output, sink, walked)?;
     output.put(sink, b"\n")
 }
 
@@ -50,10 +42,7 @@ pub fn write_unread_line<S: Sink>(
     number: u64,
     reason: u8,
 ) -> Result<(), Failed>
-    ensures ok { OnOk result (Goes (S.written sink.old) (S.written sink.new) output.old output.new (unread_line_of number reason)) }
-    ensures err { OnErr result (Stops (S.written sink.old) (S.written sink.new) output.old (unread_line_of number reason)) }
-    ensures dropped { OnErr result (output.new ≡ []) }
-    ensures cause { HasCause (S.faults sink.old) (S.faults sink.new) result }
+    ensures { Sends S.Sink sink.old sink.new output.old output.new (unread_line_of number reason) result }
 {
     write_decimal(output, sink, number)?;
     write_numbered(output, sink, b" unread ", reason)?;
@@ -61,11 +50,10 @@ pub fn write_unread_line<S: Sink>(
 }
 
 /// What becomes of the packet: it passes unless some rule drops it.
-fn verdict(actions: &[&Actions], walked: &[usize]) -> &'static [u8]
-    requires { All (λ place. place < length actions.now) walked.now }
-    ensures { result.now ≡ verdict_text (actions_walked (rules_at (map (λ a. a.now) actions.now) walked.now)) }
+fn verdict(walked: &[Walked<'_>]) -> &'static [u8]
+    ensures { result.now ≡ verdict_text (actions_walked (entries walked.now)) }
 {
-    if discards(actions, walked) {
+    if discards(walked) {
         b" discard"
     } else {
         b" pass"
@@ -73,30 +61,32 @@ fn verdict(actions: &[&Actions], walked: &[usize]) -> &'static [u8]
 }
 
 /// Writes the numbers of the rules walked, from 1.
-fn write_rules<S: Sink>(output: &mut Output, sink: &mut S, walked: &[usize]) -> Result<(), Failed>
-    requires { All (λ place. place + 1 < 2 ^ 64) walked.now }
-    ensures ok { OnOk result (Goes (S.written sink.old) (S.written sink.new) output.old output.new (numbers_text (map (λ place. place + 1) walked.now))) }
-    ensures err { OnErr result (Stops (S.written sink.old) (S.written sink.new) output.old (numbers_text (map (λ place. place + 1) walked.now))) }
-    ensures dropped { OnErr result (output.new ≡ []) }
-    ensures cause { HasCause (S.faults sink.old) (S.faults sink.new) result }
+fn write_rules<S: Sink>(
+    output: &mut Output,
+    sink: &mut S,
+    walked: &[Walked<'_>],
+) -> Result<(), Failed>
+    ensures { Sends S.Sink sink.old sink.new output.old output.new
+        (numbers_text (numbers_walked (entries walked.now))) result }
 {
     let [first, others @ ..] = walked else {
         return Ok(());
     };
-    write_numbered(output, sink, b" rules ", *first + 1)?;
+    write_numbered(output, sink, b" rules ", first.number)?;
     write_others(output, sink, others)
 }
 
 /// Writes the numbers, from 1, of the rules walked after the first.
-fn write_others<S: Sink>(output: &mut Output, sink: &mut S, others: &[usize]) -> Result<(), Failed>
-    requires { All (λ place. place + 1 < 2 ^ 64) others.now }
-    ensures ok { OnOk result (Goes (S.written sink.old) (S.written sink.new) output.old output.new (flat_map (λ place. numbered (codes ",") (place + 1)) others.now)) }
-    ensures err { OnErr result (Stops (S.written sink.old) (S.written sink.new) output.old (flat_map (λ place. numbered (codes ",") (place + 1)) others.now)) }
-    ensures dropped { OnErr result (output.new ≡ []) }
-    ensures cause { HasCause (S.faults sink.old) (S.faults sink.new) result }
+fn write_others<S: Sink>(
+    output: &mut Output,
+    sink: &mut S,
+    others: &[Walked<'_>],
+) -> Result<(), Failed>
+    ensures { Sends S.Sink sink.old sink.new output.old output.new
+        (others_text (numbers_walked (entries others.now))) result }
 {
-    for place in others {
-        write_numbered(output, sink, b",", *place + 1)?;
+    for rule in others {
+        write_numbered(output, sink, b",", rule.number)?;
     }
     Ok(())
 }
@@ -105,27 +95,20 @@ fn write_others<S: Sink>(output: &mut Output, sink: &mut S, others: &[usize]) ->
 fn write_effects<S: Sink>(
     output: &mut Output,
     sink: &mut S,
-    actions: &[&Actions],
-    walked: &[usize],
+    walked: &[Walked<'_>],
 ) -> Result<(), Failed>
-    requires { All (λ place. place < length actions.now) walked.now }
-    ensures ok { OnOk result (Goes (S.written sink.old) (S.written sink.new) output.old output.new (effects_text (actions_walked (rules_at (map (λ a. a.now) actions.now) walked.now)))) }
-    ensures err { OnErr result (Stops (S.written sink.old) (S.written sink.new) output.old (effects_text (actions_walked (rules_at (map (λ a. a.now) actions.now) walked.now)))) }
-    ensures dropped { OnErr result (output.new ≡ []) }
-    ensures cause { HasCause (S.faults sink.old) (S.faults sink.new) result }
+    ensures { Sends S.Sink sink.old sink.new output.old output.new
+        (effects_text (actions_walked (entries walked.now))) result }
 {
-    write_mark(output, sink, first_mark(actions, walked))?;
-    write_redirect(output, sink, first_redirect(actions, walked))?;
-    output.put(sink, sampling(actions, walked))?;
-    write_rates(output, sink, actions, walked)
+    write_mark(output, sink, first_mark(walked))?;
+    write_redirect(output, sink, first_redirect(walked))?;
+    output.put(sink, sampling(walked))?;
+    write_rates(output, sink, walked)
 }
 
 /// Writes a marking, if there is one.
 fn write_mark<S: Sink>(output: &mut Output, sink: &mut S, mark: Option<u8>) -> Result<(), Failed>
-    ensures ok { OnOk result (Goes (S.written sink.old) (S.written sink.new) output.old output.new (option_map_or mark_text mark [])) }
-    ensures err { OnErr result (Stops (S.written sink.old) (S.written sink.new) output.old (option_map_or mark_text mark [])) }
-    ensures dropped { OnErr result (output.new ≡ []) }
-    ensures cause { HasCause (S.faults sink.old) (S.faults sink.new) result }
+    ensures { Sends S.Sink sink.old sink.new output.old output.new (option_map_or mark_text mark []) result }
 {
     match mark {
         Some(mark) => write_numbered(output, sink, b" mark ", mark),
@@ -139,10 +122,7 @@ fn write_redirect<S: Sink>(
     sink: &mut S,
     redirect: Option<Redirect>,
 ) -> Result<(), Failed>
-    ensures ok { OnOk result (Goes (S.written sink.old) (S.written sink.new) output.old output.new (option_map_or redirect_text redirect [])) }
-    ensures err { OnErr result (Stops (S.written sink.old) (S.written sink.new) output.old (option_map_or redirect_text redirect [])) }
-    ensures dropped { OnErr result (output.new ≡ []) }
-    ensures cause { HasCause (S.faults sink.old) (S.faults sink.new) result }
+    ensures { Sends S.Sink sink.old sink.new output.old output.new (option_map_or redirect_text redirect []) result }
 {
     match redirect {
         Some(Redirect::As2 { asn, number }) => write_pair(
@@ -174,10 +154,8 @@ fn write_pair<S: Sink, A: Integer, B: Integer>(
     first: A,
     second: B,
 ) -> Result<(), Failed>
-    ensures ok { OnOk result (Goes (S.written sink.old) (S.written sink.new) output.old output.new ((word.now ++ A.text first) ++ (codes ":" ++ B.text second))) }
-    ensures err { OnErr result (Stops (S.written sink.old) (S.written sink.new) output.old ((word.now ++ A.text first) ++ (codes ":" ++ B.text second))) }
-    ensures dropped { OnErr result (output.new ≡ []) }
-    ensures cause { HasCause (S.faults sink.old) (S.faults sink.new) result }
+    ensures { Sends S.Sink sink.old sink.new output.old output.new
+        ((word.now ++ A.text first) ++ (codes ":" ++ B.text second)) result }
 {
     write_numbered(output, sink, word, first)?;
     write_numbered(output, sink, b":", second)
@@ -190,10 +168,8 @@ fn write_address_pair<S: Sink>(
     address: u32,
     number: u16,
 ) -> Result<(), Failed>
-    ensures ok { OnOk result (Goes (S.written sink.old) (S.written sink.new) output.old output.new ((codes " redirect ip4:" ++ address_text address) ++ numbered (codes ":") number)) }
-    ensures err { OnErr result (Stops (S.written sink.old) (S.written sink.new) output.old ((codes " redirect ip4:" ++ address_text address) ++ numbered (codes ":") number)) }
-    ensures dropped { OnErr result (output.new ≡ []) }
-    ensures cause { HasCause (S.faults sink.old) (S.faults sink.new) result }
+    ensures { Sends S.Sink sink.old sink.new output.old output.new
+        ((codes " redirect ip4:" ++ address_text address) ++ numbered (codes ":") number) result }
 {
     write_address(output, sink, address)?;
     write_numbered(output, sink, b":", number)
@@ -201,10 +177,8 @@ fn write_address_pair<S: Sink>(
 
 /// Writes the words for a redirect to an IPv4 address, and the address.
 fn write_address<S: Sink>(output: &mut Output, sink: &mut S, address: u32) -> Result<(), Failed>
-    ensures ok { OnOk result (Goes (S.written sink.old) (S.written sink.new) output.old output.new (codes " redirect ip4:" ++ address_text address)) }
-    ensures err { OnErr result (Stops (S.written sink.old) (S.written sink.new) output.old (codes " redirect ip4:" ++ address_text address)) }
-    ensures dropped { OnErr result (output.new ≡ []) }
-    ensures cause { HasCause (S.faults sink.old) (S.faults sink.new) result }
+    ensures { Sends S.Sink sink.old sink.new output.old output.new
+        (codes " redirect ip4:" ++ address_text address) result }
 {
     let [first, second, third, fourth] = address.to_be_bytes();
     write_numbered(output, sink, b" redirect ip4:", first)?;
@@ -214,32 +188,23 @@ fn write_address<S: Sink>(output: &mut Output, sink: &mut S, address: u32) -> Re
 }
 
 /// The word for sampling, where some rule has the packet sampled.
-fn sampling(actions: &[&Actions], walked: &[usize]) -> &'static [u8]
-    requires { All (λ place. place < length actions.now) walked.now }
-    ensures { result.now ≡ (if list_any (has_flag 2) (actions_walked (rules_at (map (λ a. a.now) actions.now) walked.now)) then codes " sample" else []) }
+fn sampling(walked: &[Walked<'_>]) -> &'static [u8]
+    ensures { result.now ≡ sample_text (actions_walked (entries walked.now)) }
 {
-    if samples(actions, walked) {
-        b" sample"
-    } else {
-        b""
-    }
+    if samples(walked) { b" sample" } else { b"" }
 }
 
 /// Writes each rate of the rules walked that lets something pass.
 fn write_rates<S: Sink>(
     output: &mut Output,
     sink: &mut S,
-    actions: &[&Actions],
-    walked: &[usize],
+    walked: &[Walked<'_>],
 ) -> Result<(), Failed>
-    requires { All (λ place. place < length actions.now) walked.now }
-    ensures ok { OnOk result (Goes (S.written sink.old) (S.written sink.new) output.old output.new (flat_map rate_text (filter_map limit_of (actions_walked (rules_at (map (λ a. a.now) actions.now) walked.now))))) }
-    ensures err { OnErr result (Stops (S.written sink.old) (S.written sink.new) output.old (flat_map rate_text (filter_map limit_of (actions_walked (rules_at (map (λ a. a.now) actions.now) walked.now))))) }
-    ensures dropped { OnErr result (output.new ≡ []) }
-    ensures cause { HasCause (S.faults sink.old) (S.faults sink.new) result }
+    ensures { Sends S.Sink sink.old sink.new output.old output.new
+        (rates_text (actions_walked (entries walked.now))) result }
 {
-    for place in walked {
-        write_rates_of(output, sink, actions[*place])?;
+    for rule in walked {
+        write_rates_of(output, sink, rule.actions)?;
     }
     Ok(())
 }
@@ -250,10 +215,7 @@ fn write_rates_of<S: Sink>(
     sink: &mut S,
     actions: &Actions,
 ) -> Result<(), Failed>
-    ensures ok { OnOk result (Goes (S.written sink.old) (S.written sink.new) output.old output.new (flat_map rate_text (filter_map limit_of actions.now))) }
-    ensures err { OnErr result (Stops (S.written sink.old) (S.written sink.new) output.old (flat_map rate_text (filter_map limit_of actions.now))) }
-    ensures dropped { OnErr result (output.new ≡ []) }
-    ensures cause { HasCause (S.faults sink.old) (S.faults sink.new) result }
+    ensures { Sends S.Sink sink.old sink.new output.old output.new (rates_text actions.now) result }
 {
     for action in actions.as_slice() {
         if let Some(rate) = action.limit() {
@@ -265,10 +227,7 @@ fn write_rates_of<S: Sink>(
 
 /// Writes a rate by its four octets.
 fn write_rate<S: Sink>(output: &mut Output, sink: &mut S, rate: Rate) -> Result<(), Failed>
-    ensures ok { OnOk result (Goes (S.written sink.old) (S.written sink.new) output.old output.new (rate_text rate)) }
-    ensures err { OnErr result (Stops (S.written sink.old) (S.written sink.new) output.old (rate_text rate)) }
-    ensures dropped { OnErr result (output.new ≡ []) }
-    ensures cause { HasCause (S.faults sink.old) (S.faults sink.new) result }
+    ensures { Sends S.Sink sink.old sink.new output.old output.new (rate_text rate) result }
 {
     match rate {
         Rate::Bytes(figure) => write_figure(output, sink, b" bytes ", figure),
@@ -283,10 +242,8 @@ fn write_figure<S: Sink>(
     word: &[u8],
     figure: u32,
 ) -> Result<(), Failed>
-    ensures ok { OnOk result (Goes (S.written sink.old) (S.written sink.new) output.old output.new (word.now ++ encode_lower (to_be_bytes w32 figure))) }
-    ensures err { OnErr result (Stops (S.written sink.old) (S.written sink.new) output.old (word.now ++ encode_lower (to_be_bytes w32 figure))) }
-    ensures dropped { OnErr result (output.new ≡ []) }
-    ensures cause { HasCause (S.faults sink.old) (S.faults sink.new) result }
+    ensures { Sends S.Sink sink.old sink.new output.old output.new
+        (word.now ++ encode_lower (to_be_bytes w32 figure)) result }
 {
     output.put(sink, word)?;
     let mut digits = [0u8; 8];
@@ -303,10 +260,7 @@ fn write_numbered<S: Sink, N: Integer>(
     word: &[u8],
     number: N,
 ) -> Result<(), Failed>
-    ensures ok { OnOk result (Goes (S.written sink.old) (S.written sink.new) output.old output.new (word.now ++ N.text number)) }
-    ensures err { OnErr result (Stops (S.written sink.old) (S.written sink.new) output.old (word.now ++ N.text number)) }
-    ensures dropped { OnErr result (output.new ≡ []) }
-    ensures cause { HasCause (S.faults sink.old) (S.faults sink.new) result }
+    ensures { Sends S.Sink sink.old sink.new output.old output.new (word.now ++ N.text number) result }
 {
     output.put(sink, word)?;
     write_decimal(output, sink, number)
@@ -318,10 +272,7 @@ fn write_decimal<S: Sink, N: Integer>(
     sink: &mut S,
     number: N,
 ) -> Result<(), Failed>
-    ensures ok { OnOk result (Goes (S.written sink.old) (S.written sink.new) output.old output.new (N.text number)) }
-    ensures err { OnErr result (Stops (S.written sink.old) (S.written sink.new) output.old (N.text number)) }
-    ensures dropped { OnErr result (output.new ≡ []) }
-    ensures cause { HasCause (S.faults sink.old) (S.faults sink.new) result }
+    ensures { Sends S.Sink sink.old sink.new output.old output.new (N.text number) result }
 {
     let mut buffer = Buffer::new();
     output.put(sink, buffer.format(number).as_bytes())

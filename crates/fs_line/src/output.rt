@@ -1,7 +1,9 @@
+//! The buffer through which lines leave.
+
 ghost use Rattle.std.specs.Prelude.{◌≡◌, ◌+◌, ◌≤◌, [], ◌++◌, length, IfOk, IsOk, OnErr, OnOk};
 ghost use Rattle.fs_base.specs.Outside.{HasCause};
 ghost use Rattle.fs_base.specs.Sink.{Grew, GrewPart};
-ghost use Rattle.fs_line.specs.Output.{Goes, Stops};
+ghost use Rattle.fs_line.specs.Output.{Sends};
 
 use fs_base::{Failed, Memory, Sink, write_all};
 use std::alloc::Global;
@@ -44,13 +46,11 @@ impl Output {
     /// Answers Failed where the sink fails. A part of what was to go may then be written, and nothing is
     /// pending.
     pub fn put<S: Sink>(&mut self, sink: &mut S, piece: &[u8]) -> Result<(), Failed>
-        ensures ok { OnOk result (Goes (S.written sink.old) (S.written sink.new) self.old self.new piece.now) }
-        ensures err { OnErr result (Stops (S.written sink.old) (S.written sink.new) self.old piece.now) }
-        ensures dropped { OnErr result (self.new ≡ []) }
-        ensures cause { HasCause (S.faults sink.old) (S.faults sink.new) result }
+        ensures sends { Sends S.Sink sink.old sink.new self.old self.new piece.now result }
 
         // The sink isn't called for a piece that fits.
-        ensures kept_back { length self.old + length piece.now ≤ 65536 → IsOk result × (self.new ≡ self.old ++ piece.now) × (sink.new ≡ sink.old) }
+        ensures kept_back { length self.old + length piece.now ≤ CAPACITY
+            → IsOk result × (self.new ≡ self.old ++ piece.now) × (sink.new ≡ sink.old) }
     {
         if piece.len() <= self.room() {
             self.keep_back(piece);

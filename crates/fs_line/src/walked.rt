@@ -1,20 +1,26 @@
 //! What the rules that a packet has walked say of it together.
 
-ghost use Rattle.std.specs.Prelude.{◌≡◌, ◌<◌, All, length, map};
+ghost use Rattle.std.specs.Prelude.{◌≡◌};
 ghost use Rattle.std.specs.List.{list_any};
 ghost use Rattle.fs_actions.specs.Actions.{first_of};
 ghost use Rattle.fs_actions.specs.Community.{has_flag, is_discard, mark_of, redirect_of};
-ghost use Rattle.fs_line.specs.Line.{actions_walked, rules_at};
+ghost use Rattle.fs_line.specs.Walked.{actions_walked, entries};
 
 use fs_actions::{Actions, Redirect};
 
+/// A rule that a packet has walked: its number in the order of its family's rules, from 1, and its actions.
+#[derive(Clone, Copy, Drop)]
+pub struct Walked<'t> {
+    pub number: usize,
+    pub actions: &'t Actions,
+}
+
 /// Whether some rule drops the packet.
-pub fn discards(actions: &[&Actions], walked: &[usize]) -> bool
-    requires { All (λ place. place < length actions.now) walked.now }
-    ensures { result ≡ list_any is_discard (actions_walked (rules_at (map (λ a. a.now) actions.now) walked.now)) }
+pub fn discards(walked: &[Walked<'_>]) -> bool
+    ensures { result ≡ list_any is_discard (actions_walked (entries walked.now)) }
 {
-    for place in walked {
-        if actions[*place].discards() {
+    for rule in walked {
+        if rule.actions.discards() {
             return true;
         }
     }
@@ -22,12 +28,11 @@ pub fn discards(actions: &[&Actions], walked: &[usize]) -> bool
 }
 
 /// Whether some rule has the packet sampled.
-pub fn samples(actions: &[&Actions], walked: &[usize]) -> bool
-    requires { All (λ place. place < length actions.now) walked.now }
-    ensures { result ≡ list_any (has_flag 2) (actions_walked (rules_at (map (λ a. a.now) actions.now) walked.now)) }
+pub fn samples(walked: &[Walked<'_>]) -> bool
+    ensures { result ≡ list_any (has_flag 2) (actions_walked (entries walked.now)) }
 {
-    for place in walked {
-        if actions[*place].sample() {
+    for rule in walked {
+        if rule.actions.sample() {
             return true;
         }
     }
@@ -35,12 +40,11 @@ pub fn samples(actions: &[&Actions], walked: &[usize]) -> bool
 }
 
 /// The first marking.
-pub fn first_mark(actions: &[&Actions], walked: &[usize]) -> Option<u8>
-    requires { All (λ place. place < length actions.now) walked.now }
-    ensures { result ≡ first_of mark_of (actions_walked (rules_at (map (λ a. a.now) actions.now) walked.now)) }
+pub fn first_mark(walked: &[Walked<'_>]) -> Option<u8>
+    ensures { result ≡ first_of mark_of (actions_walked (entries walked.now)) }
 {
-    for place in walked {
-        if let Some(mark) = actions[*place].mark() {
+    for rule in walked {
+        if let Some(mark) = rule.actions.mark() {
             return Some(mark);
         }
     }
@@ -48,12 +52,11 @@ pub fn first_mark(actions: &[&Actions], walked: &[usize]) -> Option<u8>
 }
 
 /// The first redirect.
-pub fn first_redirect(actions: &[&Actions], walked: &[usize]) -> Option<Redirect>
-    requires { All (λ place. place < length actions.now) walked.now }
-    ensures { result ≡ first_of redirect_of (actions_walked (rules_at (map (λ a. a.now) actions.now) walked.now)) }
+pub fn first_redirect(walked: &[Walked<'_>]) -> Option<Redirect>
+    ensures { result ≡ first_of redirect_of (actions_walked (entries walked.now)) }
 {
-    for place in walked {
-        if let Some(redirect) = actions[*place].redirect() {
+    for rule in walked {
+        if let Some(redirect) = rule.actions.redirect() {
             return Some(redirect);
         }
     }

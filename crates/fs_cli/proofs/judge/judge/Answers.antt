@@ -1,13 +1,11 @@
-use Rattle.std.proofs.Common.{◌⊎◌, inl, subst, sym, ap, ◌∙◌, le_trans}
+use Rattle.std.proofs.Common.{◌⊎◌, inl, refl, subst, sym, ap, ◌∙◌, le_trans}
 use Rattle.fs_base.specs.Outside.{Rose}
-use Rattle.fs_packet.specs.Link.{link_of}
-use Rattle.fs_pcap.specs.Turn.{CaptureState, coming}
-use Rattle.fs_cli.specs.Inputs.{capture_stage}
-use Rattle.fs_cli.specs.Judged.{Answers, verdict_of}
-use Rattle.fs_cli.specs.Output.{lines_from}
-use Rattle.fs_cli.specs.Stage.{status_of}
+use Rattle.fs_pcap.specs.Capture.{CaptureState, coming}
+use Rattle.fs_cli.specs.Judge.{capture_stage, JudgesAll, JudgingState, verdict_of, admitted_rules, lines_from}
+use Rattle.fs_base.specs.Happened.{happened}
+use Rattle.fs_cli.specs.Refusal.{Answers, status_of}
 use Rattle.fs_cli.specs.declared.refusal.Refusal.{Refusal}
-use Rattle.fs_cli.proofs.Answering.{late_err, err_of, answers_unopened, answers_early, opened_link, judge_flushed, judge_unflushed, read_verdict, rose_earlier}
+use Rattle.fs_cli.proofs.Answering.{late_err, late_of, never_memory, err_of, answers_unopened, answers_early, judge_flushed, judge_unflushed, read_verdict, rose_earlier}
 use Rattle.fs_cli.proofs.judge.judge.Goals as goal
 
 pub returns-in_err-open-clause-late : goal.returns-in_err-open-clause-late
@@ -20,23 +18,11 @@ returns-in-Err-clause-answers g c = λ told.
     c.new.ensures.slot (c.in_ok-open.ensures.opened told) c.new.ensures.limit (c.in-Err.ensures.opens told)
     (λ e. inl (rose_earlier _ _ _ c.in_ok-open.ensures.later (c.begin.ensures.read (err_of _ _ _ c.in-Err.is e)))))
 
-pub returns-in_default-clause-answers : goal.returns-in_default-clause-answers
-returns-in_default-clause-answers g c = λ told. absurd (opened_link c.new.result.limit (g.F.Files.left c.open.new.files c.new.result.slot) c.in-Ok.capture.heading (c.in-Ok.ensures.opens told).0 (ap link_of (sym c.link.ensures) ∙ sym c.of.ensures ∙ c.in_default.is))
-
-pub returns-in_err-v4-clause-answers : goal.returns-in_err-v4-clause-answers
-returns-in_err-v4-clause-answers g c = λ told. answers_early c.args.table.now (capture_stage c.args.limit (g.F.Files.holds c.args.files.now) c.args.name.now) _ _ c.from_residual-in_err-v4.result c.from_residual-in_err-v4.ensures.1
-
-pub returns-in_err-v6-clause-answers : goal.returns-in_err-v6-clause-answers
-returns-in_err-v6-clause-answers g c = λ told. answers_early c.args.table.now (capture_stage c.args.limit (g.F.Files.holds c.args.files.now) c.args.name.now) _ _ c.from_residual-in_err-v6.result c.from_residual-in_err-v6.ensures.1
-
-pub returns-in_err-walked-clause-answers : goal.returns-in_err-walked-clause-answers
-returns-in_err-walked-clause-answers g c = λ told. answers_early c.args.table.now (capture_stage c.args.limit (g.F.Files.holds c.args.files.now) c.args.name.now) _ _ c.from_residual-in_err-walked.result c.from_residual-in_err-walked.ensures.1
+pub returns-in_err-judging-clause-answers : goal.returns-in_err-judging-clause-answers
+returns-in_err-judging-clause-answers g c = λ told. answers_early c.args.table.now (capture_stage c.args.limit (g.F.Files.holds c.args.files.now) c.args.name.now) _ _ c.from_residual-in_err-judging.result c.from_residual-in_err-judging.ensures.1
 
 pub returns-in_err-buffer-clause-answers : goal.returns-in_err-buffer-clause-answers
 returns-in_err-buffer-clause-answers g c = λ told. answers_early c.args.table.now (capture_stage c.args.limit (g.F.Files.holds c.args.files.now) c.args.name.now) _ _ c.from_residual-in_err-buffer.result c.from_residual-in_err-buffer.ensures.1
-
-pub returns-in_err-output-clause-answers : goal.returns-in_err-output-clause-answers
-returns-in_err-output-clause-answers g c = λ told. answers_early c.args.table.now (capture_stage c.args.limit (g.F.Files.holds c.args.files.now) c.args.name.now) _ _ c.from_residual-in_err-output.result c.from_residual-in_err-output.ensures.1
 
 pub judge_packets-judged-requires-clause-open : goal.judge_packets-judged-requires-clause-open
 judge_packets-judged-requires-clause-open g c = c.in-Ok.ensures.end
@@ -45,24 +31,38 @@ pub returns-in_err-flush-clause-answers : goal.returns-in_err-flush-clause-answe
 returns-in_err-flush-clause-answers g c = λ told.
     judge_unflushed c.args.table.now (capture_stage c.args.limit (g.F.Files.holds c.args.files.now) c.args.name.now)
     (coming c.in-Ok.capture (g.F.Files.left c.begin.new.files c.in-Ok.capture.slot)).1
-    (lines_from 0 c.args.table.now c.in-Some.link (coming c.in-Ok.capture (g.F.Files.left c.begin.new.files c.in-Ok.capture.slot)).0)
+    (lines_from 0 (admitted_rules c.args.table.now) c.link.result (coming c.in-Ok.capture (g.F.Files.left c.begin.new.files c.in-Ok.capture.slot)).0)
     _ _ (g.S.Sink.written c.args.sink.now) (g.S.Sink.written c.judge_packets-judged.new.sink) (g.S.Sink.written c.flush.new.sink)
     (g.F.Files.faults c.args.files.now) (g.F.Files.faults c.begin.new.files) (g.F.Files.faults c.judge_packets-judged.new.files)
     (g.S.Sink.faults c.args.sink.now) (g.S.Sink.faults c.judge_packets-judged.new.sink) (g.S.Sink.faults c.flush.new.sink) c.judge_packets-judged.result c.from_residual-in_err-flush.result
-    (read_verdict c.args.table.now c.args.limit (g.F.Files.holds c.args.files.now) c.args.name.now (g.F.Files.left c.open.new.files) (g.F.Files.left c.begin.new.files) c.new.result.slot c.new.result.limit c.in-Ok.capture c.in-Some.link
-    c.new.ensures.slot (c.in_ok-open.ensures.opened told) c.new.ensures.limit (c.in-Ok.ensures.opens told) c.in-Ok.ensures.slot c.in-Ok.ensures.limit c.in-Ok.ensures.place (sym c.in-Some.is ∙ c.of.ensures ∙ ap link_of c.link.ensures))
-    c.in_ok-output.ensures (c.judge_packets-judged.ensures.judged told c.args.table.now c.in_ok-v4.ensures.applied c.in_ok-v6.ensures.applied)
+    (read_verdict c.args.table.now c.args.limit (g.F.Files.holds c.args.files.now) c.args.name.now (g.F.Files.left c.open.new.files) (g.F.Files.left c.begin.new.files) c.new.result.slot c.new.result.limit c.in-Ok.capture c.link.result
+    c.new.ensures.slot (c.in_ok-open.ensures.opened told) c.new.ensures.limit (c.in-Ok.ensures.opens told) c.in-Ok.ensures.slot c.in-Ok.ensures.limit c.in-Ok.ensures.place c.link.ensures)
+    refl
+    (subst (λ (j : JudgingState). JudgesAll j (coming c.in-Ok.capture (g.F.Files.left c.begin.new.files c.in-Ok.capture.slot))
+    (happened g.F.Files g.S.Sink c.begin.new.files c.judge_packets-judged.new.files c.args.sink.now c.judge_packets-judged.new.sink)
+    c.judge_packets-judged.new.judging.pending c.judge_packets-judged.result)
+    c.in_ok-judging.ensures (c.judge_packets-judged.ensures.judged told))
     c.judge_packets-judged.ensures.sink_later c.in_err-flush.ensures.cause.failed c.in_err-flush.ensures.err c.from_residual-in_err-flush.ensures.1
 
 pub returns-clause-answers : goal.returns-clause-answers
 returns-clause-answers g c = λ told.
     judge_flushed c.args.table.now (capture_stage c.args.limit (g.F.Files.holds c.args.files.now) c.args.name.now)
     (coming c.in-Ok.capture (g.F.Files.left c.begin.new.files c.in-Ok.capture.slot)).1
-    (lines_from 0 c.args.table.now c.in-Some.link (coming c.in-Ok.capture (g.F.Files.left c.begin.new.files c.in-Ok.capture.slot)).0)
+    (lines_from 0 (admitted_rules c.args.table.now) c.link.result (coming c.in-Ok.capture (g.F.Files.left c.begin.new.files c.in-Ok.capture.slot)).0)
     _ _ (g.S.Sink.written c.args.sink.now) (g.S.Sink.written c.judge_packets-judged.new.sink) (g.S.Sink.written c.flush.new.sink)
     (g.F.Files.faults c.args.files.now) (g.F.Files.faults c.begin.new.files) (g.F.Files.faults c.judge_packets-judged.new.files)
     (g.S.Sink.faults c.args.sink.now) (g.S.Sink.faults c.judge_packets-judged.new.sink) (g.S.Sink.faults c.flush.new.sink) c.judge_packets-judged.result
-    (read_verdict c.args.table.now c.args.limit (g.F.Files.holds c.args.files.now) c.args.name.now (g.F.Files.left c.open.new.files) (g.F.Files.left c.begin.new.files) c.new.result.slot c.new.result.limit c.in-Ok.capture c.in-Some.link
-    c.new.ensures.slot (c.in_ok-open.ensures.opened told) c.new.ensures.limit (c.in-Ok.ensures.opens told) c.in-Ok.ensures.slot c.in-Ok.ensures.limit c.in-Ok.ensures.place (sym c.in-Some.is ∙ c.of.ensures ∙ ap link_of c.link.ensures))
-    c.in_ok-output.ensures (c.judge_packets-judged.ensures.judged told c.args.table.now c.in_ok-v4.ensures.applied c.in_ok-v6.ensures.applied)
+    (read_verdict c.args.table.now c.args.limit (g.F.Files.holds c.args.files.now) c.args.name.now (g.F.Files.left c.open.new.files) (g.F.Files.left c.begin.new.files) c.new.result.slot c.new.result.limit c.in-Ok.capture c.link.result
+    c.new.ensures.slot (c.in_ok-open.ensures.opened told) c.new.ensures.limit (c.in-Ok.ensures.opens told) c.in-Ok.ensures.slot c.in-Ok.ensures.limit c.in-Ok.ensures.place c.link.ensures)
+    refl
+    (subst (λ (j : JudgingState). JudgesAll j (coming c.in-Ok.capture (g.F.Files.left c.begin.new.files c.in-Ok.capture.slot))
+    (happened g.F.Files g.S.Sink c.begin.new.files c.judge_packets-judged.new.files c.args.sink.now c.judge_packets-judged.new.sink)
+    c.judge_packets-judged.new.judging.pending c.judge_packets-judged.result)
+    c.in_ok-judging.ensures (c.judge_packets-judged.ensures.judged told))
     (le_trans c.in_ok-open.ensures.later c.in-Ok.ensures.later) c.in_ok-flush.ensures.cause.later c.in_ok-flush.ensures.ok
+
+pub returns-clause-late : goal.returns-clause-late
+returns-clause-late g c = late_of c.judge_packets-judged.result c.judge_packets-judged.ensures.late
+
+pub returns-clause-unwritten : goal.returns-clause-unwritten
+returns-clause-unwritten g c = never_memory c.judge_packets-judged.result c.judge_packets-judged.ensures.late

@@ -1,8 +1,5 @@
 use Rattle.std.proofs.Common.{◌≡◌, ◌≤◌, ◌-◌, length, IsTrue, None}
-use Rattle.fs_base.specs.declared.prefix.Family.TheVariants.{V4, V6}
-use Rattle.fs_pcap.specs.Turn.{coming}
-use Rattle.fs_rules.specs.Held.{Held}
-use Rattle.fs_cli.specs.Applied.{IsApplied}
+use Rattle.fs_pcap.specs.Capture.{coming}
 use Rattle.fs_cli.proofs.Judging.{Judging}
 use Rattle.fs_cli.proofs.judge.judge_packets.Given as goal
 
@@ -14,13 +11,12 @@ invariant-packets g l = record {
   limit : l.capture.limit ≡ l.fn.capture.limit;
   within : l.capture.place ≤ l.capture.limit;
   number : l.number ≤ l.capture.place;
-  v4 : length l.v4.rules.items ≤ length l.walked;
-  v6 : length l.v6.rules.items ≤ length l.walked;
+  same : l.judging ≡ record l.fn.judging { pending = l.judging.pending };
   files_later : g.F.Files.faults l.fn.files ≤ g.F.Files.faults l.files;
   sink_later : g.S.Sink.faults l.fn.sink ≤ g.S.Sink.faults l.sink;
-  judging : IsTrue g.F.Files.tells → (held : Held) → IsApplied V4 held l.v4 → IsApplied V6 held l.v6
-      → Judging held l.link (coming l.fn.capture (g.F.Files.left l.fn.files l.fn.capture.slot)) (coming l.capture (g.F.Files.left l.files l.capture.slot))
-      (g.S.Sink.written l.fn.sink) (g.S.Sink.written l.sink) l.fn.output l.output l.number;
+  judging : IsTrue g.F.Files.tells
+      → Judging l.fn.judging.rules l.fn.judging.link (coming l.fn.capture (g.F.Files.left l.fn.files l.fn.capture.slot)) (coming l.capture (g.F.Files.left l.files l.capture.slot))
+      (g.S.Sink.written l.fn.sink) (g.S.Sink.written l.sink) l.fn.judging.pending l.judging.pending l.number;
 }
 
 abbrev pub decreases-packets : goal.decreases-packets

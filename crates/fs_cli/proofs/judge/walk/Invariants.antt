@@ -1,10 +1,15 @@
-use Rattle.std.proofs.Common.{◌≡◌, ◌≤◌, ◌++◌, map, take, drop}
-use Rattle.fs_rules.specs.Lent.{shown_admitted}
-use Rattle.fs_cli.specs.Places.{places_from}
+use Rattle.std.proofs.Common.{◌≤◌, ◌-◌, length}
+use Rattle.std.specs.Prelude.{vec_capacity, vec_len}
+use Rattle.fs_cli.proofs.Walking.{Walking}
 use Rattle.fs_cli.proofs.judge.walk.Given as goal
 
-abbrev pub invariant-loop-place : goal.invariant-loop-place
-invariant-loop-place l = record {
-  within : l.count ≤ l.place;
-  walked : take l.count l.walked ++ places_from l.place l.view (map shown_admitted (drop l.place l.rules)) ≡ places_from 0 l.view (map shown_admitted l.rules);
+abbrev pub invariant-rules : goal.invariant-rules
+invariant-rules l = record {
+  within : l.place ≤ length l.rules;
+  count : vec_len l.walked ≤ l.place;
+  room : length l.rules ≤ vec_capacity l.walked;
+  walked : Walking l.view l.rules l.place l.walked.items;
 }
+
+abbrev pub decreases-rules : goal.decreases-rules
+decreases-rules l = length l.rules - l.place

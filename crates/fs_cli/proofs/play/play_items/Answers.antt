@@ -1,7 +1,7 @@
 use Rattle.std.proofs.Common.{◌≡◌, ◌∙◌, ℕ, subst, sym, arith, rules}
 use Rattle.fs_base.specs.Parts.{with_part}
-use Rattle.fs_tape.specs.Turn.{coming, shown}
-use Rattle.fs_cli.proofs.TapeLoop.{playing_more, playing_done}
+use Rattle.fs_tape.specs.Tape.{coming, item_from}
+use Rattle.fs_cli.proofs.Playing.{playing_more, playing_done}
 use Rattle.fs_cli.proofs.play.play_items.Goals as goal
 
 pub items-preserved : goal.items-preserved
@@ -15,10 +15,10 @@ items-preserved g c = record {
   later = omega (arith, c.items.invariant.later, c.in_ok-item.ensures.later);
   holds = λ told. c.in_ok-item.ensures.holds told ∙ c.items.invariant.holds told;
   playing = λ told.
-      playing_more c.args.config.now _ _ _ c.args.desk.now c.items.desk c.play_item.new.desk (shown c.in-Some.item c.next_item.new.buffer) (c.items.invariant.playing told)
+      playing_more c.args.config.now _ _ _ c.args.desk.now c.items.desk c.play_item.new.desk (item_from c.in-Some.item c.next_item.new.buffer) (c.items.invariant.playing told)
       (subst (λ (slot : ℕ).
       coming c.args.config.now c.items.tape (g.F.Files.left c.items.files c.items.tape.slot)
-      ≡ with_part (shown c.in-Some.item c.next_item.new.buffer) (coming c.args.config.now c.next_item.new.tape (g.F.Files.left c.next_item.new.files slot)))
+      ≡ with_part (item_from c.in-Some.item c.next_item.new.buffer) (coming c.args.config.now c.next_item.new.tape (g.F.Files.left c.next_item.new.files slot)))
       (sym c.in_ok-item.ensures.slot) (rw c.in-Some.is at (c.in_ok-item.ensures.gives told)))
       (λ items. c.in_ok-play_item.ensures.played c.args.config.now items);
 }

@@ -1,6 +1,6 @@
 use Rattle.std.proofs.Common.{◌≡◌, ◌≤◌, ◌-◌, length, IsTrue, None}
-use Rattle.fs_tape.specs.Turn.{coming}
-use Rattle.fs_cli.proofs.TapeLoop.{Playing}
+use Rattle.fs_tape.specs.Tape.{coming}
+use Rattle.fs_cli.proofs.Playing.{Playing}
 use Rattle.fs_cli.proofs.play.play_items.Given as goal
 
 abbrev pub invariant-items : goal.invariant-items

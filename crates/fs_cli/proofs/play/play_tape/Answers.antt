@@ -1,7 +1,7 @@
 use Rattle.std.proofs.Common.{le_trans}
-use Rattle.fs_tape.specs.Turn.{coming}
-use Rattle.fs_cli.specs.Inputs.{tape_stage}
-use Rattle.fs_cli.proofs.TapeLoop.{tape_read, played_whole, refused_whole}
+use Rattle.fs_tape.specs.Tape.{coming}
+use Rattle.fs_cli.specs.Play.{tape_stage}
+use Rattle.fs_cli.proofs.Playing.{tape_read, played_whole, refused_whole}
 use Rattle.fs_cli.proofs.play.play_tape.Goals as goal
 
 pub returns-in-Ok-play_items-clause-played : goal.returns-in-Ok-play_items-clause-played

@@ -1,11 +1,10 @@
-use Rattle.std.proofs.Common.{◌∙◌}
-use Rattle.fs_cli.proofs.Running.{runs_headline, runs_listed}
+use Rattle.fs_cli.proofs.Running.{promises_none, promises_some}
 use Rattle.fs_cli.proofs.program.run_within.Goals as goal
 
-pub returns-in-Some-clause-headline : goal.returns-in-Some-clause-headline
-returns-in-Some-clause-headline g c = λ told zero config tape capture e.
-    runs_headline g.F.Files.tells c.args.limit (g.F.Files.holds c.args.files.now) _ _ _ _ _ c.perform.result told (c.perform.ensures.known, c.perform.ensures.does) zero config tape capture (c.in-Some.ensures ∙ e)
+pub returns-in-None : goal.returns-in-None
+returns-in-None g c = promises_none c.args.limit g.F.Files g.S.Sink c.args.files.now c.args.sink.now c.args._wire.now _ c.in-None.ensures
 
-pub returns-in-Some-clause-listed : goal.returns-in-Some-clause-listed
-returns-in-Some-clause-listed g c = λ told zero config tape e.
-    runs_listed g.F.Files.tells c.args.limit (g.F.Files.holds c.args.files.now) _ _ _ _ _ c.perform.result told (c.perform.ensures.known, c.perform.ensures.does) zero config tape (c.in-Some.ensures ∙ e)
+pub returns-in-Some : goal.returns-in-Some
+returns-in-Some g c =
+    promises_some c.args.limit g.F.Files g.S.Sink c.args.files.now c.perform.new.files c.args.sink.now c.perform.new.sink c.args._wire.now _ _ c.perform.result
+    c.in-Some.ensures c.perform.ensures.does c.perform.ensures.known c.perform.ensures.quiet c.perform.ensures.still c.perform.ensures.unopened

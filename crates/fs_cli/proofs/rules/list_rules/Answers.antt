@@ -1,6 +1,6 @@
 use Rattle.std.proofs.Common.{◌⊎◌, inl, inr}
 use Rattle.fs_base.specs.Outside.{Rose}
-use Rattle.fs_cli.specs.Listed.{Lists}
+use Rattle.fs_cli.specs.Rules.{ListsSo}
 use Rattle.fs_cli.proofs.Answering.{rose_earlier}
 use Rattle.fs_cli.proofs.Enforcing.{answered_err}
 use Rattle.fs_cli.proofs.Ruling.{config_unlisted, tape_unlisted, desk_listed}
@@ -8,7 +8,7 @@ use Rattle.fs_cli.proofs.rules.list_rules.Goals as goal
 
 pub returns-in_err-config-clause-lists : goal.returns-in_err-config-clause-lists
 returns-in_err-config-clause-lists g c = λ told.
-    answered_err (λ n. Lists c.args.limit (g.F.Files.holds c.args.files.now) c.args.config.now c.args.tape.now (Rose (g.F.Files.faults c.args.files.now) (g.F.Files.faults c.load_config.new.files) ⊎ Rose (g.S.Sink.faults c.args.sink.now) (g.S.Sink.faults c.args.sink.now)) (g.S.Sink.written c.args.sink.now) (g.S.Sink.written c.args.sink.now) n) c.from_residual.result c.in_err-config.field-0.0 c.from_residual.ensures.1
+    answered_err (λ n. ListsSo c.args.limit (g.F.Files.holds c.args.files.now) c.args.config.now c.args.tape.now (Rose (g.F.Files.faults c.args.files.now) (g.F.Files.faults c.load_config.new.files) ⊎ Rose (g.S.Sink.faults c.args.sink.now) (g.S.Sink.faults c.args.sink.now)) (g.S.Sink.written c.args.sink.now) (g.S.Sink.written c.args.sink.now) n) c.from_residual.result c.in_err-config.field-0.0 c.from_residual.ensures.1
     (config_unlisted c.args.limit (g.F.Files.holds c.args.files.now) c.args.config.now c.args.tape.now (Rose (g.F.Files.faults c.args.files.now) (g.F.Files.faults c.load_config.new.files)) (Rose (g.F.Files.faults c.args.files.now) (g.F.Files.faults c.load_config.new.files) ⊎ Rose (g.S.Sink.faults c.args.sink.now) (g.S.Sink.faults c.args.sink.now)) (g.S.Sink.written c.args.sink.now) c.in_err-config.field-0.0 (c.in_err-config.ensures.reaches told) (λ r. inl r))
 
 pub returns-in-Ok-clause-lists : goal.returns-in-Ok-clause-lists

@@ -1,20 +1,17 @@
 use Rattle.std.proofs.Common.{[], ap}
 use Rattle.std.specs.Option.{option_map_or}
 use Rattle.fs_line.specs.Line.{mark_text, redirect_text}
-use Rattle.fs_line.proofs.Outputs.{goes_as, goes_then, goes_stops, stops_as, stops_more, on_err, on_ok_from, on_err_from}
+use Rattle.fs_line.proofs.Outputs.{sends_as, sends_stopped, sends_then}
 use Rattle.fs_line.proofs.line.write_effects.Goals as goal
 
-pub returns-in_err-write_mark-clause-err : goal.returns-in_err-write_mark-clause-err
-returns-in_err-write_mark-clause-err g c = on_err c.from_residual.result (stops_more _ (stops_as (ap (λ mark. option_map_or mark_text mark []) c.first_mark.ensures) c.in_err-write_mark.ensures.err))
+pub returns-in_err-write_mark : goal.returns-in_err-write_mark
+returns-in_err-write_mark g c = sends_stopped _ _ c.from_residual.result c.from_residual.ensures.1 (sends_as (ap (λ mark. option_map_or mark_text mark []) c.first_mark.ensures) c.in_err-write_mark.ensures)
 
-pub returns-in_err-write_redirect-clause-err : goal.returns-in_err-write_redirect-clause-err
-returns-in_err-write_redirect-clause-err g c = on_err c.from_residual-in_err-write_redirect.result (goes_stops (goes_as (ap (λ mark. option_map_or mark_text mark []) c.first_mark.ensures) c.in_ok-write_mark.ensures.ok) (stops_more _ (stops_as (ap (λ redirect. option_map_or redirect_text redirect []) c.first_redirect.ensures) c.in_err-write_redirect.ensures.err)))
+pub returns-in_err-write_redirect : goal.returns-in_err-write_redirect
+returns-in_err-write_redirect g c = sends_then (sends_as (ap (λ mark. option_map_or mark_text mark []) c.first_mark.ensures) c.in_ok-write_mark.ensures) (sends_stopped _ _ c.from_residual-in_err-write_redirect.result c.from_residual-in_err-write_redirect.ensures.1 (sends_as (ap (λ redirect. option_map_or redirect_text redirect []) c.first_redirect.ensures) c.in_err-write_redirect.ensures))
 
-pub returns-in_err-put-clause-err : goal.returns-in_err-put-clause-err
-returns-in_err-put-clause-err g c = on_err c.from_residual-in_err-put.result (goes_stops (goes_as (ap (λ mark. option_map_or mark_text mark []) c.first_mark.ensures) c.in_ok-write_mark.ensures.ok) (goes_stops (goes_as (ap (λ redirect. option_map_or redirect_text redirect []) c.first_redirect.ensures) c.in_ok-write_redirect.ensures.ok) (stops_more _ (stops_as c.sampling.ensures c.in_err-put.ensures.err))))
+pub returns-in_err-put : goal.returns-in_err-put
+returns-in_err-put g c = sends_then (sends_as (ap (λ mark. option_map_or mark_text mark []) c.first_mark.ensures) c.in_ok-write_mark.ensures) (sends_then (sends_as (ap (λ redirect. option_map_or redirect_text redirect []) c.first_redirect.ensures) c.in_ok-write_redirect.ensures) (sends_stopped _ _ c.from_residual-in_err-put.result c.from_residual-in_err-put.ensures.1 (sends_as c.sampling.ensures c.in_err-put.ensures.sends)))
 
-pub returns-clause-ok : goal.returns-clause-ok
-returns-clause-ok g c = on_ok_from c.write_rates.result c.write_rates.ensures.ok (λ last. goes_then (goes_as (ap (λ mark. option_map_or mark_text mark []) c.first_mark.ensures) c.in_ok-write_mark.ensures.ok) (goes_then (goes_as (ap (λ redirect. option_map_or redirect_text redirect []) c.first_redirect.ensures) c.in_ok-write_redirect.ensures.ok) (goes_then (goes_as c.sampling.ensures c.in_ok-put.ensures.ok) last)))
-
-pub returns-clause-err : goal.returns-clause-err
-returns-clause-err g c = on_err_from c.write_rates.result c.write_rates.ensures.err (λ last. goes_stops (goes_as (ap (λ mark. option_map_or mark_text mark []) c.first_mark.ensures) c.in_ok-write_mark.ensures.ok) (goes_stops (goes_as (ap (λ redirect. option_map_or redirect_text redirect []) c.first_redirect.ensures) c.in_ok-write_redirect.ensures.ok) (goes_stops (goes_as c.sampling.ensures c.in_ok-put.ensures.ok) last)))
+pub returns : goal.returns
+returns g c = sends_then (sends_as (ap (λ mark. option_map_or mark_text mark []) c.first_mark.ensures) c.in_ok-write_mark.ensures) (sends_then (sends_as (ap (λ redirect. option_map_or redirect_text redirect []) c.first_redirect.ensures) c.in_ok-write_redirect.ensures) (sends_then (sends_as c.sampling.ensures c.in_ok-put.ensures.sends) c.write_rates.ensures))

@@ -1,23 +1,17 @@
-use Rattle.std.proofs.Common.{ap, map}
-use Rattle.fs_line.specs.Line.{numbers_text}
-use Rattle.fs_line.proofs.Walks.{numbers_walked}
-use Rattle.fs_line.proofs.Outputs.{goes_as, goes_then, goes_stops, stops_as, stops_more, on_err, on_ok_from, on_err_from}
+use Rattle.fs_line.proofs.Outputs.{sends_as, sends_stopped, sends_then}
 use Rattle.fs_line.proofs.line.write_packet_line.Goals as goal
 
-pub returns-in_err-write_decimal-clause-err : goal.returns-in_err-write_decimal-clause-err
-returns-in_err-write_decimal-clause-err g c = on_err c.from_residual.result (stops_more _ c.in_err-write_decimal.ensures.err)
+pub returns-in_err-write_decimal : goal.returns-in_err-write_decimal
+returns-in_err-write_decimal g c = sends_stopped _ _ c.from_residual.result c.from_residual.ensures.1 c.in_err-write_decimal.ensures
 
-pub returns-in_err-put-clause-err : goal.returns-in_err-put-clause-err
-returns-in_err-put-clause-err g c = on_err c.from_residual-in_err-put.result (goes_stops c.in_ok-write_decimal.ensures.ok (stops_more _ (stops_as c.verdict.ensures c.in_err-put.ensures.err)))
+pub returns-in_err-put : goal.returns-in_err-put
+returns-in_err-put g c = sends_then c.in_ok-write_decimal.ensures (sends_stopped _ _ c.from_residual-in_err-put.result c.from_residual-in_err-put.ensures.1 (sends_as c.verdict.ensures c.in_err-put.ensures.sends))
 
-pub returns-in_err-write_rules-clause-err : goal.returns-in_err-write_rules-clause-err
-returns-in_err-write_rules-clause-err g c = on_err c.from_residual-in_err-write_rules.result (goes_stops c.in_ok-write_decimal.ensures.ok (goes_stops (goes_as c.verdict.ensures c.in_ok-put.ensures.ok) (stops_more _ (stops_as (ap numbers_text (numbers_walked (map (λ a. a.now) c.args.actions.now) c.args.walked.now)) c.in_err-write_rules.ensures.err))))
+pub returns-in_err-write_rules : goal.returns-in_err-write_rules
+returns-in_err-write_rules g c = sends_then c.in_ok-write_decimal.ensures (sends_then (sends_as c.verdict.ensures c.in_ok-put.ensures.sends) (sends_stopped _ _ c.from_residual-in_err-write_rules.result c.from_residual-in_err-write_rules.ensures.1 c.in_err-write_rules.ensures))
 
-pub returns-in_err-write_effects-clause-err : goal.returns-in_err-write_effects-clause-err
-returns-in_err-write_effects-clause-err g c = on_err c.from_residual-in_err-write_effects.result (goes_stops c.in_ok-write_decimal.ensures.ok (goes_stops (goes_as c.verdict.ensures c.in_ok-put.ensures.ok) (goes_stops (goes_as (ap numbers_text (numbers_walked (map (λ a. a.now) c.args.actions.now) c.args.walked.now)) c.in_ok-write_rules.ensures.ok) (stops_more _ c.in_err-write_effects.ensures.err))))
+pub returns-in_err-write_effects : goal.returns-in_err-write_effects
+returns-in_err-write_effects g c = sends_then c.in_ok-write_decimal.ensures (sends_then (sends_as c.verdict.ensures c.in_ok-put.ensures.sends) (sends_then c.in_ok-write_rules.ensures (sends_stopped _ _ c.from_residual-in_err-write_effects.result c.from_residual-in_err-write_effects.ensures.1 c.in_err-write_effects.ensures)))
 
-pub returns-clause-ok : goal.returns-clause-ok
-returns-clause-ok g c = on_ok_from c.put-2.result c.put-2.ensures.ok (λ last. goes_then c.in_ok-write_decimal.ensures.ok (goes_then (goes_as c.verdict.ensures c.in_ok-put.ensures.ok) (goes_then (goes_as (ap numbers_text (numbers_walked (map (λ a. a.now) c.args.actions.now) c.args.walked.now)) c.in_ok-write_rules.ensures.ok) (goes_then c.in_ok-write_effects.ensures.ok last))))
-
-pub returns-clause-err : goal.returns-clause-err
-returns-clause-err g c = on_err_from c.put-2.result c.put-2.ensures.err (λ last. goes_stops c.in_ok-write_decimal.ensures.ok (goes_stops (goes_as c.verdict.ensures c.in_ok-put.ensures.ok) (goes_stops (goes_as (ap numbers_text (numbers_walked (map (λ a. a.now) c.args.actions.now) c.args.walked.now)) c.in_ok-write_rules.ensures.ok) (goes_stops c.in_ok-write_effects.ensures.ok last))))
+pub returns : goal.returns
+returns g c = sends_then c.in_ok-write_decimal.ensures (sends_then (sends_as c.verdict.ensures c.in_ok-put.ensures.sends) (sends_then c.in_ok-write_rules.ensures (sends_then c.in_ok-write_effects.ensures c.put-2.ensures.sends)))

@@ -5,10 +5,10 @@ use Rattle.fs_line.proofs.walked.first_redirect.Goals as goal
 
 pub returns-in-Some : goal.returns-in-Some
 returns-in-Some c =
-    sym (c.loop-place.invariant ∙ said_there redirect_of c.args.actions.now c.args.walked.now c.loop-place.place-index
-    c.index-actions-place.result _ c.loop-place-test.true (c.requires _ 0 c.loop-place-test.true) c.index-actions-place.is c.in-Some.ensures)
+    sym (c.loop-rule.invariant ∙ said_there redirect_of c.args.walked.now c.loop-rule.rule-index c.rule-item.result _
+    c.loop-rule-test.true c.rule-item.is c.in-Some.ensures)
 
-pub loop-place-preserved : goal.loop-place-preserved
-loop-place-preserved c =
-    c.loop-place.invariant ∙ not_said_there redirect_of c.args.actions.now c.args.walked.now c.loop-place.place-index
-    c.index-actions-place.result c.loop-place-test.true (c.requires _ 0 c.loop-place-test.true) c.index-actions-place.is c.in_default.ensures
+pub loop-rule-preserved : goal.loop-rule-preserved
+loop-rule-preserved c =
+    c.loop-rule.invariant ∙ not_said_there redirect_of c.args.walked.now c.loop-rule.rule-index c.rule-item.result
+    c.loop-rule-test.true c.rule-item.is c.in_default.ensures

@@ -1,9 +1,9 @@
--- What the files tell, as stages.
+-- What the files tell, and the stage of the configuration.
 use Rattle.std.specs.Prelude.{ℕ, List, Option, nat_le, length, if◌then◌else◌}
 use Rattle.fs_base.specs.declared.config.Config.{Config}
 use Rattle.fs_conf.specs.Config.{config_of}
 use Rattle.fs_cli.specs.declared.refusal.Refusal.TheVariants.{Outside, Config as Refused, Limit}
-use Rattle.fs_cli.specs.Stage.{Stage, Found, Stopped, and_then, or_stop}
+use Rattle.fs_cli.specs.Refusal.{Stage, Found, Stopped, and_then, or_stop}
 
 -- what each name holds
 abbrev pub Names : Type 0

@@ -1,20 +1,20 @@
 -- What `rules` answers and writes.
 use Rattle.std.specs.Prelude.{◌≡◌, ◌⊎◌, ◌<◌, ℕ, List, [], Option, Some, Result, length}
 use Rattle.std.specs.Result.{IsErrAnd}
+use Rattle.fs_base.specs.Happened.{Happened, FilesFailed, SinkFailed, Wrote}
 use Rattle.fs_base.specs.Sink.{Grew}
 use Rattle.fs_base.specs.Records.{done}
 use Rattle.fs_base.specs.declared.config.Config.{Config}
 use Rattle.fs_conf.specs.Config.{config_of}
 use Rattle.fs_listing.specs.Listing.{listing}
 use Rattle.fs_listing.specs.TapeFault.{tape_fault_line}
-use Rattle.fs_rules.specs.Held.{Held}
+use Rattle.fs_rules.specs.Table.{Held}
 use Rattle.fs_tape.specs.Tape.{Item, tape_of}
-use Rattle.fs_cli.specs.Files.{Names}
+use Rattle.fs_cli.specs.Load.{Names}
 use Rattle.fs_desk.specs.Leaves.{Leaves}
-use Rattle.fs_cli.specs.Inputs.{accepted_stage}
-use Rattle.fs_cli.specs.Judged.{Verdict, Answers}
+use Rattle.fs_cli.specs.Play.{accepted_stage}
+use Rattle.fs_cli.specs.Refusal.{Verdict, Answers, Stage, Found, Stopped, status_of}
 use Rattle.fs_cli.specs.Listing.{Fails}
-use Rattle.fs_cli.specs.Stage.{Stage, Found, Stopped, status_of}
 use Rattle.fs_cli.specs.declared.refusal.Refusal.{Refusal}
 use Rattle.fs_cli.specs.declared.refusal.Refusal.TheVariants.{Tape}
 
@@ -36,11 +36,17 @@ pub record Shows (limit : ℕ) (holds : Names) (config tape : List ℕ) (failed 
   pub answers : Answers (list_verdict 0 (listing accepted items held)) failed before now answer
 
 -- Or a stage ended the run; or memory was wanting or a call on the outside failed before anything was written.
-abbrev pub Lists : ℕ → Names → (config tape : List ℕ) → Type 0 → (before now : Option (List ℕ)) → ℕ → Type 0
-Lists limit holds config tape failed before now answer =
-    ((refusal : Refusal) × (accepted_stage limit holds config tape ≡ Stopped refusal) × Answers (list_verdict (status_of refusal) (stopped_text refusal)) failed before now answer)
+abbrev pub ListsSo : ℕ → Names → (config tape : List ℕ) → Type 0 → (before now : Option (List ℕ)) → ℕ → Type 0
+ListsSo limit holds config tape failed before now answer =
+    ((refusal : Refusal)
+    × (accepted_stage limit holds config tape ≡ Stopped refusal)
+    × Answers (list_verdict (status_of refusal) (stopped_text refusal)) failed before now answer)
     ⊎ (((answer ≡ 6) ⊎ ((answer ≡ 1) × failed)) × Grew before now [])
     ⊎ Shows limit holds config tape failed before now answer
+
+abbrev pub Lists : ℕ → Names → (config tape : List ℕ) → Happened → ℕ → Type 0
+Lists limit holds config tape call answer =
+    ListsSo limit holds config tape (FilesFailed call ⊎ SinkFailed call) call.before.written call.now.written answer
 
 -- a refusal is handed on behind what is said of it; or that couldn't be written
 abbrev pub SaysOf : {T : Type 0} → Refusal → Type 0 → (before now : Option (List ℕ)) → Result T Refusal → Type 0
@@ -54,7 +60,7 @@ listed_status (Stopped refusal) = status_of refusal
 
 -- Of the files that these names hold, both without a fault and within the limit, the listing was written: of the peers'
 -- states, and of the routes that the tape leaves held.
-pub record Listed (limit : ℕ) (holds : Names) (config tape : List ℕ) (before now : Option (List ℕ)) : Type 0 where
+pub record Listed (limit : ℕ) (holds : Names) (config tape : List ℕ) (call : Happened) : Type 0 where
   pub config_octets : List ℕ
   pub config_is : holds config ≡ Some config_octets
   pub config_within : length config_octets < limit
@@ -66,4 +72,4 @@ pub record Listed (limit : ℕ) (holds : Names) (config tape : List ℕ) (before
   pub items_are : tape_of accepted limit tape_octets ≡ (items, done)
   pub held : Held
   pub leaves : Leaves accepted items held
-  pub wrote : Grew before now (listing accepted items held)
+  pub wrote : Wrote call (listing accepted items held)

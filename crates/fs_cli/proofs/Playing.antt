@@ -4,16 +4,14 @@ use Rattle.fs_base.specs.Outside.{Rose}
 use Rattle.fs_base.specs.Parts.{with_part}
 use Rattle.fs_base.specs.Records.{End, done, limited, bad}
 use Rattle.fs_base.specs.declared.config.Config.{Config}
-use Rattle.fs_tape.specs.Tape.{Item, opening, items_to_come, tape_of}
-use Rattle.fs_tape.specs.Turn.{TapeState, coming}
+use Rattle.fs_tape.specs.Tape.{Item, opening, items_to_come, tape_of, TapeState, coming}
 use Rattle.fs_tape.specs.declared.fault.TapeReason.{TapeReason}
 use Rattle.fs_cli.specs.declared.refusal.Refusal.{Refusal}
 use Rattle.fs_cli.specs.declared.refusal.Refusal.TheVariants.{Outside}
-use Rattle.fs_cli.specs.Stage.{Stage, Found, Stopped, and_then, or_stop, HasReason}
-use Rattle.fs_cli.specs.Files.{Names}
-use Rattle.fs_cli.specs.Inputs.{played_to, tape_stage}
+use Rattle.fs_cli.specs.Refusal.{Stage, Found, Stopped, and_then, or_stop, HasReason}
+use Rattle.fs_cli.specs.Load.{Names}
+use Rattle.fs_cli.specs.Play.{played_to, tape_stage, PlaysOn, IsPlayed}
 use Rattle.fs_desk.specs.Desk.{Desked, Played}
-use Rattle.fs_cli.specs.Tapes.{PlaysOn, IsPlayed}
 
 -- of all items some were played, and the rest is to come
 pub record Playing (config : Config) (all rest : List Item × End TapeReason) (old now : Desked) : Type 0 where

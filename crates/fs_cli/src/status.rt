@@ -1,0 +1,28 @@
+//! The statuses with which the process ends.
+
+/// The job is done.
+pub const DONE: u8 = 0;
+
+/// A call on the outside failed, or a file that the words name isn't there.
+pub const OUTSIDE: u8 = 1;
+
+/// The words ask for no command.
+pub const NO_COMMAND: u8 = 2;
+
+/// The configuration isn't accepted.
+pub const CONFIG: u8 = 3;
+
+/// The tape has a fault.
+pub const TAPE: u8 = 4;
+
+/// The capture has a fault.
+pub const CAPTURE: u8 = 5;
+
+/// The machine refused memory.
+pub const MEMORY: u8 = 6;
+
+/// An input has at least as many octets as the limit allows.
+pub const LIMIT: u8 = 7;
+
+/// The word of `check` is no NLRI of the family.
+pub const NLRI: u8 = 9;
