@@ -33,7 +33,8 @@ pub fn parts(line: &str) -> Option<(&str, &str)>
 /// `NoHexadecimal` for other digits and for an odd count of them, and `Memory`.
 pub fn octets(alloc: Global, digits: &str) -> Result<Vec<u8>, Fault>
     ensures ok { IfOk result (λ octets. decode_of (filter is_no_space digits.now) ≡ Ok octets.items) }
-    ensures err { IfErr result (λ fault. (fault ≡ Fault.Memory) ⊎ ((fault ≡ Fault.NoHexadecimal) × HasNoHexadecimal digits.now)) }
+    ensures err { IfErr result (λ fault.
+        (fault ≡ Fault.Memory) ⊎ ((fault ≡ Fault.NoHexadecimal) × HasNoHexadecimal digits.now)) }
 {
     let packed: Vec<u8> = digits
         .as_bytes()
@@ -48,7 +49,7 @@ pub fn octets(alloc: Global, digits: &str) -> Result<Vec<u8>, Fault>
     }
 }
 
-/// The octets of a text in which `\n` stands for the end of a line, and `\` before another character for that character.
+/// The octets of a text in which `\n` stands for the end of a line, and `\` before another character for that one.
 ///
 /// # Errors
 ///

@@ -9,7 +9,7 @@ use fs_message::{
 };
 use std::alloc::Global;
 
-/// The kinds of the messages that stand in the octets, each with the length of its body, and the fault behind them, with
+/// The kinds of the messages in the octets, each with the length of its body, and the fault behind them, with
 /// a word where it is answered again; cut into pieces of the length that stands in front.
 pub fn frames(alloc: Global, names: &Names, input: &str) -> Result<String, Stop> {
     let (size, octets) = numbered(input)?;

@@ -12,7 +12,7 @@ use fs_attrs::{
 use fs_base::{Address, Family, Path, Prefix, Segment};
 use std::alloc::Global;
 
-/// The terms of that name, of a peer at 198.51.100.1: `external` or `internal`, with `-two` for AS numbers of two octets.
+/// The terms of that name, of a peer at 198.51.100.1: `external`, `internal`, with `-two` for AS numbers of two octets.
 fn terms_of(name: &str) -> Result<Terms, Stop> {
     let (external, four) = match name {
         "external" => (true, true),

@@ -33,7 +33,7 @@ fn originator(text: &str) -> Result<Option<u32>, Fault> {
     }
 }
 
-/// A path: origin, local preference, originator identifier and `external` or `internal`, and behind a comma the segments.
+/// A path: origin, local preference, originator identifier and `external` or `internal`; behind a comma the segments.
 fn path(alloc: Global, text: &str) -> Result<Path, Fault> {
     let Some((head, listed)) = text.split_once(',') else {
         return Err(Fault::NoField);

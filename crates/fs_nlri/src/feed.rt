@@ -106,7 +106,8 @@ fn decode_frames(
     out: &mut Vec<Rule>,
 ) -> Result<usize, NlriFault>
     ensures within { IfOk result (λ left. left ≤ length octets.now) }
-    ensures ok { IfOk result (λ left. Appends family octets.now (left_over left octets.now) out.old.items out.new.items) }
+    ensures ok { IfOk result (λ left.
+        Appends family octets.now (left_over left octets.now) out.old.items out.new.items) }
     ensures partial { IfOk result (λ left. IsOpen (left_over left octets.now)) }
     ensures err { IfErr result (Stops family octets.now out.old.items out.new.items) }
 {

@@ -237,8 +237,8 @@ impl Runner {
         Ok(())
     }
 
-    /// How many calls can fail: with each of them the run ends with 1 and has written a front of what it must write, and
-    /// behind the last it ends with 0 and has written all. None where a run ends otherwise.
+    /// How many calls can fail: with each of them the run ends with 1 and has written a front of what it must write,
+    /// and behind the last it ends with 0 and has written all. None where a run ends otherwise.
     fn calls(&mut self, called: Called) -> Result<Option<u64>, Fault> {
         for call in 0..CALLS {
             self.terms.reset();

@@ -157,7 +157,8 @@ fn advance(
     ensures live { IfOk result (λ _. deframer.new.fault ≡ None) }
     ensures some { IfOk result (λ fed. (fed.0 ≤ length piece.now) × (0 < length piece.now → 0 < fed.0)) }
     ensures exact { Feeds (at_ends ends.now deframer.old phase.old None)
-        (at_ends ends.now deframer.new phase.new (closed_after result)) piece.now replies.old.items replies.new.items result }
+        (at_ends ends.now deframer.new phase.new (closed_after result))
+        piece.now replies.old.items replies.new.items result }
 {
     let count = match deframer.feed(piece) {
         Ok((count, _)) => count,

@@ -11,7 +11,9 @@ fn main(rt: HostRuntime) -> ExitCode {
     let alloc = rt.alloc();
     let words = match env::args(&rt) {
         Ok(words) => words.skip(1).collect::<Vec<String>>(alloc),
-        Err(error) if error.kind() == ErrorKind::OutOfMemory => return ExitCode::from(status::MEMORY),
+        Err(error) if error.kind() == ErrorKind::OutOfMemory => return ExitCode::from(
+            status::MEMORY,
+        ),
         Err(_) => return ExitCode::from(status::NO_COMMAND),
     };
     let Ok(words) = words else {
