@@ -1,5 +1,5 @@
 -- The desk behind one more item of the tape.
-use Rattle.std.proofs.Common.{◌≡◌, ◌==◌, ℕ, List, [], ◌∷◌, ◌++◌, Bool, true, false, cond, Option, Some, None, if◌then◌else◌, option_map, refl, ap, sym, ◌∙◌, subst, true≢false, append-nil, arith, ◌⊎◌, inl, inr, unwrap_or, IsSome}
+use Rattle.std.proofs.Common.{◌≡◌, ◌==◌, ℕ, List, [], ◌∷◌, ◌++◌, Bool, true, false, cond, Option, Some, None, if◌then◌else◌, option_map, refl, ap, sym, ◌∙◌, subst, append-nil, arith, ◌⊎◌, inl, inr, unwrap_or, IsSome}
 use Rattle.std.proofs.lemmas.Bool.Decides.{nat_tests}
 use Rattle.std.specs.Ordering.{nat_cmp, is_eq}
 use Rattle.std.specs.Cmp.{IsTotalOrder, nat_cmp_total, eq_by_cmp_equiv}
