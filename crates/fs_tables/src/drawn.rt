@@ -1,0 +1,87 @@
+//! The table beside a plain one, over sequences of calls that a generator draws.
+
+use crate::answers::{Seen, compare_all};
+use crate::configs::Configs;
+use crate::count::Count;
+use crate::draws::Draws;
+use crate::fault::Fault;
+use crate::pair::Pair;
+use crate::pool::{Pool, thing_of};
+use fs_base::{Config, Steps};
+use fs_packet::{Link, View, view};
+use std::alloc::Global;
+use std::sync::ledger::Ledger;
+
+/// How many calls there are in a sequence.
+const CALLS: u32 = 150;
+
+/// The packet of that name.
+fn packet<'a>(pool: &'a Pool, name: &str) -> Result<View<'a>, Fault> {
+    match view(Link::Raw, thing_of(&pool.packets, name)?) {
+        Ok(view) => Ok(view),
+        Err(_) => Err(Fault::Line),
+    }
+}
+
+/// A sequence of calls over one configuration. After each call all answers for both families are compared.
+fn sequence<L: Ledger>(
+    pair: &mut Pair<'_>,
+    drawn: &mut Drawn<'_>,
+    seed: u64,
+    steps: &mut Steps<L>,
+) -> Result<(), Fault> {
+    let v4 = packet(drawn.pool, "tcp_v4")?;
+    let v6 = packet(drawn.pool, "tcp_v6")?;
+    let mut draws = Draws::new(seed);
+    for _ in 0..CALLS {
+        pair.call(&mut draws, &mut drawn.count, steps)?;
+        compare_all(drawn.alloc, pair, &v4, &mut drawn.seen, &mut drawn.count)?;
+        compare_all(drawn.alloc, pair, &v6, &mut drawn.seen, &mut drawn.count)?;
+    }
+    Ok(())
+}
+
+/// What the sequences are drawn from, and what was counted in them.
+#[derive(Drop)]
+pub struct Drawn<'a> {
+    alloc: Global,
+    pool: &'a Pool,
+    pub count: Count,
+    pub seen: Seen,
+}
+
+impl<'a> Drawn<'a> {
+    pub fn new(alloc: Global, pool: &'a Pool) -> Drawn<'a> {
+        Drawn {
+            alloc,
+            pool,
+            count: Count::new(),
+            seen: Seen::new(),
+        }
+    }
+
+    /// One sequence. The plain table forgets what it is told of lost peers, if it is to be wrong.
+    pub fn run<L: Ledger>(
+        &mut self,
+        config: &Config,
+        seed: u64,
+        forgets: bool,
+        steps: &mut Steps<L>,
+    ) -> Result<(), Fault> {
+        let mut pair = Pair::new(self.alloc, config, self.pool, forgets);
+        sequence(&mut pair, self, seed, steps)
+    }
+
+    /// A sequence over each of the configurations.
+    pub fn run_all<L: Ledger>(
+        &mut self,
+        configs: &Configs,
+        steps: &mut Steps<L>,
+    ) -> Result<(), Fault> {
+        for seed in 0..4u64 {
+            let config = configs.get(seed % 2 == 0, seed < 2);
+            self.run(config, seed, false, steps)?;
+        }
+        Ok(())
+    }
+}

@@ -1,0 +1,46 @@
+//! Why the program stops before its end.
+
+use fs_base::Memory;
+use std::alloc::{AllocError, AllocFailed};
+use std::io;
+
+/// Why a case file isn't followed to its end.
+#[derive(Clone, Copy, Debug, PartialEq, Eq, Drop)]
+pub enum Fault {
+    /// The machine refused memory.
+    Memory,
+    /// Reading or printing failed.
+    Outside,
+    /// A line of a case file says nothing.
+    Line,
+}
+
+impl From<Memory> for Fault {
+    fn from(_error: Memory) -> Fault {
+        Fault::Memory
+    }
+}
+
+impl From<AllocError> for Fault {
+    fn from(_error: AllocError) -> Fault {
+        Fault::Memory
+    }
+}
+
+impl<T: Drop> From<AllocFailed<T>> for Fault {
+    fn from(_error: AllocFailed<T>) -> Fault {
+        Fault::Memory
+    }
+}
+
+impl From<io::Error> for Fault {
+    fn from(_error: io::Error) -> Fault {
+        Fault::Outside
+    }
+}
+
+impl From<fs_cases::Fault> for Fault {
+    fn from(_error: fs_cases::Fault) -> Fault {
+        Fault::Line
+    }
+}

@@ -1,0 +1,135 @@
+//! The table and a plain one that holds the same, and one drawn call of both.
+
+use crate::count::Count;
+use crate::draws::Draws;
+use crate::fault::Fault;
+use crate::plain::Plain;
+use crate::pool::Pool;
+use fs_actions::{Actions, from_communities};
+use fs_base::{Config, Steps};
+use fs_order::Ranked;
+use fs_rules::Table;
+use fs_validate::FlowRoute;
+use std::alloc::Global;
+use std::sync::ledger::Ledger;
+
+/// The two tables, and what the calls are drawn from.
+#[derive(Drop)]
+pub struct Pair<'a> {
+    pub table: Table<'a>,
+    pub plain: Plain<'a>,
+    alloc: Global,
+    pool: &'a Pool,
+}
+
+/// A traffic-marking with a drawn DSCP value.
+fn actions(alloc: Global, draws: &mut Draws) -> Result<Actions, Fault> {
+    let dscp = draws.below(64) as u8;
+    match from_communities(alloc, &[0x80, 0x09, 0, 0, 0, 0, 0, dscp]) {
+        Ok(actions) => Ok(actions),
+        Err(_) => Err(Fault::Memory),
+    }
+}
+
+impl<'a> Pair<'a> {
+    /// Two tables that hold nothing.
+    pub fn new(alloc: Global, config: &'a Config, pool: &'a Pool, forgets: bool) -> Pair<'a> {
+        Pair {
+            table: Table::new(alloc, config),
+            plain: Plain::new(alloc, config, forgets),
+            alloc,
+            pool,
+        }
+    }
+
+    fn put_unicast<L: Ledger>(
+        &mut self,
+        draws: &mut Draws,
+        steps: &mut Steps<L>,
+    ) -> Result<(), Fault> {
+        let peer = draws.peer();
+        let prefix = *draws.one_of(&self.pool.prefixes)?;
+        let path = draws.one_of(&self.pool.paths)?;
+        self.plain.put_unicast(peer, prefix, path.copy()?)?;
+        self.table.put_unicast(peer, prefix, path.copy()?, steps)?;
+        Ok(())
+    }
+
+    fn put_flow<L: Ledger>(
+        &mut self,
+        draws: &mut Draws,
+        steps: &mut Steps<L>,
+    ) -> Result<(), Fault> {
+        let peer = draws.peer();
+        let rule = draws.one_of(&self.pool.rules)?;
+        let path = draws.one_of(&self.pool.paths)?;
+        let actions = actions(self.alloc, draws)?;
+        self.plain.put_flow(FlowRoute {
+            peer,
+            rule: rule.copy()?,
+            path: path.copy()?,
+            actions: actions.copy()?,
+        })?;
+        self.table
+            .put_flow(peer, rule.copy()?, path.copy()?, actions, steps)?;
+        Ok(())
+    }
+
+    fn withdraw_unicast<L: Ledger>(
+        &mut self,
+        draws: &mut Draws,
+        count: &mut Count,
+        steps: &mut Steps<L>,
+    ) -> Result<(), Fault> {
+        let peer = draws.peer();
+        let prefix = draws.one_of(&self.pool.prefixes)?;
+        let held = self.plain.withdraw_unicast(peer, prefix);
+        count.note(self.table.withdraw_unicast(peer, prefix, steps) == held);
+        Ok(())
+    }
+
+    fn withdraw_flow<L: Ledger>(
+        &mut self,
+        draws: &mut Draws,
+        count: &mut Count,
+        steps: &mut Steps<L>,
+    ) -> Result<(), Fault> {
+        let peer = draws.peer();
+        let rule = draws.one_of(&self.pool.rules)?;
+        let held = self.plain.withdraw_flow(peer, rule);
+        let key = Ranked { rule: rule.copy()? };
+        count.note(self.table.withdraw_flow(peer, &key, steps) == held);
+        Ok(())
+    }
+
+    fn lose<L: Ledger>(&mut self, draws: &mut Draws, steps: &mut Steps<L>) {
+        let peer = draws.peer();
+        self.table.lose(peer, steps);
+        self.plain.lose(peer);
+    }
+
+    /// One drawn call of both tables.
+    pub fn call<L: Ledger>(
+        &mut self,
+        draws: &mut Draws,
+        count: &mut Count,
+        steps: &mut Steps<L>,
+    ) -> Result<(), Fault> {
+        count.call();
+        let kind = draws.below(32);
+        if kind == 0 {
+            self.lose(draws, steps);
+            return Ok(());
+        }
+        if kind < 5 {
+            return self.withdraw_flow(draws, count, steps);
+        }
+        if kind < 9 {
+            return self.withdraw_unicast(draws, count, steps);
+        }
+        if kind < 19 {
+            return self.put_unicast(draws, steps);
+        }
+        self.put_flow(draws, steps)
+    }
+}
