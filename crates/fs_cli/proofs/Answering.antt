@@ -1,5 +1,5 @@
 -- How the answer of a run follows from what its parts did.
-use Rattle.std.proofs.Common.{◌≡◌, ◌⊎◌, inl, inr, ◌≤◌, ◌-◌, arith, ◌∙◌, ℕ, List, [], Option, Some, None, Result, Ok, Err, take, drop, refl, ap, sym, subst, append-nil}
+use Rattle.std.proofs.Common.{◌≡◌, ◌⊎◌, inl, inr, ◌≤◌, arith, ◌∙◌, ℕ, List, [], Option, Some, None, Result, Ok, Err, take, drop, refl, ap, sym, subst, append-nil}
 use Rattle.std.specs.Result.{MatchResult, IfErr, IsErrAnd, IsErrOf}
 use Rattle.std.proofs.lemmas.Grind.{common_steps}
 use Rattle.fs_base.specs.Outside.{Rose}

@@ -1,5 +1,5 @@
 -- What the clauses of a run say follows from what it does.
-use Rattle.std.proofs.Common.{◌≡◌, ◌≢◌, ◌⊎◌, inl, inr, ◌<◌, ◌∙◌, ◌^◌, ◌-◌, ◌↔◌, ℕ, List, Option, Some, None, Result, IsTrue, IfSome, refl, ap, sym, subst, arith, true, false, Bool, if◌then◌else◌, length, nat_le}
+use Rattle.std.proofs.Common.{◌≡◌, ◌≢◌, ◌⊎◌, inl, inr, ◌<◌, ◌∙◌, ◌^◌, ◌-◌, ◌↔◌, ℕ, List, Option, Some, None, Result, IsTrue, refl, ap, sym, subst, arith, true, false, Bool, if◌then◌else◌, length, nat_le}
 use Rattle.std.proofs.lemmas.Bool.Decides.{nat_tests}
 use Rattle.fs_base.specs.Happened.{Happened, happened, FilesFailed, SinkFailed, FilesStood, SinkStood}
 use Rattle.fs_base.specs.Outside.{Rose}
@@ -21,7 +21,6 @@ use Rattle.fs_cli.specs.Enforce.{Enforces, EnforcesSo, Enforced, Inputs, inputs,
 use Rattle.fs_cli.specs.Load.{Names, fetch, config_stage}
 use Rattle.fs_cli.specs.Command.{Form, Enforce, Rules, Check, form_of}
 use Rattle.fs_cli.specs.Rules.{Lists, ListsSo, Listed, listed_status}
-use Rattle.fs_listing.specs.Listing.{listing}
 use Rattle.fs_cli.specs.Play.{played_to, tape_stage, accepted_stage}
 use Rattle.fs_cli.specs.Judge.{capture_stage, status_at, verdict_of, output_of}
 use Rattle.fs_cli.specs.Refusal.{answered, Stage, Found, Stopped, and_then, or_stop, status_of}

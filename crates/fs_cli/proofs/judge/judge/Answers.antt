@@ -1,4 +1,4 @@
-use Rattle.std.proofs.Common.{◌⊎◌, inl, refl, subst, sym, ap, ◌∙◌, le_trans}
+use Rattle.std.proofs.Common.{◌⊎◌, inl, refl, subst, sym, le_trans}
 use Rattle.fs_base.specs.Outside.{Rose}
 use Rattle.fs_pcap.specs.Capture.{CaptureState, coming}
 use Rattle.fs_cli.specs.Judge.{capture_stage, JudgesAll, JudgingState, verdict_of, admitted_rules, lines_from}

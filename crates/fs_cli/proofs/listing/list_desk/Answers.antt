@@ -1,4 +1,4 @@
-use Rattle.std.proofs.Common.{ℕ, List, subst, ap, ◌∙◌}
+use Rattle.std.proofs.Common.{ℕ, List, subst, ◌∙◌}
 use Rattle.fs_base.specs.Outside.{Rose}
 use Rattle.fs_cli.specs.Listing.{Writes}
 use Rattle.fs_cli.proofs.listing.list_desk.Goals as goal
