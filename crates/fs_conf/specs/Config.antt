@@ -38,7 +38,7 @@ peer_of_members members = do
   number ← number_in 1 65535 (get_member (codes "number") members)
   address ← written address_of (get_member (codes "address") members)
   asn ← as_number (get_member (codes "as") members)
-  Some (record { number = number; address = address; asn = asn })
+  Some (record { number = number; address = address; asn = asn; max_routes = None })
 
 abbrev pub peer_of_table : Members → Option Peer
 peer_of_table members = if keys_among peer_keys members then peer_of_members members else None
@@ -83,6 +83,7 @@ config_of_members members = do
     local_id = local_id;
     allow_no_destination = allow_no_destination;
     empty_path_valid = empty_path_valid;
+    hold_time = 0;
     peers = peers;
   })
 

@@ -50,6 +50,7 @@ fn read_peer(value: &Value) -> Option<Peer>
         number,
         address,
         asn,
+        max_routes: None,
     })
 }
 
@@ -136,6 +137,7 @@ fn config_from(alloc: Global, table: &Table) -> Result<Config, ConfFault>
         local_id: identifier_at(table, "local_id").ok_or(refused)?,
         allow_no_destination: flag_at(table, "allow_no_destination", false).ok_or(refused)?,
         empty_path_valid: flag_at(table, "empty_path_valid", true).ok_or(refused)?,
+        hold_time: 0,
         peers: peers_at(alloc, table, "peer")?,
     })
 }

@@ -23,12 +23,14 @@ fn config(alloc: Global) -> Result<Config, Fault> {
         number: 1,
         address: Address::V4(0xc633_6401),
         asn: 65001,
+        max_routes: None,
     })?;
     Ok(Config {
         local_as: 65000,
         local_id: 0xc000_02fe,
         allow_no_destination: false,
         empty_path_valid: true,
+        hold_time: 0,
         peers: Peers::new(peers),
     })
 }

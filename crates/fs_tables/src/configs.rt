@@ -9,6 +9,7 @@ fn peer(number: u16, address: u32, asn: u32) -> Peer {
         number,
         address: Address::V4(address),
         asn,
+        max_routes: None,
     }
 }
 
@@ -27,6 +28,7 @@ fn config(
         local_id: 0xc000_02fe,
         allow_no_destination,
         empty_path_valid,
+        hold_time: 0,
         peers: Peers::new(peers),
     })
 }
