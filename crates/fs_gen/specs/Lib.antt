@@ -1,0 +1,5 @@
+pub mod Configuration
+pub mod Draws
+pub mod Generator
+pub mod Messages
+pub mod Octets
