@@ -6,7 +6,7 @@ use Rattle.fs_packet.specs.Matches.{is_match}
 use Rattle.fs_compile.specs.declared.fast.Fast.{Fast}
 use Rattle.fs_compile.specs.Facts.{IsSmall}
 
-pub fast_holds : Viewed → Fast → Bool
+unfoldable pub fast_holds : Viewed → Fast → Bool
 fast_holds view fast = is_match fast.rule view
 
 -- it holds of exactly the packets that the rule matches
