@@ -1,0 +1,4 @@
+pub mod Calm
+pub mod Enclosing
+pub mod Growing
+pub mod Stretches
