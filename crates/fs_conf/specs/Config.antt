@@ -1,5 +1,5 @@
 -- The configuration file: a TOML document with these keys and no others.
-use Rattle.std.specs.Prelude.{ℕ, ◌==◌, nat_le, Bool, true, false, not, ◌&&◌, if◌then◌else◌, List, [], ◌∷◌, length, codes, Option, Some, None, option_map, option_and_then}
+use Rattle.std.specs.Prelude.{ℕ, ◌==◌, nat_le, Bool, true, false, not, ◌&&◌, ◌||◌, if◌then◌else◌, List, [], ◌∷◌, length, codes, Option, Some, None, option_map, option_and_then}
 use Rattle.std.specs.List.{list_any}
 use Rattle.std.specs.Str.{is_utf8}
 use Rattle.toml.specs.Data.{Data, as_str, as_array, as_table, Items, no_items, item, Members, get_member}
@@ -7,7 +7,7 @@ use Rattle.toml.specs.Parse.{parse_document}
 use Rattle.fs_base.specs.declared.config.Config.{Config}
 use Rattle.fs_base.specs.declared.config.Peer.{Peer}
 use Rattle.fs_conf.specs.Address.{ipv4_of, address_of}
-use Rattle.fs_conf.specs.Fields.{flag_or, keys_among, number_in}
+use Rattle.fs_conf.specs.Fields.{flag_or, keys_among, number_in, number_or}
 
 infixl 10 ◌>>=◌
 abbrev ◌>>=◌ : {A B : Type 0} → Option A → (A → Option B) → Option B
@@ -28,6 +28,10 @@ as_number = number_in 1 4294967295
 -- a BGP identifier: dotted IPv4, not 0.0.0.0 (RFC 4271, section 4.2)
 abbrev pub identifier : Option Data → Option ℕ
 identifier value = written ipv4_of value >>= kept_if (λ id. not (id == 0))
+
+-- a hold time in seconds: 0, or at least 3 (RFC 4271, section 4.2)
+abbrev pub hold_time_in : Option Data → Option ℕ
+hold_time_in found = number_or 0 0 65535 found >>= kept_if (λ n. n == 0 || nat_le 3 n)
 
 -- a peer is a table with these three keys and no others
 abbrev pub peer_keys : List (List ℕ)
@@ -69,7 +73,7 @@ peers_in found = ((found >>= as_array) >>= peers_of_items) >>= kept_if are_peers
 abbrev pub config_keys : List (List ℕ)
 config_keys =
     codes "local_as" ∷ codes "local_id" ∷ codes "allow_no_destination" ∷ codes "empty_path_valid"
-    ∷ codes "peer" ∷ []
+    ∷ codes "hold_time" ∷ codes "peer" ∷ []
 
 abbrev pub config_of_members : Members → Option Config
 config_of_members members = do
@@ -77,13 +81,14 @@ config_of_members members = do
   local_id ← identifier (get_member (codes "local_id") members)
   allow_no_destination ← flag_or false (get_member (codes "allow_no_destination") members)
   empty_path_valid ← flag_or true (get_member (codes "empty_path_valid") members)
+  hold_time ← hold_time_in (get_member (codes "hold_time") members)
   peers ← peers_in (get_member (codes "peer") members)
   Some (record {
     local_as = local_as;
     local_id = local_id;
     allow_no_destination = allow_no_destination;
     empty_path_valid = empty_path_valid;
-    hold_time = 0;
+    hold_time = hold_time;
     peers = peers;
   })
 

@@ -10,6 +10,11 @@ abbrev pub number_in : ℕ → ℕ → Option Data → Option ℕ
 number_in low high (Some (integer (pos n))) = if nat_le low n && nat_le n high then Some n else None
 number_in low high _ = None
 
+-- an integer from low to high, and this one where the key is missing
+abbrev pub number_or : ℕ → ℕ → ℕ → Option Data → Option ℕ
+number_or default low high None = Some default
+number_or default low high (Some value) = number_in low high (Some value)
+
 -- a boolean, and this one where the key is missing
 abbrev pub flag_or : Bool → Option Data → Option Bool
 flag_or default None = Some default

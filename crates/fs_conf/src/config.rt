@@ -4,10 +4,10 @@ ghost use Rattle.std.specs.Prelude.{◌≡◌, ◌==◌, Some, None, IfOk, IsErr
 ghost use Rattle.std.specs.List.{list_any};
 ghost use Rattle.toml.specs.Data.{get_member};
 ghost use Rattle.toml.specs.View.{view, items_view, table_view};
-ghost use Rattle.fs_conf.specs.Config.{peer_of_data, peers_of_items, peers_in, are_distinct, identifier, config_of, config_of_document};
+ghost use Rattle.fs_conf.specs.Config.{hold_time_in, peer_of_data, peers_of_items, peers_in, are_distinct, identifier, config_of, config_of_document};
 
 use crate::address::{read_address, read_ipv4};
-use crate::fields::{array_at, flag_at, has_only, number_at, text_at};
+use crate::fields::{array_at, flag_at, has_only, number_at, number_or, text_at};
 use fs_base::{Config, Peer, Peers};
 use std::alloc::{AllocFailed, Global};
 use std::str;
@@ -100,6 +100,16 @@ fn identifier_at(table: &Table, key: &str) -> Option<u32>
     }
 }
 
+// The hold time in seconds.
+fn hold_time_at(table: &Table, key: &str) -> Option<u16>
+    ensures { result ≡ hold_time_in (get_member key.now (table_view table.now)) }
+{
+    match number_or(table, key, 0, 0, 65535)? {
+        seconds if seconds == 0 || 3 <= seconds => Some(seconds as u16),
+        _ => None,
+    }
+}
+
 // The peers of the array at a key.
 fn peers_at(alloc: Global, table: &Table, key: &str) -> Result<Peers, ConfFault>
     ensures ok { IfOk result (λ peers. peers_in (get_member key.now (table_view table.now)) ≡ Some peers) }
@@ -126,6 +136,7 @@ fn config_from(alloc: Global, table: &Table) -> Result<Config, ConfFault>
         "local_id",
         "allow_no_destination",
         "empty_path_valid",
+        "hold_time",
         "peer",
     ];
     if !has_only(table, &names) {
@@ -137,16 +148,16 @@ fn config_from(alloc: Global, table: &Table) -> Result<Config, ConfFault>
         local_id: identifier_at(table, "local_id").ok_or(refused)?,
         allow_no_destination: flag_at(table, "allow_no_destination", false).ok_or(refused)?,
         empty_path_valid: flag_at(table, "empty_path_valid", true).ok_or(refused)?,
-        hold_time: 0,
+        hold_time: hold_time_at(table, "hold_time").ok_or(refused)?,
         peers: peers_at(alloc, table, "peer")?,
     })
 }
 
 /// Reads a configuration file: a TOML document with `local_as` (1 to 4294967295), `local_id` (dotted IPv4,
 /// not 0.0.0.0), `allow_no_destination` (false where it is missing), `empty_path_valid` (true where it is
-/// missing) and 1 to 1024 tables `[[peer]]`, each with `number` (1 to 65535, no two the same), `address`
-/// (dotted IPv4, or IPv6 in the forms 1 and 2 of RFC 4291 section 2.2) and `as` (1 to 4294967295). A file
-/// with any other key is refused.
+/// missing), `hold_time` in seconds (0, or 3 to 65535; 0 where it is missing) and 1 to 1024 tables `[[peer]]`,
+/// each with `number` (1 to 65535, no two the same), `address` (dotted IPv4, or IPv6 in the forms 1 and 2 of
+/// RFC 4291 section 2.2) and `as` (1 to 4294967295). A file with any other key is refused.
 pub fn read_config(alloc: Global, octets: &[u8]) -> Result<Config, ConfFault>
     ensures ok { IfOk result (λ config. config_of octets.now ≡ Some config) }
     ensures refused { IsErrOf result ConfFault.Refused → config_of octets.now ≡ None }

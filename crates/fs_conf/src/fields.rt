@@ -6,7 +6,7 @@ ghost use Rattle.std.specs.List.{list_all};
 ghost use Rattle.std.specs.Option.{option_copied};
 ghost use Rattle.toml.specs.Data.{get_member, as_str, as_array};
 ghost use Rattle.toml.specs.View.{view, array_view, table_view};
-ghost use Rattle.fs_conf.specs.Fields.{flag_or, is_named, keys_among, number_in};
+ghost use Rattle.fs_conf.specs.Fields.{flag_or, is_named, keys_among, number_in, number_or};
 
 use toml::value::Array;
 use toml::{Table, Value};
@@ -29,6 +29,17 @@ pub(crate) fn number_at(table: &Table, key: &str, low: u32, high: u32) -> Option
             _ => None,
         },
         _ => None,
+    }
+}
+
+/// The integer from `low` to `high` at a key, `default` where the key is missing.
+pub(crate) fn number_or(table: &Table, key: &str, default: u32, low: u32, high: u32) -> Option<u32>
+    ensures value { result ≡ number_or default low high (get_member key.now (table_view table.now)) }
+    ensures within { default ≤ high → IfSome result (λ n. n ≤ high) }
+{
+    match value_at(table, key) {
+        None => Some(default),
+        Some(_) => number_at(table, key, low, high),
     }
 }
 
