@@ -1,0 +1,11 @@
+//! Inputs that are lists of records: a head that tells what follows, and a payload. What a head says may depend on the
+//! records before it.
+#![tactic(auto)]
+
+mod fault;
+mod head;
+mod reading;
+
+pub use fault::{Ended, Fault};
+pub use head::{Found, Head, Heads, MOST_HEAD};
+pub use reading::{next_record, short};
