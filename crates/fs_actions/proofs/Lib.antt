@@ -1,3 +1,4 @@
 pub mod Insertion
 pub mod ReadBack
 pub mod Listed
+pub mod Behind

@@ -1,6 +1,7 @@
 -- The actions that a field of communities gives, and what they say together (RFC 8955 section 7).
-use Rattle.std.specs.Prelude.{ℕ, ◌/◌, ◌%◌, ◌==◌, Bool, ◌&&◌, List, [], ◌∷◌, length, filter_map, nat_lt, Option, Some, None}
+use Rattle.std.specs.Prelude.{◌≡◌, ℕ, ◌/◌, ◌%◌, ◌==◌, Bool, ◌&&◌, List, [], ◌∷◌, length, filter_map, nat_lt, Option, Some, None}
 use Rattle.std.specs.Ordering.{match_ordering, nat_cmp}
+use Rattle.std.specs.declared.cmp.Ordering.TheVariants.{Less}
 use Rattle.std.specs.List.{AllByRecursion}
 use Rattle.std.specs.List.Sorted.{IsStrictlySortedBy}
 use Rattle.std.specs.Cmp.Lexicographic.{slice_cmp}
@@ -37,3 +38,8 @@ pub record IsActions (actions : List (List ℕ)) : Type 0 where
 abbrev pub first_of : {A : Type 0} → (List ℕ → Option A) → List (List ℕ) → Option A
 first_of meaning [] = None
 first_of meaning (action ∷ rest) = elim (meaning action) [ Some said ↦ Some said | None ↦ first_of meaning rest ]
+
+-- an action can stand first, or behind one whose octets are below its own
+abbrev pub IsAbove : Option (List ℕ) → List ℕ → Type 0
+IsAbove None action = Unit {0}
+IsAbove (Some last) action = slice_cmp nat_cmp last action ≡ Less

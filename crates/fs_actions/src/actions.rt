@@ -1,9 +1,9 @@
 //! The actions of a route, and the communities that say them.
 
-ghost use Rattle.std.specs.Prelude.{◌≡◌, ◌↔◌, ℕ, false, true, List, [], ◌++◌, IfOk, IsErrOf, OnErr, OnOk, length, nat_lt, slice_get, filter_map};
-ghost use Rattle.std.specs.List.{concat, list_any};
-ghost use Rattle.fs_actions.specs.Community.{has_flag, is_discard, limit_of, mark_of, redirect_of};
-ghost use Rattle.fs_actions.specs.Actions.{IsActions, actions_of, are_communities, first_of, with_action};
+ghost use Rattle.std.specs.Prelude.{◌≡◌, ◌↔◌, ℕ, None, Some, IsTrue, ◌∷◌, false, true, List, [], ◌++◌, IfOk, IsErrOf, OnErr, OnOk, length, nat_lt, slice_get, filter_map};
+ghost use Rattle.std.specs.List.{concat, last_or, list_any};
+ghost use Rattle.fs_actions.specs.Community.{IsAction, has_flag, is_discard, limit_of, mark_of, redirect_of};
+ghost use Rattle.fs_actions.specs.Actions.{IsAbove, IsActions, actions_of, are_communities, first_of, with_action};
 ghost use Rattle.std.specs.List.Sorted.{IsStrictlySortedBy};
 ghost use Rattle.std.specs.Cmp.Lexicographic.{slice_cmp};
 ghost use Rattle.std.specs.Ordering.{nat_cmp};
@@ -11,6 +11,7 @@ ghost use Rattle.std.specs.Ordering.{nat_cmp};
 use crate::community::{Action, Rate, Redirect};
 use fs_base::Memory;
 use std::alloc::{AllocError, AllocFailed, Global};
+use std::cmp::Ordering;
 use std::marker::Model;
 
 /// Why communities can't be read as actions.
@@ -62,6 +63,27 @@ impl Actions {
         ensures actions { IsActions self.now }
     {
         &self.list
+    }
+
+    /// Whether the action can stand behind these: its octets are above those of the last one.
+    pub fn goes_behind(&self, action: &Action) -> bool
+        ensures { IsTrue result ↔ IsAbove (last_or None self.now) action.now }
+    {
+        match self.list.last() {
+            Some(last) => is_below(last, action),
+            None => true,
+        }
+    }
+
+    /// Puts an action that can stand there behind these. After want of memory the list is as it was.
+    pub fn push(&mut self, action: Action) -> Result<(), Memory>
+        requires action { IsAction action }
+        requires above { IsAbove (last_or None self.old) action }
+        ensures ok { OnOk result (self.new ≡ self.old ++ action ∷ []) }
+        ensures err { OnErr result (self.new ≡ self.old) }
+    {
+        self.list.push(action)?;
+        Ok(())
     }
 
     /// An equal list.
@@ -153,6 +175,16 @@ impl Actions {
             }
         }
         None
+    }
+}
+
+/// Whether the octets of one action are below those of another.
+fn is_below(one: &Action, other: &Action) -> bool
+    ensures { IsTrue result ↔ IsAbove (Some one.now) other.now }
+{
+    match one.cmp(other) {
+        Ordering::Less => true,
+        Ordering::Equal | Ordering::Greater => false,
     }
 }
 

@@ -76,7 +76,7 @@ impl Model for Action {
 
 impl Action {
     /// The listed community in normal form, or None where no action has this type and sub-type.
-    pub(crate) fn of(community: &[u8; 8]) -> Option<Action>
+    pub fn of(community: &[u8; 8]) -> Option<Action>
         ensures value { result ≡ normal_form community.now }
         ensures action { IfSome result IsAction }
     {

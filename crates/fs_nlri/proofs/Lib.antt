@@ -13,3 +13,4 @@ pub mod OneOutcome
 pub mod Again
 pub mod Sound
 pub mod Destination
+pub mod InNormalForm

@@ -57,7 +57,7 @@ normal_body V6Form (V6Body len offset pattern) given sound =
 normal_body (ListForm kind widths bits) (V4Body family len address) given sound = absurd (false≢true given)
 normal_body (ListForm kind widths bits) (V6Body len offset pattern) given sound = absurd (false≢true given)
 
-normal_at : (form : Option Form) (body : Body) → given_at form body ≡ true → IsTypedAt form body → IsNormalAt form (cleared_at form body)
+pub normal_at : (form : Option Form) (body : Body) → given_at form body ≡ true → IsTypedAt form body → IsNormalAt form (cleared_at form body)
 normal_at None body given sound = absurd (false≢true given)
 normal_at (Some form) body given sound = normal_body form body given sound
 

@@ -1,12 +1,14 @@
 -- Laws of frames. They speak of the rules of one family, since a frame doesn't say its own.
-use Rattle.std.specs.Prelude.{◌≡◌, ◌↔◌, ℕ, List, [], ◌++◌, Result}
+use Rattle.std.specs.Prelude.{◌≡◌, ◌↔◌, ℕ, List, [], ◌++◌, length, nat_le, if◌then◌else◌, Result, Ok, Err}
 use Rattle.fs_base.specs.declared.prefix.Family.{Family}
 use Rattle.fs_base.specs.Language.{IsOctets}
 use Rattle.fs_nlri.specs.declared.fault.Reason.{Reason}
 use Rattle.fs_nlri.specs.Outcome.{IsFrameOutcome, IsFieldOutcome}
-use Rattle.fs_nlri.specs.Parts.{Ruled}
+use Rattle.fs_nlri.specs.declared.fault.RuleFault.TheVariants.{TooLong}
+use Rattle.fs_nlri.specs.Making.{rule_of}
+use Rattle.fs_nlri.specs.Parts.{Part, Ruled, ruled}
 use Rattle.fs_nlri.specs.Spelling.{IsFrame}
-use Rattle.fs_nlri.specs.Rule.{IsRule, canonical_frame}
+use Rattle.fs_nlri.specs.Rule.{IsRule, AreNormal, canonical_frame, canonical_value}
 
 -- no frame is a proper prefix of another
 abbrev pub NoFrameGoesOn : Type 0
@@ -42,3 +44,9 @@ BeginsOneWay =
 abbrev pub IsOneField : Type 0
 IsOneField =
     (family : Family) (octets : List ℕ) (one other : Result (List Ruled) (Reason × ℕ)) → IsOctets octets → IsFieldOutcome family octets one → IsFieldOutcome family octets other → one ≡ other
+
+-- components in normal form make the rule of themselves, unless their value is too long for a frame
+abbrev pub NormalMakes : Type 0
+NormalMakes =
+    (family : Family) (parts : List Part) → AreNormal family 0 parts
+    → rule_of family parts ≡ (if nat_le (length (canonical_value parts)) 4095 then Ok (ruled family parts) else Err TooLong)

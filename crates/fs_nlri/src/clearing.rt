@@ -8,6 +8,7 @@ ghost use Rattle.fs_nlri.specs.Making.{cleared_body, cleared_part, cleared_parts
 
 use crate::body::bits_of_fragment;
 use crate::component::{Component, PrefixForm};
+use crate::given::is_given;
 use fs_base::{Family, Memory, Prefix};
 use std::alloc::Global;
 
@@ -57,6 +58,29 @@ fn clear(family: Family, component: Component) -> Component
             Component::Fragment(list)
         }
         other => other,
+    }
+}
+
+impl Component {
+    ghost use Rattle.std.specs.Prelude.{◌≡◌, IfSome, IfNone};
+    ghost use Rattle.fs_nlri.specs.Forms.{form_of};
+    ghost use Rattle.fs_nlri.specs.Component.{part_of};
+    ghost use Rattle.fs_nlri.specs.Rule.{IsNormalAt};
+    ghost use Rattle.fs_nlri.specs.Making.{cleared_part};
+
+    /// The component in normal form: the bits that are to be ignored are cleared. None exactly where the family doesn't
+    /// give the component, or its type the form and the widths that it has.
+    pub fn cleared(self, family: Family) -> Option<Component>
+        ensures some { IfSome result (λ own. part_of own ≡ cleared_part family (part_of self)) }
+        ensures normal { IfSome result (λ own. let part = part_of own in IsNormalAt (form_of family part.kind) part.body) }
+        ensures none { IfNone result (let part = part_of self in IsNormalAt (form_of family part.kind) part.body → ⊥) }
+        ensures same { let part = part_of self in
+            IsNormalAt (form_of family part.kind) part.body → cleared_part family part ≡ part }
+    {
+        if !is_given(family, &self) {
+            return None;
+        }
+        Some(clear(family, self))
     }
 }
 

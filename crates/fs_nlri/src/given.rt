@@ -64,7 +64,7 @@ fn form_given(family: Family, form: &PrefixForm) -> bool
 const ALL_WIDTHS: [u8; 4] = [0, 1, 2, 3];
 
 /// Whether the family gives the component's type, and the type its form and its widths.
-fn is_given(family: Family, component: &Component) -> bool
+pub(crate) fn is_given(family: Family, component: &Component) -> bool
     ensures value { result ≡ part_given family (part_of component.now) }
     ensures sound { OnTrue result (IsTyped family (part_of component.now)) }
 {

@@ -1,6 +1,6 @@
 //! Laws of frames, each proved as the contract of a function that does nothing.
 
-ghost use Rattle.fs_nlri.specs.Laws.{NoFrameGoesOn, CanonicalIsFrame, CanonicalIsOwn, CanonicalTells, EachBeginsSomehow, EachIsAField, BeginsOneWay, IsOneField};
+ghost use Rattle.fs_nlri.specs.Laws.{NoFrameGoesOn, CanonicalIsFrame, CanonicalIsOwn, CanonicalTells, EachBeginsSomehow, EachIsAField, BeginsOneWay, IsOneField, NormalMakes};
 
 /// No frame of a family is a proper prefix of another.
 pub fn no_frame_goes_on()
@@ -30,4 +30,9 @@ pub fn every_outcome()
 pub fn one_outcome()
     ensures frame { BeginsOneWay }
     ensures field { IsOneField }
+{}
+
+/// Components in normal form make the rule of themselves, unless their value is too long for a frame.
+pub fn normal_makes()
+    ensures { NormalMakes }
 {}

@@ -21,6 +21,8 @@ pub use component::{Component, Content, PrefixForm};
 pub use fault::{NlriFault, Reason, RuleFault};
 pub use feed::Feed;
 pub use frame::decode;
-pub use laws::{canonical_is_frame, canonical_tells, every_outcome, no_frame_goes_on, one_outcome};
+pub use laws::{
+    canonical_is_frame, canonical_tells, every_outcome, no_frame_goes_on, normal_makes, one_outcome,
+};
 pub use rule::Rule;
 pub use writing::encode;

@@ -4,3 +4,4 @@ pub mod Found
 pub mod Grammar
 pub mod Groups
 pub mod Normal
+pub mod NormalPairs

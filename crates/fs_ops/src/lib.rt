@@ -5,6 +5,7 @@
 mod error;
 mod evaluation;
 mod kind;
+mod making;
 mod mask_list;
 mod num_list;
 mod operator;

@@ -1,6 +1,6 @@
 //! Lists of numeric operators (RFC 8955 section 4.2.1.1).
 
-ghost use Rattle.std.specs.Prelude.{◌≡◌, ◌≤◌, ◌<◌, ◌^◌, ◌++◌, List, length, take, map, bit_and, Any, IfOk, IfErr, OnOk, OnErr};
+ghost use Rattle.std.specs.Prelude.{◌≡◌, ◌≤◌, ◌<◌, ◌^◌, ◌++◌, List, length, take, map, bit_and, Any, IfOk, IfErr, IfSome, IfNone, OnOk, OnErr};
 ghost use Rattle.fs_ops.specs.Operator.{Kind, Numeric};
 ghost use Rattle.fs_ops.specs.OperatorList.{Spells, IsNormal, canonical, first_joins};
 ghost use Rattle.fs_ops.specs.Fault.{IsFault, all_widths};
@@ -8,7 +8,7 @@ ghost use Rattle.fs_ops.specs.Evaluation.{holds, compares};
 
 use crate::error::OpsFault;
 use crate::kind::Kind;
-use crate::{evaluation, reading, size, values, writing};
+use crate::{evaluation, making, reading, size, values, writing};
 use fs_base::Memory;
 use std::alloc::Global;
 use std::marker::Model;
@@ -57,6 +57,17 @@ impl NumList {
     {
         let (list, taken) = reading::read(alloc, Kind::Numeric, octets, widths)?;
         Ok((NumList { list }, taken))
+    }
+
+    /// The list of these pairs. None exactly where they aren't in normal form.
+    pub fn from_pairs(pairs: Vec<(u8, u64)>) -> Option<NumList>
+        ensures some { IfSome result (λ list. list ≡ pairs.items) }
+        ensures none { IfNone result (IsNormal Numeric pairs.items → ⊥) }
+    {
+        if !making::is_normal(Kind::Numeric, &pairs) {
+            return None;
+        }
+        Some(NumList { list: pairs })
     }
 
     /// The operator octets, each with its value.

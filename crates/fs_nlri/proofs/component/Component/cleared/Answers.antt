@@ -1,0 +1,16 @@
+use Rattle.std.proofs.Common.{◌≡◌, Bool, true, sym, subst, ◌∙◌}
+use Rattle.std.specs.Bool.{OnTrue}
+use Rattle.fs_nlri.specs.Forms.{form_of}
+use Rattle.fs_nlri.specs.Parts.{Part}
+use Rattle.fs_nlri.specs.Component.{part_of}
+use Rattle.fs_nlri.specs.Rule.{IsNormalAt}
+use Rattle.fs_nlri.specs.Making.{IsTyped, part_given}
+use Rattle.fs_nlri.proofs.Made.{normal_at}
+use Rattle.fs_nlri.proofs.component.Component.cleared.Goals as goal
+
+pub returns-clause-normal : goal.returns-clause-normal
+returns-clause-normal c =
+    let own = part_of c.args.self in
+    let given : part_given c.args.family own ≡ true = sym c.is_given.ensures.value ∙ c.if-not-is_given.false in
+    let sound : IsTyped c.args.family own = subst (λ (b : Bool). OnTrue b (IsTyped c.args.family own)) c.if-not-is_given.false c.is_given.ensures.sound in
+    subst (λ (made : Part). IsNormalAt (form_of c.args.family made.kind) made.body) (sym c.clear.ensures) (normal_at (form_of c.args.family own.kind) own.body given sound)
