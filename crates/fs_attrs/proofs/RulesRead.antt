@@ -27,7 +27,7 @@ use Rattle.fs_nlri.proofs.Bodies.{v4_empty, v4_length, v4_cut, v6_empty, v6_leng
 use Rattle.fs_nlri.proofs.BodyReaders.{list_bad}
 use Rattle.fs_nlri.proofs.ValueSteps.{HasRead, start, finished, no_type, not_above, bad_at}
 use Rattle.fs_nlri.proofs.Frames.{frame_found, frame_bad}
-use Rattle.fs_nlri.proofs.Every.{IsBodyOutcome, IsValueOutcome, AllowsSome, allows_at, all_allow, v4_whole, v6_whole, range_or_not, more_part, none_is_not_some, some_is, open_empty, open_one, passes_end, frame_some}
+use Rattle.fs_nlri.proofs.Every.{IsBodyOutcome, IsValueOutcome, AllowsSome, allows_at, all_allow, v4_whole, v6_whole, range_or_not, more_part, none_is_not_some, some_is, open_empty, open_one, passes_end, frame_before_bad, frame_some}
 use Rattle.fs_attrs.specs.Rules.{v4_at, v6_at, with_pair, pairs_at, list_body, body_at, behind_type, typed_at, with_component, components_of, components_in, length_at, framed, sized_at, frame_at, with_rule, frames_of, rules_of}
 
 -- Prefixes
@@ -351,15 +351,7 @@ frame_is family octets small = by (length_at octets) (length_is octets small)
 framed_more : (family : Family) (frame rest : List ℕ) (rule : Ruled) (later : Result (List Ruled) (Reason × ℕ)) → rule.family ≡ family → IsFrame frame rule → IsFieldOutcome family rest later
     → IsFieldOutcome family (frame ++ rest) (with_rule rule later)
 framed_more family frame rest rule (Ok rules) families is holds = (frame, rest, refl, families, is, holds)
-framed_more family frame rest rule (Err bad) families is holds = record {
-  front = frame ++ holds.front;
-  rules = rule ∷ holds.rules;
-  rest = holds.rest;
-  frames = (frame, holds.front, refl, families, is, holds.frames);
-  split = ap (λ (l : List ℕ). frame ++ l) holds.split ∙ sym (append_assoc frame holds.front holds.rest);
-  some = holds.some;
-  bad = holds.bad;
-}
+framed_more family frame rest rule (Err bad) families is holds = frame_before_bad family frame rest rule bad families is holds
 
 shorter : (n : ℕ) (rest : List ℕ) (most : ℕ) → length rest < suc most → (take n rest ≡ [] → ⊥) → length (drop n rest) < most
 shorter zero rest most enough some = absurd (some refl)

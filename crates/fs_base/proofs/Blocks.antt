@@ -5,7 +5,7 @@ use Rattle.std.proofs.Math.Nat.{mod-eq_of_lt, div-mul-le_self}
 use Rattle.fs_base.specs.declared.prefix.Family.{Family}
 use Rattle.fs_base.specs.declared.prefix.Family.TheVariants.{V4, V6}
 use Rattle.fs_base.specs.Bits.{width_of, cleared}
-pub use Rattle.fs_base.specs.Cleared.{IsBlock, whole_width, block_cleared, block_below, block_of, block_again, cleared_again, min_short}
+pub use Rattle.fs_base.specs.Bits.{IsBlock, whole_width, block_cleared, block_below, block_of, block_again, cleared_again, min_short}
 
 pub width_most : (f : Family) → 2 ^ width_of f ≤ 2 ^ 128
 width_most V4 = omega arith

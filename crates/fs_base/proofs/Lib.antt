@@ -14,7 +14,7 @@ pub mod CommonBits
 pub mod PrefixPrecedence
 pub mod MemoryFiles
 pub mod Records
-pub mod Listing
+pub mod Lists
 pub mod Seeking
 pub mod Digits
 pub mod Done

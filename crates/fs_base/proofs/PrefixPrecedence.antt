@@ -6,8 +6,7 @@ use Rattle.std.proofs.lemmas.Bool.Decides.{nat_tests}
 use Rattle.fs_base.specs.declared.prefix.Family.TheVariants.{V4, V6}
 use Rattle.fs_base.specs.declared.prefix.Prefix.{Prefix}
 use Rattle.fs_base.specs.Bits.{width_of, afi_of}
-use Rattle.fs_base.specs.Prefix.{covers, prefix_cmp, last_address}
-use Rattle.fs_base.specs.PrefixOrder.{prefix_total}
+use Rattle.fs_base.specs.Prefix.{covers, prefix_cmp, last_address, prefix_total}
 use Rattle.fs_base.specs.Laws.{IsPrecedence}
 use Rattle.fs_base.proofs.Covers.{Covers, covers_fact, meeting_covers, same_width}
 use Rattle.fs_base.proofs.Nesting.{Alike, alike, alike_test}

@@ -5,11 +5,11 @@ use Rattle.std.specs.List.{AllByRecursion}
 use Rattle.std.proofs.lemmas.Bool.{cases_lt}
 use Rattle.fs_base.specs.declared.prefix.Prefix.{Prefix}
 use Rattle.fs_base.specs.Prefix.{covers, prefix_cmp}
-use Rattle.fs_base.specs.Seek.{IsFirst, IsLongest}
+use Rattle.fs_base.specs.Search.{IsFirst, IsLongest}
 use Rattle.fs_base.proofs.Bools.{false_from}
 use Rattle.fs_base.proofs.Covers.{covers_fact, covered_before, between_covered, Covers, same_family}
 use Rattle.fs_base.proofs.Nesting.{covers_self, covers_trans, covers_same_length, alike_covers}
-use Rattle.fs_base.proofs.Listing.{each, each_both}
+use Rattle.fs_base.proofs.Lists.{each, each_both}
 
 module _ {X : Type 0} (at : X → Prefix) (held : List X) where
   -- the search for the covers of d has come to low: each of them covers low

@@ -3,10 +3,7 @@ pub mod Parts
 pub mod Records
 pub mod Bits
 pub mod Prefix
-pub mod PrefixOrder
-pub mod Cleared
-pub mod Made
-pub mod Seek
+pub mod Search
 pub mod Laws
 pub mod Config
 pub mod Outside

@@ -1,6 +1,7 @@
 //! Prefixes, routes' paths, the configuration, and the traits by which the program meets the outside.
 #![tactic(auto)]
 
+mod bits;
 mod config;
 mod counted;
 mod error;

@@ -3,6 +3,7 @@
 ghost use Rattle.std.specs.Prelude.{◌≡◌, ◌≢◌, ℕ, ◌+◌, ◌-◌, ◌%◌, ◌^◌, ◌<◌, ◌≤◌, ◌↔◌, IfSome};
 ghost use Rattle.fs_base.specs.Bits.{width_of, afi_of, cleared};
 
+use crate::bits::{common_bits, first_bits, ones};
 use std::cmp::Ordering;
 
 /// An address family.
@@ -150,8 +151,7 @@ impl Prefix {
 }
 
 impl PartialOrd for Prefix {
-    ghost use Rattle.fs_base.specs.Prefix.{prefix_cmp};
-    ghost use Rattle.fs_base.specs.PrefixOrder.{prefix_total, prefix_matches_eq};
+    ghost use Rattle.fs_base.specs.Prefix.{prefix_cmp, prefix_total, prefix_matches_eq};
     ghost use Rattle.std.specs.Ordering.{as_partial_cmp};
     ghost use Rattle.std.specs.Cmp.{partial_order_from_agreeing_total};
     ghost use Rattle.std.specs.Prelude.{refl};
@@ -166,8 +166,7 @@ impl PartialOrd for Prefix {
 }
 
 impl Ord for Prefix {
-    ghost use Rattle.fs_base.specs.Prefix.{prefix_cmp};
-    ghost use Rattle.fs_base.specs.PrefixOrder.{prefix_total, prefix_matches_eq};
+    ghost use Rattle.fs_base.specs.Prefix.{prefix_cmp, prefix_total, prefix_matches_eq};
     ghost use Rattle.std.specs.Prelude.{refl};
 
     ghost cmp = { prefix_cmp };
@@ -184,50 +183,5 @@ impl Ord for Prefix {
             .cmp(&other.family.afi())
             .then(self.last().cmp(&other.last()))
             .then(other.length.cmp(&self.length))
-    }
-}
-
-/// The first `length` bits of the address in the low bits of `bits`, and 0 for the others.
-fn first_bits(family: Family, bits: u128, length: u8) -> u128
-    requires { length ≤ width_of family }
-    ensures { result ≡ cleared (width_of family) length bits }
-{
-    let host = family.width() - length;
-    if host == 128 {
-        return 0;
-    }
-    address_of(family, bits) >> host << host
-}
-
-/// How many of the first bits of two addresses are the same.
-fn common_bits(family: Family, a: u128, b: u128) -> u8
-    requires a { a < 2 ^ width_of family }
-    requires b { b < 2 ^ width_of family }
-    ensures width { result ≤ width_of family }
-    ensures same { (n : ℕ)
-        → n ≤ width_of family
-        → cleared (width_of family) n a ≡ cleared (width_of family) n b ↔ n ≤ result }
-{
-    ((a ^ b).leading_zeros() as u8) - (128 - family.width())
-}
-
-/// A number whose low `count` bits are ones, and no others.
-fn ones(count: u8) -> u128
-    requires { count ≤ 128 }
-    ensures { result ≡ 2 ^ count - 1 }
-{
-    if count == 0 {
-        return 0;
-    }
-    u128::MAX >> (128 - count)
-}
-
-/// The bits of an address of the family.
-fn address_of(family: Family, bits: u128) -> u128
-    ensures { result ≡ bits % 2 ^ width_of family }
-{
-    match family {
-        Family::V4 => bits & 0xffff_ffff,
-        Family::V6 => bits,
     }
 }

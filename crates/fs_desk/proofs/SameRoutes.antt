@@ -10,7 +10,7 @@ use Rattle.fs_base.specs.declared.path.Path.{Path}
 use Rattle.fs_base.specs.declared.prefix.Prefix.{Prefix}
 use Rattle.fs_base.proofs.SamePrefix.{same_from_cmp}
 use Rattle.fs_nlri.specs.Parts.{Ruled}
-use Rattle.fs_order.specs.Order.{rule_cmp}
+use Rattle.fs_order.specs.Comparison.{rule_cmp}
 use Rattle.fs_order.proofs.Same.{first_equal, second_equal}
 use Rattle.fs_order.proofs.Pairs.{equal_numbers}
 use Rattle.fs_unicast.specs.Unicast.{place_cmp, Route}

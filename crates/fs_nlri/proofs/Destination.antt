@@ -5,7 +5,7 @@ use Rattle.std.proofs.lemmas.Bool.Decides.{nat_tests}
 use Rattle.fs_base.specs.declared.prefix.Family.{Family}
 use Rattle.fs_base.specs.declared.prefix.Family.TheVariants.{V4, V6}
 use Rattle.fs_base.specs.Bits.{width_of, cleared}
-use Rattle.fs_base.specs.Made.{prefix_of}
+use Rattle.fs_base.specs.Prefix.{prefix_of}
 use Rattle.std.specs.List.{slice_get}
 use Rattle.fs_nlri.specs.declared.component.Component.{Component}
 use Rattle.fs_nlri.specs.Component.{part_of, parts_of}

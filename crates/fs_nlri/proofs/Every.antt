@@ -309,23 +309,25 @@ frame_some frame rule is none = some is.head is.value is.size (sym is.split ∙ 
   some [] value size empty = size
   some (a ∷ head) value size empty = cc
 
+-- a frame before a field with a fault
+pub frame_before_bad : (family : Family) (frame rest : List ℕ) (rule : Ruled) (bad : Reason × ℕ) → rule.family ≡ family → IsFrame frame rule
+    → IsFieldOutcome family rest (Err bad) → IsFieldOutcome family (frame ++ rest) (Err bad)
+frame_before_bad family frame rest rule bad families is holds = record {
+  front = frame ++ holds.front;
+  rules = rule ∷ holds.rules;
+  rest = holds.rest;
+  frames = (frame, holds.front, refl, families, is, holds.frames);
+  split = ap (λ (l : List ℕ). frame ++ l) holds.split ∙ sym (append_assoc frame holds.front holds.rest);
+  some = holds.some;
+  bad = holds.bad;
+}
+
 -- a frame before a field
 pub next_frame : (family : Family) (frame rest : List ℕ) (rule : Ruled) → rule.family ≡ family → IsFrame frame rule → FieldOutcome family rest → FieldOutcome family (frame ++ rest)
 next_frame family frame rest rule families is later =
     elim later.result as (λ result. IsFieldOutcome family rest result → FieldOutcome family (frame ++ rest)) [
       | Ok rules ↦ λ holds. record { result = Ok (rule ∷ rules); holds = (frame, rest, refl, families, is, holds) }
-      | Err bad ↦ λ holds. record {
-        result = Err bad;
-        holds = record {
-          front = frame ++ holds.front;
-          rules = rule ∷ holds.rules;
-          rest = holds.rest;
-          frames = (frame, holds.front, refl, families, is, holds.frames);
-          split = ap (λ (l : List ℕ). frame ++ l) holds.split ∙ sym (append_assoc frame holds.front holds.rest);
-          some = holds.some;
-          bad = holds.bad;
-        };
-      }
+      | Err bad ↦ λ holds. record { result = Err bad; holds = frame_before_bad family frame rest rule bad families is holds }
     ] later.holds
 
 pub every_field : (family : Family) (octets : List ℕ) → FieldOutcome family octets

@@ -6,7 +6,7 @@ use Rattle.fs_base.specs.declared.prefix.Family.{Family}
 use Rattle.fs_base.specs.declared.prefix.Family.TheVariants.{V4, V6}
 use Rattle.fs_base.specs.declared.prefix.Prefix.{Prefix}
 use Rattle.fs_base.specs.Bits.{cleared}
-use Rattle.fs_base.specs.Made.{prefix_of}
+use Rattle.fs_base.specs.Prefix.{prefix_of}
 use Rattle.fs_ops.specs.OperatorList.{IsNormal, canonical as canonical_pairs}
 use Rattle.fs_nlri.specs.Forms.{Form, V4Form, V6Form, ListForm, form_of, kept_bits, all_allowed}
 use Rattle.fs_nlri.specs.Parts.{Body, V4Body, V6Body, ListBody, Part, Ruled}

@@ -11,8 +11,9 @@ use Rattle.fs_nlri.specs.Forms.{form_of}
 use Rattle.fs_nlri.specs.Parts.{Body, V4Body, V6Body, ListBody, Part}
 use Rattle.fs_nlri.specs.Rule.{AreNormal, IsNormalAt, destination_body, destination_in, destination_of}
 use Rattle.fs_nlri.proofs.Destination.{destination_first}
-use Rattle.fs_order.specs.Order.{body_cmp, part_cmp, parts_cmp, rule_cmp}
-use Rattle.fs_order.specs.Destination.{destination_cmp, DestinationsFirst}
+use Rattle.fs_order.specs.Component.{body_cmp, part_cmp}
+use Rattle.fs_order.specs.Comparison.{parts_cmp, rule_cmp}
+use Rattle.fs_order.specs.Laws.{destination_cmp, DestinationsFirst}
 
 lower : (a b : ℕ) → a < b → nat_cmp a b ≡ Less
 lower a b h = grind (arith, nat_tests)

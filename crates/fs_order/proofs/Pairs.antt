@@ -13,7 +13,7 @@ use Rattle.fs_ops.specs.Operator.{ends, meant_bits, width_of}
 use Rattle.fs_ops.specs.OperatorList.{AreNormal, IsNormal, canonical, pair_octets}
 use Rattle.fs_nlri.specs.Parts.{Body, ListBody}
 use Rattle.fs_nlri.specs.Sound.{IsSoundBody}
-use Rattle.fs_order.specs.Order.{ended_cmp, body_cmp}
+use Rattle.fs_order.specs.Component.{ended_cmp, body_cmp}
 
 abbrev pub octets_cmp : List ℕ → List ℕ → Ordering
 octets_cmp = ended_cmp nat_cmp

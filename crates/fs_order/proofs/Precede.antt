@@ -14,9 +14,9 @@ use Rattle.fs_ops.specs.OperatorList.{canonical}
 use Rattle.fs_nlri.specs.Forms.{Form, V4Form, V6Form, ListForm, form_of}
 use Rattle.fs_nlri.specs.Parts.{Body, V4Body, V6Body, ListBody, Part, Ruled}
 use Rattle.fs_nlri.specs.Rule.{AreNormal, IsNormalAt, IsNormalBody, IsRule}
-use Rattle.fs_order.specs.Order.{body_cmp, part_cmp, parts_cmp, rule_cmp}
-use Rattle.fs_order.specs.Total.{body_total}
-use Rattle.fs_order.specs.Before.{Before, BodyBefore, IsWithin, OctetsBefore, PartsBefore, PrefixBefore}
+use Rattle.fs_order.specs.Component.{body_cmp, part_cmp}
+use Rattle.fs_order.specs.Comparison.{parts_cmp, rule_cmp, Before, BodyBefore, IsWithin, OctetsBefore, PartsBefore, PrefixBefore}
+use Rattle.fs_order.specs.Ranked.{body_total}
 use Rattle.fs_nlri.proofs.Sound.{sound_part}
 use Rattle.fs_order.proofs.Pairs.{equal_numbers, octets_cmp}
 use Rattle.fs_order.proofs.Same.{first_equal, same_body, same_family, second_equal}

@@ -11,9 +11,10 @@ use Rattle.fs_base.specs.Bits.{afi_of}
 use Rattle.fs_nlri.specs.Parts.{Body, V4Body, V6Body, ListBody, Part, Ruled}
 use Rattle.fs_nlri.specs.Rule.{IsRule}
 use Rattle.fs_nlri.specs.Spelling.{IsRange}
-use Rattle.fs_order.specs.Order.{body_cmp, part_cmp, parts_cmp, rule_cmp}
+use Rattle.fs_order.specs.Component.{body_cmp, part_cmp}
+use Rattle.fs_order.specs.Comparison.{parts_cmp, rule_cmp}
 use Rattle.fs_nlri.specs.Sound.{AreSound, IsSoundBody}
-use Rattle.fs_order.specs.Total.{rule_total}
+use Rattle.fs_order.specs.Ranked.{rule_total}
 use Rattle.fs_nlri.proofs.Sound.{rule_sound}
 use Rattle.fs_order.proofs.Pairs.{equal_numbers, pair_cmp, pairs_compared}
 

@@ -4,7 +4,7 @@ use Rattle.std.specs.declared.cmp.Ordering.TheVariants.{Greater}
 use Rattle.std.proofs.Math.ListN.{drop_of_length-le}
 use Rattle.fs_nlri.specs.declared.component.Component.{Component}
 use Rattle.fs_nlri.specs.Component.{parts_of}
-use Rattle.fs_order.specs.Order.{parts_cmp}
+use Rattle.fs_order.specs.Comparison.{parts_cmp}
 use Rattle.fs_nlri.specs.Sound.{AreSound}
 
 -- the components before the index are equal to those before the rest

@@ -1,4 +1,4 @@
-pub mod Order
-pub mod Total
-pub mod Before
-pub mod Destination
+pub mod Component
+pub mod Comparison
+pub mod Ranked
+pub mod Laws

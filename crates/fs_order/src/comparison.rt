@@ -4,8 +4,7 @@ ghost use Rattle.std.specs.Prelude.{◌≡◌, ◌↔◌, IsTrue};
 ghost use Rattle.std.specs.Ordering.{is_lt};
 ghost use Rattle.fs_nlri.specs.Component.{parts_of};
 ghost use Rattle.fs_nlri.specs.Rule.{IsRule};
-ghost use Rattle.fs_order.specs.Before.{Before};
-ghost use Rattle.fs_order.specs.Order.{parts_cmp, rule_cmp};
+ghost use Rattle.fs_order.specs.Comparison.{Before, parts_cmp, rule_cmp};
 ghost use Rattle.fs_nlri.specs.Sound.{AreSound};
 
 use crate::component::compare_component;

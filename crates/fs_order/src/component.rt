@@ -5,7 +5,7 @@ ghost use Rattle.fs_base.specs.declared.prefix.Family.TheVariants.{V6};
 ghost use Rattle.fs_base.specs.Prefix.{IsPrefixOf};
 ghost use Rattle.fs_nlri.specs.Component.{body_of, content_body, part_of};
 ghost use Rattle.fs_nlri.specs.Spelling.{IsRange};
-ghost use Rattle.fs_order.specs.Order.{body_cmp, part_cmp};
+ghost use Rattle.fs_order.specs.Component.{body_cmp, part_cmp};
 ghost use Rattle.fs_nlri.specs.Sound.{IsSoundBody};
 
 use fs_base::{Family, Prefix};

@@ -4,9 +4,8 @@ ghost use Rattle.std.specs.Prelude.{◌≡◌, ◌↔◌};
 ghost use Rattle.std.specs.declared.cmp.Ordering.TheVariants.{Less, Equal};
 ghost use Rattle.fs_nlri.specs.Parts.{Ruled};
 ghost use Rattle.fs_nlri.specs.Rule.{IsRule};
-ghost use Rattle.fs_order.specs.Order.{rule_cmp};
-ghost use Rattle.fs_order.specs.Before.{Before};
-ghost use Rattle.fs_order.specs.Destination.{DestinationsFirst};
+ghost use Rattle.fs_order.specs.Comparison.{rule_cmp, Before};
+ghost use Rattle.fs_order.specs.Laws.{DestinationsFirst};
 
 /// A law of the order: only the same rule is equal.
 pub fn equal_only_itself()

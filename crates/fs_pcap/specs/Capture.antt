@@ -3,7 +3,7 @@
 use Rattle.std.specs.Prelude.{ℕ, List, [], Option, Some, None, Result, Ok, Err, Bool, ◌≡◌, ◌≤◌, ◌<◌, ◌==◌, ◌&&◌, not, length, take, drop, nat_le, if◌then◌else◌, ⊤}
 use Rattle.fs_base.specs.Parts.{with_part}
 use Rattle.fs_base.specs.Records.{Head, whole, wrong, partial, End, done, limited, bad, Format, records_to_come}
-use Rattle.fs_pcap.specs.Head.{Said, head_of}
+use Rattle.fs_pcap.specs.Head.{Said, head_of, longest_record}
 use Rattle.fs_pcap.specs.Header.{Heading, header_of}
 use Rattle.fs_pcap.specs.declared.capture.Caught.{Caught}
 use Rattle.fs_pcap.specs.declared.fault.CaptureFault.{CaptureFault}
@@ -111,9 +111,9 @@ Advances before now into (Err Read) = ⊤
 Advances before now into (Err Limit) = before ≡ ([], limited)
 Advances before now into (Err (Bad reason place)) = before ≡ ([], bad reason place)
 
--- A record raises the place, up to the limit at most. Its octets are those that were captured, at most 262144.
+-- A record raises the place, up to the limit at most. Its octets are those that were captured, and none too many.
 abbrev pub Grows : ℕ → ℕ → ℕ → Result (Option Caught) CaptureFault → Type 0
-Grows old new limit (Ok (Some caught)) = (old < new) × (new ≤ limit) × (caught.taken ≤ 262144)
+Grows old new limit (Ok (Some caught)) = (old < new) × (new ≤ limit) × (caught.taken ≤ longest_record)
 Grows old new limit _ = ⊤
 
 -- the fault of a capture of which no octet is left to be taken

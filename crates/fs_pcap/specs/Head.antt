@@ -21,10 +21,14 @@ said_in order head = record {
   original = number order 4 (drop 12 head);
 }
 
+-- the octets of the longest record
+abbrev pub longest_record : ℕ
+longest_record = 262144
+
 abbrev pub head_of : Endian → List ℕ → Head Said CaptureReason
 head_of order head =
     if nat_lt (length head) 12 then partial
-    else if nat_lt 262144 (number order 4 (drop 8 head)) then wrong RecordTooLong 8
+    else if nat_lt longest_record (number order 4 (drop 8 head)) then wrong RecordTooLong 8
     else if nat_lt (length head) 16 then partial
     else whole (said_in order head) (number order 4 (drop 8 head))
 
@@ -35,9 +39,9 @@ said_of (Whole seconds fraction original size) =
 said_of TooLong = wrong RecordTooLong 8
 said_of Partial = partial
 
--- A wrong field begins within the octets in hand. A whole head has all its octets, and a captured length of at most
--- 262144.
+-- A wrong field begins within the octets in hand. A whole head has all its octets, and a captured length that isn't too
+-- long.
 abbrev pub IsHeadWithin : ℕ → Head Said CaptureReason → Type 0
-IsHeadWithin count (whole said size) = (16 ≤ count) × (size ≤ 262144)
+IsHeadWithin count (whole said size) = (16 ≤ count) × (size ≤ longest_record)
 IsHeadWithin count (wrong reason offset) = offset < count
 IsHeadWithin count partial = count < 16

@@ -5,6 +5,7 @@ use Rattle.byteorder.specs.Endian.{big_bytes, little_bytes}
 use Rattle.fs_base.specs.Language.{IsOctets}
 use Rattle.fs_base.specs.Records.{done}
 use Rattle.fs_pcap.specs.Capture.{Captured, capture_of}
+use Rattle.fs_pcap.specs.Head.{longest_record}
 use Rattle.fs_pcap.specs.Link.{link_of}
 use Rattle.fs_pcap.specs.Order.{order_of}
 use Rattle.fs_pcap.specs.declared.link.Link.{Link}
@@ -45,7 +46,7 @@ pub record IsWritable (packet : Captured) : Type 0 where
   pub seconds : packet.seconds < 2 ^ 32
   pub fraction : packet.fraction < 2 ^ 32
   pub original : packet.original < 2 ^ 32
-  pub captured : length packet.octets ≤ 262144
+  pub captured : length packet.octets ≤ longest_record
 
 -- the content is the text of these packets behind a header of this link type, and lies below the limit
 pub record IsCaptureOf (limit : ℕ) (content : List ℕ) (link : Link) (packets : List Captured) : Type 0 where

@@ -3,6 +3,7 @@ ghost use Rattle.std.specs.Prelude.{◌≡◌, ◌≤◌, ℕ, None, IsSome, IsT
 ghost use Rattle.std.specs.Result.{IsErrOf};
 ghost use Rattle.fs_base.specs.Files.{OnlySlot};
 ghost use Rattle.fs_base.specs.Outside.{Rose};
+ghost use Rattle.fs_pcap.specs.Head.{longest_record};
 ghost use Rattle.fs_pcap.specs.Capture.{Advances, Grows, Opens, answer_of, ended_after, packets_to_come, short_answer, short_fault};
 
 use crate::fault::{CaptureFault, CaptureReason, Ended};
@@ -113,7 +114,7 @@ impl Capture {
         files: &mut F,
         into: &mut [u8],
     ) -> Result<Option<Caught>, CaptureFault>
-        requires { 262144 ≤ length into.old }
+        requires { longest_record ≤ length into.old }
         ensures later { F.faults files.old ≤ F.faults files.new }
         ensures read { self.old.end ≡ None
             → IsErrOf result CaptureFault.Read
@@ -171,7 +172,7 @@ fn next_record<F: Files>(
     order: Endian,
     into: &mut [u8],
 ) -> Result<Option<Caught>, CaptureFault>
-    requires { 262144 ≤ length into.old }
+    requires { longest_record ≤ length into.old }
     ensures later { F.faults files.old ≤ F.faults files.new }
     ensures read { end.old ≡ None
         → IsErrOf result CaptureFault.Read
@@ -229,7 +230,7 @@ fn advance<F: Files>(
     order: Endian,
     into: &mut [u8],
 ) -> Result<Option<Caught>, CaptureFault>
-    requires { 262144 ≤ length into.old }
+    requires { longest_record ≤ length into.old }
     ensures later { F.faults files.old ≤ F.faults files.new }
     ensures read { IsErrOf result CaptureFault.Read → Rose (F.faults files.old) (F.faults files.new) }
     ensures slot { counted.new.slot ≡ counted.old.slot }

@@ -8,8 +8,8 @@ use crate::order::Endian;
 /// The octets of a record's head.
 pub(crate) const HEAD_SIZE: usize = 16;
 
-/// The greatest captured length.
-pub(crate) const CAPTURED: usize = 262144;
+/// The octets of the longest record of a capture.
+pub const LONGEST_RECORD: usize = 262144;
 
 /// What the octets of a record's head say.
 #[derive(Clone, Copy, Debug, PartialEq, Eq, Drop)]
@@ -33,7 +33,7 @@ pub(crate) fn read_head(order: Endian, head: &[u8]) -> Head
         return Head::Partial;
     }
     let size = order.read_u32(&head[8..]) as usize;
-    if size > CAPTURED {
+    if size > LONGEST_RECORD {
         return Head::TooLong;
     }
     if head.len() < HEAD_SIZE {

@@ -11,6 +11,7 @@ mod order;
 
 pub use capture::{Capture, Caught};
 pub use fault::{CaptureFault, CaptureReason, Ended};
+pub use head::LONGEST_RECORD;
 pub use laws::reads_back;
 pub use link::Link;
 pub use order::Endian;

@@ -9,13 +9,13 @@ use Rattle.fs_base.specs.declared.prefix.Family.TheVariants.{V4, V6}
 use Rattle.fs_base.specs.declared.prefix.Prefix.{Prefix}
 use Rattle.fs_base.specs.Bits.{afi_of}
 use Rattle.fs_base.specs.Prefix.{prefix_cmp}
-use Rattle.fs_base.proofs.Listing.{each_weaker, each_both, each_append}
+use Rattle.fs_base.proofs.Lists.{each_weaker, each_both, each_append}
 use Rattle.fs_nlri.specs.Parts.{Ruled}
 use Rattle.fs_nlri.specs.Rule.{IsRule, shown, destination_prefix}
 use Rattle.fs_nlri.proofs.Destination.{destination_shown}
-use Rattle.fs_order.specs.Order.{rule_cmp, parts_cmp}
-use Rattle.fs_order.specs.Total.{rule_total}
-use Rattle.fs_order.specs.Destination.{destination_cmp}
+use Rattle.fs_order.specs.Comparison.{rule_cmp, parts_cmp}
+use Rattle.fs_order.specs.Ranked.{rule_total}
+use Rattle.fs_order.specs.Laws.{destination_cmp}
 use Rattle.fs_order.proofs.First.{destinations_first}
 use Rattle.fs_order.proofs.Same.{same_rules}
 use Rattle.fs_rules.specs.declared.group.Kept.{Kept}

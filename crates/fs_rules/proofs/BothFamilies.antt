@@ -8,10 +8,10 @@ use Rattle.fs_base.specs.declared.prefix.Family.{Family}
 use Rattle.fs_base.specs.declared.prefix.Family.TheVariants.{V4, V6}
 use Rattle.fs_base.specs.declared.prefix.Prefix.{Prefix}
 use Rattle.fs_base.proofs.Bools.{and_first}
-use Rattle.fs_base.proofs.Listing.{each_weaker, each_append, filter-append, filter_all, filter_none, each_none}
+use Rattle.fs_base.proofs.Lists.{each_weaker, each_append, filter-append, filter_all, filter_none, each_none}
 use Rattle.fs_nlri.specs.Parts.{Ruled}
 use Rattle.fs_nlri.specs.Rule.{IsRule}
-use Rattle.fs_order.specs.Order.{parts_cmp}
+use Rattle.fs_order.specs.Comparison.{parts_cmp}
 use Rattle.fs_unicast.specs.Unicast.{Route}
 use Rattle.fs_rules.specs.declared.group.Kept.{Kept}
 use Rattle.fs_rules.specs.Table.{is_key, is_of_family, is_valid, related_count}

@@ -9,9 +9,9 @@ use Rattle.fs_base.specs.declared.config.Config.{Config}
 use Rattle.fs_base.specs.declared.prefix.Prefix.{Prefix}
 use Rattle.fs_base.specs.declared.path.Path.{Path}
 use Rattle.fs_base.specs.Prefix.{covers, prefix_cmp}
-use Rattle.fs_base.proofs.Listing.{each_weaker, filter-insert_other, filter-remove_other}
+use Rattle.fs_base.proofs.Lists.{each_weaker, filter-insert_other, filter-remove_other}
 use Rattle.fs_base.proofs.Nesting.{alike_covers, covers_alike}
-use Rattle.fs_order.specs.Total.{rule_total}
+use Rattle.fs_order.specs.Ranked.{rule_total}
 use Rattle.fs_unicast.specs.Unicast.{Route, place_cmp}
 use Rattle.fs_unicast.specs.declared.unicast.Place.{Place}
 use Rattle.fs_nlri.specs.Rule.{destination_prefix}

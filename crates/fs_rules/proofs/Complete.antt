@@ -8,9 +8,9 @@ use Rattle.fs_base.specs.declared.prefix.Family.{Family}
 use Rattle.fs_base.specs.Bits.{afi_of}
 use Rattle.fs_base.specs.declared.path.Path.{Path}
 use Rattle.fs_base.proofs.Bools.{or_first, or_second, and_both, and_first, and_second, false_from}
-use Rattle.fs_base.proofs.Listing.{each_weaker, each_mapped, none_each, each_none, any_filter}
-use Rattle.fs_order.specs.Order.{rule_cmp}
-use Rattle.fs_order.specs.Total.{rule_total}
+use Rattle.fs_base.proofs.Lists.{each_weaker, each_mapped, none_each, each_none, any_filter}
+use Rattle.fs_order.specs.Comparison.{rule_cmp}
+use Rattle.fs_order.specs.Ranked.{rule_total}
 use Rattle.fs_unicast.specs.Preference.{preference_cmp, preferred}
 use Rattle.fs_validate.specs.declared.route.FlowRoute.{FlowRoute}
 use Rattle.fs_rules.specs.Table.{Held, is_of_family, stands, same_rule, beats, is_most_preferred, admitted, IsAdmitted}

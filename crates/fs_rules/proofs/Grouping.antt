@@ -7,9 +7,8 @@ use Rattle.std.proofs.lemmas.Map.Keys.{sorted_head, sorted_tail}
 use Rattle.fs_base.specs.declared.config.Config.{Config}
 use Rattle.fs_base.specs.declared.prefix.Family.{Family}
 use Rattle.fs_base.specs.declared.prefix.Prefix.{Prefix}
-use Rattle.fs_base.specs.Prefix.{prefix_cmp}
-use Rattle.fs_base.specs.PrefixOrder.{prefix_total}
-use Rattle.fs_base.proofs.Listing.{each_weaker}
+use Rattle.fs_base.specs.Prefix.{prefix_cmp, prefix_total}
+use Rattle.fs_base.proofs.Lists.{each_weaker}
 use Rattle.fs_unicast.specs.Unicast.{Route}
 use Rattle.fs_nlri.specs.Parts.{Ruled}
 use Rattle.fs_nlri.specs.Rule.{IsRule, destination_prefix}

@@ -5,7 +5,7 @@ use Rattle.std.specs.Map.{keys_of}
 use Rattle.std.proofs.lemmas.Map.Keys.{sorted_tail}
 use Rattle.fs_base.specs.declared.prefix.Family.{Family}
 use Rattle.fs_base.specs.Prefix.{prefix_cmp}
-use Rattle.fs_base.proofs.Listing.{each_weaker, each_both, filter_on, filter-append}
+use Rattle.fs_base.proofs.Lists.{each_weaker, each_both, filter_on, filter-append}
 use Rattle.fs_packet.specs.Fields.{Viewed}
 use Rattle.fs_packet.specs.Matches.{is_match}
 use Rattle.fs_validate.specs.declared.route.FlowRoute.{FlowRoute}

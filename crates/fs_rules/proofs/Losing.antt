@@ -9,11 +9,10 @@ use Rattle.std.specs.List.Sorted.{IsStrictlySortedBy}
 use Rattle.std.specs.Cmp.{tied_itself}
 use Rattle.std.proofs.lemmas.Map.Keys.{sorted_head, sorted_tail}
 use Rattle.fs_base.proofs.Bools.{not_of_true}
-use Rattle.fs_base.specs.PrefixOrder.{prefix_total}
+use Rattle.fs_base.specs.Prefix.{prefix_total, prefix_cmp}
 use Rattle.fs_base.specs.declared.prefix.Prefix.{Prefix}
-use Rattle.fs_base.specs.Prefix.{prefix_cmp}
 use Rattle.fs_base.proofs.SamePrefix.{same_from_cmp}
-use Rattle.fs_base.proofs.Listing.{filter-remove_other, each, each_weaker, each_of_map, each_remove, find_on}
+use Rattle.fs_base.proofs.Lists.{filter-remove_other, each, each_weaker, each_of_map, each_remove, find_on}
 use Rattle.fs_unicast.specs.Unicast.{Route, place_cmp}
 use Rattle.fs_unicast.specs.declared.unicast.Place.{Place}
 use Rattle.fs_unicast.specs.Search.{held_by, is_from}

@@ -9,7 +9,7 @@ use Rattle.fs_base.specs.declared.config.Config.{Config}
 use Rattle.fs_base.specs.declared.prefix.Prefix.{Prefix}
 use Rattle.fs_base.specs.Prefix.{prefix_cmp}
 use Rattle.fs_base.proofs.SamePrefix.{same_from_cmp}
-use Rattle.fs_base.proofs.Listing.{each_weaker}
+use Rattle.fs_base.proofs.Lists.{each_weaker}
 use Rattle.fs_unicast.specs.Unicast.{Route}
 use Rattle.fs_validate.specs.Laws.{is_related}
 use Rattle.fs_rules.specs.declared.group.Kept.{Kept}

@@ -6,9 +6,9 @@ use Rattle.std.specs.Cmp.{tied_back}
 use Rattle.fs_base.proofs.Bools.{and_both, and_first, and_second}
 use Rattle.fs_base.specs.declared.path.Path.{Path}
 use Rattle.fs_base.specs.declared.prefix.Family.{Family}
-use Rattle.fs_base.proofs.Listing.{each_weaker, each_both, none_each}
-use Rattle.fs_order.specs.Order.{rule_cmp}
-use Rattle.fs_order.specs.Total.{rule_total}
+use Rattle.fs_base.proofs.Lists.{each_weaker, each_both, none_each}
+use Rattle.fs_order.specs.Comparison.{rule_cmp}
+use Rattle.fs_order.specs.Ranked.{rule_total}
 use Rattle.fs_unicast.proofs.Best.{preference_total}
 use Rattle.fs_unicast.specs.Preference.{preference_cmp, preferred, path_length}
 use Rattle.fs_validate.specs.declared.route.FlowRoute.{FlowRoute}

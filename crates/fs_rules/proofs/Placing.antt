@@ -9,9 +9,9 @@ use Rattle.fs_base.specs.declared.prefix.Prefix.{Prefix}
 use Rattle.std.proofs.lemmas.List.{get_or_default}
 use Rattle.std.specs.List.{list_any, AllByRecursion}
 use Rattle.std.specs.Cmp.{IsTotalOrder, on_total, then_total, nat_cmp_total}
-use Rattle.fs_base.proofs.Listing.{each_weaker, each_none, none_each, filter_all}
-use Rattle.fs_order.specs.Order.{rule_cmp}
-use Rattle.fs_order.specs.Total.{rule_total}
+use Rattle.fs_base.proofs.Lists.{each_weaker, each_none, none_each, filter_all}
+use Rattle.fs_order.specs.Comparison.{rule_cmp}
+use Rattle.fs_order.specs.Ranked.{rule_total}
 use Rattle.fs_validate.specs.declared.route.FlowRoute.{FlowRoute}
 
 -- over the element at the place, where it has the key

@@ -7,9 +7,8 @@ use Rattle.std.specs.Ordering.{match_ordering, ordering_reverse}
 use Rattle.std.proofs.lemmas.Map.Keys.{sorted_head, sorted_tail}
 use Rattle.fs_base.specs.declared.prefix.Family.{Family}
 use Rattle.fs_base.specs.declared.prefix.Prefix.{Prefix}
-use Rattle.fs_base.specs.Prefix.{prefix_cmp}
-use Rattle.fs_base.specs.PrefixOrder.{prefix_total}
-use Rattle.fs_base.proofs.Listing.{each_weaker}
+use Rattle.fs_base.specs.Prefix.{prefix_cmp, prefix_total}
+use Rattle.fs_base.proofs.Lists.{each_weaker}
 use Rattle.fs_base.proofs.SamePrefix.{same_from_cmp}
 use Rattle.fs_rules.specs.declared.group.Kept.{Kept}
 use Rattle.fs_rules.specs.Table.{key_cmp}

@@ -5,10 +5,10 @@ use Rattle.std.specs.List.Sorted.{IsPartitionedBy}
 use Rattle.std.specs.Ordering.{match_ordering, ordering_then, ordering_reverse, is_gt}
 use Rattle.std.specs.Cmp.{IsTotalOrder, on_total, then_total, nat_cmp_total, tied_back}
 use Rattle.std.proofs.lemmas.Bool.Decides.{nat_tests}
-use Rattle.fs_base.proofs.Listing.{each_weaker}
+use Rattle.fs_base.proofs.Lists.{each_weaker}
 use Rattle.fs_nlri.specs.Parts.{Ruled}
-use Rattle.fs_order.specs.Order.{rule_cmp}
-use Rattle.fs_order.specs.Total.{rule_total}
+use Rattle.fs_order.specs.Comparison.{rule_cmp}
+use Rattle.fs_order.specs.Ranked.{rule_total}
 use Rattle.fs_validate.specs.declared.route.FlowRoute.{FlowRoute}
 use Rattle.fs_unicast.specs.Preference.{preferred}
 use Rattle.fs_rules.specs.declared.group.Kept.{Kept}

@@ -11,13 +11,12 @@ use Rattle.std.specs.Cmp.{tied_itself}
 use Rattle.std.proofs.lemmas.Bool.{cases_lt}
 use Rattle.fs_base.proofs.Bools.{and_both, and_first, and_second, false_from, false_of_not, not_of_false, or_either, or_first, or_second, same_tests}
 use Rattle.fs_base.specs.declared.prefix.Prefix.{Prefix}
-use Rattle.fs_base.specs.Prefix.{covers, prefix_cmp}
-use Rattle.fs_base.specs.PrefixOrder.{prefix_total}
-use Rattle.fs_base.specs.Seek.{IsFirst, IsFirstFrom}
+use Rattle.fs_base.specs.Prefix.{covers, prefix_cmp, prefix_total}
+use Rattle.fs_base.specs.Search.{IsFirst, IsFirstFrom}
 use Rattle.fs_base.proofs.Covers.{covers_fact, covered_before}
 use Rattle.fs_base.proofs.Nesting.{covers_self, covers_nested, covers_trans, covers_same_length, alike_covers, covers_alike}
 use Rattle.fs_base.proofs.SamePrefix.{same_from_cmp}
-use Rattle.fs_base.proofs.Listing.{each, each_weaker, filter_first, filter_empty, IsLeast}
+use Rattle.fs_base.proofs.Lists.{each, each_weaker, filter_first, filter_empty, IsLeast}
 use Rattle.fs_validate.specs.Laws.{is_related}
 use Rattle.fs_rules.specs.Groups.{Entry, AreInOrder}
 use Rattle.fs_rules.specs.Search.{is_before, IsNextAfter}

@@ -9,10 +9,9 @@ use Rattle.std.specs.Option.{MatchOption}
 use Rattle.std.proofs.lemmas.Bool.{eqb-true}
 use Rattle.std.proofs.lemmas.Map.Keys.{sorted_head, sorted_tail}
 use Rattle.fs_base.specs.declared.prefix.Prefix.{Prefix}
-use Rattle.fs_base.specs.Prefix.{prefix_cmp}
-use Rattle.fs_base.specs.PrefixOrder.{prefix_total}
+use Rattle.fs_base.specs.Prefix.{prefix_cmp, prefix_total}
 use Rattle.std.specs.Cmp.{tied_itself}
-use Rattle.fs_base.proofs.Listing.{each_weaker, each_both, each_append, filter-append, filter_all, each_none}
+use Rattle.fs_base.proofs.Lists.{each_weaker, each_both, each_append, filter-append, filter_all, each_none}
 use Rattle.fs_base.proofs.SamePrefix.{same_from_cmp}
 use Rattle.fs_nlri.specs.Parts.{Ruled}
 use Rattle.fs_nlri.specs.Rule.{IsRule, destination_prefix}

@@ -8,7 +8,7 @@ use Rattle.std.specs.declared.cmp.Ordering.{Ordering}
 use Rattle.fs_base.specs.declared.config.Config.{Config}
 use Rattle.fs_nlri.specs.Parts.{Ruled}
 use Rattle.fs_nlri.specs.Rule.{IsRule, destination_prefix}
-use Rattle.fs_order.specs.Order.{rule_cmp}
+use Rattle.fs_order.specs.Comparison.{rule_cmp}
 use Rattle.fs_unicast.specs.Unicast.{Route, put_path, take_path}
 use Rattle.fs_base.specs.declared.path.Path.{Path}
 use Rattle.fs_validate.specs.declared.route.FlowRoute.{FlowRoute}

@@ -4,7 +4,7 @@ ghost use Rattle.std.specs.Prelude.{◌≡◌, ◌≤◌, ◌||◌};
 ghost use Rattle.std.specs.BTreeMap.{is_at};
 ghost use Rattle.std.specs.Prelude.{MatchOption};
 ghost use Rattle.fs_base.specs.Prefix.{covers, prefix_cmp};
-ghost use Rattle.fs_base.specs.Seek.{IsFirstFrom, IsLongestCover};
+ghost use Rattle.fs_base.specs.Search.{IsFirstFrom, IsLongestCover};
 ghost use Rattle.fs_rules.specs.Search.{Mended, IsNextAfter};
 ghost use Rattle.fs_rules.specs.Groups.{AreInOrder};
 ghost use Rattle.fs_validate.specs.Laws.{is_related};

@@ -19,10 +19,14 @@ kind_of octet =
     else if octet == 3 then Some Lost
     else None
 
--- only octets received have a payload, of at most 65536 octets
+-- the octets of the longest payload
+abbrev pub longest_payload : ℕ
+longest_payload = 65536
+
+-- only octets received have a payload
 abbrev pub allows : RecordKind → ℕ → Bool
 allows Up size = size == 0
-allows Received size = nat_le size 65536
+allows Received size = nat_le size longest_payload
 allows Lost size = size == 0
 
 -- what a head says beside the payload's length
@@ -53,9 +57,9 @@ header_of (Whole kind peer size) = whole (record { kind = kind; peer = peer }) s
 header_of (Wrong reason offset) = wrong reason offset
 header_of Partial = partial
 
--- A wrong field begins within the octets in hand. A whole head has all its octets, and a payload of at most 65536.
+-- A wrong field begins within the octets in hand. A whole head has all its octets, and a payload that isn't too long.
 abbrev pub IsHeadWithin : ℕ → Head Said TapeReason → Type 0
-IsHeadWithin count (whole said size) = (7 ≤ count) × (size ≤ 65536)
+IsHeadWithin count (whole said size) = (7 ≤ count) × (size ≤ longest_payload)
 IsHeadWithin count (wrong reason offset) = offset < count
 IsHeadWithin count partial = count < 7
 

@@ -6,6 +6,7 @@ use Rattle.fs_base.specs.Language.{IsOctets}
 use Rattle.fs_base.specs.Config.{peer_of}
 use Rattle.fs_base.specs.Records.{done}
 use Rattle.fs_base.specs.declared.config.Config.{Config}
+use Rattle.fs_tape.specs.Header.{longest_payload}
 use Rattle.fs_tape.specs.Magic.{magic}
 use Rattle.fs_tape.specs.Tape.{Item, came_up, received, was_lost, tape_of}
 
@@ -26,7 +27,7 @@ IsNumbered config peer = (peer < 65536) × IsSome (peer_of peer config.peers)
 -- the peer is configured, and the payload isn't too long
 abbrev pub IsWritable : Config → Item → Type 0
 IsWritable config (came_up peer) = IsNumbered config peer
-IsWritable config (received peer payload) = IsNumbered config peer × (length payload ≤ 65536)
+IsWritable config (received peer payload) = IsNumbered config peer × (length payload ≤ longest_payload)
 IsWritable config (was_lost peer) = IsNumbered config peer
 
 -- the content is the text of these items, each of which can be written, and lies below the limit

@@ -5,7 +5,7 @@ use Rattle.fs_base.specs.Parts.{with_part}
 use Rattle.fs_base.specs.Config.{peer_of}
 use Rattle.fs_base.specs.Records.{End, done, limited, bad, Format, records_to_come}
 use Rattle.fs_base.specs.declared.config.Config.{Config}
-use Rattle.fs_tape.specs.Header.{Said, head_of}
+use Rattle.fs_tape.specs.Header.{Said, head_of, longest_payload}
 use Rattle.fs_tape.specs.Magic.{first_difference, magic}
 use Rattle.fs_tape.specs.declared.fault.TapeReason.{TapeReason}
 use Rattle.fs_tape.specs.declared.fault.TapeReason.TheVariants.{Magic, Cut}
@@ -52,7 +52,7 @@ tape_of config limit content =
 -- an item is of a configured peer, and its payload fits the buffer
 abbrev pub IsItem : Config → TapeItem → Type 0
 IsItem config (UpItem peer) = IsSome (peer_of peer config.peers)
-IsItem config (Octets peer count) = IsSome (peer_of peer config.peers) × (count ≤ 65536)
+IsItem config (Octets peer count) = IsSome (peer_of peer config.peers) × (count ≤ longest_payload)
 IsItem config (LostItem peer) = IsSome (peer_of peer config.peers)
 
 -- What a tape shows: its slot and limit, how many octets of it were taken, and how it ended, where it did.

@@ -10,8 +10,8 @@ use fs_base::Config;
 /// The octets of a record's head: kind, peer and length.
 pub(crate) const HEAD: usize = 7;
 
-/// The greatest length of a payload.
-pub(crate) const PAYLOAD: usize = 65536;
+/// The octets of the longest payload of a record.
+pub const LONGEST_PAYLOAD: usize = 65536;
 
 /// What the octets of a head say.
 #[derive(Clone, Copy, Debug, PartialEq, Eq, Drop)]
@@ -92,7 +92,7 @@ fn is_allowed(kind: Kind, size: usize) -> bool
     ensures { result ≡ allows kind size }
 {
     match kind {
-        Kind::Received => size <= PAYLOAD,
+        Kind::Received => size <= LONGEST_PAYLOAD,
         Kind::Up | Kind::Lost => size == 0,
     }
 }

@@ -9,6 +9,7 @@ mod magic;
 mod tape;
 
 pub use fault::{Ended, TapeFault, TapeReason};
+pub use header::LONGEST_PAYLOAD;
 pub use item::TapeItem;
 pub use laws::reads_back;
 pub use tape::Tape;

@@ -5,6 +5,7 @@ ghost use Rattle.fs_base.specs.Files.{OnlySlot};
 ghost use Rattle.fs_base.specs.Outside.{Rose};
 ghost use Rattle.fs_base.specs.Config.{peer_of};
 ghost use Rattle.fs_base.specs.declared.config.Config.{Config};
+ghost use Rattle.fs_tape.specs.Header.{longest_payload};
 ghost use Rattle.fs_tape.specs.Tape.{Advances, Grows, IsBegun, IsItem, Opens, Tells, answer_of, ended_after, items_to_come, short_answer, short_fault};
 
 use crate::fault::{Ended, TapeFault, TapeReason};
@@ -84,7 +85,7 @@ impl Tape {
         config: &Config,
         into: &mut [u8],
     ) -> Result<Option<TapeItem>, TapeFault>
-        requires { 65536 ≤ length into.old }
+        requires { longest_payload ≤ length into.old }
         ensures later { F.faults files.old ≤ F.faults files.new }
         ensures read { self.old.end ≡ None
             → IsErrOf result TapeFault.Read
@@ -142,7 +143,7 @@ fn next_record<F: Files>(
     config: &Config,
     into: &mut [u8],
 ) -> Result<Option<TapeItem>, TapeFault>
-    requires { 65536 ≤ length into.old }
+    requires { longest_payload ≤ length into.old }
     ensures later { F.faults files.old ≤ F.faults files.new }
     ensures read { end.old ≡ None → IsErrOf result TapeFault.Read → Rose (F.faults files.old) (F.faults files.new) }
     ensures slot { counted.new.slot ≡ counted.old.slot }
@@ -199,7 +200,7 @@ fn advance<F: Files>(
     config: &Config,
     into: &mut [u8],
 ) -> Result<Option<TapeItem>, TapeFault>
-    requires { 65536 ≤ length into.old }
+    requires { longest_payload ≤ length into.old }
     ensures later { F.faults files.old ≤ F.faults files.new }
     ensures read { IsErrOf result TapeFault.Read → Rose (F.faults files.old) (F.faults files.new) }
     ensures slot { counted.new.slot ≡ counted.old.slot }
@@ -240,7 +241,7 @@ fn advance<F: Files>(
 
 fn item(kind: Kind, peer: u16, size: usize) -> TapeItem
     ensures told { Tells (record { kind = kind; peer = peer }) size result }
-    ensures known { (config : Config) → IsSome (peer_of peer config.peers) → size ≤ 65536 → IsItem config result }
+    ensures known { (config : Config) → IsSome (peer_of peer config.peers) → size ≤ longest_payload → IsItem config result }
 {
     match kind {
         Kind::Up => TapeItem::Up(peer),

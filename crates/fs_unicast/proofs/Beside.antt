@@ -5,7 +5,7 @@ use Rattle.std.specs.List.Sorted.{IsStrictlySortedBy}
 use Rattle.std.specs.BTreeMap.Range.{range_contains}
 use Rattle.std.specs.declared.ops.Bound.TheVariants.{Included, Excluded, Unbounded}
 use Rattle.fs_base.proofs.Bools.{and_true}
-use Rattle.fs_base.proofs.Listing.{each, each_weaker, filter_on, find_on}
+use Rattle.fs_base.proofs.Lists.{each, each_weaker, filter_on, find_on}
 use Rattle.fs_unicast.specs.declared.unicast.Place.{Place}
 use Rattle.fs_unicast.specs.Unicast.{place_cmp}
 use Rattle.fs_unicast.specs.Turns.{find_last, later}

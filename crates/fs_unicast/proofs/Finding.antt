@@ -5,7 +5,7 @@ use Rattle.std.specs.List.{AllByRecursion, list_any, last_or}
 use Rattle.std.specs.List.Sorted.{IsStrictlySortedBy}
 use Rattle.std.proofs.lemmas.Map.Keys.{sorted_head, sorted_tail}
 use Rattle.fs_base.proofs.Bools.{or_first, or_second}
-use Rattle.fs_base.proofs.Listing.{each_weaker, each_of_map}
+use Rattle.fs_base.proofs.Lists.{each_weaker, each_of_map}
 use Rattle.fs_unicast.specs.Turns.{find_last, later}
 
 -- what an iterator's next call shows is the head of what is left

@@ -8,14 +8,14 @@ use Rattle.std.specs.declared.ops.Bound.TheVariants.{Included, Excluded}
 use Rattle.std.specs.Cmp.{both_ways}
 use Rattle.std.specs.Map.{keys_of}
 use Rattle.std.specs.Set.{remove_key}
-use Rattle.fs_base.proofs.Bools.{or_first, or_second, or_implied, or_implies}
-use Rattle.fs_base.proofs.Listing.{each, each_weaker, each_both, each_none, none_each, all_each, each_all, any_each, all_on}
+use Rattle.fs_base.proofs.Bools.{and_both, and_first, and_second, or_first, or_second, or_implied, or_implies}
+use Rattle.fs_base.proofs.Lists.{each, each_weaker, each_both, each_none, none_each, all_each, each_all, any_each, all_on}
 use Rattle.fs_unicast.specs.declared.unicast.Place.{Place}
 use Rattle.fs_unicast.specs.Unicast.{Route, place_cmp}
 use Rattle.fs_unicast.specs.Turns.{neighbour_of, is_same, lies_between, are_parted, is_alone, parts_alone, is_needed, IsPartedAfter, IsParted, find_last}
 use Rattle.fs_unicast.proofs.PlaceOrder.{below_upto, upto_below, upto_upto, lt_le, below_itself, upto_itself, below_not_upto, equal_upto, equal_back}
 use Rattle.fs_unicast.proofs.Finding.{found_each, found_passes, none_found, any_found, after_found, last_each, last_passes, no_last, any_last, before_last}
-use Rattle.fs_unicast.proofs.Parting.{both, first_of, second_of, same_is, same_itself, turned_off}
+use Rattle.fs_unicast.proofs.Parting.{same_is, same_itself, turned_off}
 
 falsified : (b : Bool) → (b ≡ true → true ≡ false) → b ≡ false
 falsified true h = h refl
@@ -56,8 +56,8 @@ module _ (turns : List Place) (held : List Route) (t : Place) where
   between_alone : (x y : Place) → is_alone turns x y t ≡ true → are_parted turns x y ≡ true → lies_between x y t ≡ true
   between_alone x y alone part = any_each (lies_between x y) (λ u. (not (lies_between x y u) || is_eq (place_cmp t u)) ≡ true) (lies_between x y t ≡ true) turns part (all_each (λ u. not (lies_between x y u) || is_eq (place_cmp t u)) turns alone) (λ u lies f. moved u lies (eq_equal (place_cmp t u) (or_implied (lies_between x y u) (is_eq (place_cmp t u)) f lies))) where
     moved : (u : Place) → lies_between x y u ≡ true → place_cmp t u ≡ Equal → lies_between x y t ≡ true
-    moved u lies same = both (is_lt (place_cmp x t)) (is_le (place_cmp t y)) (below_upto x u t (first_of (is_lt (place_cmp x u)) (is_le (place_cmp u y)) lies) (equal_back t u same))
-        (upto_upto t u y (equal_upto t u same) (second_of (is_lt (place_cmp x u)) (is_le (place_cmp u y)) lies))
+    moved u lies same = and_both (is_lt (place_cmp x t)) (is_le (place_cmp t y)) (below_upto x u t (and_first (is_lt (place_cmp x u)) (is_le (place_cmp u y)) lies) (equal_back t u same))
+        (upto_upto t u y (equal_upto t u same) (and_second (is_lt (place_cmp x u)) (is_le (place_cmp u y)) lies))
 
   -- it is alone between nearer places too
   alone_within : (x y v w : Place) → is_le (place_cmp x v) ≡ true → is_le (place_cmp w y) ≡ true → is_alone turns x y t ≡ true → is_alone turns v w t ≡ true
@@ -65,7 +65,7 @@ module _ (turns : List Place) (held : List Route) (t : Place) where
       (each_weaker (λ u. (not (lies_between x y u) || is_eq (place_cmp t u)) ≡ true) (λ u. (not (lies_between v w u) || is_eq (place_cmp t u)) ≡ true) (λ u f. or_implies (lies_between v w u) (is_eq (place_cmp t u)) (λ lies. or_implied (lies_between x y u) (is_eq (place_cmp t u)) f (outer u lies)))
       turns (all_each (λ u. not (lies_between x y u) || is_eq (place_cmp t u)) turns alone)) where
         outer : (u : Place) → lies_between v w u ≡ true → lies_between x y u ≡ true
-        outer u lies = both (is_lt (place_cmp x u)) (is_le (place_cmp u y)) (upto_below x v u h (first_of (is_lt (place_cmp v u)) (is_le (place_cmp u w)) lies)) (upto_upto u w y (second_of (is_lt (place_cmp v u)) (is_le (place_cmp u w)) lies) k)
+        outer u lies = and_both (is_lt (place_cmp x u)) (is_le (place_cmp u y)) (upto_below x v u h (and_first (is_lt (place_cmp v u)) (is_le (place_cmp u w)) lies)) (upto_upto u w y (and_second (is_lt (place_cmp v u)) (is_le (place_cmp u w)) lies) k)
 
   -- without a turn that is idle all stay parted
   pub parted_without : IsParted turns held → is_needed turns held t ≡ false → IsParted (remove_key (is_at (place_cmp t)) turns) held
@@ -131,10 +131,10 @@ module _ (turns : List Place) (held : List Route) (t : Place) where
 
     -- so no turn lies outside them, where t is alone
     never_fore : (x y : Route) → is_alone turns x.0 y.0 t ≡ true → is_le (place_cmp p.0 y.0) ≡ true → are_parted turns x.0 p.0 ≡ true → true ≡ false
-    never_fore x y alone up part = sym (below_upto p.0 t p.0 p_below (second_of (is_lt (place_cmp x.0 t)) (is_le (place_cmp t p.0)) (between_alone x.0 p.0 (alone_within x.0 y.0 x.0 p.0 (upto_itself x.0) up alone) part))) ∙ below_itself p.0
+    never_fore x y alone up part = sym (below_upto p.0 t p.0 p_below (and_second (is_lt (place_cmp x.0 t)) (is_le (place_cmp t p.0)) (between_alone x.0 p.0 (alone_within x.0 y.0 x.0 p.0 (upto_itself x.0) up alone) part))) ∙ below_itself p.0
 
     never_aft : (x y : Route) → is_alone turns x.0 y.0 t ≡ true → is_le (place_cmp x.0 s.0) ≡ true → are_parted turns s.0 y.0 ≡ true → true ≡ false
-    never_aft x y alone up part = sym (upto_below t s.0 t t_upto (first_of (is_lt (place_cmp s.0 t)) (is_le (place_cmp t y.0)) (between_alone s.0 y.0 (alone_within x.0 y.0 s.0 y.0 up (upto_itself y.0) alone) part))) ∙ below_itself t
+    never_aft x y alone up part = sym (upto_below t s.0 t t_upto (and_first (is_lt (place_cmp s.0 t)) (is_le (place_cmp t y.0)) (between_alone s.0 y.0 (alone_within x.0 y.0 s.0 y.0 up (upto_itself y.0) alone) part))) ∙ below_itself t
 
     -- two routes that t parts alone, and the routes beside t
     from_others : (x y : Route) → lies_between x.0 y.0 t ≡ true → is_same (neighbour_of x) (neighbour_of y) ≡ false → is_alone turns x.0 y.0 t ≡ true → IsFore x → IsAft y → is_same (neighbour_of p) (neighbour_of s) ≡ false
@@ -143,7 +143,7 @@ module _ (turns : List Place) (held : List Route) (t : Place) where
       p_upto = lt_le (place_cmp p.0 y.0) (below_upto p.0 s.0 y.0 beside a.from)
 
       upto_s : is_le (place_cmp x.0 s.0) ≡ true
-      upto_s = lt_le (place_cmp x.0 s.0) (below_upto x.0 t s.0 (first_of (is_lt (place_cmp x.0 t)) (is_le (place_cmp t y.0)) lies) t_upto)
+      upto_s = lt_le (place_cmp x.0 s.0) (below_upto x.0 t s.0 (and_first (is_lt (place_cmp x.0 t)) (is_le (place_cmp t y.0)) lies) t_upto)
 
       by : (b : Bool) → is_same (neighbour_of x) (neighbour_of p) ≡ b → neighbour_of p ≡ neighbour_of s → true ≡ false
       by true e same = never_aft x y alone upto_s (a.part (subst (λ n. is_same n (neighbour_of y) ≡ false) (same_is (neighbour_of x) (neighbour_of p) e ∙ same) other))
@@ -154,31 +154,31 @@ module _ (turns : List Place) (held : List Route) (t : Place) where
     needed_beside = both_ways (not (is_same (neighbour_of p) (neighbour_of s)) && is_alone turns p.0 s.0 t) (is_needed turns held t) there back where
       there : (not (is_same (neighbour_of p) (neighbour_of s)) && is_alone turns p.0 s.0 t) ≡ true → is_needed turns held t ≡ true
       there h = any_last (λ r. is_lt (place_cmp r.0 t)) (λ x. list_any (parts_alone turns t x) held) held p last (any_found (λ r. is_le (place_cmp t r.0)) (parts_alone turns t p) held s first
-          (both (lies_between p.0 s.0 t) (not (is_same (neighbour_of p) (neighbour_of s)) && is_alone turns p.0 s.0 t) (both (is_lt (place_cmp p.0 t)) (is_le (place_cmp t s.0)) p_below t_upto) h))
+          (and_both (lies_between p.0 s.0 t) (not (is_same (neighbour_of p) (neighbour_of s)) && is_alone turns p.0 s.0 t) (and_both (is_lt (place_cmp p.0 t)) (is_le (place_cmp t s.0)) p_below t_upto) h))
 
       differ : (b : Bool) → not b ≡ true → b ≡ false
       differ true h = absurd (true≢false (sym h))
       differ false h = refl
 
       done : (x y : Route) → parts_alone turns t x y ≡ true → (is_lt (place_cmp x.0 t) ≡ true → IsFore x) → (is_le (place_cmp t y.0) ≡ true → IsAft y) → (not (is_same (neighbour_of p) (neighbour_of s)) && is_alone turns p.0 s.0 t) ≡ true
-      done x y h f a = both (not (is_same (neighbour_of p) (neighbour_of s))) (is_alone turns p.0 s.0 t) (ap not (from_others x y lies other alone fx ay)) (alone_within x.0 y.0 p.0 s.0 fx.upto ay.from alone) where
+      done x y h f a = and_both (not (is_same (neighbour_of p) (neighbour_of s))) (is_alone turns p.0 s.0 t) (ap not (from_others x y lies other alone fx ay)) (alone_within x.0 y.0 p.0 s.0 fx.upto ay.from alone) where
         lies : lies_between x.0 y.0 t ≡ true
-        lies = first_of (lies_between x.0 y.0 t) (not (is_same (neighbour_of x) (neighbour_of y)) && is_alone turns x.0 y.0 t) h
+        lies = and_first (lies_between x.0 y.0 t) (not (is_same (neighbour_of x) (neighbour_of y)) && is_alone turns x.0 y.0 t) h
 
         rest : (not (is_same (neighbour_of x) (neighbour_of y)) && is_alone turns x.0 y.0 t) ≡ true
-        rest = second_of (lies_between x.0 y.0 t) (not (is_same (neighbour_of x) (neighbour_of y)) && is_alone turns x.0 y.0 t) h
+        rest = and_second (lies_between x.0 y.0 t) (not (is_same (neighbour_of x) (neighbour_of y)) && is_alone turns x.0 y.0 t) h
 
         other : is_same (neighbour_of x) (neighbour_of y) ≡ false
-        other = differ (is_same (neighbour_of x) (neighbour_of y)) (first_of (not (is_same (neighbour_of x) (neighbour_of y))) (is_alone turns x.0 y.0 t) rest)
+        other = differ (is_same (neighbour_of x) (neighbour_of y)) (and_first (not (is_same (neighbour_of x) (neighbour_of y))) (is_alone turns x.0 y.0 t) rest)
 
         alone : is_alone turns x.0 y.0 t ≡ true
-        alone = second_of (not (is_same (neighbour_of x) (neighbour_of y))) (is_alone turns x.0 y.0 t) rest
+        alone = and_second (not (is_same (neighbour_of x) (neighbour_of y))) (is_alone turns x.0 y.0 t) rest
 
         fx : IsFore x
-        fx = f (first_of (is_lt (place_cmp x.0 t)) (is_le (place_cmp t y.0)) lies)
+        fx = f (and_first (is_lt (place_cmp x.0 t)) (is_le (place_cmp t y.0)) lies)
 
         ay : IsAft y
-        ay = a (second_of (is_lt (place_cmp x.0 t)) (is_le (place_cmp t y.0)) lies)
+        ay = a (and_second (is_lt (place_cmp x.0 t)) (is_le (place_cmp t y.0)) lies)
 
       back : is_needed turns held t ≡ true → (not (is_same (neighbour_of p) (neighbour_of s)) && is_alone turns p.0 s.0 t) ≡ true
       back h = any_each (λ x. list_any (parts_alone turns t x) held) (λ x. is_lt (place_cmp x.0 t) ≡ true → IsFore x) ((not (is_same (neighbour_of p) (neighbour_of s)) && is_alone turns p.0 s.0 t) ≡ true) held h fore

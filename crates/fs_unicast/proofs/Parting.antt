@@ -8,8 +8,8 @@ use Rattle.std.specs.BTreeSet.{insert_key}
 use Rattle.std.specs.Cmp.{tied_itself}
 use Rattle.std.specs.Map.{keys_of, remove_entry}
 use Rattle.std.proofs.lemmas.Bool.Decides.{nat_tests}
-use Rattle.fs_base.proofs.Bools.{or_first, or_second}
-use Rattle.fs_base.proofs.Listing.{each, each_weaker, each_both, each_remove, any_weaker}
+use Rattle.fs_base.proofs.Bools.{and_both, and_first, and_second, or_first, or_second}
+use Rattle.fs_base.proofs.Lists.{each, each_weaker, each_both, each_remove, any_weaker}
 use Rattle.fs_base.specs.declared.path.Path.{Path}
 use Rattle.fs_unicast.specs.declared.unicast.Place.{Place}
 use Rattle.fs_unicast.specs.Neighbour.{neighbour}
@@ -17,18 +17,6 @@ use Rattle.fs_unicast.specs.Unicast.{Route, place_cmp}
 use Rattle.fs_unicast.specs.Turns.{neighbour_of, is_same, lies_between, are_parted, IsPartedAfter, IsPartedBefore, IsParted, StaysParted, find_last}
 use Rattle.fs_unicast.proofs.PlaceOrder.{place_total, below_upto, upto_below, upto_upto, lt_le, upto_itself, equal_upto, equal_back}
 use Rattle.fs_unicast.proofs.Finding.{found_each, found_passes, none_found, after_found, last_each, last_passes, no_last, before_last}
-
-pub both : (a b : Bool) → a ≡ true → b ≡ true → (a && b) ≡ true
-both true b h k = k
-both false b h k = h
-
-pub first_of : (a b : Bool) → (a && b) ≡ true → a ≡ true
-first_of true b h = refl
-first_of false b h = h
-
-pub second_of : (a b : Bool) → (a && b) ≡ true → b ≡ true
-second_of true b h = h
-second_of false b h = absurd (true≢false (sym h))
 
 pub same_is : (a b : Option ℕ) → is_same a b ≡ true → a ≡ b
 same_is None None h = refl
@@ -42,8 +30,8 @@ same_itself (Some n) = grind (arith, nat_tests)
 
 -- a turn between x and y lies between what is around them
 pub wider : (turns : List Place) (w x y z : Place) → is_le (place_cmp w x) ≡ true → is_le (place_cmp y z) ≡ true → are_parted turns x y ≡ true → are_parted turns w z ≡ true
-wider turns w x y z h k = any_weaker (lies_between x y) (lies_between w z) (λ t l. both (is_lt (place_cmp w t)) (is_le (place_cmp t z))
-    (upto_below w x t h (first_of (is_lt (place_cmp x t)) (is_le (place_cmp t y)) l)) (upto_upto t y z (second_of (is_lt (place_cmp x t)) (is_le (place_cmp t y)) l) k)) turns
+wider turns w x y z h k = any_weaker (lies_between x y) (lies_between w z) (λ t l. and_both (is_lt (place_cmp w t)) (is_le (place_cmp t z))
+    (upto_below w x t h (and_first (is_lt (place_cmp x t)) (is_le (place_cmp t y)) l)) (upto_upto t y z (and_second (is_lt (place_cmp x t)) (is_le (place_cmp t y)) l) k)) turns
 
 -- what was among the keys of a set is there after an insertion
 kept_inserted : (q : Place → Bool) (k : Place) (ks : List Place) → list_any q ks ≡ true → list_any q (insert_key place_cmp ks k) ≡ true
@@ -71,7 +59,7 @@ stays_inserted turn old new e x y h = ap (list_any (lies_between x y)) e ∙ kep
 
 pub parts_inserted : (turn : Place) (old new : List Place) → new ≡ insert_key place_cmp old turn → (x y : Place) → lies_between x y turn ≡ true → are_parted new x y ≡ true
 parts_inserted turn old new e x y h = ap (list_any (lies_between x y)) e ∙ there_inserted (lies_between x y) turn h
-    (λ t same. both (is_lt (place_cmp x t)) (is_le (place_cmp t y)) (below_upto x turn t (first_of (is_lt (place_cmp x turn)) (is_le (place_cmp turn y)) h) (equal_upto turn t same)) (upto_upto t turn y (equal_back turn t same) (second_of (is_lt (place_cmp x turn)) (is_le (place_cmp turn y)) h))) old
+    (λ t same. and_both (is_lt (place_cmp x t)) (is_le (place_cmp t y)) (below_upto x turn t (and_first (is_lt (place_cmp x turn)) (is_le (place_cmp turn y)) h) (equal_upto turn t same)) (upto_upto t turn y (equal_back turn t same) (and_second (is_lt (place_cmp x turn)) (is_le (place_cmp turn y)) h))) old
 
 stays_after : (old new : List Place) (held : List Route) (x : Place) (asn : Option ℕ) → StaysParted old new → IsPartedAfter old held x asn → IsPartedAfter new held x asn
 stays_after old new held x asn stays h = each_weaker (λ r. is_lt (place_cmp x r.0) ≡ true → is_same asn (neighbour_of r) ≡ false → are_parted old x r.0 ≡ true) (λ r. is_lt (place_cmp x r.0) ≡ true → is_same asn (neighbour_of r) ≡ false → are_parted new x r.0 ≡ true)
@@ -148,7 +136,7 @@ parted_alike turns held z asn p sorted e parted same = each_both (λ r. is_lt (p
 
 -- a turn stands at the place itself
 pub parted_here : (turns : List Place) (held : List Route) (z : Place) (asn : Option ℕ) → ((x y : Place) → lies_between x y z ≡ true → are_parted turns x y ≡ true) → IsPartedBefore turns held z asn
-parted_here turns held z asn h = each (λ r. is_lt (place_cmp r.0 z) ≡ true → is_same (neighbour_of r) asn ≡ false → are_parted turns r.0 z ≡ true) (λ r below other. h r.0 z (both (is_lt (place_cmp r.0 z)) (is_le (place_cmp z z)) below (upto_itself z))) held
+parted_here turns held z asn h = each (λ r. is_lt (place_cmp r.0 z) ≡ true → is_same (neighbour_of r) asn ≡ false → are_parted turns r.0 z ≡ true) (λ r below other. h r.0 z (and_both (is_lt (place_cmp r.0 z)) (is_le (place_cmp z z)) below (upto_itself z))) held
 
 -- no route stands after
 pub parted_last : (turns : List Place) (held : List Route) (z : Place) (asn : Option ℕ) → find (λ r. is_lt (place_cmp z r.0)) held ≡ None → IsPartedAfter turns held z asn
@@ -171,5 +159,5 @@ parted_on turns held z asn s sorted e parted same = each_both (λ r. is_lt (plac
 pub parted_next : (turns : List Place) (held : List Route) (z : Place) (asn : Option ℕ) (s : Route) → IsStrictlySortedBy place_cmp (keys_of held) → find (λ r. is_lt (place_cmp z r.0)) held ≡ Some s
     → ((x y : Place) → lies_between x y s.0 ≡ true → are_parted turns x y ≡ true) → IsPartedAfter turns held z asn
 parted_next turns held z asn s sorted e h = each_weaker (λ r. is_lt (place_cmp z r.0) ≡ true → is_le (place_cmp s.0 r.0) ≡ true) (λ r. is_lt (place_cmp z r.0) ≡ true → is_same asn (neighbour_of r) ≡ false → are_parted turns z r.0 ≡ true)
-    (λ r f below other. h z r.0 (both (is_lt (place_cmp z s.0)) (is_le (place_cmp s.0 r.0)) (found_passes (λ r. is_lt (place_cmp z r.0)) held s e) (f below))) held
+    (λ r f below other. h z r.0 (and_both (is_lt (place_cmp z s.0)) (is_le (place_cmp s.0 r.0)) (found_passes (λ r. is_lt (place_cmp z r.0)) held s e) (f below))) held
     (after_found place_cmp (λ r. r.0) (λ r. is_lt (place_cmp z r.0)) (λ r. is_le (place_cmp s.0 r.0) ≡ true) held sorted s e (upto_itself s.0) (λ r less. ap is_le less))

@@ -10,11 +10,10 @@ use Rattle.std.specs.BTreeMap.Range.{range_contains, entries_between}
 use Rattle.std.specs.declared.ops.Bound.TheVariants.{Included, Excluded, Unbounded}
 use Rattle.fs_base.proofs.Bools.{and_both, and_parts, or_implied, or_implies, same_tests}
 use Rattle.fs_base.specs.declared.prefix.Prefix.{Prefix}
-use Rattle.fs_base.specs.Prefix.{covers, prefix_cmp}
-use Rattle.fs_base.specs.PrefixOrder.{prefix_total}
-use Rattle.fs_base.proofs.Listing.{filter_on, filter_none, filter_first, filter_empty, find_filter, find_on, IsLeast, each, each_weaker, each_all, all_each, any_each, any_on, any_weaker}
+use Rattle.fs_base.specs.Prefix.{covers, prefix_cmp, prefix_total}
+use Rattle.fs_base.proofs.Lists.{filter_on, filter_none, filter_first, filter_empty, find_filter, find_on, IsLeast, each, each_weaker, each_all, all_each, any_each, any_on, any_weaker}
 use Rattle.fs_base.proofs.Nesting.{alike, alike_covers, covers_nested, covers_same_length}
-use Rattle.fs_base.specs.Seek.{IsFirst, IsLongest}
+use Rattle.fs_base.specs.Search.{IsFirst, IsLongest}
 use Rattle.fs_unicast.specs.declared.unicast.Place.{Place}
 use Rattle.fs_unicast.specs.Unicast.{Route, place_cmp, HasSmallPeers}
 use Rattle.fs_unicast.specs.Search.{is_same_prefix, is_strictly_under, is_other, others_under, best_at, best_match_of, is_longest, is_from, held_by, candidate, start_of}

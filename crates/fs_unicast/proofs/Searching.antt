@@ -3,7 +3,8 @@ use Rattle.std.proofs.Common.{ℕ, ◌≡◌, ◌+◌, ◌<◌, ◌≤◌, refl,
 use Rattle.std.specs.List.{AllByRecursion, list_any}
 use Rattle.std.specs.List.Sorted.{IsStrictlySortedBy}
 use Rattle.std.specs.Map.{keys_of}
-use Rattle.fs_base.proofs.Listing.{each, each_weaker, each_both, each_none, any_each}
+use Rattle.fs_base.proofs.Bools.{and_both, and_first, and_second}
+use Rattle.fs_base.proofs.Lists.{each, each_weaker, each_both, each_none, any_each}
 use Rattle.fs_base.specs.declared.path.Path.{Path}
 use Rattle.fs_unicast.specs.declared.unicast.Place.{Place}
 use Rattle.fs_unicast.specs.Neighbour.{neighbour}
@@ -12,7 +13,7 @@ use Rattle.fs_unicast.specs.Unicast.{Route, place_cmp}
 use Rattle.fs_unicast.specs.Turns.{neighbour_of, is_same, is_within, lies_between, are_parted, IsPartedAfter, IsParted}
 use Rattle.fs_unicast.proofs.PlaceOrder.{below_upto, upto_below, upto_upto, lt_le, below_itself, upto_itself}
 use Rattle.fs_unicast.proofs.Finding.{found_each, found_passes, none_found, any_found, after_found}
-use Rattle.fs_unicast.proofs.Parting.{both, first_of, second_of, same_is}
+use Rattle.fs_unicast.proofs.Parting.{same_is}
 
 abbrev pub count : (Place → Bool) → List Place → ℕ
 count p [] = 0
@@ -42,9 +43,9 @@ passed : (turns : List Place) (from g high t : Place) → is_le (place_cmp from 
     → count (λ u. is_lt (place_cmp t u)) turns < count (λ u. is_lt (place_cmp from u)) turns
 passed turns from g high t h k = fewer (λ u. is_lt (place_cmp t u)) (λ u. is_lt (place_cmp from u)) (λ u l. below_upto from t u below (lt_le (place_cmp t u) l)) turns
     (any_found (λ u. is_lt (place_cmp g u) && is_lt (place_cmp u high)) (λ u. is_lt (place_cmp from u) && not (is_lt (place_cmp t u))) turns t k
-    (both (is_lt (place_cmp from t)) (not (is_lt (place_cmp t t))) below (ap not (below_itself t)))) where
+    (and_both (is_lt (place_cmp from t)) (not (is_lt (place_cmp t t))) below (ap not (below_itself t)))) where
       below : is_lt (place_cmp from t) ≡ true
-      below = upto_below from g t h (first_of (is_lt (place_cmp g t)) (is_lt (place_cmp t high)) (found_passes (λ u. is_lt (place_cmp g u) && is_lt (place_cmp u high)) turns t k))
+      below = upto_below from g t h (and_first (is_lt (place_cmp g t)) (is_lt (place_cmp t high)) (found_passes (λ u. is_lt (place_cmp g u) && is_lt (place_cmp u high)) turns t k))
 
 -- a path with another neighbouring AS than one that has this
 apart : (local_as : ℕ) (asn : Option ℕ) (p q : Path) → is_other local_as asn p ≡ false → is_other local_as asn q ≡ true → is_same (neighbour p.segments) (neighbour q.segments) ≡ false
@@ -70,14 +71,14 @@ module _ (low high : Place) (local_as : ℕ) (asn : Option ℕ) (held : List Rou
   pub search_starts : IsAhead low
   search_starts = record {
     bound = upto_itself low;
-    ahead = each (λ r. is_sought r ≡ true → is_le (place_cmp low r.0) ≡ true) (λ r h. first_of (is_le (place_cmp low r.0)) (is_lt (place_cmp r.0 high)) (first_of (is_within low high r.0) (is_other local_as asn r.1) h)) held;
+    ahead = each (λ r. is_sought r ≡ true → is_le (place_cmp low r.0) ≡ true) (λ r h. and_first (is_le (place_cmp low r.0)) (is_lt (place_cmp r.0 high)) (and_first (is_within low high r.0) (is_other local_as asn r.1) h)) held;
   }
 
   below_high : (r : Route) → is_sought r ≡ true → is_lt (place_cmp r.0 high) ≡ true
-  below_high r h = second_of (is_le (place_cmp low r.0)) (is_lt (place_cmp r.0 high)) (first_of (is_within low high r.0) (is_other local_as asn r.1) h)
+  below_high r h = and_second (is_le (place_cmp low r.0)) (is_lt (place_cmp r.0 high)) (and_first (is_within low high r.0) (is_other local_as asn r.1) h)
 
   sought_other : (r : Route) → is_sought r ≡ true → is_other local_as asn r.1 ≡ true
-  sought_other r h = second_of (is_within low high r.0) (is_other local_as asn r.1) h
+  sought_other r h = and_second (is_within low high r.0) (is_other local_as asn r.1) h
 
   falsified : (b : Bool) → (b ≡ true → true ≡ false) → b ≡ false
   falsified true h = h refl
@@ -86,24 +87,24 @@ module _ (low high : Place) (local_as : ℕ) (asn : Option ℕ) (held : List Rou
   -- nothing is left
   pub search_ends : (from : Place) → IsAhead from → find (λ r. is_within from high r.0) held ≡ None → false ≡ list_any is_sought held
   search_ends from h k = sym (each_none is_sought held (each_both (λ r. is_sought r ≡ true → is_le (place_cmp from r.0) ≡ true) (λ r. is_within from high r.0 ≡ false) (λ r. is_sought r ≡ false)
-      (λ r ahead no. falsified (is_sought r) (λ yes. sym (both (is_le (place_cmp from r.0)) (is_lt (place_cmp r.0 high)) (ahead yes) (below_high r yes)) ∙ no)) held h.ahead (none_found (λ r. is_within from high r.0) held k)))
+      (λ r ahead no. falsified (is_sought r) (λ yes. sym (and_both (is_le (place_cmp from r.0)) (is_lt (place_cmp r.0 high)) (ahead yes) (below_high r yes)) ∙ no)) held h.ahead (none_found (λ r. is_within from high r.0) held k)))
 
   -- what is found is searched for
   pub search_hits : (from : Place) (g : Route) → IsAhead from → find (λ r. is_within from high r.0) held ≡ Some g → is_other local_as asn g.1 ≡ true → true ≡ list_any is_sought held
-  search_hits from g h k other = sym (any_found (λ r. is_within from high r.0) is_sought held g k (both (is_within low high g.0) (is_other local_as asn g.1) (both (is_le (place_cmp low g.0)) (is_lt (place_cmp g.0 high))
-      (upto_upto low from g.0 h.bound (first_of (is_le (place_cmp from g.0)) (is_lt (place_cmp g.0 high)) within)) (second_of (is_le (place_cmp from g.0)) (is_lt (place_cmp g.0 high)) within)) other)) where
+  search_hits from g h k other = sym (any_found (λ r. is_within from high r.0) is_sought held g k (and_both (is_within low high g.0) (is_other local_as asn g.1) (and_both (is_le (place_cmp low g.0)) (is_lt (place_cmp g.0 high))
+      (upto_upto low from g.0 h.bound (and_first (is_le (place_cmp from g.0)) (is_lt (place_cmp g.0 high)) within)) (and_second (is_le (place_cmp from g.0)) (is_lt (place_cmp g.0 high)) within)) other)) where
         within : is_within from high g.0 ≡ true
         within = found_passes (λ r. is_within from high r.0) held g k
 
   module _ (turns : List Place) (from : Place) (g : Route) (sorted : IsStrictlySortedBy place_cmp (keys_of held)) (parted : IsParted turns held) (h : IsAhead from)
       (k : find (λ r. is_within from high r.0) held ≡ Some g) (same : is_other local_as asn g.1 ≡ false) where
     from_low : is_le (place_cmp from g.0) ≡ true
-    from_low = first_of (is_le (place_cmp from g.0)) (is_lt (place_cmp g.0 high)) (found_passes (λ r. is_within from high r.0) held g k)
+    from_low = and_first (is_le (place_cmp from g.0)) (is_lt (place_cmp g.0 high)) (found_passes (λ r. is_within from high r.0) held g k)
 
     -- what is searched for lies behind a turn
     behind : AllByRecursion (λ r. is_sought r ≡ true → are_parted turns g.0 r.0 ≡ true) held
     behind = each_both (λ r. is_sought r ≡ true → is_le (place_cmp from r.0) ≡ true) (λ r. is_within from high r.0 ≡ true → is_sought r ≡ true → are_parted turns g.0 r.0 ≡ true) (λ r. is_sought r ≡ true → are_parted turns g.0 r.0 ≡ true)
-        (λ r ahead f yes. f (both (is_le (place_cmp from r.0)) (is_lt (place_cmp r.0 high)) (ahead yes) (below_high r yes)) yes) held h.ahead
+        (λ r ahead f yes. f (and_both (is_le (place_cmp from r.0)) (is_lt (place_cmp r.0 high)) (ahead yes) (below_high r yes)) yes) held h.ahead
         (each_both (λ r. is_within from high r.0 ≡ true → is_sought r ≡ true → is_lt (place_cmp g.0 r.0) ≡ true) (λ r. is_lt (place_cmp g.0 r.0) ≡ true → is_same (neighbour_of g) (neighbour_of r) ≡ false → are_parted turns g.0 r.0 ≡ true)
         (λ r. is_within from high r.0 ≡ true → is_sought r ≡ true → are_parted turns g.0 r.0 ≡ true)
         (λ r f part within yes. part (f within yes) (apart local_as asn g.1 r.1 same (sought_other r yes))) held later_than (found_each (λ r. is_within from high r.0) (λ r. IsPartedAfter turns held r.0 (neighbour_of r)) held g k parted)) where
@@ -115,7 +116,7 @@ module _ (low high : Place) (local_as : ℕ) (asn : Option ℕ) (held : List Rou
     search_stops l = sym (each_none is_sought held (each_weaker (λ r. is_sought r ≡ true → are_parted turns g.0 r.0 ≡ true) (λ r. is_sought r ≡ false) (λ r f. falsified (is_sought r) (λ yes. nothing r yes (f yes))) held behind)) where
       nothing : (r : Route) → is_sought r ≡ true → are_parted turns g.0 r.0 ≡ true → true ≡ false
       nothing r sought part = any_each (lies_between g.0 r.0) (λ u. (is_lt (place_cmp g.0 u) && is_lt (place_cmp u high)) ≡ false) (true ≡ false) turns part (none_found (λ u. is_lt (place_cmp g.0 u) && is_lt (place_cmp u high)) turns l)
-          (λ u lies none. sym (both (is_lt (place_cmp g.0 u)) (is_lt (place_cmp u high)) (first_of (is_lt (place_cmp g.0 u)) (is_le (place_cmp u r.0)) lies) (upto_below u r.0 high (second_of (is_lt (place_cmp g.0 u)) (is_le (place_cmp u r.0)) lies) (below_high r sought))) ∙ none)
+          (λ u lies none. sym (and_both (is_lt (place_cmp g.0 u)) (is_lt (place_cmp u high)) (and_first (is_lt (place_cmp g.0 u)) (is_le (place_cmp u r.0)) lies) (upto_below u r.0 high (and_second (is_lt (place_cmp g.0 u)) (is_le (place_cmp u r.0)) lies) (below_high r sought))) ∙ none)
 
     -- else fewer turns are left behind the first one
     pub search_falls : (t : Place) → find (λ u. is_lt (place_cmp g.0 u) && is_lt (place_cmp u high)) turns ≡ Some t → count (λ u. is_lt (place_cmp t u)) turns < count (λ u. is_lt (place_cmp from u)) turns
@@ -124,7 +125,7 @@ module _ (low high : Place) (local_as : ℕ) (asn : Option ℕ) (held : List Rou
     -- and the search goes on there
     pub search_turns : IsStrictlySortedBy place_cmp turns → (t : Place) → find (λ u. is_lt (place_cmp g.0 u) && is_lt (place_cmp u high)) turns ≡ Some t → IsAhead t
     search_turns ordered t l = record {
-      bound = upto_upto low from t h.bound (lt_le (place_cmp from t) (upto_below from g.0 t from_low (first_of (is_lt (place_cmp g.0 t)) (is_lt (place_cmp t high)) (found_passes (λ u. is_lt (place_cmp g.0 u) && is_lt (place_cmp u high)) turns t l))));
+      bound = upto_upto low from t h.bound (lt_le (place_cmp from t) (upto_below from g.0 t from_low (and_first (is_lt (place_cmp g.0 t)) (is_lt (place_cmp t high)) (found_passes (λ u. is_lt (place_cmp g.0 u) && is_lt (place_cmp u high)) turns t l))));
       ahead = each_weaker (λ r. is_sought r ≡ true → are_parted turns g.0 r.0 ≡ true) (λ r. is_sought r ≡ true → is_le (place_cmp t r.0) ≡ true) (λ r f yes. reached r yes (f yes)) held behind;
     } where
       least : AllByRecursion (λ u. (is_lt (place_cmp g.0 u) && is_lt (place_cmp u high)) ≡ true → is_le (place_cmp t u) ≡ true) turns
@@ -132,4 +133,4 @@ module _ (low high : Place) (local_as : ℕ) (asn : Option ℕ) (held : List Rou
 
       reached : (r : Route) → is_sought r ≡ true → are_parted turns g.0 r.0 ≡ true → is_le (place_cmp t r.0) ≡ true
       reached r sought part = any_each (lies_between g.0 r.0) (λ u. (is_lt (place_cmp g.0 u) && is_lt (place_cmp u high)) ≡ true → is_le (place_cmp t u) ≡ true) (is_le (place_cmp t r.0) ≡ true) turns part least
-          (λ u lies f. upto_upto t u r.0 (f (both (is_lt (place_cmp g.0 u)) (is_lt (place_cmp u high)) (first_of (is_lt (place_cmp g.0 u)) (is_le (place_cmp u r.0)) lies) (upto_below u r.0 high (second_of (is_lt (place_cmp g.0 u)) (is_le (place_cmp u r.0)) lies) (below_high r sought)))) (second_of (is_lt (place_cmp g.0 u)) (is_le (place_cmp u r.0)) lies))
+          (λ u lies f. upto_upto t u r.0 (f (and_both (is_lt (place_cmp g.0 u)) (is_lt (place_cmp u high)) (and_first (is_lt (place_cmp g.0 u)) (is_le (place_cmp u r.0)) lies) (upto_below u r.0 high (and_second (is_lt (place_cmp g.0 u)) (is_le (place_cmp u r.0)) lies) (below_high r sought)))) (and_second (is_lt (place_cmp g.0 u)) (is_le (place_cmp u r.0)) lies))

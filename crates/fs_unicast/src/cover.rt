@@ -2,7 +2,7 @@
 
 ghost use Rattle.std.specs.Prelude.{List};
 ghost use Rattle.fs_base.specs.declared.prefix.Prefix.{Prefix};
-ghost use Rattle.fs_base.specs.Seek.{IsFirstFrom, IsLongestCover};
+ghost use Rattle.fs_base.specs.Search.{IsFirstFrom, IsLongestCover};
 
 use fs_base::Prefix;
 

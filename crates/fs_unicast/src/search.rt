@@ -5,7 +5,7 @@ ghost use Rattle.fs_unicast.specs.Search.{best_at, best_match_of, others_under, 
 ghost use Rattle.fs_unicast.specs.Preference.{better, offered};
 ghost use Rattle.fs_unicast.specs.Unicast.{HasSmallPeers, place_cmp};
 ghost use Rattle.std.specs.Option.{option_copied};
-ghost use Rattle.fs_base.specs.Seek.{IsFirstFrom};
+ghost use Rattle.fs_base.specs.Search.{IsFirstFrom};
 ghost use Rattle.std.specs.List.Sorted.{IsStrictlySortedBy};
 ghost use Rattle.std.specs.Map.{keys_of};
 

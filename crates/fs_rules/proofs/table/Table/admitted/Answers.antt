@@ -1,6 +1,6 @@
 use Rattle.std.proofs.Common.{ap, map, subst}
 use Rattle.std.specs.List.{AllByRecursion}
-use Rattle.fs_base.proofs.Listing.{each_mapped}
+use Rattle.fs_base.proofs.Lists.{each_mapped}
 use Rattle.fs_rules.specs.Table.{IsRuleOf}
 use Rattle.fs_rules.specs.Group.{routes_of, chosen}
 use Rattle.fs_rules.specs.Lent.{shown_admitted}

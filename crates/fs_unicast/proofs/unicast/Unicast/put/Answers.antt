@@ -1,5 +1,5 @@
 use Rattle.std.proofs.Common.{◌<◌, ◌^◌, arith}
-use Rattle.fs_base.proofs.Listing.{each_insert}
+use Rattle.fs_base.proofs.Lists.{each_insert}
 use Rattle.fs_unicast.specs.Unicast.{place_cmp}
 use Rattle.fs_unicast.proofs.unicast.Unicast.put.Goals as goal
 

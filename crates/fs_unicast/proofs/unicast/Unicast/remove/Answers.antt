@@ -1,6 +1,6 @@
 use Rattle.std.proofs.Common.{◌<◌, ◌^◌}
 use Rattle.std.specs.BTreeMap.{is_at}
-use Rattle.fs_base.proofs.Listing.{each_remove}
+use Rattle.fs_base.proofs.Lists.{each_remove}
 use Rattle.fs_unicast.specs.Unicast.{place_cmp}
 use Rattle.fs_unicast.proofs.unicast.Unicast.remove.Goals as goal
 

@@ -7,7 +7,7 @@ use Rattle.fs_base.specs.declared.prefix.Family.{Family}
 use Rattle.fs_base.specs.Bits.{afi_of, width_of}
 use Rattle.fs_nlri.specs.Parts.{Ruled}
 use Rattle.fs_nlri.specs.Rule.{IsRule, destination_of}
-use Rattle.fs_order.specs.Order.{rule_cmp}
+use Rattle.fs_order.specs.Comparison.{rule_cmp}
 
 -- what prefixes show, family, bits and length, in the order of prefixes
 abbrev pub last_shown : Family × ℕ × ℕ → ℕ

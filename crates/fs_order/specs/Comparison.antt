@@ -1,9 +1,23 @@
--- Which of two rules is applied first, in the words of RFC 8955 section 5.1 and RFC 8956 section 4.
+-- Which of two rules is applied first (RFC 8955 section 5.1, RFC 8956 section 4): as one comparison, and in the words
+-- of the standards.
 use Rattle.std.specs.Prelude.{◌≡◌, ℕ, ◌-◌, ◌<◌, ◌≤◌, ◌⊎◌, List, [], ◌∷◌}
+use Rattle.std.specs.declared.cmp.Ordering.{Ordering}
+use Rattle.std.specs.Ordering.{nat_cmp, on, then_cmp}
 use Rattle.fs_base.specs.declared.prefix.Family.TheVariants.{V4, V6}
-use Rattle.fs_base.specs.Bits.{cleared}
+use Rattle.fs_base.specs.Bits.{afi_of, cleared}
 use Rattle.fs_ops.specs.OperatorList.{canonical}
 use Rattle.fs_nlri.specs.Parts.{Body, V4Body, V6Body, ListBody, Part, Ruled}
+use Rattle.fs_order.specs.Component.{ended_cmp, part_cmp}
+
+-- the end of the components counts as a type above all others
+abbrev pub parts_cmp : List Part → List Part → Ordering
+parts_cmp = ended_cmp part_cmp
+
+-- IPv4 before IPv6
+abbrev pub rule_cmp : Ruled → Ruled → Ordering
+rule_cmp = then_cmp (on (λ r. afi_of r.family) nat_cmp) (on (λ r. r.parts) parts_cmp)
+
+-- In the words of the standards.
 
 -- of addresses of w bits: the prefix a of m bits lies in the prefix b of n bits
 abbrev pub IsWithin : (w m a n b : ℕ) → Type 0

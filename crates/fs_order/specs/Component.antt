@@ -1,11 +1,10 @@
--- The order of rules as one comparison (RFC 8955 section 5.1, RFC 8956 section 4).
+-- The order of components as one comparison (RFC 8955 section 5.1, RFC 8956 section 4).
 use Rattle.std.specs.Prelude.{ℕ, ◌+◌, ◌-◌, ◌^◌, List, []}
 use Rattle.std.specs.declared.cmp.Ordering.{Ordering}
 use Rattle.std.specs.Ordering.{nat_cmp, on, then_cmp, flip_args}
 use Rattle.std.specs.Cmp.Lexicographic.{slice_cmp}
-use Rattle.fs_base.specs.Bits.{afi_of}
 use Rattle.fs_ops.specs.OperatorList.{canonical}
-use Rattle.fs_nlri.specs.Parts.{Body, V4Body, V6Body, ListBody, Part, Ruled}
+use Rattle.fs_nlri.specs.Parts.{Body, V4Body, V6Body, ListBody, Part}
 
 -- lists by the first place where they differ, the end of a list above every element
 abbrev pub ended_cmp : {A : Type 0} → (A → A → Ordering) → List A → List A → Ordering
@@ -46,11 +45,3 @@ body_cmp =
 
 abbrev pub part_cmp : Part → Part → Ordering
 part_cmp = then_cmp (on (λ p. p.kind) nat_cmp) (on (λ p. p.body) body_cmp)
-
--- the end of the components counts as a type above all others
-abbrev pub parts_cmp : List Part → List Part → Ordering
-parts_cmp = ended_cmp part_cmp
-
--- IPv4 before IPv6
-abbrev pub rule_cmp : Ruled → Ruled → Ordering
-rule_cmp = then_cmp (on (λ r. afi_of r.family) nat_cmp) (on (λ r. r.parts) parts_cmp)

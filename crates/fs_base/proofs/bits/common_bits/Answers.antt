@@ -2,7 +2,7 @@ use Rattle.fs_base.specs.Bits.{width_of}
 use Rattle.std.proofs.lemmas.Nat.{xor_lt}
 use Rattle.fs_base.proofs.CommonBits.{zeros_enough, common_there, common_back}
 use Rattle.fs_base.proofs.Blocks.{width_least}
-use Rattle.fs_base.proofs.prefix.common_bits.Goals as goal
+use Rattle.fs_base.proofs.bits.common_bits.Goals as goal
 
 pub overflow_sub-result-2 : goal.overflow_sub-result-2
 overflow_sub-result-2 c = rw c.width.ensures (zeros_enough (width_of c.args.family) _ (width_least c.args.family) (xor_lt (width_of c.args.family) c.args.a c.args.b c.requires.a c.requires.b))
