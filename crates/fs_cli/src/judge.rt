@@ -6,6 +6,7 @@ ghost use Rattle.fs_base.specs.Happened.{happened};
 ghost use Rattle.fs_base.specs.Outside.{HasCause, Rose};
 ghost use Rattle.fs_base.specs.Sink.{Grew, GrewPart};
 ghost use Rattle.fs_pcap.specs.Capture.{coming};
+ghost use Rattle.fs_pcap.specs.Head.{longest_record};
 ghost use Rattle.fs_cli.specs.Judge.{admitted_rules, capture_stage, Ceases, JudgesAll, packet_text, refused_by, verdict_of, Yields};
 ghost use Rattle.fs_cli.specs.Refusal.{Answers, IsAtPacket, IsLate, answered};
 ghost use Rattle.fs_line.specs.Line.{line_of};
@@ -20,13 +21,10 @@ use crate::refusal::Refusal;
 use fs_base::{Counted, Failed, Family, Files, Memory, Sink};
 use fs_line::{Output, Walked, write_packet_line, write_unread_line};
 use fs_packet::{View, matches, view};
-use fs_pcap::{Capture, CaptureFault, Caught, Link};
+use fs_pcap::{Capture, CaptureFault, Caught, LONGEST_RECORD, Link};
 use fs_rules::{Admitted, Table};
 use std::alloc::Global;
 use std::marker::Model;
-
-/// The octets of the longest record of a capture.
-const RECORD: usize = 262144;
 
 /// Writes a line for each packet of the capture. All lines are handed to the sink before it returns.
 ///
@@ -62,7 +60,7 @@ pub fn judge<F: Files, S: Sink>(
         Err(fault) => return Err(refusal_of(fault)),
     };
     let mut judging = Judging::new(alloc, table, capture.link())?;
-    let mut buffer = vec![in alloc; 0u8; RECORD]?;
+    let mut buffer = vec![in alloc; 0u8; LONGEST_RECORD]?;
     let judged = judge_packets(files, &mut capture, &mut judging, &mut buffer, sink);
     judging.flush(sink)?;
     judged
@@ -76,7 +74,7 @@ fn judge_packets<F: Files, S: Sink>(
     buffer: &mut [u8],
     sink: &mut S,
 ) -> Result<(), Refusal>
-    requires room { 262144 ≤ length buffer.old }
+    requires room { longest_record ≤ length buffer.old }
     requires open { capture.old.end ≡ None }
     requires within { capture.old.place ≤ capture.old.limit }
     requires fits { capture.old.limit < 2 ^ 64 }
@@ -106,7 +104,7 @@ fn next_packet<F: Files>(
     capture: &mut Capture,
     buffer: &mut [u8],
 ) -> Result<Option<Caught>, Refusal>
-    requires room { 262144 ≤ length buffer.old }
+    requires room { longest_record ≤ length buffer.old }
     requires open { capture.old.end ≡ None }
     ensures late { IfErr result IsAtPacket }
     ensures later { F.faults files.old ≤ F.faults files.new }
@@ -115,7 +113,7 @@ fn next_packet<F: Files>(
     ensures limit { capture.new.limit ≡ capture.old.limit }
     ensures open { IfOk result (λ found. IfSome found (λ _. capture.new.end ≡ None)) }
     ensures grows { IfOk result (λ found. IfSome found (λ caught.
-        (capture.old.place < capture.new.place) × (capture.new.place ≤ capture.new.limit) × (caught.taken ≤ 262144))) }
+        (capture.old.place < capture.new.place) × (capture.new.place ≤ capture.new.limit) × (caught.taken ≤ longest_record))) }
 
     ensures gives { IsTrue F.tells
         → MatchResult result

@@ -4,6 +4,7 @@ ghost use Rattle.std.specs.Prelude.{◌≡◌, ◌≤◌, ◌<◌, ◌++◌, ◌
 ghost use Rattle.std.specs.Prelude.{IsTrue, IfOk, IfSome, OnOk, MatchResult};
 ghost use Rattle.fs_base.specs.Outside.{Rose};
 ghost use Rattle.fs_base.specs.declared.config.Config.{Config};
+ghost use Rattle.fs_tape.specs.Header.{longest_payload};
 ghost use Rattle.fs_tape.specs.Tape.{Item, IsItem, coming, item_from};
 ghost use Rattle.fs_cli.specs.Refusal.{HasReason};
 ghost use Rattle.fs_cli.specs.Play.{tape_stage, played_to, IsPlayed, Gives, PlaysOn, refused_by};
@@ -13,11 +14,8 @@ use crate::load::{TAPE_SLOT, open};
 use crate::refusal::Refusal;
 use fs_base::{Config, Counted, Files, Memory};
 use fs_desk::Desk;
-use fs_tape::{Tape, TapeFault, TapeItem};
+use fs_tape::{LONGEST_PAYLOAD, Tape, TapeFault, TapeItem};
 use std::alloc::Global;
-
-/// The octets of the longest payload of a tape's record.
-const PAYLOAD: usize = 65536;
 
 /// Plays the whole tape.
 ///
@@ -47,7 +45,7 @@ pub fn play_tape<'a, F: Files>(
         Err(fault) => return Err(refusal_of(fault)),
     };
     let mut desk = Desk::new(alloc, config);
-    let mut buffer = vec![in alloc; 0u8; PAYLOAD]?;
+    let mut buffer = vec![in alloc; 0u8; LONGEST_PAYLOAD]?;
     match play_items(alloc, files, &mut tape, config, &mut desk, &mut buffer) {
         Ok(()) => Ok(desk),
         Err(refusal) => Err(refusal),
@@ -63,7 +61,7 @@ fn play_items<F: Files>(
     desk: &mut Desk<'_>,
     buffer: &mut [u8],
 ) -> Result<(), Refusal>
-    requires room { 65536 ≤ length buffer.old }
+    requires room { longest_payload ≤ length buffer.old }
     requires open { tape.old.end ≡ None }
     requires within { tape.old.place ≤ tape.old.limit }
     requires config { desk.old.config ≡ config.now }
@@ -91,7 +89,7 @@ fn play_item(
     buffer: &[u8],
     replies: &mut Vec<u8>,
 ) -> Result<(), Memory>
-    requires room { 65536 ≤ length buffer.now }
+    requires room { longest_payload ≤ length buffer.now }
     requires item { IsItem desk.old.config item }
     ensures config { desk.new.config ≡ desk.old.config }
     ensures played { OnOk result ((config : Config)
@@ -116,7 +114,7 @@ fn next_item<F: Files>(
     config: &Config,
     buffer: &mut [u8],
 ) -> Result<Option<TapeItem>, Refusal>
-    requires room { 65536 ≤ length buffer.old }
+    requires room { longest_payload ≤ length buffer.old }
     requires open { tape.old.end ≡ None }
     ensures later { F.faults files.old ≤ F.faults files.new }
     ensures holds { IsTrue F.tells → F.holds files.new ≡ F.holds files.old }

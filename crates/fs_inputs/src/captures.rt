@@ -5,11 +5,8 @@ use crate::given::Given;
 use crate::tapes::buffer;
 use fs_base::{Counted, Files, MemFiles};
 use fs_cases::Fault;
-use fs_pcap::{Capture, CaptureFault, Caught};
+use fs_pcap::{Capture, CaptureFault, Caught, LONGEST_RECORD};
 use std::alloc::Global;
-
-/// The octets of the longest record of a capture.
-const RECORD: usize = 262144;
 
 /// How a capture ended, and what it answers after that.
 #[derive(Clone, Copy, Drop)]
@@ -21,7 +18,7 @@ struct Ending {
 
 /// How many records a capture gives, up to 30, and how it ends behind them.
 fn played<F: Files>(alloc: Global, files: &mut F, limit: u64) -> Result<Ending, Fault> {
-    let mut into = buffer(alloc, RECORD)?;
+    let mut into = buffer(alloc, LONGEST_RECORD)?;
     let mut capture = match Capture::begin(Counted::new(0, limit), files) {
         Ok(capture) => capture,
         Err(fault) => {
@@ -75,7 +72,7 @@ pub fn capture_text(alloc: Global, given: Given) -> Result<String, Fault> {
 pub fn record_text(alloc: Global, given: Given) -> Result<String, Fault> {
     let limit = given.limit;
     let mut files = opened(alloc, given)?;
-    let mut into = buffer(alloc, RECORD)?;
+    let mut into = buffer(alloc, LONGEST_RECORD)?;
     let mut capture = match Capture::begin(Counted::new(0, limit), &mut files) {
         Ok(capture) => capture,
         Err(fault) => return Ok(format!(in alloc; "{fault:?}")?),

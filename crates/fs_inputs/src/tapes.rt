@@ -6,7 +6,7 @@ use crate::fields::had;
 use crate::given::Given;
 use fs_base::{Address, Config, Counted, Files, MemFiles, Peer, Peers};
 use fs_cases::Fault;
-use fs_tape::{Tape, TapeFault, TapeItem};
+use fs_tape::{LONGEST_PAYLOAD, Tape, TapeFault, TapeItem};
 use std::alloc::Global;
 
 /// A buffer of this size.
@@ -44,7 +44,7 @@ struct Ending {
 /// How many items a tape gives, up to nine, and how it ends behind them.
 fn played<F: Files>(alloc: Global, files: &mut F, limit: u64) -> Result<Ending, Fault> {
     let config = config(alloc)?;
-    let mut into = buffer(alloc, 65536)?;
+    let mut into = buffer(alloc, LONGEST_PAYLOAD)?;
     let mut tape = match Tape::begin(Counted::new(0, limit), files) {
         Ok(tape) => tape,
         Err(fault) => {

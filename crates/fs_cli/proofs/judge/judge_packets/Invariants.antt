@@ -1,11 +1,12 @@
 use Rattle.std.proofs.Common.{◌≡◌, ◌≤◌, ◌-◌, length, IsTrue, None}
 use Rattle.fs_pcap.specs.Capture.{coming}
+use Rattle.fs_pcap.specs.Head.{longest_record}
 use Rattle.fs_cli.proofs.Judging.{Judging}
 use Rattle.fs_cli.proofs.judge.judge_packets.Given as goal
 
 abbrev pub invariant-packets : goal.invariant-packets
 invariant-packets g l = record {
-  room : 262144 ≤ length l.buffer;
+  room : longest_record ≤ length l.buffer;
   unended : l.capture.end ≡ None;
   slot : l.capture.slot ≡ l.fn.capture.slot;
   limit : l.capture.limit ≡ l.fn.capture.limit;

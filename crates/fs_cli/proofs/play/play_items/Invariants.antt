@@ -1,11 +1,12 @@
 use Rattle.std.proofs.Common.{◌≡◌, ◌≤◌, ◌-◌, length, IsTrue, None}
+use Rattle.fs_tape.specs.Header.{longest_payload}
 use Rattle.fs_tape.specs.Tape.{coming}
 use Rattle.fs_cli.proofs.Playing.{Playing}
 use Rattle.fs_cli.proofs.play.play_items.Given as goal
 
 abbrev pub invariant-items : goal.invariant-items
 invariant-items g l = record {
-  room : 65536 ≤ length l.buffer;
+  room : longest_payload ≤ length l.buffer;
   unended : l.tape.end ≡ None;
   slot : l.tape.slot ≡ l.fn.tape.slot;
   limit : l.tape.limit ≡ l.fn.tape.limit;
