@@ -1,5 +1,5 @@
 -- The numbers of a block are those whose first bits are the block's.
-use Rattle.std.proofs.Common.{◌≡◌, ℕ, ◌+◌, ◌-◌, ◌*◌, ◌/◌, ◌%◌, ◌^◌, ◌<◌, ◌≤◌, ◌==◌, Bool, true, false, ◌&&◌, nat_le, refl, sym, ap, subst, ◌∙◌, arith, inl, inr}
+use Rattle.std.proofs.Common.{◌≡◌, ℕ, ◌+◌, ◌-◌, ◌*◌, ◌/◌, ◌%◌, ◌^◌, ◌<◌, ◌≤◌, ◌==◌, true, ◌&&◌, nat_le, refl, sym, ap, subst, ◌∙◌, arith, inl, inr}
 use Rattle.std.proofs.Math.Nat.{add-mul, mod-eq_of_lt, mod-lt, mul-le-mul_right}
 use Rattle.std.proofs.lemmas.Nat.{div-add-mod', pow_pos}
 use Rattle.std.proofs.lemmas.Bool.{cases_lt, lt-leb}
@@ -7,7 +7,7 @@ use Rattle.fs_base.specs.declared.prefix.Family.{Family}
 use Rattle.fs_base.specs.declared.config.Address.{Address}
 use Rattle.fs_base.specs.declared.config.Address.TheVariants.{V4, V6}
 use Rattle.fs_base.specs.Bits.{cleared}
-use Rattle.fs_base.specs.Cleared.{IsBlock, block_below, block_of}
+use Rattle.fs_base.specs.Cleared.{IsBlock, block_of}
 use Rattle.fs_nlri.specs.Parts.{V4Body, V6Body}
 use Rattle.fs_nlri.specs.Sound.{IsSoundBody}
 use Rattle.fs_packet.specs.Matches.{is_prefix_of}

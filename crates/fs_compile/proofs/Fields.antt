@@ -3,11 +3,9 @@ use Rattle.std.proofs.Common.{◌≡◌, ℕ, ◌-◌, ◌^◌, ◌<◌, ◌≤�
 use Rattle.std.specs.Prelude.{Result, Ok, Err, IfOk}
 use Rattle.std.proofs.lemmas.Bool.{le-leb, leb-true, lt-leb}
 use Rattle.fs_base.specs.declared.error.Memory.{Memory}
-use Rattle.fs_ops.specs.Evaluation.{compares, holds}
 use Rattle.fs_nlri.specs.Parts.{ListBody, part}
 use Rattle.fs_packet.specs.Fields.{Viewed}
 use Rattle.fs_packet.specs.Matches.{holds_of, list_matches}
-use Rattle.fs_compile.specs.declared.facts.Facts.{Facts}
 use Rattle.fs_compile.specs.declared.numbers.Numbers.{Numbers}
 use Rattle.fs_compile.specs.declared.numbers.Numbers.TheVariants.{Ranges, Pairs}
 use Rattle.fs_compile.specs.declared.tests.Test.{Test}
@@ -15,7 +13,7 @@ use Rattle.fs_compile.specs.declared.tests.Test.TheVariants.{Within, OneOf}
 use Rattle.fs_compile.specs.Facts.{IsSmall, IsSmallField, facts_of, field_number, number_of}
 use Rattle.fs_compile.specs.Numbers.{AreNumbersOf, has, has_field, numbers_range}
 use Rattle.fs_compile.specs.Ranges.{range}
-use Rattle.fs_compile.specs.Spans.{clipped, contains, field_range, is_in}
+use Rattle.fs_compile.specs.Spans.{clipped, is_in}
 use Rattle.fs_compile.specs.Tests.{IsFieldTest, IsTestOf}
 use Rattle.fs_compile.proofs.Enclosing.{from_in}
 use Rattle.fs_compile.proofs.Truths.{and_false, less, not_less, same_truth}

@@ -1,5 +1,5 @@
 -- Ranges of a packet's fields, of which four stand within a rule.
-use Rattle.std.specs.Prelude.{◌≡◌, ℕ, ◌≤◌, ◌<◌, Bool, ◌&&◌, nat_le, [], ◌∷◌, get_or, set}
+use Rattle.std.specs.Prelude.{ℕ, Bool, ◌&&◌, nat_le, [], ◌∷◌, get_or, set}
 use Rattle.fs_compile.specs.declared.facts.Facts.{Facts}
 use Rattle.fs_compile.specs.declared.ranges.Range.{Range}
 use Rattle.fs_compile.specs.declared.ranges.Ranges.{Ranges}
