@@ -8,7 +8,7 @@ use Rattle.fs_compile.specs.Spans.{AreApart, contains, encloses, is_in}
 abbrev pub all_within : (ranges others : List (ℕ × ℕ)) → Bool
 all_within ranges others = list_all (λ range. list_any (encloses range) others) ranges
 
-both_from : (a b : Bool) → (a && b) ≡ true → (a ≡ true) × (b ≡ true)
+pub both_from : (a b : Bool) → (a && b) ≡ true → (a ≡ true) × (b ≡ true)
 both_from true true h = (refl, refl)
 both_from true false h = absurd (true≢false (sym h))
 both_from false b h = absurd (true≢false (sym h))
@@ -26,10 +26,10 @@ or_second false b h = h
 or_rest : (a b : Bool) → a ≡ false → (a || b) ≡ true → b ≡ true
 or_rest a b h e = sym (ap (λ (x : Bool). x || b) h) ∙ e
 
-from_in : (n : ℕ) (r : ℕ × ℕ) → is_in n r ≡ true → (r.0 ≤ n) × (n ≤ r.1)
+pub from_in : (n : ℕ) (r : ℕ × ℕ) → is_in n r ≡ true → (r.0 ≤ n) × (n ≤ r.1)
 from_in n r h = let b : (nat_le r.0 n ≡ true) × (nat_le n r.1 ≡ true) = both_from (nat_le r.0 n) (nat_le n r.1) h in (leb-true r.0 n b.0, leb-true n r.1 b.1)
 
-to_in : (n : ℕ) (r : ℕ × ℕ) → r.0 ≤ n → n ≤ r.1 → is_in n r ≡ true
+pub to_in : (n : ℕ) (r : ℕ × ℕ) → r.0 ≤ n → n ≤ r.1 → is_in n r ≡ true
 to_in n r low high = both_to (nat_le r.0 n) (nat_le n r.1) (le-leb r.0 n low) (le-leb n r.1 high)
 
 below_is : (n : ℕ) (r : ℕ × ℕ) → n < r.0 → is_in n r ≡ false

@@ -1,4 +1,9 @@
+pub mod Blocks
 pub mod Calm
 pub mod Enclosing
+pub mod Fields
 pub mod Growing
+pub mod Placing
+pub mod Standing
 pub mod Stretches
+pub mod Truths

@@ -1,5 +1,5 @@
 -- The fields of a packet as numbers: one that the packet doesn't have is above each that a field can have.
-use Rattle.std.specs.Prelude.{◌≡◌, ℕ, ◌^◌, ◌<◌, List, [], ◌∷◌, Option, Some, None}
+use Rattle.std.specs.Prelude.{◌≡◌, ℕ, ◌%◌, ◌^◌, ◌<◌, List, [], ◌∷◌, slice_index, Option, Some, None}
 use Rattle.fs_base.specs.declared.config.Address.{Address}
 use Rattle.fs_base.specs.declared.config.Address.TheVariants.{V4, V6}
 use Rattle.fs_packet.specs.Fields.{Viewed}
@@ -30,7 +30,23 @@ numbers_of view =
     ∷ view.dscp
     ∷ 2 ^ 32
     ∷ field_number view.flow_label
+    ∷ 2 ^ 32
+    ∷ 2 ^ 32
     ∷ []
+
+abbrev pub number_of : Facts → (field : ℕ) → ℕ
+number_of facts field = slice_index facts.numbers (field % 16)
+
+-- the facts of a packet
+abbrev pub facts_of : Viewed → Facts
+facts_of view = record {
+  family = view.family;
+  destination = view.destination;
+  source = view.source;
+  tcp_octets = view.tcp_octets;
+  fragment = view.fragment;
+  numbers = numbers_of view;
+}
 
 abbrev pub IsSmallField : Option ℕ → Type 0
 IsSmallField None = Unit {0}

@@ -1,5 +1,5 @@
 -- Sets of numbers as lists of ranges, each from a first number to a last.
-use Rattle.std.specs.Prelude.{◌≡◌, ℕ, ◌+◌, ◌-◌, ◌<◌, ◌≤◌, Bool, true, false, ◌&&◌, nat_le, List, [], ◌∷◌, ◌++◌, Option, Some, None, if◌then◌else◌}
+use Rattle.std.specs.Prelude.{ℕ, ◌+◌, ◌-◌, ◌^◌, ◌<◌, ◌≤◌, min, Bool, true, false, ◌&&◌, nat_le, nat_lt, List, [], ◌∷◌, ◌++◌, Option, Some, None, if◌then◌else◌}
 use Rattle.std.specs.List.{list_any}
 use Rattle.std.specs.Option.{unwrap_or}
 
@@ -13,11 +13,15 @@ contains ranges n = list_any (is_in n) ranges
 abbrev pub encloses : ℕ × ℕ → ℕ × ℕ → Bool
 encloses inner outer = nat_le outer.0 inner.0 && nat_le inner.1 outer.1
 
--- the one range that there is
-abbrev pub only : List (ℕ × ℕ) → Option (ℕ × ℕ)
-only [] = None
-only (range ∷ []) = Some range
-only (range ∷ next ∷ ranges) = None
+-- the numbers of a range that are below 2^32; where there are none, a first above the last
+abbrev pub clipped : (first last : ℕ) → ℕ × ℕ
+clipped first last = if nat_lt first (2 ^ 32) then (first, min last (2 ^ 32 - 1)) else (1, 0)
+
+-- the numbers below 2^32, where they are no more than one range
+abbrev pub field_range : List (ℕ × ℕ) → Option (ℕ × ℕ)
+field_range [] = Some (1, 0)
+field_range (range ∷ []) = Some (clipped range.0 range.1)
+field_range (range ∷ next ∷ ranges) = None
 
 -- ranges that begin at the number or above it, in order, with a gap before each next
 abbrev pub AreApart : ℕ → List (ℕ × ℕ) → Type 0

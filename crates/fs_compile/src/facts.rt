@@ -1,13 +1,13 @@
 //! The fields of a packet, read once.
 
 ghost use Rattle.std.specs.Prelude.{◌≡◌, ◌<◌, ◌^◌};
-ghost use Rattle.fs_compile.specs.Facts.{AreFacts, IsSmallAddress, IsSmallField, address_number, field_number};
+ghost use Rattle.fs_compile.specs.Facts.{AreFacts, IsSmallAddress, IsSmallField, address_number, field_number, number_of};
 
 use fs_base::{Address, Family};
 use fs_packet::View;
 
 /// Above each number that a field can have: what stands for a field that the packet doesn't have.
-const ABSENT: u64 = 1 << 32;
+pub(crate) const ABSENT: u64 = 1 << 32;
 
 /// The fields that a rule is tested on, read from a packet once.
 #[derive(Drop)]
@@ -19,7 +19,7 @@ pub(crate) struct Facts {
     pub(crate) fragment: u8,
     /// By the type of the component that tests it; at 1 and 2 the addresses of IPv4. Where the packet doesn't have the
     /// field, or the type's test isn't one of a single number, `ABSENT`; at 0 always 0.
-    pub(crate) numbers: [u64; 14],
+    numbers: [u64; 16],
 }
 
 impl Facts {
@@ -50,8 +50,18 @@ impl Facts {
                 view.dscp().into(),
                 ABSENT,
                 label(view.flow_label()),
+                ABSENT,
+                ABSENT,
             ],
         }
+    }
+
+    /// The number of the field that a component of the type tests.
+    pub(crate) fn number(&self, field: u8) -> u64
+        ensures { result ≡ number_of self.now field }
+    {
+        // no type is above 13: the remainder spares the test of the index
+        self.numbers[field as usize % 16]
     }
 }
 

@@ -1,30 +1,44 @@
 //! A rule compiled for packets.
 
-ghost use Rattle.std.specs.Prelude.{◌≡◌, ◌+◌, IfOk};
+ghost use Rattle.std.specs.Prelude.{◌≡◌, ◌+◌, ◌≤◌, IfOk, OnOk, ℕ};
+ghost use Rattle.std.specs.List.{list_all};
+ghost use Rattle.fs_nlri.specs.Component.{parts_of};
 ghost use Rattle.fs_nlri.specs.Parts.{Ruled};
+ghost use Rattle.fs_nlri.specs.Sound.{AreSound};
 ghost use Rattle.fs_packet.specs.Matches.{is_match};
 ghost use Rattle.fs_compile.specs.Facts.{AreFacts, IsSmall};
-ghost use Rattle.fs_compile.specs.Fast.{StandsFor, fast_holds};
+ghost use Rattle.fs_compile.specs.Fast.{AreFree, AreTestsOf, IsPlaced, StandsFor, fast_holds, holds_of_facts};
+ghost use Rattle.fs_compile.specs.Tests.{passes};
 
+use crate::components::test_of;
 use crate::facts::Facts;
-use fs_base::{Memory, Steps};
-use fs_nlri::Rule;
-use fs_packet::{View, matches};
+use crate::ranges::{PLACES, Ranges};
+use crate::tests::Test;
+use fs_base::{Family, Memory, Steps};
+use fs_nlri::{Component, Rule};
+use fs_packet::View;
 use std::alloc::Global;
 use std::sync::ledger::Ledger;
 
-/// A rule in the form in which it is tested fastest.
+/// A rule in the form in which it is tested fastest: its first four ranges stand within it, and its other tests behind.
 #[derive(Drop)]
 pub struct Fast {
-    rule: Rule,
+    family: Family,
+    ranges: Ranges,
+    tests: Vec<Test>,
 }
 
 impl Fast {
     /// Compiles the rule.
-    pub fn of(_alloc: Global, rule: &Rule) -> Result<Fast, Memory>
+    pub fn of(alloc: Global, rule: &Rule) -> Result<Fast, Memory>
         ensures { IfOk result (StandsFor rule.now) }
     {
-        Ok(Fast { rule: rule.copy()? })
+        let (ranges, tests) = tests_of(alloc, rule.components())?;
+        Ok(Fast {
+            family: rule.family(),
+            ranges,
+            tests,
+        })
     }
 
     /// Whether the rule that it stands for matches the packet (RFC 8955 section 4.2); counts one step.
@@ -40,16 +54,69 @@ impl Fast {
     /// The same over the packet's fields, so that they are read once for all rules.
     pub(crate) fn test_facts<L: Ledger>(
         &self,
-        view: &View<'_>,
+        _view: &View<'_>,
         facts: &Facts,
         steps: &mut Steps<L>,
     ) -> bool
-        requires { AreFacts view.now facts.now }
-        ensures holds { result ≡ fast_holds view.now self.now }
+        requires { AreFacts _view.now facts.now }
+        ensures holds { result ≡ fast_holds _view.now self.now }
         ensures step { steps.new ≡ steps.old + 1 }
     {
-        let _facts = facts;
         steps.take();
-        matches(&self.rule, view)
+        self.holds(facts)
     }
+
+    fn holds(&self, facts: &Facts) -> bool
+        ensures { result ≡ holds_of_facts facts.now self.now }
+    {
+        self.family == facts.family && self.ranges.hold(facts) && all_pass(&self.tests, facts)
+    }
+}
+
+fn all_pass(tests: &[Test], facts: &Facts) -> bool
+    ensures { result ≡ list_all (passes facts.now) tests.now }
+{
+    for test in tests {
+        if !test.passes(facts) {
+            return false;
+        }
+    }
+    true
+}
+
+/// The tests of the components: the first ranges, and what doesn't stand among them.
+fn tests_of(alloc: Global, components: &[Component]) -> Result<(Ranges, Vec<Test>), Memory>
+    requires { AreSound (parts_of components.now) }
+    ensures { IfOk result (λ made. AreTestsOf (parts_of components.now) made.0 made.1.items) }
+{
+    let mut ranges = Ranges::free();
+    let mut used = 0;
+    let mut tests = Vec::new(alloc);
+    for component in components {
+        let test = test_of(alloc, component)?;
+        used = place(&mut ranges, used, &mut tests, test)?;
+    }
+    Ok((ranges, tests))
+}
+
+/// Puts the test into the first free place, if it's a range and one is free, else behind the others. Answers how many
+/// places are taken.
+fn place(
+    ranges: &mut Ranges,
+    used: usize,
+    tests: &mut Vec<Test>,
+    test: Test,
+) -> Result<usize, Memory>
+    requires { AreFree used ranges.old }
+    ensures placed { IfOk result (λ next. IsPlaced test ranges.old tests.old.items ranges.new tests.new.items) }
+    ensures free { IfOk result (λ next. AreFree next ranges.new) }
+{
+    if used < PLACES
+        && let Some(range) = test.range()
+    {
+        ranges.put(used, range);
+        return Ok(used + 1);
+    }
+    tests.push(test)?;
+    Ok(used)
 }

@@ -3,8 +3,9 @@
 ghost use Rattle.std.specs.Prelude.{◌≡◌, ◌↔◌, ℕ, ◌+◌, ◌^◌, ◌<◌, ◌≤◌, IsTrue, IfOk, IfSome, OnOk, true, length, get_or};
 ghost use Rattle.std.specs.List.{list_all, list_any};
 ghost use Rattle.fs_ops.specs.Evaluation.{compares, holds};
-ghost use Rattle.fs_compile.specs.Spans.{IsCalm, begun_with, closed_with, contains, encloses, only};
+ghost use Rattle.fs_compile.specs.Spans.{IsCalm, begun_with, clipped, closed_with, contains, encloses, field_range};
 
+use crate::facts::ABSENT;
 use fs_base::Memory;
 use fs_ops::NumList;
 use std::alloc::Global;
@@ -65,14 +66,27 @@ impl Spans {
         all_enclosed(&self.ranges, &other.ranges)
     }
 
-    /// The first and the last number, where they and all between them are the numbers.
-    pub fn only(&self) -> Option<(u64, u64)>
-        ensures { result ≡ only self.now }
+    /// Of the numbers below 2^32, which fields have, the first and the last, where they and all between are these; where
+    /// none are, a first above the last. None where they are more than one range.
+    pub(crate) fn range(&self) -> Option<(u32, u32)>
+        ensures { result ≡ field_range self.now }
     {
         match self.ranges.as_slice() {
-            [range] => Some(*range),
+            [] => Some((1, 0)),
+            [(first, last)] => Some(clipped(*first, *last)),
             _ => None,
         }
+    }
+}
+
+/// The numbers of a range that are below 2^32; where there are none, a first above the last.
+fn clipped(first: u64, last: u64) -> (u32, u32)
+    ensures { result ≡ clipped first last }
+{
+    if first < ABSENT {
+        (first as u32, last.min(ABSENT - 1) as u32)
+    } else {
+        (1, 0)
     }
 }
 

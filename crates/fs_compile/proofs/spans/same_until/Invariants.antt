@@ -1,4 +1,4 @@
-use Rattle.std.proofs.Common.{◌≡◌, ℕ, ◌<◌, ◌≤◌, get_or, List}
+use Rattle.std.proofs.Common.{ℕ, ◌<◌, ◌≤◌, get_or, List}
 use Rattle.fs_compile.specs.Spans.{IsCalm}
 use Rattle.fs_compile.proofs.spans.same_until.Given as goal
 

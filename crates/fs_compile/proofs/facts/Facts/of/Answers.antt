@@ -24,6 +24,8 @@ returns c = record {
       ∷ (c.into-2.ensures ∙ c.dscp.ensures) i
       ∷ 2 ^ 32
       ∷ (c.label.ensures.value ∙ ap field_number c.flow_label.ensures) i
+      ∷ 2 ^ 32
+      ∷ 2 ^ 32
       ∷ [];
   small = record {
     destination = subst IsSmallAddress c.destination-destination.ensures.value c.address_number.ensures.small;

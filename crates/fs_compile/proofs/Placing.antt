@@ -1,0 +1,155 @@
+-- One test more of a rule, in a free place among its ranges or behind them.
+use Rattle.std.proofs.Common.{◌≡◌, ◌≢◌, ℕ, zero, suc, ◌+◌, ◌<◌, ◌≤◌, List, [], ◌∷◌, ◌++◌, length, drop, get_or, set, Bool, true, false, ◌&&◌, nat_le, Some, refl, sym, ap, subst, ◌∙◌, arith}
+use Rattle.std.specs.List.{list_all}
+use Rattle.std.proofs.Math.ListN.{length-set}
+use Rattle.std.proofs.Math.Seq.{drop-cons}
+use Rattle.std.proofs.lemmas.List.{drop_all, get_or-set_other, get_or-set_same}
+use Rattle.std.proofs.lemmas.List.Folds.{list_all-append}
+use Rattle.fs_nlri.specs.declared.component.Component.{Component}
+use Rattle.fs_nlri.specs.Component.{part_of, parts_of}
+use Rattle.fs_nlri.specs.Sound.{AreSound}
+use Rattle.fs_packet.specs.Fields.{Viewed}
+use Rattle.fs_packet.specs.Matches.{part_matches}
+use Rattle.fs_compile.specs.declared.facts.Facts.{Facts}
+use Rattle.fs_compile.specs.declared.ranges.Range.{Range}
+use Rattle.fs_compile.specs.declared.ranges.Ranges.{Ranges}
+use Rattle.fs_compile.specs.declared.tests.Test.{Test}
+use Rattle.fs_compile.specs.declared.tests.Test.TheVariants.{Within, OneOf, Ports, TcpFlags, Fragment, Destination, Source}
+use Rattle.fs_compile.specs.Facts.{AreFacts, IsSmall, facts_of, number_of}
+use Rattle.fs_compile.specs.Fast.{AreFree, AreTestsOf, IsPlaced, all_pass}
+use Rattle.fs_compile.specs.Ranges.{bounds_at, field_at, free_ranges, is_in_range, range_at, range_holds, ranges_hold, with_range}
+use Rattle.fs_compile.specs.Tests.{IsTestOf, passes, test_range}
+use Rattle.fs_compile.proofs.Truths.{and_assoc, and_flip, and_swap, and_true}
+
+first_of_four : (a b c d x : Bool) → a ≡ true → (x && (b && (c && d))) ≡ ((a && (b && (c && d))) && x)
+first_of_four a b c d x h = and_flip x (b && (c && d)) ∙ sym (ap (λ (a : Bool). (a && (b && (c && d))) && x) h)
+
+second_of_four : (a b c d x : Bool) → b ≡ true → (a && (x && (c && d))) ≡ ((a && (b && (c && d))) && x)
+second_of_four true b c d x h = and_flip x (c && d) ∙ sym (ap (λ (b : Bool). (b && (c && d)) && x) h)
+second_of_four false b c d x h = refl
+
+third_of_four : (a b c d x : Bool) → c ≡ true → (a && (b && (x && d))) ≡ ((a && (b && (c && d))) && x)
+third_of_four true true c d x h = and_flip x d ∙ sym (ap (λ (c : Bool). (c && d) && x) h)
+third_of_four true false c d x h = refl
+third_of_four false b c d x h = refl
+
+fourth_of_four : (a b c d x : Bool) → d ≡ true → (a && (b && (c && x))) ≡ ((a && (b && (c && d))) && x)
+fourth_of_four true true true d x h = sym (ap (λ (d : Bool). d && x) h)
+fourth_of_four true true false d x h = refl
+fourth_of_four true false c d x h = refl
+fourth_of_four false b c d x h = refl
+
+one_of_four : (place : ℕ) (old new : ℕ → Bool) (x : Bool) → place < 4 → new place ≡ x → old place ≡ true → ((k : ℕ) → k ≢ place → new k ≡ old k)
+    → (new 0 && (new 1 && (new 2 && new 3))) ≡ ((old 0 && (old 1 && (old 2 && old 3))) && x)
+one_of_four zero old new x below here free others =
+    (λ i. here i && (others 1 (λ e. omega arith) i && (others 2 (λ e. omega arith) i && others 3 (λ e. omega arith) i)))
+    ∙ first_of_four (old 0) (old 1) (old 2) (old 3) x free
+one_of_four (suc zero) old new x below here free others =
+    (λ i. others 0 (λ e. omega arith) i && (here i && (others 2 (λ e. omega arith) i && others 3 (λ e. omega arith) i)))
+    ∙ second_of_four (old 0) (old 1) (old 2) (old 3) x free
+one_of_four (suc (suc zero)) old new x below here free others =
+    (λ i. others 0 (λ e. omega arith) i && (others 1 (λ e. omega arith) i && (here i && others 3 (λ e. omega arith) i)))
+    ∙ third_of_four (old 0) (old 1) (old 2) (old 3) x free
+one_of_four (suc (suc (suc zero))) old new x below here free others =
+    (λ i. others 0 (λ e. omega arith) i && (others 1 (λ e. omega arith) i && (others 2 (λ e. omega arith) i && here i)))
+    ∙ fourth_of_four (old 0) (old 1) (old 2) (old 3) x free
+one_of_four (suc (suc (suc (suc n)))) old new x below here free others = absurd (omega arith)
+
+range_is : (facts : Facts) (test : Test) (range : Range) → test_range test ≡ Some range → passes facts test ≡ range_holds facts range
+range_is facts (Within inner) range h = let same : inner ≡ range = cc in ap (range_holds facts) same
+range_is facts (OneOf field numbers) range h = cc
+range_is facts (Ports numbers) range h = cc
+range_is facts (TcpFlags pairs) range h = cc
+range_is facts (Fragment pairs) range h = cc
+range_is facts (Destination pattern) range h = cc
+range_is facts (Source pattern) range h = cc
+
+free_holds : (facts : Facts) (ranges : Ranges) (place : ℕ) → number_of facts 0 ≡ 0 → field_at ranges place ≡ 0 → bounds_at ranges place ≡ (0, 0) → range_at facts ranges place ≡ true
+free_holds facts ranges place none field bounds =
+    (λ i. is_in_range facts (field i) (bounds i).0 (bounds i).1) ∙ ap (λ (n : ℕ). nat_le 0 n && nat_le n 0) none
+
+here_holds : (facts : Facts) (ranges : Ranges) (place : ℕ) (range : Range) → place < length ranges.fields → place < length ranges.bounds → range_at facts (with_range ranges place range) place ≡ range_holds facts range
+here_holds facts ranges place range fields bounds =
+    let field : get_or (set ranges.fields place range.field) place 0 ≡ range.field = get_or-set_same ranges.fields place range.field 0 fields in
+    let bound : get_or (set ranges.bounds place (range.low, range.high)) place (0, 0) ≡ (range.low, range.high) = get_or-set_same ranges.bounds place (range.low, range.high) (0, 0) bounds in
+    (λ i. is_in_range facts (field i) (bound i).0 (bound i).1)
+
+other_field : (ranges : Ranges) (place k : ℕ) (range : Range) → k ≢ place → field_at (with_range ranges place range) k ≡ field_at ranges k
+other_field ranges place k range apart = get_or-set_other ranges.fields place k range.field 0 apart
+
+other_bounds : (ranges : Ranges) (place k : ℕ) (range : Range) → k ≢ place → bounds_at (with_range ranges place range) k ≡ bounds_at ranges k
+other_bounds ranges place k range apart = get_or-set_other ranges.bounds place k (range.low, range.high) (0, 0) apart
+
+pub put_placed : (ranges new : Ranges) (place : ℕ) (range : Range) (tests : List Test) (test : Test) → place < 4 → AreFree place ranges → test_range test ≡ Some range → new ≡ with_range ranges place range
+    → IsPlaced test ranges tests new tests
+put_placed ranges new place range tests test below free is made = λ facts none.
+    let four : ranges_hold facts (with_range ranges place range) ≡ (ranges_hold facts ranges && range_holds facts range) =
+    one_of_four place (range_at facts ranges) (range_at facts (with_range ranges place range)) (range_holds facts range) below (here_holds facts ranges place range (subst (λ (n : ℕ). place < n) (sym free.fields) below) (subst (λ (n : ℕ). place < n) (sym free.bounds) below))
+    (free_holds facts ranges place none (free.free place (omega arith) below).0 (free.free place (omega arith) below).1)
+    (λ k apart i. is_in_range facts (other_field ranges place k range apart i) (other_bounds ranges place k range apart i).0 (other_bounds ranges place k range apart i).1) in
+    (λ i. ranges_hold facts (made i) && list_all (passes facts) tests)
+    ∙ ap (λ (b : Bool). b && list_all (passes facts) tests) (four ∙ sym (ap (λ (b : Bool). ranges_hold facts ranges && b) (range_is facts test range is)))
+    ∙ and_swap (ranges_hold facts ranges) (passes facts test) (list_all (passes facts) tests)
+
+placed_free : (ranges : Ranges) (place : ℕ) (range : Range) → AreFree place ranges → AreFree (place + 1) (with_range ranges place range)
+placed_free ranges place range free = record {
+  fields = length-set ranges.fields place range.field ∙ free.fields;
+  bounds = length-set ranges.bounds place (range.low, range.high) ∙ free.bounds;
+  free = λ k low high. (other_field ranges place k range (λ e. omega arith) ∙ (free.free k (omega arith) high).0, other_bounds ranges place k range (λ e. omega arith) ∙ (free.free k (omega arith) high).1);
+}
+
+pub put_free : (ranges new : Ranges) (place : ℕ) (range : Range) → AreFree place ranges → new ≡ with_range ranges place range → AreFree (place + 1) new
+put_free ranges new place range free made = subst (λ (r : Ranges). AreFree (place + 1) r) (sym made) (placed_free ranges place range free)
+
+pub push_placed : (ranges : Ranges) (tests more : List Test) (test : Test) → more ≡ tests ++ test ∷ [] → IsPlaced test ranges tests ranges more
+push_placed ranges tests more test made = λ facts none.
+    ap (λ (all : List Test). ranges_hold facts ranges && list_all (passes facts) all) made
+    ∙ ap (λ (b : Bool). ranges_hold facts ranges && b) (list_all-append (passes facts) tests (test ∷ []) ∙ ap (λ (b : Bool). list_all (passes facts) tests && b) (and_true (passes facts test)))
+    ∙ sym (and_assoc (ranges_hold facts ranges) (list_all (passes facts) tests) (passes facts test))
+
+-- the components before the index are compiled
+pub record Compiling (components : List Component) (index used : ℕ) (ranges : Ranges) (tests : List Test) : Type 0 where
+  pub sound : AreSound (parts_of (drop index components))
+  pub free : AreFree used ranges
+  pub said : (view : Viewed) → IsSmall view → (all_pass (facts_of view) ranges tests && list_all (part_matches view) (parts_of (drop index components))) ≡ list_all (part_matches view) (parts_of components)
+
+pub compiled_more : (components : List Component) (i j used next : ℕ) (component : Component) (ranges new : Ranges) (tests more : List Test) (test : Test) → drop i components ≡ component ∷ drop j components
+    → Compiling components i used ranges tests → IsTestOf (part_of component) test → IsPlaced test ranges tests new more → AreFree next new → Compiling components j next new more
+compiled_more components i j used next component ranges new tests more test split h is placed free =
+    let all : AreSound (parts_of (component ∷ drop j components)) = subst (λ (cs : List Component). AreSound (parts_of cs)) split h.sound in
+    record {
+      sound = all.1;
+      free = free;
+      said = λ view small.
+          ap (λ (b : Bool). b && list_all (part_matches view) (parts_of (drop j components))) (placed (facts_of view) refl ∙ ap (λ (b : Bool). all_pass (facts_of view) ranges tests && b) (is view small))
+          ∙ and_assoc (all_pass (facts_of view) ranges tests) (part_matches view (part_of component)) (list_all (part_matches view) (parts_of (drop j components)))
+          ∙ sym (ap (λ (cs : List Component). all_pass (facts_of view) ranges tests && list_all (part_matches view) (parts_of cs)) split)
+          ∙ h.said view small;
+    }
+
+pub compiled_all : (components : List Component) (i used : ℕ) (ranges : Ranges) (tests : List Test) → length components ≤ i → Compiling components i used ranges tests → AreTestsOf (parts_of components) ranges tests
+compiled_all components i used ranges tests end h = λ view small.
+    sym (and_true (all_pass (facts_of view) ranges tests))
+    ∙ sym (ap (λ (cs : List Component). all_pass (facts_of view) ranges tests && list_all (part_matches view) (parts_of cs)) (drop_all i components end))
+    ∙ h.said view small
+
+pub facts_are : (view : Viewed) (facts : Facts) → AreFacts view facts → facts ≡ facts_of view
+facts_are view facts h = λ i. record { family = h.family i; destination = h.destination i; source = h.source i; tcp_octets = h.tcp_octets i; fragment = h.fragment i; numbers = h.numbers i }
+
+all_free : (k : ℕ) → 0 ≤ k → k < 4 → (field_at free_ranges k ≡ 0) × (bounds_at free_ranges k ≡ (0, 0))
+all_free zero low high = (refl, refl)
+all_free (suc zero) low high = (refl, refl)
+all_free (suc (suc zero)) low high = (refl, refl)
+all_free (suc (suc (suc zero))) low high = (refl, refl)
+all_free (suc (suc (suc (suc k)))) low high = absurd (omega arith)
+
+pub compiled_none : (components : List Component) (ranges : Ranges) (tests : List Test) → ranges ≡ free_ranges → tests ≡ [] → AreSound (parts_of components) → Compiling components 0 0 ranges tests
+compiled_none components ranges tests free empty sound =
+    subst (λ (r : Ranges). Compiling components 0 0 r tests) (sym free)
+    (subst (λ (all : List Test). Compiling components 0 0 free_ranges all) (sym empty)
+    (record { sound = sound; free = record { fields = refl; bounds = refl; free = all_free }; said = λ view small. refl }))
+
+pub at_index : (components : List Component) (i j : ℕ) (component : Component) → component ≡ get_or components i component → i < length components → j ≡ i + 1 → drop i components ≡ component ∷ drop j components
+at_index components i j component e below one =
+    let next : suc i ≡ j = omega arith in
+    drop-cons components i component below ∙ (λ k. sym e k ∷ drop (next k) components)

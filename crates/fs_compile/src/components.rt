@@ -1,0 +1,103 @@
+//! The tests of a rule's components.
+
+ghost use Rattle.std.specs.Prelude.{◌≡◌, IfOk};
+ghost use Rattle.fs_base.specs.Prefix.{last_address};
+ghost use Rattle.fs_nlri.specs.Component.{body_of, part_of};
+ghost use Rattle.fs_nlri.specs.Parts.{V4Body, V6Body, part};
+ghost use Rattle.fs_nlri.specs.Sound.{IsSoundBody};
+ghost use Rattle.fs_compile.specs.Ranges.{range};
+ghost use Rattle.fs_compile.specs.Tests.{IsFieldTest, IsPatternOf, IsTestOf};
+
+use crate::numbers::Numbers;
+use crate::pattern::Pattern;
+use crate::ranges::Range;
+use crate::tests::Test;
+use fs_base::{Family, Memory, Prefix};
+use fs_nlri::{Component, PrefixForm};
+use fs_ops::NumList;
+use std::alloc::Global;
+
+/// The test that packets pass which the component matches.
+pub(crate) fn test_of(alloc: Global, component: &Component) -> Result<Test, Memory>
+    requires { IsSoundBody (part_of component.now).body }
+    ensures { IfOk result (IsTestOf (part_of component.now)) }
+{
+    match component {
+        Component::Destination(form) => Ok(destination_test(form)),
+        Component::Source(form) => Ok(source_test(form)),
+        Component::Protocol(list) => field_test(alloc, 3, list),
+        Component::Port(list) => Ok(Test::Ports(Numbers::of(alloc, list)?)),
+        Component::DestinationPort(list) => field_test(alloc, 5, list),
+        Component::SourcePort(list) => field_test(alloc, 6, list),
+        Component::IcmpType(list) => field_test(alloc, 7, list),
+        Component::IcmpCode(list) => field_test(alloc, 8, list),
+        Component::TcpFlags(list) => Ok(Test::TcpFlags(list.copy()?)),
+        Component::PacketLength(list) => field_test(alloc, 10, list),
+        Component::Dscp(list) => field_test(alloc, 11, list),
+        Component::Fragment(list) => Ok(Test::Fragment(list.copy()?)),
+        Component::FlowLabel(list) => field_test(alloc, 13, list),
+    }
+}
+
+fn destination_test(form: &PrefixForm) -> Test
+    requires { IsSoundBody (body_of form.now) }
+    ensures { IsTestOf (part 1 (body_of form.now)) result }
+{
+    match form {
+        PrefixForm::V4(prefix) => Test::Within(prefix_range(1, prefix)),
+        PrefixForm::V6 {
+            length,
+            offset,
+            pattern,
+        } => Test::Destination(pattern_of(*length, *offset, *pattern)),
+    }
+}
+
+fn source_test(form: &PrefixForm) -> Test
+    requires { IsSoundBody (body_of form.now) }
+    ensures { IsTestOf (part 2 (body_of form.now)) result }
+{
+    match form {
+        PrefixForm::V4(prefix) => Test::Within(prefix_range(2, prefix)),
+        PrefixForm::V6 {
+            length,
+            offset,
+            pattern,
+        } => Test::Source(pattern_of(*length, *offset, *pattern)),
+    }
+}
+
+/// The addresses under a prefix of IPv4.
+fn prefix_range(field: u8, prefix: &Prefix) -> Range
+    requires { IsSoundBody (V4Body prefix.now.family prefix.now.length prefix.now.bits) }
+    ensures { result ≡ range field prefix.now.bits (last_address prefix.now) }
+{
+    Range {
+        field,
+        low: prefix.bits as u32,
+        high: prefix.last() as u32,
+    }
+}
+
+fn pattern_of(length: u8, offset: u8, pattern: u128) -> Pattern
+    requires { IsSoundBody (V6Body length offset pattern) }
+    ensures { IsPatternOf length offset pattern result }
+{
+    let prefix = Prefix::of_bits(Family::V6, pattern, length - offset);
+    Pattern {
+        low: prefix.bits,
+        high: prefix.last(),
+        offset,
+    }
+}
+
+/// The test of a list by the field of the type: a range, where the numbers are one.
+fn field_test(alloc: Global, field: u8, list: &NumList) -> Result<Test, Memory>
+    ensures { IfOk result (IsFieldTest field list.now) }
+{
+    let numbers = Numbers::of(alloc, list)?;
+    match numbers.range() {
+        Some((low, high)) => Ok(Test::Within(Range { field, low, high })),
+        None => Ok(Test::OneOf(field, numbers)),
+    }
+}

@@ -1,0 +1,58 @@
+//! The numbers that a list holds of, for the tests of many packets.
+
+ghost use Rattle.std.specs.Prelude.{◌≡◌, IfOk};
+ghost use Rattle.fs_compile.specs.Numbers.{AreNumbersOf, has, has_field, numbers_range};
+
+use crate::facts::ABSENT;
+use crate::spans::Spans;
+use fs_base::Memory;
+use fs_ops::NumList;
+use std::alloc::Global;
+
+/// A list of more pairs is kept as it is: its ranges take time by the square of the pairs.
+const MOST_PAIRS: usize = 64;
+
+/// The numbers that a list holds of.
+#[derive(Drop)]
+pub(crate) enum Numbers {
+    Ranges(Spans),
+    Pairs(NumList),
+}
+
+impl Numbers {
+    pub(crate) fn of(alloc: Global, list: &NumList) -> Result<Numbers, Memory>
+        ensures { IfOk result (AreNumbersOf list.now) }
+    {
+        if list.pairs().len() > MOST_PAIRS {
+            return Ok(Numbers::Pairs(list.copy()?));
+        }
+        Ok(Numbers::Ranges(Spans::of(alloc, list)?))
+    }
+
+    /// Whether the number is one of these.
+    fn contains(&self, number: u64) -> bool
+        ensures { result ≡ has self.now number }
+    {
+        match self {
+            Numbers::Ranges(spans) => spans.contains(number),
+            Numbers::Pairs(list) => list.eval(number),
+        }
+    }
+
+    /// Whether the number is one of a field that is there, and one of these.
+    pub(crate) fn contains_field(&self, number: u64) -> bool
+        ensures { result ≡ has_field self.now number }
+    {
+        number < ABSENT && self.contains(number)
+    }
+
+    /// The first and the last of the numbers of fields, where they are one range; see `Spans::range`.
+    pub(crate) fn range(&self) -> Option<(u32, u32)>
+        ensures { result ≡ numbers_range self.now }
+    {
+        match self {
+            Numbers::Ranges(spans) => spans.range(),
+            Numbers::Pairs(_) => None,
+        }
+    }
+}

@@ -1,0 +1,79 @@
+//! Ranges of a packet's fields.
+
+ghost use Rattle.std.specs.Prelude.{◌≡◌, ℕ, ◌<◌};
+ghost use Rattle.fs_compile.specs.Ranges.{is_in_range, free_ranges, range_at, range_holds, ranges_hold, with_range};
+
+use crate::facts::Facts;
+
+/// From which number to which a field lies. No absent field's does: its number is above each `high`.
+#[derive(Clone, Copy)]
+pub(crate) struct Range {
+    /// The type of the component.
+    pub(crate) field: u8,
+    pub(crate) low: u32,
+    pub(crate) high: u32,
+}
+
+impl Range {
+    pub(crate) fn holds(&self, facts: &Facts) -> bool
+        ensures { result ≡ range_holds facts.now self.now }
+    {
+        is_in_range(self.field, self.low, self.high, facts)
+    }
+}
+
+/// How many ranges stand within a rule.
+pub(crate) const PLACES: usize = 4;
+
+/// The four ranges that stand within a rule. In a free place stands that of field 0 from 0 to 0, which always holds, so
+/// that the places are tested without a count. The fields stand apart from the bounds, so that they take no padding.
+#[derive(Drop)]
+pub(crate) struct Ranges {
+    fields: [u8; 4],
+    bounds: [(u32, u32); 4],
+}
+
+impl Ranges {
+    /// All places free.
+    pub(crate) fn free() -> Ranges
+        ensures { result ≡ free_ranges }
+    {
+        Ranges {
+            fields: [0; 4],
+            bounds: [(0, 0); 4],
+        }
+    }
+
+    pub(crate) fn put(&mut self, place: usize, range: Range)
+        requires { place < 4 }
+        ensures { self.new ≡ with_range self.old place range }
+    {
+        self.fields[place] = range.field;
+        self.bounds[place] = (range.low, range.high);
+    }
+
+    /// Whether all four hold.
+    pub(crate) fn hold(&self, facts: &Facts) -> bool
+        ensures { result ≡ ranges_hold facts.now self.now }
+    {
+        self.holds_at(0, facts)
+            && self.holds_at(1, facts)
+            && self.holds_at(2, facts)
+            && self.holds_at(3, facts)
+    }
+
+    fn holds_at(&self, place: usize, facts: &Facts) -> bool
+        requires { place < 4 }
+        ensures { result ≡ range_at facts.now self.now place }
+    {
+        let (low, high) = self.bounds[place];
+        is_in_range(self.fields[place], low, high, facts)
+    }
+}
+
+fn is_in_range(field: u8, low: u32, high: u32, facts: &Facts) -> bool
+    ensures { result ≡ is_in_range facts.now field low high }
+{
+    let number = facts.number(field);
+    low as u64 <= number && number <= high as u64
+}

@@ -1,0 +1,83 @@
+//! The test of one component.
+
+ghost use Rattle.std.specs.Prelude.{◌≡◌};
+ghost use Rattle.fs_compile.specs.Tests.{flags_pass, is_under, passes, test_range};
+
+use crate::facts::Facts;
+use crate::numbers::Numbers;
+use crate::pattern::Pattern;
+use crate::ranges::Range;
+use fs_base::Address;
+use fs_ops::MaskList;
+
+/// What a component asks of a packet's fields.
+#[derive(Drop)]
+pub(crate) enum Test {
+    /// A field lies in the range; prefixes of IPv4 are ranges too.
+    Within(Range),
+    /// The field of the type is one of the numbers.
+    OneOf(u8, Numbers),
+    /// The source port or the destination port is one of the numbers.
+    Ports(Numbers),
+    TcpFlags(MaskList),
+    Fragment(MaskList),
+    /// Bits of an IPv6 address.
+    Destination(Pattern),
+    Source(Pattern),
+}
+
+impl Test {
+    pub(crate) fn passes(&self, facts: &Facts) -> bool
+        ensures { result ≡ passes facts.now self.now }
+    {
+        match self {
+            Test::Within(range) => range.holds(facts),
+            Test::OneOf(field, numbers) => numbers.contains_field(facts.number(*field)),
+            Test::Ports(numbers) => {
+                numbers.contains_field(facts.number(6)) || numbers.contains_field(facts.number(5))
+            }
+            Test::TcpFlags(list) => flags_pass(list, facts.tcp_octets),
+            Test::Fragment(list) => list.eval(facts.fragment.into()),
+            Test::Destination(pattern) => is_under(pattern, facts.destination),
+            Test::Source(pattern) => is_under(pattern, facts.source),
+        }
+    }
+
+    /// The range, where the test is one.
+    pub(crate) fn range(&self) -> Option<Range>
+        ensures { result ≡ test_range self.now }
+    {
+        match self {
+            Test::Within(range) => Some(*range),
+            Test::OneOf(_, _) => None,
+            Test::Ports(_) => None,
+            Test::TcpFlags(_) => None,
+            Test::Fragment(_) => None,
+            Test::Destination(_) => None,
+            Test::Source(_) => None,
+        }
+    }
+}
+
+/// Whether the list holds of the TCP flags. A value of one octet has no bits above the flags' octet, so one number
+/// serves values of either width.
+fn flags_pass(list: &MaskList, octets: Option<u16>) -> bool
+    ensures { result ≡ flags_pass list.now octets }
+{
+    match octets {
+        Some(octets) => list.eval((octets & 0x0fff).into()),
+        None => false,
+    }
+}
+
+fn is_under(pattern: &Pattern, address: Address) -> bool
+    ensures { result ≡ is_under pattern.now address }
+{
+    match address {
+        Address::V4(_) => false,
+        Address::V6(address) => {
+            let bits = address << pattern.offset;
+            pattern.low <= bits && bits <= pattern.high
+        }
+    }
+}
