@@ -7,3 +7,11 @@ pub mod Placing
 pub mod Standing
 pub mod Stretches
 pub mod Truths
+pub mod Counts
+pub mod Climbing
+pub mod Finding
+pub mod Running
+pub mod Reaching
+pub mod Nesting
+pub mod Indexing
+pub mod Walking

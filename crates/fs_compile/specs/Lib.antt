@@ -4,3 +4,10 @@ pub mod Numbers
 pub mod Ranges
 pub mod Spans
 pub mod Tests
+pub mod Addresses
+pub mod Buckets
+pub mod Search
+pub mod Runs
+pub mod Reach
+pub mod Index
+pub mod Matcher

@@ -1,14 +1,23 @@
-//! Rules compiled for packets: a rule as ranges of a packet's fields, and lists of numbers as ranges.
+//! Rules compiled for packets: lists of numbers as ranges, a rule as ranges of a packet's fields, and the rules of a
+//! table in buckets of one destination, so that a packet is tried against those alone whose destination holds it.
 #![tactic(auto)]
 
+mod addresses;
+mod buckets;
+mod compiled;
 mod components;
 mod facts;
 mod fast;
+mod index;
+mod nodes;
 mod numbers;
 mod pattern;
 mod ranges;
+mod runs;
+mod search;
 mod spans;
 mod tests;
 
+pub use compiled::{Compiled, walks_by_next};
 pub use fast::Fast;
 pub use spans::Spans;
