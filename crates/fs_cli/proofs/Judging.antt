@@ -6,8 +6,6 @@ use Rattle.fs_base.specs.Parts.{with_part}
 use Rattle.fs_base.specs.Records.{End, done}
 use Rattle.fs_line.specs.Output.{Goes, Stops}
 use Rattle.fs_line.proofs.Outputs.{goes_none, goes_then, goes_stops, stops_more, goes_as, stops_as}
-use Rattle.fs_base.specs.declared.prefix.Family.{Family}
-use Rattle.fs_base.specs.declared.prefix.Family.TheVariants.{V4, V6}
 use Rattle.fs_line.specs.Line.{line_of}
 use Rattle.fs_packet.specs.Fields.{Viewed}
 use Rattle.fs_packet.specs.Reading.{view_of}
@@ -115,12 +113,6 @@ pub text_same : (first now : JudgingState) → now ≡ record first { pending = 
 text_same first now e number octets = ap (λ (j : JudgingState). packet_text number j.rules j.link octets) e
 
 -- the line of a packet that could be read, by its family
-pub packet_v4 : (number : ℕ) (rules : AdmittedRules) (link : Link) (octets : List ℕ) (view : Viewed)
-    → view_of link octets ≡ Ok view → view.family ≡ V4 → line_of number (walk_of view rules.v4) ≡ packet_text number rules link octets
-packet_v4 number rules link octets view e f =
-    sym (ap (text_by number rules) e ∙ ap (λ (family : Family). line_of number (walk_of view (rules_for family rules))) f)
-
-pub packet_v6 : (number : ℕ) (rules : AdmittedRules) (link : Link) (octets : List ℕ) (view : Viewed)
-    → view_of link octets ≡ Ok view → view.family ≡ V6 → line_of number (walk_of view rules.v6) ≡ packet_text number rules link octets
-packet_v6 number rules link octets view e f =
-    sym (ap (text_by number rules) e ∙ ap (λ (family : Family). line_of number (walk_of view (rules_for family rules))) f)
+pub packet_line : (number : ℕ) (rules : AdmittedRules) (link : Link) (octets : List ℕ) (view : Viewed)
+    → view_of link octets ≡ Ok view → line_of number (walk_of view (rules_for view.family rules)) ≡ packet_text number rules link octets
+packet_line number rules link octets view e = sym (ap (text_by number rules) e)

@@ -1,6 +1,8 @@
 pub mod Answering
 pub mod Checking
+pub mod Counting
 pub mod Enforcing
+pub mod Generating
 pub mod Judging
 pub mod Ruling
 pub mod Running

@@ -18,8 +18,9 @@ use Rattle.fs_tape.specs.Tape.{Item, tape_of}
 use Rattle.fs_tape.specs.declared.fault.TapeReason.{TapeReason}
 use Rattle.fs_cli.specs.Program.{ChecksSo, Does, Runs, HasStatus, HasCauses, Completes, Promises, world}
 use Rattle.fs_cli.specs.Enforce.{Enforces, EnforcesSo, Enforced, Inputs, inputs, inputs_stage, status_for}
+use Rattle.fs_cli.specs.Generate.{Generates, GeneratesSo, Generated}
 use Rattle.fs_cli.specs.Load.{Names, fetch, config_stage}
-use Rattle.fs_cli.specs.Command.{Form, Enforce, Rules, Check, form_of}
+use Rattle.fs_cli.specs.Command.{Form, Enforce, Rules, Check, Gen, form_of}
 use Rattle.fs_cli.specs.Rules.{Lists, ListsSo, Listed, listed_status}
 use Rattle.fs_cli.specs.Play.{played_to, tape_stage, accepted_stage}
 use Rattle.fs_cli.specs.Judge.{capture_stage, status_at, verdict_of, output_of}
@@ -91,6 +92,16 @@ rules_status limit holds config tape failed before now answer (inr (inr shows)) 
     at (inl h) = inl (h ∙ sym (ap listed_status shows.found))
     at (inr h) = inr h
 
+gen_status : (count : ℕ) (files sink : Type 0) (before now : Option (List ℕ)) (answer : ℕ)
+    → GeneratesSo count sink before now answer → (answer ≡ 0) ⊎ (answer ≡ 6) ⊎ ((answer ≡ 1) × (files ⊎ sink))
+gen_status count files sink before now answer (inl none) = inr (inl none.0)
+gen_status count files sink before now answer (inr counts) = at counts.answers.status_is
+  where
+    at : Caused sink 0 answer → (answer ≡ 0) ⊎ (answer ≡ 6) ⊎ ((answer ≡ 1) × (files ⊎ sink))
+    at (inl h) = inl h
+    at (inr (inl h)) = inr (inl h)
+    at (inr (inr h)) = inr (inr (h.0, inr h.1))
+
 pub runs_causes : (tells : Bool) (limit : ℕ) (holds : Names) (form : Option Form) (call : Happened) (answer : ℕ)
     → IsTrue tells → Runs tells limit holds form call answer → HasCauses limit holds form call answer
 runs_causes tells limit holds None call answer told r = tt
@@ -100,6 +111,8 @@ runs_causes tells limit holds (Some (Rules config tape)) call answer told r =
     rules_status limit holds config tape (FilesFailed call ⊎ SinkFailed call) call.before.written call.now.written answer (r.1 told)
 runs_causes tells limit holds (Some (Check family word)) call answer told r =
     check_status limit holds family word (FilesFailed call) (SinkFailed call) call.before.written call.now.written answer r.1
+runs_causes tells limit holds (Some (Gen count)) call answer told r =
+    gen_status count (FilesFailed call) (SinkFailed call) call.before.written call.now.written answer r.1
 
 -- completeness
 
@@ -290,6 +303,20 @@ runs_listed tells limit holds form call answer told r zero config tape e =
     listed_well limit holds config tape (FilesFailed call ⊎ SinkFailed call) call answer
     ((subst (λ (f : Option Form). Runs tells limit holds f call answer) e r).1 told) zero
 
+-- the generator
+
+generated_well : (count : ℕ) (failed : Type 0) (call : Happened) (answer : ℕ)
+    → GeneratesSo count failed call.before.written call.now.written answer → answer ≡ 0 → Generated count call
+generated_well count failed call answer (inl none) zero = let six : answer ≡ 6 = none.0 in absurd cc
+generated_well count failed call answer (inr counts) zero =
+    record { held = counts.held; leaves = counts.leaves; wrote = counts.answers.whole (λ e. absurd cc) (λ e. absurd cc) }
+
+pub runs_generated : (tells : Bool) (limit : ℕ) (holds : Names) (form : Option Form) (call : Happened) (answer : ℕ)
+    → Runs tells limit holds form call answer → answer ≡ 0 → (count : ℕ) → form ≡ Some (Gen count) → Generated count call
+runs_generated tells limit holds form call answer r zero count e =
+    generated_well count (SinkFailed call) call answer
+    (subst (λ (f : Option Form). Runs tells limit holds f call answer) e r).1 zero
+
 -- what a command did, as what is answered
 
 pub does_enforce : {T : Type 0} (tells : Bool) (limit : ℕ) (holds : Names) (form : Form) (config tape capture : List ℕ) (call : Happened) (result : Result T Refusal) (answer : ℕ)
@@ -306,6 +333,11 @@ does_rules tells limit holds form config tape call result answer e a d =
     subst (λ (f : Form). Does tells limit holds f call answer) (sym e)
     (λ told. subst (λ (n : ℕ). Lists limit holds config tape call n) a (d told))
 
+pub does_gen : {T : Type 0} (tells : Bool) (limit : ℕ) (holds : Names) (form : Form) (count : ℕ) (call : Happened) (result : Result T Refusal) (answer : ℕ)
+    → form ≡ Gen count → answered result ≡ answer → Generates count call (answered result) → Does tells limit holds form call answer
+does_gen tells limit holds form count call result answer e a d =
+    subst (λ (f : Form). Does tells limit holds f call answer) (sym e) (subst (λ (n : ℕ). Generates count call n) a d)
+
 -- the promises of a run, whose words ask for no command
 
 pub promises_none : {F S W : Type 0} (limit : ℕ) (of_files : files.Ghosts F) (of_sink : sink.Ghosts S) (files : F) (sink : S) (wire : W) (words : List (List ℕ))
@@ -315,6 +347,7 @@ promises_none limit of_files of_sink files sink wire words e = record {
   no_command = (λ two. sym e, λ none. refl);
   nothing_done = λ none. (refl, refl, refl);
   check_opens_nothing = λ family word asked. refl;
+  gen_opens_nothing = λ count asked. refl;
   wire_unused = refl;
   config_writes_nothing = λ three. refl;
   tape_writes_nothing = λ four config tape capture asked. refl;
@@ -323,6 +356,7 @@ promises_none limit of_files of_sink files sink wire words e = record {
   complete = λ told stood sink_stood. subst (λ (f : Option Form). Completes limit (of_files.holds files) f 2) e tt;
   headline = λ told zero config tape capture asked. absurd cc;
   listed = λ told zero config tape asked. absurd cc;
+  generator = λ zero count asked. absurd cc;
 }
 
 no_form : {A : Type 0} (form : Form) (o : Option Form) → Some form ≡ o → o ≡ None → A
@@ -341,8 +375,9 @@ pub promises_some : {F S W : Type 0} (limit : ℕ) (of_files : files.Ghosts F) (
     → ((answer ≡ 3) ⊎ (answer ≡ 6) → sink' ≡ sink)
     → (answer ≡ 4 → (config tape capture : List ℕ) → form ≡ Enforce config tape capture → sink' ≡ sink)
     → ((family : Family) (word : List ℕ) → form ≡ Check family word → files' ≡ files)
+    → ((count : ℕ) → form ≡ Gen count → files' ≡ files)
     → Promises limit (world of_files of_sink files files' sink sink' wire wire) words answer
-promises_some limit of_files of_sink files files' sink sink' wire words form answer e does known quiet still unopened =
+promises_some limit of_files of_sink files files' sink sink' wire words form answer e does known quiet still unopened generates =
     let call : Happened = happened of_files of_sink files files' sink sink' in
     let holds : Names = of_files.holds files in
     let ran : Runs of_files.tells limit holds (form_of words) call answer =
@@ -352,6 +387,7 @@ promises_some limit of_files of_sink files files' sink sink' wire words form ans
       no_command = (λ two. absurd (known two), λ none. no_form form (form_of words) e none);
       nothing_done = λ none. no_form form (form_of words) e none;
       check_opens_nothing = λ family word asked. unopened family word (some_form form (Check family word) (form_of words) e asked);
+      gen_opens_nothing = λ count asked. generates count (some_form form (Gen count) (form_of words) e asked);
       wire_unused = refl;
       config_writes_nothing = λ three. quiet (inl three);
       tape_writes_nothing = λ four config tape capture asked.
@@ -365,4 +401,5 @@ promises_some limit of_files of_sink files files' sink sink' wire words form ans
           runs_headline of_files.tells limit holds (form_of words) call answer told ran zero config tape capture asked;
       listed = λ told zero config tape asked.
           runs_listed of_files.tells limit holds (form_of words) call answer told ran zero config tape asked;
+      generator = λ zero count asked. runs_generated of_files.tells limit holds (form_of words) call answer ran zero count asked;
     }

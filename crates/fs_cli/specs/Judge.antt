@@ -9,7 +9,8 @@ use Rattle.fs_pcap.specs.declared.link.Link.{Link}
 use Rattle.fs_packet.specs.declared.fields.Unread.{Unread}
 use Rattle.fs_pcap.specs.Capture.{Captured, Recorded, capture_of, packet_from}
 use Rattle.fs_rules.specs.Table.{admitted, Held}
-use Rattle.fs_rules.specs.Lent.{Listed, listed}
+use Rattle.fs_rules.specs.Lent.{Listed, listed, shown_admitted}
+use Rattle.fs_rules.specs.declared.lent.Admitted.{Admitted}
 use Rattle.fs_rules.specs.Walk.{walk_of}
 use Rattle.fs_base.specs.Records.{End, done, limited, bad}
 use Rattle.fs_pcap.specs.declared.fault.CaptureReason.{CaptureReason}
@@ -31,6 +32,10 @@ pub record AdmittedRules : Type 0 where
 
 abbrev pub admitted_rules : Held → AdmittedRules
 admitted_rules held = record { v4 = map listed (admitted V4 held); v6 = map listed (admitted V6 held) }
+
+-- the rules as the table lends them
+abbrev pub lent_rules : (v4 v6 : List Admitted) → AdmittedRules
+lent_rules v4 v6 = record { v4 = map shown_admitted v4; v6 = map shown_admitted v6 }
 
 abbrev pub rules_for : Family → AdmittedRules → List Listed
 rules_for V4 rules = rules.v4

@@ -1,5 +1,6 @@
 pub mod Command
 pub mod Enforce
+pub mod Generate
 pub mod Judge
 pub mod Listing
 pub mod Load

@@ -6,8 +6,9 @@ use Rattle.fs_base.specs.declared.prefix.Family.{Family}
 use Rattle.fs_check.specs.Report.{Reports}
 use Rattle.fs_cli.specs.Refusal.{Verdict, Answers}
 use Rattle.fs_cli.specs.Enforce.{Enforces, Enforced, inputs_stage, status_for}
+use Rattle.fs_cli.specs.Generate.{Generates, Generated}
 use Rattle.fs_cli.specs.Load.{Names}
-use Rattle.fs_cli.specs.Command.{Form, Enforce, Rules, Check, form_of}
+use Rattle.fs_cli.specs.Command.{Form, Enforce, Rules, Check, Gen, form_of}
 use Rattle.fs_cli.specs.Play.{accepted_stage}
 use Rattle.fs_cli.specs.Rules.{Lists, Listed, listed_status}
 use Rattle.fs_base.specs.declared.outside.files.Files as files
@@ -37,6 +38,7 @@ abbrev pub Does : (tells : Bool) (limit : ℕ) (holds : Names) → Form → Happ
 Does tells limit holds (Enforce config tape capture) call answer = IsTrue tells → Enforces limit holds config tape capture call answer
 Does tells limit holds (Rules config tape) call answer = IsTrue tells → Lists limit holds config tape call answer
 Does tells limit holds (Check family word) call answer = Checks family word call answer
+Does tells limit holds (Gen count) call answer = Generates count call answer
 
 -- words that ask for no command answer 2 and write nothing
 abbrev pub Runs : (tells : Bool) (limit : ℕ) (holds : Names) → Option Form → Happened → ℕ → Type 0
@@ -49,6 +51,7 @@ HasStatus limit holds (Enforce config tape capture) answer = answer ≡ status_f
 HasStatus limit holds (Rules config tape) answer = answer ≡ listed_status (accepted_stage limit holds config tape)
 HasStatus limit holds (Check family word) answer =
     (accepted : Bool) × (text : List ℕ) × Reports family word text accepted × (answer ≡ (report_verdict accepted text).status)
+HasStatus limit holds (Gen count) answer = answer ≡ 0
 
 -- the status is the one that files and words call for, or memory was wanting
 abbrev pub Completes : (limit : ℕ) (holds : Names) → Option Form → ℕ → Type 0
@@ -115,6 +118,8 @@ pub record Promises {F S W : Type 0} (limit : ℕ) (w : World F S W) (words : Li
   pub nothing_done : form_of words ≡ None → FilesKept w × SinkKept w × WireKept w
   -- `check` opens no file.
   pub check_opens_nothing : (family : Family) (word : List ℕ) → form_of words ≡ Some (Check family word) → FilesKept w
+  -- `gen` opens no file.
+  pub gen_opens_nothing : (count : ℕ) → form_of words ≡ Some (Gen count) → FilesKept w
   -- None of these commands uses the wire.
   pub wire_unused : WireKept w
   -- At 3 nothing is written, whatever the files tell.
@@ -138,3 +143,5 @@ pub record Promises {F S W : Type 0} (limit : ℕ) (w : World F S W) (words : Li
   pub listed : AreTold w → answer ≡ 0 → (config tape : List ℕ)
       → form_of words ≡ Some (Rules config tape)
       → Listed limit (names_in w) config tape (happened_in w)
+  -- At 0 `gen` wrote the counts of the admitted rules and of the lines, over the generator's tape and packets.
+  pub generator : answer ≡ 0 → (count : ℕ) → form_of words ≡ Some (Gen count) → Generated count (happened_in w)

@@ -1,9 +1,14 @@
 //! What the words of the command line ask for.
 
-ghost use Rattle.std.specs.Prelude.{◌≡◌, ◌∷◌, [], map, option_map, string_bytes};
-ghost use Rattle.fs_cli.specs.Command.{check_form, family_of, form_of, is_name, form_shown};
+ghost use Rattle.std.specs.Prelude.{◌≡◌, ◌∷◌, [], decimal, map, option_map, string_bytes};
+ghost use Rattle.std.specs.Str.{bytes_eq};
+ghost use Rattle.fs_cli.specs.Command.{check_form, count_of, family_of, form_of, is_name, form_shown};
 
 use fs_base::Family;
+use itoa::Buffer;
+
+/// The most steps and packets that are generated.
+const MOST: u32 = 1_000_000;
 
 /// A command, and what it is to read.
 #[derive(Clone, Copy, Drop)]
@@ -19,6 +24,10 @@ pub enum Command<'w> {
         config: &'w str,
         tape: &'w str,
     },
+    /// Plays a generated tape, and counts what becomes of generated packets: so many of each.
+    Gen {
+        count: u32,
+    },
     /// Says what a word in hexadecimal is as NLRI of the family.
     Check {
         family: Family,
@@ -33,6 +42,7 @@ pub fn parse(words: &[String]) -> Option<Command<'_>>
     match words {
         [word, config, tape, capture] => parse_enforce(word, config, tape, capture),
         [word, first, second] => parse_two(word, first, second),
+        [word, count] => parse_gen(word, count),
         _ => None,
     }
 }
@@ -83,6 +93,36 @@ fn parse_check<'w>(family: &str, text: &'w str) -> Option<Command<'w>>
         Some(family) => Some(Command::Check { family, word: text }),
         None => None,
     }
+}
+
+fn parse_gen(word: &str, count: &str) -> Option<Command<'static>>
+    ensures { option_map form_shown result ≡ form_of (word.now ∷ count.now ∷ []) }
+{
+    if word != "gen" {
+        return None;
+    }
+    match count_of(count) {
+        Some(count) => Some(Command::Gen { count }),
+        None => None,
+    }
+}
+
+/// The number that a word writes in decimal without leading zeros, if it is one from 1 to 1000000.
+fn count_of(word: &str) -> Option<u32>
+    ensures { result ≡ count_of word.now }
+{
+    match word.parse::<u32>() {
+        Ok(count) if is_decimal(count, word) && 1 <= count && count <= MOST => Some(count),
+        _ => None,
+    }
+}
+
+/// Whether the word is the number as it is printed.
+fn is_decimal(number: u32, word: &str) -> bool
+    ensures { result ≡ bytes_eq word.now (decimal number) }
+{
+    let mut buffer = Buffer::new();
+    word == buffer.format(number)
 }
 
 fn family_of(word: &str) -> Option<Family>

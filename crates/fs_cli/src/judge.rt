@@ -1,7 +1,7 @@
 //! The packets of a capture, judged by the admitted rules.
 
 ghost use Rattle.std.specs.Prelude.{◌≡◌, ◌≤◌, ◌<◌, ◌^◌, ◌⊎◌, [], None, IsTrue};
-ghost use Rattle.std.specs.Prelude.{IfErr, IfOk, IfSome, MatchResult, OnErr, OnOk, drop, length, map, vec_capacity};
+ghost use Rattle.std.specs.Prelude.{IfErr, IfOk, IfSome, MatchResult, OnErr, OnOk, length};
 ghost use Rattle.fs_base.specs.Happened.{happened};
 ghost use Rattle.fs_base.specs.Outside.{HasCause, Rose};
 ghost use Rattle.fs_base.specs.Sink.{Grew, GrewPart};
@@ -9,20 +9,16 @@ ghost use Rattle.fs_pcap.specs.Capture.{coming};
 ghost use Rattle.fs_pcap.specs.Head.{longest_record};
 ghost use Rattle.fs_cli.specs.Judge.{admitted_rules, capture_stage, Ceases, JudgesAll, packet_text, refused_by, verdict_of, Yields};
 ghost use Rattle.fs_cli.specs.Refusal.{Answers, IsAtPacket, IsLate, answered};
-ghost use Rattle.fs_line.specs.Line.{line_of};
 ghost use Rattle.fs_line.specs.Output.{Sends};
-ghost use Rattle.fs_line.specs.Walked.{entries};
-ghost use Rattle.fs_rules.specs.Table.{admitted};
-ghost use Rattle.fs_rules.specs.Lent.{listed, shown_admitted};
-ghost use Rattle.fs_rules.specs.Walk.{first_from, walk_of};
 
 use crate::load::{CAPTURE_SLOT, open};
+use crate::matcher::Matcher;
 use crate::refusal::Refusal;
-use fs_base::{Counted, Failed, Family, Files, Memory, Sink};
-use fs_line::{Output, Walked, write_packet_line, write_unread_line};
-use fs_packet::{View, matches, view};
+use fs_base::{Counted, Failed, Files, Memory, Sink};
+use fs_line::{Output, write_unread_line};
+use fs_packet::view;
 use fs_pcap::{Capture, CaptureFault, Caught, LONGEST_RECORD, Link};
-use fs_rules::{Admitted, Table};
+use fs_rules::Table;
 use std::alloc::Global;
 use std::marker::Model;
 
@@ -140,13 +136,12 @@ fn refusal_of(fault: CaptureFault) -> Refusal
     }
 }
 
-/// What judging packets takes beside them: their kind of link, the admitted rules of each family, and the output of the
+/// What judging packets takes beside them: their kind of link, the admitted rules of each family, and the output of
 /// lines. All memory of it is taken before the first packet.
 #[derive(Drop)]
 struct Judging<'t> {
     link: Link,
-    v4: Rules<'t>,
-    v6: Rules<'t>,
+    matcher: Matcher<'t>,
     output: Output,
 }
 
@@ -155,7 +150,7 @@ impl<'t> Model for Judging<'t> {
 
     ghost Value = { JudgingState };
 
-    ghost view = { λ a. record { link = a.link; rules = record { v4 = a.v4; v6 = a.v6 }; pending = a.output } };
+    ghost view = { λ a. record { link = a.link; rules = a.matcher; pending = a.output } };
 }
 
 impl<'t> Judging<'t> {
@@ -165,8 +160,7 @@ impl<'t> Judging<'t> {
     {
         Ok(Judging {
             link,
-            v4: Rules::new(alloc, table, Family::V4)?,
-            v6: Rules::new(alloc, table, Family::V6)?,
+            matcher: Matcher::new(alloc, table)?,
             output: Output::new(alloc)?,
         })
     }
@@ -183,10 +177,7 @@ impl<'t> Judging<'t> {
             (packet_text number self.old.rules self.old.link octets.now) result }
     {
         match view(self.link, octets) {
-            Ok(view) => match view.family() {
-                Family::V4 => self.v4.judge(&view, number, &mut self.output, sink),
-                Family::V6 => self.v6.judge(&view, number, &mut self.output, sink),
-            },
+            Ok(view) => self.matcher.judge(&view, number, &mut self.output, sink),
             Err(unread) => write_unread_line(&mut self.output, sink, number, unread.number()),
         }
     }
@@ -199,84 +190,4 @@ impl<'t> Judging<'t> {
     {
         self.output.flush(sink)
     }
-}
-
-/// The admitted rules of a family in order, and room for a walk over all of them.
-#[derive(Drop)]
-struct Rules<'t> {
-    rules: Vec<Admitted<'t>>,
-    walked: Vec<Walked<'t>>,
-}
-
-impl<'t> Model for Rules<'t> {
-    ghost use Rattle.std.specs.Prelude.{◌≤◌, List, length, map, vec_capacity};
-    ghost use Rattle.fs_rules.specs.Lent.{Listed, shown_admitted};
-
-    ghost Value = { List Listed };
-
-    ghost view = { λ a. map shown_admitted a.rules.items };
-
-    ghost invariant = { λ a. length a.rules.items ≤ vec_capacity a.walked };
-}
-
-impl<'t> Rules<'t> {
-    fn new(alloc: Global, table: &'t Table<'_>, family: Family) -> Result<Rules<'t>, Memory>
-        ensures { IfOk result (λ rules. rules ≡ map listed (admitted family table.now)) }
-    {
-        let rules = table.admitted(family)?;
-        let walked = Vec::with_capacity(alloc, rules.len())?;
-        Ok(Rules { rules, walked })
-    }
-
-    /// Writes the line of a packet of the family that could be read.
-    fn judge<S: Sink>(
-        &mut self,
-        view: &View<'_>,
-        number: u64,
-        output: &mut Output,
-        sink: &mut S,
-    ) -> Result<(), Failed>
-        ensures same { self.new ≡ self.old }
-        ensures sends { Sends S.Sink sink.old sink.new output.old output.new
-            (line_of number (walk_of view.now self.old)) result }
-    {
-        walk(&self.rules, view, &mut self.walked);
-        write_packet_line(output, sink, number, &self.walked)
-    }
-}
-
-/// Puts the rules that the packet walks into `walked`, in place of what stands there: the matching ones in order, up to
-/// and with the first whose terminal bit is clear (RFC 8955 section 7.3).
-fn walk<'t>(rules: &[Admitted<'t>], view: &View<'_>, walked: &mut Vec<Walked<'t>>)
-    requires room { length rules.now ≤ vec_capacity walked.old }
-    ensures room { length rules.now ≤ vec_capacity walked.new }
-    ensures walk { entries walked.new.items ≡ walk_of view.now (map shown_admitted rules.now) }
-{
-    walked.clear();
-    let mut place = 0;
-    'rules: while let Some(found) = first_match(rules, view, place) {
-        let actions = rules[found].actions;
-        walked.push_reserved(Walked {
-            number: found + 1,
-            actions,
-        });
-        if !actions.more() {
-            return;
-        }
-        place = found + 1;
-    }
-}
-
-/// The first place from `from` on of a rule that matches the packet.
-fn first_match(rules: &[Admitted<'_>], view: &View<'_>, from: usize) -> Option<usize>
-    requires { from ≤ length rules.now }
-    ensures first { result ≡ first_from from view.now (map shown_admitted (drop from rules.now)) }
-    ensures within { IfSome result (λ found. (from ≤ found) × (found < length rules.now)) }
-{
-    for place in from..rules.len() {
-        if matches(rules[place].rule, view) {
-            return Some(place);
-        }
-    }
-    None
 }

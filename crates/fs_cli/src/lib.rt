@@ -3,10 +3,12 @@
 
 mod command;
 mod enforce;
+mod generate;
 mod judge;
 mod laws;
 mod listing;
 mod load;
+mod matcher;
 mod play;
 mod program;
 mod refusal;

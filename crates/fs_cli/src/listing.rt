@@ -61,7 +61,11 @@ pub fn list_tape_fault<S: Sink>(
 }
 
 /// Writes a text in one piece.
-fn write_text<S: Sink>(text: &[u8], sink: &mut S) -> Result<(), Refusal>
+///
+/// # Errors
+///
+/// `Outside` where the sink failed, and then a front of the text is written.
+pub fn write_text<S: Sink>(text: &[u8], sink: &mut S) -> Result<(), Refusal>
     ensures late { IfErr result IsLate }
     ensures known { answered result ≢ 6 }
     ensures later { S.faults sink.old ≤ S.faults sink.new }

@@ -4,10 +4,11 @@ ghost use Rattle.std.specs.Prelude.{◌≡◌, ◌≢◌, ◌≤◌, ◌⊎◌, 
 ghost use Rattle.fs_base.specs.Happened.{at_sink, happened};
 ghost use Rattle.fs_base.specs.declared.prefix.Family.{Family};
 ghost use Rattle.fs_cli.specs.Program.{Checks, Does, Promises, world};
-ghost use Rattle.fs_cli.specs.Command.{form_shown, Check, Enforce};
+ghost use Rattle.fs_cli.specs.Command.{form_shown, Check, Enforce, Gen};
 
 use crate::command::{Command, parse};
 use crate::enforce::{InputNames, enforce};
+use crate::generate::generate;
 use crate::rules::list_rules;
 use crate::status;
 use fs_base::{Family, Files, Sink, Wire};
@@ -76,6 +77,7 @@ fn perform<F: Files, S: Sink>(
         → (word : List ℕ)
         → form_shown command.entry ≡ Check family word
         → files.new ≡ files.old }
+    ensures generates { (count : ℕ) → form_shown command.entry ≡ Gen count → files.new ≡ files.old }
 {
     match command {
         Command::Enforce {
@@ -100,6 +102,10 @@ fn perform<F: Files, S: Sink>(
             }
         }
         Command::Check { family, word } => run_check(alloc, sink, family, word),
+        Command::Gen { count } => match generate(alloc, sink, count) {
+            Ok(()) => status::DONE,
+            Err(refusal) => refusal.status(),
+        },
     }
 }
 

@@ -19,7 +19,7 @@ abbrev pub behind_pair : ℕ → ℕ
 behind_pair x = next_state (next_state x)
 
 -- the state behind so many pairs
-pub behind_pairs : (seed count : ℕ) → ℕ
+unfoldable pub behind_pairs : (seed count : ℕ) → ℕ
 behind_pairs seed zero = seed
 behind_pairs seed (suc count) = behind_pair (behind_pairs seed count)
 

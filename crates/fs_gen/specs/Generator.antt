@@ -42,7 +42,7 @@ abbrev pub opening : ℕ → List Item
 opening peer = came_up peer ∷ received peer (open_of peer) ∷ received peer keepalive ∷ []
 
 -- the first steps, so many of them
-pub steps : (seed count : ℕ) → List Item
+unfoldable pub steps : (seed count : ℕ) → List Item
 steps seed zero = []
 steps seed (suc count) = steps seed count ++ step_of (pair_behind seed count) ∷ []
 
@@ -58,7 +58,7 @@ packet_of pair =
     ++ (big_bytes 2 40000 ++ (big_bytes 2 (port_of pair) ++ (0 ∷ 8 ∷ 0 ∷ 0 ∷ [])))))
 
 -- the first packets, so many of them: their numbers come behind those of the tape
-pub packets : (seed count : ℕ) → List (List ℕ)
+unfoldable pub packets : (seed count : ℕ) → List (List ℕ)
 packets seed zero = []
 packets seed (suc count) = packets seed count ++ packet_of (pair_behind seed (seed + count)) ∷ []
 

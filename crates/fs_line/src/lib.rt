@@ -10,4 +10,4 @@ mod walked;
 pub use line::{write_packet_line, write_unread_line};
 pub use output::Output;
 pub use pieces::{append, append_decimal, append_hex, family_name};
-pub use walked::Walked;
+pub use walked::{Walked, discards};

@@ -1,7 +1,7 @@
 use Rattle.std.proofs.Common.{◌≡◌, map, drop}
 use Rattle.fs_rules.specs.Lent.{shown_admitted}
 use Rattle.fs_rules.specs.Walk.{first_from}
-use Rattle.fs_cli.proofs.judge.first_match.Given as goal
+use Rattle.fs_cli.proofs.matcher.first_match.Given as goal
 
 abbrev pub invariant-loop-place : goal.invariant-loop-place
 invariant-loop-place l =

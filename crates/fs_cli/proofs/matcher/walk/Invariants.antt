@@ -1,13 +1,14 @@
-use Rattle.std.proofs.Common.{◌≤◌, ◌-◌, length}
+use Rattle.std.proofs.Common.{◌≡◌, ◌≤◌, ◌-◌, length}
 use Rattle.std.specs.Prelude.{vec_capacity, vec_len}
 use Rattle.fs_cli.proofs.Walking.{Walking}
-use Rattle.fs_cli.proofs.judge.walk.Given as goal
+use Rattle.fs_cli.proofs.matcher.walk.Given as goal
 
 abbrev pub invariant-rules : goal.invariant-rules
 invariant-rules l = record {
   within : l.place ≤ length l.rules;
   count : vec_len l.walked ≤ l.place;
   room : length l.rules ≤ vec_capacity l.walked;
+  same : vec_capacity l.walked ≡ vec_capacity l.fn.walked;
   walked : Walking l.view l.rules l.place l.walked.items;
 }
 
