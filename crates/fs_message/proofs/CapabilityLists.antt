@@ -176,7 +176,7 @@ pub capability_refused : (found : Found) (capability : Field)
 capability_refused found capability h = not_chosen (is_capability capability) (with_later found (found_in (capability ∷ []))) h
 
 -- the tests of the fields, over Bools
-abbrev fields_chain : Bool → Bool → Bool → Bool → Bool → Option MessageFault
+abbrev pub fields_chain : Bool → Bool → Bool → Bool → Bool → Option MessageFault
 fields_chain version asn hold id size =
     if not version then Some (fault 2 1) else if asn then Some (fault 2 2) else if hold then Some (fault 2 6) else if id then Some (fault 2 3)
     else if not size then Some (fault 2 4) else None

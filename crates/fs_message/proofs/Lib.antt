@@ -1,3 +1,5 @@
 mod BegunMessages
 mod CapabilityLists
 pub mod StreamLaws
+pub mod TextFirst
+pub mod OpenReadBack

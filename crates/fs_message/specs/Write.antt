@@ -17,9 +17,9 @@ as_field asn = if nat_lt 65535 asn then 23456 else asn
 abbrev pub family_text : ℕ → ℕ → List ℕ
 family_text afi safi = 1 ∷ 4 ∷ 0 ∷ afi ∷ 0 ∷ safi ∷ []
 
--- The body of our own OPEN: version 4, hold time 0, and one parameter that names IPv4 and IPv6, each with
--- unicast and flow specification routes, and the four-octet AS.
-abbrev pub open_body : ℕ → ℕ → List ℕ
-open_body asn id =
-    (4 ∷ big_bytes 2 (as_field asn)) ++ (big_bytes 2 0 ++ (big_bytes 4 id ++ ((32 ∷ 2 ∷ 30 ∷ []) ++
+-- The body of our own OPEN: version 4, the AS, the hold time that is offered, the identifier, and one parameter that
+-- names IPv4 and IPv6, each with unicast and flow specification routes, and the four-octet AS.
+abbrev pub open_body : ℕ → ℕ → ℕ → List ℕ
+open_body asn hold_time id =
+    (4 ∷ big_bytes 2 (as_field asn)) ++ (big_bytes 2 hold_time ++ (big_bytes 4 id ++ ((32 ∷ 2 ∷ 30 ∷ []) ++
     (family_text 1 1 ++ (family_text 1 133 ++ (family_text 2 1 ++ (family_text 2 133 ++ (65 ∷ 4 ∷ big_bytes 4 asn))))))))

@@ -13,7 +13,7 @@ mod write;
 pub use deframer::{Deframer, Frame};
 pub use fault::MessageFault;
 pub use header::{KEEPALIVE, NOTIFICATION, OPEN, ROUTE_REFRESH, UPDATE};
-pub use laws::messages_stay;
+pub use laws::{messages_stay, own_open_is_read, texts_are_first};
 pub use notice::Notice;
 pub use open_::Open;
 pub use write::{as_in_two, write_keepalive, write_notice, write_open, write_update_frame};

@@ -8,12 +8,12 @@ use crate::header::{HEADER, KEEPALIVE, NOTIFICATION, OPEN, UPDATE};
 use byteorder::{BigEndian, ByteOrder};
 use fs_base::Memory;
 
-/// Appends our OPEN: AS `asn`, hold time 0, identifier `id`, and the four families and the four-octet AS as
-/// capabilities. Refused for memory, it leaves `out` as it was.
-pub fn write_open(asn: u32, id: u32, out: &mut Vec<u8>) -> Result<(), Memory>
-    ensures { AppendsWhole result out.old.items out.new.items (message_text 1 (open_body asn id)) }
+/// Appends our OPEN: AS `asn`, the hold time offered in seconds, identifier `id`, and the four families and the
+/// four-octet AS as capabilities (RFC 4271, section 4.2). Refused for memory, it leaves `out` as it was.
+pub fn write_open(asn: u32, hold_time: u16, id: u32, out: &mut Vec<u8>) -> Result<(), Memory>
+    ensures { AppendsWhole result out.old.items out.new.items (message_text 1 (open_body asn hold_time id)) }
 {
-    write_message(OPEN, &open_octets(asn, id), out)
+    write_message(OPEN, &open_octets(asn, hold_time, id), out)
 }
 
 /// Appends the UPDATE with this body, of at most 4077 octets. Refused for memory, it leaves `out` as it was.
@@ -58,18 +58,19 @@ fn header_octets(kind: u8, size: u16) -> [u8; 19]
     header
 }
 
-/// The octets of our OPEN before its AS and identifier stand in them: version 4, hold time 0, and a
-/// parameter of 30 octets with capabilities 1 for 1/1, 1/133, 2/1 and 2/133, and capability 65.
+/// The octets of our OPEN before its AS, hold time and identifier stand in them: version 4, and a parameter of
+/// 30 octets with capabilities 1 for 1/1, 1/133, 2/1 and 2/133, and capability 65.
 const OPEN_TEMPLATE: [u8; 42] = [
     4, 0, 0, 0, 0, 0, 0, 0, 0, 32, 2, 30, 1, 4, 0, 1, 0, 1, 1, 4, 0, 1, 0, 133, 1, 4, 0, 2, 0, 1,
     1, 4, 0, 2, 0, 133, 65, 4, 0, 0, 0, 0,
 ];
 
-fn open_octets(asn: u32, id: u32) -> [u8; 42]
-    ensures { result ≡ open_body asn id }
+fn open_octets(asn: u32, hold_time: u16, id: u32) -> [u8; 42]
+    ensures { result ≡ open_body asn hold_time id }
 {
     let mut body = OPEN_TEMPLATE;
     BigEndian::write_u16(&mut body[1..], as_in_two(asn));
+    BigEndian::write_u16(&mut body[3..], hold_time);
     BigEndian::write_u32(&mut body[5..], id);
     BigEndian::write_u32(&mut body[38..], asn);
     body

@@ -1,4 +1,4 @@
--- What a session replies to the octets received from a peer (RFC 4271, sections 6 and 8).
+-- What an end of a session answers to the octets received from the other (RFC 4271, sections 6 and 8).
 use Rattle.std.specs.Prelude.{ℕ, List, [], ◌∷◌, ◌++◌, Option, Some, None, Ok, Err}
 use Rattle.fs_base.specs.declared.config.Config.{Config}
 use Rattle.fs_base.specs.declared.config.Peer.{Peer}
@@ -6,28 +6,33 @@ use Rattle.fs_base.specs.Config.{peer_of}
 use Rattle.fs_base.specs.Parts.{parts_of}
 use Rattle.fs_message.specs.declared.fault.MessageFault.{MessageFault}
 use Rattle.fs_message.specs.Stream.{Message, first_message, wrong_at}
-use Rattle.fs_speaker.specs.Session.{at_start, reply_to, reply_at}
-use Rattle.fs_speaker.specs.Transition.{Phase, faulted, transition_of}
+use Rattle.fs_speaker.specs.Side.{at_fault, receiver}
+use Rattle.fs_speaker.specs.Session.{at_start}
+use Rattle.fs_speaker.specs.Transition.{Machine, Phase, faulted, transition_by}
 
 -- a fault of the rest behind the last message
-abbrev pub reply_rest : Option MessageFault → List ℕ
-reply_rest None = []
-reply_rest (Some fault) = reply_at (faulted fault)
+abbrev pub reply_rest : Machine → Option MessageFault → List ℕ
+reply_rest machine None = []
+reply_rest machine (Some fault) = at_fault machine.farewell (faulted fault)
 
--- The replies to the messages, one after the other. One that is taken is answered as the state says, and one that closes with its
--- NOTIFICATION; nothing is replied behind a closing. If none closes, a fault of the rest is answered.
-unfoldable pub replies : Config → Peer → Phase → List Message → Option MessageFault → List ℕ
-replies config peer now [] wrong = reply_rest wrong
-replies config peer now (message ∷ messages) wrong =
-    elim (transition_of config peer now message) [
-      | Err why ↦ reply_at why
-      | Ok next ↦ reply_to config now.state ++ replies config peer next.0 messages wrong
+-- The answers to the messages, one after the other. One that is taken is answered as the state says, and one that
+-- closes as its fault is; nothing is answered behind a closing. If none closes, a fault of the rest is answered.
+unfoldable pub replies : Machine → Phase → List Message → Option MessageFault → List ℕ
+replies machine now [] wrong = reply_rest machine wrong
+replies machine now (message ∷ messages) wrong =
+    elim (transition_by machine now message) [
+      | Err why ↦ at_fault machine.farewell why
+      | Ok next ↦ machine.answer now.state ++ replies machine next.0 messages wrong
     ]
 
--- A session goes on from where it stands with all these octets.
+-- An end goes on from where it stands with all these octets.
+abbrev pub replies_by : Machine → Phase → List ℕ → List ℕ
+replies_by machine now octets =
+    replies machine now (parts_of first_message octets).0 (wrong_at (parts_of first_message octets).1)
+
+-- So the receiving end.
 abbrev pub replies_from : Config → Peer → Phase → List ℕ → List ℕ
-replies_from config peer now octets =
-    replies config peer now (parts_of first_message octets).0 (wrong_at (parts_of first_message octets).1)
+replies_from config peer now octets = replies_by (receiver config peer) now octets
 
 -- All that is replied to a peer's octets.
 abbrev pub replies_of : Config → ℕ → List ℕ → List ℕ

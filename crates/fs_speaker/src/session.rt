@@ -1,10 +1,10 @@
 //! The receiving end of a session.
 
+use crate::line::Line;
+use crate::side::Side;
 use crate::state::{Closed, State};
-use crate::transition::{Phase, transition};
 use fs_attrs::Update;
 use fs_base::{Config, Memory, Peer};
-use fs_message::{Deframer, write_keepalive, write_notice, write_open};
 use std::alloc::Global;
 use std::marker::Model;
 
@@ -12,33 +12,24 @@ use std::marker::Model;
 /// peer's UPDATEs and says what is to be replied.
 #[derive(Drop)]
 pub struct Session<'a> {
-    ends: Ends<'a>,
-    deframer: Deframer,
-    phase: Phase,
-    closed: Option<Closed>,
-}
-
-/// Whose session it is: the configuration of our end, and the peer.
-#[derive(Clone, Copy, Drop)]
-struct Ends<'a> {
     config: &'a Config,
     peer: Peer,
+    line: Line,
 }
 
 impl<'a> Model for Session<'a> {
-    ghost use Rattle.fs_speaker.specs.Session.{Live, live, IsLive};
+    ghost use Rattle.fs_speaker.specs.Session.{Live, live};
 
     ghost Value = { Live };
 
-    ghost view = { λ s. live s.ends.config.now s.ends.peer s.deframer s.phase s.closed };
-
-    ghost invariant = { λ s. IsLive s.closed s.deframer };
+    ghost view = { λ s. live s.config.now s.peer s.line };
 }
 
 impl<'a> Session<'a> {
     ghost use Rattle.std.specs.Prelude.{◌≡◌, ◌<◌, ◌≤◌, ◌++◌, length, IfOk, IfSome, IsSome};
     ghost use Rattle.fs_base.specs.Config.{peer_of};
-    ghost use Rattle.fs_speaker.specs.Session.{begins, state_of, closed_after, StaysClosed, GoesOn};
+    ghost use Rattle.fs_speaker.specs.Line.{closed_after, TicksOpen, CeasesOpen};
+    ghost use Rattle.fs_speaker.specs.Session.{begins, state_of, line_of, StaysClosed, GoesOn, GoesOnAt};
 
     /// A session with a peer of the configuration, before its first octet.
     pub fn new(alloc: Global, config: &'a Config, peer: u16) -> Result<Session<'a>, Memory>
@@ -49,16 +40,9 @@ impl<'a> Session<'a> {
             unreachable!();
         };
         Ok(Session {
-            ends: Ends {
-                config,
-                peer: *found,
-            },
-            deframer: Deframer::new(alloc)?,
-            phase: Phase {
-                state: State::WaitOpen,
-                four: false,
-            },
-            closed: None,
+            config,
+            peer: *found,
+            line: Line::new(alloc)?,
         })
     }
 
@@ -66,7 +50,7 @@ impl<'a> Session<'a> {
     /// them. The answer is how many, at least one of a piece that isn't empty, and the update where the
     /// message was one. To an OPEN our OPEN and a KEEPALIVE are appended to `replies`, to a fault a
     /// NOTIFICATION without data. Once closed, it answers the same again and takes nothing. After `Memory`
-    /// `replies` is as it was.
+    /// `replies` is as it was. The moment is the greatest so far.
     pub fn feed(
         &mut self,
         piece: &[u8],
@@ -78,137 +62,68 @@ impl<'a> Session<'a> {
         ensures some { IfOk result (λ fed. (fed.0 ≤ length piece.now) × (0 < length piece.now → 0 < fed.0)) }
         ensures exact { GoesOn self.old self.new piece.now replies.old.items replies.new.items result }
     {
-        feed_piece(
-            &self.ends,
-            &mut self.deframer,
-            &mut self.phase,
-            &mut self.closed,
-            piece,
-            replies,
-        )
+        let moment = self.line.greatest();
+        self.feed_at(moment, piece, replies)
+    }
+
+    /// As [`feed`](Session::feed) at a moment in milliseconds: a message that is taken moves the moment of the last
+    /// one taken. A moment that falls counts as the greatest so far.
+    pub fn feed_at(
+        &mut self,
+        moment: u64,
+        piece: &[u8],
+        replies: &mut Vec<u8>,
+    ) -> Result<(usize, Option<Update>), Closed>
+        ensures again { StaysClosed self.old self.new result replies.old.items replies.new.items }
+        ensures closed { self.new.closed ≡ closed_after result }
+        ensures same { (self.new.config ≡ self.old.config) × (self.new.peer ≡ self.old.peer) }
+        ensures some { IfOk result (λ fed. (fed.0 ≤ length piece.now) × (0 < length piece.now → 0 < fed.0)) }
+        ensures exact { GoesOnAt moment self.old self.new piece.now replies.old.items replies.new.items result }
+    {
+        let side = Side::Receiver {
+            config: self.config,
+            peer: self.peer,
+        };
+        self.line.feed_at(&side, moment, piece, replies)
+    }
+
+    /// The clock, at a moment in milliseconds. Where the agreed hold time has passed since the last message was
+    /// taken, the session closes with 4/0 and its NOTIFICATION is appended (RFC 4271, section 6.5); else a
+    /// KEEPALIVE is appended where a third of it has passed since the last one (section 4.4). Nothing is done
+    /// before OPEN, nor with a hold time of 0. Once closed, it answers the same again. After `Memory` `replies` is
+    /// as it was.
+    pub fn tick(&mut self, moment: u64, replies: &mut Vec<u8>) -> Result<(), Closed>
+        ensures again { StaysClosed self.old self.new result replies.old.items replies.new.items }
+        ensures closed { self.new.closed ≡ closed_after result }
+        ensures same { (self.new.config ≡ self.old.config) × (self.new.peer ≡ self.old.peer) }
+        ensures exact { TicksOpen moment (line_of self.old) (line_of self.new) replies.old.items replies.new.items
+            result }
+    {
+        self.line.tick(moment, replies)
+    }
+
+    /// Closes the session with a NOTIFICATION Cease of this subcode (RFC 4486), which is appended. A session that
+    /// is closed answers how, and nothing is appended. After `Memory` `replies` is as it was.
+    pub fn cease(&mut self, subcode: u8, replies: &mut Vec<u8>) -> Result<(), Closed>
+        ensures again { StaysClosed self.old self.new result replies.old.items replies.new.items }
+        ensures same { (self.new.config ≡ self.old.config) × (self.new.peer ≡ self.old.peer) }
+        ensures exact { CeasesOpen subcode (line_of self.old) self.new.closed replies.old.items replies.new.items
+            result }
+    {
+        self.line.cease(subcode, replies)
     }
 
     /// What has closed the session; None while it is open.
     pub fn closed(&self) -> Option<Closed>
         ensures { result ≡ self.now.closed }
     {
-        self.closed
+        self.line.closed()
     }
 
     /// The session's state.
     pub fn state(&self) -> State
         ensures { result ≡ state_of self.now }
     {
-        match self.closed {
-            Some(_) => State::Closed,
-            None => self.phase.state,
-        }
-    }
-}
-
-ghost use Rattle.std.specs.Prelude.{◌≡◌, ◌<◌, ◌≤◌, length, IfOk, IfSome};
-ghost use Rattle.fs_message.specs.Write.{AppendsWhole};
-ghost use Rattle.fs_speaker.specs.Session.{at_ends, closed_after, reply_to, Feeds, IsLive, StaysClosed, GoesOn, Refuses, ClosesAs};
-
-/// The fields of a [`Session`] with a piece fed to it.
-fn feed_piece(
-    ends: &Ends<'_>,
-    deframer: &mut Deframer,
-    phase: &mut Phase,
-    closed: &mut Option<Closed>,
-    piece: &[u8],
-    replies: &mut Vec<u8>,
-) -> Result<(usize, Option<Update>), Closed>
-    requires { IsLive closed.old deframer.old }
-    ensures live { IsLive closed.new deframer.new }
-    ensures again { StaysClosed (at_ends ends.now deframer.old phase.old closed.old)
-        (at_ends ends.now deframer.new phase.new closed.new) result replies.old.items replies.new.items }
-    ensures closed { closed.new ≡ closed_after result }
-    ensures some { IfOk result (λ fed. (fed.0 ≤ length piece.now) × (0 < length piece.now → 0 < fed.0)) }
-    ensures exact { GoesOn (at_ends ends.now deframer.old phase.old closed.old)
-        (at_ends ends.now deframer.new phase.new closed.new) piece.now replies.old.items replies.new.items result }
-{
-    if let Some(why) = *closed {
-        return Err(why);
-    }
-    let fed = advance(ends, deframer, phase, piece, replies);
-    *closed = closing(&fed);
-    fed
-}
-
-fn closing(fed: &Result<(usize, Option<Update>), Closed>) -> Option<Closed>
-    ensures { result ≡ closed_after fed.now }
-{
-    match fed {
-        Ok(_) => None,
-        Err(why) => Some(*why),
-    }
-}
-
-/// Goes on with an open session.
-fn advance(
-    ends: &Ends<'_>,
-    deframer: &mut Deframer,
-    phase: &mut Phase,
-    piece: &[u8],
-    replies: &mut Vec<u8>,
-) -> Result<(usize, Option<Update>), Closed>
-    requires { deframer.old.fault ≡ None }
-    ensures live { IfOk result (λ _. deframer.new.fault ≡ None) }
-    ensures some { IfOk result (λ fed. (fed.0 ≤ length piece.now) × (0 < length piece.now → 0 < fed.0)) }
-    ensures exact { Feeds (at_ends ends.now deframer.old phase.old None)
-        (at_ends ends.now deframer.new phase.new (closed_after result))
-        piece.now replies.old.items replies.new.items result }
-{
-    let count = match deframer.feed(piece) {
-        Ok((count, _)) => count,
-        Err(fault) => return Err(refuse(fault.code, fault.subcode, replies)),
-    };
-    let Some(frame) = deframer.message() else {
-        return Ok((count, None));
-    };
-    let alloc = *replies.allocator();
-    let (next, update) = match transition(alloc, ends.config, &ends.peer, phase, &frame) {
-        Ok(done) => done,
-        Err(why) => return Err(close(why, replies)),
-    };
-    reply(ends.config, phase.state, replies)?;
-    *phase = next;
-    Ok((count, update))
-}
-
-/// Answers a message that was taken: an OPEN by our OPEN and a KEEPALIVE.
-fn reply(config: &Config, state: State, replies: &mut Vec<u8>) -> Result<(), Memory>
-    ensures { AppendsWhole result replies.old.items replies.new.items (reply_to config.now state) }
-{
-    if state != State::WaitOpen {
-        return Ok(());
-    }
-    let start = replies.len();
-    write_open(config.local_as, config.local_id, replies)?;
-    if write_keepalive(replies).is_err() {
-        replies.truncate(start);
-        return Err(Memory);
-    }
-    Ok(())
-}
-
-/// Closes: at a fault with a NOTIFICATION.
-fn close(why: Closed, replies: &mut Vec<u8>) -> Closed
-    ensures { ClosesAs why replies.old.items replies.new.items result }
-{
-    match why {
-        Closed::Fault { code, subcode } => refuse(code, subcode, replies),
-        other => other,
-    }
-}
-
-/// Answers a fault with a NOTIFICATION.
-fn refuse(code: u8, subcode: u8, replies: &mut Vec<u8>) -> Closed
-    ensures { Refuses code subcode replies.old.items replies.new.items result }
-{
-    match write_notice(code, subcode, replies) {
-        Ok(()) => Closed::Fault { code, subcode },
-        Err(Memory) => Closed::Memory,
+        self.line.state()
     }
 }

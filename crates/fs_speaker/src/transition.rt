@@ -1,23 +1,28 @@
-//! The table of states: what one message does (RFC 4271, section 8.2.2).
+//! The table of states: what one message does at either end (RFC 4271, section 8.2.2).
 
 ghost use Rattle.std.specs.Prelude.{◌≡◌, ◌+◌, length, IsTrue};
 ghost use Rattle.fs_message.specs.Header.{allows};
 ghost use Rattle.fs_message.specs.Deframer.{frame_of};
 ghost use Rattle.fs_message.specs.Notice.{notice_of};
 ghost use Rattle.fs_speaker.specs.declared.state.State.TheVariants.{Established};
-ghost use Rattle.fs_speaker.specs.Transition.{terms_of, transition_of, transition_at, at_wait_open, at_wait_keep, notified, closing_of, IsTransition};
+ghost use Rattle.fs_speaker.specs.Side.{machine_of};
+ghost use Rattle.fs_speaker.specs.Transition.{transition_by, at_wait_open, at_wait_keep, at_established, opened, notified, closing_of, IsTransition};
 
+use crate::side::Side;
 use crate::state::{Closed, State};
-use fs_attrs::{Terms, Update, UpdateFault, read_update};
-use fs_base::{Config, Peer};
-use fs_message::{Frame, KEEPALIVE, NOTIFICATION, Notice, OPEN, Open, ROUTE_REFRESH, UPDATE};
+use fs_attrs::{Update, UpdateFault};
+use fs_message::{
+    Frame, KEEPALIVE, MessageFault, NOTIFICATION, Notice, OPEN, Open, ROUTE_REFRESH, UPDATE,
+};
 use std::alloc::Global;
 
-/// Where an open session stands: its state, and whether AS numbers have four octets (RFC 6793).
+/// Where an open session stands: its state, whether AS numbers have four octets (RFC 6793), and the hold time that
+/// was agreed in seconds; 0 is none, and before OPEN none is agreed.
 #[derive(Clone, Copy, Debug, PartialEq, Eq, Drop)]
 pub struct Phase {
     pub state: State,
     pub four: bool,
+    pub hold: u16,
 }
 
 /// The codes of a message that the state doesn't take: Finite State Machine Error (RFC 4271, section 6.6).
@@ -29,21 +34,20 @@ const NOT_TAKEN: Closed = Closed::Fault {
 /// What a message does: where the session stands next and the update that it gave, or how the session closes.
 pub(crate) fn transition(
     alloc: Global,
-    config: &Config,
-    peer: &Peer,
+    side: &Side<'_>,
     now: &Phase,
     frame: &Frame<'_>,
 ) -> Result<(Phase, Option<Update>), Closed>
     requires { IsTrue (allows frame.now.kind (19 + length frame.now.body.now)) }
-    ensures { IsTransition result (transition_of config.now peer.now now.now (frame_of frame.now)) }
+    ensures { IsTransition result (transition_by (machine_of side.now) now.now (frame_of frame.now)) }
 {
     if frame.kind == NOTIFICATION {
         return Err(notice_in(frame));
     }
     match now.state {
-        State::WaitOpen => in_wait_open(peer, frame),
+        State::WaitOpen => in_wait_open(side, frame),
         State::WaitKeep => in_wait_keep(now, frame),
-        State::Established => in_established(alloc, config, peer, now, frame),
+        State::Established => in_established(alloc, side, now, frame),
         State::Closed => Err(NOT_TAKEN),
     }
 }
@@ -61,18 +65,30 @@ fn notice_in(frame: &Frame<'_>) -> Closed
 }
 
 /// OPEN is awaited.
-fn in_wait_open(peer: &Peer, frame: &Frame<'_>) -> Result<(Phase, Option<Update>), Closed>
+fn in_wait_open(side: &Side<'_>, frame: &Frame<'_>) -> Result<(Phase, Option<Update>), Closed>
     requires { IsTrue (allows frame.now.kind (19 + length frame.now.body.now)) }
-    ensures { IsTransition result (at_wait_open peer.now (frame_of frame.now)) }
+    ensures { IsTransition result (at_wait_open (machine_of side.now) (frame_of frame.now)) }
 {
     if frame.kind != OPEN {
         return Err(NOT_TAKEN);
     }
-    match Open::read(frame.body, peer.asn) {
+    at_open(side, Open::read(frame.body, side.expected()))
+}
+
+/// An OPEN was read, or has a fault. One without a fault may lack a family that this end needs.
+fn at_open(
+    side: &Side<'_>,
+    read: Result<Open, MessageFault>,
+) -> Result<(Phase, Option<Update>), Closed>
+    ensures { result ≡ opened (machine_of side.now) read }
+{
+    match read {
+        Ok(found) if side.lacks(&found) => Err(Closed::NoFamily),
         Ok(found) => Ok((
             Phase {
                 state: State::WaitKeep,
                 four: found.four,
+                hold: side.offer().min(found.hold_time),
             },
             None,
         )),
@@ -85,7 +101,7 @@ fn in_wait_open(peer: &Peer, frame: &Frame<'_>) -> Result<(Phase, Option<Update>
 
 /// KEEPALIVE is awaited.
 fn in_wait_keep(now: &Phase, frame: &Frame<'_>) -> Result<(Phase, Option<Update>), Closed>
-    ensures { IsTransition result (at_wait_keep now.now.four (frame_of frame.now)) }
+    ensures { IsTransition result (at_wait_keep now.now.four now.now.hold (frame_of frame.now)) }
 {
     if frame.kind != KEEPALIVE {
         return Err(NOT_TAKEN);
@@ -93,7 +109,7 @@ fn in_wait_keep(now: &Phase, frame: &Frame<'_>) -> Result<(Phase, Option<Update>
     Ok((
         Phase {
             state: State::Established,
-            four: now.four,
+            ..*now
         },
         None,
     ))
@@ -102,32 +118,21 @@ fn in_wait_keep(now: &Phase, frame: &Frame<'_>) -> Result<(Phase, Option<Update>
 /// UPDATE, KEEPALIVE and ROUTE-REFRESH are taken, the last two without effect.
 fn in_established(
     alloc: Global,
-    config: &Config,
-    peer: &Peer,
+    side: &Side<'_>,
     now: &Phase,
     frame: &Frame<'_>,
 ) -> Result<(Phase, Option<Update>), Closed>
     requires { now.now.state ≡ Established }
-    ensures { IsTransition result (transition_at config.now peer.now Established now.now.four (frame_of frame.now)) }
+    ensures { IsTransition result
+        (at_established (machine_of side.now) now.now.four now.now.hold (frame_of frame.now)) }
 {
     match frame.kind {
-        UPDATE => match read_update(alloc, frame.body, &terms(config, peer, now.four)) {
-            Ok(update) => Ok((*now, Some(update))),
+        UPDATE => match side.update(alloc, now.four, frame.body) {
+            Ok(update) => Ok((*now, update)),
             Err(fault) => Err(fault_of_update(fault)),
         },
         KEEPALIVE | ROUTE_REFRESH => Ok((*now, None)),
         _ => Err(NOT_TAKEN),
-    }
-}
-
-/// The terms on which the peer's UPDATEs are read.
-fn terms(config: &Config, peer: &Peer, four: bool) -> Terms
-    ensures { result ≡ terms_of config.now peer.now four }
-{
-    Terms {
-        external: peer.asn != config.local_as,
-        four,
-        address: peer.address,
     }
 }
 

@@ -1,11 +1,11 @@
-use Rattle.fs_speaker.proofs.SessionSteps.{session_takes, session_stops, session_waits}
+use Rattle.fs_speaker.proofs.SessionSteps.{machine_takes, machine_stops, machine_waits}
 use Rattle.fs_speaker.proofs.laws.steps_make_the_session.Goals as goal
 
 pub returns-clause-takes : goal.returns-clause-takes
-returns-clause-takes c = session_takes
+returns-clause-takes c = machine_takes
 
 pub returns-clause-stops : goal.returns-clause-stops
-returns-clause-stops c = session_stops
+returns-clause-stops c = machine_stops
 
 pub returns-clause-waits : goal.returns-clause-waits
-returns-clause-waits c = session_waits
+returns-clause-waits c = machine_waits
