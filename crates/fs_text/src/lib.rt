@@ -1,0 +1,6 @@
+//! Rules in words: the one text of a rule and its actions.
+#![tactic(auto)]
+
+mod printing;
+
+pub use printing::print;

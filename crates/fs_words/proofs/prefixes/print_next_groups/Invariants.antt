@@ -1,0 +1,9 @@
+use Rattle.std.proofs.Common.{◌≡◌, ◌++◌, drop}
+use Rattle.std.specs.Prelude.{flat_map}
+use Rattle.std.specs.String.{string_bytes}
+use Rattle.fs_words.specs.Prefixes.{next_group}
+use Rattle.fs_words.proofs.prefixes.print_next_groups.Given as goal
+
+-- with what is left, all is there
+abbrev pub invariant-loop-group : goal.invariant-loop-group
+invariant-loop-group l = string_bytes l.out ++ flat_map next_group (drop l.group-index l.groups) ≡ string_bytes l.fn.out ++ flat_map next_group l.groups

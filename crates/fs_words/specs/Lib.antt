@@ -1,0 +1,5 @@
+pub mod Figures
+pub mod Operators
+pub mod Prefixes
+pub mod Actions
+pub mod Values
