@@ -7,7 +7,7 @@ use Rattle.fs_base.specs.declared.prefix.Family.{Family}
 use Rattle.fs_base.specs.declared.config.Address.{Address}
 use Rattle.fs_base.specs.declared.config.Address.TheVariants.{V4, V6}
 use Rattle.fs_base.specs.Bits.{cleared}
-use Rattle.fs_base.specs.Cleared.{IsBlock, block_of}
+use Rattle.fs_base.specs.Bits.{IsBlock, block_of}
 use Rattle.fs_nlri.specs.Parts.{V4Body, V6Body}
 use Rattle.fs_nlri.specs.Sound.{IsSoundBody}
 use Rattle.fs_packet.specs.Matches.{is_prefix_of}

@@ -10,8 +10,8 @@ use Rattle.fs_base.proofs.Blocks.{IsBlock, block_inside, block_meeting, block_of
 use Rattle.fs_nlri.specs.Parts.{Ruled}
 use Rattle.fs_nlri.specs.Rule.{IsRule, destination_of}
 use Rattle.fs_nlri.proofs.Destination.{IsMade}
-use Rattle.fs_order.specs.Order.{rule_cmp}
-use Rattle.fs_order.specs.Destination.{destination_cmp, last_shown, shown_cmp}
+use Rattle.fs_order.specs.Comparison.{rule_cmp}
+use Rattle.fs_order.specs.Laws.{destination_cmp, last_shown, shown_cmp}
 use Rattle.fs_order.proofs.First.{destinations_first}
 use Rattle.fs_rules.specs.Lent.{listed}
 use Rattle.fs_rules.specs.Table.{AreOrdered, IsRuleOf}

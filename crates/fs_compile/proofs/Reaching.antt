@@ -15,7 +15,7 @@ use Rattle.fs_nlri.specs.Forms.{form_of}
 use Rattle.fs_nlri.specs.Parts.{Body, V4Body, V6Body, ListBody, Part, Ruled}
 use Rattle.fs_nlri.specs.Rule.{IsRule, IsNormalAt, AreNormal, destination_body, destination_in, destination_of}
 use Rattle.fs_nlri.proofs.Destination.{IsMade, destination_first, made_parts}
-use Rattle.fs_order.specs.Destination.{last_shown}
+use Rattle.fs_order.specs.Laws.{last_shown}
 use Rattle.fs_packet.specs.Fields.{Viewed, family_of}
 use Rattle.fs_packet.specs.Matches.{is_match, is_prefix_of, body_matches, part_matches}
 use Rattle.fs_compile.specs.Facts.{IsSmallAddress}

@@ -5,7 +5,7 @@ use Rattle.fs_base.specs.declared.prefix.Family.{Family}
 use Rattle.fs_base.specs.declared.prefix.Family.TheVariants.{V4, V6}
 use Rattle.fs_base.specs.declared.prefix.Prefix.{Prefix}
 use Rattle.fs_base.specs.Bits.{width_of}
-use Rattle.fs_base.specs.Cleared.{IsBlock, block_below, block_of}
+use Rattle.fs_base.specs.Bits.{IsBlock, block_below, block_of}
 use Rattle.fs_base.specs.Prefix.{IsPrefixOf, last_address}
 use Rattle.fs_ops.specs.Evaluation.{holds, masks}
 use Rattle.fs_nlri.specs.Parts.{ListBody, V4Body, V6Body, part}

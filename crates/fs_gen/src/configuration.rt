@@ -20,6 +20,7 @@ pub fn three_peers(alloc: Global) -> Result<Config, Memory>
         local_id: 0xc000_02fe,
         allow_no_destination: false,
         empty_path_valid: true,
+        hold_time: 0,
         peers: Peers::new(peers),
     })
 }
@@ -32,5 +33,6 @@ fn peer(number: u16, asn: u32) -> Peer
         number,
         address: Address::V4(0xc633_6400 + u32::from(number)),
         asn,
+        max_routes: None,
     }
 }
