@@ -1,5 +1,7 @@
 //! A table of plain lists that finds each answer by looking through all of them. The table is compared with it.
 
+ghost use Rattle.std.specs.Prelude.{◌<◌, IfSome, length};
+
 use crate::fault::Fault;
 use fs_base::{Address, Config, Family, Path, Prefix, Segment};
 use fs_nlri::Rule;
@@ -50,10 +52,13 @@ impl<'a> Plain<'a> {
     }
 
     pub fn withdraw_unicast(&mut self, peer: u16, prefix: &Prefix) -> bool {
-        let before = self.unicast.len();
-        self.unicast
-            .retain(|route| route.peer != peer || route.prefix != *prefix);
-        self.unicast.len() < before
+        match place_of_prefix(&self.unicast, peer, prefix) {
+            Some(place) => {
+                self.unicast.remove(place);
+                true
+            }
+            None => false,
+        }
     }
 
     pub fn put_flow(&mut self, route: FlowRoute) -> Result<(), Fault> {
@@ -63,17 +68,21 @@ impl<'a> Plain<'a> {
     }
 
     pub fn withdraw_flow(&mut self, peer: u16, rule: &Rule) -> bool {
-        let before = self.flows.len();
-        self.flows.retain(|route| route.peer != peer || compare(&route.rule, rule).is_ne());
-        self.flows.len() < before
+        match place_of_rule(&self.flows, peer, rule) {
+            Some(place) => {
+                self.flows.remove(place);
+                true
+            }
+            None => false,
+        }
     }
 
     pub fn lose(&mut self, peer: u16) {
         if self.forgets {
             return;
         }
-        self.unicast.retain(|route| route.peer != peer);
-        self.flows.retain(|route| route.peer != peer);
+        lose_unicast(&mut self.unicast, peer);
+        lose_flows(&mut self.flows, peer);
     }
 
     /// The held flow routes of the family, in no order.
@@ -122,13 +131,7 @@ impl<'a> Plain<'a> {
 
     /// The route began in the local AS, and that is allowed.
     fn began_here(&self, route: &FlowRoute) -> bool {
-        let foreign = route
-            .path
-            .segments
-            .as_slice()
-            .iter()
-            .any(|segment| segment.form != 3);
-        self.config.empty_path_valid && !foreign
+        self.config.empty_path_valid && is_confederations(route.path.segments.as_slice())
     }
 
     fn has_same_originator(&self, route: &FlowRoute, best: Option<&UnicastRoute>) -> bool {
@@ -181,6 +184,82 @@ impl<'a> Plain<'a> {
         }
         leftmost(path).unwrap_or(0)
     }
+}
+
+/// The place of the peer's route at the prefix.
+fn place_of_prefix(routes: &[UnicastRoute], peer: u16, prefix: &Prefix) -> Option<usize>
+    ensures { IfSome result (λ place. place < length routes.now) }
+{
+    for place in 0..routes.len() {
+        if routes[place].peer == peer && routes[place].prefix == *prefix {
+            return Some(place);
+        }
+    }
+    None
+}
+
+/// The place of the peer's route of the rule.
+fn place_of_rule(routes: &[FlowRoute], peer: u16, rule: &Rule) -> Option<usize>
+    ensures { IfSome result (λ place. place < length routes.now) }
+{
+    for place in 0..routes.len() {
+        if routes[place].peer == peer && compare(&routes[place].rule, rule).is_eq() {
+            return Some(place);
+        }
+    }
+    None
+}
+
+/// The place of a unicast route of the peer.
+fn place_of_unicast(routes: &[UnicastRoute], peer: u16) -> Option<usize>
+    ensures { IfSome result (λ place. place < length routes.now) }
+{
+    for place in 0..routes.len() {
+        if routes[place].peer == peer {
+            return Some(place);
+        }
+    }
+    None
+}
+
+/// The place of a flow route of the peer.
+fn place_of_flow(routes: &[FlowRoute], peer: u16) -> Option<usize>
+    ensures { IfSome result (λ place. place < length routes.now) }
+{
+    for place in 0..routes.len() {
+        if routes[place].peer == peer {
+            return Some(place);
+        }
+    }
+    None
+}
+
+/// Takes out all routes of the peer, as many as there can be.
+fn lose_unicast(routes: &mut Vec<UnicastRoute>, peer: u16) {
+    for _ in 0..routes.len() {
+        if let Some(place) = place_of_unicast(routes, peer) {
+            routes.remove(place);
+        }
+    }
+}
+
+/// Takes out all routes of the peer, as many as there can be.
+fn lose_flows(routes: &mut Vec<FlowRoute>, peer: u16) {
+    for _ in 0..routes.len() {
+        if let Some(place) = place_of_flow(routes, peer) {
+            routes.remove(place);
+        }
+    }
+}
+
+/// Whether each segment is a confederation's sequence.
+fn is_confederations(segments: &[Segment]) -> bool {
+    for segment in segments {
+        if segment.form != 3 {
+            return false;
+        }
+    }
+    true
 }
 
 /// The first segment that isn't a confederation's.
@@ -285,15 +364,22 @@ pub fn admitted<'a>(alloc: Global, list: &[Judged<'a>]) -> Result<Vec<Judged<'a>
 /// The route of the list that `n` others stand before.
 pub fn nth<'a>(list: &[Judged<'a>], n: usize) -> Option<Judged<'a>> {
     for judged in list {
-        let before = list
-            .iter()
-            .filter(|other| is_before(other.route, judged.route))
-            .count();
-        if before == n {
+        if count_before(list, judged.route) == n {
             return Some(*judged);
         }
     }
     None
+}
+
+/// How many routes of the list stand before this one.
+fn count_before(list: &[Judged<'_>], route: &FlowRoute) -> usize {
+    let mut count = 0usize;
+    for other in list {
+        if is_before(other.route, route) {
+            count = count.wrapping_add(1);
+        }
+    }
+    count
 }
 
 /// The least number from `n` on whose rule matches the packet.
