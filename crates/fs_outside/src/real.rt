@@ -1,0 +1,143 @@
+//! The real outside: files of the system, and a writer for the program's lines.
+ghost use Rattle.std.specs.Prelude.{◌≡◌, ◌≤◌, IfOk};
+ghost use Rattle.std.specs.Io.{ReadsAtMost};
+ghost use Rattle.fs_base.specs.Outside.{HasCause, Rose};
+
+use fs_base::{Failed, Files, Sink};
+use std::alloc::Global;
+use std::io::{BufReader, ErrorKind, Read, Write};
+use std::{fs, io, rt};
+
+/// Files are read in blocks of so many octets, so that small reads cost no call of the system.
+const BLOCK: usize = 256 * 1024;
+
+/// Counts a fault.
+pub fn fault(faults: &mut u64) -> Failed
+    ensures rose { Rose faults.old faults.new }
+    ensures later { faults.old ≤ faults.new }
+{
+    *faults = faults.saturating_add(1);
+    Failed
+}
+
+/// The three slots and the faults so far.
+#[derive(Drop)]
+struct Slots<F: Read + Drop> {
+    readers: [Option<BufReader<F>>; 3],
+    faults: u64,
+}
+
+impl<F: Read + Drop> Slots<F> {
+    /// Puts the outcome of an opening into a slot.
+    fn put(&mut self, slot: u8, opened: io::Result<F>, alloc: Global) -> Result<bool, Failed>
+        requires { slot ≤ 2 }
+        ensures cause { HasCause self.old.faults self.new.faults result }
+        ensures answered { IfOk result (λ _. self.new.faults ≡ self.old.faults) }
+    {
+        let place = slot as usize;
+        self.readers[place] = None;
+        match opened {
+            Ok(file) => match BufReader::with_capacity(alloc, BLOCK, file) {
+                Ok(reader) => {
+                    self.readers[place] = Some(reader);
+                    Ok(true)
+                }
+                Err(_) => Err(fault(&mut self.faults)),
+            },
+            Err(error) if error.kind() == ErrorKind::NotFound => Ok(false),
+            Err(_) => Err(fault(&mut self.faults)),
+        }
+    }
+
+    /// Reads from a slot. One that isn't open is at its end.
+    fn read(&mut self, slot: u8, into: &mut [u8]) -> Result<usize, Failed>
+        requires { slot ≤ 2 }
+        ensures cause { HasCause self.old.faults self.new.faults result }
+        ensures bound { ReadsAtMost result into.new }
+    {
+        let Some(reader) = &mut self.readers[slot as usize] else {
+            return Ok(0);
+        };
+        match reader.read(into) {
+            Ok(count) => Ok(count),
+            Err(_) => Err(fault(&mut self.faults)),
+        }
+    }
+}
+
+/// The files of the system. Memory refused for a slot's block counts as a fault.
+#[derive(Drop)]
+pub struct RealFiles<'a, R: rt::Files> {
+    runtime: &'a R,
+    alloc: Global,
+    slots: Slots<R::File>,
+}
+
+impl<'a, R: rt::Files> RealFiles<'a, R> {
+    /// No slot is open, and no call has failed.
+    pub fn new(alloc: Global, runtime: &'a R) -> RealFiles<'a, R>
+        ensures faults { result.slots.faults ≡ 0 }
+    {
+        let slots = Slots {
+            readers: [None, None, None],
+            faults: 0,
+        };
+        RealFiles {
+            runtime,
+            alloc,
+            slots,
+        }
+    }
+}
+
+impl<'a, R: rt::Files> Files for RealFiles<'a, R> {
+    ghost use Rattle.std.specs.Prelude.{false, None, []};
+
+    ghost tells = { false };
+
+    ghost holds = { λ files name. None };
+
+    ghost left = { λ files slot. [] };
+
+    ghost faults = { λ files. files.slots.faults };
+
+    fn open_file(&mut self, slot: u8, name: &str) -> Result<bool, Failed> {
+        let opened = fs::open(self.runtime, name);
+        self.slots.put(slot, opened, self.alloc)
+    }
+
+    fn read(&mut self, slot: u8, into: &mut [u8]) -> Result<usize, Failed> {
+        self.slots.read(slot, into)
+    }
+}
+
+/// A writer that each piece goes through at once.
+#[derive(Drop)]
+pub struct RealOut<W: Write + Drop> {
+    writer: W,
+    faults: u64,
+}
+
+impl<W: Write + Drop> RealOut<W> {
+    /// A sink that writes to `writer`, of which no write has failed.
+    pub fn new(writer: W) -> RealOut<W>
+        ensures faults { result.faults ≡ 0 }
+    {
+        RealOut { writer, faults: 0 }
+    }
+}
+
+impl<W: Write + Drop> Sink for RealOut<W> {
+    ghost use Rattle.std.specs.Prelude.{None};
+
+    ghost written = { λ out. None };
+
+    ghost faults = { λ out. out.faults };
+
+    fn write(&mut self, piece: &[u8]) -> Result<usize, Failed> {
+        match self.writer.write(piece) {
+            Ok(count) if 0 < count || piece.is_empty() => Ok(count),
+            _ => Err(fault(&mut self.faults)),
+        }
+    }
+}
