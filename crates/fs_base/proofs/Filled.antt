@@ -1,8 +1,12 @@
 -- The loop that fills a buffer: so many octets stand in it, and the rest is left.
-use Rattle.std.proofs.Common.{◌≡◌, ℕ, List, ◌++◌, ◌≤◌, ◌+◌, ◌-◌, length, take, drop, ap, sym, ◌∙◌, arith, append_assoc, length-append}
+use Rattle.std.proofs.Common.{◌≡◌, ℕ, List, [], ◌++◌, ◌≤◌, ◌+◌, ◌-◌, length, take, drop, min, inl, inr, ap, sym, ◌∙◌, arith, append_assoc, length-append}
+use Rattle.std.specs.Prelude.{◌⊎◌}
 use borrow.Rule.Slice.PartMut.{put_mid}
 use Rattle.std.proofs.Math.Seq.{take-append-add}
-use Rattle.std.proofs.lemmas.List.{take-append-le, length-take}
+use Rattle.std.proofs.lemmas.List.{take-append-le, length-take, length-drop, take-take}
+use Rattle.std.proofs.lemmas.Grind.{common_steps}
+use Rattle.fs_base.specs.Parts.{window}
+use Rattle.fs_base.specs.Filling.{Fills}
 
 -- the first `count` octets of the buffer, and then what is left now, are what was left at the start
 pub record Filled (start now into : List ℕ) (count : ℕ) : Type 0 where
@@ -34,3 +38,70 @@ filled_more start now later into piece count n f size within takes =
           ∙ sym (append_assoc (take count into) (take n piece) later)
           ∙ ap (λ octets. octets ++ later) (sym (take_into into piece behind count n room within));
     }
+
+-- what was put back is given before anything else
+pub dropped_more : (back now later : List ℕ) (count n : ℕ) → now ≡ drop count back → later ≡ drop n now → later ≡ drop (count + n) back
+dropped_more back now later count n one two = two ∙ ap (drop n) one ∙ grind (arith, common_steps)
+
+-- The buffer is full as far as it can be: nothing is left, the limit was reached, or it has no room.
+pub fills_end : (start now into : List ℕ) (limit taken count : ℕ) → Filled start now into count → taken + count ≤ limit
+    → (now ≡ []) ⊎ ((taken + count ≡ limit) ⊎ (count ≡ length into)) → Fills (window limit taken start) start now into count
+fills_end start now into limit taken count f within why =
+    let front : length (take count into) ≡ count = length-take count into ∙ omega (arith, f.room) in
+    let total : length start ≡ count + length now = ap length f.split ∙ length-append (take count into) now ∙ omega (arith, front) in
+    let judged : length (take (limit - taken) start) ≡ min (limit - taken) (length start) = length-take (limit - taken) start in
+    record {
+      count_is = full why total judged;
+      filled = sym (take-take count (limit - taken) start (omega arith) ∙ ap (take count) f.split ∙ first front);
+      left = sym (ap (drop count) f.split ∙ behind front);
+    } where
+      full : (now ≡ []) ⊎ ((taken + count ≡ limit) ⊎ (count ≡ length into)) → length start ≡ count + length now
+          → length (take (limit - taken) start) ≡ min (limit - taken) (length start) → count ≡ min (length into) (length (take (limit - taken) start))
+      full (inl none) total judged = let e : length now ≡ 0 = ap length none in omega (arith, total, judged, f.room)
+      full (inr (inl all)) total judged = omega (arith, total, judged, f.room)
+      full (inr (inr all)) total judged = omega (arith, total, judged, f.room)
+
+      first : length (take count into) ≡ count → take count (take count into ++ now) ≡ take count into
+      first front = grind (arith, common_steps)
+
+      behind : length (take count into) ≡ count → drop count (take count into ++ now) ≡ now
+      behind front = grind (arith, common_steps)
+
+-- a last read that gave nothing
+pub none_read : (start now later into piece : List ℕ) (limit taken count n : ℕ) → Filled start now into count → length piece ≡ length into - count
+    → n ≡ 0 → now ≡ take n piece ++ later → taken + count ≤ limit
+    → (later ≡ []) ⊎ ((taken + count ≡ limit) ⊎ (count ≡ length into))
+    → Fills (window limit taken start) start later (put_mid count (length into - count) into piece) count
+none_read start now later into piece limit taken count n f size none takes within why =
+    let none_is : count + n ≡ count = omega (arith, none) in
+    let more : Filled start later (put_mid count (length into - count) into piece) (count + n) =
+    filled_more start now later into piece count n f size (omega (arith, none)) takes in
+    let still : Filled start later (put_mid count (length into - count) into piece) count = rw none_is at more in
+    fills_end start later (put_mid count (length into - count) into piece) limit taken count still within (room why) where
+      room : (later ≡ []) ⊎ ((taken + count ≡ limit) ⊎ (count ≡ length into))
+          → (later ≡ []) ⊎ ((taken + count ≡ limit) ⊎ (count ≡ length (put_mid count (length into - count) into piece)))
+      room (inl e) = inl e
+      room (inr (inl e)) = inr (inl e)
+      room (inr (inr e)) =
+          let behind = drop (length into - count) (drop count into) in
+          let none_behind : length behind ≡ 0 = length-drop (length into - count) (drop count into) ∙ omega (arith, length-drop count into) in
+          inr (inr (omega (
+            arith,
+            e,
+            size,
+            none_behind,
+            length-take count into,
+            length-append (take count into) (piece ++ behind),
+            length-append piece behind,
+          )))
+
+-- nothing is left of what was put back
+pub none_left : (back back' : List ℕ) (count : ℕ) → back ≡ [] → back' ≡ drop count back → back' ≡ []
+none_left back back' count none later = later ∙ ap (drop count) none ∙ grind (arith, common_steps)
+
+-- where nothing was put back, the slot alone was read
+pub fills_straight : (back back' left left' into : List ℕ) (limit taken count : ℕ) → back ≡ [] → back' ≡ drop count back
+    → Fills (window limit taken (back ++ left)) (back ++ left) (back' ++ left') into count → Fills (window limit taken left) left left' into count
+fills_straight back back' left left' into limit taken count none later f =
+    let none_later : back' ≡ [] = none_left back back' count none later in
+    rw (none, none_later) at f

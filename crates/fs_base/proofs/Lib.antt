@@ -12,7 +12,6 @@ pub mod Nesting
 pub mod Addresses
 pub mod CommonBits
 pub mod PrefixPrecedence
-pub mod MemoryFiles
 pub mod Records
 pub mod Lists
 pub mod Seeking

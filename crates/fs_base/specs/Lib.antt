@@ -14,5 +14,3 @@ pub mod Happened
 pub mod Counted
 pub mod Filling
 pub mod Whole
-pub mod MemoryFiles
-pub mod MemorySinks

@@ -1,4 +1,4 @@
--- What a sink tells of what was written, before and behind a call.
+-- What a sink tells of what was written, before and behind a call. What a clock tells of its answers grows in the same way.
 use Rattle.std.specs.Prelude.{ℕ, List, [], ◌++◌, Option, Some, None, Result, ◌≡◌, take, ⊤, MatchResult}
 
 -- What is told now was told before, and has grown by bs. What tells nothing never tells again.

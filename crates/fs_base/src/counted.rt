@@ -1,13 +1,13 @@
 //! Reading up to a limit.
 
-ghost use Rattle.std.specs.Prelude.{◌≡◌, ◌≢◌, ◌↔◌, ◌≤◌, ℕ, IsTrue};
+ghost use Rattle.std.specs.Prelude.{◌≡◌, ◌≢◌, ◌↔◌, ◌≤◌, ◌+◌, ◌++◌, [], ℕ, IsTrue, drop, length};
 ghost use Rattle.std.specs.Result.{IsErrOf};
 ghost use Rattle.std.specs.Io.{ReadsAtMost};
 ghost use Rattle.fs_base.specs.Files.{OnlySlot, ReadTakes};
 ghost use Rattle.fs_base.specs.Outside.{Rose};
-ghost use Rattle.fs_base.specs.Counted.{taken_after};
+ghost use Rattle.fs_base.specs.Counted.{given_by, taken_after};
 
-use super::{Failed, Files};
+use super::{Back, Failed, Files};
 
 /// Why a counted read gave no octets.
 #[derive(Clone, Copy, Debug, PartialEq, Eq, Drop)]
@@ -19,7 +19,7 @@ pub enum Stop {
 }
 
 /// A slot that is read up to a limit of octets.
-#[derive(Clone, Copy, Debug, PartialEq, Eq, Drop)]
+#[derive(Drop)]
 pub struct Counted {
     /// The slot of the files, 0 to 2.
     pub slot: u8,
@@ -27,8 +27,11 @@ pub struct Counted {
     pub limit: u64,
     /// So many octets were taken.
     pub taken: u64,
+    /// Octets that were put back: they are read again before the slot.
+    pub back: Back,
     pub ghost slots: { slot ≤ 2 },
     pub ghost within: { taken ≤ limit },
+    pub ghost again: { taken + length back ≤ limit },
 }
 
 impl Counted {
@@ -38,16 +41,32 @@ impl Counted {
         ensures slot { result.slot ≡ slot }
         ensures limit { result.limit ≡ limit }
         ensures taken { result.taken ≡ 0 }
+        ensures back { result.back ≡ [] }
     {
         Counted {
             slot,
             limit,
             taken: 0,
+            back: Back::none(),
         }
     }
 
+    /// Puts octets back that were just read. They count as not taken, and the next reads give them first.
+    pub fn put_back(&mut self, octets: &[u8])
+        requires few { length octets.now ≤ 4 }
+        requires read { length octets.now ≤ self.old.taken }
+        requires none { self.old.back ≡ [] }
+        ensures slot { self.new.slot ≡ self.old.slot }
+        ensures limit { self.new.limit ≡ self.old.limit }
+        ensures taken { self.new.taken + length octets.now ≡ self.old.taken }
+        ensures back { self.new.back ≡ octets.now }
+    {
+        self.back = Back::of(octets);
+        self.taken -= octets.len() as u64;
+    }
+
     /// Reads octets into the front of `into`, never past the limit, and answers how many: 0 only at the end of the
-    /// input or where `into` has no room.
+    /// input or where `into` has no room. What was put back is given first.
     ///
     /// # Errors
     ///
@@ -63,12 +82,23 @@ impl Counted {
         ensures kept_limit { self.new.limit ≡ self.old.limit }
 
         ensures left { IsTrue F.tells
-            → ReadTakes (F.left files.old self.old.slot) (F.left files.new self.old.slot) result into.new }
+            → ReadTakes
+            (self.old.back ++ F.left files.old self.old.slot)
+            (self.new.back ++ F.left files.new self.old.slot)
+            result
+            into.new }
+        ensures back { self.new.back ≡ drop (given_by result) self.old.back }
+        ensures none { self.old.back ≡ [] → self.new.back ≡ [] }
         ensures others { OnlySlot F.tells F.left F.holds self.old.slot files.old files.new }
     {
         let room = self.limit - self.taken;
         if room == 0 {
             return Err(Stop::Limit);
+        }
+        if !self.back.is_empty() {
+            let count = self.back.take(into);
+            self.taken += count as u64;
+            return Ok(count);
         }
         let most = into.len().min(room as usize);
         match files.read(self.slot, &mut into[..most]) {

@@ -1,6 +1,6 @@
 //! Filling a buffer, whatever counts the reads give.
 
-ghost use Rattle.std.specs.Prelude.{◌≡◌, ◌≢◌, ◌≤◌, ◌+◌, ℕ, IsTrue, IfOk, OnErr, length};
+ghost use Rattle.std.specs.Prelude.{◌≡◌, ◌≢◌, ◌≤◌, ◌+◌, ◌++◌, [], ℕ, IsTrue, IfOk, OnErr, drop, length};
 ghost use Rattle.fs_base.specs.Files.{OnlySlot};
 ghost use Rattle.fs_base.specs.Outside.{Rose};
 ghost use Rattle.fs_base.specs.Parts.{window};
@@ -29,10 +29,12 @@ pub fn fill<F: Files>(
 
     ensures filled { IsTrue F.tells
         → IfOk result (Fills
-        (window counted.old.limit counted.old.taken (F.left files.old counted.old.slot))
-        (F.left files.old counted.old.slot)
-        (F.left files.new counted.old.slot)
+        (window counted.old.limit counted.old.taken (counted.old.back ++ F.left files.old counted.old.slot))
+        (counted.old.back ++ F.left files.old counted.old.slot)
+        (counted.new.back ++ F.left files.new counted.old.slot)
         into.new) }
+    ensures back { IfOk result (λ n. counted.new.back ≡ drop n counted.old.back) }
+    ensures none { counted.old.back ≡ [] → counted.new.back ≡ [] }
     ensures others { OnlySlot F.tells F.left F.holds counted.old.slot files.old files.new }
 {
     let mut at = 0;

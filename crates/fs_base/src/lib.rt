@@ -1,6 +1,7 @@
 //! Prefixes, routes' paths, the configuration, and the traits by which the program meets the outside.
 #![tactic(auto)]
 
+mod back;
 mod bits;
 mod config;
 mod counted;
@@ -13,16 +14,14 @@ mod prefix;
 mod steps;
 mod whole;
 
+pub use back::Back;
 pub use config::{Address, Config, Peer, Peers};
 pub use counted::{Counted, Stop};
 pub use error::Memory;
 pub use filling::fill;
 pub use laws::precedence;
-pub use outside::calm_wire::CalmWire;
+pub use outside::clock::Clock;
 pub use outside::files::{Failed, Files};
-pub use outside::memory_files::{CalmFiles, MemFiles};
-pub use outside::memory_sinks::{CalmSink, MemSink};
-pub use outside::real::{RealFiles, RealOut};
 pub use outside::sink::{Sink, write_all};
 pub use outside::wire::{Opening, Wire};
 pub use path::{

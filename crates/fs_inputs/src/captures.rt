@@ -3,8 +3,9 @@
 use crate::fields::had;
 use crate::given::Given;
 use crate::tapes::buffer;
-use fs_base::{Counted, Files, MemFiles};
+use fs_base::{Counted, Files};
 use fs_cases::Fault;
+use fs_outside::MemFiles;
 use fs_pcap::{Capture, CaptureFault, Caught, LONGEST_RECORD};
 use std::alloc::Global;
 

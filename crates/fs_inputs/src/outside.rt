@@ -4,11 +4,9 @@ ghost use Rattle.std.specs.Prelude.{◌≤◌};
 
 use crate::fields::{count, had, pair, slot};
 use crate::tapes::buffer;
-use fs_base::{
-    CalmFiles, CalmSink, CalmWire, Counted, Files, MemFiles, MemSink, Opening, Sink, Wire, fill,
-    read_whole, write_all,
-};
+use fs_base::{Clock, Counted, Files, Opening, Sink, Wire, fill, read_whole, write_all};
 use fs_cases::{Fault, number};
+use fs_outside::{CalmFiles, CalmSink, CalmWire, MemClock, MemFiles, MemSink, MemWire};
 use std::alloc::Global;
 
 /// Numbers with spaces between them.
@@ -136,13 +134,71 @@ pub fn calm_sink_text(alloc: Global, fields: &str) -> Result<String, Fault> {
     Ok(format!(in alloc; "{answers}{written:?}")?)
 }
 
-/// What the calls on a calm wire answer: opening both ends, writing two octets, reading and closing.
-pub fn wire_text(alloc: Global) -> Result<String, Fault> {
-    let mut wire = CalmWire;
-    let opened = wire.open_end(Opening::Both);
-    let written = wire.write(0, b"ab");
-    let mut into = [0u8; 4];
-    let taken = wire.read(1, &mut into);
-    let closed = wire.close(0);
-    Ok(format!(in alloc; "{opened:?} {written:?} {taken:?} {closed:?}")?)
+/// A call on a wire: `listen`, `dial`, `both`, `read END SIZE`, `write END WORD` or `close END`.
+fn wire_call<W: Wire>(alloc: Global, wire: &mut W, call: &str) -> Result<String, Fault> {
+    let (word, rest) = pair(call);
+    let (digits, rest) = pair(rest);
+    let end = if digits == "1" { 1 } else { 0 };
+    let answer = match word {
+        "listen" => wire.open_end(Opening::Listen("x")),
+        "dial" => wire.open_end(Opening::Dial("x")),
+        "both" => wire.open_end(Opening::Both),
+        "close" => wire.close(end),
+        "write" => {
+            let taken = wire.write(end, rest.as_bytes());
+            return Ok(format!(in alloc; "{taken:?}")?);
+        }
+        "read" => {
+            let mut into = buffer(alloc, count(rest)?)?;
+            let taken = wire.read(end, &mut into);
+            return Ok(format!(in alloc; "{taken:?} {into:?}")?);
+        }
+        _ => return Err(Fault::NoWord),
+    };
+    Ok(format!(in alloc; "{answer:?}")?)
+}
+
+/// What each of these calls on a wire answers.
+fn wire_calls<W: Wire>(alloc: Global, wire: &mut W, calls: &str) -> Result<String, Fault> {
+    let mut text = String::new(alloc);
+    for call in calls.split(';') {
+        let answer = wire_call(alloc, wire, call.trim())?;
+        if !text.is_empty() {
+            text.push_str("; ")?;
+        }
+        text.push_str(answer.as_str())?;
+    }
+    Ok(text)
+}
+
+/// A wire in memory with room for so many octets, whose end 0 is to receive `abc` and of which these calls fail: what the
+/// calls behind the `;` answer, and then what was written through each end.
+pub fn wire_text(alloc: Global, fields: &str) -> Result<String, Fault> {
+    let Some((head, calls)) = fields.split_once(';') else {
+        return Err(Fault::NoField);
+    };
+    let (room, failing) = pair(head.trim());
+    let mut wire = had(MemWire::new(alloc, count(room)?, numbers(alloc, failing)?))?;
+    wire.give(0, Vec::from_slice(alloc, b"abc")?);
+    let answers = wire_calls(alloc, &mut wire, calls)?;
+    let (first, second) = (wire.written(0), wire.written(1));
+    Ok(format!(in alloc; "{answers} {first:?} {second:?}")?)
+}
+
+/// The same of a calm wire, whose ends are to receive nothing.
+pub fn calm_wire_text(alloc: Global, fields: &str) -> Result<String, Fault> {
+    let Some((room, calls)) = fields.split_once(';') else {
+        return Err(Fault::NoField);
+    };
+    let mut wire = had(CalmWire::new(alloc, count(room.trim())?))?;
+    let answers = wire_calls(alloc, &mut wire, calls)?;
+    let (first, second) = (wire.written(0), wire.written(1));
+    Ok(format!(in alloc; "{answers} {first:?} {second:?}")?)
+}
+
+/// What four calls of a clock in memory answer that has these moments.
+pub fn clock_text(alloc: Global, fields: &str) -> Result<String, Fault> {
+    let mut clock = MemClock::new(numbers(alloc, fields)?);
+    let moments = [clock.now(), clock.now(), clock.now(), clock.now()];
+    Ok(format!(in alloc; "{moments:?}")?)
 }

@@ -1,8 +1,9 @@
 //! The real files, and a file that the program writes.
 
 use crate::outside::calls_text;
-use fs_base::{RealFiles, RealOut, write_all};
+use fs_base::write_all;
 use fs_cases::Fault;
+use fs_outside::{RealFiles, RealOut};
 use std::fs;
 
 /// The file that is written, read back and removed.

@@ -4,7 +4,9 @@ use crate::captures::{capture_text, record_text};
 use crate::configurations::{address_text, said_text, taken_text};
 use crate::fields::{count, pair, sides};
 use crate::given::Given;
-use crate::outside::{calm_sink_text, files_text, sink_text, wire_text};
+use crate::outside::{
+    calm_sink_text, calm_wire_text, clock_text, files_text, sink_text, wire_text,
+};
 use crate::packets::{link_text, match_text, view_text};
 use crate::paths::copy_text;
 use crate::real::real_text;
@@ -104,7 +106,9 @@ impl Script {
             "files" => files_text(self.alloc, &self.octets, said),
             "sink" => sink_text(self.alloc, said),
             "calm_sink" => calm_sink_text(self.alloc, said),
-            "wire" => wire_text(self.alloc),
+            "wire" => wire_text(self.alloc, said),
+            "calm_wire" => calm_wire_text(self.alloc, said),
+            "clock" => clock_text(self.alloc, said),
             _ => self.configuration(word, said),
         }
     }

@@ -4,8 +4,9 @@ ghost use Rattle.std.specs.Prelude.{◌≡◌, IfOk, length};
 
 use crate::fields::had;
 use crate::given::Given;
-use fs_base::{Address, Config, Counted, Files, MemFiles, Peer, Peers};
+use fs_base::{Address, Config, Counted, Files, Peer, Peers};
 use fs_cases::Fault;
+use fs_outside::MemFiles;
 use fs_tape::{LONGEST_PAYLOAD, Tape, TapeFault, TapeItem};
 use std::alloc::Global;
 

@@ -1,5 +1,5 @@
 //! A capture, read record by record.
-ghost use Rattle.std.specs.Prelude.{◌≡◌, ◌≤◌, ℕ, None, IsSome, IsTrue, IfOk, IfSome, length};
+ghost use Rattle.std.specs.Prelude.{◌≡◌, ◌≤◌, [], ℕ, None, IsSome, IsTrue, IfOk, IfSome, length};
 ghost use Rattle.std.specs.Result.{IsErrOf};
 ghost use Rattle.fs_base.specs.Files.{OnlySlot};
 ghost use Rattle.fs_base.specs.Outside.{Rose};
@@ -34,6 +34,7 @@ pub struct Capture {
 }
 
 impl Model for Capture {
+    ghost use Rattle.std.specs.Prelude.{◌≡◌, []};
     ghost use Rattle.fs_pcap.specs.Capture.{CaptureState};
 
     ghost Value = { CaptureState };
@@ -46,6 +47,8 @@ impl Model for Capture {
           end = capture.end;
           heading = record { order = capture.order; link = capture.link };
         } };
+
+    ghost invariant = { λ capture. capture.counted.back ≡ [] };
 }
 
 impl Capture {
@@ -58,7 +61,8 @@ impl Capture {
     /// `Magic`, `Version` or `Link`, as soon as the field is read; `Cut` where there are fewer than 24 octets; `Limit`
     /// where these are all that the limit allows; `Read` where the files failed.
     pub fn begin<F: Files>(mut counted: Counted, files: &mut F) -> Result<Capture, CaptureFault>
-        requires { counted.taken ≡ 0 }
+        requires start { counted.taken ≡ 0 }
+        requires none { counted.back ≡ [] }
         ensures later { F.faults files.old ≤ F.faults files.new }
         ensures read { IsErrOf result CaptureFault.Read → Rose (F.faults files.old) (F.faults files.new) }
         ensures slot { IfOk result (λ capture. capture.slot ≡ counted.slot) }
@@ -172,7 +176,9 @@ fn next_record<F: Files>(
     order: Endian,
     into: &mut [u8],
 ) -> Result<Option<Caught>, CaptureFault>
-    requires { longest_record ≤ length into.old }
+    requires room { longest_record ≤ length into.old }
+    requires none { counted.old.back ≡ [] }
+    ensures none { counted.new.back ≡ [] }
     ensures later { F.faults files.old ≤ F.faults files.new }
     ensures read { end.old ≡ None
         → IsErrOf result CaptureFault.Read
@@ -230,7 +236,9 @@ fn advance<F: Files>(
     order: Endian,
     into: &mut [u8],
 ) -> Result<Option<Caught>, CaptureFault>
-    requires { longest_record ≤ length into.old }
+    requires room { longest_record ≤ length into.old }
+    requires none { counted.old.back ≡ [] }
+    ensures none { counted.new.back ≡ [] }
     ensures later { F.faults files.old ≤ F.faults files.new }
     ensures read { IsErrOf result CaptureFault.Read → Rose (F.faults files.old) (F.faults files.new) }
     ensures slot { counted.new.slot ≡ counted.old.slot }

@@ -3,8 +3,8 @@
 ghost use Rattle.std.specs.Prelude.{◌≤◌};
 
 use crate::named::NamedOctets;
-use fs_base::{CalmWire, MemFiles, MemSink};
 use fs_cases::Fault;
+use fs_outside::{CalmWire, MemFiles, MemSink};
 use std::alloc::Global;
 
 /// What a run is given beside its files.
@@ -70,15 +70,9 @@ pub fn ended(alloc: Global, named: &NamedOctets, terms: &Terms) -> Result<Outcom
     let mut files = files_of(alloc, named, terms)?;
     let failing = Vec::from_slice(alloc, &terms.failing_writes)?;
     let mut sink = MemSink::new(alloc, terms.room, failing).map_err(|_| Fault::Memory)?;
+    let mut wire = CalmWire::new(alloc, 0).map_err(|_| Fault::Memory)?;
     let limit = terms.limit.max(1);
-    let status = fs_cli::run_within(
-        alloc,
-        &terms.words,
-        limit,
-        &mut files,
-        &mut sink,
-        &mut CalmWire,
-    );
+    let status = fs_cli::run_within(alloc, &terms.words, limit, &mut files, &mut sink, &mut wire);
     let text = String::from_utf8(Vec::from_slice(alloc, sink.text())?).map_err(|_| Fault::NoText)?;
     Ok(Outcome { status, text })
 }

@@ -1,3 +1,4 @@
 pub mod Difference
 pub mod Advancing
+pub mod Beginning
 pub mod ReadsBack

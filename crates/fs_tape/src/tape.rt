@@ -1,5 +1,5 @@
 //! A tape, read record by record.
-ghost use Rattle.std.specs.Prelude.{◌≡◌, ◌≤◌, ◌+◌, ℕ, None, IsSome, IsTrue, IfOk, IfSome, OnErr, List, length, take};
+ghost use Rattle.std.specs.Prelude.{◌≡◌, ◌≤◌, ◌+◌, [], ℕ, None, IsSome, IsTrue, IfOk, IfSome, OnErr, List, length, take};
 ghost use Rattle.std.specs.Result.{IsErrOf};
 ghost use Rattle.fs_base.specs.Files.{OnlySlot};
 ghost use Rattle.fs_base.specs.Outside.{Rose};
@@ -23,6 +23,7 @@ pub struct Tape {
 }
 
 impl Model for Tape {
+    ghost use Rattle.std.specs.Prelude.{◌≡◌, []};
     ghost use Rattle.fs_tape.specs.Tape.{TapeState};
 
     ghost Value = { TapeState };
@@ -34,6 +35,8 @@ impl Model for Tape {
           place = tape.counted.taken;
           end = tape.end;
         } };
+
+    ghost invariant = { λ tape. tape.counted.back ≡ [] };
 }
 
 impl Tape {
@@ -46,7 +49,8 @@ impl Tape {
     /// `Bad` with `Magic`, or with `Cut` where there are fewer than eight octets; `Limit` where these are all that the
     /// limit allows; `Read` where the files failed.
     pub fn begin<F: Files>(mut counted: Counted, files: &mut F) -> Result<Tape, TapeFault>
-        requires { counted.taken ≡ 0 }
+        requires start { counted.taken ≡ 0 }
+        requires none { counted.back ≡ [] }
         ensures later { F.faults files.old ≤ F.faults files.new }
         ensures read { IsErrOf result TapeFault.Read → Rose (F.faults files.old) (F.faults files.new) }
         ensures state { IfOk result (IsBegun counted.slot counted.limit) }
@@ -143,7 +147,9 @@ fn next_record<F: Files>(
     config: &Config,
     into: &mut [u8],
 ) -> Result<Option<TapeItem>, TapeFault>
-    requires { longest_payload ≤ length into.old }
+    requires room { longest_payload ≤ length into.old }
+    requires none { counted.old.back ≡ [] }
+    ensures none { counted.new.back ≡ [] }
     ensures later { F.faults files.old ≤ F.faults files.new }
     ensures read { end.old ≡ None → IsErrOf result TapeFault.Read → Rose (F.faults files.old) (F.faults files.new) }
     ensures slot { counted.new.slot ≡ counted.old.slot }
@@ -200,7 +206,9 @@ fn advance<F: Files>(
     config: &Config,
     into: &mut [u8],
 ) -> Result<Option<TapeItem>, TapeFault>
-    requires { longest_payload ≤ length into.old }
+    requires room { longest_payload ≤ length into.old }
+    requires none { counted.old.back ≡ [] }
+    ensures none { counted.new.back ≡ [] }
     ensures later { F.faults files.old ≤ F.faults files.new }
     ensures read { IsErrOf result TapeFault.Read → Rose (F.faults files.old) (F.faults files.new) }
     ensures slot { counted.new.slot ≡ counted.old.slot }

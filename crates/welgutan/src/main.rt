@@ -1,8 +1,8 @@
 //! Welgutan: a controller and packet enforcer for BGP Flow Specification.
 #![tactic(auto)]
 
-use fs_base::{CalmWire, RealFiles, RealOut};
 use fs_cli::status;
+use fs_outside::{RealFiles, RealOut, RealWire};
 use std::env;
 use std::io::ErrorKind;
 use std::process::ExitCode;
@@ -21,5 +21,6 @@ fn main(rt: HostRuntime) -> ExitCode {
     };
     let mut files = RealFiles::new(alloc, &rt);
     let mut out = RealOut::new(rt.stdout());
-    ExitCode::from(fs_cli::run(alloc, &words, &mut files, &mut out, &mut CalmWire))
+    let mut wire = RealWire::new(&rt);
+    ExitCode::from(fs_cli::run(alloc, &words, &mut files, &mut out, &mut wire))
 }

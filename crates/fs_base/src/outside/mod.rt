@@ -1,9 +1,6 @@
-//! The outside: files, a sink and a wire as traits, in memory, and as the system has them.
+//! The outside as traits: files, a sink, a wire and a clock.
 
-pub mod calm_wire;
+pub mod clock;
 pub mod files;
-pub mod memory_files;
-pub mod memory_sinks;
-pub mod real;
 pub mod sink;
 pub mod wire;

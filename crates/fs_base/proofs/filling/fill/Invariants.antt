@@ -1,4 +1,4 @@
-use Rattle.std.proofs.Common.{◌≡◌, ◌≤◌, ◌+◌, ◌-◌, length, IsTrue}
+use Rattle.std.proofs.Common.{◌≡◌, ◌≤◌, ◌+◌, ◌-◌, ◌++◌, [], drop, length, IsTrue}
 use Rattle.fs_base.specs.Files.{OnlySlot}
 use Rattle.fs_base.proofs.Filled.{Filled}
 use Rattle.fs_base.proofs.filling.fill.Given as goal
@@ -13,7 +13,13 @@ invariant-loop-at g l = record {
   later : g.F.Files.faults l.fn.files ≤ g.F.Files.faults l.files;
   filled :
       IsTrue g.F.Files.tells
-      → Filled (g.F.Files.left l.fn.files l.fn.counted.slot) (g.F.Files.left l.files l.fn.counted.slot) l.into l.at;
+      → Filled
+      (l.fn.counted.back ++ g.F.Files.left l.fn.files l.fn.counted.slot)
+      (l.counted.back ++ g.F.Files.left l.files l.fn.counted.slot)
+      l.into
+      l.at;
+  again : l.counted.back ≡ drop l.at l.fn.counted.back;
+  none : l.fn.counted.back ≡ [] → l.counted.back ≡ [];
   others : OnlySlot g.F.Files.tells g.F.Files.left g.F.Files.holds l.fn.counted.slot l.fn.files l.files;
 }
 

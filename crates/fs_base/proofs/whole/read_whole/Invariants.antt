@@ -1,4 +1,4 @@
-use Rattle.std.proofs.Common.{◌≡◌, ◌≤◌, ◌-◌, ◌++◌, length, IsTrue}
+use Rattle.std.proofs.Common.{◌≡◌, ◌≤◌, ◌-◌, ◌++◌, [], length, IsTrue}
 use Rattle.fs_base.specs.Files.{OnlySlot}
 use Rattle.fs_base.proofs.whole.read_whole.Given as goal
 
@@ -8,6 +8,7 @@ invariant-loop-octets g l = record {
   limit : l.counted.limit ≡ l.fn.limit;
   taken : l.counted.taken ≡ length l.octets.items;
   later : g.F.Files.faults l.fn.files ≤ g.F.Files.faults l.files;
+  back : l.counted.back ≡ [];
   content : IsTrue g.F.Files.tells → g.F.Files.left l.fn.files l.fn.slot ≡ l.octets.items ++ g.F.Files.left l.files l.fn.slot;
   others : OnlySlot g.F.Files.tells g.F.Files.left g.F.Files.holds l.fn.slot l.fn.files l.files;
 }

@@ -1,5 +1,6 @@
 use Rattle.std.proofs.Common.{rules, arith, ◌≡◌, ◌∙◌, refl, ap, ◌+◌, ◌-◌, ◌<◌, ◌≤◌, ◌++◌, length, take, drop}
 use Rattle.std.proofs.lemmas.List.{take-append-le, length-take}
+use Rattle.fs_base.proofs.Filled.{fills_straight, none_left}
 use Rattle.fs_base.proofs.Records.{wrong_comes, short_comes, cut_comes, record_comes}
 use Rattle.fs_tape.specs.Header.{Said}
 use Rattle.fs_tape.specs.Tape.{item_of, items_to_come, records}
@@ -11,7 +12,7 @@ returns-in-Wrong-clause-advances g c = λ told.
     let place : c.fill.new.counted.taken - c.in-Ok.count ≡ c.args.counted.now.taken = omega (arith, c.in-Ok.ensures.taken) in
     rw place (wrong_comes (records c.args.config.now) c.args.counted.now.limit c.args.counted.now.taken
     (g.F.Files.left c.args.files.now c.args.counted.now.slot) _ c.fill.new.into c.in-Ok.count c.in-Wrong.reason c.in-Wrong.offset
-    (c.in-Ok.ensures.filled told) (search rules) c.in-Wrong.ensures.exact)
+    (fills_straight _ _ _ _ _ _ _ _ c.requires.none c.in-Ok.ensures.back (c.in-Ok.ensures.filled told)) (search rules) c.in-Wrong.ensures.exact)
 
 pub returns-in-Partial-clause-advances : goal.returns-in-Partial-clause-advances
 returns-in-Partial-clause-advances g c = λ told.
@@ -20,13 +21,14 @@ returns-in-Partial-clause-advances g c = λ told.
     (short_advances _ _ c.args.into.now c.args.counted.now.taken c.in-Ok.count c.fill.new.counted.taken c.args.counted.now.limit
     (short_comes (records c.args.config.now) c.args.counted.now.limit c.args.counted.now.taken
     (g.F.Files.left c.args.files.now c.args.counted.now.slot) _ c.fill.new.into c.in-Ok.count
-    (c.in-Ok.ensures.filled told) (search rules) c.in-Partial.ensures.exact short (search rules))
+    (fills_straight _ _ _ _ _ _ _ _ c.requires.none c.in-Ok.ensures.back (c.in-Ok.ensures.filled told)) (search rules) c.in-Partial.ensures.exact short (search rules))
     c.in-Ok.ensures.taken)
 
 pub returns-then-count-size-clause-advances : goal.returns-then-count-size-clause-advances
 returns-then-count-size-clause-advances g c = λ told.
     let all : 7 ≤ c.in-Ok.count = omega (arith, c.in-Whole.ensures.within, length-take c.in-Ok.count c.fill.new.into) in
-    let more = rw (c.in-Ok.ensures.kept_limit, c.in-Ok.ensures.taken, c.in-Ok.ensures.kept_slot) at (c.in-Ok-fill.ensures.filled told) in
+    let none = none_left _ _ _ c.requires.none c.in-Ok.ensures.back in
+    let more = rw (c.in-Ok.ensures.kept_limit, c.in-Ok.ensures.taken, c.in-Ok.ensures.kept_slot) at (fills_straight _ _ _ _ _ _ _ _ none c.in-Ok-fill.ensures.back (c.in-Ok-fill.ensures.filled told)) in
     let said : Said = record { kind = c.in-Whole.kind; peer = c.in-Whole.peer } in
     rw (c.short.ensures, c.in-Ok-fill.ensures.kept_limit, c.in-Ok.ensures.kept_limit)
     (cut_advances _
@@ -36,13 +38,14 @@ returns-then-count-size-clause-advances g c = λ told.
     (cut_comes (records c.args.config.now) c.args.counted.now.limit c.args.counted.now.taken
     (g.F.Files.left c.args.files.now c.args.counted.now.slot) _ _ c.fill.new.into c.fill-in-Whole.new.into c.in-Ok.count
     said c.in-Whole.size c.in-Ok-fill.count
-    (c.in-Ok.ensures.filled told) (search rules) c.in-Whole.ensures.exact all (search rules) more (search rules) c.if-count-size.true)
+    (fills_straight _ _ _ _ _ _ _ _ c.requires.none c.in-Ok.ensures.back (c.in-Ok.ensures.filled told)) (search rules) c.in-Whole.ensures.exact all (search rules) more (search rules) c.if-count-size.true)
     (omega arith) (omega (arith, c.in-Ok-fill.ensures.taken, c.in-Ok.ensures.taken)))
 
 pub returns-else-count-size-clause-advances : goal.returns-else-count-size-clause-advances
 returns-else-count-size-clause-advances g c = λ told.
     let all : 7 ≤ c.in-Ok.count = omega (arith, c.in-Whole.ensures.within, length-take c.in-Ok.count c.fill.new.into) in
-    let more = rw (c.in-Ok.ensures.kept_limit, c.in-Ok.ensures.taken, c.in-Ok.ensures.kept_slot) at (c.in-Ok-fill.ensures.filled told) in
+    let none = none_left _ _ _ c.requires.none c.in-Ok.ensures.back in
+    let more = rw (c.in-Ok.ensures.kept_limit, c.in-Ok.ensures.taken, c.in-Ok.ensures.kept_slot) at (fills_straight _ _ _ _ _ _ _ _ none c.in-Ok-fill.ensures.back (c.in-Ok-fill.ensures.filled told)) in
     let said : Said = record { kind = c.in-Whole.kind; peer = c.in-Whole.peer } in
     let size : length c.fill-in-Whole.new.into ≡ c.in-Whole.size = search rules in
     let octets : take c.in-Whole.size (c.fill-in-Whole.new.into ++ drop c.in-Whole.size c.args.into.now) ≡ take c.in-Whole.size c.fill-in-Whole.new.into =
@@ -51,7 +54,7 @@ returns-else-count-size-clause-advances g c = λ told.
     record_comes (records c.args.config.now) (omega arith) c.args.counted.now.limit c.args.counted.now.taken
     (g.F.Files.left c.args.files.now c.args.counted.now.slot) _ _ c.fill.new.into c.fill-in-Whole.new.into c.in-Ok.count
     said c.in-Whole.size c.in-Ok-fill.count
-    (c.in-Ok.ensures.filled told) (search rules) c.in-Whole.ensures.exact all more size c.if-count-size.false
+    (fills_straight _ _ _ _ _ _ _ _ c.requires.none c.in-Ok.ensures.back (c.in-Ok.ensures.filled told)) (search rules) c.in-Whole.ensures.exact all more size c.if-count-size.false
     ∙ rw (
       c.in-Ok-fill.ensures.kept_limit,
       c.in-Ok.ensures.kept_limit,

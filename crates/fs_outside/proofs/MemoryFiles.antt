@@ -3,8 +3,8 @@ use Rattle.std.proofs.Common.{◌≡◌, ℕ, suc, List, [], ◌∷◌, Option, 
 use Rattle.std.specs.Prelude.{if◌then◌else◌, string_bytes, unwrap_or, is_some, IsTrue, IsSome, ◌↔◌}
 use Rattle.std.specs.List.{prefix_len}
 use Rattle.std.proofs.lemmas.Bool.Decides.{nat_tests}
-use Rattle.fs_base.specs.MemoryFiles.{AddsFile, has_name, content_named, place_of, content_at, content_of}
-use Rattle.fs_base.specs.declared.outside.memory_files.HeldFile.{HeldFile}
+use Rattle.fs_outside.specs.MemoryFiles.{AddsFile, has_name, content_named, place_of, content_at, content_of}
+use Rattle.fs_outside.specs.declared.shelf.HeldFile.{HeldFile}
 
 abbrev found_at : List HeldFile → ℕ → Option (List ℕ)
 found_at files k = cond (nat_lt k (length files)) (Some (content_at files k)) None

@@ -1,11 +1,11 @@
 -- Files in memory: what each name holds, and what each slot has left to be read.
 use Rattle.std.specs.Prelude.{ℕ, List, [], ◌∷◌, Option, Some, None, Bool, ◌≡◌, if◌then◌else◌, is_some, position, drop, slice_get, slice_index_or, string_bytes}
 use Rattle.std.specs.Str.{bytes_eq}
-use Rattle.fs_base.specs.declared.outside.memory_files.HeldFile.{HeldFile}
-use Rattle.fs_base.specs.declared.outside.memory_files.Slot.{Slot}
-use Rattle.fs_base.specs.declared.outside.memory_files.Shelf.{Shelf}
-use Rattle.fs_base.specs.declared.outside.memory_files.MemFiles.{MemFiles}
-use Rattle.fs_base.specs.declared.outside.memory_files.CalmFiles.{CalmFiles}
+use Rattle.fs_outside.specs.declared.shelf.HeldFile.{HeldFile}
+use Rattle.fs_outside.specs.declared.shelf.Slot.{Slot}
+use Rattle.fs_outside.specs.declared.shelf.Shelf.{Shelf}
+use Rattle.fs_outside.specs.declared.memory_files.MemFiles.{MemFiles}
+use Rattle.fs_outside.specs.declared.memory_files.CalmFiles.{CalmFiles}
 
 abbrev pub has_name : List ℕ → HeldFile → Bool
 has_name name file = bytes_eq (string_bytes file.name) name
@@ -57,6 +57,10 @@ mem_files_calls files = files.calls
 
 abbrev pub mem_files_faults : MemFiles → ℕ
 mem_files_faults files = files.faults
+
+-- a read gives at most so many octets
+abbrev pub mem_files_most : MemFiles → ℕ
+mem_files_most files = files.most
 
 abbrev pub calm_files_holds : CalmFiles → List ℕ → Option (List ℕ)
 calm_files_holds files name = content_named files.shelf.files.items name

@@ -3,7 +3,7 @@ ghost use Rattle.std.specs.Prelude.{◌≡◌, ◌≤◌, IfOk};
 ghost use Rattle.std.specs.Io.{ReadsAtMost};
 ghost use Rattle.fs_base.specs.Outside.{HasCause, Rose};
 
-use crate::{Failed, Files, Sink};
+use fs_base::{Failed, Files, Sink};
 use std::alloc::Global;
 use std::io::{BufReader, ErrorKind, Read, Write};
 use std::{fs, io, rt};
@@ -12,7 +12,7 @@ use std::{fs, io, rt};
 const BLOCK: usize = 256 * 1024;
 
 /// Counts a fault.
-fn fault(faults: &mut u64) -> Failed
+pub fn fault(faults: &mut u64) -> Failed
     ensures rose { Rose faults.old faults.new }
     ensures later { faults.old ≤ faults.new }
 {

@@ -4,135 +4,10 @@ ghost use Rattle.std.specs.Prelude.{◌≡◌, ◌≢◌, ◌↔◌, false, ◌-
 ghost use Rattle.std.specs.Io.{ReadsAtMost};
 ghost use Rattle.fs_base.specs.Files.{OnlySlot, ReadTakes, opened_content};
 ghost use Rattle.fs_base.specs.Outside.{HasCause, Rose, fails_at};
-ghost use Rattle.fs_base.specs.MemoryFiles.{AddsFile, content_named, place_of};
 
-use crate::{Failed, Files, Memory};
+use crate::shelf::Shelf;
+use fs_base::{Failed, Files, Memory};
 use std::alloc::Global;
-
-/// A file in memory.
-#[derive(Drop)]
-struct HeldFile {
-    name: String,
-    content: Vec<u8>,
-}
-
-/// What a slot reads: the place of a file, and how many octets of it were taken.
-#[derive(Clone, Copy, Drop)]
-struct Slot {
-    place: Option<usize>,
-    taken: usize,
-}
-
-impl Slot {
-    /// A slot at its end.
-    const SHUT: Slot = Slot {
-        place: None,
-        taken: 0,
-    };
-}
-
-/// Files in memory and the three slots.
-#[derive(Drop)]
-struct Shelf {
-    files: Vec<HeldFile>,
-    slots: [Slot; 3],
-}
-
-fn place_of(files: &[HeldFile], name: &str) -> Option<usize>
-    ensures { result ≡ place_of files.now name.now }
-{
-    files.iter().position(|file| file.name.as_str() == name)
-}
-
-/// Copies what `content` has behind its first `taken` octets into the front of `into`, as far as it has room.
-fn copy_behind(content: &[u8], taken: usize, into: &mut [u8]) -> usize
-    ensures count { result ≡ min (length (drop taken content.now)) (length into.old) }
-    ensures copied { take result into.new ≡ take result (drop taken content.now) }
-    ensures fits { taken + result < 2 ^ 64 }
-{
-    if content.len() <= taken {
-        return 0;
-    }
-    let rest = &content[taken..];
-    let count = rest.len().min(into.len());
-    into[..count].copy_from_slice(&rest[..count]);
-    count
-}
-
-impl Shelf {
-    ghost use Rattle.fs_base.specs.MemoryFiles.{shelf_left};
-
-    fn new(alloc: Global) -> Shelf
-        ensures empty { result.files.items ≡ [] }
-        ensures left { (slot : ℕ) → shelf_left result slot ≡ [] }
-    {
-        Shelf {
-            files: Vec::new(alloc),
-            slots: [Slot::SHUT; 3],
-        }
-    }
-
-    fn add(&mut self, name: &str, content: Vec<u8>) -> Result<(), Memory>
-        ensures ok { OnOk result (AddsFile
-            (content_named self.old.files.items)
-            (content_named self.new.files.items)
-            name.now
-            content.items) }
-        ensures err { OnErr result (self.new.files.items ≡ self.old.files.items) }
-        ensures slots { self.new.slots ≡ self.old.slots }
-    {
-        let name = String::from_str(*self.files.allocator(), name)?;
-        self.files.push(HeldFile { name, content })?;
-        Ok(())
-    }
-
-    /// Opens a file at its front, and answers whether it is there.
-    fn open(&mut self, slot: u8, name: &str) -> bool
-        requires { slot ≤ 2 }
-        ensures found { IsTrue result ↔ IsSome (content_named self.old.files.items name.now) }
-        ensures left { shelf_left self.new slot ≡ unwrap_or (content_named self.old.files.items name.now) [] }
-        ensures others { (other : ℕ) → other ≢ slot → shelf_left self.new other ≡ shelf_left self.old other }
-        ensures files { self.new.files ≡ self.old.files }
-    {
-        let place = place_of(&self.files, name);
-        self.slots[slot as usize] = Slot { place, taken: 0 };
-        place.is_some()
-    }
-
-    /// Leaves a slot at its end.
-    fn shut(&mut self, slot: u8)
-        requires { slot ≤ 2 }
-        ensures left { shelf_left self.new slot ≡ [] }
-        ensures others { (other : ℕ) → other ≢ slot → shelf_left self.new other ≡ shelf_left self.old other }
-        ensures files { self.new.files ≡ self.old.files }
-    {
-        self.slots[slot as usize] = Slot::SHUT;
-    }
-
-    /// Reads what a slot has left into the front of `into`, as far as it has room.
-    fn read(&mut self, slot: u8, into: &mut [u8]) -> usize
-        requires { slot ≤ 2 }
-        ensures count { result ≡ min (length (shelf_left self.old slot)) (length into.old) }
-        ensures copied { take result into.new ≡ take result (shelf_left self.old slot) }
-        ensures left { shelf_left self.new slot ≡ drop result (shelf_left self.old slot) }
-        ensures others { (other : ℕ) → other ≢ slot → shelf_left self.new other ≡ shelf_left self.old other }
-        ensures files { self.new.files ≡ self.old.files }
-    {
-        let Slot { place, taken } = self.slots[slot as usize];
-        let Some(place) = place else {
-            return 0;
-        };
-        let Some(file) = self.files.get(place) else {
-            return 0;
-        };
-        let count = copy_behind(&file.content, taken, into);
-        self.slots[slot as usize] = Slot {
-            place: Some(place),
-            taken: taken + count,
-        };
-        count
-    }
-}
 
 /// Files in memory. Calls of `open_file` and `read` are counted together from 0, and those that a list names fail.
 #[derive(Drop)]
@@ -141,10 +16,12 @@ pub struct MemFiles {
     failing: Vec<u64>,
     calls: u64,
     faults: u64,
+    most: usize,
+    ghost some: { 0 < most },
 }
 
 impl MemFiles {
-    ghost use Rattle.fs_base.specs.MemoryFiles.{mem_files_calls, mem_files_failing, mem_files_faults, mem_files_holds, mem_files_left};
+    ghost use Rattle.fs_outside.specs.MemoryFiles.{AddsFile, mem_files_calls, mem_files_failing, mem_files_faults, mem_files_holds, mem_files_left, mem_files_most};
 
     /// No files. The calls of these numbers will fail.
     pub fn new(alloc: Global, failing: Vec<u64>) -> MemFiles
@@ -153,13 +30,28 @@ impl MemFiles {
         ensures failing { mem_files_failing result ≡ failing.items }
         ensures calls { mem_files_calls result ≡ 0 }
         ensures faults { mem_files_faults result ≡ 0 }
+        ensures most { mem_files_most result ≡ 2 ^ 64 - 1 }
     {
         MemFiles {
             shelf: Shelf::new(alloc),
             failing,
             calls: 0,
             faults: 0,
+            most: usize::MAX,
         }
+    }
+
+    /// From now on no read gives more than `count` octets.
+    pub fn narrow(&mut self, count: usize)
+        requires { 1 ≤ count }
+        ensures most { mem_files_most self.new ≡ min (mem_files_most self.old) count }
+        ensures holds { mem_files_holds self.new ≡ mem_files_holds self.old }
+        ensures left { mem_files_left self.new ≡ mem_files_left self.old }
+        ensures failing { mem_files_failing self.new ≡ mem_files_failing self.old }
+        ensures calls { mem_files_calls self.new ≡ mem_files_calls self.old }
+        ensures faults { mem_files_faults self.new ≡ mem_files_faults self.old }
+    {
+        self.most = self.most.min(count);
     }
 
     /// Adds a file. If there is one of that name already, that one stays the one to be opened.
@@ -175,6 +67,7 @@ impl MemFiles {
         ensures failing { mem_files_failing self.new ≡ mem_files_failing self.old }
         ensures calls { mem_files_calls self.new ≡ mem_files_calls self.old }
         ensures faults { mem_files_faults self.new ≡ mem_files_faults self.old }
+        ensures most { mem_files_most self.new ≡ mem_files_most self.old }
     {
         self.shelf.add(name, content)
     }
@@ -188,6 +81,7 @@ impl MemFiles {
         ensures calls { self.new.calls ≡ min (self.old.calls + 1) (2 ^ 64 - 1) }
         ensures shelf { self.new.shelf ≡ self.old.shelf }
         ensures failing { self.new.failing ≡ self.old.failing }
+        ensures most { self.new.most ≡ self.old.most }
     {
         let fails = self.failing.contains(&self.calls);
         self.calls = self.calls.saturating_add(1);
@@ -200,7 +94,7 @@ impl MemFiles {
 
 impl Files for MemFiles {
     ghost use Rattle.std.specs.Prelude.{true};
-    ghost use Rattle.fs_base.specs.MemoryFiles.{mem_files_calls, mem_files_failing, mem_files_faults, mem_files_holds, mem_files_left};
+    ghost use Rattle.fs_outside.specs.MemoryFiles.{mem_files_calls, mem_files_failing, mem_files_faults, mem_files_holds, mem_files_left, mem_files_most};
 
     ghost tells = { true };
 
@@ -220,6 +114,7 @@ impl Files for MemFiles {
         ensures fails { is_err result ≡ fails_at (mem_files_failing self.old) (mem_files_calls self.old) }
         ensures calls { mem_files_calls self.new ≡ min (mem_files_calls self.old + 1) (2 ^ 64 - 1) }
         ensures failing { mem_files_failing self.new ≡ mem_files_failing self.old }
+        ensures most { mem_files_most self.new ≡ mem_files_most self.old }
     {
         if self.fails() {
             self.shelf.shut(slot);
@@ -237,12 +132,14 @@ impl Files for MemFiles {
         ensures fails { is_err result ≡ fails_at (mem_files_failing self.old) (mem_files_calls self.old) }
         ensures calls { mem_files_calls self.new ≡ min (mem_files_calls self.old + 1) (2 ^ 64 - 1) }
         ensures failing { mem_files_failing self.new ≡ mem_files_failing self.old }
-        ensures whole { IfOk result (λ n. n ≡ min (length (mem_files_left self.old slot)) (length into.new)) }
+        ensures most { mem_files_most self.new ≡ mem_files_most self.old }
+        ensures count { IfOk result
+            (λ n. n ≡ min (length (mem_files_left self.old slot)) (min (length into.new) (mem_files_most self.old))) }
     {
         if self.fails() {
             return Err(Failed);
         }
-        Ok(self.shelf.read(slot, into))
+        Ok(self.shelf.read(slot, self.most, into))
     }
 }
 
@@ -253,7 +150,7 @@ pub struct CalmFiles {
 }
 
 impl CalmFiles {
-    ghost use Rattle.fs_base.specs.MemoryFiles.{calm_files_holds, calm_files_left};
+    ghost use Rattle.fs_outside.specs.MemoryFiles.{AddsFile, calm_files_holds, calm_files_left};
 
     /// No files.
     pub fn new(alloc: Global) -> CalmFiles
@@ -282,7 +179,7 @@ impl CalmFiles {
 
 impl Files for CalmFiles {
     ghost use Rattle.std.specs.Prelude.{true};
-    ghost use Rattle.fs_base.specs.MemoryFiles.{calm_files_holds, calm_files_left};
+    ghost use Rattle.fs_outside.specs.MemoryFiles.{calm_files_holds, calm_files_left};
 
     ghost tells = { true };
 
@@ -297,6 +194,6 @@ impl Files for CalmFiles {
     }
 
     fn read(&mut self, slot: u8, into: &mut [u8]) -> Result<usize, Failed> {
-        Ok(self.shelf.read(slot, into))
+        Ok(self.shelf.read(slot, usize::MAX, into))
     }
 }

@@ -1,8 +1,8 @@
 use Rattle.std.proofs.Common.{rules, ◌≡◌, ap, ◌∙◌, ◌<◌, length, get_or-set_same}
 use Rattle.std.specs.Prelude.{is_some, unwrap_or, []}
-use Rattle.fs_base.specs.MemoryFiles.{content_of, content_named, place_of}
-use Rattle.fs_base.proofs.MemoryFiles.{place_found, place_content, same_tests}
-use Rattle.fs_base.proofs.outside.memory_files.Shelf.open.Goals as goal
+use Rattle.fs_outside.specs.MemoryFiles.{content_of, content_named, place_of}
+use Rattle.fs_outside.proofs.MemoryFiles.{place_found, place_content, same_tests}
+use Rattle.fs_outside.proofs.shelf.Shelf.open.Goals as goal
 
 pub returns-clause-found : goal.returns-clause-found
 returns-clause-found c =

@@ -1,8 +1,8 @@
 -- What sinks in memory show.
-use Rattle.std.specs.Prelude.{ℕ, List, ◌++◌, Option, Some, None, Bool, ◌+◌, ◌||◌, nat_lt, length, if◌then◌else◌, option_and_then}
+use Rattle.std.specs.Prelude.{ℕ, List, ◌++◌, Option, Some, None, Bool, ◌+◌, ◌||◌, nat_lt, min, length, if◌then◌else◌, option_and_then}
 use Rattle.fs_base.specs.Outside.{fails_at}
-use Rattle.fs_base.specs.declared.outside.memory_sinks.MemSink.{MemSink}
-use Rattle.fs_base.specs.declared.outside.memory_sinks.CalmSink.{CalmSink}
+use Rattle.fs_outside.specs.declared.memory_sinks.MemSink.{MemSink}
+use Rattle.fs_outside.specs.declared.memory_sinks.CalmSink.{CalmSink}
 
 abbrev pub mem_sink_text : MemSink → List ℕ
 mem_sink_text sink = sink.text.items
@@ -21,9 +21,13 @@ mem_sink_calls sink = sink.calls
 abbrev pub mem_sink_faults : MemSink → ℕ
 mem_sink_faults sink = sink.faults
 
--- the write that fails: its number is listed, or it goes past the room
+-- a write takes at most so many octets
+abbrev pub mem_sink_most : MemSink → ℕ
+mem_sink_most sink = sink.most
+
+-- the write that fails: its number is listed, or what it would take goes past the room
 abbrev pub mem_sink_refuses : MemSink → List ℕ → Bool
-mem_sink_refuses sink piece = fails_at sink.failing.items sink.calls || nat_lt sink.room (length sink.text.items + length piece)
+mem_sink_refuses sink piece = fails_at sink.failing.items sink.calls || nat_lt sink.room (length sink.text.items + min (length piece) sink.most)
 
 abbrev pub calm_sink_written : CalmSink → Option (List ℕ)
 calm_sink_written sink = if sink.tells then Some sink.text.items else None

@@ -4,7 +4,7 @@ ghost use Rattle.std.specs.Prelude.{◌≡◌, ◌≤◌, ◌<◌, ◌+◌, ◌-
 ghost use Rattle.fs_base.specs.Outside.{HasCause, fails_at};
 ghost use Rattle.fs_base.specs.Sink.{WriteGrew};
 
-use crate::{Failed, Memory, Sink};
+use fs_base::{Failed, Memory, Sink};
 use std::alloc::Global;
 
 /// A sink in memory with room for a stated count of octets. Its writes are counted from 0, and those that a list
@@ -16,12 +16,14 @@ pub struct MemSink {
     failing: Vec<u64>,
     calls: u64,
     faults: u64,
+    most: usize,
     ghost reserved: { room ≤ vec_capacity text },
     ghost within: { vec_len text ≤ room },
+    ghost some: { 0 < most },
 }
 
 impl MemSink {
-    ghost use Rattle.fs_base.specs.MemorySinks.{mem_sink_calls, mem_sink_failing, mem_sink_faults, mem_sink_room, mem_sink_text};
+    ghost use Rattle.fs_outside.specs.MemorySinks.{mem_sink_calls, mem_sink_failing, mem_sink_faults, mem_sink_most, mem_sink_room, mem_sink_text};
 
     /// An empty sink with room for `room` octets. The writes of these numbers will fail.
     ///
@@ -34,6 +36,7 @@ impl MemSink {
         ensures failing { IfOk result (λ sink. mem_sink_failing sink ≡ failing.items) }
         ensures calls { IfOk result (λ sink. mem_sink_calls sink ≡ 0) }
         ensures faults { IfOk result (λ sink. mem_sink_faults sink ≡ 0) }
+        ensures most { IfOk result (λ sink. mem_sink_most sink ≡ 2 ^ 64 - 1) }
     {
         Ok(MemSink {
             text: Vec::with_capacity(alloc, room)?,
@@ -41,7 +44,21 @@ impl MemSink {
             failing,
             calls: 0,
             faults: 0,
+            most: usize::MAX,
         })
+    }
+
+    /// From now on no write takes more than `count` octets.
+    pub fn narrow(&mut self, count: usize)
+        requires { 1 ≤ count }
+        ensures most { mem_sink_most self.new ≡ min (mem_sink_most self.old) count }
+        ensures text { mem_sink_text self.new ≡ mem_sink_text self.old }
+        ensures room { mem_sink_room self.new ≡ mem_sink_room self.old }
+        ensures failing { mem_sink_failing self.new ≡ mem_sink_failing self.old }
+        ensures calls { mem_sink_calls self.new ≡ mem_sink_calls self.old }
+        ensures faults { mem_sink_faults self.new ≡ mem_sink_faults self.old }
+    {
+        self.most = self.most.min(count);
     }
 
     /// What was written.
@@ -53,7 +70,7 @@ impl MemSink {
 }
 
 impl Sink for MemSink {
-    ghost use Rattle.fs_base.specs.MemorySinks.{mem_sink_calls, mem_sink_failing, mem_sink_faults, mem_sink_refuses, mem_sink_room, mem_sink_text};
+    ghost use Rattle.fs_outside.specs.MemorySinks.{mem_sink_calls, mem_sink_failing, mem_sink_faults, mem_sink_most, mem_sink_refuses, mem_sink_room, mem_sink_text};
 
     ghost written = { λ sink. Some (mem_sink_text sink) };
 
@@ -65,21 +82,23 @@ impl Sink for MemSink {
         ensures taken { 0 < length piece.now → IfOk result (λ n. 0 < n) }
         ensures written { WriteGrew (Some (mem_sink_text self.old)) (Some (mem_sink_text self.new)) result piece.now }
         ensures refuses { is_err result ≡ mem_sink_refuses self.old piece.now }
-        ensures whole { IfOk result (λ n. n ≡ length piece.now) }
+        ensures count { IfOk result (λ n. n ≡ min (length piece.now) (mem_sink_most self.old)) }
+        ensures most { mem_sink_most self.new ≡ mem_sink_most self.old }
         ensures room { mem_sink_room self.new ≡ mem_sink_room self.old }
         ensures failing { mem_sink_failing self.new ≡ mem_sink_failing self.old }
         ensures calls { mem_sink_calls self.new ≡ min (mem_sink_calls self.old + 1) (2 ^ 64 - 1) }
     {
         let listed = self.failing.contains(&self.calls);
         self.calls = self.calls.saturating_add(1);
+        let count = piece.len().min(self.most);
         if listed
-            || self.room - self.text.len() < piece.len()
-            || self.text.extend_from_slice(piece).is_err()
+            || self.room - self.text.len() < count
+            || self.text.extend_from_slice(&piece[..count]).is_err()
         {
             self.faults = self.faults.saturating_add(1);
             return Err(Failed);
         }
-        Ok(piece.len())
+        Ok(count)
     }
 }
 
@@ -95,7 +114,7 @@ pub struct CalmSink {
 }
 
 impl CalmSink {
-    ghost use Rattle.fs_base.specs.MemorySinks.{calm_sink_room, calm_sink_written};
+    ghost use Rattle.fs_outside.specs.MemorySinks.{calm_sink_room, calm_sink_written};
 
     /// An empty sink with room for `room` octets.
     ///
@@ -122,7 +141,7 @@ impl CalmSink {
 }
 
 impl Sink for CalmSink {
-    ghost use Rattle.fs_base.specs.MemorySinks.{calm_sink_room, calm_sink_after, calm_sink_written};
+    ghost use Rattle.fs_outside.specs.MemorySinks.{calm_sink_room, calm_sink_after, calm_sink_written};
 
     ghost written = { calm_sink_written };
 

@@ -1,0 +1,5 @@
+pub mod MemoryFiles
+pub mod MemorySinks
+pub mod Cabled
+pub mod MemoryWires
+pub mod Moments

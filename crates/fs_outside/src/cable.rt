@@ -1,0 +1,205 @@
+//! Two ends in memory.
+
+ghost use Rattle.std.specs.Prelude.{◌≡◌, ◌≤◌, ◌+◌, ◌++◌, [], IfOk, IsTrue, false, not, nat_lt, if◌then◌else◌, length, min, take, drop, vec_capacity, vec_len};
+ghost use Rattle.fs_outside.specs.Cabled.{end_of, source_of};
+
+use crate::shelf::copy_behind;
+use fs_base::{Memory, Opening};
+use std::alloc::Global;
+
+/// Where the octets of an end come from.
+#[derive(Clone, Copy, Debug, PartialEq, Eq, Drop)]
+pub enum Origin {
+    /// The end isn't open.
+    Nothing,
+    /// From what it is to receive.
+    Own,
+    /// From what is written through the other end.
+    Other,
+}
+
+/// An end in memory: it gave the first `taken` octets of where its octets come from.
+#[derive(Drop)]
+pub struct MemEnd {
+    pub to_receive: Vec<u8>,
+    pub origin: Origin,
+    pub taken: usize,
+    pub written: Vec<u8>,
+}
+
+impl MemEnd {
+    fn new(alloc: Global, room: usize) -> Result<MemEnd, Memory>
+        ensures to_receive { IfOk result (λ end. end.to_receive.items ≡ []) }
+        ensures origin { IfOk result (λ end. end.origin ≡ Origin.Nothing) }
+        ensures taken { IfOk result (λ end. end.taken ≡ 0) }
+        ensures written { IfOk result (λ end. end.written.items ≡ []) }
+        ensures room { IfOk result (λ end. room ≤ vec_capacity end.written) }
+    {
+        Ok(MemEnd {
+            to_receive: Vec::new(alloc),
+            origin: Origin::Nothing,
+            taken: 0,
+            written: Vec::with_capacity(alloc, room)?,
+        })
+    }
+
+    /// Takes octets from there on, behind the first `taken`.
+    fn begin(&mut self, origin: Origin, taken: usize)
+        ensures to_receive { self.new.to_receive ≡ self.old.to_receive }
+        ensures origin { self.new.origin ≡ origin }
+        ensures taken { self.new.taken ≡ taken }
+        ensures written { self.new.written ≡ self.old.written }
+    {
+        self.origin = origin;
+        self.taken = taken;
+    }
+
+    /// Shuts the end; it is to receive these octets.
+    fn give(&mut self, octets: Vec<u8>)
+        ensures to_receive { self.new.to_receive ≡ octets }
+        ensures origin { self.new.origin ≡ Origin.Nothing }
+        ensures taken { self.new.taken ≡ 0 }
+        ensures written { self.new.written ≡ self.old.written }
+    {
+        self.to_receive = octets;
+        self.origin = Origin::Nothing;
+        self.taken = 0;
+    }
+
+    /// Gives octets of what is left, at most so many, into the front of `into`, and answers how many.
+    fn read(&mut self, others: &[u8], most: usize, into: &mut [u8]) -> usize
+        ensures count { result ≡ min (length (end_of self.old others.now).left) (min (length into.new) most) }
+        ensures copied { take result into.new ≡ take result (end_of self.old others.now).left }
+        ensures left { (end_of self.new others.now).left ≡ drop result (end_of self.old others.now).left }
+        ensures within { self.old.taken ≤ length (source_of self.old.origin self.old.to_receive.items others.now)
+            → self.new.taken ≤ length (source_of self.new.origin self.new.to_receive.items others.now) }
+        ensures to_receive { self.new.to_receive ≡ self.old.to_receive }
+        ensures origin { self.new.origin ≡ self.old.origin }
+        ensures written { self.new.written ≡ self.old.written }
+    {
+        let count = match self.origin {
+            Origin::Nothing => copy_behind(&[], self.taken, most, into),
+            Origin::Own => copy_behind(&self.to_receive, self.taken, most, into),
+            Origin::Other => copy_behind(others, self.taken, most, into),
+        };
+        self.taken += count;
+        count
+    }
+}
+
+/// Two ends, through each of which `room` octets can be written.
+#[derive(Drop)]
+pub struct Cable {
+    pub first: MemEnd,
+    pub second: MemEnd,
+    pub room: usize,
+    pub ghost first_room: { room ≤ vec_capacity first.written },
+    pub ghost second_room: { room ≤ vec_capacity second.written },
+    pub ghost first_size: { vec_len first.written ≤ room },
+    pub ghost second_size: { vec_len second.written ≤ room },
+    pub ghost first_taken: { first.taken ≤ length (source_of first.origin first.to_receive.items second.written.items) },
+    pub ghost second_taken: { second.taken ≤ length (source_of second.origin second.to_receive.items first.written.items) },
+}
+
+/// Appends octets, where they go within the room.
+fn append(written: &mut Vec<u8>, room: usize, piece: &[u8]) -> bool
+    requires reserved { room ≤ vec_capacity written.old }
+    requires within { vec_len written.old ≤ room }
+    ensures fits { result ≡ not (nat_lt room (length written.old.items + length piece.now)) }
+    ensures items { written.new.items ≡ (if result then written.old.items ++ piece.now else written.old.items) }
+    ensures reserved { room ≤ vec_capacity written.new }
+    ensures within { vec_len written.new ≤ room }
+{
+    piece.len() <= room - written.len() && written.extend_from_slice(piece).is_ok()
+}
+
+impl Cable {
+    ghost use Rattle.fs_base.specs.Wire.{TakesIn, end_at, opened, other_than};
+    ghost use Rattle.fs_outside.specs.MemoryWires.{ends_of, fresh_end, new_ends, passes, with_end};
+
+    /// Ends that aren't open.
+    pub fn new(alloc: Global, room: usize) -> Result<Cable, Memory>
+        ensures ends { IfOk result (λ cable. ends_of cable ≡ new_ends) }
+        ensures room { IfOk result (λ cable. cable.room ≡ room) }
+    {
+        Ok(Cable {
+            first: MemEnd::new(alloc, room)?,
+            second: MemEnd::new(alloc, room)?,
+            room,
+        })
+    }
+
+    /// The end is to receive these octets; it isn't open then.
+    pub fn give(&mut self, end: u8, octets: Vec<u8>)
+        requires { end ≤ 1 }
+        ensures ends { ends_of self.new ≡ with_end end (fresh_end octets.items) (ends_of self.old) }
+        ensures room { self.new.room ≡ self.old.room }
+    {
+        if end == 0 {
+            self.first.give(octets);
+        } else {
+            self.second.give(octets);
+        }
+    }
+
+    /// Opens an end, or joins both.
+    pub fn open(&mut self, how: Opening<'_>)
+        ensures ends { ends_of self.new ≡ opened how.entry (ends_of self.old) }
+        ensures room { self.new.room ≡ self.old.room }
+    {
+        match how {
+            Opening::Listen(_) => self.first.begin(Origin::Own, 0),
+            Opening::Dial(_) => self.second.begin(Origin::Own, 0),
+            Opening::Both => {
+                self.first.begin(Origin::Other, self.second.written.len());
+                self.second.begin(Origin::Other, self.first.written.len());
+            }
+        }
+    }
+
+    /// Gives octets of what the end has left, at most so many, into the front of `into`, and answers how many.
+    pub fn read(&mut self, end: u8, most: usize, into: &mut [u8]) -> usize
+        requires { end ≤ 1 }
+        ensures count { result ≡ min (length (end_at end (ends_of self.old)).left) (min (length into.new) most) }
+        ensures copied { take result into.new ≡ take result (end_at end (ends_of self.old)).left }
+        ensures left { (end_at end (ends_of self.new)).left ≡ drop result (end_at end (ends_of self.old)).left }
+        ensures receives { (end_at end (ends_of self.new)).to_receive ≡ (end_at end (ends_of self.old)).to_receive }
+        ensures wrote { (end_at end (ends_of self.new)).written ≡ (end_at end (ends_of self.old)).written }
+        ensures tied { (end_at end (ends_of self.new)).joined ≡ (end_at end (ends_of self.old)).joined }
+        ensures other { other_than end (ends_of self.new) ≡ other_than end (ends_of self.old) }
+        ensures room { self.new.room ≡ self.old.room }
+    {
+        if end == 0 {
+            self.first.read(&self.second.written, most, into)
+        } else {
+            self.second.read(&self.first.written, most, into)
+        }
+    }
+
+    /// Writes all of `piece` through the end, or nothing where that would go past the room; answers whether it did.
+    pub fn write(&mut self, end: u8, piece: &[u8]) -> bool
+        requires { end ≤ 1 }
+        ensures fits { result ≡ not (passes self.old.room (ends_of self.old) end (length piece.now)) }
+        ensures taken { IsTrue result → TakesIn end piece.now (ends_of self.old) (ends_of self.new) }
+        ensures stays { result ≡ false → ends_of self.new ≡ ends_of self.old }
+        ensures room { self.new.room ≡ self.old.room }
+    {
+        if end == 0 {
+            append(&mut self.first.written, self.room, piece)
+        } else {
+            append(&mut self.second.written, self.room, piece)
+        }
+    }
+
+    /// What was written through the end.
+    pub fn written(&self, end: u8) -> &[u8]
+        requires { end ≤ 1 }
+        ensures { result.now ≡ (end_at end (ends_of self.now)).written }
+    {
+        if end == 0 {
+            &self.first.written
+        } else {
+            &self.second.written
+        }
+    }
+}

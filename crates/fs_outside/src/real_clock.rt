@@ -1,0 +1,37 @@
+//! The clock of the system.
+
+ghost use Rattle.std.specs.Prelude.{◌≡◌};
+
+use fs_base::Clock;
+use std::time;
+
+/// The monotonic clock of the system, in whole milliseconds. Where it can't be read, its last answer stands.
+#[derive(Drop)]
+pub struct RealClock<'a, R: time::Clock> {
+    runtime: &'a R,
+    last: u64,
+}
+
+impl<'a, R: time::Clock> RealClock<'a, R> {
+    /// A clock whose last answer is 0.
+    pub fn new(runtime: &'a R) -> RealClock<'a, R>
+        ensures { result.last ≡ 0 }
+    {
+        RealClock { runtime, last: 0 }
+    }
+}
+
+impl<'a, R: time::Clock> Clock for RealClock<'a, R> {
+    ghost use Rattle.std.specs.Prelude.{None};
+
+    ghost answers = { λ clock. None };
+
+    fn now(&mut self) -> u64 {
+        if let Ok(elapsed) = self.runtime.monotonic() {
+            if let Ok(moment) = u64::try_from(elapsed.as_millis()) {
+                self.last = moment;
+            }
+        }
+        self.last
+    }
+}
