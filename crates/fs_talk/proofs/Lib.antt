@@ -1,0 +1,4 @@
+pub mod Telling
+pub mod Composing
+pub mod Turning
+pub mod Attending

@@ -1,0 +1,12 @@
+use Rattle.std.proofs.Common.{◌≤◌, length}
+use Rattle.fs_talk.proofs.Telling.{Wrote}
+use Rattle.fs_talk.proofs.turn.write_end.Given as goal
+
+abbrev pub invariant-loop-rest : goal.invariant-loop-rest
+invariant-loop-rest g l = record {
+  later : g.W.Wire.faults l.fn.wire ≤ g.W.Wire.faults l.wire;
+  writing : Wrote l.fn.end l.fn.piece l.rest (g.W.Wire.tells l.fn.wire) (g.W.Wire.tells l.wire);
+}
+
+abbrev pub decreases-loop-rest : goal.decreases-loop-rest
+decreases-loop-rest g l = length l.rest

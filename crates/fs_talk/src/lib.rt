@@ -1,0 +1,14 @@
+//! The loops of the commands that speak over a wire: what an end hears at a moment and says, over any wire, any clock and
+//! ends given by a trait.
+#![tactic(auto)]
+
+mod fault;
+mod listening;
+mod room;
+mod speaker;
+mod turn;
+
+pub use fault::TalkFault;
+pub use listening::{Heard, hear_out};
+pub use room::Room;
+pub use speaker::Speaker;

@@ -1,0 +1,76 @@
+//! Hearing a stream to its end.
+
+ghost use Rattle.std.specs.Prelude.{◌≡◌, ◌≤◌, ℕ, IfOk};
+ghost use Rattle.std.specs.Result.{IsErrOf};
+ghost use Rattle.fs_base.specs.Outside.{Rose};
+ghost use Rattle.fs_talk.specs.Listening.{HearsOut};
+
+use crate::fault::TalkFault;
+use crate::room::Room;
+use crate::speaker::Speaker;
+use crate::turn::take_turn;
+use fs_base::{Clock, Wire};
+
+/// Why an end hears no more.
+#[derive(Clone, Copy, Debug, PartialEq, Eq, Drop)]
+pub enum Heard {
+    /// The stream ended.
+    All,
+    /// The end has closed.
+    Over,
+    /// The end says what it has to say without hearing more.
+    Ready,
+    /// It heard as many octets as the limit.
+    AtLimit,
+}
+
+/// Hears what comes at an end, each piece at the moment that the clock answers behind its read, and writes what the
+/// speaker says to it, until the speaker has closed or is ready, the stream ends, or `limit` octets came.
+///
+/// # Errors
+///
+/// `Failed` where the wire failed; `Memory` where the machine refused memory.
+pub fn hear_out<W: Wire, C: Clock, S: Speaker>(
+    wire: &mut W,
+    clock: &mut C,
+    end: u8,
+    speaker: &mut S,
+    limit: u64,
+    room: &mut Room,
+) -> Result<Heard, TalkFault>
+    requires place { end ≤ 1 }
+    requires some { 1 ≤ limit }
+    ensures later { W.faults wire.old ≤ W.faults wire.new }
+    ensures failed { IsErrOf result TalkFault.Failed → Rose (W.faults wire.old) (W.faults wire.new) }
+    ensures heard { IfOk result (λ heard.
+        HearsOut
+        heard
+        (S.stands speaker.old)
+        (S.stands speaker.new)
+        (S.over speaker.new)
+        (S.ready speaker.new)
+        end
+        limit
+        (W.tells wire.old)
+        (W.tells wire.new)
+        (C.answers clock.old)
+        (C.answers clock.new)) }
+{
+    let mut taken = 0;
+    loop {
+        let turn = take_turn(wire, clock, end, speaker, limit - taken, room)?;
+        taken += turn.count;
+        if speaker.is_over() {
+            return Ok(Heard::Over);
+        }
+        if speaker.is_ready() {
+            return Ok(Heard::Ready);
+        }
+        if turn.count == 0 {
+            return Ok(Heard::All);
+        }
+        if limit <= taken {
+            return Ok(Heard::AtLimit);
+        }
+    }
+}

@@ -1,0 +1,23 @@
+//! The buffers of a loop.
+
+use std::alloc::Global;
+
+/// So many octets are read at once.
+pub const PIECE: usize = 4096;
+
+/// What is read, and what an end says to it.
+#[derive(Drop)]
+pub struct Room {
+    pub buffer: [u8; PIECE],
+    pub out: Vec<u8>,
+}
+
+impl Room {
+    /// Empty buffers.
+    pub fn new(alloc: Global) -> Room {
+        Room {
+            buffer: [0; PIECE],
+            out: Vec::new(alloc),
+        }
+    }
+}

@@ -1,0 +1,51 @@
+//! An end that hears octets and says octets, as a trait.
+
+ghost use Rattle.std.specs.Prelude.{◌≡◌, ◌≤◌, ◌<◌, ℕ, List, Bool, false, IsTrue, IfOk, OnOk};
+ghost use Rattle.fs_talk.specs.Turn.{Hears, Pieces, Says};
+
+use fs_base::Memory;
+
+/// An end of a session, for the loops over a wire.
+pub trait Speaker {
+    /// That the end stands where hearing these pieces at their moments, and having said these octets, leaves it.
+    ghost stands: { Self → Pieces → List ℕ → Type 0 };
+
+    /// Whether it has closed.
+    ghost over: { Self → Bool };
+
+    /// Whether it says what it has to say without hearing more.
+    ghost ready: { Self → Bool };
+
+    /// At most so many messages it has still to say unasked.
+    ghost ahead: { Self → ℕ };
+
+    /// Hears a piece at a moment, and appends what it says to it.
+    ///
+    /// # Errors
+    ///
+    /// `Memory` where the machine refused memory.
+    fn hear(&mut self, moment: u64, piece: &[u8], out: &mut Vec<u8>) -> Result<(), Memory>
+        ensures hears { OnOk result
+            (Hears (stands self.old) (stands self.new) moment piece.now out.old.items out.new.items) }
+        ensures ahead { ahead self.new ≤ ahead self.old };
+
+    /// Appends the next message that it says unasked, and answers whether there was one.
+    ///
+    /// # Errors
+    ///
+    /// `Memory` where the machine refused memory.
+    fn next(&mut self, out: &mut Vec<u8>) -> Result<bool, Memory>
+        ensures says { OnOk result (Says (stands self.old) (stands self.new) out.old.items out.new.items) }
+        ensures fewer { IfOk result (λ had. IsTrue had → ahead self.new < ahead self.old) }
+        ensures silent { IfOk result (λ had. had ≡ false → out.new.items ≡ out.old.items) }
+        ensures all { IfOk result (λ had. had ≡ false → IsTrue (ready self.old) → ahead self.new ≡ 0) }
+        ensures ready { OnOk result (ready self.new ≡ ready self.old) };
+
+    /// Whether it has closed.
+    fn is_over(&self) -> bool
+        ensures { result ≡ over self.now };
+
+    /// Whether it says what it has to say without hearing more.
+    fn is_ready(&self) -> bool
+        ensures { result ≡ ready self.now };
+}
