@@ -3,6 +3,7 @@
 #![tactic(auto)]
 
 mod actions;
+mod ends;
 mod lists;
 mod messages;
 mod names;
@@ -96,6 +97,7 @@ fn answer_of_message(
         "rewrite" => updates::rewrite(alloc, names, input),
         "withdraw" => updates::withdraw_many(alloc, input),
         "session" => sessions::play(alloc, names, input),
+        "ends" => ends::play(alloc, names, input),
         _ => Err(Stop::Line),
     }
 }

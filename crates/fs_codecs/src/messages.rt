@@ -125,8 +125,12 @@ pub fn write(alloc: Global, names: &Names, input: &str) -> Result<String, Stop> 
     match first(input) {
         ("open", rest) => {
             let (asn, rest) = numbered(rest)?;
+            let (hold_time, rest) = numbered(rest)?;
             let (id, _) = numbered(rest)?;
-            write_open(short(asn)?, short(id)?, &mut out)?;
+            let Ok(hold_time) = u16::try_from(hold_time) else {
+                return Err(Stop::Line);
+            };
+            write_open(short(asn)?, hold_time, short(id)?, &mut out)?;
         }
         ("keepalive", _) => write_keepalive(&mut out)?,
         ("notification", body) => {

@@ -1,13 +1,14 @@
 -- A session that is fed octet by octet and the session of all octets that the peer sent.
-use Rattle.std.proofs.Common.{◌≡◌, ℕ, List, [], ◌∷◌, ◌++◌, length, drop, false, Option, Some, None, refl, ap, sym, ◌∙◌, append_assoc, append-nil, subst, arith}
+use Rattle.std.proofs.Common.{◌≡◌, ℕ, List, [], ◌∷◌, ◌++◌, length, drop, Option, Some, None, refl, ap, sym, ◌∙◌, append_assoc, append-nil, subst, arith}
 use Rattle.std.proofs.lemmas.List.{drop_all}
 use Rattle.fs_base.specs.declared.config.Config.{Config}
 use Rattle.fs_base.specs.declared.config.Peer.{Peer}
-use Rattle.fs_message.specs.Deframer.{framing, pending}
+use Rattle.fs_message.specs.Deframer.{pending}
 use Rattle.fs_attrs.specs.declared.update.Update.{Update}
 use Rattle.fs_speaker.specs.declared.state.Closed.{Closed}
 use Rattle.fs_speaker.specs.declared.transition.Phase.{Phase}
-use Rattle.fs_speaker.specs.Session.{at_start, Last, still, closed, with_update, session_from, Live, live, Step, waits, takes, stops, step_of, Does, step_with}
+use Rattle.fs_speaker.specs.Line.{Step, waits, takes, stops, fresh}
+use Rattle.fs_speaker.specs.Session.{at_start, Last, still, closed, with_update, session_from, Live, live, step_of, Does, step_with}
 use Rattle.fs_desk.specs.Receive.{with_updates, Follows, IsOver}
 use Rattle.fs_speaker.proofs.SessionSteps.{session_takes, session_stops, session_waits}
 
@@ -17,7 +18,7 @@ as_list None = []
 as_list (Some update) = update ∷ []
 
 -- a session that has not begun
-pub follows_none : (config : Config) (peer : Peer) → Follows config peer [] [] (live config peer (framing [] false None) at_start None) []
+pub follows_none : (config : Config) (peer : Peer) → Follows config peer [] [] (live config peer fresh) []
 follows_none config peer = record { alive = refl; config_is = refl; peer_is = refl; waiting = refl; goes = λ more. refl }
 
 one_more : (updates : List Update) (update : Option Update) (rest : List Update × Last)

@@ -6,7 +6,8 @@ use Rattle.fs_attrs.specs.declared.update.Update.{Update}
 use Rattle.fs_rules.specs.Table.{Held}
 use Rattle.fs_speaker.specs.declared.state.Closed.{Closed}
 use Rattle.fs_speaker.specs.declared.state.Closed.TheVariants.{Fault, Notified, NoFamily, Memory}
-use Rattle.fs_speaker.specs.Session.{at_start, Live, Step, stops, Does, step_with, CloseIs}
+use Rattle.fs_speaker.specs.Line.{Step, stops, CloseIs}
+use Rattle.fs_speaker.specs.Session.{at_start, Live, Does, step_with}
 use Rattle.fs_speaker.specs.Replies.{replies_from}
 use Rattle.fs_desk.specs.Apply.{Changes, nothing, told, told_of}
 use Rattle.fs_desk.specs.Leaves.{IsListed}

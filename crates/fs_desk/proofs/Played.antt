@@ -11,8 +11,8 @@ use Rattle.std.proofs.lemmas.Map.Keys.{IsDistinct-from_sorted}
 use Rattle.fs_base.specs.Config.{peer_of}
 use Rattle.fs_base.specs.declared.config.Config.{Config}
 use Rattle.fs_base.specs.declared.config.Peer.{Peer}
-use Rattle.fs_message.specs.Deframer.{framing}
 use Rattle.fs_rules.specs.Table.{Held}
+use Rattle.fs_speaker.specs.Line.{fresh}
 use Rattle.fs_speaker.specs.Session.{at_start, Live, live, begins}
 use Rattle.fs_speaker.specs.Replies.{replies_from}
 use Rattle.fs_tape.specs.Tape.{Item, came_up, received, was_lost}
@@ -122,7 +122,7 @@ left_down config None (Some s) n held k = absurd k
 left_down config (Some peer) (Some s) n held k = absurd k
 
 pub played_up : (config : Config) (items : List Item) (n : ℕ) (peer : Peer) (session : Live) (mid new : Desked)
-    → peer_of n config.peers ≡ Some peer → session ≡ live config peer (framing [] false None) at_start None
+    → peer_of n config.peers ≡ Some peer → session ≡ live config peer fresh
     → new.config ≡ mid.config → new.held ≡ mid.held → new.sessions ≡ insert_entry nat_cmp mid.sessions n session
     → Played config (items ++ was_lost n ∷ []) mid → Played config (items ++ came_up n ∷ []) new
 played_up config items n peer session mid new q v c h s p = record {
@@ -303,8 +303,8 @@ played_new config table sessions e f =
     (ap (λ (h : Held). let d : Desked = record { config = config; held = h; sessions = sessions } in d) e
     ∙ ap (λ (s : List (ℕ × Live)). let d : Desked = record { config = config; held = record { config = config; unicast = []; flows = [] }; sessions = s } in d) f)
 
-begun : (own : Config) (o : Option Peer) (session : Live) → option_map (λ (peer : Peer). live own peer (framing [] false None) at_start None) o ≡ Some session
-    → (peer : Peer) × (o ≡ Some peer) × (session ≡ live own peer (framing [] false None) at_start None)
+begun : (own : Config) (o : Option Peer) (session : Live) → option_map (λ (peer : Peer). live own peer fresh) o ≡ Some session
+    → (peer : Peer) × (o ≡ Some peer) × (session ≡ live own peer fresh)
 begun own None session h = absurd cc
 begun own (Some peer) session h = (peer, refl, ap (λ (s : Option Live). unwrap_or s session) (sym h))
 
@@ -317,7 +317,7 @@ desk_up config items n session own table sessions sessions' mid e b s p =
     let found = begun own (peer_of n own.peers) session b in
     played_up config items n found.0 session (record { config = own; held = table; sessions = sessions }) (record { config = own; held = table; sessions = sessions' })
     (ap (λ (c : Config). peer_of n c.peers) (sym q.config_is) ∙ found.1)
-    (found.2 ∙ ap (λ (c : Config). live c found.0 (framing [] false None) at_start None) q.config_is)
+    (found.2 ∙ ap (λ (c : Config). live c found.0 fresh) q.config_is)
     refl refl s q
 
 -- a session's value is written back in its place

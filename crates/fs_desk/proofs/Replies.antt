@@ -8,7 +8,9 @@ use Rattle.fs_attrs.specs.declared.update.Update.{Update}
 use Rattle.fs_rules.specs.Table.{Held}
 use Rattle.fs_speaker.specs.declared.state.Closed.{Closed}
 use Rattle.fs_speaker.specs.declared.state.Closed.TheVariants.{Memory}
-use Rattle.fs_speaker.specs.Session.{at_start, reply_at, Live, Does, CloseIs, reply_of, step_with}
+use Rattle.fs_speaker.specs.Line.{CloseIs}
+use Rattle.fs_speaker.specs.Side.{reply_at}
+use Rattle.fs_speaker.specs.Session.{at_start, Live, Does, reply_of, step_with}
 use Rattle.fs_speaker.specs.Replies.{replies_from}
 use Rattle.fs_desk.specs.Receive.{Follows, IsFed, IsReplying, HasReplied, IsUp, RepliesTo, Extends, IsReplyingMore, HasRepliedMore, RepliesMessage}
 use Rattle.fs_desk.proofs.Pieces.{close_is, some_there}

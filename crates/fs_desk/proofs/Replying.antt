@@ -1,12 +1,14 @@
 -- What a session replies when it is fed octet by octet, and all that is replied to the octets that the peer sent.
-use Rattle.std.proofs.Common.{◌≡◌, ℕ, List, [], ◌++◌, drop, false, Option, Some, None, ap, sym, ◌∙◌, append_assoc, append-nil, subst}
+use Rattle.std.proofs.Common.{◌≡◌, ℕ, List, [], ◌++◌, drop, Option, Some, None, ap, sym, ◌∙◌, append_assoc, append-nil, subst}
 use Rattle.fs_base.specs.declared.config.Config.{Config}
 use Rattle.fs_base.specs.declared.config.Peer.{Peer}
-use Rattle.fs_message.specs.Deframer.{framing, pending}
+use Rattle.fs_message.specs.Deframer.{pending}
 use Rattle.fs_attrs.specs.declared.update.Update.{Update}
 use Rattle.fs_speaker.specs.declared.state.Closed.{Closed}
 use Rattle.fs_speaker.specs.declared.transition.Phase.{Phase}
-use Rattle.fs_speaker.specs.Session.{at_start, reply_to, reply_at, Live, live, Step, waits, takes, stops, step_of, Does, reply_of, step_with}
+use Rattle.fs_speaker.specs.Line.{Step, waits, takes, stops, fresh}
+use Rattle.fs_speaker.specs.Side.{reply_to, reply_at}
+use Rattle.fs_speaker.specs.Session.{at_start, Live, live, step_of, Does, reply_of, step_with}
 use Rattle.fs_speaker.specs.Replies.{replies_from}
 use Rattle.fs_speaker.proofs.ReplySteps.{replies_takes, replies_stops, replies_waits}
 use Rattle.fs_desk.specs.Receive.{Follows, IsFed, IsReplying, HasReplied}
@@ -14,7 +16,7 @@ use Rattle.fs_desk.proofs.Follows.{nothing_waits, all_gone}
 
 -- a session that has not begun has said nothing
 pub replied_none : (config : Config) (peer : Peer)
-    → HasReplied config peer [] (live config peer (framing [] false None) at_start None) None (replies_from config peer at_start [])
+    → HasReplied config peer [] (live config peer fresh) None (replies_from config peer at_start [])
 replied_none config peer = λ more.
     ap (λ (z : List ℕ). z ++ replies_from config peer at_start more) (sym (replies_waits config peer at_start [] (nothing_waits config peer at_start)))
 

@@ -9,7 +9,8 @@ use Rattle.fs_attrs.specs.declared.update.Update.{Update}
 use Rattle.fs_rules.specs.Table.{Held}
 use Rattle.fs_speaker.specs.declared.state.Closed.{Closed}
 use Rattle.fs_speaker.specs.declared.state.Closed.TheVariants.{Fault, Notified, NoFamily, Memory}
-use Rattle.fs_speaker.specs.Session.{at_start, Last, closed, session_from, Live, waits, step_of}
+use Rattle.fs_speaker.specs.Line.{waits}
+use Rattle.fs_speaker.specs.Session.{at_start, Last, closed, session_from, Live, step_of}
 use Rattle.fs_speaker.specs.Replies.{replies_from}
 use Rattle.fs_desk.specs.Leaves.{unicast_left, flow_left, IsListed, unicast_at, flow_at}
 

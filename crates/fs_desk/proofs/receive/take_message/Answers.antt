@@ -1,6 +1,7 @@
 use Rattle.std.proofs.Common.{Option, subst, sym, ◌∙◌}
 use Rattle.fs_attrs.specs.declared.update.Update.{Update}
-use Rattle.fs_speaker.specs.Session.{reply_at, Does, step_with}
+use Rattle.fs_speaker.specs.Side.{reply_at}
+use Rattle.fs_speaker.specs.Session.{Does, step_with}
 use Rattle.fs_desk.proofs.Pieces.{fed_none, fed_update, fed_closed, not_memory}
 use Rattle.fs_desk.proofs.Replies.{replies_taken, replies_closed, replies_nothing, extends_fed}
 use Rattle.fs_desk.proofs.TableChanges.{lost_to}
