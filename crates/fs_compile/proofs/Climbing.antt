@@ -1,0 +1,298 @@
+-- The search through buckets, from one to its parent: what it passes holds no rule that matches, and what it tests is near.
+use Rattle.std.proofs.Common.{◌≡◌, ℕ, ◌+◌, ◌-◌, ◌<◌, ◌≤◌, ◌⊎◌, inl, inr, max, refl, sym, subst, ◌∙◌, Bool, true, false, true≢false, Option, Some, None, MatchOption, is_some, cond, map, List, length, get_or, count_by, arith}
+use Rattle.std.proofs.lemmas.Bool.{cases_lt}
+use Rattle.std.proofs.lemmas.List.{get_or-map}
+use Rattle.std.proofs.lemmas.List.Sums.{sum_by-take-le}
+use Rattle.fs_base.proofs.Bools.{false_from}
+use Rattle.fs_compile.specs.declared.nodes.Node.{Node}
+use Rattle.fs_compile.specs.Buckets.{AreBuckets, node_at}
+use Rattle.fs_compile.specs.Search.{AreNear, Found, Missed, Passed, Within, marked}
+use Rattle.fs_compile.proofs.Counts.{marked_all, marked_later, marked_run}
+
+-- Stretches joined.
+pub missed_join : (hits : List Bool) (lo start low to : ℕ) → low ≡ max lo start → Missed hits lo start → Missed hits low to → Missed hits lo to
+missed_join hits lo start low to e first second k above below = at (cases_lt k start) where
+  at : (k < start) ⊎ (start ≤ k) → get_or hits k false ≡ false
+  at (inl before) = first k above before
+  at (inr behind) = let later : low ≤ k = omega (arith, e, above, behind) in second k later below
+
+pub found_join : (hits : List Bool) (lo start low to count k : ℕ) → low ≡ max lo start → to ≤ count → Missed hits lo start → Found hits low to k → Found hits lo count k
+found_join hits lo start low to count k e most first f = record {
+  above = let a : low ≤ k = f.above in omega (arith, e, a);
+  below = let a : k < to = f.below in omega (arith, most, a);
+  hit = f.hit;
+  before = missed_join hits lo start low k e first f.before;
+}
+
+-- A rule before the start of a bucket that has one is in an earlier bucket.
+home_before : (lasts : List ℕ) (nodes : List (Node ℕ)) (homes : List ℕ) (count j k : ℕ) → AreBuckets lasts nodes homes count
+    → j ≤ length lasts → k < (node_at nodes j).start → (k < length homes) × (get_or homes k 0 < j)
+home_before lasts nodes homes count j k s lj high = (within, at (cases_lt (get_or homes k 0) j)) where
+  within : k < length homes
+  within =
+      let a : (node_at nodes j).start ≤ (node_at nodes (length lasts)).start = s.starts j (length lasts) lj (omega arith) in
+      let t : (node_at nodes (length lasts)).start ≡ length homes = s.tail in
+      omega (arith, high, a, t)
+
+  at : (get_or homes k 0 < j) ⊎ (j ≤ get_or homes k 0) → get_or homes k 0 < j
+  at (inl less) = less
+  at (inr over) =
+      let h : get_or homes k 0 < length lasts = s.home k within in
+      let a : (node_at nodes j).start ≤ (node_at nodes (get_or homes k 0)).start = s.starts j (get_or homes k 0) over (omega (arith, h)) in
+      let b : (node_at nodes (get_or homes k 0)).start ≤ k = s.begins k within in
+      omega (arith, high, a, b)
+
+-- one from the start of a bucket on is in that or a later one
+home_from : (lasts : List ℕ) (nodes : List (Node ℕ)) (homes : List ℕ) (count i k : ℕ) → AreBuckets lasts nodes homes count
+    → i ≤ length lasts → k < length homes → (node_at nodes i).start ≤ k → i ≤ get_or homes k 0
+home_from lasts nodes homes count i k s li within low = at (cases_lt (get_or homes k 0) i) where
+  at : (get_or homes k 0 < i) ⊎ (i ≤ get_or homes k 0) → i ≤ get_or homes k 0
+  at (inl less) =
+      let next : get_or homes k 0 + 1 ≤ i = omega (arith, less) in
+      let a : (node_at nodes (get_or homes k 0 + 1)).start ≤ (node_at nodes i).start = s.starts (get_or homes k 0 + 1) i next li in
+      let b : k < (node_at nodes (get_or homes k 0 + 1)).start = s.ends k within in
+      omega (arith, low, a, b)
+  at (inr h) = h
+
+-- where a bucket begins above the address, none up to its parent holds that
+above_it : (lasts : List ℕ) (nodes : List (Node ℕ)) (homes : List ℕ) (count d at k : ℕ) (near : List Bool) → AreBuckets lasts nodes homes count
+    → AreNear lasts nodes homes d count near → at < length lasts → d < (node_at nodes at).first
+    → (node_at nodes at).start ≤ k → k < (node_at nodes (node_at nodes at).parent).start → get_or near k false ≡ false
+above_it lasts nodes homes count d at k near s n inside high low below = false_from (get_or near k false) (λ hit.
+    let held = n.apart k before.0 hit in
+    by (cases_lt at (get_or homes k 0)) held.0)
+  where
+    parent : (node_at nodes at).parent ≤ length lasts
+    parent = s.within at inside
+
+    before : (k < length homes) × (get_or homes k 0 < (node_at nodes at).parent)
+    before = home_before lasts nodes homes count (node_at nodes at).parent k s parent below
+
+    from : at ≤ get_or homes k 0
+    from = home_from lasts nodes homes count at k s (omega (arith, inside)) before.0 low
+
+    by : (at < get_or homes k 0) ⊎ (get_or homes k 0 ≤ at) → (node_at nodes (get_or homes k 0)).first ≤ d → ⊥
+    by (inl later) held =
+        let a : (node_at nodes at).first < (node_at nodes (get_or homes k 0)).first = s.least at (get_or homes k 0) inside later before.1 in
+        omega (arith, a, held, high)
+    by (inr no_later) held =
+        let same : get_or homes k 0 ≡ at = omega (arith, from, no_later) in
+        let own : (node_at nodes at).first ≤ d = subst (λ h. (node_at nodes h).first ≤ d) same held in
+        omega (arith, own, high)
+
+-- nor does one behind a bucket that ends no earlier, up to its parent
+beyond_it : (lasts : List ℕ) (nodes : List (Node ℕ)) (homes : List ℕ) (count d at k : ℕ) (near : List Bool) → AreBuckets lasts nodes homes count
+    → AreNear lasts nodes homes d count near → at < length lasts → d ≤ get_or lasts at 0
+    → (node_at nodes (at + 1)).start ≤ k → k < (node_at nodes (node_at nodes at).parent).start → get_or near k false ≡ false
+beyond_it lasts nodes homes count d at k near s n inside ends low below = false_from (get_or near k false) (λ hit.
+    let held : (node_at nodes (get_or homes k 0)).first ≤ d = (n.apart k before.0 hit).0 in
+    let a : (node_at nodes at).first < (node_at nodes (get_or homes k 0)).first = s.least at (get_or homes k 0) inside (omega (arith, from)) before.1 in
+    let meets : (node_at nodes (get_or homes k 0)).first ≤ get_or lasts at 0 = omega (arith, held, ends) in
+    let b : (node_at nodes (get_or homes k 0)).first ≤ (node_at nodes at).first = s.nested at (get_or homes k 0) (omega (arith, from)) (s.home k before.0) meets in
+    omega (arith, a, b))
+  where
+    parent : (node_at nodes at).parent ≤ length lasts
+    parent = s.within at inside
+
+    before : (k < length homes) × (get_or homes k 0 < (node_at nodes at).parent)
+    before = home_before lasts nodes homes count (node_at nodes at).parent k s parent below
+
+    from : at + 1 ≤ get_or homes k 0
+    from = home_from lasts nodes homes count (at + 1) k s (omega (arith, inside)) before.0 low
+
+-- what isn't near doesn't match
+not_near : (hits near : List Bool) (k : ℕ) → Within hits near → get_or near k false ≡ false → get_or hits k false ≡ false
+not_near hits near k w e = false_from (get_or hits k false) (λ hit. true≢false (sym (w k hit) ∙ e))
+
+-- A step from a bucket to its parent: the bucket isn't searched, or is searched in vain.
+pub skipped_up : (lasts : List ℕ) (nodes : List (Node ℕ)) (homes : List ℕ) (count d at lo : ℕ) (hits near : List Bool) → AreBuckets lasts nodes homes count
+    → AreNear lasts nodes homes d count near → Within hits near → at < length lasts → d < (node_at nodes at).first
+    → Missed hits lo (node_at nodes at).start → Missed hits lo (node_at nodes (node_at nodes at).parent).start
+skipped_up lasts nodes homes count d at lo hits near s n w inside high missed k above below = by (cases_lt k (node_at nodes at).start) where
+  by : (k < (node_at nodes at).start) ⊎ ((node_at nodes at).start ≤ k) → get_or hits k false ≡ false
+  by (inl before) = missed k above before
+  by (inr behind) = not_near hits near k w (above_it lasts nodes homes count d at k near s n inside high behind below)
+
+pub searched_up : (lasts : List ℕ) (nodes : List (Node ℕ)) (homes : List ℕ) (count d at lo low : ℕ) (hits near : List Bool) → AreBuckets lasts nodes homes count
+    → AreNear lasts nodes homes d count near → Within hits near → at < length lasts → d ≤ get_or lasts at 0 → low ≡ max lo (node_at nodes at).start
+    → Missed hits lo (node_at nodes at).start → Missed hits low (node_at nodes (at + 1)).start → Missed hits lo (node_at nodes (node_at nodes at).parent).start
+searched_up lasts nodes homes count d at lo low hits near s n w inside ends e missed searched k above below = by (cases_lt k (node_at nodes (at + 1)).start) where
+  by : (k < (node_at nodes (at + 1)).start) ⊎ ((node_at nodes (at + 1)).start ≤ k) → get_or hits k false ≡ false
+  by (inl before) = missed_join hits lo (node_at nodes at).start low (node_at nodes (at + 1)).start e missed searched k above before
+  by (inr behind) = not_near hits near k w (beyond_it lasts nodes homes count d at k near s n inside ends behind below)
+
+-- a bucket ends where the next begins, which is no later than its parent
+pub next_starts : (lasts : List ℕ) (nodes : List (Node ℕ)) (homes : List ℕ) (count at : ℕ) → AreBuckets lasts nodes homes count → at < length lasts
+    → ((node_at nodes at).start ≤ (node_at nodes (at + 1)).start) × ((node_at nodes (at + 1)).start ≤ (node_at nodes (node_at nodes at).parent).start) × ((node_at nodes (at + 1)).start ≤ count)
+next_starts lasts nodes homes count at s inside = (own, up, omega (arith, all, tail, few)) where
+  own : (node_at nodes at).start ≤ (node_at nodes (at + 1)).start
+  own = s.starts at (at + 1) (omega arith) (omega (arith, inside))
+
+  up : (node_at nodes (at + 1)).start ≤ (node_at nodes (node_at nodes at).parent).start
+  up = let after : at < (node_at nodes at).parent = s.after at inside in s.starts (at + 1) (node_at nodes at).parent (omega (arith, after)) (s.within at inside)
+
+  all : (node_at nodes (at + 1)).start ≤ (node_at nodes (length lasts)).start
+  all = s.starts (at + 1) (length lasts) (omega (arith, inside)) (omega arith)
+
+  tail : (node_at nodes (length lasts)).start ≡ length homes
+  tail = s.tail
+
+  few : length homes ≤ count
+  few = s.few
+
+-- The steps: none for a bucket that isn't searched; of one that is, each rule tested is near.
+pub skipped_cost : (lasts : List ℕ) (nodes : List (Node ℕ)) (homes : List ℕ) (count at : ℕ) (near : List Bool) → AreBuckets lasts nodes homes count → at < length lasts
+    → marked (node_at nodes at).start near ≤ marked (node_at nodes (node_at nodes at).parent).start near
+skipped_cost lasts nodes homes count at near s inside =
+    let n = next_starts lasts nodes homes count at s inside in
+    let a : (node_at nodes at).start ≤ (node_at nodes (at + 1)).start = n.0 in
+    let b : (node_at nodes (at + 1)).start ≤ (node_at nodes (node_at nodes at).parent).start = n.1 in
+    marked_later (node_at nodes at).start (node_at nodes (node_at nodes at).parent).start near (omega (arith, a, b))
+
+pub searched_cost : (lasts : List ℕ) (nodes : List (Node ℕ)) (homes : List ℕ) (count d at lo low : ℕ) (near : List Bool) → AreBuckets lasts nodes homes count
+    → AreNear lasts nodes homes d count near → at < length lasts → d ≤ get_or lasts at 0 → (node_at nodes at).first ≤ d → low ≡ max lo (node_at nodes at).start
+    → marked (node_at nodes at).start near + ((node_at nodes (at + 1)).start - low) ≤ marked (node_at nodes (node_at nodes at).parent).start near
+searched_cost lasts nodes homes count d at lo low near s n inside ends begins e =
+    omega (arith, run, later, e) where
+      parts : ((node_at nodes at).start ≤ (node_at nodes (at + 1)).start) × ((node_at nodes (at + 1)).start ≤ (node_at nodes (node_at nodes at).parent).start) × ((node_at nodes (at + 1)).start ≤ count)
+      parts = next_starts lasts nodes homes count at s inside
+
+      own : (node_at nodes at).start ≤ (node_at nodes (at + 1)).start
+      own = parts.0
+
+      later : marked (node_at nodes (at + 1)).start near ≤ marked (node_at nodes (node_at nodes at).parent).start near
+      later = marked_later (node_at nodes (at + 1)).start (node_at nodes (node_at nodes at).parent).start near parts.1
+
+      size : length near ≡ count
+      size = n.size
+
+      most : (node_at nodes (at + 1)).start ≤ length near
+      most = let a : (node_at nodes (at + 1)).start ≤ count = parts.2 in omega (arith, size, a)
+
+      each : (k : ℕ) → (node_at nodes at).start ≤ k → k < (node_at nodes (at + 1)).start → get_or near k false ≡ true
+      each k low below =
+          let before = home_before lasts nodes homes count (at + 1) k s (omega (arith, inside)) below in
+          let from : at ≤ get_or homes k 0 = home_from lasts nodes homes count at k s (omega (arith, inside)) before.0 low in
+          let to : get_or homes k 0 < at + 1 = before.1 in
+          let same : at ≡ get_or homes k 0 = omega (arith, from, to) in
+          n.held k before.0 (subst (λ h. (node_at nodes h).first ≤ d) same begins) (subst (λ h. d ≤ get_or lasts h 0) same ends)
+
+      run : marked (node_at nodes at).start near + ((node_at nodes (at + 1)).start - (node_at nodes at).start) ≤ marked (node_at nodes (at + 1)).start near
+      run =
+          let whole : (node_at nodes (at + 1)).start ≡ (node_at nodes at).start + ((node_at nodes (at + 1)).start - (node_at nodes at).start) = omega (arith, own) in
+          marked_run near (node_at nodes at).start ((node_at nodes (at + 1)).start - (node_at nodes at).start) (node_at nodes (at + 1)).start whole most each
+
+-- the rules without a bucket are all near
+pub tail_cost : (lasts : List ℕ) (nodes : List (Node ℕ)) (homes : List ℕ) (count d at lo low : ℕ) (near : List Bool) → AreBuckets lasts nodes homes count
+    → AreNear lasts nodes homes d count near → at ≡ length lasts → low ≡ max lo (length homes)
+    → marked (node_at nodes at).start near + (count - low) ≤ count_by (λ b. b) near
+tail_cost lasts nodes homes count d at lo low near s n e l = omega (arith, run, whole, start, l, few) where
+  few : length homes ≤ count
+  few = s.few
+
+  size : length near ≡ count
+  size = n.size
+
+  start : marked (node_at nodes at).start near ≡ marked (length homes) near
+  start = subst (λ i. marked (node_at nodes i).start near ≡ marked (length homes) near) (sym e) (subst (λ i. marked i near ≡ marked (length homes) near) (sym s.tail) refl)
+
+  run : marked (length homes) near + (count - length homes) ≤ marked count near
+  run = let split : count ≡ length homes + (count - length homes) = omega (arith, few) in
+      marked_run near (length homes) (count - length homes) count split (omega (arith, size)) (λ k a b. n.bare k a b)
+
+  whole : marked count near ≡ count_by (λ b. b) near
+  whole = marked_all near count (omega (arith, size))
+
+-- Where a search may begin.
+pub passed_missed : (lasts : List ℕ) (nodes : List (Node ℕ)) (homes : List ℕ) (count d at lo : ℕ) (hits near : List Bool) → AreBuckets lasts nodes homes count
+    → AreNear lasts nodes homes d count near → Within hits near → at ≤ length lasts → Passed lasts nodes homes d lo at → Missed hits lo (node_at nodes at).start
+passed_missed lasts nodes homes count d at lo hits near s n w within passed k above below = not_near hits near k w (false_from (get_or near k false) (λ hit.
+    let before = home_before lasts nodes homes count at k s within below in
+    let held = n.apart k before.0 hit in
+    let a : get_or lasts (get_or homes k 0) 0 < d = passed k above below held.0 in
+    let b : d ≤ get_or lasts (get_or homes k 0) 0 = held.1 in
+    omega (arith, a, b)))
+
+-- at the first bucket that doesn't end below the address
+pub first_passed : (lasts : List ℕ) (nodes : List (Node ℕ)) (homes : List ℕ) (count d at lo : ℕ) → AreBuckets lasts nodes homes count → at ≤ length lasts
+    → ((b : ℕ) → b < at → get_or lasts b 0 < d) → Passed lasts nodes homes d lo at
+first_passed lasts nodes homes count d at lo s within below k above under held = below (get_or homes k 0) (home_before lasts nodes homes count at k s within under).1
+
+-- where no rule is left before the bucket
+pub none_passed : (lasts : List ℕ) (nodes : List (Node ℕ)) (homes : List ℕ) (d at lo : ℕ) → (node_at nodes at).start ≤ lo → Passed lasts nodes homes d lo at
+none_passed lasts nodes homes d at lo h k above below held = let lo_k : lo ≤ k = above in let k_at : k < (node_at nodes at).start = below in omega (arith, h, lo_k, k_at)
+
+option_weaker : {A : Type 0} (P P' : Type 0) (Q Q' : A → Type 0) (r : Option A) → (P → P') → ((k : A) → Q k → Q' k) → MatchOption r P Q → MatchOption r P' Q'
+option_weaker P P' Q Q' None f g h = f h
+option_weaker P P' Q Q' (Some k) f g h = g k h
+
+-- What a bucket's search says, by the nodes that it read.
+pub searched_found : (lasts : List ℕ) (nodes : List (Node ℕ)) (homes : List ℕ) (count d at lo low : ℕ) (node end : Node ℕ) (hits near : List Bool) (r : Option ℕ)
+    → AreBuckets lasts nodes homes count → AreNear lasts nodes homes d count near → Within hits near → at < length lasts → d ≤ get_or lasts at 0
+    → node ≡ node_at nodes at → end ≡ node_at nodes (at + 1) → low ≡ max lo node.start
+    → Missed hits lo (node_at nodes at).start → MatchOption r (Missed hits low end.start) (Found hits low end.start)
+    → MatchOption r (Missed hits lo (node_at nodes (node_at nodes at).parent).start) (Found hits lo count)
+searched_found lasts nodes homes count d at lo low node end hits near r s n w inside ends e f l missed =
+    option_weaker (Missed hits low end.start) (Missed hits lo (node_at nodes (node_at nodes at).parent).start) (Found hits low end.start) (Found hits lo count) r
+    (λ h. searched_up lasts nodes homes count d at lo low hits near s n w inside ends low_is missed (subst (λ (x : Node ℕ). Missed hits low x.start) f h))
+    (λ k h. found_join hits lo (node_at nodes at).start low (node_at nodes (at + 1)).start count k low_is most missed (subst (λ (x : Node ℕ). Found hits low x.start k) f h))
+  where
+    low_is : low ≡ max lo (node_at nodes at).start
+    low_is = subst (λ (x : Node ℕ). low ≡ max lo x.start) e l
+
+    most : (node_at nodes (at + 1)).start ≤ count
+    most = (next_starts lasts nodes homes count at s inside).2
+
+pub searched_steps : (lasts : List ℕ) (nodes : List (Node ℕ)) (homes : List ℕ) (count d at lo low before after : ℕ) (node end : Node ℕ) (near : List Bool)
+    → AreBuckets lasts nodes homes count → AreNear lasts nodes homes d count near → at < length lasts → d ≤ get_or lasts at 0
+    → node ≡ node_at nodes at → end ≡ node_at nodes (at + 1) → low ≡ max lo node.start → node.first ≤ d
+    → after ≤ before + (end.start - low)
+    → after + marked (node_at nodes at).start near ≤ before + marked (node_at nodes (node_at nodes at).parent).start near
+searched_steps lasts nodes homes count d at lo low before after node end near s n inside ends e f l begins cost =
+    let most : after ≤ before + ((node_at nodes (at + 1)).start - low) = subst (λ (x : Node ℕ). after ≤ before + (x.start - low)) f cost in
+    let own : marked (node_at nodes at).start near + ((node_at nodes (at + 1)).start - low) ≤ marked (node_at nodes (node_at nodes at).parent).start near =
+    searched_cost lasts nodes homes count d at lo low near s n inside ends (subst (λ (x : Node ℕ). x.first ≤ d) e begins) (subst (λ (x : Node ℕ). low ≡ max lo x.start) e l) in
+    omega (arith, most, own)
+
+-- what the search of the tail says
+pub tail_found : (lasts : List ℕ) (nodes : List (Node ℕ)) (homes : List ℕ) (count at lo low : ℕ) (hits : List Bool) (r : Option ℕ)
+    → AreBuckets lasts nodes homes count → at ≡ length lasts → low ≡ max lo (length homes) → Missed hits lo (node_at nodes at).start
+    → MatchOption r (Missed hits low count) (Found hits low count) → MatchOption r (Missed hits lo count) (Found hits lo count)
+tail_found lasts nodes homes count at lo low hits r s e l missed =
+    option_weaker (Missed hits low count) (Missed hits lo count) (Found hits low count) (Found hits lo count) r
+    (λ h. missed_join hits lo (length homes) low count l tail h)
+    (λ k h. found_join hits lo (length homes) low count count k l (omega arith) tail h)
+  where
+    tail : Missed hits lo (length homes)
+    tail = subst (λ i. Missed hits lo i) (subst (λ i. (node_at nodes i).start ≡ length homes) (sym e) s.tail) missed
+
+-- one more that doesn't match
+pub missed_more : (hits : List Bool) (lo n : ℕ) → Missed hits lo n → get_or hits n false ≡ false → Missed hits lo (n + 1)
+missed_more hits lo n missed fails k above below = at (cases_lt k n) where
+  at : (k < n) ⊎ (n ≤ k) → get_or hits k false ≡ false
+  at (inl before) = missed k above before
+  at (inr behind) = let same : n ≡ k = omega (arith, behind, below) in subst (λ i. get_or hits i false ≡ false) same fails
+
+-- what was missed, where nothing was found
+pub none_missed : {A : Type 0} (P : Type 0) (Q : A → Type 0) (r : Option A) (b : Bool) → MatchOption r P Q → b ≡ is_some r → b ≡ false → P
+none_missed P Q None b h e f = h
+none_missed P Q (Some x) b h e f = absurd (true≢false (sym e ∙ f))
+
+-- what was found
+pub some_found : {A : Type 0} (P : Type 0) (P' : Type 0) (Q : A → Type 0) (r : Option A) (b : Bool) → MatchOption r P Q → b ≡ is_some r → b ≡ true → MatchOption r P' Q
+some_found P P' Q None b h e f = absurd (true≢false (sym f ∙ e))
+some_found P P' Q (Some x) b h e f = h
+
+-- the parent of a bucket that doesn't end below the address
+pub parent_ends : (lasts : List ℕ) (nodes : List (Node ℕ)) (homes : List ℕ) (count d at : ℕ) → AreBuckets lasts nodes homes count → at < length lasts → d ≤ get_or lasts at 0
+    → (node_at nodes at).parent < length lasts → d ≤ get_or lasts (node_at nodes at).parent 0
+parent_ends lasts nodes homes count d at s inside ends below =
+    let up : get_or lasts at 0 ≤ get_or lasts (node_at nodes at).parent 0 = s.rising at (node_at nodes at).parent (s.after at inside) below in
+    omega (arith, ends, up)
+
+pub marked_most : (n : ℕ) (near : List Bool) → marked n near ≤ count_by (λ b. b) near
+marked_most n near = sum_by-take-le (λ (b : Bool). cond b 1 0) near n
+
+-- a test that fails is a rule that doesn't match
+pub test_fails : {X : Type 0} (test : X → Bool) (xs : List X) (i : ℕ) (d : X) (r : Bool) → i < length xs → r ≡ test (get_or xs i d) → r ≡ false → get_or (map test xs) i false ≡ false
+test_fails test xs i d r below e f = get_or-map test xs i d false below ∙ sym e ∙ f

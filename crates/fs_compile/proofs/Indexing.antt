@@ -1,0 +1,200 @@
+-- What the search over the buckets of an index says of the rules that it stands for.
+use Rattle.std.proofs.Common.{◌≡◌, ℕ, zero, suc, ◌+◌, ◌-◌, ◌<◌, ◌≤◌, ◌⊎◌, inl, inr, refl, sym, ap, ap₂, subst, ◌∙◌, ◌++◌, Bool, true, false, true≢false, cond, if◌then◌else◌, Option, Some, None, MatchOption, List, [], ◌∷◌, length, get_or, drop, map, count_by, get_or-drop, drop_of_length-le, arith}
+use Rattle.std.specs.List.{AllByRecursion}
+use Rattle.std.proofs.lemmas.Bool.{cases_lt}
+use Rattle.std.proofs.lemmas.List.{drop-map, get_or_past}
+use Rattle.std.proofs.lemmas.List.Sums.{sum_by-cons}
+use Rattle.fs_base.specs.declared.prefix.Family.{Family}
+use Rattle.fs_packet.specs.Fields.{Viewed, family_of}
+use Rattle.fs_packet.specs.Matches.{is_match}
+use Rattle.fs_rules.specs.Lent.{Listed}
+use Rattle.fs_rules.specs.Walk.{first_from}
+use Rattle.fs_compile.specs.declared.buckets.Buckets.{Buckets}
+use Rattle.fs_compile.specs.declared.fast.Fast.{Fast}
+use Rattle.fs_compile.specs.declared.nodes.Node.{Node}
+use Rattle.fs_compile.specs.Addresses.{numbers_in, nodes_in}
+use Rattle.fs_compile.specs.Buckets.{node_at}
+use Rattle.fs_compile.specs.Facts.{IsSmall}
+use Rattle.fs_compile.specs.Fast.{StandsFor}
+use Rattle.fs_compile.specs.Index.{AreHoused, Indexed, IsIndexOf, IsOfFamily, StandForEach, spans_of}
+use Rattle.fs_compile.specs.Matcher.{next_from}
+use Rattle.fs_compile.specs.Reach.{number_of, reaches, reaching}
+use Rattle.fs_compile.specs.Runs.{AreNesting, AreNodes, AreRuns}
+use Rattle.fs_compile.specs.Search.{Found, IsNear, Missed, Within, hits}
+use Rattle.fs_compile.proofs.Reaching.{bare_reaches, match_reaches, reaches_span, span_reaches}
+
+none_some : {X : Type 0} (x : X) → None ≡ Some x → ⊥
+none_some x e = cc
+
+no_less : (i : ℕ) → i < 0 → ⊥
+no_less i h = omega (arith, h)
+
+abbrev matches_of : Viewed → List Listed → List Bool
+matches_of view rules = map (λ r. is_match r.rule view) rules
+
+abbrev near_of : Viewed → List Listed → List Bool
+near_of view rules = map (λ r. reaches view r.rule) rules
+
+near_count : (view : Viewed) (rules : List Listed) → count_by (λ b. b) (near_of view rules) ≡ reaching view rules
+near_count view [] = refl
+near_count view (r ∷ rs) =
+    sum_by-cons (λ (b : Bool). cond b 1 0) (reaches view r.rule) (near_of view rs)
+    ∙ ap (λ (n : ℕ). cond (reaches view r.rule) 1 0 + n) (near_count view rs)
+    ∙ sym (sum_by-cons (λ (r : Listed). cond (reaches view r.rule) 1 0) r rs)
+
+pub stand_size : (rules : List Listed) (fasts : List Fast) → StandForEach rules fasts → length fasts ≡ length rules
+stand_size [] [] h = refl
+stand_size [] (f ∷ fs) h = absurd h
+stand_size (r ∷ rs) [] h = absurd h
+stand_size (r ∷ rs) (f ∷ fs) h = ap suc (stand_size rs fs h.1)
+
+near_size : (view : Viewed) (rules : List Listed) → length (near_of view rules) ≡ length rules
+near_size view [] = refl
+near_size view (r ∷ rs) = ap suc (near_size view rs)
+
+matches_size : (view : Viewed) (rules : List Listed) → length (matches_of view rules) ≡ length rules
+matches_size view [] = refl
+matches_size view (r ∷ rs) = ap suc (matches_size view rs)
+
+hits_are : (view : Viewed) (rules : List Listed) (fasts : List Fast) → IsSmall view → StandForEach rules fasts → hits view fasts ≡ matches_of view rules
+hits_are view [] [] small h = refl
+hits_are view [] (f ∷ fs) small h = absurd h
+hits_are view (r ∷ rs) [] small h = absurd h
+hits_are view (r ∷ rs) (f ∷ fs) small h = ap₂ (λ (b : Bool) (bs : List Bool). b ∷ bs) (h.0 view small) (hits_are view rs fs small h.1)
+
+-- Of the rule of a number: whether it is near.
+near_held : (view : Viewed) (rules : List Listed) (k : ℕ) (p : ℕ × ℕ) → AllByRecursion (IsOfFamily view.family) rules → family_of view.destination ≡ view.family → IsSmall view
+    → get_or (spans_of rules) k None ≡ Some p → p.0 ≤ number_of view.destination → number_of view.destination ≤ p.1 → get_or (near_of view rules) k false ≡ true
+near_held view [] k p each f small s low high = absurd (none_some p s)
+near_held view (r ∷ rs) zero p each f small s low high = span_reaches r.rule view p each.0.rule each.0.same f small.destination s low high
+near_held view (r ∷ rs) (suc k) p each f small s low high = near_held view rs k p each.1 f small s low high
+
+near_apart : (view : Viewed) (rules : List Listed) (k : ℕ) (p : ℕ × ℕ) → AllByRecursion (IsOfFamily view.family) rules → family_of view.destination ≡ view.family → IsSmall view
+    → get_or (spans_of rules) k None ≡ Some p → get_or (near_of view rules) k false ≡ true → (p.0 ≤ number_of view.destination) × (number_of view.destination ≤ p.1)
+near_apart view [] k p each f small s near = absurd (none_some p s)
+near_apart view (r ∷ rs) zero p each f small s near = reaches_span r.rule view p each.0.rule each.0.same f small.destination s near
+near_apart view (r ∷ rs) (suc k) p each f small s near = near_apart view rs k p each.1 f small s near
+
+near_bare : (view : Viewed) (rules : List Listed) (k : ℕ) → k < length rules → get_or (spans_of rules) k None ≡ None → get_or (near_of view rules) k false ≡ true
+near_bare view [] k below s = absurd (no_less k below)
+near_bare view (r ∷ rs) zero below s = bare_reaches r.rule view s
+near_bare view (r ∷ rs) (suc k) below s = near_bare view rs k (omega (arith, below)) s
+
+near_matched : (view : Viewed) (rules : List Listed) → AllByRecursion (IsOfFamily view.family) rules → (k : ℕ) → get_or (matches_of view rules) k false ≡ true → get_or (near_of view rules) k false ≡ true
+near_matched view [] each k m = absurd (true≢false (sym m))
+near_matched view (r ∷ rs) each zero m = match_reaches r.rule view each.0.rule m
+near_matched view (r ∷ rs) each (suc k) m = near_matched view rs each.1 k m
+
+are_near : (view : Viewed) (rules : List Listed) (index : Indexed) → IsIndexOf view.family rules index → IsSmall view → family_of view.destination ≡ view.family
+    → IsNear index.buckets (number_of view.destination) (length index.rules) (near_of view rules)
+are_near view rules index h small f = record {
+  size = near_size view rules ∙ sym (stand_size rules index.rules h.stands);
+  held = λ k b low high. near_held view rules k _ h.each f small (h.housed.homed k b) low high;
+  apart = λ k b near. near_apart view rules k _ h.each f small (h.housed.homed k b) near;
+  bare = λ k above below. near_bare view rules k (subst (λ n. k < n) (stand_size rules index.rules h.stands) below) (h.housed.bare k above);
+}
+
+-- the first of a list that matches
+from_some : (view : Viewed) (xs : List Listed) (m k : ℕ) → get_or (matches_of view xs) k false ≡ true → ((i : ℕ) → i < k → get_or (matches_of view xs) i false ≡ false) → first_from m view xs ≡ Some (m + k)
+from_some view [] m k hit before = absurd (true≢false (sym hit))
+from_some view (x ∷ xs) m zero hit before = ap (λ (b : Bool). if b then Some m else first_from (m + 1) view xs) hit ∙ ap Some whole where
+  whole : m ≡ m + 0
+  whole = omega arith
+from_some view (x ∷ xs) m (suc k) hit before =
+    ap (λ (b : Bool). if b then Some m else first_from (m + 1) view xs) (before 0 first)
+    ∙ from_some view xs (m + 1) k hit (λ i below. before (suc i) (omega (arith, below)))
+    ∙ ap Some whole where
+      first : 0 < suc k
+      first = omega arith
+
+      whole : m + 1 + k ≡ m + suc k
+      whole = omega arith
+
+from_none : (view : Viewed) (xs : List Listed) (m : ℕ) → ((i : ℕ) → get_or (matches_of view xs) i false ≡ false) → first_from m view xs ≡ None
+from_none view [] m none = refl
+from_none view (x ∷ xs) m none =
+    ap (λ (b : Bool). if b then Some m else first_from (m + 1) view xs) (none 0)
+    ∙ from_none view xs (m + 1) (λ i. none (suc i))
+
+-- what is behind a number
+behind : (view : Viewed) (rules : List Listed) (n i : ℕ) → get_or (matches_of view (drop n rules)) i false ≡ get_or (matches_of view rules) (n + i) false
+behind view rules n i =
+    ap (λ (bs : List Bool). get_or bs i false) (sym (drop-map (λ (r : Listed). is_match r.rule view) n rules))
+    ∙ get_or-drop n (matches_of view rules) i false
+
+next_is : (view : Viewed) (rules : List Listed) (n : ℕ) (r : Option ℕ) → MatchOption r (Missed (matches_of view rules) n (length rules)) (Found (matches_of view rules) n (length rules)) → r ≡ next_from n view rules
+next_is view rules n None missed = sym (from_none view (drop n rules) n (λ i. behind view rules n i ∙ at i (cases_lt (n + i) (length rules)))) where
+  at : (i : ℕ) → (n + i < length rules) ⊎ (length rules ≤ n + i) → get_or (matches_of view rules) (n + i) false ≡ false
+  at i (inl below) = missed (n + i) (omega arith) below
+  at i (inr past) = get_or_past (matches_of view rules) (n + i) false (omega (arith, past, matches_size view rules))
+next_is view rules n (Some k) found = sym (from_some view (drop n rules) n (k - n) hit before ∙ ap Some whole) where
+  above : n ≤ k
+  above = found.above
+
+  below : k < length rules
+  below = found.below
+
+  whole : n + (k - n) ≡ k
+  whole = omega (arith, above)
+
+  hit : get_or (matches_of view (drop n rules)) (k - n) false ≡ true
+  hit = behind view rules n (k - n) ∙ ap (λ i. get_or (matches_of view rules) i false) whole ∙ found.hit
+
+  before : (i : ℕ) → i < k - n → get_or (matches_of view (drop n rules)) i false ≡ false
+  before i less = behind view rules n i ∙ found.before (n + i) (omega arith) (omega (arith, less))
+
+-- What a search over the index says, by what it says of any list of tests that are near.
+pub search_is : (view : Viewed) (rules : List Listed) (index : Indexed) (lent : List Fast) (n : ℕ) (r : Option ℕ) → lent ≡ index.rules → IsIndexOf view.family rules index → IsSmall view
+    → family_of view.destination ≡ view.family
+    → ((near : List Bool) → IsNear index.buckets (number_of view.destination) (length lent) near → Within (hits view lent) near → MatchOption r (Missed (hits view lent) n (length lent)) (Found (hits view lent) n (length lent)))
+    → r ≡ next_from n view rules
+search_is view rules index lent n r e h small f found =
+    next_is view rules n r (subst (λ (m : ℕ). MatchOption r (Missed (matches_of view rules) n m) (Found (matches_of view rules) n m)) size
+    (subst (λ (bs : List Bool). MatchOption r (Missed bs n (length index.rules)) (Found bs n (length index.rules))) same own)) where
+      size : length index.rules ≡ length rules
+      size = stand_size rules index.rules h.stands
+
+      same : hits view index.rules ≡ matches_of view rules
+      same = hits_are view rules index.rules small h.stands
+
+      within : Within (hits view index.rules) (near_of view rules)
+      within = subst (λ (bs : List Bool). Within bs (near_of view rules)) (sym same) (near_matched view rules h.each)
+
+      own : MatchOption r (Missed (hits view index.rules) n (length index.rules)) (Found (hits view index.rules) n (length index.rules))
+      own = subst (λ (fs : List Fast). MatchOption r (Missed (hits view fs) n (length fs)) (Found (hits view fs) n (length fs))) e
+          (found (near_of view rules) (subst (λ (fs : List Fast). IsNear index.buckets (number_of view.destination) (length fs) (near_of view rules)) (sym e) (are_near view rules index h small f))
+          (subst (λ (fs : List Fast). Within (hits view fs) (near_of view rules)) (sym e) within))
+
+pub steps_are : (view : Viewed) (rules : List Listed) (index : Indexed) (lent : List Fast) (before after : ℕ) → lent ≡ index.rules → IsIndexOf view.family rules index → IsSmall view
+    → family_of view.destination ≡ view.family
+    → ((near : List Bool) → IsNear index.buckets (number_of view.destination) (length lent) near → after ≤ before + count_by (λ b. b) near) → after ≤ before + reaching view rules
+steps_are view rules index lent before after e h small f bound =
+    subst (λ (n : ℕ). after ≤ before + n) (near_count view rules)
+    (bound (near_of view rules) (subst (λ (fs : List Fast). IsNear index.buckets (number_of view.destination) (length fs) (near_of view rules)) (sym e) (are_near view rules index h small f)))
+
+-- behind the last rule nothing is found
+pub none_behind : (view : Viewed) (rules : List Listed) (index : Indexed) (family : Family) (n : ℕ) → IsIndexOf family rules index → length index.rules ≤ n → None ≡ next_from n view rules
+none_behind view rules index family n h past = sym (ap (first_from n view) (drop_of_length-le rules short)) where
+  short : length rules ≤ n
+  short = subst (λ m. m ≤ n) (stand_size rules index.rules h.stands) past
+
+-- one compiled rule more
+pub stand_more : (rules : List Listed) (fasts : List Fast) (r : Listed) (f : Fast) → StandForEach rules fasts → StandsFor r.rule f → StandForEach (rules ++ r ∷ []) (fasts ++ f ∷ [])
+stand_more [] [] r f h s = (s, tt)
+stand_more [] (g ∷ gs) r f h s = absurd h
+stand_more (q ∷ qs) [] r f h s = absurd h
+stand_more (q ∷ qs) (g ∷ gs) r f h s = (h.0, stand_more qs gs r f h.1 s)
+
+-- the rules are housed in the buckets of their runs
+pub housed_from : (spans : List (Option (ℕ × ℕ))) (b : Buckets) (fs ls ss hs ps : List ℕ) → AreNesting spans → AreRuns spans fs ls ss hs → AreNodes fs ss ps (length hs) (nodes_in b.nodes)
+    → numbers_in b.lasts ≡ ls → b.homes.items ≡ hs → get_or spans (length hs) None ≡ None → AreHoused spans b
+housed_from spans b fs ls ss hs ps nesting s made l h rest = record {
+  homed = λ k below.
+      let inside : k < length hs = subst (λ (xs : List ℕ). k < length xs) h below in
+      subst (λ (xs : List ℕ). get_or spans k None ≡ Some ((node_at (nodes_in b.nodes) (get_or xs k 0)).first, get_or (numbers_in b.lasts) (get_or xs k 0) 0)) (sym h)
+      (subst (λ (xs : List ℕ). get_or spans k None ≡ Some ((node_at (nodes_in b.nodes) (get_or hs k 0)).first, get_or xs (get_or hs k 0) 0)) (sym l)
+      (s.span k inside ∙ ap (λ (x : ℕ). Some (x, get_or ls (get_or hs k 0) 0)) (sym (ap (λ (x : Node ℕ). x.first) (made.each (get_or hs k 0) (inner k inside))))));
+  bare = λ k above. nesting.bare (length hs) k (subst (λ (xs : List ℕ). length xs ≤ k) h above) rest;
+} where
+  inner : (k : ℕ) → k < length hs → get_or hs k 0 < length fs
+  inner k inside = let a : get_or hs k 0 < length ls = s.home k inside in let z : length fs ≡ length ls = s.firsts_size in omega (arith, a, z)

@@ -1,0 +1,12 @@
+pub mod Calm
+pub mod Enclosing
+pub mod Growing
+pub mod Stretches
+pub mod Counts
+pub mod Climbing
+pub mod Finding
+pub mod Running
+pub mod Reaching
+pub mod Nesting
+pub mod Indexing
+pub mod Walking

@@ -1,0 +1,163 @@
+-- Which packets the destination of a rule covers: those whose destination lies between its first and its last address. A
+-- rule matches no others.
+use Rattle.std.proofs.Common.{◌≡◌, ℕ, ◌-◌, ◌*◌, ◌^◌, ◌<◌, ◌≤◌, ◌==◌, ◌↔◌, refl, sym, ap, ap₂, subst, ◌∙◌, Bool, true, false, true≢false, cond, Option, Some, None, List, [], ◌∷◌, arith}
+use Rattle.std.specs.List.{list_all}
+use Rattle.std.proofs.lemmas.Bool.{eqb-true, eq-eqb}
+use Rattle.fs_base.proofs.Bools.{and_first, and_second}
+use Rattle.fs_base.specs.declared.prefix.Family.{Family}
+use Rattle.fs_base.specs.declared.prefix.Family.TheVariants.{V4, V6}
+use Rattle.fs_base.specs.declared.prefix.Prefix.{Prefix}
+use Rattle.fs_base.specs.declared.config.Address.{Address}
+use Rattle.fs_base.specs.declared.config.Address.TheVariants.{V4 as V4Address, V6 as V6Address}
+use Rattle.fs_base.specs.Bits.{width_of, cleared}
+use Rattle.fs_base.proofs.Addresses.{address_range}
+use Rattle.fs_nlri.specs.Forms.{form_of}
+use Rattle.fs_nlri.specs.Parts.{Body, V4Body, V6Body, ListBody, Part, Ruled}
+use Rattle.fs_nlri.specs.Rule.{IsRule, IsNormalAt, AreNormal, destination_body, destination_in, destination_of}
+use Rattle.fs_nlri.proofs.Destination.{IsMade, destination_first, made_parts}
+use Rattle.fs_order.specs.Destination.{last_shown}
+use Rattle.fs_packet.specs.Fields.{Viewed, family_of}
+use Rattle.fs_packet.specs.Matches.{is_match, is_prefix_of, body_matches, part_matches}
+use Rattle.fs_compile.specs.Facts.{IsSmallAddress}
+use Rattle.fs_compile.specs.Index.{span_by, span_of}
+use Rattle.fs_compile.specs.Reach.{number_of, covers_address, reaches}
+
+some_same : {X : Type 0} (x y : X) → Some x ≡ Some y → x ≡ y
+some_same x y e = cc
+
+none_some : {X : Type 0} (x : X) → None ≡ Some x → ⊥
+none_some x e = cc
+
+-- the addresses with the first bits of a destination are those from its first to its last
+destination_range : (d : Family × ℕ × ℕ) (n : ℕ) → IsMade (Some d) → n < 2 ^ width_of d.0
+    → (cleared (width_of d.0) d.2 n ≡ d.1) ↔ ((d.1 ≤ n) × (n ≤ last_shown d))
+destination_range d n h below =
+    let prefix : Prefix = record { family = d.0; bits = d.1; length = d.2; short = h.0; clear = h.1 } in
+    address_range prefix n below
+
+-- the destination is of the rule's family
+family_body : (family : Family) (body : Body) (d : Family × ℕ × ℕ) → IsNormalAt (form_of family 1) body → destination_body body ≡ Some d → d.0 ≡ family
+family_body V4 (V4Body f l b) d h e = sym (ap (λ (x : Family × ℕ × ℕ). x.0) (some_same (f, b, l) d e)) ∙ h.0
+family_body V4 (V6Body l o b) d h e = absurd h
+family_body V4 (ListBody pairs) d h e = absurd h
+family_body V6 (V6Body l o b) d h e = at (o == 0) e where
+  at : (c : Bool) → cond c (Some (V6, b, l)) None ≡ Some d → d.0 ≡ V6
+  at true g = sym (ap (λ (x : Family × ℕ × ℕ). x.0) (some_same (V6, b, l) d g))
+  at false g = absurd (none_some d g)
+family_body V6 (V4Body f l b) d h e = absurd h
+family_body V6 (ListBody pairs) d h e = absurd h
+
+pub family_of_destination : (rule : Ruled) (d : Family × ℕ × ℕ) → IsRule rule → destination_of rule ≡ Some d → d.0 ≡ rule.family
+family_of_destination rule d h e = in_parts rule.parts h.normal e where
+  in_parts : (parts : List Part) → AreNormal rule.family 0 parts → destination_in parts ≡ Some d → d.0 ≡ rule.family
+  in_parts [] n f = absurd (none_some d f)
+  in_parts (x ∷ xs) n f = at (x.kind == 1) refl (sym (destination_first rule.family x xs n) ∙ f) where
+    at : (c : Bool) → (x.kind == 1) ≡ c → cond c (destination_body x.body) None ≡ Some d → d.0 ≡ rule.family
+    at true k g = family_body rule.family x.body d (subst (λ i. IsNormalAt (form_of rule.family i) x.body) (eqb-true x.kind 1 k) n.1) g
+    at false k g = absurd (none_some d g)
+
+pub made_destination : (rule : Ruled) (d : Family × ℕ × ℕ) → IsRule rule → destination_of rule ≡ Some d → IsMade (Some d)
+made_destination rule d h e = subst IsMade e (made_parts rule.family rule.parts h.normal)
+
+-- an address of a family has its width
+number_below : (address : Address) → IsSmallAddress address → number_of address < 2 ^ width_of (family_of address)
+number_below (V4Address a) h = h
+number_below (V6Address a) h = h
+
+-- the span of a rule's destination, by the destination
+pub span_some : (rule : Ruled) (d : Family × ℕ × ℕ) (p : ℕ × ℕ) → destination_of rule ≡ Some d → span_of rule ≡ Some p → p ≡ (d.1, last_shown d)
+span_some rule d p e s = sym (some_same (d.1, last_shown d) p (sym (ap span_by e) ∙ s))
+
+pub record HasDestination (rule : Ruled) (p : ℕ × ℕ) : Type 0 where
+  pub d : Family × ℕ × ℕ
+  pub is : destination_of rule ≡ Some d
+  pub span : p ≡ (d.1, last_shown d)
+
+pub from_span : (rule : Ruled) (p : ℕ × ℕ) → span_of rule ≡ Some p → HasDestination rule p
+from_span rule p s = at (destination_of rule) refl s where
+  at : (o : Option (Family × ℕ × ℕ)) → destination_of rule ≡ o → span_by o ≡ Some p → HasDestination rule p
+  at None e g = absurd (none_some p g)
+  at (Some d) e g = record { d = d; is = e; span = sym (some_same (d.1, last_shown d) p g) }
+
+-- Whether a rule with a destination reaches a packet of its family.
+pub span_reaches : (rule : Ruled) (view : Viewed) (p : ℕ × ℕ) → IsRule rule → rule.family ≡ view.family → family_of view.destination ≡ view.family → IsSmallAddress view.destination
+    → span_of rule ≡ Some p → p.0 ≤ number_of view.destination → number_of view.destination ≤ p.1 → reaches view rule ≡ true
+span_reaches rule view p h f g small s low high =
+    ap (λ o. covers_address o view.destination) found.is ∙ eq-eqb (cleared (width_of found.d.0) found.d.2 (number_of view.destination)) found.d.1 (range.1 (low_is, high_is)) where
+      found : HasDestination rule p
+      found = from_span rule p s
+
+      same : family_of view.destination ≡ found.d.0
+      same = g ∙ sym f ∙ sym (family_of_destination rule found.d h found.is)
+
+      range : (cleared (width_of found.d.0) found.d.2 (number_of view.destination) ≡ found.d.1) ↔ ((found.d.1 ≤ number_of view.destination) × (number_of view.destination ≤ last_shown found.d))
+      range = destination_range found.d (number_of view.destination) (made_destination rule found.d h found.is) (subst (λ x. number_of view.destination < 2 ^ width_of x) same (number_below view.destination small))
+
+      low_is : found.d.1 ≤ number_of view.destination
+      low_is = subst (λ (x : ℕ × ℕ). x.0 ≤ number_of view.destination) found.span low
+
+      high_is : number_of view.destination ≤ last_shown found.d
+      high_is = subst (λ (x : ℕ × ℕ). number_of view.destination ≤ x.1) found.span high
+
+pub reaches_span : (rule : Ruled) (view : Viewed) (p : ℕ × ℕ) → IsRule rule → rule.family ≡ view.family → family_of view.destination ≡ view.family → IsSmallAddress view.destination
+    → span_of rule ≡ Some p → reaches view rule ≡ true → (p.0 ≤ number_of view.destination) × (number_of view.destination ≤ p.1)
+reaches_span rule view p h f g small s r =
+    subst (λ (x : ℕ × ℕ). (x.0 ≤ number_of view.destination) × (number_of view.destination ≤ x.1)) (sym found.span) (range.0 bits) where
+      found : HasDestination rule p
+      found = from_span rule p s
+
+      same : family_of view.destination ≡ found.d.0
+      same = g ∙ sym f ∙ sym (family_of_destination rule found.d h found.is)
+
+      range : (cleared (width_of found.d.0) found.d.2 (number_of view.destination) ≡ found.d.1) ↔ ((found.d.1 ≤ number_of view.destination) × (number_of view.destination ≤ last_shown found.d))
+      range = destination_range found.d (number_of view.destination) (made_destination rule found.d h found.is) (subst (λ x. number_of view.destination < 2 ^ width_of x) same (number_below view.destination small))
+
+      bits : cleared (width_of found.d.0) found.d.2 (number_of view.destination) ≡ found.d.1
+      bits = eqb-true (cleared (width_of found.d.0) found.d.2 (number_of view.destination)) found.d.1 (sym (ap (λ o. covers_address o view.destination) found.is) ∙ r)
+
+-- a rule without a destination reaches each packet
+pub bare_reaches : (rule : Ruled) (view : Viewed) → span_of rule ≡ None → reaches view rule ≡ true
+bare_reaches rule view s = at (destination_of rule) s where
+  at : (o : Option (Family × ℕ × ℕ)) → span_by o ≡ None → covers_address o view.destination ≡ true
+  at None e = refl
+  at (Some d) e = absurd (none_some (d.1, last_shown d) (sym e))
+
+-- A rule matches only packets that it reaches.
+match_body : (family : Family) (body : Body) (address : Address) → IsNormalAt (form_of family 1) body → is_prefix_of body address ≡ true → covers_address (destination_body body) address ≡ true
+match_body V4 (V4Body f l b) (V4Address a) h m = subst (λ x. (cleared (width_of x) l a == b) ≡ true) (sym h.0) m
+match_body V4 (V4Body f l b) (V6Address a) h m = absurd (true≢false (sym m))
+match_body V4 (V6Body l o b) address h m = absurd h
+match_body V4 (ListBody pairs) address h m = absurd h
+match_body V6 (V4Body f l b) address h m = absurd h
+match_body V6 (ListBody pairs) address h m = absurd h
+match_body V6 (V6Body l o b) (V4Address a) h m = absurd (true≢false (sym m))
+match_body V6 (V6Body l o b) (V6Address a) h m = at (o == 0) refl where
+  at : (c : Bool) → (o == 0) ≡ c → covers_address (cond c (Some (V6, b, l)) None) (V6Address a) ≡ true
+  at true e =
+      let none : o ≡ 0 = eqb-true o 0 e in
+      let length_is : l - o ≡ l = omega (arith, none) in
+      let power : 2 ^ o ≡ 1 = ap (λ (x : ℕ). 2 ^ x) none in
+      let number_is : a * 2 ^ o ≡ a = ap (λ (x : ℕ). a * x) power ∙ once in
+      sym (ap₂ (λ (n x : ℕ). cleared 128 n x == b) length_is number_is) ∙ m where
+        once : a * 1 ≡ a
+        once = omega arith
+  at false e = refl
+
+first_body : (family : Family) (view : Viewed) (body : Body) → IsNormalAt (form_of family 1) body → body_matches view 1 body ≡ true → covers_address (destination_body body) view.destination ≡ true
+first_body family view (V4Body f l b) normal g = match_body family (V4Body f l b) view.destination normal g
+first_body family view (V6Body l o b) normal g = match_body family (V6Body l o b) view.destination normal g
+first_body V4 view (ListBody pairs) normal g = absurd normal
+first_body V6 view (ListBody pairs) normal g = absurd normal
+
+pub match_reaches : (rule : Ruled) (view : Viewed) → IsRule rule → is_match rule view ≡ true → reaches view rule ≡ true
+match_reaches rule view h m = in_parts rule.parts h.normal (and_second _ _ m) where
+  in_parts : (parts : List Part) → AreNormal rule.family 0 parts → list_all (part_matches view) parts ≡ true → covers_address (destination_in parts) view.destination ≡ true
+  in_parts [] n a = refl
+  in_parts (x ∷ xs) n a = ap (λ o. covers_address o view.destination) (destination_first rule.family x xs n) ∙ at (x.kind == 1) refl where
+    at : (c : Bool) → (x.kind == 1) ≡ c → covers_address (cond c (destination_body x.body) None) view.destination ≡ true
+    at true k =
+        let one : x.kind ≡ 1 = eqb-true x.kind 1 k in
+        let first : part_matches view x ≡ true = and_first _ _ a in
+        let normal : IsNormalAt (form_of rule.family 1) x.body = subst (λ i. IsNormalAt (form_of rule.family i) x.body) one n.1 in
+        first_body rule.family view x.body normal (subst (λ i. body_matches view i x.body ≡ true) one first)
+    at false k = refl

@@ -1,0 +1,11 @@
+use Rattle.std.proofs.Common.{◌≡◌, length}
+use Rattle.fs_rules.specs.Lent.{all_admitted}
+use Rattle.fs_compile.specs.Index.{spans_of}
+use Rattle.fs_compile.specs.Runs.{RunsOf}
+use Rattle.fs_compile.proofs.runs.runs_of.Given as goal
+
+abbrev pub invariant-loop-admitted : goal.invariant-loop-admitted
+invariant-loop-admitted l = record {
+  runs : RunsOf (spans_of (all_admitted l.list)) l.runs;
+  one : length l.runs.homes.items ≡ l.admitted-index;
+}

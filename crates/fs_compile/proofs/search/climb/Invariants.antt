@@ -1,0 +1,18 @@
+use Rattle.std.proofs.Common.{◌+◌, ◌-◌, ◌<◌, ◌≤◌, List, Bool, get_or, length}
+use Rattle.fs_compile.specs.Addresses.{numbers_in}
+use Rattle.fs_compile.specs.Search.{IsNear, Missed, Within, hits, marked, start_at}
+use Rattle.fs_compile.proofs.search.climb.Given as goal
+
+abbrev pub invariant-loop-bucket : goal.invariant-loop-bucket
+invariant-loop-bucket g l = record {
+  within : l.bucket ≤ length (numbers_in l.buckets.lasts);
+  ends : l.bucket < length (numbers_in l.buckets.lasts) → l.start.address ≤ get_or (numbers_in l.buckets.lasts) l.bucket 0;
+  later : l.initial.steps ≤ l.steps;
+  missed : (near : List Bool) → IsNear l.buckets l.start.address (length l.rules) near → Within (hits l.view l.rules) near
+      → Missed (hits l.view l.rules) l.start.from (start_at l.buckets l.bucket);
+  steps : (near : List Bool) → IsNear l.buckets l.start.address (length l.rules) near
+      → l.steps ≤ l.initial.steps + marked (start_at l.buckets l.bucket) near;
+}
+
+abbrev pub decreases-loop-bucket : goal.decreases-loop-bucket
+decreases-loop-bucket g l = length (numbers_in l.buckets.lasts) - l.bucket

@@ -1,0 +1,15 @@
+-- What lists of addresses and nodes of either width hold.
+use Rattle.std.specs.Prelude.{ℕ, List}
+use Rattle.fs_compile.specs.declared.addresses.Addresses.{Addresses}
+use Rattle.fs_compile.specs.declared.addresses.Addresses.TheVariants.{V4 as V4Addresses, V6 as V6Addresses}
+use Rattle.fs_compile.specs.declared.nodes.Node.{Node}
+use Rattle.fs_compile.specs.declared.nodes.Nodes.{Nodes}
+use Rattle.fs_compile.specs.declared.nodes.Nodes.TheVariants.{V4 as V4Nodes, V6 as V6Nodes}
+
+abbrev pub numbers_in : Addresses → List ℕ
+numbers_in (V4Addresses items) = items.items
+numbers_in (V6Addresses items) = items.items
+
+abbrev pub nodes_in : Nodes → List (Node ℕ)
+nodes_in (V4Nodes items) = items.items
+nodes_in (V6Nodes items) = items.items

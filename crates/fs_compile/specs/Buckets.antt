@@ -1,0 +1,30 @@
+-- Destinations as intervals of addresses, in the order of their last addresses, with the runs of rules that have them.
+use Rattle.std.specs.Prelude.{◌≡◌, ℕ, ◌+◌, ◌<◌, ◌≤◌, List, length, get_or}
+use Rattle.fs_compile.specs.declared.nodes.Node.{Node}
+
+abbrev pub AreRising : List ℕ → Type 0
+AreRising xs = (i j : ℕ) → i < j → j < length xs → get_or xs i 0 ≤ get_or xs j 0
+
+abbrev pub node_at : List (Node ℕ) → ℕ → Node ℕ
+node_at nodes i = get_or nodes i (record { first = 0; start = 0; parent = 0 })
+
+-- Of buckets by their last addresses and nodes, with the bucket of each rule that has one, of so many rules. The node
+-- behind the last begins where the rules without a bucket do.
+pub record AreBuckets (lasts : List ℕ) (nodes : List (Node ℕ)) (homes : List ℕ) (count : ℕ) : Type 0 where
+  pub size : length nodes ≡ length lasts + 1
+  pub rising : AreRising lasts
+  -- one that begins before an earlier one ends begins no later than that
+  pub nested : (i j : ℕ) → i < j → j < length lasts
+      → (node_at nodes j).first ≤ get_or lasts i 0 → (node_at nodes j).first ≤ (node_at nodes i).first
+  -- the parent is the next that begins no later
+  pub after : (i : ℕ) → i < length lasts → i < (node_at nodes i).parent
+  pub within : (i : ℕ) → i < length lasts → (node_at nodes i).parent ≤ length lasts
+  pub least : (i j : ℕ) → i < length lasts → i < j → j < (node_at nodes i).parent
+      → (node_at nodes i).first < (node_at nodes j).first
+  -- runs of rules one behind the other
+  pub starts : (i j : ℕ) → i ≤ j → j ≤ length lasts → (node_at nodes i).start ≤ (node_at nodes j).start
+  pub tail : (node_at nodes (length lasts)).start ≡ length homes
+  pub few : length homes ≤ count
+  pub home : (k : ℕ) → k < length homes → get_or homes k 0 < length lasts
+  pub begins : (k : ℕ) → k < length homes → (node_at nodes (get_or homes k 0)).start ≤ k
+  pub ends : (k : ℕ) → k < length homes → k < (node_at nodes (get_or homes k 0 + 1)).start

@@ -1,0 +1,64 @@
+-- The fields of a packet as numbers: one that the packet doesn't have is above each that a field can have.
+use Rattle.std.specs.Prelude.{◌≡◌, ℕ, ◌^◌, ◌<◌, List, [], ◌∷◌, Option, Some, None}
+use Rattle.fs_base.specs.declared.config.Address.{Address}
+use Rattle.fs_base.specs.declared.config.Address.TheVariants.{V4, V6}
+use Rattle.fs_packet.specs.Fields.{Viewed}
+use Rattle.fs_compile.specs.declared.facts.Facts.{Facts}
+
+abbrev pub field_number : Option ℕ → ℕ
+field_number None = 2 ^ 32
+field_number (Some number) = number
+
+abbrev pub address_number : Address → ℕ
+address_number (V4 address) = address
+address_number (V6 address) = 2 ^ 32
+
+-- by the type of the component that tests the field; of the types that don't test one number there is none
+abbrev pub numbers_of : Viewed → List ℕ
+numbers_of view =
+    0
+    ∷ address_number view.destination
+    ∷ address_number view.source
+    ∷ field_number view.protocol
+    ∷ 2 ^ 32
+    ∷ field_number view.destination_port
+    ∷ field_number view.source_port
+    ∷ field_number view.icmp_type
+    ∷ field_number view.icmp_code
+    ∷ 2 ^ 32
+    ∷ view.length
+    ∷ view.dscp
+    ∷ 2 ^ 32
+    ∷ field_number view.flow_label
+    ∷ []
+
+abbrev pub IsSmallField : Option ℕ → Type 0
+IsSmallField None = Unit {0}
+IsSmallField (Some number) = number < 2 ^ 32
+
+abbrev pub IsSmallAddress : Address → Type 0
+IsSmallAddress (V4 address) = address < 2 ^ 32
+IsSmallAddress (V6 address) = address < 2 ^ 128
+
+-- the numbers have the octets of their fields; so it is of each packet
+pub record IsSmall (view : Viewed) : Type 0 where
+  pub destination : IsSmallAddress view.destination
+  pub source : IsSmallAddress view.source
+  pub protocol : IsSmallField view.protocol
+  pub icmp_type : IsSmallField view.icmp_type
+  pub icmp_code : IsSmallField view.icmp_code
+  pub source_port : IsSmallField view.source_port
+  pub destination_port : IsSmallField view.destination_port
+  pub flow_label : IsSmallField view.flow_label
+  pub length : view.length < 2 ^ 32
+  pub dscp : view.dscp < 2 ^ 32
+
+-- what was read is what the packet has
+pub record AreFacts (view : Viewed) (facts : Facts) : Type 0 where
+  pub family : facts.family ≡ view.family
+  pub destination : facts.destination ≡ view.destination
+  pub source : facts.source ≡ view.source
+  pub tcp_octets : facts.tcp_octets ≡ view.tcp_octets
+  pub fragment : facts.fragment ≡ view.fragment
+  pub numbers : facts.numbers ≡ numbers_of view
+  pub small : IsSmall view

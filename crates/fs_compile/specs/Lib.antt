@@ -1,0 +1,10 @@
+pub mod Facts
+pub mod Fast
+pub mod Spans
+pub mod Addresses
+pub mod Buckets
+pub mod Search
+pub mod Runs
+pub mod Reach
+pub mod Index
+pub mod Matcher

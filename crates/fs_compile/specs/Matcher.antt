@@ -1,0 +1,39 @@
+-- What a compiled matcher stands for, and the walk that is taken with it (RFC 8955 sections 5.1 and 7.3).
+use Rattle.std.specs.Prelude.{ℕ, ◌≡◌, ◌+◌, Option, Some, None, List, [], ◌∷◌, drop, get_or, if◌then◌else◌, map}
+use Rattle.fs_base.specs.declared.prefix.Family.{Family}
+use Rattle.fs_base.specs.declared.prefix.Family.TheVariants.{V4, V6}
+use Rattle.fs_packet.specs.Fields.{Viewed}
+use Rattle.fs_rules.specs.Table.{Held, admitted}
+use Rattle.fs_rules.specs.Lent.{Listed, listed}
+use Rattle.fs_rules.specs.Walk.{first_from, goes_on, walk_from}
+use Rattle.fs_compile.specs.declared.compiled.Compiled.{Compiled}
+use Rattle.fs_compile.specs.Index.{IsIndexOf}
+
+-- the admitted rules of each family in order
+abbrev pub admitted_in : Held → Family → List Listed
+admitted_in held family = map listed (admitted family held)
+
+-- it stands for these rules of each family, which are numbered from 0
+pub record StandsForLists (rules : Family → List Listed) (compiled : Compiled) : Type 0 where
+  pub v4 : IsIndexOf V4 (rules V4) compiled.v4
+  pub v6 : IsIndexOf V6 (rules V6) compiled.v6
+
+-- the least number from n on of a rule that matches the packet
+abbrev pub next_from : ℕ → Viewed → List Listed → Option ℕ
+next_from n view rules = first_from n view (drop n rules)
+
+-- Where a search found nothing the walk is over; else it has the rule found and, where its terminal bit is set, goes on
+-- behind it.
+abbrev pub WalksOn : Viewed → List Listed → Option ℕ → List (ℕ × List (List ℕ)) → Type 0
+WalksOn view rules None walk = walk ≡ []
+WalksOn view rules (Some k) walk =
+    (r : Listed)
+    → walk
+    ≡ (k + 1, (get_or rules k r).actions)
+    ∷ (if goes_on (get_or rules k r).actions then walk_from (k + 2) view (drop (k + 1) rules) else [])
+
+-- the walk from any number on goes by the search from there
+abbrev pub WalksByNext : Type 0
+WalksByNext =
+    (view : Viewed) (rules : List Listed) (n : ℕ)
+    → WalksOn view rules (next_from n view rules) (walk_from (n + 1) view (drop n rules))

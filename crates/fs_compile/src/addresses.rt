@@ -1,0 +1,93 @@
+//! Lists of addresses, in the width of their family.
+
+ghost use Rattle.std.specs.Prelude.{◌≡◌, ◌<◌, ◌≤◌, ◌+◌, ◌++◌, ◌∷◌, [], ℕ, OnOk, get_or, length};
+ghost use Rattle.fs_compile.specs.Addresses.{numbers_in};
+ghost use Rattle.fs_compile.specs.Buckets.{AreRising};
+
+use fs_base::{Family, Memory};
+use std::alloc::Global;
+
+/// Addresses of a family, in host order.
+#[derive(Drop)]
+pub(crate) enum Addresses {
+    V4(Vec<u32>),
+    V6(Vec<u128>),
+}
+
+impl Addresses {
+    pub(crate) fn new(alloc: Global, family: Family) -> Addresses
+        ensures { numbers_in result ≡ [] }
+    {
+        match family {
+            Family::V4 => Addresses::V4(Vec::new(alloc)),
+            Family::V6 => Addresses::V6(Vec::new(alloc)),
+        }
+    }
+
+    pub(crate) fn len(&self) -> usize
+        ensures { result ≡ length (numbers_in self.now) }
+    {
+        match self {
+            Addresses::V4(items) => items.len(),
+            Addresses::V6(items) => items.len(),
+        }
+    }
+
+    pub(crate) fn at(&self, place: usize) -> u128
+        requires { place < length (numbers_in self.now) }
+        ensures { result ≡ get_or (numbers_in self.now) place 0 }
+    {
+        match self {
+            Addresses::V4(items) => items[place].into(),
+            Addresses::V6(items) => items[place],
+        }
+    }
+
+    /// Adds an address. `Memory` also where it hasn't the family's width.
+    pub(crate) fn push(&mut self, address: u128) -> Result<(), Memory>
+        ensures { OnOk result (numbers_in self.new ≡ numbers_in self.old ++ address ∷ []) }
+    {
+        match self {
+            Addresses::V4(items) => match u32::try_from(address) {
+                Ok(address) => items.push(address)?,
+                Err(_) => return Err(Memory),
+            },
+            Addresses::V6(items) => items.push(address)?,
+        }
+        Ok(())
+    }
+
+    /// The place of the first that isn't below the address, or how many there are.
+    pub(crate) fn find(&self, address: u128) -> usize
+        requires { AreRising (numbers_in self.now) }
+        ensures within { result ≤ length (numbers_in self.now) }
+        ensures below { (b : ℕ) → b < result → get_or (numbers_in self.now) b 0 < address }
+        ensures from { (b : ℕ)
+            → result ≤ b
+            → b < length (numbers_in self.now)
+            → address ≤ get_or (numbers_in self.now) b 0 }
+    {
+        match self {
+            Addresses::V4(items) => find_narrow(items, address),
+            Addresses::V6(items) => find_wide(items, address),
+        }
+    }
+}
+
+fn find_narrow(items: &[u32], address: u128) -> usize
+    requires { AreRising items.now }
+    ensures within { result ≤ length items.now }
+    ensures below { (b : ℕ) → b < result → get_or items.now b 0 < address }
+    ensures from { (b : ℕ) → result ≤ b → b < length items.now → address ≤ get_or items.now b 0 }
+{
+    items.partition_point(|item| u128::from(*item) < address)
+}
+
+fn find_wide(items: &[u128], address: u128) -> usize
+    requires { AreRising items.now }
+    ensures within { result ≤ length items.now }
+    ensures below { (b : ℕ) → b < result → get_or items.now b 0 < address }
+    ensures from { (b : ℕ) → result ≤ b → b < length items.now → address ≤ get_or items.now b 0 }
+{
+    items.partition_point(|item| *item < address)
+}

@@ -1,0 +1,97 @@
+//! The fields of a packet, read once.
+
+ghost use Rattle.std.specs.Prelude.{◌≡◌, ◌<◌, ◌^◌};
+ghost use Rattle.fs_compile.specs.Facts.{AreFacts, IsSmallAddress, IsSmallField, address_number, field_number};
+
+use fs_base::{Address, Family};
+use fs_packet::View;
+
+/// Above each number that a field can have: what stands for a field that the packet doesn't have.
+const ABSENT: u64 = 1 << 32;
+
+/// The fields that a rule is tested on, read from a packet once.
+#[derive(Drop)]
+pub(crate) struct Facts {
+    pub(crate) family: Family,
+    pub(crate) destination: Address,
+    pub(crate) source: Address,
+    pub(crate) tcp_octets: Option<u16>,
+    pub(crate) fragment: u8,
+    /// By the type of the component that tests it; at 1 and 2 the addresses of IPv4. Where the packet doesn't have the
+    /// field, or the type's test isn't one of a single number, `ABSENT`; at 0 always 0.
+    pub(crate) numbers: [u64; 14],
+}
+
+impl Facts {
+    /// Reads them.
+    pub(crate) fn of(view: &View<'_>) -> Facts
+        ensures { AreFacts view.now result }
+    {
+        let destination = view.destination();
+        let source = view.source();
+        Facts {
+            family: view.family(),
+            destination,
+            source,
+            tcp_octets: view.tcp_octets(),
+            fragment: view.fragment(),
+            numbers: [
+                0,
+                address_number(destination),
+                address_number(source),
+                octet(view.protocol()),
+                ABSENT,
+                port(view.destination_port()),
+                port(view.source_port()),
+                octet(view.icmp_type()),
+                octet(view.icmp_code()),
+                ABSENT,
+                view.length().into(),
+                view.dscp().into(),
+                ABSENT,
+                label(view.flow_label()),
+            ],
+        }
+    }
+}
+
+/// An IPv4 address as a number; one of IPv6 is none of these.
+fn address_number(address: Address) -> u64
+    ensures value { result ≡ address_number address }
+    ensures small { IsSmallAddress address }
+{
+    match address {
+        Address::V4(address) => address.into(),
+        Address::V6(_) => ABSENT,
+    }
+}
+
+fn octet(field: Option<u8>) -> u64
+    ensures value { result ≡ field_number field }
+    ensures small { IsSmallField field }
+{
+    match field {
+        Some(number) => number.into(),
+        None => ABSENT,
+    }
+}
+
+fn port(field: Option<u16>) -> u64
+    ensures value { result ≡ field_number field }
+    ensures small { IsSmallField field }
+{
+    match field {
+        Some(number) => number.into(),
+        None => ABSENT,
+    }
+}
+
+fn label(field: Option<u32>) -> u64
+    ensures value { result ≡ field_number field }
+    ensures small { IsSmallField field }
+{
+    match field {
+        Some(number) => number.into(),
+        None => ABSENT,
+    }
+}

@@ -1,0 +1,114 @@
+//! The rules of a family, compiled, and found by the destination of a packet.
+
+ghost use Rattle.std.specs.Prelude.{◌≡◌, ◌≤◌, ◌+◌, ◌<◌, ◌^◌, IfOk, List, length};
+ghost use Rattle.std.specs.List.{AllByRecursion};
+ghost use Rattle.fs_rules.specs.Lent.{Listed, all_admitted};
+ghost use Rattle.fs_compile.specs.Addresses.{nodes_in, numbers_in};
+ghost use Rattle.fs_compile.specs.Index.{IsIndexOf, IsOfFamily, StandForEach, spans_of};
+ghost use Rattle.fs_compile.specs.Matcher.{next_from};
+ghost use Rattle.fs_compile.specs.Reach.{reaching};
+ghost use Rattle.fs_compile.specs.Runs.{AreNesting};
+
+use crate::buckets::Buckets;
+use crate::fast::Fast;
+use crate::runs::{nodes_of, parents_of, runs_of};
+use crate::search::{search_behind, search_first};
+use fs_base::{Family, Memory, Steps};
+use fs_packet::View;
+use fs_rules::Admitted;
+use std::alloc::Global;
+use std::marker::Model;
+use std::sync::ledger::Ledger;
+
+/// The most rules of a family, of which each has a number of 32 bits.
+const MOST: usize = 0xffff_ffff;
+
+/// The rules of a family in order, compiled, and the buckets of their destinations.
+#[derive(Drop)]
+pub struct Index {
+    buckets: Buckets,
+    rules: Vec<Fast>,
+}
+
+impl Model for Index {
+    ghost use Rattle.std.specs.Prelude.{length};
+    ghost use Rattle.fs_compile.specs.Index.{Indexed};
+    ghost use Rattle.fs_compile.specs.Search.{AreSound};
+
+    ghost Value = { Indexed };
+
+    ghost view = { λ a. record { buckets = a.buckets; rules = a.rules.items } };
+
+    ghost invariant = { λ a. AreSound a.buckets (length a.rules.items) };
+}
+
+impl Index {
+    /// Compiles the rules of a family, which are in order. `Memory` also where they are 2^32 or more.
+    pub(crate) fn of(alloc: Global, family: Family, list: &[Admitted<'_>]) -> Result<Index, Memory>
+        requires each { AllByRecursion (IsOfFamily family) (all_admitted list.now) }
+        requires nesting { AreNesting (spans_of (all_admitted list.now)) }
+        ensures { IfOk result (IsIndexOf family (all_admitted list.now)) }
+    {
+        if list.len() > MOST {
+            return Err(Memory);
+        }
+        let runs = runs_of(alloc, family, list)?;
+        let parents = parents_of(alloc, &runs.firsts)?;
+        let nodes = nodes_of(alloc, family, &runs, &parents)?;
+        let rules = compiled_rules(alloc, list)?;
+        Ok(Index {
+            buckets: Buckets {
+                lasts: runs.lasts,
+                nodes,
+                homes: runs.homes,
+            },
+            rules,
+        })
+    }
+
+    /// The least number of a rule that matches the packet, which is of the family.
+    pub(crate) fn first<L: Ledger>(&self, view: &View<'_>, steps: &mut Steps<L>) -> Option<usize>
+        ensures first { (rules : List Listed)
+            → IsIndexOf view.now.family rules self.now
+            → result ≡ next_from 0 view.now rules }
+        ensures later { steps.old ≤ steps.new }
+        ensures steps { (rules : List Listed)
+            → IsIndexOf view.now.family rules self.now
+            → steps.new ≤ steps.old + reaching view.now rules }
+    {
+        search_first(&self.buckets, &self.rules, view, steps)
+    }
+
+    /// The least number above `n` of a rule that matches the packet, which is of the family.
+    pub(crate) fn next<L: Ledger>(
+        &self,
+        view: &View<'_>,
+        n: usize,
+        steps: &mut Steps<L>,
+    ) -> Option<usize>
+        ensures next { (rules : List Listed)
+            → IsIndexOf view.now.family rules self.now
+            → result ≡ next_from (n + 1) view.now rules }
+        ensures later { steps.old ≤ steps.new }
+        ensures steps { (rules : List Listed)
+            → IsIndexOf view.now.family rules self.now
+            → steps.new ≤ steps.old + reaching view.now rules }
+    {
+        if n >= self.rules.len() {
+            return None;
+        }
+        search_behind(&self.buckets, &self.rules, view, n, steps)
+    }
+}
+
+/// Compiles each rule.
+fn compiled_rules(alloc: Global, list: &[Admitted<'_>]) -> Result<Vec<Fast>, Memory>
+    ensures stand { IfOk result (λ rules. StandForEach (all_admitted list.now) rules.items) }
+    ensures size { IfOk result (λ rules. length rules.items ≡ length list.now) }
+{
+    let mut rules = Vec::with_capacity(alloc, list.len())?;
+    for admitted in list {
+        rules.push(Fast::of(alloc, admitted.rule)?)?;
+    }
+    Ok(rules)
+}

@@ -1,0 +1,184 @@
+//! Runs of rules with one destination, and the destinations that hold them.
+
+ghost use Rattle.std.specs.Prelude.{◌≡◌, ◌<◌, ◌≤◌, ◌+◌, ◌++◌, ◌∷◌, ◌^◌, [], ℕ, List, Option, Some, None, OnOk, IfOk, IsTrue, get_or, length};
+ghost use Rattle.fs_compile.specs.Addresses.{numbers_in, nodes_in};
+ghost use Rattle.fs_compile.specs.Index.{spans_of};
+ghost use Rattle.fs_rules.specs.Lent.{all_admitted};
+ghost use Rattle.fs_compile.specs.Runs.{AreNodes, ArePlain, EndsWith, Joined, Opened, RunsOf};
+
+use crate::addresses::Addresses;
+use crate::nodes::{Node, Nodes};
+use fs_base::{Family, Memory};
+use fs_rules::Admitted;
+use std::alloc::Global;
+
+/// Runs of rules with one destination, in the order of rules: by their first and last addresses and by the numbers at
+/// which they start, with the run of each rule.
+#[derive(Drop)]
+pub(crate) struct Runs {
+    pub(crate) firsts: Vec<u128>,
+    pub(crate) lasts: Addresses,
+    pub(crate) starts: Vec<u32>,
+    pub(crate) homes: Vec<u32>,
+}
+
+impl Runs {
+    fn new(alloc: Global, family: Family) -> Runs
+        ensures runs { (spans : List (Option (ℕ × ℕ))) → RunsOf spans result }
+        ensures none { result.homes.items ≡ [] }
+    {
+        Runs {
+            firsts: Vec::new(alloc),
+            lasts: Addresses::new(alloc, family),
+            starts: Vec::new(alloc),
+            homes: Vec::new(alloc),
+        }
+    }
+}
+
+/// The runs of the rules that have a destination. They stand before those that have none.
+pub(crate) fn runs_of(alloc: Global, family: Family, list: &[Admitted<'_>]) -> Result<Runs, Memory>
+    requires { length list.now < 2 ^ 32 }
+    ensures runs { IfOk result (RunsOf (spans_of (all_admitted list.now))) }
+    ensures few { IfOk result (λ runs. length runs.homes.items ≤ length list.now) }
+    ensures rest { IfOk result (λ runs.
+        get_or (spans_of (all_admitted list.now)) (length runs.homes.items) None ≡ None) }
+{
+    let mut runs = Runs::new(alloc, family);
+    for admitted in list {
+        let Some(destination) = admitted.rule.destination() else {
+            return Ok(runs);
+        };
+        add(&mut runs, destination.bits, destination.last())?;
+    }
+    Ok(runs)
+}
+
+/// Adds a rule with a destination of these addresses.
+fn add(runs: &mut Runs, first: u128, last: u128) -> Result<(), Memory>
+    requires sizes { length runs.old.firsts.items ≡ length (numbers_in runs.old.lasts) }
+    requires few { length (numbers_in runs.old.lasts) ≤ length runs.old.homes.items }
+    requires fits { length runs.old.homes.items + 1 < 2 ^ 32 }
+    ensures runs { OnOk result ((spans : List (Option (ℕ × ℕ)))
+        → RunsOf spans runs.old
+        → get_or spans (length runs.old.homes.items) None ≡ Some (first, last)
+        → RunsOf spans runs.new) }
+    ensures one { OnOk result (length runs.new.homes.items ≡ length runs.old.homes.items + 1) }
+{
+    if ends_with(runs, first, last) {
+        join(runs)
+    } else {
+        open(runs, first, last)
+    }
+}
+
+/// Whether the last run has these addresses.
+fn ends_with(runs: &Runs, first: u128, last: u128) -> bool
+    requires sizes { length runs.now.firsts.items ≡ length (numbers_in runs.now.lasts) }
+    ensures { IsTrue result → EndsWith runs.now first last }
+{
+    let count = runs.firsts.len();
+    count > 0 && runs.firsts[count - 1] == first && runs.lasts.at(count - 1) == last
+}
+
+/// Adds a rule to the last run.
+fn join(runs: &mut Runs) -> Result<(), Memory>
+    requires some { 0 < length (numbers_in runs.old.lasts) }
+    requires few { length (numbers_in runs.old.lasts) ≤ length runs.old.homes.items }
+    requires fits { length runs.old.homes.items + 1 < 2 ^ 32 }
+    ensures same { OnOk result (Joined runs.old runs.new) }
+{
+    let run = runs.lasts.len() - 1;
+    runs.homes.push(run as u32)?;
+    Ok(())
+}
+
+/// Adds a rule with a run of its own.
+fn open(runs: &mut Runs, first: u128, last: u128) -> Result<(), Memory>
+    requires few { length (numbers_in runs.old.lasts) ≤ length runs.old.homes.items }
+    requires fits { length runs.old.homes.items + 1 < 2 ^ 32 }
+    ensures { OnOk result (Opened runs.old first last runs.new) }
+{
+    let run = runs.lasts.len() as u32;
+    let start = runs.homes.len() as u32;
+    runs.firsts.push(first)?;
+    runs.lasts.push(last)?;
+    runs.starts.push(start)?;
+    runs.homes.push(run)?;
+    Ok(())
+}
+
+/// The parents of runs by their first addresses: the next that begins no later, or how many there are.
+pub(crate) fn parents_of(alloc: Global, firsts: &[u128]) -> Result<Vec<u32>, Memory>
+    requires { length firsts.now < 2 ^ 32 }
+    ensures size { IfOk result (λ parents. length parents.items ≡ length firsts.now) }
+    ensures plain { IfOk result (λ parents. ArePlain firsts.now parents.items 0) }
+{
+    let mut parents = vec![in alloc; 0u32; firsts.len()]?;
+    fill_parents(firsts, &mut parents);
+    Ok(parents)
+}
+
+fn fill_parents(firsts: &[u128], parents: &mut [u32])
+    requires size { length parents.old ≡ length firsts.now }
+    requires fits { length firsts.now < 2 ^ 32 }
+    ensures size { length parents.new ≡ length firsts.now }
+    ensures plain { ArePlain firsts.now parents.new 0 }
+{
+    let mut run = firsts.len();
+    while run > 0 {
+        run -= 1;
+        parents[run] = parent_of(firsts, parents, run) as u32;
+    }
+}
+
+/// The next run that begins no later, or how many there are.
+fn parent_of(firsts: &[u128], parents: &[u32], run: usize) -> usize
+    requires size { length parents.now ≡ length firsts.now }
+    requires inside { run < length firsts.now }
+    requires plain { ArePlain firsts.now parents.now (run + 1) }
+    ensures after { run < result }
+    ensures within { result ≤ length firsts.now }
+    ensures least { (j : ℕ) → run < j → j < result → get_or firsts.now run 0 < get_or firsts.now j 0 }
+{
+    let mut parent = run + 1;
+    while parent < firsts.len() && firsts[run] < firsts[parent] {
+        parent = parents[parent] as usize;
+    }
+    parent
+}
+
+/// The nodes of runs with these parents.
+pub(crate) fn nodes_of(
+    alloc: Global,
+    family: Family,
+    runs: &Runs,
+    parents: &[u32],
+) -> Result<Nodes, Memory>
+    requires firsts { length runs.now.firsts.items ≡ length parents.now }
+    requires starts { length runs.now.starts.items ≡ length parents.now }
+    requires fits { length runs.now.homes.items < 2 ^ 32 }
+    requires few { length parents.now < 2 ^ 32 }
+    ensures { IfOk result (λ nodes.
+        AreNodes
+        runs.now.firsts.items
+        runs.now.starts.items
+        parents.now
+        (length runs.now.homes.items)
+        (nodes_in nodes)) }
+{
+    let mut nodes = Nodes::new(alloc, family);
+    for run in 0..parents.len() {
+        nodes.push(Node {
+            first: runs.firsts[run],
+            start: runs.starts[run],
+            parent: parents[run],
+        })?;
+    }
+    nodes.push(Node {
+        first: 0,
+        start: runs.homes.len() as u32,
+        parent: parents.len() as u32,
+    })?;
+    Ok(nodes)
+}
