@@ -1,12 +1,20 @@
 -- How the walk goes on from one matching rule to the next.
-use Rattle.std.proofs.Common.{◌≡◌, ◌+◌, ◌<◌, ◌≤◌, ℕ, List, [], ◌∷◌, ◌++◌, Bool, true, false, Option, Some, None, if◌then◌else◌, length, map, drop, get_or, refl, ap, sym, ◌∙◌, arith, append_assoc, append-nil, add-one, drop-cons, rules}
-use Rattle.std.proofs.lemmas.List.{map-append}
+use Rattle.std.proofs.Common.{◌≡◌, ◌+◌, ◌<◌, ◌≤◌, ℕ, List, [], ◌∷◌, ◌++◌, Bool, true, false, Option, Some, None, if◌then◌else◌, length, map, drop, get_or, refl, ap, sym, subst, ◌∙◌, IfSome, IfOk, Result, Ok, Err, arith, append_assoc, append-nil, add-one, drop-cons, rules}
+use Rattle.std.proofs.lemmas.List.{drop-map, length-drop, length-map, map-append}
 use Rattle.std.proofs.lemmas.Grind.{common_steps}
+use Rattle.fs_base.specs.declared.prefix.Family.{Family}
+use Rattle.fs_base.specs.declared.prefix.Family.TheVariants.{V4, V6}
+use Rattle.fs_cli.specs.Judge.{admitted_rules, lent_rules, rules_for}
+use Rattle.fs_cli.specs.Matcher.{FindsFrom, WalksBy}
+use Rattle.fs_compile.specs.Index.{IsIndexOf}
+use Rattle.fs_compile.specs.Matcher.{StandsForLists, admitted_in}
+use Rattle.fs_compile.specs.declared.compiled.Compiled.{Compiled}
 use Rattle.fs_line.specs.declared.walked.Walked.{Walked}
 use Rattle.fs_line.specs.Walked.{entry_of, entries}
 use Rattle.fs_packet.specs.Fields.{Viewed}
 use Rattle.fs_packet.specs.Matches.{is_match}
-use Rattle.fs_rules.specs.Lent.{shown_admitted}
+use Rattle.fs_rules.specs.Lent.{Listed, shown_admitted}
+use Rattle.fs_rules.specs.Table.{Held}
 use Rattle.fs_rules.specs.Walk.{first_from, goes_on, walk_from}
 use Rattle.fs_rules.specs.declared.lent.Admitted.{Admitted}
 
@@ -127,3 +135,75 @@ walking_ends view rules place found walked next d w n e g =
     (n.walks d
     ∙ ap (λ (more : List (ℕ × List (List ℕ))). (found + 1, (get_or rules found d).actions.now) ∷ more)
     (not_chosen (goes_on (get_or rules found d).actions.now) _ _ g)) e
+
+-- what a search from a place on gives is a place among the rules
+
+found_within : (view : Viewed) (rules : List Listed) (place : ℕ) (found : Option ℕ) → found ≡ first_from place view rules
+    → IfSome found (λ k. (place ≤ k) × (k < place + length rules))
+found_within view rules place None e = tt
+found_within view [] place (Some k) e = absurd cc
+found_within view (rule ∷ rules) place (Some k) e = by (is_match rule.rule view) refl (found_within view rules (place + 1) (Some k))
+  where
+    by : (b : Bool) → is_match rule.rule view ≡ b
+        → (Some k ≡ first_from (place + 1) view rules → (place + 1 ≤ k) × (k < place + 1 + length rules))
+        → (place ≤ k) × (k < place + length (rule ∷ rules))
+    by true m later =
+        let same : Some k ≡ Some place = e ∙ chosen (is_match rule.rule view) _ _ m in
+        let k_is : k ≡ place = cc in
+        (omega (arith, k_is), omega (arith, k_is))
+    by false m later =
+        let rest : (place + 1 ≤ k) × (k < place + 1 + length rules) = later (e ∙ not_chosen (is_match rule.rule view) _ _ m) in
+        (omega (arith, rest.0), omega (arith, rest.1))
+
+finds_from : (view : Viewed) (rules : List Listed) (place : ℕ) (found : Option ℕ) → found ≡ first_from place view (drop place rules) → FindsFrom place view rules found
+finds_from view rules place None e = (e, tt)
+finds_from view rules place (Some k) e =
+    let within : (place ≤ k) × (k < place + length (drop place rules)) = found_within view (drop place rules) place (Some k) e in
+    (e, (within.0, omega (arith, within.0, within.1, length-drop place rules)))
+
+-- a search of the compiled rules is one of the list that they stand for
+pub finds_by : (view : Viewed) (rules : List Listed) (compiled : Compiled) (place : ℕ) (found : Option ℕ)
+    → ((lists : Family → List Listed) → StandsForLists lists compiled → found ≡ first_from place view (drop place (lists view.family)))
+    → WalksBy view rules compiled → FindsFrom place view rules found
+finds_by view rules compiled place found search w =
+    finds_from view rules place found (search w.lists w.stands ∙ ap (λ (list : List Listed). first_from place view (drop place list)) w.rules_are)
+
+-- of the rules as the table lends them
+
+pub found_among : (view : Viewed) (rules : List Admitted) (place : ℕ) (found : Option ℕ) → FindsFrom place view (map shown_admitted rules) found
+    → found ≡ first_from place view (map shown_admitted (drop place rules))
+found_among view rules place found f = f.0 ∙ ap (first_from place view) (drop-map shown_admitted place rules)
+
+pub among : (view : Viewed) (rules : List Admitted) (place k : ℕ) → FindsFrom place view (map shown_admitted rules) (Some k) → (place ≤ k) × (k < length rules)
+among view rules place k f = (f.1.0, omega (arith, f.1.1, length-map rules shown_admitted))
+
+-- the compiled rules of a table stand for the rules that it lends
+pub stands_along : (held : Held) (v4 v6 : List Admitted) (compiled : Compiled) → StandsForLists (admitted_in held) compiled
+    → map shown_admitted v4 ≡ admitted_in held V4 → map shown_admitted v6 ≡ admitted_in held V6
+    → StandsForLists (λ family. rules_for family (lent_rules v4 v6)) compiled
+stands_along held v4 v6 compiled s e f = record {
+  v4 = subst (λ (list : List Listed). IsIndexOf V4 list compiled.v4) (sym e) s.v4;
+  v6 = subst (λ (list : List Listed). IsIndexOf V6 list compiled.v6) (sym f) s.v6;
+}
+
+pub if_stands : {E : Type 0} (held : Held) (v4 v6 : List Admitted) (r : Result Compiled E) → IfOk r (StandsForLists (admitted_in held))
+    → map shown_admitted v4 ≡ admitted_in held V4 → map shown_admitted v6 ≡ admitted_in held V6
+    → IfOk r (StandsForLists (λ family. rules_for family (lent_rules v4 v6)))
+if_stands held v4 v6 (Ok compiled) s e f = stands_along held v4 v6 compiled s e f
+if_stands held v4 v6 (Err fault) s e f = tt
+
+pub walks_v4 : (view : Viewed) (v4 v6 : List Admitted) (compiled : Compiled) → StandsForLists (λ family. rules_for family (lent_rules v4 v6)) compiled
+    → view.family ≡ V4 → WalksBy view (map shown_admitted v4) compiled
+walks_v4 view v4 v6 compiled s e = record {
+  lists = λ family. rules_for family (lent_rules v4 v6);
+  stands = s;
+  rules_are = ap (λ (family : Family). rules_for family (lent_rules v4 v6)) e;
+}
+
+pub walks_v6 : (view : Viewed) (v4 v6 : List Admitted) (compiled : Compiled) → StandsForLists (λ family. rules_for family (lent_rules v4 v6)) compiled
+    → view.family ≡ V6 → WalksBy view (map shown_admitted v6) compiled
+walks_v6 view v4 v6 compiled s e = record {
+  lists = λ family. rules_for family (lent_rules v4 v6);
+  stands = s;
+  rules_are = ap (λ (family : Family). rules_for family (lent_rules v4 v6)) e;
+}

@@ -4,6 +4,7 @@ pub mod Generate
 pub mod Judge
 pub mod Listing
 pub mod Load
+pub mod Matcher
 pub mod Play
 pub mod Program
 pub mod Refusal

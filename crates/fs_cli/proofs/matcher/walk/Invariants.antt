@@ -4,7 +4,7 @@ use Rattle.fs_cli.proofs.Walking.{Walking}
 use Rattle.fs_cli.proofs.matcher.walk.Given as goal
 
 abbrev pub invariant-rules : goal.invariant-rules
-invariant-rules l = record {
+invariant-rules g l = record {
   within : l.place ≤ length l.rules;
   count : vec_len l.walked ≤ l.place;
   room : length l.rules ≤ vec_capacity l.walked;
@@ -13,4 +13,4 @@ invariant-rules l = record {
 }
 
 abbrev pub decreases-rules : goal.decreases-rules
-decreases-rules l = length l.rules - l.place
+decreases-rules g l = length l.rules - l.place
