@@ -1,12 +1,12 @@
 -- An input of records is done exactly where it is below the limit and is the text of its records.
-use Rattle.std.proofs.Common.{◌≡◌, ℕ, List, [], ◌++◌, Bool, true, false, Some, None, ◌<◌, ◌≤◌, ◌+◌, ◌-◌, ◌==◌, length, take, drop, refl, ap, sym, ◌∙◌, ◌↔◌, subst, arith, eqb-true, append-nil}
-use Rattle.std.specs.Prelude.{nat_le, if◌then◌else◌}
+use Rattle.std.proofs.Common.{◌≡◌, ℕ, List, [], ◌++◌, Bool, true, false, None, ◌<◌, ◌≤◌, ◌+◌, ◌-◌, ◌==◌, length, take, refl, ap, sym, ◌∙◌, ◌↔◌, subst, arith, eqb-true, append-nil}
+use Rattle.std.specs.Prelude.{if◌then◌else◌}
 use Rattle.std.proofs.lemmas.Bool.Decides.{nat_tests}
 use Rattle.std.proofs.lemmas.Grind.{common_steps}
 use Rattle.fs_base.specs.Language.{IsOctets}
 use Rattle.fs_base.specs.Parts.{at_limit, window}
-use Rattle.fs_records.specs.Parts.{AllFrom, At, ReadsText, SpellsText, at, judged, parts_from, text_from, to_come}
-use Rattle.fs_records.specs.Records.{End, Format, bad, done, end_by, ends_short, first_record, head_at, limited, records_to_come}
+use Rattle.fs_records.specs.Parts.{AllFrom, ReadsText, SpellsText, at, parts_from, text_from, to_come}
+use Rattle.fs_records.specs.Records.{End, Format, bad, done, end_by, ends_short, first_record, head_at, records_to_come}
 use Rattle.fs_records.specs.declared.head.Head.{Head}
 use Rattle.fs_records.specs.declared.head.Head.TheVariants.{Whole, Wrong, Partial}
 use Rattle.fs_records.proofs.Parts.{parts_read, parts_spelled, state_behind}

@@ -1,5 +1,5 @@
 //! Reading an input record by record, whatever counts the reads give.
-ghost use Rattle.std.specs.Prelude.{◌≡◌, ◌≤◌, ℕ, None, IsSome, IsTrue, IfSome, length, take};
+ghost use Rattle.std.specs.Prelude.{◌≡◌, ◌≤◌, [], ℕ, None, IsSome, IsTrue, IfSome, length, take};
 ghost use Rattle.std.specs.Result.{IsErrOf};
 ghost use Rattle.fs_base.specs.Files.{OnlySlot};
 ghost use Rattle.fs_base.specs.Outside.{Rose};
@@ -26,7 +26,9 @@ pub fn next_record<F: Files, H: Heads>(
     files: &mut F,
     into: &mut [u8],
 ) -> Result<Option<Found<H::Said>>, Fault<H::Reason>>
-    requires { H.most ≤ length into.old }
+    requires room { H.most ≤ length into.old }
+    requires none { counted.old.back ≡ [] }
+    ensures none { counted.new.back ≡ [] }
     ensures later { F.faults files.old ≤ F.faults files.new }
     ensures read { end.old ≡ None → IsErrOf result Fault.Read → Rose (F.faults files.old) (F.faults files.new) }
     ensures slot { counted.new.slot ≡ counted.old.slot }
@@ -112,7 +114,9 @@ fn advance<F: Files, H: Heads>(
     files: &mut F,
     into: &mut [u8],
 ) -> Result<Option<Found<H::Said>>, Fault<H::Reason>>
-    requires { H.most ≤ length into.old }
+    requires room { H.most ≤ length into.old }
+    requires none { counted.old.back ≡ [] }
+    ensures none { counted.new.back ≡ [] }
     ensures later { F.faults files.old ≤ F.faults files.new }
     ensures read { IsErrOf result Fault.Read → Rose (F.faults files.old) (F.faults files.new) }
     ensures slot { counted.new.slot ≡ counted.old.slot }

@@ -1,0 +1,5 @@
+pub mod Taking
+pub mod Joining
+pub mod Lifting
+pub mod Skipping
+pub mod Coming

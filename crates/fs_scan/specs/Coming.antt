@@ -1,0 +1,43 @@
+-- The parts of an input that are read by a chain of fields each, where what a part says depends on those before it.
+use Rattle.std.specs.Prelude.{ℕ, List, Option, Some, None, Bool, ◌≡◌, ◌≤◌, ◌+◌, ◌==◌, ◌&&◌, not, length, drop, if◌then◌else◌, unwrap_or}
+use Rattle.fs_records.specs.Parts.{At, Reader, at, to_come}
+use Rattle.fs_records.specs.Records.{End, done}
+use Rattle.fs_scan.specs.Reads.{end_of}
+use Rattle.fs_scan.specs.Scan.{Scan, Scanner, got, partial, wrong}
+
+-- a state, and the place in the input
+pub record Placed (S : Type 0) : Type 0 where
+  pub now : S
+  pub place : ℕ
+
+abbrev pub placed : {S : Type 0} → S → ℕ → Placed S
+placed now place = record { now = now; place = place }
+
+-- a chain of fields in a state, which gives a part and the state behind it
+abbrev pub Chain : (S P R : Type 0) → Type 0
+Chain S P R = S → Scanner (P × S) R
+
+abbrev pub part_of : {S P R : Type 0} → At (Placed S) → Scan (P × S) R → Option (P × At (Placed S))
+part_of now (got found count) = Some (found.0, at (placed found.1 (now.state.place + count)) (drop count now.octets))
+part_of now (wrong reason place) = None
+part_of now partial = None
+
+abbrev pub first_part : {S P R : Type 0} → Chain S P R → Reader (Placed S) P
+first_part chain now = part_of now (chain now.state.now now.state.place now.octets)
+
+-- An input ends between two parts where nothing is left and the limit isn't reached; else as the chain ends.
+abbrev pub stop : {S P R : Type 0} → Chain S P R → R → Bool → ℕ → At (Placed S) → End R
+stop chain cut limit place now =
+    if (length now.octets == 0) && not limit
+    then done
+    else unwrap_or (end_of cut limit now.state.place (length now.octets) (chain now.state.now now.state.place now.octets)) done
+
+-- the parts that are still to come in a state, where so many octets were taken, and how the input ends
+abbrev pub parts_to_come : {S P R : Type 0} → Chain S P R → R → (limit taken : ℕ) → S → List ℕ → List P × End R
+parts_to_come chain cut limit taken now left = to_come (first_part chain) (stop chain cut) limit taken (at (placed now taken) left)
+
+-- a value takes at least so many of the octets
+abbrev pub Takes : {A R : Type 0} → ℕ → Scanner A R → Type 0
+Takes {A} least scanner =
+    (place : ℕ) (octets : List ℕ) (value : A) (count : ℕ) → scanner place octets ≡ got value count
+    → (least ≤ count) × (count ≤ length octets)

@@ -1,0 +1,3 @@
+pub mod Scan
+pub mod Reads
+pub mod Coming

@@ -1,0 +1,56 @@
+-- What a call that reads a chain of fields does to the files and to the slot that it reads.
+use Rattle.std.specs.Prelude.{ℕ, List, Option, Some, None, Result, Ok, Err, Bool, IsTrue, IfErr, ◌≡◌, ◌≢◌, ◌≤◌, ◌+◌, length, drop, if◌then◌else◌, ⊤}
+use Rattle.fs_base.specs.Outside.{Rose}
+use Rattle.fs_base.specs.Parts.{at_limit, window}
+use Rattle.fs_base.specs.declared.counted.Counted.{Counted}
+use Rattle.fs_records.specs.Records.{End, bad, limited}
+use Rattle.fs_records.specs.declared.fault.Fault.{Fault}
+use Rattle.fs_records.specs.declared.fault.Fault.TheVariants.{Read, Limit, Bad}
+use Rattle.fs_scan.specs.Scan.{Scan, Scanner, got, partial, wrong}
+
+module _ {A R : Type 0} where
+  -- a scan gave this value, and its octets were taken
+  pub record Took (scan : Scan A R) (judged taken taken' : ℕ) (left left' : List ℕ) (value : A) : Type 0 where
+    pub count : ℕ
+    pub is : scan ≡ got value count
+    pub within : count ≤ judged
+    pub taken_is : taken' ≡ taken + count
+    pub left_is : left' ≡ drop count left
+
+  -- how an input ends, of which so many octets are judged behind those that were taken, where a scan gives no value
+  abbrev pub end_of : R → Bool → (taken size : ℕ) → Scan A R → Option (End R)
+  end_of cut limit taken size (got value count) = None
+  end_of cut limit taken size (wrong reason place) = Some (bad reason place)
+  end_of cut limit taken size partial = Some (if limit then limited else bad cut (taken + size))
+
+  abbrev pub ends_by : Scanner A R → R → (limit taken : ℕ) → List ℕ → Option (End R)
+  ends_by scanner cut limit taken left =
+      end_of cut (at_limit limit taken left) taken (length (window limit taken left)) (scanner taken (window limit taken left))
+
+-- a fault is how the input ends
+abbrev pub Fails : {R : Type 0} → Option (End R) → Fault R → Type 0
+Fails end Read = ⊤
+Fails end Limit = end ≡ Some limited
+Fails end (Bad reason place) = end ≡ Some (bad reason place)
+
+-- The answer is what the chain says of the octets that are judged; `tells` says what an answer tells of its value.
+abbrev pub Scanned : {T A R : Type 0} → Scanner A R → R → (limit taken taken' : ℕ) → (left left' : List ℕ) → (T → A)
+    → Result T (Fault R) → Type 0
+Scanned scanner cut limit taken taken' left left' tells (Ok answer) =
+    Took (scanner taken (window limit taken left)) (length (window limit taken left)) taken taken' left left' (tells answer)
+Scanned scanner cut limit taken taken' left left' tells (Err fault) = Fails (ends_by scanner cut limit taken left) fault
+
+-- The files that tell their octets give those of the slot as the chain says, and nothing else changes. Their faults never
+-- fall, and rose where `Read` is answered.
+module _ {T A R : Type 0} (told : Bool) (faults faults' : ℕ) (left left' : ℕ → List ℕ)
+    (holds holds' : List ℕ → Option (List ℕ)) where
+  pub record Reads (scanner : Scanner A R) (cut : R) (old new : Counted) (tells : T → A) (result : Result T (Fault R)) : Type 0 where
+    pub later : faults ≤ faults'
+    pub failed : IfErr result (λ fault. fault ≡ Read → Rose faults faults')
+    pub slot : new.slot ≡ old.slot
+    pub limit : new.limit ≡ old.limit
+    pub scanned :
+        IsTrue told
+        → Scanned scanner cut old.limit old.taken new.taken (left old.slot) (left' old.slot) tells result
+    pub others : IsTrue told → (other : ℕ) → other ≢ old.slot → left' other ≡ left other
+    pub same : IsTrue told → holds' ≡ holds

@@ -1,0 +1,65 @@
+//! Taking and skipping the octets of fields.
+ghost use Rattle.std.specs.Prelude.{◌≡◌, ◌+◌, ◌<◌, [], IfOk, length};
+ghost use Rattle.fs_scan.specs.Reads.{Reads};
+ghost use Rattle.fs_scan.specs.Scan.{field, skips};
+
+use fs_base::{Counted, Files, fill};
+use fs_records::{Fault, short};
+
+/// Takes as many octets as `into` has room for.
+///
+/// # Errors
+///
+/// `Bad` with `cut` where the input ends before, `Limit` where the limit is reached before, `Read` where the files
+/// failed.
+pub fn take_octets<F: Files, R: Copy + Drop>(
+    cut: R,
+    counted: &mut Counted,
+    files: &mut F,
+    into: &mut [u8],
+) -> Result<(), Fault<R>>
+    requires none { counted.old.back ≡ [] }
+    ensures none { counted.new.back ≡ [] }
+    ensures taken { IfOk result (λ _. counted.new.taken ≡ counted.old.taken + length into.new) }
+    ensures reads { Reads F.tells (F.faults files.old) (F.faults files.new) (F.left files.old) (F.left files.new)
+        (F.holds files.old) (F.holds files.new) (field (length into.new) (λ octets. octets)) cut counted.old counted.new
+        (λ _. into.new) result }
+{
+    let Ok(count) = fill(counted, files, into) else {
+        return Err(Fault::Read);
+    };
+    if count < into.len() {
+        return Err(short(cut, counted));
+    }
+    Ok(())
+}
+
+/// Takes so many octets and lets them go, by pieces that fit `into`.
+///
+/// # Errors
+///
+/// As of `take_octets`.
+pub fn skip_octets<F: Files, R: Copy + Drop>(
+    cut: R,
+    size: u64,
+    counted: &mut Counted,
+    files: &mut F,
+    into: &mut [u8],
+) -> Result<(), Fault<R>>
+    requires room { 0 < length into.old }
+    requires none { counted.old.back ≡ [] }
+    ensures none { counted.new.back ≡ [] }
+    ensures taken { IfOk result (λ _. counted.new.taken ≡ counted.old.taken + size) }
+    ensures reads { Reads F.tells (F.faults files.old) (F.faults files.new) (F.left files.old) (F.left files.new)
+        (F.holds files.old) (F.holds files.new) (skips size) cut counted.old counted.new (λ _. size) result }
+{
+    let mut left = size;
+    'pieces: while left > 0 {
+        let most = left.min(into.len() as u64) as usize;
+        if let Err(fault) = take_octets(cut, counted, files, &mut into[..most]) {
+            return Err(fault);
+        }
+        left -= most as u64;
+    }
+    Ok(())
+}
