@@ -180,6 +180,15 @@ pub never_memory : {T A : Type 0} (r : Result T Refusal) → IfErr r IsAtPacket 
 never_memory (Ok t) h e = absurd cc
 never_memory (Err refusal) h e = absurd (h.2 e)
 
+-- a call on the outside that failed is late, and is never want of memory
+pub late_outside : {T : Type 0} (r : Result T Refusal) → IsErrAnd r (λ e. e ≡ Outside) → IfErr r IsLate
+late_outside r h = late_err r Outside h (λ e. absurd cc, λ e. absurd cc)
+
+pub outside_wants_none : {T A : Type 0} (r : Result T Refusal) → IsErrAnd r (λ e. e ≡ Outside) → answered r ≡ 6 → A
+outside_wants_none (Ok t) h e = absurd h
+outside_wants_none (Err refusal) h e =
+    let at : status_of Outside ≡ 6 = ap status_of (sym h) ∙ e in absurd cc
+
 -- of a call that answered this
 pub err_of : {T E : Type 0} (r : Result T E) (cause wanted : E) → r ≡ Err cause → cause ≡ wanted → IsErrOf r wanted
 err_of r cause wanted e f = e ∙ ap Err f

@@ -5,7 +5,7 @@ use Rattle.fs_cli.specs.Judge.{capture_stage, JudgesAll, JudgingState, verdict_o
 use Rattle.fs_base.specs.Happened.{happened}
 use Rattle.fs_cli.specs.Refusal.{Answers, status_of}
 use Rattle.fs_cli.specs.declared.refusal.Refusal.{Refusal}
-use Rattle.fs_cli.proofs.Answering.{late_err, late_of, never_memory, err_of, answers_unopened, answers_early, judge_flushed, judge_unflushed, read_verdict, rose_earlier}
+use Rattle.fs_cli.proofs.Answering.{late_err, late_of, never_memory, err_of, late_outside, outside_wants_none, answers_unopened, answers_early, judge_flushed, judge_unflushed, read_verdict, rose_earlier}
 use Rattle.fs_cli.proofs.judge.judge.Goals as goal
 
 pub returns-in_err-open-clause-late : goal.returns-in_err-open-clause-late
@@ -66,3 +66,9 @@ returns-clause-late g c = late_of c.judge_packets-judged.result c.judge_packets-
 
 pub returns-clause-unwritten : goal.returns-clause-unwritten
 returns-clause-unwritten g c = never_memory c.judge_packets-judged.result c.judge_packets-judged.ensures.late
+
+pub returns-in_err-flush-clause-late : goal.returns-in_err-flush-clause-late
+returns-in_err-flush-clause-late g c = late_outside c.from_residual-in_err-flush.result c.from_residual-in_err-flush.ensures.1
+
+pub returns-in_err-flush-clause-unwritten : goal.returns-in_err-flush-clause-unwritten
+returns-in_err-flush-clause-unwritten g c = outside_wants_none c.from_residual-in_err-flush.result c.from_residual-in_err-flush.ensures.1
