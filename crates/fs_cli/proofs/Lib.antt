@@ -1,10 +1,4 @@
-pub mod Answering
 pub mod Checking
 pub mod Counting
-pub mod Enforcing
-pub mod Generating
-pub mod Judging
-pub mod Ruling
+pub mod Surveying
 pub mod Running
-pub mod Playing
-pub mod Walking

@@ -7,26 +7,27 @@ use Rattle.fs_base.specs.Sink.{Grew}
 use Rattle.fs_base.specs.declared.outside.files.Files as files
 use Rattle.fs_base.specs.declared.outside.sink.Sink as sink
 use Rattle.fs_base.proofs.Grew.{Grew-refl}
-use Rattle.fs_base.specs.Records.{End, done, limited, bad}
+use Rattle.fs_records.specs.Records.{End, done, limited, bad}
 use Rattle.fs_base.specs.declared.config.Config.{Config}
 use Rattle.fs_base.specs.declared.prefix.Family.{Family}
 use Rattle.fs_conf.specs.Config.{config_of}
 use Rattle.fs_pcap.specs.Capture.{Recorded, capture_of}
 use Rattle.fs_pcap.specs.declared.fault.CaptureReason.{CaptureReason}
 use Rattle.fs_rules.specs.Table.{Held}
-use Rattle.fs_tape.specs.Tape.{Item, tape_of}
+use Rattle.fs_tape.specs.Tape.{Timed, tape_of}
 use Rattle.fs_tape.specs.declared.fault.TapeReason.{TapeReason}
 use Rattle.fs_cli.specs.Program.{ChecksSo, Does, Runs, HasStatus, HasCauses, Completes, Promises, world}
-use Rattle.fs_cli.specs.Enforce.{Enforces, EnforcesSo, Enforced, Inputs, inputs, inputs_stage, status_for}
-use Rattle.fs_cli.specs.Generate.{Generates, GeneratesSo, Generated}
-use Rattle.fs_cli.specs.Load.{Names, fetch, config_stage}
-use Rattle.fs_cli.specs.Command.{Form, Enforce, Rules, Check, Gen, form_of}
-use Rattle.fs_cli.specs.Rules.{Lists, ListsSo, Listed, listed_status}
-use Rattle.fs_cli.specs.Play.{played_to, tape_stage, accepted_stage}
-use Rattle.fs_cli.specs.Judge.{capture_stage, status_at, verdict_of, output_of}
-use Rattle.fs_cli.specs.Refusal.{answered, Stage, Found, Stopped, and_then, or_stop, status_of}
-use Rattle.fs_cli.specs.declared.refusal.Refusal.{Refusal}
-use Rattle.fs_cli.specs.declared.refusal.Refusal.TheVariants.{Outside, Config as Refused, Tape, Capture, Memory, Limit}
+use Rattle.fs_enforce.specs.Command.{Enforces, EnforcesSo, Enforced, Inputs, inputs, inputs_stage, status_for}
+use Rattle.fs_generate.specs.Command.{Generates, GeneratesSo, Generated}
+use Rattle.fs_stages.specs.Load.{Names, fetch, config_stage}
+use Rattle.fs_cli.specs.Command.{Form, Enforce, Surveys, Check, Gen, form_of}
+use Rattle.fs_cli.specs.Survey.{Text, Lists, ListsSo, Listed, listed_status, text_for}
+use Rattle.fs_cli.specs.declared.survey.Survey.{Survey}
+use Rattle.fs_stages.specs.Play.{played_to, tape_stage, accepted_stage}
+use Rattle.fs_enforce.specs.Judge.{capture_stage, status_at, verdict_of, output_of}
+use Rattle.fs_stages.specs.Refusal.{answered, Stage, Found, Stopped, and_then, or_stop, status_of}
+use Rattle.fs_stages.specs.declared.refusal.Refusal.{Refusal}
+use Rattle.fs_stages.specs.declared.refusal.Refusal.TheVariants.{Outside, Config as Refused, Tape, Capture, Memory, Limit}
 
 -- the words
 
@@ -37,10 +38,10 @@ runs_words tells limit holds (Some form) call answer r = (λ e. absurd (r.0 e), 
 
 -- the status
 
-abbrev with_capture : Config × List Item → Recorded → Stage Inputs
+abbrev with_capture : Config × List Timed → Recorded → Stage Inputs
 with_capture accepted found = Found (inputs accepted.0 accepted.1 found)
 
-capture_status : (held : Held) (stage : Stage Recorded) (accepted : Config × List Item) → (verdict_of held stage).status ≡ status_for (and_then stage (with_capture accepted))
+capture_status : (held : Held) (stage : Stage Recorded) (accepted : Config × List Timed) → (verdict_of held stage).status ≡ status_for (and_then stage (with_capture accepted))
 capture_status held (Found capture) accepted = refl
 capture_status held (Stopped refusal) accepted = refl
 
@@ -54,13 +55,13 @@ enforce_status limit holds config tape capture failed before now answer (inl ear
   where
     at : ((refusal : Refusal) × (accepted_stage limit holds config tape ≡ Stopped refusal) × (answer ≡ status_of refusal)) ⊎ (answer ≡ 6) ⊎ ((answer ≡ 1) × failed)
         → Caused failed (status_for (inputs_stage limit holds config tape capture)) answer
-    at (inl h) = inl (h.2 ∙ sym (ap (λ (s : Stage (Config × List Item)). status_for (and_then s (λ accepted. and_then (capture_stage limit holds capture) (with_capture accepted)))) h.1))
+    at (inl h) = inl (h.2 ∙ sym (ap (λ (s : Stage (Config × List Timed)). status_for (and_then s (λ accepted. and_then (capture_stage limit holds capture) (with_capture accepted)))) h.1))
     at (inr h) = inr h
 enforce_status limit holds config tape capture failed before now answer (inr judged) = at judged.answers.status_is
   where
     stage : status_for (inputs_stage limit holds config tape capture) ≡ (verdict_of judged.held (capture_stage limit holds capture)).status
     stage =
-        ap (λ (s : Stage (Config × List Item)). status_for (and_then s (λ accepted. and_then (capture_stage limit holds capture) (with_capture accepted)))) judged.found
+        ap (λ (s : Stage (Config × List Timed)). status_for (and_then s (λ accepted. and_then (capture_stage limit holds capture) (with_capture accepted)))) judged.found
         ∙ sym (capture_status judged.held (capture_stage limit holds capture) (judged.accepted, judged.items))
 
     at : Caused failed (verdict_of judged.held (capture_stage limit holds capture)).status answer → Caused failed (status_for (inputs_stage limit holds config tape capture)) answer
@@ -78,15 +79,15 @@ check_status limit holds family word files sink before now answer (inr says) = a
     at (inr (inl h)) = inr (inl h)
     at (inr (inr h)) = inr (inr (h.0, inr h.1))
 
-rules_status : (limit : ℕ) (holds : Names) (config tape : List ℕ) (failed : Type 0) (before now : Option (List ℕ)) (answer : ℕ)
-    → ListsSo limit holds config tape failed before now answer → Caused failed (listed_status (accepted_stage limit holds config tape)) answer
-rules_status limit holds config tape failed before now answer (inl ends) = at ends.2.status_is
+survey_status : (survey : Text) (limit : ℕ) (holds : Names) (config tape : List ℕ) (failed : Type 0) (before now : Option (List ℕ)) (answer : ℕ)
+    → ListsSo survey limit holds config tape failed before now answer → Caused failed (listed_status (accepted_stage limit holds config tape)) answer
+survey_status survey limit holds config tape failed before now answer (inl ends) = at ends.2.status_is
   where
     at : Caused failed (status_of ends.0) answer → Caused failed (listed_status (accepted_stage limit holds config tape)) answer
     at (inl h) = inl (h ∙ sym (ap listed_status ends.1))
     at (inr h) = inr h
-rules_status limit holds config tape failed before now answer (inr (inl early)) = inr early.0
-rules_status limit holds config tape failed before now answer (inr (inr shows)) = at shows.answers.status_is
+survey_status survey limit holds config tape failed before now answer (inr (inl early)) = inr early.0
+survey_status survey limit holds config tape failed before now answer (inr (inr shows)) = at shows.answers.status_is
   where
     at : Caused failed 0 answer → Caused failed (listed_status (accepted_stage limit holds config tape)) answer
     at (inl h) = inl (h ∙ sym (ap listed_status shows.found))
@@ -107,8 +108,8 @@ pub runs_causes : (tells : Bool) (limit : ℕ) (holds : Names) (form : Option Fo
 runs_causes tells limit holds None call answer told r = tt
 runs_causes tells limit holds (Some (Enforce config tape capture)) call answer told r =
     enforce_status limit holds config tape capture (FilesFailed call ⊎ SinkFailed call) call.before.written call.now.written answer (r.1 told)
-runs_causes tells limit holds (Some (Rules config tape)) call answer told r =
-    rules_status limit holds config tape (FilesFailed call ⊎ SinkFailed call) call.before.written call.now.written answer (r.1 told)
+runs_causes tells limit holds (Some (Surveys survey config tape)) call answer told r =
+    survey_status (text_for survey) limit holds config tape (FilesFailed call ⊎ SinkFailed call) call.before.written call.now.written answer (r.1 told)
 runs_causes tells limit holds (Some (Check family word)) call answer told r =
     check_status limit holds family word (FilesFailed call) (SinkFailed call) call.before.written call.now.written answer r.1
 runs_causes tells limit holds (Some (Gen count)) call answer told r =
@@ -153,8 +154,8 @@ within_found : {A : Type 0} (b : Bool) (x a : A) → (if b then Stopped Limit el
 within_found true x a e = absurd cc
 within_found false x a e = (refl, cc)
 
-played_found : (r : List Item × End TapeReason) (items : List Item) → played_to r ≡ Found items → r ≡ (items, done)
-played_found (found, done) items e = let same : found ≡ items = cc in ap (λ (l : List Item). (l, done)) same
+played_found : (r : List Timed × End TapeReason) (items : List Timed) → played_to r ≡ Found items → r ≡ (items, done)
+played_found (found, done) items e = let same : found ≡ items = cc in ap (λ (l : List Timed). (l, done)) same
 played_found (found, limited) items e = absurd cc
 played_found (found, bad reason place) items e = absurd cc
 
@@ -166,7 +167,7 @@ ended_well (bad reason place) e = absurd cc
 below_limit : (limit size : ℕ) → nat_le limit size ≡ false → size < limit
 below_limit limit size h = grind (arith, nat_tests, h)
 
-record Passed (limit : ℕ) (holds : Names) (config tape : List ℕ) (accepted : Config) (items : List Item) : Type 0 where
+record Passed (limit : ℕ) (holds : Names) (config tape : List ℕ) (accepted : Config) (items : List Timed) : Type 0 where
   pub config_octets : List ℕ
   pub config_is : holds config ≡ Some config_octets
   pub config_within : length config_octets < limit
@@ -175,12 +176,12 @@ record Passed (limit : ℕ) (holds : Names) (config tape : List ℕ) (accepted :
   pub tape_is : holds tape ≡ Some tape_octets
   pub items_are : tape_of accepted limit tape_octets ≡ (items, done)
 
-passed : (limit : ℕ) (holds : Names) (config tape : List ℕ) (accepted : Config) (items : List Item) → accepted_stage limit holds config tape ≡ Found (accepted, items) → Passed limit holds config tape accepted items
+passed : (limit : ℕ) (holds : Names) (config tape : List ℕ) (accepted : Config) (items : List Timed) → accepted_stage limit holds config tape ≡ Found (accepted, items) → Passed limit holds config tape accepted items
 passed limit holds config tape accepted items found =
     let whole = then_found (config_stage limit holds config) _ (accepted, items) found in
     let played = then_found (tape_stage whole.0 limit holds tape) _ (accepted, items) whole.2 in
-    let same : whole.0 ≡ accepted = ap (λ (p : Config × List Item). p.0) (found_same played.2) in
-    let same_items : played.0 ≡ items = ap (λ (p : Config × List Item). p.1) (found_same played.2) in
+    let same : whole.0 ≡ accepted = ap (λ (p : Config × List Timed). p.0) (found_same played.2) in
+    let same_items : played.0 ≡ items = ap (λ (p : Config × List Timed). p.1) (found_same played.2) in
     let read = then_found (fetch limit holds config) _ whole.0 whole.1 in
     let fetched = then_found (or_stop Outside (holds config)) _ read.0 read.1 in
     let within = within_found (nat_le limit (length fetched.0)) fetched.0 read.0 fetched.2 in
@@ -194,7 +195,7 @@ passed limit holds config tape accepted items found =
       tape_is = or_found Outside (holds tape) opened.0 opened.1;
       items_are =
           subst (λ (c : Config). tape_of c limit opened.0 ≡ (items, done)) same
-          (played_found (tape_of whole.0 limit opened.0) played.0 opened.2 ∙ ap (λ (l : List Item). (l, done)) same_items);
+          (played_found (tape_of whole.0 limit opened.0) played.0 opened.2 ∙ ap (λ (l : List Timed). (l, done)) same_items);
     }
   where
     found_same : {A : Type 0} {x y : A} → Found x ≡ Found y → x ≡ y
@@ -260,20 +261,20 @@ runs_headline tells limit holds form call answer told r zero config tape capture
 
 -- the listing
 
-listed_well : (limit : ℕ) (holds : Names) (config tape : List ℕ) (failed : Type 0) (call : Happened) (answer : ℕ)
-    → ListsSo limit holds config tape failed call.before.written call.now.written answer → answer ≡ 0 → Listed limit holds config tape call
-listed_well limit holds config tape failed call answer (inl ends) zero = absurd (at ends.2.status_is)
+listed_well : (survey : Text) (limit : ℕ) (holds : Names) (config tape : List ℕ) (failed : Type 0) (call : Happened) (answer : ℕ)
+    → ListsSo survey limit holds config tape failed call.before.written call.now.written answer → answer ≡ 0 → Listed survey limit holds config tape call
+listed_well survey limit holds config tape failed call answer (inl ends) zero = absurd (at ends.2.status_is)
   where
     at : Caused failed (status_of ends.0) answer → ⊥
     at (inl h) = never_zero ends.0 (sym h ∙ zero)
     at (inr (inl h)) = absurd cc
     at (inr (inr h)) = let one : answer ≡ 1 = h.0 in absurd cc
-listed_well limit holds config tape failed call answer (inr (inl early)) zero = absurd (at early.0)
+listed_well survey limit holds config tape failed call answer (inr (inl early)) zero = absurd (at early.0)
   where
     at : (answer ≡ 6) ⊎ ((answer ≡ 1) × failed) → ⊥
     at (inl h) = absurd cc
     at (inr h) = let one : answer ≡ 1 = h.0 in absurd cc
-listed_well limit holds config tape failed call answer (inr (inr shows)) zero =
+listed_well survey limit holds config tape failed call answer (inr (inr shows)) zero =
     let inputs_are : Passed limit holds config tape shows.accepted shows.items = passed limit holds config tape shows.accepted shows.items shows.found in
     record {
       config_octets = inputs_are.config_octets;
@@ -298,9 +299,9 @@ listed_well limit holds config tape failed call answer (inr (inr shows)) zero =
 
 pub runs_listed : (tells : Bool) (limit : ℕ) (holds : Names) (form : Option Form) (call : Happened) (answer : ℕ)
     → IsTrue tells → Runs tells limit holds form call answer → answer ≡ 0
-    → (config tape : List ℕ) → form ≡ Some (Rules config tape) → Listed limit holds config tape call
-runs_listed tells limit holds form call answer told r zero config tape e =
-    listed_well limit holds config tape (FilesFailed call ⊎ SinkFailed call) call answer
+    → (survey : Survey) (config tape : List ℕ) → form ≡ Some (Surveys survey config tape) → Listed (text_for survey) limit holds config tape call
+runs_listed tells limit holds form call answer told r zero survey config tape e =
+    listed_well (text_for survey) limit holds config tape (FilesFailed call ⊎ SinkFailed call) call answer
     ((subst (λ (f : Option Form). Runs tells limit holds f call answer) e r).1 told) zero
 
 -- the generator
@@ -326,12 +327,12 @@ does_enforce tells limit holds form config tape capture call result answer e a d
     subst (λ (f : Form). Does tells limit holds f call answer) (sym e)
     (λ told. subst (λ (n : ℕ). Enforces limit holds config tape capture call n) a (d told))
 
-pub does_rules : {T : Type 0} (tells : Bool) (limit : ℕ) (holds : Names) (form : Form) (config tape : List ℕ) (call : Happened) (result : Result T Refusal) (answer : ℕ)
-    → form ≡ Rules config tape → answered result ≡ answer → (IsTrue tells → Lists limit holds config tape call (answered result))
+pub does_survey : {T : Type 0} (tells : Bool) (limit : ℕ) (holds : Names) (form : Form) (survey : Survey) (config tape : List ℕ) (call : Happened) (result : Result T Refusal) (answer : ℕ)
+    → form ≡ Surveys survey config tape → answered result ≡ answer → (IsTrue tells → Lists (text_for survey) limit holds config tape call (answered result))
     → Does tells limit holds form call answer
-does_rules tells limit holds form config tape call result answer e a d =
+does_survey tells limit holds form survey config tape call result answer e a d =
     subst (λ (f : Form). Does tells limit holds f call answer) (sym e)
-    (λ told. subst (λ (n : ℕ). Lists limit holds config tape call n) a (d told))
+    (λ told. subst (λ (n : ℕ). Lists (text_for survey) limit holds config tape call n) a (d told))
 
 pub does_gen : {T : Type 0} (tells : Bool) (limit : ℕ) (holds : Names) (form : Form) (count : ℕ) (call : Happened) (result : Result T Refusal) (answer : ℕ)
     → form ≡ Gen count → answered result ≡ answer → Generates count call (answered result) → Does tells limit holds form call answer
@@ -355,7 +356,7 @@ promises_none limit of_files of_sink files sink wire words e = record {
   causes = λ told. subst (λ (f : Option Form). HasCauses limit (of_files.holds files) f (happened of_files of_sink files files sink sink) 2) e tt;
   complete = λ told stood sink_stood. subst (λ (f : Option Form). Completes limit (of_files.holds files) f 2) e tt;
   headline = λ told zero config tape capture asked. absurd cc;
-  listed = λ told zero config tape asked. absurd cc;
+  listed = λ told zero survey config tape asked. absurd cc;
   generator = λ zero count asked. absurd cc;
 }
 
@@ -399,7 +400,7 @@ promises_some limit of_files of_sink files files' sink sink' wire words form ans
           (runs_causes of_files.tells limit holds (form_of words) call answer told ran);
       headline = λ told zero config tape capture asked.
           runs_headline of_files.tells limit holds (form_of words) call answer told ran zero config tape capture asked;
-      listed = λ told zero config tape asked.
-          runs_listed of_files.tells limit holds (form_of words) call answer told ran zero config tape asked;
+      listed = λ told zero survey config tape asked.
+          runs_listed of_files.tells limit holds (form_of words) call answer told ran zero survey config tape asked;
       generator = λ zero count asked. runs_generated of_files.tells limit holds (form_of words) call answer ran zero count asked;
     }

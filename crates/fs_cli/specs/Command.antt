@@ -5,13 +5,15 @@ use Rattle.std.specs.Str.Parse.{digits_value}
 use Rattle.fs_base.specs.declared.prefix.Family.{Family}
 use Rattle.fs_base.specs.declared.prefix.Family.TheVariants.{V4, V6}
 use Rattle.fs_cli.specs.declared.command.Command.{Command}
-use Rattle.fs_cli.specs.declared.command.Command.TheVariants.{Enforce as EnforceCommand, Rules as RulesCommand, Check as CheckCommand, Gen as GenCommand}
+use Rattle.fs_cli.specs.declared.command.Command.TheVariants.{Enforce as EnforceCommand, Survey as SurveyCommand, Check as CheckCommand, Gen as GenCommand}
+use Rattle.fs_cli.specs.declared.survey.Survey.{Survey}
+use Rattle.fs_cli.specs.declared.survey.Survey.TheVariants.{Rules}
 
 -- a command, with the names of the files that it is to read, or the family and the word that it is to say of, or how
 -- many steps and packets it is to generate
 pub data Form : Type 0 where
   Enforce : (config tape capture : List ℕ) → Form
-  Rules : (config tape : List ℕ) → Form
+  Surveys : Survey → (config tape : List ℕ) → Form
   Check : Family → (word : List ℕ) → Form
   Gen : (count : ℕ) → Form
 
@@ -32,6 +34,10 @@ count_of word =
     let n = digits_value 10 word in
     if bytes_eq word (decimal n) && (nat_le 1 n && nat_le n 1000000) then Some n else None
 
+-- the survey that a word asks for
+abbrev pub survey_of : List ℕ → Option Survey
+survey_of word = if bytes_eq word (codes "rules") then Some Rules else None
+
 -- the command of these words, or none
 abbrev pub form_of : List (List ℕ) → Option Form
 form_of (word ∷ config ∷ tape ∷ capture ∷ []) =
@@ -39,7 +45,7 @@ form_of (word ∷ config ∷ tape ∷ capture ∷ []) =
     then Some (Enforce config tape capture) else None
 form_of (word ∷ first ∷ second ∷ []) =
     if bytes_eq word (codes "check") then check_form first second
-    else if bytes_eq word (codes "rules") && (is_name first && is_name second) then Some (Rules first second)
+    else if is_name first && is_name second then option_map (λ survey. Surveys survey first second) (survey_of word)
     else None
 form_of (word ∷ count ∷ []) = if bytes_eq word (codes "gen") then option_map Gen (count_of count) else None
 form_of _ = None
@@ -47,6 +53,6 @@ form_of _ = None
 -- what a parsed command says
 abbrev pub form_shown : Command → Form
 form_shown (EnforceCommand config tape capture) = Enforce config.now tape.now capture.now
-form_shown (RulesCommand config tape) = Rules config.now tape.now
+form_shown (SurveyCommand survey config tape) = Surveys survey config.now tape.now
 form_shown (CheckCommand family word) = Check family word.now
 form_shown (GenCommand count) = Gen count

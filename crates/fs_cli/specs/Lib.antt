@@ -1,11 +1,3 @@
 pub mod Command
-pub mod Enforce
-pub mod Generate
-pub mod Judge
-pub mod Listing
-pub mod Load
-pub mod Matcher
-pub mod Play
 pub mod Program
-pub mod Refusal
-pub mod Rules
+pub mod Survey

@@ -4,13 +4,14 @@ use Rattle.fs_base.specs.Happened.{Happened, SinkFailed, happened, FilesFailed, 
 use Rattle.fs_base.specs.Sink.{Grew}
 use Rattle.fs_base.specs.declared.prefix.Family.{Family}
 use Rattle.fs_check.specs.Report.{Reports}
-use Rattle.fs_cli.specs.Refusal.{Verdict, Answers}
-use Rattle.fs_cli.specs.Enforce.{Enforces, Enforced, inputs_stage, status_for}
-use Rattle.fs_cli.specs.Generate.{Generates, Generated}
-use Rattle.fs_cli.specs.Load.{Names}
-use Rattle.fs_cli.specs.Command.{Form, Enforce, Rules, Check, Gen, form_of}
-use Rattle.fs_cli.specs.Play.{accepted_stage}
-use Rattle.fs_cli.specs.Rules.{Lists, Listed, listed_status}
+use Rattle.fs_stages.specs.Refusal.{Verdict, Answers}
+use Rattle.fs_enforce.specs.Command.{Enforces, Enforced, inputs_stage, status_for}
+use Rattle.fs_generate.specs.Command.{Generates, Generated}
+use Rattle.fs_stages.specs.Load.{Names}
+use Rattle.fs_cli.specs.Command.{Form, Enforce, Surveys, Check, Gen, form_of}
+use Rattle.fs_stages.specs.Play.{accepted_stage}
+use Rattle.fs_cli.specs.Survey.{Lists, Listed, listed_status, text_for}
+use Rattle.fs_cli.specs.declared.survey.Survey.{Survey}
 use Rattle.fs_base.specs.declared.outside.files.Files as files
 use Rattle.fs_base.specs.declared.outside.sink.Sink as sink
 
@@ -36,7 +37,7 @@ Checks family word call answer = ChecksSo family word (SinkFailed call) call.bef
 -- A command, over files that hold this, where files whose contents are told tell them.
 abbrev pub Does : (tells : Bool) (limit : ℕ) (holds : Names) → Form → Happened → ℕ → Type 0
 Does tells limit holds (Enforce config tape capture) call answer = IsTrue tells → Enforces limit holds config tape capture call answer
-Does tells limit holds (Rules config tape) call answer = IsTrue tells → Lists limit holds config tape call answer
+Does tells limit holds (Surveys survey config tape) call answer = IsTrue tells → Lists (text_for survey) limit holds config tape call answer
 Does tells limit holds (Check family word) call answer = Checks family word call answer
 Does tells limit holds (Gen count) call answer = Generates count call answer
 
@@ -48,7 +49,7 @@ Runs tells limit holds (Some form) call answer = (answer ≢ 2) × Does tells li
 -- The status that the files and the words call for, in the order of work.
 abbrev pub HasStatus : (limit : ℕ) (holds : Names) → Form → ℕ → Type 0
 HasStatus limit holds (Enforce config tape capture) answer = answer ≡ status_for (inputs_stage limit holds config tape capture)
-HasStatus limit holds (Rules config tape) answer = answer ≡ listed_status (accepted_stage limit holds config tape)
+HasStatus limit holds (Surveys survey config tape) answer = answer ≡ listed_status (accepted_stage limit holds config tape)
 HasStatus limit holds (Check family word) answer =
     (accepted : Bool) × (text : List ℕ) × Reports family word text accepted × (answer ≡ (report_verdict accepted text).status)
 HasStatus limit holds (Gen count) answer = answer ≡ 0
@@ -139,9 +140,9 @@ pub record Promises {F S W : Type 0} (limit : ℕ) (w : World F S W) (words : Li
   pub headline : AreTold w → answer ≡ 0 → (config tape capture : List ℕ)
       → form_of words ≡ Some (Enforce config tape capture)
       → Enforced limit (names_in w) config tape capture (happened_in w)
-  -- At 0 `rules` wrote the peers' states and the rules that the tape leaves.
-  pub listed : AreTold w → answer ≡ 0 → (config tape : List ℕ)
-      → form_of words ≡ Some (Rules config tape)
-      → Listed limit (names_in w) config tape (happened_in w)
+  -- At 0 a survey was written of what the tape leaves: by `rules`, the peers' states and the rules.
+  pub listed : AreTold w → answer ≡ 0 → (survey : Survey) (config tape : List ℕ)
+      → form_of words ≡ Some (Surveys survey config tape)
+      → Listed (text_for survey) limit (names_in w) config tape (happened_in w)
   -- At 0 `gen` wrote the counts of the admitted rules and of the lines, over the generator's tape and packets.
   pub generator : answer ≡ 0 → (count : ℕ) → form_of words ≡ Some (Gen count) → Generated count (happened_in w)

@@ -2,8 +2,9 @@
 
 ghost use Rattle.std.specs.Prelude.{◌≡◌, ◌∷◌, [], decimal, map, option_map, string_bytes};
 ghost use Rattle.std.specs.Str.{bytes_eq};
-ghost use Rattle.fs_cli.specs.Command.{check_form, count_of, family_of, form_of, is_name, form_shown};
+ghost use Rattle.fs_cli.specs.Command.{check_form, count_of, family_of, form_of, is_name, form_shown, survey_of};
 
+use crate::survey::Survey;
 use fs_base::Family;
 use itoa::Buffer;
 
@@ -19,8 +20,9 @@ pub enum Command<'w> {
         tape: &'w str,
         capture: &'w str,
     },
-    /// Plays a tape, and lists the peers and the rules that it leaves.
-    Rules {
+    /// Plays a tape, and surveys what it leaves.
+    Survey {
+        survey: Survey,
         config: &'w str,
         tape: &'w str,
     },
@@ -73,13 +75,26 @@ fn parse_two<'w>(word: &str, first: &'w str, second: &'w str) -> Option<Command<
     if word == "check" {
         return parse_check(first, second);
     }
-    if word == "rules" && is_name(first) && is_name(second) {
-        Some(Command::Rules {
+    if !is_name(first) || !is_name(second) {
+        return None;
+    }
+    match survey_of(word) {
+        Some(survey) => Some(Command::Survey {
+            survey,
             config: first,
             tape: second,
-        })
-    } else {
-        None
+        }),
+        None => None,
+    }
+}
+
+/// The survey that a word asks for.
+fn survey_of(word: &str) -> Option<Survey>
+    ensures { result ≡ survey_of word.now }
+{
+    match word {
+        "rules" => Some(Survey::Rules),
+        _ => None,
     }
 }
 

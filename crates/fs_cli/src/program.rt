@@ -7,19 +7,19 @@ ghost use Rattle.fs_cli.specs.Program.{Checks, Does, Promises, world};
 ghost use Rattle.fs_cli.specs.Command.{form_shown, Check, Enforce, Gen};
 
 use crate::command::{Command, parse};
-use crate::enforce::{InputNames, enforce};
-use crate::generate::generate;
-use crate::rules::list_rules;
-use crate::status;
+use crate::survey::{SurveyNames, survey_tape};
 use fs_base::{Family, Files, Sink, Wire};
 use fs_check::{CheckFault, check};
+use fs_enforce::{InputNames, enforce};
+use fs_generate::generate;
+use fs_stages::status;
 use std::alloc::Global;
 
 /// The most octets that an input may have.
 const LIMIT: u64 = 1 << 40;
 
 /// Runs the command that the words ask for, over inputs of fewer than 2^40 octets, and answers the status with which the
-/// process is to end (see [`status`]). `words` are those after the program's name.
+/// process is to end (see `status`). `words` are those after the program's name.
 pub fn run<F: Files, S: Sink, W: Wire>(
     alloc: Global,
     words: &[String],
@@ -95,8 +95,13 @@ fn perform<F: Files, S: Sink>(
                 Err(refusal) => refusal.status(),
             }
         }
-        Command::Rules { config, tape } => {
-            match list_rules(alloc, files, sink, config, tape, limit) {
+        Command::Survey {
+            survey,
+            config,
+            tape,
+        } => {
+            let names = SurveyNames { config, tape };
+            match survey_tape(alloc, files, sink, survey, &names, limit) {
                 Ok(()) => status::DONE,
                 Err(refusal) => refusal.status(),
             }

@@ -1,8 +1,0 @@
-use Rattle.std.proofs.Common.{sym, ◌∙◌}
-use Rattle.fs_line.proofs.Outputs.{sends_as}
-use Rattle.fs_cli.proofs.Judging.{packet_line}
-use Rattle.fs_cli.proofs.judge.Judging.judge_packet.Goals as goal
-
-pub returns-in-Ok-clause-sends : goal.returns-in-Ok-clause-sends
-returns-in-Ok-clause-sends g c = rw (← c.self.view_is)
-    (sends_as (packet_line c.args.number c.self.inside.matcher c.self.inside.link c.args.octets.now c.in-Ok.view (sym c.view.ensures ∙ c.in-Ok.is)) c.judge.ensures.sends)

@@ -1,0 +1,133 @@
+//! The commands that play a tape and survey what it leaves.
+
+ghost use Rattle.std.specs.Prelude.{◌≡◌, ◌≤◌, ◌⊎◌, IfErr, IfOk, IsTrue, List};
+ghost use Rattle.fs_base.specs.Happened.{happened};
+ghost use Rattle.fs_base.specs.Outside.{Rose};
+ghost use Rattle.fs_base.specs.declared.config.Config.{Config};
+ghost use Rattle.fs_tape.specs.Tape.{Item};
+ghost use Rattle.fs_listing.specs.TapeFault.{tape_fault_line};
+ghost use Rattle.fs_desk.specs.Desk.{Played};
+ghost use Rattle.fs_stages.specs.Refusal.{IsLate, answered};
+ghost use Rattle.fs_stages.specs.Writing.{Writes};
+ghost use Rattle.fs_cli.specs.Survey.{Lists, SaysOf, text_for};
+
+use fs_base::{Files, Memory, Sink};
+use fs_desk::Desk;
+use fs_listing::{desk_text, tape_fault_text};
+use fs_stages::{Refusal, load_config, play_tape, write_text};
+use fs_tape::TapeReason;
+use std::alloc::Global;
+
+/// What is told of the routes that a tape leaves.
+#[derive(Clone, Copy, Drop)]
+pub enum Survey {
+    /// A line for each configured peer, by number, then for IPv4 and for IPv6 the admitted rules in order and the held
+    /// routes that aren't valid.
+    Rules,
+}
+
+/// The names of the files that a survey is made of.
+#[derive(Clone, Copy, Drop)]
+pub struct SurveyNames<'w> {
+    pub config: &'w str,
+    pub tape: &'w str,
+}
+
+/// Plays the tape, and writes the survey of what it leaves; at a fault of the tape only that is written.
+///
+/// # Errors
+///
+/// The first of these, in this order of work: the configuration's, the tape's, the sink's.
+pub fn survey_tape<F: Files, S: Sink>(
+    alloc: Global,
+    files: &mut F,
+    sink: &mut S,
+    survey: Survey,
+    names: &SurveyNames<'_>,
+    limit: u64,
+) -> Result<(), Refusal>
+    ensures files_later { F.faults files.old ≤ F.faults files.new }
+    ensures sink_later { S.faults sink.old ≤ S.faults sink.new }
+    ensures quiet { (answered result ≡ 3) ⊎ (answered result ≡ 6) → sink.new ≡ sink.old }
+
+    ensures lists { IsTrue F.tells
+        → Lists (text_for survey) limit (F.holds files.old) names.now.config.now names.now.tape.now
+        (happened F.Files S.Sink files.old files.new sink.old sink.new)
+        (answered result) }
+{
+    let config = load_config(alloc, files, names.config, limit)?;
+    match play_tape(alloc, files, &config, names.tape, limit) {
+        Ok(desk) => write_survey(alloc, survey, &desk, sink),
+        Err(refusal) => tell_refusal(alloc, refusal, sink),
+    }
+}
+
+/// Writes the survey of the desk behind a tape, in one piece.
+///
+/// # Errors
+///
+/// `Memory` where the machine refused memory, and then nothing is written; `Outside` where the sink failed, and then a
+/// front of the survey is.
+fn write_survey<S: Sink>(
+    alloc: Global,
+    survey: Survey,
+    desk: &Desk<'_>,
+    sink: &mut S,
+) -> Result<(), Refusal>
+    ensures late { IfErr result IsLate }
+    ensures unwritten { answered result ≡ 6 → sink.new ≡ sink.old }
+    ensures later { S.faults sink.old ≤ S.faults sink.new }
+
+    ensures listed { (config : Config)
+        → (items : List Item)
+        → Played config items desk.now
+        → Writes (text_for survey config items desk.now.held)
+        (Rose (S.faults sink.old) (S.faults sink.new)) (S.written sink.old) (S.written sink.new) result }
+{
+    let text = survey_text(alloc, survey, desk)?;
+    write_text(&text, sink)
+}
+
+/// The survey of the desk behind a tape.
+fn survey_text(alloc: Global, survey: Survey, desk: &Desk<'_>) -> Result<Vec<u8>, Memory>
+    ensures { IfOk result (λ text. (config : Config) (items : List Item) → Played config items desk.now
+        → text.items ≡ text_for survey config items desk.now.held) }
+{
+    match survey {
+        Survey::Rules => desk_text(alloc, desk),
+    }
+}
+
+/// Writes what is said at a refusal of the tape, and hands the refusal on.
+fn tell_refusal<S: Sink>(alloc: Global, refusal: Refusal, sink: &mut S) -> Result<(), Refusal>
+    ensures later { S.faults sink.old ≤ S.faults sink.new }
+    ensures quiet { (answered result ≡ 3) ⊎ (answered result ≡ 6) → sink.new ≡ sink.old }
+    ensures said { SaysOf refusal (Rose (S.faults sink.old) (S.faults sink.new))
+        (S.written sink.old) (S.written sink.new) result }
+{
+    if let Refusal::Tape { reason, place } = refusal {
+        write_tape_fault(alloc, reason, place, sink)?;
+    }
+    Err(refusal)
+}
+
+/// Writes the line of a tape's fault, in one piece.
+///
+/// # Errors
+///
+/// As of [`write_survey`].
+fn write_tape_fault<S: Sink>(
+    alloc: Global,
+    reason: TapeReason,
+    place: u64,
+    sink: &mut S,
+) -> Result<(), Refusal>
+    ensures late { IfErr result IsLate }
+    ensures unwritten { answered result ≡ 6 → sink.new ≡ sink.old }
+    ensures later { S.faults sink.old ≤ S.faults sink.new }
+    ensures written { Writes (tape_fault_line reason place)
+        (Rose (S.faults sink.old) (S.faults sink.new)) (S.written sink.old) (S.written sink.new) result }
+{
+    let text = tape_fault_text(alloc, reason, place)?;
+    write_text(&text, sink)
+}

@@ -1,0 +1,4 @@
+pub mod Answering
+pub mod Enforcing
+pub mod Judging
+pub mod Walking

@@ -1,0 +1,12 @@
+use Rattle.std.proofs.Common.{[], subst}
+use Rattle.fs_base.specs.declared.config.Config.{Config}
+use Rattle.fs_desk.specs.Desk.{Played}
+use Rattle.fs_gen.specs.Configuration.{three_peers}
+use Rattle.fs_gen.specs.Generator.{opening}
+use Rattle.fs_generate.proofs.command.play_generated.Goals as goal
+
+pub returns-clause-played : goal.returns-clause-played
+returns-clause-played c =
+    let begun : Played three_peers [] c.new-desk.result = subst (λ (config : Config). Played config [] c.new-desk.result) c.requires.config c.new-desk.ensures in
+    c.in_ok-play_steps.ensures.played three_peers _
+    (c.in_ok-open_session-2.ensures.played three_peers (opening 1) (c.in_ok-open_session.ensures.played three_peers [] begun))

@@ -1,0 +1,6 @@
+//! The command `gen`: a generated tape is played, and generated packets are judged and counted.
+#![tactic(auto)]
+
+mod command;
+
+pub use command::generate;

@@ -1,0 +1,4 @@
+pub mod Refusal
+pub mod Load
+pub mod Play
+pub mod Writing

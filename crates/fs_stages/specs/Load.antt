@@ -1,0 +1,19 @@
+-- What the files tell, and the stage of the configuration.
+use Rattle.std.specs.Prelude.{ℕ, List, Option, nat_le, length, if◌then◌else◌}
+use Rattle.fs_base.specs.declared.config.Config.{Config}
+use Rattle.fs_conf.specs.Config.{config_of}
+use Rattle.fs_stages.specs.declared.refusal.Refusal.TheVariants.{Outside, Config as Refused, Limit}
+use Rattle.fs_stages.specs.Refusal.{Stage, Found, Stopped, and_then, or_stop}
+
+-- what each name holds
+abbrev pub Names : Type 0
+Names = List ℕ → Option (List ℕ)
+
+-- a file that is read whole: it is there, and has fewer octets than the limit
+abbrev pub fetch : ℕ → Names → List ℕ → Stage (List ℕ)
+fetch limit holds name =
+    and_then (or_stop Outside (holds name)) (λ octets. if nat_le limit (length octets) then Stopped Limit else Found octets)
+
+-- the configuration file is accepted
+abbrev pub config_stage : ℕ → Names → List ℕ → Stage Config
+config_stage limit holds name = and_then (fetch limit holds name) (λ octets. or_stop Refused (config_of octets))

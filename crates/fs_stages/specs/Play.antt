@@ -1,0 +1,57 @@
+-- The stage of the tape, and a tape as the program plays it.
+use Rattle.std.specs.Prelude.{ℕ, List, ◌≡◌, ◌++◌, [], map, Option, Some, None}
+use Rattle.fs_records.specs.Records.{End, done, limited, bad}
+use Rattle.fs_base.specs.declared.config.Config.{Config}
+use Rattle.fs_tape.specs.Tape.{Item, Timed, item_from, tape_of, timed}
+use Rattle.fs_tape.specs.declared.fault.TapeReason.{TapeReason}
+use Rattle.fs_stages.specs.Refusal.{Stage, Found, Stopped, and_then, or_stop}
+use Rattle.fs_stages.specs.declared.refusal.Refusal.TheVariants.{Outside, Tape as TapeRefusal, Limit as AtLimit}
+use Rattle.fs_stages.specs.Load.{Names, config_stage}
+use Rattle.fs_base.specs.Parts.{with_part}
+use Rattle.fs_records.specs.declared.fault.Fault.{Fault}
+use Rattle.fs_records.specs.declared.fault.Fault.TheVariants.{Read, Limit, Bad}
+use Rattle.fs_tape.specs.declared.item.TapeItem.{TapeItem}
+use Rattle.fs_stages.specs.declared.refusal.Refusal.{Refusal}
+use Rattle.fs_desk.specs.Desk.{Desked, Played}
+
+-- the items alone
+abbrev pub untimed : List Timed → List Item
+untimed items = map (λ timed. timed.item) items
+
+-- a tape without a fault
+abbrev pub played_to : List Timed × End TapeReason → Stage (List Timed)
+played_to (items, done) = Found items
+played_to (items, limited) = Stopped AtLimit
+played_to (items, bad reason place) = Stopped (TapeRefusal reason place)
+
+abbrev pub tape_stage : Config → ℕ → Names → List ℕ → Stage (List Timed)
+tape_stage config limit holds name = and_then (or_stop Outside (holds name)) (λ octets. played_to (tape_of config limit octets))
+
+-- the configuration and the tape are accepted
+abbrev pub accepted_stage : ℕ → Names → (config tape : List ℕ) → Stage (Config × List Timed)
+accepted_stage limit holds config tape =
+    and_then (config_stage limit holds config) (λ accepted.
+    and_then (tape_stage accepted limit holds tape) (λ items.
+    Found (accepted, items)))
+
+-- the refusal for a fault of a tape
+abbrev pub refused_by : Fault TapeReason → Refusal
+refused_by Read = Outside
+refused_by Limit = AtLimit
+refused_by (Bad reason place) = TapeRefusal reason place
+
+-- the items of a tape without a fault were played
+pub record IsPlayed (config : Config) (stage : Stage (List Timed)) (desk : Desked) : Type 0 where
+  pub items : List Timed
+  pub found : stage ≡ Found items
+  pub played : Played config (untimed items) desk
+
+-- an item was given, of this moment, and these are the items to come behind it; or the tape is done
+abbrev pub Gives : (before now : List Timed × End TapeReason) → (moment : ℕ) → List ℕ → Option TapeItem → Type 0
+Gives before now moment into (Some item) = before ≡ with_part (timed moment (item_from item into)) now
+Gives before now moment into None = before ≡ ([], done)
+
+-- what was to come was all played, up to the end
+pub record PlaysOn (config : Config) (coming : List Timed × End TapeReason) (old new : Desked) : Type 0 where
+  pub done_is : coming.1 ≡ done
+  pub played : (items : List Item) → Played config items old → Played config (items ++ untimed coming.0) new

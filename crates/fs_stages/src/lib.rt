@@ -1,0 +1,14 @@
+//! The stages that commands are made of: files opened, the configuration read, a tape played into a desk, a text written;
+//! and why a run ends before its job is done.
+#![tactic(auto)]
+
+mod load;
+mod play;
+mod refusal;
+pub mod status;
+mod writing;
+
+pub use load::{CAPTURE_SLOT, CONFIG_SLOT, TAPE_SLOT, load_config, open};
+pub use play::play_tape;
+pub use refusal::Refusal;
+pub use writing::write_text;
