@@ -1,24 +1,28 @@
 -- What a header says, exactly where its octets are its text.
-use Rattle.std.proofs.Common.{◌≡◌, ℕ, List, [], ◌++◌, Option, Some, None, Bool, true, false, ◌<◌, ◌≤◌, ◌+◌, ◌%◌, ◌^◌, ◌==◌, ◌||◌, not, length, take, drop, refl, ap, sym, subst, ◌∙◌, arith, append-nil, length-append, take-append-drop, eqb-true}
+use Rattle.std.proofs.Common.{◌≡◌, ℕ, List, [], ◌++◌, Option, Some, None, Bool, true, false, ◌<◌, ◌≤◌, ◌%◌, ◌^◌, ◌==◌, not, length, take, drop, refl, ap, sym, subst, ◌∙◌, arith, append-nil, length-append, take-append-drop, eqb-true}
 use Rattle.std.specs.Prelude.{nat_lt, if◌then◌else◌}
 use Rattle.std.proofs.lemmas.List.{drop-drop, drop_at, length-drop, length-take}
 use Rattle.std.proofs.lemmas.Bool.Decides.{nat_tests}
 use Rattle.std.proofs.lemmas.Grind.{common_steps}
-use Rattle.byteorder.specs.Endian.{big_bytes, big_number, little_bytes, little_number}
+use Rattle.byteorder.specs.Endian.{big_bytes, big_number}
 use Rattle.byteorder.specs.Numbers.{big_number-reads_back, length-bytes_high_first, length-bytes_low_first, little_number-reads_back}
 use Rattle.fs_base.specs.Language.{IsOctets}
-use Rattle.fs_base.specs.Records.{Head, whole, wrong, partial}
 use Rattle.fs_base.proofs.Digits.{big_below, big_written, little_below, little_written}
 use Rattle.fs_base.proofs.Octets.{octets_drop}
-use Rattle.fs_pcap.specs.Header.{Heading, header_of, link_field, ordered_header}
+use Rattle.fs_records.specs.declared.head.Head.{Head}
+use Rattle.fs_records.specs.declared.head.Head.TheVariants.{Whole, Wrong, Partial}
+use Rattle.fs_pcap.specs.Header.{header_of, link_field, ordered_header}
 use Rattle.fs_pcap.specs.Laws.{HeaderWords, IsHeaderOf, header_text, octets_of}
 use Rattle.fs_pcap.specs.Link.{link_of}
 use Rattle.fs_pcap.specs.Order.{number, order_of}
 use Rattle.fs_pcap.specs.declared.fault.CaptureReason.{CaptureReason}
 use Rattle.fs_pcap.specs.declared.fault.CaptureReason.TheVariants.{Magic, Version, Link as UnreadLink}
+use Rattle.fs_pcap.specs.declared.header.Heading.{Heading}
 use Rattle.fs_pcap.specs.declared.link.Link.{Link}
 use Rattle.fs_pcap.specs.declared.order.Endian.{Endian}
 use Rattle.fs_pcap.specs.declared.order.Endian.TheVariants.{Big, Little}
+use Rattle.fs_pcap.specs.declared.order.Unit.{Unit as FractionUnit}
+use Rattle.fs_pcap.specs.declared.order.Unit.TheVariants.{Microseconds, Nanoseconds}
 
 -- numbers in either order
 
@@ -47,39 +51,39 @@ number_below Little n octets are = little_below n octets are
 -- the fields of a whole header
 pub record IsHeading (header : List ℕ) (heading : Heading) : Type 0 where
   pub size : 24 ≤ length header
-  pub order_is : order_of (big_number 4 header) ≡ Some heading.order
+  pub order_is : order_of (big_number 4 header) ≡ Some (heading.order, heading.unit)
   pub major : number heading.order 2 (drop 4 header) ≡ 2
   pub minor : number heading.order 2 (drop 6 header) ≡ 4
   pub link_is : link_of (number heading.order 4 (drop 20 header) % 65536) ≡ Some heading.link
 
-link_told : (order : Endian) (word : ℕ) (found : Option Link) (heading : Heading) (n : ℕ) → link_of (word % 65536) ≡ found
-    → elim found as (λ _. Head Heading CaptureReason) [ None ↦ wrong UnreadLink 20 | Some link ↦ whole (record { order = order; link = link }) 0 ]
-    ≡ whole heading n
-    → (order ≡ heading.order) × (link_of (word % 65536) ≡ Some heading.link)
-link_told order word None heading n l h = absurd cc
-link_told order word (Some link) heading n l h =
-    let same : record { order = order; link = link } ≡ heading = cc in
-    (ap (λ (z : Heading). z.order) same, l ∙ ap (λ (z : Heading). Some z.link) same)
+link_told : (order : Endian) (unit : FractionUnit) (word : ℕ) (found : Option Link) (heading : Heading) (n : ℕ) → link_of (word % 65536) ≡ found
+    → elim found as (λ _. Head Heading CaptureReason) [ None ↦ Wrong UnreadLink 20 | Some link ↦ Whole (record { order = order; unit = unit; link = link }) 0 ]
+    ≡ Whole heading n
+    → (order ≡ heading.order) × (unit ≡ heading.unit) × (link_of (word % 65536) ≡ Some heading.link)
+link_told order unit word None heading n l h = absurd cc
+link_told order unit word (Some link) heading n l h =
+    let same : record { order = order; unit = unit; link = link } ≡ heading = cc in
+    (ap (λ (z : Heading). z.order) same, ap (λ (z : Heading). z.unit) same, l ∙ ap (λ (z : Heading). Some z.link) same)
 
 not_true : (b : Bool) → not b ≡ false → b ≡ true
 not_true true h = refl
 not_true false h = cc
 
-ordered_told : (order : Endian) (header : List ℕ) (heading : Heading) (n : ℕ) → order_of (big_number 4 header) ≡ Some order
-    → ordered_header order header ≡ whole heading n → IsHeading header heading
-ordered_told order header heading n known h =
+ordered_told : (order : Endian) (unit : FractionUnit) (header : List ℕ) (heading : Heading) (n : ℕ)
+    → order_of (big_number 4 header) ≡ Some (order, unit) → ordered_header order unit header ≡ Whole heading n → IsHeading header heading
+ordered_told order unit header heading n known h =
     by (nat_lt (length header) 6) (not (number order 2 (drop 4 header) == 2)) (nat_lt (length header) 8)
     (not (number order 2 (drop 6 header) == 4)) (nat_lt (length header) 24) refl refl refl h
   where
     by : (a b c d e : Bool) → not (number order 2 (drop 4 header) == 2) ≡ b → not (number order 2 (drop 6 header) == 4) ≡ d
         → nat_lt (length header) 24 ≡ e
-        → (if a then partial
-        else if b then wrong Version 4
-        else if c then partial
-        else if d then wrong Version 4
-        else if e then partial
-        else link_field order (number order 4 (drop 20 header)))
-        ≡ whole heading n
+        → (if a then Partial
+        else if b then Wrong Version 4
+        else if c then Partial
+        else if d then Wrong Version 4
+        else if e then Partial
+        else link_field order unit (number order 4 (drop 20 header)))
+        ≡ Whole heading n
         → IsHeading header heading
     by true b c d e v w s f = absurd cc
     by false true c d e v w s f = absurd cc
@@ -88,65 +92,65 @@ ordered_told order header heading n known h =
     by false false false false true v w s f = absurd cc
     by false false false false false v w s f =
         let word = number order 4 (drop 20 header) in
-        let link = link_told order word (link_of (word % 65536)) heading n refl f in
+        let link = link_told order unit word (link_of (word % 65536)) heading n refl f in
         let major : number order 2 (drop 4 header) ≡ 2 = eqb-true (number order 2 (drop 4 header)) 2 (not_true _ v) in
         let minor : number order 2 (drop 6 header) ≡ 4 = eqb-true (number order 2 (drop 6 header)) 4 (not_true _ w) in
         record {
           size = (grind (arith, nat_tests));
-          order_is = known ∙ ap (λ o. Some o) link.0;
+          order_is = known ∙ (λ i. Some (link.0 i, link.1 i));
           major = subst (λ (o : Endian). number o 2 (drop 4 header) ≡ 2) link.0 major;
           minor = subst (λ (o : Endian). number o 2 (drop 6 header) ≡ 4) link.0 minor;
-          link_is = subst (λ (o : Endian). link_of (number o 4 (drop 20 header) % 65536) ≡ Some heading.link) link.0 link.1;
+          link_is = subst (λ (o : Endian). link_of (number o 4 (drop 20 header) % 65536) ≡ Some heading.link) link.0 link.2;
         }
 
-pub heading_told : (header : List ℕ) (heading : Heading) (n : ℕ) → header_of header ≡ whole heading n → IsHeading header heading
+pub heading_told : (header : List ℕ) (heading : Heading) (n : ℕ) → header_of header ≡ Whole heading n → IsHeading header heading
 heading_told header heading n h = by (nat_lt (length header) 4) (order_of (big_number 4 header)) refl h
   where
-    by : (short : Bool) (found : Option Endian) → order_of (big_number 4 header) ≡ found
-        → (if short then partial
-        else elim found as (λ _. Head Heading CaptureReason) [ None ↦ wrong Magic 0 | Some order ↦ ordered_header order header ])
-        ≡ whole heading n
+    by : (short : Bool) (found : Option (Endian × FractionUnit)) → order_of (big_number 4 header) ≡ found
+        → (if short then Partial
+        else elim found as (λ _. Head Heading CaptureReason) [ None ↦ Wrong Magic 0 | Some told ↦ ordered_header told.0 told.1 header ])
+        ≡ Whole heading n
         → IsHeading header heading
     by true found o e = absurd cc
     by false None o e = absurd cc
-    by false (Some order) o e = ordered_told order header heading n o e
+    by false (Some told) o e = ordered_told told.0 told.1 header heading n o e
 
-link_known : (order : Endian) (word : ℕ) (link : Link) → link_of (word % 65536) ≡ Some link
-    → link_field order word ≡ whole (record { order = order; link = link }) 0
-link_known order word link h =
+link_known : (order : Endian) (unit : FractionUnit) (word : ℕ) (link : Link) → link_of (word % 65536) ≡ Some link
+    → link_field order unit word ≡ Whole (record { order = order; unit = unit; link = link }) 0
+link_known order unit word link h =
     ap
     (λ found.
     elim found as (λ _. Head Heading CaptureReason) [
-      | None ↦ wrong UnreadLink 20
-      | Some link ↦ whole (record { order = order; link = link }) 0
+      | None ↦ Wrong UnreadLink 20
+      | Some link ↦ Whole (record { order = order; unit = unit; link = link }) 0
     ])
     h
 
-ordered_known : (order : Endian) (header : List ℕ) (link : Link) → length header ≡ 24 → number order 2 (drop 4 header) ≡ 2
+ordered_known : (order : Endian) (unit : FractionUnit) (header : List ℕ) (link : Link) → length header ≡ 24 → number order 2 (drop 4 header) ≡ 2
     → number order 2 (drop 6 header) ≡ 4 → link_of (number order 4 (drop 20 header) % 65536) ≡ Some link
-    → ordered_header order header ≡ whole (record { order = order; link = link }) 0
-ordered_known order header link size major minor known =
-    (λ i. if nat_lt (size i) 6 then partial
-    else if not (major i == 2) then wrong Version 4
-    else if nat_lt (size i) 8 then partial
-    else if not (minor i == 4) then wrong Version 4
-    else if nat_lt (size i) 24 then partial
-    else link_field order (number order 4 (drop 20 header)))
-    ∙ link_known order (number order 4 (drop 20 header)) link known
+    → ordered_header order unit header ≡ Whole (record { order = order; unit = unit; link = link }) 0
+ordered_known order unit header link size major minor known =
+    (λ i. if nat_lt (size i) 6 then Partial
+    else if not (major i == 2) then Wrong Version 4
+    else if nat_lt (size i) 8 then Partial
+    else if not (minor i == 4) then Wrong Version 4
+    else if nat_lt (size i) 24 then Partial
+    else link_field order unit (number order 4 (drop 20 header)))
+    ∙ link_known order unit (number order 4 (drop 20 header)) link known
 
 pub heading_known : (header : List ℕ) (heading : Heading) → length header ≡ 24 → IsHeading header heading
-    → header_of header ≡ whole heading 0
+    → header_of header ≡ Whole heading 0
 heading_known header heading size h =
-    (λ i. if nat_lt (size i) 4 then partial
+    (λ i. if nat_lt (size i) 4 then Partial
     else elim (h.order_is i) as (λ _. Head Heading CaptureReason) [
-      | None ↦ wrong Magic 0
-      | Some order ↦ ordered_header order header
+      | None ↦ Wrong Magic 0
+      | Some told ↦ ordered_header told.0 told.1 header
     ])
-    ∙ ordered_known heading.order header heading.link size h.major h.minor h.link_is
+    ∙ ordered_known heading.order heading.unit header heading.link size h.major h.minor h.link_is
 
 -- a header that is read was written so
 pub heading_written : (header : List ℕ) (heading : Heading) → length header ≡ 24 → IsOctets header → IsHeading header heading
-    → (words : HeaderWords) × (header ≡ header_text heading.order words) × IsHeaderOf heading.order heading.link words
+    → (words : HeaderWords) × (header ≡ header_text heading.order words) × IsHeaderOf heading.order heading.unit heading.link words
 heading_written header heading size are h =
     let order = heading.order in
     let words : HeaderWords = record {
@@ -188,13 +192,20 @@ heading_written header heading size are h =
 
 -- what is written of a header is read back
 
-magic_room : (magic : ℕ) (order : Endian) → order_of magic ≡ Some order → magic < 2 ^ 32
-magic_room magic order h =
+magic_room : (magic : ℕ) (told : Endian × FractionUnit) → order_of magic ≡ Some told → magic < 2 ^ 32
+magic_room magic told h =
     by (magic == 0xa1b2c3d4) (magic == 0xa1b23c4d) (magic == 0xd4c3b2a1) (magic == 0x4d3cb2a1)
     (eqb-true magic 0xa1b2c3d4) (eqb-true magic 0xa1b23c4d) (eqb-true magic 0xd4c3b2a1) (eqb-true magic 0x4d3cb2a1) h
   where
     by : (a b c d : Bool) → (a ≡ true → magic ≡ 0xa1b2c3d4) → (b ≡ true → magic ≡ 0xa1b23c4d) → (c ≡ true → magic ≡ 0xd4c3b2a1)
-        → (d ≡ true → magic ≡ 0x4d3cb2a1) → (if a || b then Some Big else if c || d then Some Little else None) ≡ Some order → magic < 2 ^ 32
+        → (d ≡ true → magic ≡ 0x4d3cb2a1)
+        → (if a then Some (Big, Microseconds)
+        else if b then Some (Big, Nanoseconds)
+        else if c then Some (Little, Microseconds)
+        else if d then Some (Little, Nanoseconds)
+        else None)
+        ≡ Some told
+        → magic < 2 ^ 32
     by true b c d p q r s e = omega (arith, p refl)
     by false true c d p q r s e = omega (arith, q refl)
     by false false true d p q r s e = omega (arith, r refl)
@@ -237,20 +248,20 @@ header_parted order words twelve =
     parted (big_bytes 4 words.magic) (octets_of order 2 2) (octets_of order 2 4) words.unread (octets_of order 4 words.link_word)
     (octets_count Big 4 words.magic) (octets_count order 2 2) (octets_count order 2 4) twelve (octets_count order 4 words.link_word)
 
-pub header_size : (order : Endian) (link : Link) (words : HeaderWords) → IsHeaderOf order link words → length (header_text order words) ≡ 24
-header_size order link words h = let p = header_parted order words h.unread_size in p.size
+pub header_size : (order : Endian) (unit : FractionUnit) (link : Link) (words : HeaderWords) → IsHeaderOf order unit link words → length (header_text order words) ≡ 24
+header_size order unit link words h = let p = header_parted order words h.unread_size in p.size
 
 last_read : (order : Endian) (x : ℕ) (octets : List ℕ) → octets ≡ octets_of order 4 x → x < 256 ^ 4 → number order 4 octets ≡ x
 last_read order x octets same small =
     ap (number order 4) (same ∙ sym (append-nil (octets_of order 4 x))) ∙ number_read order 4 x [] small
 
-pub header_read : (order : Endian) (link : Link) (words : HeaderWords) → IsHeaderOf order link words
-    → IsHeading (header_text order words) (record { order = order; link = link })
-header_read order link words h =
+pub header_read : (order : Endian) (unit : FractionUnit) (link : Link) (words : HeaderWords) → IsHeaderOf order unit link words
+    → IsHeading (header_text order words) (record { order = order; unit = unit; link = link })
+header_read order unit link words h =
     let p = header_parted order words h.unread_size in
     let magic : big_number 4 (header_text order words) ≡ words.magic =
     number_read Big 4 words.magic (octets_of order 2 2 ++ (octets_of order 2 4 ++ (words.unread ++ octets_of order 4 words.link_word)))
-    (magic_room words.magic order h.told) in
+    (magic_room words.magic (order, unit) h.told) in
     let word : number order 4 (drop 20 (header_text order words)) ≡ words.link_word =
     last_read order words.link_word (drop 20 (header_text order words)) p.behind_unread h.room in
     record {

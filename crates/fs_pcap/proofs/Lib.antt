@@ -1,5 +1,3 @@
-pub mod Advancing
-pub mod Opening
 pub mod Headings
 pub mod Packets
 pub mod ReadsBack

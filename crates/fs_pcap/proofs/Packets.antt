@@ -1,50 +1,54 @@
 -- What a record says, exactly where its octets are its packet's text.
-use Rattle.std.proofs.Common.{◌≡◌, ℕ, List, [], ◌++◌, Some, None, Bool, true, false, ◌<◌, ◌≤◌, ◌+◌, ◌^◌, length, take, drop, refl, ap, sym, subst, ◌∙◌, arith, append-nil, append_assoc, length-append, take-append-drop}
-use Rattle.std.specs.Prelude.{nat_le, nat_lt, if◌then◌else◌}
+use Rattle.std.proofs.Common.{◌≡◌, ℕ, List, [], ◌∷◌, ◌++◌, Bool, true, false, ◌<◌, ◌≤◌, ◌+◌, ◌^◌, length, take, drop, refl, ap, sym, subst, ◌∙◌, arith, append-nil, append_assoc, length-append, take-append-drop}
+use Rattle.std.specs.Prelude.{flat_map, max, nat_le, nat_lt, if◌then◌else◌}
 use Rattle.std.proofs.lemmas.List.{drop-drop, drop_at, length-drop, length-take, take_at}
 use Rattle.std.proofs.lemmas.Bool.Decides.{nat_tests}
 use Rattle.std.proofs.lemmas.Grind.{common_steps}
 use Rattle.fs_base.specs.Language.{IsOctets}
-use Rattle.fs_base.specs.Parts.{ReadsText, SpellsText}
-use Rattle.fs_base.specs.Records.{whole, wrong, partial, first_record}
-use Rattle.fs_base.proofs.Done.{IsFound, record_found}
 use Rattle.fs_base.proofs.Octets.{octets_drop, octets_take}
+use Rattle.fs_records.specs.Parts.{At, ReadsText, SpellsText, text_from}
+use Rattle.fs_records.specs.Records.{first_record}
+use Rattle.fs_records.specs.declared.head.Head.TheVariants.{Whole, Wrong, Partial}
+use Rattle.fs_records.proofs.Records.{record_found}
 use Rattle.fs_pcap.specs.Capture.{Captured, packet_of, records}
-use Rattle.fs_pcap.specs.Head.{Said, head_of, said_in}
-use Rattle.fs_pcap.specs.Laws.{IsWritable, octets_of, packet_text}
-use Rattle.fs_pcap.specs.Order.{number}
+use Rattle.fs_pcap.specs.Head.{head_of, said_in}
+use Rattle.fs_pcap.specs.Laws.{Fits, after, octets_of, packet_text, stands}
+use Rattle.fs_pcap.specs.Order.{number, time_of}
 use Rattle.fs_pcap.specs.declared.fault.CaptureReason.TheVariants.{RecordTooLong}
+use Rattle.fs_pcap.specs.declared.head.Said.{Said}
+use Rattle.fs_pcap.specs.declared.head.Standing.{Standing}
 use Rattle.fs_pcap.specs.declared.order.Endian.{Endian}
+use Rattle.fs_pcap.specs.declared.order.Unit.{Unit as FractionUnit}
 use Rattle.fs_pcap.proofs.Headings.{number_below, number_read, number_written, octets_count}
 
 -- the fields of a whole head
-record IsHeadOf (order : Endian) (head : List ℕ) (said : Said) (size : ℕ) : Type 0 where
-  pub said_is : said_in order head ≡ said
-  pub size_is : number order 4 (drop 8 head) ≡ size
+record IsHeadOf (now : Standing) (head : List ℕ) (said : Said) (size : ℕ) : Type 0 where
+  pub said_is : said_in now head ≡ said
+  pub size_is : number now.order 4 (drop 8 head) ≡ size
   pub small : size ≤ 262144
 
-head_told : (order : Endian) (head : List ℕ) (said : Said) (size : ℕ) → head_of order head ≡ whole said size → IsHeadOf order head said size
-head_told order head said size h =
-    by (nat_lt (length head) 12) (nat_lt 262144 (number order 4 (drop 8 head))) (nat_lt (length head) 16) refl h
+head_told : (now : Standing) (head : List ℕ) (said : Said) (size : ℕ) → head_of now head ≡ Whole said size → IsHeadOf now head said size
+head_told now head said size h =
+    by (nat_lt (length head) 12) (nat_lt 262144 (number now.order 4 (drop 8 head))) (nat_lt (length head) 16) refl h
   where
-    by : (a b c : Bool) → nat_lt 262144 (number order 4 (drop 8 head)) ≡ b
-        → (if a then partial
-        else if b then wrong RecordTooLong 8
-        else if c then partial
-        else whole (said_in order head) (number order 4 (drop 8 head)))
-        ≡ whole said size
-        → IsHeadOf order head said size
+    by : (a b c : Bool) → nat_lt 262144 (number now.order 4 (drop 8 head)) ≡ b
+        → (if a then Partial
+        else if b then Wrong RecordTooLong 8
+        else if c then Partial
+        else Whole (said_in now head) (number now.order 4 (drop 8 head)))
+        ≡ Whole said size
+        → IsHeadOf now head said size
     by true b c t e = absurd cc
     by false true c t e = absurd cc
     by false false true t e = absurd cc
     by false false false t e =
-        let same : number order 4 (drop 8 head) ≡ size = cc in
-        let most : number order 4 (drop 8 head) ≤ 262144 = grind (arith, nat_tests) in
+        let same : number now.order 4 (drop 8 head) ≡ size = cc in
+        let most : number now.order 4 (drop 8 head) ≤ 262144 = grind (arith, nat_tests) in
         record { said_is = (cc); size_is = same; small = (omega (arith, same, most)) }
 
-head_known : (order : Endian) (head : List ℕ) (said : Said) (size : ℕ) → length head ≡ 16 → IsHeadOf order head said size
-    → head_of order head ≡ whole said size
-head_known order head said size sixteen h =
+head_known : (now : Standing) (head : List ℕ) (said : Said) (size : ℕ) → length head ≡ 16 → IsHeadOf now head said size
+    → head_of now head ≡ Whole said size
+head_known now head said size sixteen h =
     let small : size ≤ 262144 = h.small in
     let short : nat_lt 262144 size ≡ false = grind (arith, nat_tests) in
     rw (sixteen, h.size_is, short, h.said_is) refl
@@ -87,17 +91,19 @@ said_text : (order : Endian) (said : Said) (size : ℕ) (payload : List ℕ) →
 said_text order said size payload long =
     ap (λ n. octets_of order 4 said.seconds ++ (octets_of order 4 said.fraction ++ (octets_of order 4 n ++ (octets_of order 4 said.original ++ payload)))) long
 
-pub packet_spelled : (order : Endian) → SpellsText (first_record (records order)) (packet_text order) IsWritable
-packet_spelled order octets found are h =
-    let one = record_found (records order) octets found h in
+pub packet_spelled : SpellsText (first_record records) (λ now packet. packet_text now.order packet) Fits after
+packet_spelled now found are h =
+    let one = record_found records now found h in
+    let order = now.state.order in
+    let octets = now.octets in
     let head = take 16 octets in
     let behind = drop 16 octets in
     let payload = take one.size behind in
-    let told = head_told order head one.said one.size one.head in
+    let told = head_told now.state head one.said one.size one.head in
     let held : 16 + one.size ≤ length octets = one.held in
     let sixteen : length head ≡ 16 = omega (arith, length-take 16 octets) in
     let long : length payload ≡ one.size = omega (arith, length-take one.size behind, length-drop 16 octets) in
-    let said = said_in order head in
+    let said = said_in now.state head in
     let heads = head_written order head sixteen (octets_take 16 octets are) in
     let sized : number order 4 (drop 8 head) ≡ one.size = told.size_is in
     let text : octets ≡ packet_text order (packet_of said payload) ++ drop one.size behind =
@@ -111,15 +117,18 @@ packet_spelled order octets found are h =
     payload (drop one.size behind)
     ∙ ap (λ t. t ++ drop one.size behind) (sym (said_text order said one.size payload long)) in
     let item : packet_of said payload ≡ found.0 = ap (λ s. packet_of s payload) told.said_is ∙ one.item in
-    let rest : drop one.size behind ≡ found.1 = drop-drop one.size 16 octets ∙ one.rest in
-    let fits : IsWritable (packet_of said payload) = record {
+    let rest : drop one.size behind ≡ found.1.octets = drop-drop one.size 16 octets ∙ ap (λ (a : At Standing). a.octets) one.behind in
+    let fits : Fits now.state (packet_of said payload) = record {
       seconds = number_below order 4 head (octets_take 16 octets are);
       fraction = number_below order 4 (drop 4 head) (octets_drop 4 head (octets_take 16 octets are));
       original = number_below order 4 (drop 12 head) (octets_drop 12 head (octets_take 16 octets are));
       captured = (omega (arith, long, told.small));
-    } in (
+      moment_is = refl;
+    } in
+    let moved : stands order now.state.unit one.said.moment ≡ found.1.state = ap (λ (a : At Standing). a.state) one.behind in (
       text ∙ ap (λ packet. packet_text order packet ++ drop one.size behind) item ∙ ap (λ more. packet_text order found.0 ++ more) rest,
-      subst IsWritable item fits,
+      subst (Fits now.state) item fits,
+      sym moved ∙ ap (λ (packet : Captured). stands order now.state.unit packet.moment) one.item,
     )
 
 -- where the parts of a record stand
@@ -141,12 +150,13 @@ parted a b c d payload rest p q r s =
     }
 
 -- the four numbers of a head
-numbers_read : (order : Endian) (seconds fraction size original : ℕ) → seconds < 256 ^ 4 → fraction < 256 ^ 4 → size ≤ 262144
-    → original < 256 ^ 4
+numbers_read : (now : Standing) (seconds fraction size original moment : ℕ) → seconds < 256 ^ 4 → fraction < 256 ^ 4 → size ≤ 262144
+    → original < 256 ^ 4 → moment ≡ max now.moment (time_of now.unit seconds fraction)
     → (head : List ℕ)
-    → head ≡ octets_of order 4 seconds ++ (octets_of order 4 fraction ++ (octets_of order 4 size ++ octets_of order 4 original))
-    → IsHeadOf order head (record { seconds = seconds; fraction = fraction; original = original }) size
-numbers_read order seconds fraction size original a b c d head is =
+    → head ≡ octets_of now.order 4 seconds ++ (octets_of now.order 4 fraction ++ (octets_of now.order 4 size ++ octets_of now.order 4 original))
+    → IsHeadOf now head (record { seconds = seconds; fraction = fraction; original = original; moment = moment }) size
+numbers_read now seconds fraction size original moment a b c d m head is =
+    let order = now.order in
     let one : number order 4 head ≡ seconds =
     ap (number order 4) is
     ∙ number_read order 4 seconds (octets_of order 4 fraction ++ (octets_of order 4 size ++ octets_of order 4 original)) a in
@@ -162,26 +172,34 @@ numbers_read order seconds fraction size original a b c d head is =
     ap (number order 4) third ∙ number_read order 4 size (octets_of order 4 original) (omega arith) in
     let four : number order 4 (drop 12 head) ≡ original =
     ap (number order 4) (fourth ∙ sym (append-nil (octets_of order 4 original))) ∙ number_read order 4 original [] d in
+    let five : max now.moment (time_of now.unit (number order 4 head) (number order 4 (drop 4 head))) ≡ moment =
+    (λ i. max now.moment (time_of now.unit (one i) (two i))) ∙ sym m in
     record {
-      said_is = λ i. record { seconds = one i; fraction = two i; original = four i };
+      said_is = λ i. record { seconds = one i; fraction = two i; original = four i; moment = five i };
       size_is = three;
       small = c;
     }
 
-pub packet_read : (order : Endian) → ReadsText (first_record (records order)) (packet_text order) IsWritable
-packet_read order packet rest fits =
+pub packet_read : ReadsText (first_record records) (λ now packet. packet_text now.order packet) Fits after
+packet_read now packet rest fits =
+    let order = now.order in
     let octets = packet_text order packet ++ rest in
     let p =
     parted (octets_of order 4 packet.seconds) (octets_of order 4 packet.fraction) (octets_of order 4 (length packet.octets))
     (octets_of order 4 packet.original) packet.octets rest
     (octets_count order 4 packet.seconds) (octets_count order 4 packet.fraction) (octets_count order 4 (length packet.octets))
     (octets_count order 4 packet.original) in
-    let said : Said = record { seconds = packet.seconds; fraction = packet.fraction; original = packet.original } in
+    let said : Said = record {
+      seconds = packet.seconds;
+      fraction = packet.fraction;
+      original = packet.original;
+      moment = packet.moment;
+    } in
     let sixteen : length (take 16 octets) ≡ 16 = omega (arith, length-take 16 octets, p.size) in
-    let head : head_of order (take 16 octets) ≡ whole said (length packet.octets) =
-    head_known order (take 16 octets) said (length packet.octets) sixteen
-    (numbers_read order packet.seconds packet.fraction (length packet.octets) packet.original
-    fits.seconds fits.fraction fits.captured fits.original (take 16 octets) p.head) in
+    let head : head_of now (take 16 octets) ≡ Whole said (length packet.octets) =
+    head_known now (take 16 octets) said (length packet.octets) sixteen
+    (numbers_read now packet.seconds packet.fraction (length packet.octets) packet.original packet.moment
+    fits.seconds fits.fraction fits.captured fits.original fits.moment_is (take 16 octets) p.head) in
     let enough : nat_le (16 + length packet.octets) (length octets) ≡ true =
     let l : length octets ≡ 16 + (length packet.octets + length rest) = p.size in grind (arith, nat_tests) in
     let held : take (length packet.octets) (drop 16 octets) ≡ packet.octets =
@@ -190,3 +208,10 @@ packet_read order packet rest fits =
     sym (drop-drop (length packet.octets) 16 octets) ∙ ap (drop (length packet.octets)) p.behind
     ∙ drop_at packet.octets rest (length packet.octets) refl in
     rw (head, enough, behind, held) refl
+
+-- the order stays, so the text of the packets is that of each
+pub texts : (order : Endian) (unit : FractionUnit) (moment : ℕ) (packets : List Captured)
+    → text_from (λ (now : Standing) (packet : Captured). packet_text now.order packet) after (stands order unit moment) packets
+    ≡ flat_map (packet_text order) packets
+texts order unit moment [] = refl
+texts order unit moment (packet ∷ packets) = ap (λ more. packet_text order packet ++ more) (texts order unit packet.moment packets)

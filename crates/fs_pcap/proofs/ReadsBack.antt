@@ -1,72 +1,95 @@
 -- A capture is done exactly where it is the text of its packets, behind a header.
-use Rattle.std.proofs.Common.{◌≡◌, ℕ, List, [], ◌++◌, Option, Some, None, Result, Ok, Err, Bool, true, false, ◌<◌, ◌≤◌, ◌+◌, length, take, drop, refl, ap, sym, subst, ◌∙◌, arith, length-append, take-append-drop}
-use Rattle.std.specs.Prelude.{nat_le, flat_map, if◌then◌else◌}
+use Rattle.std.proofs.Common.{◌≡◌, ℕ, List, [], ◌++◌, Some, None, Result, Ok, Err, Bool, ◌<◌, ◌≤◌, length, take, drop, refl, ap, sym, subst, ◌∙◌, arith, length-append, take-append-drop}
+use Rattle.std.specs.Prelude.{nat_le, flat_map}
 use Rattle.std.proofs.lemmas.List.{drop_at, length-drop, length-take, take-take, take_at}
 use Rattle.std.proofs.lemmas.Grind.{common_steps}
 use Rattle.fs_base.specs.Language.{IsOctets}
-use Rattle.fs_base.specs.Records.{Head, whole, wrong, partial, End, bad, done, limited}
-use Rattle.fs_base.proofs.Done.{IsDoneText, done_text, text_done}
 use Rattle.fs_base.proofs.Octets.{octets_drop, octets_take}
-use Rattle.fs_pcap.specs.Capture.{Captured, Recorded, capture_of, opened_by, opening, packets_to_come, recorded, records}
-use Rattle.fs_pcap.specs.Header.{Heading, header_of}
-use Rattle.fs_pcap.specs.Laws.{HeaderWords, IsCaptureOf, IsHeaderOf, IsWritable, ReadsBack, header_text, packet_text}
+use Rattle.fs_records.specs.Opening.{opened_by}
+use Rattle.fs_records.specs.Records.{End, done}
+use Rattle.fs_records.specs.declared.head.Head.{Head}
+use Rattle.fs_records.specs.declared.head.Head.TheVariants.{Whole, Wrong, Partial}
+use Rattle.fs_records.proofs.Done.{done_text, text_done}
+use Rattle.fs_records.proofs.Records.{HasHead}
+use Rattle.fs_pcap.specs.Capture.{Captured, Recorded, capture_of, heading_of, packets_to_come, recorded, records}
+use Rattle.fs_pcap.specs.Header.{header_of}
+use Rattle.fs_pcap.specs.Laws.{Fits, HeaderWords, IsCaptureOf, IsHeaderOf, ReadsBack, after, header_text, packet_text, stands}
 use Rattle.fs_pcap.specs.declared.fault.CaptureReason.{CaptureReason}
 use Rattle.fs_pcap.specs.declared.fault.CaptureReason.TheVariants.{Cut}
+use Rattle.fs_pcap.specs.declared.head.Standing.{Standing}
+use Rattle.fs_pcap.specs.declared.header.Heading.{Heading}
 use Rattle.fs_pcap.specs.declared.link.Link.{Link}
 use Rattle.fs_pcap.specs.declared.order.Endian.{Endian}
 use Rattle.fs_pcap.specs.declared.order.Endian.TheVariants.{Big, Little}
+use Rattle.fs_pcap.specs.declared.order.Unit.{Unit as FractionUnit}
 use Rattle.fs_pcap.proofs.Headings.{IsHeading, header_read, header_size, heading_known, heading_told, heading_written}
-use Rattle.fs_pcap.proofs.Packets.{packet_read, packet_spelled}
+use Rattle.fs_pcap.proofs.Packets.{packet_read, packet_spelled, texts}
 
 abbrev behind_opening : ℕ → List ℕ → Result Heading (End CaptureReason) → Recorded
 behind_opening limit body opened =
     elim opened as (λ _. Recorded) [
-      | Ok heading ↦ recorded heading.link (packets_to_come heading.order limit 24 body)
+      | Ok heading ↦ recorded heading.link (packets_to_come heading limit 24 0 body)
       | Err end ↦ record { link = None; packets = []; end = end }
     ]
 
 all_taken : (n : ℕ) (octets : List ℕ) → length octets ≤ n → take n octets ≡ octets
 all_taken n octets within = grind (arith, common_steps)
 
-empty_head : (order : Endian) → (records order).head_of [] ≡ partial
-empty_head Big = refl
-empty_head Little = refl
+has_head : HasHead records
+has_head now = omega arith
+
+empty_head : (now : Standing) → records.head_of now [] ≡ Partial
+empty_head now = by now.order
+  where
+    by : (order : Endian) → records.head_of (stands order now.unit now.moment) [] ≡ Partial
+    by Big = refl
+    by Little = refl
+
+abbrev headed : Endian → FractionUnit → Link → Heading
+headed order unit link = record { order = order; unit = unit; link = link }
 
 -- a header opens a capture, whatever follows below the limit
-header_opens : (order : Endian) (link : Link) (words : HeaderWords) (limit : ℕ) (body : List ℕ) → IsHeaderOf order link words
-    → length (header_text order words ++ body) < limit
-    → opening limit (header_text order words ++ body) ≡ Ok (record { order = order; link = link })
-header_opens order link words limit body h below =
+header_opens : (order : Endian) (unit : FractionUnit) (link : Link) (words : HeaderWords) (limit : ℕ) (body : List ℕ)
+    → IsHeaderOf order unit link words → length (header_text order words ++ body) < limit
+    → heading_of limit (header_text order words ++ body) ≡ Ok (headed order unit link)
+header_opens order unit link words limit body h below =
     let content = header_text order words ++ body in
-    let size : length (header_text order words) ≡ 24 = header_size order link words h in
+    let size : length (header_text order words) ≡ 24 = header_size order unit link words h in
     let front : take 24 (take limit content) ≡ header_text order words =
     ap (take 24) (all_taken limit content (omega arith)) ∙ take_at (header_text order words) body 24 size in
-    ap (λ header. opened_by (nat_le limit (length content)) (length header) (header_of header)) front
-    ∙ ap (opened_by (nat_le limit (length content)) (length (header_text order words)))
-    (heading_known (header_text order words) (record { order = order; link = link }) size (header_read order link words h))
+    ap (λ header. opened_by Cut (nat_le limit (length content)) (length header) (header_of header)) front
+    ∙ ap (opened_by Cut (nat_le limit (length content)) (length (header_text order words)))
+    (heading_known (header_text order words) (headed order unit link) size (header_read order unit link words h))
+
+abbrev text_at : Standing → Captured → List ℕ
+text_at now packet = packet_text now.order packet
 
 text_read : (limit : ℕ) (content : List ℕ) (link : Link) (packets : List Captured) → IsCaptureOf limit content link packets
     → capture_of limit content ≡ record { link = Some link; packets = packets; end = done }
 text_read limit content link packets h =
     let header = header_text h.order h.words in
     let body = flat_map (packet_text h.order) packets in
-    let size : length header ≡ 24 = header_size h.order link h.words h.header in
+    let size : length header ≡ 24 = header_size h.order h.unit link h.words h.header in
     let below : length (header ++ body) < limit = subst (λ octets. length octets < limit) h.spelled h.below in
     ap (capture_of limit) h.spelled
-    ∙ ap (behind_opening limit (drop 24 (header ++ body))) (header_opens h.order link h.words limit body h.header below)
-    ∙ ap (λ rest. recorded link (packets_to_come h.order limit 24 rest)) (drop_at header body 24 size)
+    ∙ ap (behind_opening limit (drop 24 (header ++ body))) (header_opens h.order h.unit link h.words limit body h.header below)
+    ∙ ap (λ rest. recorded link (packets_to_come (headed h.order h.unit link) limit 24 0 rest)) (drop_at header body 24 size)
     ∙ ap (recorded link)
-    (text_done (records h.order) (packet_text h.order) IsWritable (omega arith) (empty_head h.order) (packet_read h.order) limit 24 body packets
-    (record { spelled = refl; fit = h.writable; below = (omega (arith, length-append header body, size, below)) }))
+    (text_done records text_at Fits after has_head empty_head packet_read limit 24 (stands h.order h.unit 0) body packets
+    (record {
+      spelled = sym (texts h.order h.unit 0 packets);
+      fit = h.fit;
+      below = (omega (arith, length-append header body, size, below));
+    }))
 
 opened_whole : (limit : Bool) (size : ℕ) (said : Head Heading CaptureReason) (heading : Heading)
-    → opened_by limit size said ≡ Ok heading → (n : ℕ) × (said ≡ whole heading n)
-opened_whole limit size (whole found n) heading h = let same : found ≡ heading = cc in (n, ap (λ f. whole f n) same)
-opened_whole limit size (wrong reason place) heading h = absurd cc
-opened_whole limit size partial heading h = absurd cc
+    → opened_by Cut limit size said ≡ Ok heading → (n : ℕ) × (said ≡ Whole heading n)
+opened_whole limit size (Whole found n) heading h = let same : found ≡ heading = cc in (n, ap (λ f. Whole f n) same)
+opened_whole limit size (Wrong reason place) heading h = absurd cc
+opened_whole limit size Partial heading h = absurd cc
 
 -- an opened capture has a whole header at its front
-header_stands : (limit : ℕ) (content : List ℕ) (heading : Heading) → opening limit content ≡ Ok heading
+header_stands : (limit : ℕ) (content : List ℕ) (heading : Heading) → heading_of limit content ≡ Ok heading
     → (length (take 24 content) ≡ 24) × (24 ≤ length content) × IsHeading (take 24 content) heading
 header_stands limit content heading h =
     let front = take 24 (take limit content) in
@@ -82,33 +105,34 @@ both : (before : List Captured × End CaptureReason) (packets : List Captured) (
 both before packets end p e = λ i. (p i, e i)
 
 read_text : (limit : ℕ) (content : List ℕ) (link : Link) (packets : List Captured) → IsOctets content
-    → (opened : Result Heading (End CaptureReason)) → opening limit content ≡ opened
+    → (opened : Result Heading (End CaptureReason)) → heading_of limit content ≡ opened
     → behind_opening limit (drop 24 content) opened ≡ record { link = Some link; packets = packets; end = done }
     → IsCaptureOf limit content link packets
 read_text limit content link packets are (Err end) o h =
     let none : None ≡ Some link = ap (λ (r : Recorded). r.link) h in absurd cc
 read_text limit content link packets are (Ok heading) o h =
     let body = drop 24 content in
-    let stands = header_stands limit content heading o in
-    let written = heading_written (take 24 content) heading stands.0 (octets_take 24 content are) stands.2 in
+    let stands_so = header_stands limit content heading o in
+    let written = heading_written (take 24 content) heading stands_so.0 (octets_take 24 content are) stands_so.2 in
     let linked : Some heading.link ≡ Some link = ap (λ (r : Recorded). r.link) h in
     let same : heading.link ≡ link = cc in
-    let text = done_text (records heading.order) (packet_text heading.order) IsWritable (omega arith) (packet_spelled heading.order) limit 24 body packets
+    let text = done_text records text_at Fits after has_head packet_spelled limit 24 (stands heading.order heading.unit 0) body packets
     (octets_drop 24 content are)
-    (both (packets_to_come heading.order limit 24 body) packets done (ap (λ (r : Recorded). r.packets) h) (ap (λ (r : Recorded). r.end) h)) in
+    (both (packets_to_come heading limit 24 0 body) packets done (ap (λ (r : Recorded). r.packets) h) (ap (λ (r : Recorded). r.end) h)) in
     record {
       order = heading.order;
+      unit = heading.unit;
       words = written.0;
-      header = subst (λ (l : Link). IsHeaderOf heading.order l written.0) same written.2;
+      header = subst (λ (l : Link). IsHeaderOf heading.order heading.unit l written.0) same written.2;
       spelled =
           sym (take-append-drop 24 content) ∙ ap (λ front. front ++ body) written.1
-          ∙ ap (λ rest. header_text heading.order written.0 ++ rest) text.spelled;
-      writable = text.fit;
-      below = (omega (arith, stands.1, length-drop 24 content, text.below));
+          ∙ ap (λ rest. header_text heading.order written.0 ++ rest) (text.spelled ∙ texts heading.order heading.unit 0 packets);
+      fit = text.fit;
+      below = (omega (arith, stands_so.1, length-drop 24 content, text.below));
     }
 
 pub reads_back : ReadsBack
 reads_back limit content link packets are = (
-  read_text limit content link packets are (opening limit content) refl,
+  read_text limit content link packets are (heading_of limit content) refl,
   text_read limit content link packets,
 )

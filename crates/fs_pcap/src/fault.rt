@@ -1,4 +1,6 @@
-//! What is wrong with a capture, and how it ends.
+//! What is wrong with a capture.
+
+use fs_records::Fault;
 
 /// What is wrong with a capture.
 #[derive(Clone, Copy, Debug, PartialEq, Eq, Drop)]
@@ -15,23 +17,6 @@ pub enum CaptureReason {
     Cut,
 }
 
-/// Why a capture gives no further record.
-#[derive(Clone, Copy, Debug, PartialEq, Eq, Drop)]
-pub enum CaptureFault {
-    /// The files failed.
-    Read,
-    /// The capture has at least as many octets as the limit, and no field within it is wrong.
-    Limit,
-    /// The first field that stands whole and is wrong, and its place in the capture, from 0: `Magic` 0, `Version` 4,
-    /// `Link` 20, `RecordTooLong` 8 behind the record's first octet; for `Cut` the capture's length.
-    Bad { reason: CaptureReason, place: u64 },
-}
-
-/// How a capture ended.
-#[derive(Clone, Copy, Debug, PartialEq, Eq, Drop)]
-pub enum Ended {
-    /// Behind its last record.
-    Done,
-    /// By a fault, which stays.
-    Fault(CaptureFault),
-}
+/// Why a capture gives no further record. The place of a wrong field is that of its first octet in the capture, from 0:
+/// `Magic` 0, `Version` 4, `Link` 20, `RecordTooLong` 8 behind the record's first octet; for `Cut` the capture's length.
+pub type CaptureFault = Fault<CaptureReason>;

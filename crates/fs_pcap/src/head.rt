@@ -1,9 +1,9 @@
 //! The head of a record, each field judged as soon as it stands whole.
 ghost use Rattle.std.specs.Prelude.{◌≡◌, length};
-ghost use Rattle.fs_pcap.specs.Head.{IsHeadWithin, head_of, said_of};
 
 use crate::fault::CaptureReason;
-use crate::order::Endian;
+use crate::order::{Endian, Unit};
+use fs_records::{Head, Heads};
 
 /// The octets of a record's head.
 pub(crate) const HEAD_SIZE: usize = 16;
@@ -11,38 +11,90 @@ pub(crate) const HEAD_SIZE: usize = 16;
 /// The octets of the longest record of a capture.
 pub const LONGEST_RECORD: usize = 262144;
 
-/// What the octets of a record's head say.
+/// What a record's head says beside the captured length. The moment, in nanoseconds since the start of 1970, is the
+/// greatest time of the records up to and with this one.
 #[derive(Clone, Copy, Debug, PartialEq, Eq, Drop)]
-pub(crate) enum Head {
-    Whole {
-        seconds: u32,
-        fraction: u32,
-        original: u32,
-        size: usize,
-    },
-    TooLong,
-    Partial,
+pub(crate) struct Said {
+    pub(crate) seconds: u32,
+    pub(crate) fraction: u32,
+    pub(crate) original: u32,
+    pub(crate) moment: u64,
 }
 
-/// Reads the head of a record, of at most 16 octets.
-pub(crate) fn read_head(order: Endian, head: &[u8]) -> Head
-    ensures exact { said_of result ≡ head_of order head.now }
-    ensures within { IsHeadWithin (length head.now) (said_of result) }
-{
-    if head.len() < 12 {
-        return Head::Partial;
+/// What the reading of a head depends on: what the capture's magic tells, and the moment of the record before.
+#[derive(Clone, Copy, Debug, PartialEq, Eq, Drop)]
+pub(crate) struct Standing {
+    pub(crate) order: Endian,
+    pub(crate) unit: Unit,
+    pub(crate) moment: u64,
+}
+
+impl Heads for Standing {
+    ghost use Rattle.std.specs.Prelude.{◌≤◌, ◌<◌};
+    ghost use Rattle.std.proofs.Common.{rules};
+    ghost use Rattle.fs_pcap.specs.Capture.{Captured, records};
+    ghost use Rattle.fs_pcap.specs.Head.{longest_record};
+
+    type Said = Said;
+
+    type Reason = CaptureReason;
+
+    ghost Item = { Captured };
+
+    ghost format = { records };
+
+    ghost most = { longest_record };
+
+    ghost Known = { λ now said. now.moment ≤ said.moment };
+
+    fn head_size(&self) -> usize {
+        HEAD_SIZE
     }
-    let size = order.read_u32(&head[8..]) as usize;
-    if size > LONGEST_RECORD {
-        return Head::TooLong;
+
+    fn read_head(&self, octets: &[u8]) -> Head<Said, CaptureReason> {
+        if octets.len() < 12 {
+            return Head::Partial;
+        }
+        let size = self.order.read_u32(&octets[8..]) as usize;
+        if size > LONGEST_RECORD {
+            return Head::Wrong {
+                reason: CaptureReason::RecordTooLong,
+                offset: 8,
+            };
+        }
+        if octets.len() < HEAD_SIZE {
+            return Head::Partial;
+        }
+        Head::Whole {
+            said: self.read_said(octets),
+            size,
+        }
     }
-    if head.len() < HEAD_SIZE {
-        return Head::Partial;
+
+    fn cut(&self) -> CaptureReason {
+        CaptureReason::Cut
     }
-    Head::Whole {
-        seconds: order.read_u32(head),
-        fraction: order.read_u32(&head[4..]),
-        original: order.read_u32(&head[12..]),
-        size,
+
+    ghost some = { λ now. Prim.search rules };
+}
+
+impl Standing {
+    ghost use Rattle.std.specs.Prelude.{◌≤◌};
+    ghost use Rattle.fs_pcap.specs.Head.{said_in};
+
+    /// Reads what a whole head says beside the captured length.
+    fn read_said(&self, octets: &[u8]) -> Said
+        requires { 16 ≤ length octets.now }
+        ensures { result ≡ said_in self.now octets.now }
+    {
+        let seconds = self.order.read_u32(octets);
+        let fraction = self.order.read_u32(&octets[4..]);
+        let time = self.unit.time(seconds, fraction);
+        Said {
+            seconds,
+            fraction,
+            original: self.order.read_u32(&octets[12..]),
+            moment: self.moment.max(time),
+        }
     }
 }

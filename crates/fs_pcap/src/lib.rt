@@ -10,8 +10,9 @@ mod link;
 mod order;
 
 pub use capture::{Capture, Caught};
-pub use fault::{CaptureFault, CaptureReason, Ended};
+pub use fault::{CaptureFault, CaptureReason};
 pub use head::LONGEST_RECORD;
+pub use header::Heading;
 pub use laws::reads_back;
 pub use link::Link;
-pub use order::Endian;
+pub use order::{Endian, Unit};

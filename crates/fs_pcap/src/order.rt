@@ -1,11 +1,11 @@
-//! The order of the octets in a capture's numbers.
+//! What a capture's magic tells: the order of the octets in its numbers, and the unit of the fractions of a second.
 
 ghost use Rattle.std.specs.Prelude.{◌≡◌, ◌≤◌, length};
-ghost use Rattle.fs_pcap.specs.Order.{number, order_of};
+ghost use Rattle.fs_pcap.specs.Order.{number, order_of, time_of};
 
 use byteorder::{BigEndian, ByteOrder, LittleEndian};
 
-/// The order of a capture's octets in its numbers, which its magic tells.
+/// The order of a capture's octets in its numbers.
 #[derive(Clone, Copy, Debug, PartialEq, Eq, Drop)]
 pub enum Endian {
     Big,
@@ -36,14 +36,37 @@ impl Endian {
     }
 }
 
-/// The order that a magic, read with the highest octet first, tells. Captures in microseconds and in nanoseconds are
-/// read alike.
-pub(crate) fn read_order(magic: u32) -> Option<Endian>
+/// The unit in which a capture counts the fractions of a second.
+#[derive(Clone, Copy, Debug, PartialEq, Eq, Drop)]
+pub enum Unit {
+    Microseconds,
+    Nanoseconds,
+}
+
+impl Unit {
+    /// The time of a record, in nanoseconds since the start of 1970. A fraction of a second and more is taken as it
+    /// stands.
+    pub(crate) fn time(self, seconds: u32, fraction: u32) -> u64
+        ensures { result ≡ time_of self seconds fraction }
+    {
+        let fraction = fraction as u64;
+        let fraction = match self {
+            Unit::Microseconds => fraction * 1000,
+            Unit::Nanoseconds => fraction,
+        };
+        seconds as u64 * 1_000_000_000 + fraction
+    }
+}
+
+/// The order and the unit that a magic, read with the highest octet first, tells.
+pub(crate) fn read_order(magic: u32) -> Option<(Endian, Unit)>
     ensures { result ≡ order_of magic }
 {
     match magic {
-        0xa1b2_c3d4 | 0xa1b2_3c4d => Some(Endian::Big),
-        0xd4c3_b2a1 | 0x4d3c_b2a1 => Some(Endian::Little),
+        0xa1b2_c3d4 => Some((Endian::Big, Unit::Microseconds)),
+        0xa1b2_3c4d => Some((Endian::Big, Unit::Nanoseconds)),
+        0xd4c3_b2a1 => Some((Endian::Little, Unit::Microseconds)),
+        0x4d3c_b2a1 => Some((Endian::Little, Unit::Nanoseconds)),
         _ => None,
     }
 }

@@ -2,3 +2,4 @@ pub mod Parts
 pub mod Records
 pub mod Advancing
 pub mod Done
+pub mod Fronts

@@ -4,8 +4,10 @@
 
 mod fault;
 mod head;
+mod opening;
 mod reading;
 
 pub use fault::{Ended, Fault};
 pub use head::{Found, Head, Heads, MOST_HEAD};
+pub use opening::opened;
 pub use reading::{next_record, short};

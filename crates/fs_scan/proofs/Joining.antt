@@ -45,7 +45,7 @@ fails_first next place octets cut limit taken size scan (Bad reason at) h =
     ends_first next place octets cut limit taken size scan (bad reason at) h
 
 -- how the input ends behind so many octets
-end_behind : {A R : Type 0} (cut : R) (limit : Bool) (taken size n : ℕ) (scan : Scan A R) → n ≤ size
+pub end_behind : {A R : Type 0} (cut : R) (limit : Bool) (taken size n : ℕ) (scan : Scan A R) → n ≤ size
     → end_of cut limit taken size (behind n scan) ≡ end_of cut limit (taken + n) (size - n) scan
 end_behind cut limit taken size n (got value count) within = refl
 end_behind cut limit taken size n (wrong reason at) within = refl
@@ -55,7 +55,7 @@ end_behind cut limit taken size n partial within =
 
 module _ {A B R : Type 0} (first : Scanner A R) (next : A → Scanner B R) (limit taken taken' : ℕ) (left left' : List ℕ) (value : A) where
   -- what the chain says, where the first field was taken
-  chain_is : (took : Took (first taken (window limit taken left)) (length (window limit taken left)) taken taken' left left' value)
+  pub chain_is : (took : Took (first taken (window limit taken left)) (length (window limit taken left)) taken taken' left left' value)
       → and first next taken (window limit taken left) ≡ behind took.count (next value taken' (window limit taken' left'))
   chain_is took =
       let judged = window limit taken left in

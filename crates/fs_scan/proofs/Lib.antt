@@ -1,5 +1,11 @@
 pub mod Taking
+pub mod Again
+pub mod Short
 pub mod Joining
 pub mod Lifting
 pub mod Skipping
+pub mod Stages
+pub mod Fixed
+pub mod Joined
 pub mod Coming
+pub mod Advancing

@@ -1,19 +1,19 @@
 -- Calls that read fields one behind the other read the chain.
-use Rattle.std.proofs.Common.{◌≡◌, ℕ, List, Bool, Option, Result, Ok, Err, ◌≤◌, ◌∙◌, subst, arith, le_trans}
-use Rattle.std.specs.Prelude.{IfErr}
+use Rattle.std.proofs.Common.{◌≡◌, ℕ, List, Bool, true, false, Option, Some, Result, Ok, Err, IsTrue, ◌≢◌, ◌≤◌, ◌+◌, ◌==◌, length, take, refl, ap, sym, ◌∙◌, subst, arith, le_trans}
+use Rattle.std.specs.Prelude.{IfErr, if◌then◌else◌, nat_le}
 use Rattle.fs_base.specs.Outside.{Rose}
-use Rattle.fs_base.specs.Parts.{window}
+use Rattle.fs_base.specs.Parts.{at_limit, window}
 use Rattle.fs_base.specs.declared.counted.Counted.{Counted}
 use Rattle.fs_records.specs.declared.fault.Fault.{Fault}
-use Rattle.fs_records.specs.declared.fault.Fault.TheVariants.{Read}
-use Rattle.fs_scan.specs.Scan.{Scanner, and}
-use Rattle.fs_scan.specs.Reads.{Reads, Scanned}
+use Rattle.fs_records.specs.declared.fault.Fault.TheVariants.{Read, Limit, Bad}
+use Rattle.fs_scan.specs.Scan.{Scan, Scanner, and, fails, field, gives, got, partial}
+use Rattle.fs_scan.specs.Reads.{Fails, Reads, Scanned, Starts, Took, end_of, ends_by, whole}
 use Rattle.fs_scan.proofs.Joining.{both_took, fails_first, fails_second}
 
 rose_later : (early mid late : ℕ) → early ≤ mid → Rose mid late → Rose early late
 rose_later early mid late l r = omega (arith, l, r)
 
-failed_later : {T R : Type 0} (result : Result T (Fault R)) (early mid late : ℕ) → early ≤ mid
+pub failed_later : {T R : Type 0} (result : Result T (Fault R)) (early mid late : ℕ) → early ≤ mid
     → IfErr result (λ fault. fault ≡ Read → Rose mid late) → IfErr result (λ fault. fault ≡ Read → Rose early late)
 failed_later (Ok answer) early mid late l h = h
 failed_later (Err fault) early mid late l h = λ read. rose_later early mid late l (h read)
@@ -28,40 +28,182 @@ module _ {T U A B R : Type 0} (first : Scanner A R) (next : A → Scanner B R) (
   scanned_then limit taken taken' taken'' left left' left'' answer (Err fault) took more =
       fails_second first next limit taken taken' left left' (tells answer) cut fault took more
 
-  -- where the first field was read, and then the next
-  pub reads_then : (told : Bool) (faults mid late : ℕ) (left left' left'' : ℕ → List ℕ) (holds holds' holds'' : List ℕ → Option (List ℕ))
-      (old now new : Counted) (answer : T) (result : Result U (Fault R))
-      → Reads told faults mid left left' holds holds' first cut old now tells (Ok answer)
-      → Reads told mid late left' left'' holds' holds'' (next (tells answer)) cut now new tells2 result
-      → Reads told faults late left left'' holds holds'' (and first next) cut old new tells2 result
-  reads_then told faults mid late left left' left'' holds holds' holds'' old now new answer result one more = record {
-    later = le_trans one.later more.later;
-    failed = failed_later result faults mid late one.later more.failed;
-    slot = more.slot ∙ one.slot;
-    limit = more.limit ∙ one.limit;
+-- where the first field was read, and then the next
+pub reads_then : {T U A B R : Type 0} {first : Scanner A R} {cut : R} {tells : T → A} {told : Bool} {faults mid late : ℕ}
+    {left left' left'' : ℕ → List ℕ} {holds holds' holds'' : List ℕ → Option (List ℕ)} {old now new : Counted} {answer : T}
+    {result : Result U (Fault R)} (next : A → Scanner B R) (tells2 : U → B)
+    → Reads told faults mid left left' holds holds' first cut old now tells (Ok answer)
+    → Reads told mid late left' left'' holds' holds'' (next (tells answer)) cut now new tells2 result
+    → Reads told faults late left left'' holds holds'' (and first next) cut old new tells2 result
+reads_then {first = first} {cut = cut} {tells = tells} {told = told} {faults = faults} {mid = mid} {late = late}
+    {left = left} {left' = left'} {left'' = left''} {old = old} {now = now} {new = new} {answer = answer} {result = result}
+    next tells2 one more = record {
+      later = le_trans one.later more.later;
+      failed = failed_later result faults mid late one.later more.failed;
+      slot = more.slot ∙ one.slot;
+      limit = more.limit ∙ one.limit;
+      scanned = λ tells_so.
+          scanned_then first next cut tells tells2 old.limit old.taken now.taken new.taken (left old.slot) (left' old.slot) (left'' old.slot)
+          answer result
+          (one.scanned tells_so)
+          (subst (λ slot. Scanned (next (tells answer)) cut old.limit now.taken new.taken (left' slot) (left'' slot) tells2 result) one.slot
+          (subst (λ limit. Scanned (next (tells answer)) cut limit now.taken new.taken (left' now.slot) (left'' now.slot) tells2 result) one.limit
+          (more.scanned tells_so)));
+      others = λ tells_so other apart.
+          more.others tells_so other (λ same. apart (same ∙ one.slot)) ∙ one.others tells_so other apart;
+      same = λ tells_so. more.same tells_so ∙ one.same tells_so;
+    }
+
+-- where the first field could not be read
+pub reads_ends : {T U A B R : Type 0} {first : Scanner A R} {cut : R} {tells : T → A} {told : Bool} {faults late : ℕ}
+    {left left' : ℕ → List ℕ} {holds holds' : List ℕ → Option (List ℕ)} {old new : Counted} {fault : Fault R}
+    (next : A → Scanner B R) (tells2 : U → B)
+    → Reads told faults late left left' holds holds' first cut old new tells (Err fault)
+    → Reads told faults late left left' holds holds' (and first next) cut old new tells2 (Err fault)
+reads_ends {first = first} {cut = cut} {left = left} {old = old} {fault = fault} next tells2 one = record {
+  later = one.later;
+  failed = one.failed;
+  slot = one.slot;
+  limit = one.limit;
+  scanned = λ tells_so.
+      fails_first next old.taken (window old.limit old.taken (left old.slot)) cut _ old.taken _ _ fault (one.scanned tells_so);
+  others = one.others;
+  same = one.same;
+}
+
+-- a value that takes no octets
+pub reads_gives : {T A R : Type 0} {cut : R} {told : Bool} {faults : ℕ} {left : ℕ → List ℕ} {holds : List ℕ → Option (List ℕ)}
+    {now : Counted} (tells : T → A) (answer : T)
+    → Reads told faults faults left left holds holds (gives (tells answer)) cut now now tells (Ok answer)
+reads_gives tells answer = record {
+  later = omega arith;
+  failed = tt;
+  slot = refl;
+  limit = refl;
+  scanned = λ tells_so. record { count = 0; is = refl; within = (omega arith); taken_is = (omega arith); left_is = refl };
+  others = λ tells_so other apart. refl;
+  same = λ tells_so. refl;
+}
+
+-- a fault
+pub reads_fails : {T A R : Type 0} {cut : R} {told : Bool} {faults : ℕ} {left : ℕ → List ℕ} {holds : List ℕ → Option (List ℕ)}
+    {now : Counted} (tells : T → A) (reason : R) (place : ℕ)
+    → Reads told faults faults left left holds holds (fails {A = A} reason place) cut now now tells (Err (Bad reason place))
+reads_fails {R = R} tells reason place = record {
+  later = omega arith;
+  failed = never;
+  slot = refl;
+  limit = refl;
+  scanned = λ tells_so. refl;
+  others = λ tells_so other apart. refl;
+  same = λ tells_so. refl;
+} where
+  never : {late : ℕ} → ◌≡◌ {A = Fault R} (Bad reason place) Read → Rose late late
+  never e = absurd cc
+
+-- a chain that says the same of the octets that are left
+scanned_as : {T A R : Type 0} (one other : Scanner A R) (cut : R) (limit taken taken' : ℕ) (left left' : List ℕ) (tells : T → A)
+    (result : Result T (Fault R))
+    → one taken (window limit taken left) ≡ other taken (window limit taken left)
+    → Scanned one cut limit taken taken' left left' tells result → Scanned other cut limit taken taken' left left' tells result
+scanned_as one other cut limit taken taken' left left' tells (Ok answer) same h =
+    subst (λ scan. Took scan (length (window limit taken left)) taken taken' left left' (tells answer)) same h
+scanned_as one other cut limit taken taken' left left' tells (Err fault) same h =
+    subst (λ scan. Fails (end_of cut (at_limit limit taken left) taken (length (window limit taken left)) scan) fault) same h
+
+pub reads_as : {T A R : Type 0} {one : Scanner A R} {cut : R} {tells : T → A} {told : Bool} {faults faults' : ℕ}
+    {left left' : ℕ → List ℕ} {holds holds' : List ℕ → Option (List ℕ)} {old new : Counted} {result : Result T (Fault R)}
+    (other : Scanner A R) → ((octets : List ℕ) → one old.taken octets ≡ other old.taken octets)
+    → Reads told faults faults' left left' holds holds' one cut old new tells result
+    → Reads told faults faults' left left' holds holds' other cut old new tells result
+reads_as {one = one} {cut = cut} {tells = tells} {left = left} {left' = left'} {old = old} {new = new} {result = result} other same h = record {
+  later = h.later;
+  failed = h.failed;
+  slot = h.slot;
+  limit = h.limit;
+  scanned = λ tells_so.
+      scanned_as one other cut old.limit old.taken new.taken (left old.slot) (left' old.slot) tells result
+      (same (window old.limit old.taken (left old.slot))) (h.scanned tells_so);
+  others = h.others;
+  same = h.same;
+}
+
+-- the octets of a field, read as a value
+field_as : {A R : Type 0} (size : ℕ) (read : List ℕ → A) (limit taken taken' : ℕ) (left left' into : List ℕ) (value : A) → read into ≡ value
+    → Took (field {A = List ℕ} {R = R} size whole taken (window limit taken left)) (length (window limit taken left)) taken taken' left left' into
+    → Took (field {A = A} {R = R} size read taken (window limit taken left)) (length (window limit taken left)) taken taken' left left' value
+field_as {A} {R} size read limit taken taken' left left' into value e took = record {
+  count = took.count;
+  is = by (nat_le size (length (window limit taken left))) took.is;
+  within = took.within;
+  taken_is = took.taken_is;
+  left_is = took.left_is;
+} where
+  by : (test : Bool)
+      → ◌≡◌ {A = Scan (List ℕ) R} (if test then got (take size (window limit taken left)) size else partial) (got into took.count)
+      → ◌≡◌ {A = Scan A R} (if test then got (read (take size (window limit taken left))) size else partial) (got value took.count)
+  by true h =
+      let octets : take size (window limit taken left) ≡ into = cc in
+      let count : size ≡ took.count = cc in
+      (λ i. got (read (octets i)) (count i)) ∙ ap (λ v. got v took.count) e
+  by false h = absurd cc
+
+field_ends_as : {A R : Type 0} (size : ℕ) (read : List ℕ → A) (cut : R) (limit taken : ℕ) (left : List ℕ) (fault : Fault R)
+    → Fails (ends_by (field {A = List ℕ} {R = R} size whole) cut limit taken left) fault
+    → Fails (ends_by (field {A = A} {R = R} size read) cut limit taken left) fault
+field_ends_as {A} {R} size read cut limit taken left fault h = by (nat_le size (length (window limit taken left))) fault h
+  where
+    by : (test : Bool) (fault : Fault R)
+        → Fails (end_of {A = List ℕ} cut (at_limit limit taken left) taken (length (window limit taken left))
+        (if test then got (take size (window limit taken left)) size else partial)) fault
+        → Fails (end_of {A = A} cut (at_limit limit taken left) taken (length (window limit taken left))
+        (if test then got (read (take size (window limit taken left))) size else partial)) fault
+    by test Read h = tt
+    by true Limit h = absurd cc
+    by true (Bad reason place) h = absurd cc
+    by false Limit h = h
+    by false (Bad reason place) h = h
+
+module _ {T U A R : Type 0} {cut : R} {told : Bool} {faults faults' : ℕ} {left left' : ℕ → List ℕ} {holds holds' : List ℕ → Option (List ℕ)}
+    {old new : Counted} {into : List ℕ} where
+  pub reads_field : {answer : T} (size : ℕ) (read : List ℕ → A) (tells : U → A) (last : U) → read into ≡ tells last
+      → Reads told faults faults' left left' holds holds' (field size whole) cut old new (λ (_ : T). into) (Ok answer)
+      → Reads told faults faults' left left' holds holds' (field size read) cut old new tells (Ok last)
+  reads_field size read tells last e h = record {
+    later = h.later;
+    failed = tt;
+    slot = h.slot;
+    limit = h.limit;
     scanned = λ tells_so.
-        scanned_then old.limit old.taken now.taken new.taken (left old.slot) (left' old.slot) (left'' old.slot) answer result
-        (one.scanned tells_so)
-        (subst (λ slot. Scanned (next (tells answer)) cut old.limit now.taken new.taken (left' slot) (left'' slot) tells2 result) one.slot
-        (subst (λ limit. Scanned (next (tells answer)) cut limit now.taken new.taken (left' now.slot) (left'' now.slot) tells2 result) one.limit
-        (more.scanned tells_so)));
-    others = λ tells_so other apart.
-        more.others tells_so other (λ same. apart (same ∙ one.slot)) ∙ one.others tells_so other apart;
-    same = λ tells_so. more.same tells_so ∙ one.same tells_so;
+        field_as size read old.limit old.taken new.taken (left old.slot) (left' old.slot) into (tells last) e (h.scanned tells_so);
+    others = h.others;
+    same = h.same;
   }
 
-  -- where the first field could not be read
-  pub reads_ends : (told : Bool) (faults late : ℕ) (left left' : ℕ → List ℕ) (holds holds' : List ℕ → Option (List ℕ))
-      (old new : Counted) (fault : Fault R)
-      → Reads told faults late left left' holds holds' first cut old new tells (Err fault)
-      → Reads told faults late left left' holds holds' (and first next) cut old new tells2 (Err fault)
-  reads_ends told faults late left left' holds holds' old new fault one = record {
-    later = one.later;
-    failed = one.failed;
-    slot = one.slot;
-    limit = one.limit;
-    scanned = λ tells_so.
-        fails_first next old.taken (window old.limit old.taken (left old.slot)) cut _ old.taken _ _ fault (one.scanned tells_so);
-    others = one.others;
-    same = one.same;
+  pub field_ends : {fault : Fault R} (size : ℕ) (read : List ℕ → A) (tells : U → A)
+      → Reads told faults faults' left left' holds holds' (field size whole) cut old new (λ (_ : T). into) (Err fault)
+      → Reads told faults faults' left left' holds holds' (field size read) cut old new tells (Err fault)
+  field_ends {fault = fault} size read tells h = record {
+    later = h.later;
+    failed = h.failed;
+    slot = h.slot;
+    limit = h.limit;
+    scanned = λ tells_so. field_ends_as size read cut old.limit old.taken (left old.slot) fault (h.scanned tells_so);
+    others = h.others;
+    same = h.same;
   }
+
+-- the first field of a part, where it was taken
+pub starts_reads : {R : Type 0} {cut : R} {told : Bool} {faults faults' : ℕ} {left left' : ℕ → List ℕ}
+    {holds holds' : List ℕ → Option (List ℕ)} {old new : Counted} {into : List ℕ} {size : ℕ}
+    → Starts told faults faults' left left' holds holds' size cut old new into (Ok true)
+    → Reads told faults faults' left left' holds holds' (field size whole) cut old new (λ (_ : Bool). into) (Ok true)
+starts_reads h = record {
+  later = h.later;
+  failed = tt;
+  slot = h.slot;
+  limit = h.limit;
+  scanned = h.started;
+  others = h.others;
+  same = h.same;
+}

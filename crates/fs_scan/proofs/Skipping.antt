@@ -7,7 +7,7 @@ use Rattle.fs_base.specs.Parts.{at_limit, window}
 use Rattle.fs_records.specs.declared.fault.Fault.{Fault}
 use Rattle.fs_records.specs.declared.fault.Fault.TheVariants.{Read, Limit, Bad}
 use Rattle.fs_scan.specs.Scan.{Scan, field, got, partial, skips}
-use Rattle.fs_scan.specs.Reads.{Fails, Took, end_of, ends_by}
+use Rattle.fs_scan.specs.Reads.{Fails, Took, end_of, ends_by, whole}
 use Rattle.fs_scan.proofs.Joining.{behind_took}
 
 -- so many octets were taken
@@ -18,9 +18,6 @@ pub record Skipped (limit taken taken' n : ℕ) (left left' : List ℕ) : Type 0
 
 pub skipped_none : (limit taken : ℕ) (left : List ℕ) → Skipped limit taken taken 0 left left
 skipped_none limit taken left = record { within = (omega arith); place = (omega arith); rest = refl }
-
-abbrev pub whole : List ℕ → List ℕ
-whole octets = octets
 
 -- a field of any octets has as many as its size
 record IsHeld (size : ℕ) (octets : List ℕ) (count : ℕ) : Type 0 where

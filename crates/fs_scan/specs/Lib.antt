@@ -1,3 +1,4 @@
 pub mod Scan
 pub mod Reads
+pub mod Judging
 pub mod Coming

@@ -1,12 +1,12 @@
 -- What a call that reads a chain of fields does to the files and to the slot that it reads.
-use Rattle.std.specs.Prelude.{ℕ, List, Option, Some, None, Result, Ok, Err, Bool, IsTrue, IfErr, ◌≡◌, ◌≢◌, ◌≤◌, ◌+◌, length, drop, if◌then◌else◌, ⊤}
+use Rattle.std.specs.Prelude.{ℕ, List, ◌++◌, Option, Some, None, Result, Ok, Err, Bool, true, false, IsTrue, IfErr, ◌≡◌, ◌≢◌, ◌≤◌, ◌<◌, ◌+◌, ◌==◌, ◌⊎◌, length, drop, if◌then◌else◌, ⊤}
 use Rattle.fs_base.specs.Outside.{Rose}
 use Rattle.fs_base.specs.Parts.{at_limit, window}
 use Rattle.fs_base.specs.declared.counted.Counted.{Counted}
 use Rattle.fs_records.specs.Records.{End, bad, limited}
 use Rattle.fs_records.specs.declared.fault.Fault.{Fault}
 use Rattle.fs_records.specs.declared.fault.Fault.TheVariants.{Read, Limit, Bad}
-use Rattle.fs_scan.specs.Scan.{Scan, Scanner, got, partial, wrong}
+use Rattle.fs_scan.specs.Scan.{Scan, Scanner, field, got, partial, wrong}
 
 module _ {A R : Type 0} where
   -- a scan gave this value, and its octets were taken
@@ -52,5 +52,43 @@ module _ {T A R : Type 0} (told : Bool) (faults faults' : ℕ) (left left' : ℕ
     pub scanned :
         IsTrue told
         → Scanned scanner cut old.limit old.taken new.taken (left old.slot) (left' old.slot) tells result
+    pub others : IsTrue told → (other : ℕ) → other ≢ old.slot → left' other ≡ left other
+    pub same : IsTrue told → holds' ≡ holds
+
+-- what is left of an input, where octets of it were put back
+abbrev pub ahead : Counted → (ℕ → List ℕ) → ℕ → List ℕ
+ahead counted left slot = if slot == counted.slot then counted.back ++ left slot else left slot
+
+-- the input ended below the limit, and nothing of it is left
+pub record IsOver (limit taken : ℕ) (left : List ℕ) : Type 0 where
+  pub below : at_limit limit taken left ≡ false
+  pub none : length (window limit taken left) ≡ 0
+
+-- something is left, or the limit was reached
+abbrev pub HasMore : (limit taken : ℕ) → List ℕ → Type 0
+HasMore limit taken left = (at_limit limit taken left ≡ true) ⊎ (0 < length (window limit taken left))
+
+abbrev pub whole : List ℕ → List ℕ
+whole octets = octets
+
+-- The octets of a part's first field were taken; or the input ended before the part; or it ends within this field.
+abbrev pub Started : {R : Type 0} → (size : ℕ) → R → (limit taken taken' : ℕ) → (left left' into : List ℕ)
+    → Result Bool (Fault R) → Type 0
+Started {R} size cut limit taken taken' left left' into (Ok true) =
+    Took (field {A = List ℕ} {R = R} size whole taken (window limit taken left)) (length (window limit taken left)) taken taken' left left' into
+Started size cut limit taken taken' left left' into (Ok false) = IsOver limit taken left
+Started size cut limit taken taken' left left' into (Err fault) =
+    Fails (ends_by (field size whole) cut limit taken left) fault × (fault ≢ Read → HasMore limit taken left)
+
+-- A call that begins a part does to the files what `Reads` says of one that reads a chain of fields.
+module _ {R : Type 0} (told : Bool) (faults faults' : ℕ) (left left' : ℕ → List ℕ) (holds holds' : List ℕ → Option (List ℕ)) where
+  pub record Starts (size : ℕ) (cut : R) (old new : Counted) (into : List ℕ) (result : Result Bool (Fault R)) : Type 0 where
+    pub later : faults ≤ faults'
+    pub failed : IfErr result (λ fault. fault ≡ Read → Rose faults faults')
+    pub slot : new.slot ≡ old.slot
+    pub limit : new.limit ≡ old.limit
+    pub started :
+        IsTrue told
+        → Started size cut old.limit old.taken new.taken (left old.slot) (left' old.slot) into result
     pub others : IsTrue told → (other : ℕ) → other ≢ old.slot → left' other ≡ left other
     pub same : IsTrue told → holds' ≡ holds

@@ -1,6 +1,6 @@
 //! Taking and skipping the octets of fields.
-ghost use Rattle.std.specs.Prelude.{◌≡◌, ◌+◌, ◌<◌, [], IfOk, length};
-ghost use Rattle.fs_scan.specs.Reads.{Reads};
+ghost use Rattle.std.specs.Prelude.{◌≡◌, ◌≤◌, ◌+◌, ◌<◌, ◌==◌, ◌&&◌, [], IfOk, IsTrue, length, not};
+ghost use Rattle.fs_scan.specs.Reads.{Reads, Starts, ahead};
 ghost use Rattle.fs_scan.specs.Scan.{field, skips};
 
 use fs_base::{Counted, Files, fill};
@@ -22,6 +22,73 @@ pub fn take_octets<F: Files, R: Copy + Drop>(
     ensures none { counted.new.back ≡ [] }
     ensures taken { IfOk result (λ _. counted.new.taken ≡ counted.old.taken + length into.new) }
     ensures reads { Reads F.tells (F.faults files.old) (F.faults files.new) (F.left files.old) (F.left files.new)
+        (F.holds files.old) (F.holds files.new) (field (length into.new) (λ octets. octets)) cut counted.old counted.new
+        (λ _. into.new) result }
+{
+    let Ok(count) = fill(counted, files, into) else {
+        return Err(Fault::Read);
+    };
+    if count < into.len() {
+        return Err(short(cut, counted));
+    }
+    Ok(())
+}
+
+/// Takes the octets of the first field of a part of the input. `false`: the input ended before the part, and nothing was
+/// taken.
+///
+/// # Errors
+///
+/// As of `take_octets`, where the input ends within the field or at the limit.
+pub fn take_first<F: Files, R: Copy + Drop>(
+    cut: R,
+    counted: &mut Counted,
+    files: &mut F,
+    into: &mut [u8],
+) -> Result<bool, Fault<R>>
+    requires room { 0 < length into.old }
+    requires none { counted.old.back ≡ [] }
+    ensures none { counted.new.back ≡ [] }
+    ensures taken { IfOk result (λ found.
+        IsTrue found → counted.new.taken ≡ counted.old.taken + length into.new) }
+    ensures starts { Starts F.tells (F.faults files.old) (F.faults files.new) (F.left files.old) (F.left files.new)
+        (F.holds files.old) (F.holds files.new) (length into.new) cut counted.old counted.new into.new result }
+{
+    let Ok(count) = fill(counted, files, into) else {
+        return Err(Fault::Read);
+    };
+    if count == into.len() {
+        return Ok(true);
+    }
+    if is_over(counted, count) {
+        return Ok(false);
+    }
+    Err(short(cut, counted))
+}
+
+/// Whether the input ended below its limit, where so many octets were the last to be taken and more were wanted.
+fn is_over(counted: &Counted, count: usize) -> bool
+    ensures { result ≡ ((count == 0) && not (counted.now.taken == counted.now.limit)) }
+{
+    count == 0 && counted.taken != counted.limit
+}
+
+/// Takes the first octets of an input, those that were put back first.
+///
+/// # Errors
+///
+/// As of `take_octets`.
+pub fn take_again<F: Files, R: Copy + Drop>(
+    cut: R,
+    counted: &mut Counted,
+    files: &mut F,
+    into: &mut [u8],
+) -> Result<(), Fault<R>>
+    requires few { length counted.old.back ≤ length into.old }
+    ensures none { IfOk result (λ _. counted.new.back ≡ []) }
+    ensures taken { IfOk result (λ _. counted.new.taken ≡ counted.old.taken + length into.new) }
+    ensures reads { Reads F.tells (F.faults files.old) (F.faults files.new)
+        (ahead counted.old (F.left files.old)) (ahead counted.new (F.left files.new))
         (F.holds files.old) (F.holds files.new) (field (length into.new) (λ octets. octets)) cut counted.old counted.new
         (λ _. into.new) result }
 {

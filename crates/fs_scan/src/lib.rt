@@ -2,5 +2,7 @@
 #![tactic(auto)]
 
 mod fields;
+mod judging;
 
-pub use fields::{skip_octets, take_octets};
+pub use fields::{skip_octets, take_again, take_first, take_octets};
+pub use judging::{Judged, settle};

@@ -1,4 +1,5 @@
 pub mod Difference
-pub mod Advancing
-pub mod Beginning
+pub mod Heads
+pub mod Items
+pub mod Rising
 pub mod ReadsBack

@@ -1,9 +1,11 @@
-//! What is wrong with a tape, and where.
+//! What is wrong with a tape.
+
+use fs_records::Fault;
 
 /// What is wrong with a tape.
 #[derive(Clone, Copy, Debug, PartialEq, Eq, Drop)]
 pub enum TapeReason {
-    /// One of its first eight octets isn't the magic's.
+    /// Its first eight octets are no version's magic.
     Magic,
     /// A record's kind is none of 1, 2 and 3.
     Kind,
@@ -13,25 +15,10 @@ pub enum TapeReason {
     Length,
     /// The tape ends within its magic or a record.
     Cut,
+    /// A record's moment is below that of the record before it.
+    Moment,
 }
 
-/// Why a tape gives no further item.
-#[derive(Clone, Copy, Debug, PartialEq, Eq, Drop)]
-pub enum TapeFault {
-    /// The files failed.
-    Read,
-    /// The tape has at least as many octets as the limit, and no field within it is wrong.
-    Limit,
-    /// The first field that stands whole and is wrong, and the place of its first octet on the tape, from 0; for
-    /// `Magic` that of the first wrong octet, for `Cut` the tape's length.
-    Bad { reason: TapeReason, place: u64 },
-}
-
-/// How a tape ended.
-#[derive(Clone, Copy, Debug, PartialEq, Eq, Drop)]
-pub enum Ended {
-    /// Behind its last record.
-    Done,
-    /// By a fault, which stays.
-    Fault(TapeFault),
-}
+/// Why a tape gives no further item. The place of a wrong field is that of its first octet on the tape, from 0; for
+/// `Magic` that of the first octet up to which the octets begin no version's magic, for `Cut` the tape's length.
+pub type TapeFault = Fault<TapeReason>;

@@ -8,8 +8,9 @@ mod laws;
 mod magic;
 mod tape;
 
-pub use fault::{Ended, TapeFault, TapeReason};
+pub use fault::{TapeFault, TapeReason};
 pub use header::LONGEST_PAYLOAD;
 pub use item::TapeItem;
-pub use laws::reads_back;
+pub use laws::{moments_rise, reads_back};
+pub use magic::Version;
 pub use tape::Tape;

@@ -1,25 +1,31 @@
 //! A tape, read record by record.
-ghost use Rattle.std.specs.Prelude.{◌≡◌, ◌≤◌, ◌+◌, [], ℕ, None, IsSome, IsTrue, IfOk, IfSome, OnErr, List, length, take};
+ghost use Rattle.std.specs.Prelude.{◌≡◌, ◌≤◌, [], None, IsSome, IsTrue, IfOk, IfSome, drop, length, take};
 ghost use Rattle.std.specs.Result.{IsErrOf};
+ghost use Rattle.fs_base.specs.Config.{peer_of};
 ghost use Rattle.fs_base.specs.Files.{OnlySlot};
 ghost use Rattle.fs_base.specs.Outside.{Rose};
-ghost use Rattle.fs_base.specs.Config.{peer_of};
+ghost use Rattle.fs_base.specs.Parts.{with_part};
 ghost use Rattle.fs_base.specs.declared.config.Config.{Config};
+ghost use Rattle.fs_records.specs.Opening.{Opens};
+ghost use Rattle.fs_records.specs.Reading.{Advances, answer_of, ended_after};
 ghost use Rattle.fs_tape.specs.Header.{longest_payload};
-ghost use Rattle.fs_tape.specs.Tape.{Advances, Grows, IsBegun, IsItem, Opens, Tells, answer_of, ended_after, items_to_come, short_answer, short_fault};
+ghost use Rattle.fs_tape.specs.Tape.{Grows, IsBegun, IsItem, Tells, Times, item_from, timed, version_of};
 
-use crate::fault::{Ended, TapeFault, TapeReason};
-use crate::header::{HEAD, Header, read_head};
+use crate::fault::{TapeFault, TapeReason};
+use crate::header::{Said, Standing};
 use crate::item::{Kind, TapeItem};
-use crate::magic::wrong_octet;
-use fs_base::{Config, Counted, Failed, Files, fill};
+use crate::magic::{MAGIC_SIZE, Version, read_magic};
+use fs_base::{Config, Counted, Files, fill};
+use fs_records::{Ended, next_record, opened};
 use std::marker::Model;
 
 /// A tape that is read from a slot.
 #[derive(Drop)]
 pub struct Tape {
     counted: Counted,
-    end: Option<Ended>,
+    end: Option<Ended<TapeReason>>,
+    version: Version,
+    moment: u64,
 }
 
 impl Model for Tape {
@@ -34,13 +40,16 @@ impl Model for Tape {
           limit = tape.counted.limit;
           place = tape.counted.taken;
           end = tape.end;
+          version = tape.version;
+          moment = tape.moment;
         } };
 
     ghost invariant = { λ tape. tape.counted.back ≡ [] };
 }
 
 impl Tape {
-    ghost use Rattle.fs_tape.specs.Tape.{coming};
+    ghost use Rattle.fs_records.specs.declared.fault.Fault.TheVariants.{Read};
+    ghost use Rattle.fs_tape.specs.Tape.{TapeState, coming};
 
     /// Reads the magic, up to the limit.
     ///
@@ -52,28 +61,47 @@ impl Tape {
         requires start { counted.taken ≡ 0 }
         requires none { counted.back ≡ [] }
         ensures later { F.faults files.old ≤ F.faults files.new }
-        ensures read { IsErrOf result TapeFault.Read → Rose (F.faults files.old) (F.faults files.new) }
+        ensures read { IsErrOf result Read → Rose (F.faults files.old) (F.faults files.new) }
         ensures state { IfOk result (IsBegun counted.slot counted.limit) }
         ensures within { IfOk result (λ tape. tape.place ≤ tape.limit) }
 
         ensures opens { IsTrue F.tells
-            → Opens counted.limit (F.left files.old counted.slot) (F.left files.new counted.slot) result }
+            → Opens
+            (λ (tape : TapeState). tape.version)
+            (version_of counted.limit (F.left files.old counted.slot))
+            (drop 8 (F.left files.old counted.slot))
+            (F.left files.new counted.slot)
+            result }
         ensures others { OnlySlot F.tells F.left F.holds counted.slot files.old files.new }
     {
-        let mut front = [0u8; 8];
+        let mut front = [0u8; MAGIC_SIZE];
         let Ok(count) = fill(&mut counted, files, &mut front) else {
             return Err(TapeFault::Read);
         };
-        if count < front.len() {
-            return Err(short(&counted));
+        match opened(read_magic(&front[..count]), TapeReason::Cut, &counted) {
+            Ok(version) => Ok(Tape {
+                counted,
+                end: None,
+                version,
+                moment: 0,
+            }),
+            Err(fault) => Err(fault),
         }
-        if let Some(place) = wrong_octet(&front) {
-            return Err(TapeFault::Bad {
-                reason: TapeReason::Magic,
-                place: place as u64,
-            });
-        }
-        Ok(Tape { counted, end: None })
+    }
+
+    /// The version, which the magic tells.
+    pub fn version(&self) -> Version
+        ensures { result ≡ self.now.version }
+    {
+        self.version
+    }
+
+    /// The moment of the last item, in nanoseconds since the start of 1970; 0 before the first, and of each record of
+    /// the first version.
+    pub fn moment(&self) -> u64
+        ensures { result ≡ self.now.moment }
+    {
+        self.moment
     }
 
     /// Reads the next record. The payload of octets received stands at the front of `into`. `None`: the tape ended
@@ -91,169 +119,51 @@ impl Tape {
     ) -> Result<Option<TapeItem>, TapeFault>
         requires { longest_payload ≤ length into.old }
         ensures later { F.faults files.old ≤ F.faults files.new }
-        ensures read { self.old.end ≡ None
-            → IsErrOf result TapeFault.Read
-            → Rose (F.faults files.old) (F.faults files.new) }
+        ensures read { self.old.end ≡ None → IsErrOf result Read → Rose (F.faults files.old) (F.faults files.new) }
         ensures slot { self.new.slot ≡ self.old.slot }
         ensures limit { self.new.limit ≡ self.old.limit }
+        ensures version { self.new.version ≡ self.old.version }
         ensures again { IfSome self.old.end (λ ended. result ≡ answer_of ended) }
         ensures stays { IsSome self.old.end → self.new ≡ self.old }
         ensures unread { IsSome self.old.end → files.new ≡ files.old }
         ensures ended { self.new.end ≡ ended_after result }
-        ensures grows { Grows self.old.place self.new.place self.new.limit result }
-        ensures known { IfOk result (λ found. IfSome found (IsItem config.now)) }
+        ensures grows { self.old.end ≡ None → Grows self.old.place self.new.place self.new.limit result }
+        ensures times { self.old.end ≡ None → Times self.old.version self.old.moment self.new.moment result }
+        ensures known { self.old.end ≡ None → IfOk result (λ found. IfSome found (IsItem config.now)) }
 
         ensures advances { IsTrue F.tells
             → self.old.end ≡ None
             → Advances
             (coming config.now self.old (F.left files.old self.old.slot))
-            (coming config.now self.new (F.left files.new self.old.slot))
-            into.new
+            (λ item. with_part
+            (timed self.new.moment (item_from item into.new))
+            (coming config.now self.new (F.left files.new self.old.slot)))
             result }
         ensures others { OnlySlot F.tells F.left F.holds self.old.slot files.old files.new }
     {
-        next_record(&mut self.counted, &mut self.end, files, config, into)
-    }
-}
-
-/// The fault of a tape that has no octet left to be taken, within its magic or a record.
-fn short(counted: &Counted) -> TapeFault
-    ensures { result ≡ short_fault counted.now.taken counted.now.limit }
-{
-    if counted.taken == counted.limit {
-        return TapeFault::Limit;
-    }
-    TapeFault::Bad {
-        reason: TapeReason::Cut,
-        place: counted.taken,
-    }
-}
-
-/// What a tape answers of which so many octets of a head were the last to be taken, and no field in them is wrong.
-fn stopped(counted: &Counted, count: usize) -> Result<Option<TapeItem>, TapeFault>
-    ensures { result ≡ short_answer counted.now.taken counted.now.limit count }
-{
-    if count == 0 && counted.taken != counted.limit {
-        return Ok(None);
-    }
-    Err(short(counted))
-}
-
-/// What `next` does to the fields of a tape.
-fn next_record<F: Files>(
-    counted: &mut Counted,
-    end: &mut Option<Ended>,
-    files: &mut F,
-    config: &Config,
-    into: &mut [u8],
-) -> Result<Option<TapeItem>, TapeFault>
-    requires room { longest_payload ≤ length into.old }
-    requires none { counted.old.back ≡ [] }
-    ensures none { counted.new.back ≡ [] }
-    ensures later { F.faults files.old ≤ F.faults files.new }
-    ensures read { end.old ≡ None → IsErrOf result TapeFault.Read → Rose (F.faults files.old) (F.faults files.new) }
-    ensures slot { counted.new.slot ≡ counted.old.slot }
-    ensures limit { counted.new.limit ≡ counted.old.limit }
-    ensures again { IfSome end.old (λ ended. result ≡ answer_of ended) }
-    ensures stays { IsSome end.old → (counted.new ≡ counted.old) × (end.new ≡ end.old) }
-    ensures unread { IsSome end.old → files.new ≡ files.old }
-    ensures ended { end.new ≡ ended_after result }
-    ensures grows { Grows counted.old.taken counted.new.taken counted.new.limit result }
-    ensures known { IfOk result (λ found. IfSome found (IsItem config.now)) }
-
-    ensures advances { IsTrue F.tells
-        → end.old ≡ None
-        → Advances
-        (items_to_come config.now counted.old.limit counted.old.taken (F.left files.old counted.old.slot))
-        (items_to_come config.now counted.new.limit counted.new.taken (F.left files.new counted.old.slot))
-        into.new
-        result }
-    ensures others { OnlySlot F.tells F.left F.holds counted.old.slot files.old files.new }
-{
-    if let Some(ended) = *end {
-        return answer(ended);
-    }
-    let found = advance(counted, files, config, into);
-    *end = ended_by(&found);
-    found
-}
-
-/// What a tape that ended answers.
-fn answer(ended: Ended) -> Result<Option<TapeItem>, TapeFault>
-    ensures { result ≡ answer_of ended }
-{
-    match ended {
-        Ended::Done => Ok(None),
-        Ended::Fault(fault) => Err(fault),
-    }
-}
-
-/// How a tape stands ended behind an answer.
-fn ended_by(found: &Result<Option<TapeItem>, TapeFault>) -> Option<Ended>
-    ensures { result ≡ ended_after found.now }
-{
-    match found {
-        Ok(Some(_)) => None,
-        Ok(None) => Some(Ended::Done),
-        Err(fault) => Some(Ended::Fault(*fault)),
-    }
-}
-
-/// Reads one record of a tape that hasn't ended.
-fn advance<F: Files>(
-    counted: &mut Counted,
-    files: &mut F,
-    config: &Config,
-    into: &mut [u8],
-) -> Result<Option<TapeItem>, TapeFault>
-    requires room { longest_payload ≤ length into.old }
-    requires none { counted.old.back ≡ [] }
-    ensures none { counted.new.back ≡ [] }
-    ensures later { F.faults files.old ≤ F.faults files.new }
-    ensures read { IsErrOf result TapeFault.Read → Rose (F.faults files.old) (F.faults files.new) }
-    ensures slot { counted.new.slot ≡ counted.old.slot }
-    ensures limit { counted.new.limit ≡ counted.old.limit }
-    ensures grows { Grows counted.old.taken counted.new.taken counted.new.limit result }
-    ensures known { IfOk result (λ found. IfSome found (IsItem config.now)) }
-
-    ensures advances { IsTrue F.tells
-        → Advances
-        (items_to_come config.now counted.old.limit counted.old.taken (F.left files.old counted.old.slot))
-        (items_to_come config.now counted.new.limit counted.new.taken (F.left files.new counted.old.slot))
-        into.new
-        result }
-    ensures others { OnlySlot F.tells F.left F.holds counted.old.slot files.old files.new }
-{
-    let mut head = [0u8; HEAD];
-    let Ok(count) = fill(counted, files, &mut head) else {
-        return Err(TapeFault::Read);
-    };
-    let place = counted.taken - count as u64;
-    match read_head(config, &head[..count]) {
-        Header::Wrong { reason, offset } => Err(TapeFault::Bad {
-            reason,
-            place: place + offset as u64,
-        }),
-        Header::Partial => stopped(counted, count),
-        Header::Whole { kind, peer, size } => {
-            let Ok(count) = fill(counted, files, &mut into[..size]) else {
-                return Err(TapeFault::Read);
-            };
-            if count < size {
-                return Err(short(counted));
+        let standing = Standing {
+            config,
+            version: self.version,
+            moment: self.moment,
+        };
+        match next_record(&standing, &mut self.counted, &mut self.end, files, into) {
+            Ok(Some(found)) => {
+                self.moment = found.said.moment;
+                Ok(Some(item(found.said, found.size)))
             }
-            Ok(Some(item(kind, peer, size)))
+            Ok(None) => Ok(None),
+            Err(fault) => Err(fault),
         }
     }
 }
 
-fn item(kind: Kind, peer: u16, size: usize) -> TapeItem
-    ensures told { Tells (record { kind = kind; peer = peer }) size result }
-    ensures known { (config : Config) → IsSome (peer_of peer config.peers) → size ≤ longest_payload → IsItem config result }
+fn item(said: Said, size: usize) -> TapeItem
+    ensures told { Tells said size result }
+    ensures known { (config : Config) → IsSome (peer_of said.peer config.peers) → size ≤ longest_payload → IsItem config result }
 {
-    match kind {
-        Kind::Up => TapeItem::Up(peer),
-        Kind::Received => TapeItem::Octets(peer, size),
-        Kind::Lost => TapeItem::Lost(peer),
+    match said.kind {
+        Kind::Up => TapeItem::Up(said.peer),
+        Kind::Received => TapeItem::Octets(said.peer, size),
+        Kind::Lost => TapeItem::Lost(said.peer),
     }
 }

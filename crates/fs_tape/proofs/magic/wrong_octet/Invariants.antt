@@ -4,4 +4,4 @@ use Rattle.fs_tape.proofs.magic.wrong_octet.Given as goal
 
 abbrev pub invariant-loop-place : goal.invariant-loop-place
 invariant-loop-place l =
-    difference_from 0 l.octet-items l.front ≡ difference_from l.place (drop l.place l.octet-items) (drop l.place l.front)
+    difference_from 0 l.magic l.front ≡ difference_from l.place (drop l.place l.magic) (drop l.place l.front)

@@ -1,28 +1,24 @@
-use Rattle.std.proofs.Common.{rules, arith, ◌<◌, ◌≤◌}
-use Rattle.std.proofs.lemmas.List.{length-take}
+use Rattle.std.proofs.Common.{rules}
 use Rattle.fs_base.proofs.Filled.{fills_straight}
+use Rattle.fs_records.proofs.Fronts.{opens, opens_not, opens_so}
+use Rattle.fs_pcap.specs.Header.{header_of}
+use Rattle.fs_pcap.specs.declared.header.Heading.{Heading}
 use Rattle.fs_pcap.specs.Capture.{CaptureState}
-use Rattle.fs_pcap.proofs.Opening.{opens_with, opens_short, opens_behind}
+use Rattle.fs_pcap.specs.declared.fault.CaptureReason.TheVariants.{Cut}
 use Rattle.fs_pcap.proofs.capture.Capture.begin.Goals as goal
 
-pub returns-in-Wrong-clause-opens : goal.returns-in-Wrong-clause-opens
-returns-in-Wrong-clause-opens g c = λ told.
-    opens_with c.args.counted.limit c.args.counted.taken _ _ c.fill.new.into c.in-Ok.count _ c.requires.start (fills_straight _ _ _ _ _ _ _ _ c.requires.none c.in-Ok.ensures.back (c.in-Ok.ensures.filled told))
-    (search rules) c.in-Wrong.ensures.exact
+pub returns-in-Err-clause-opens : goal.returns-in-Err-clause-opens
+returns-in-Err-clause-opens g c = λ told.
+    let filled = fills_straight _ _ _ _ _ _ _ _ c.requires.none c.in-Ok.ensures.back (c.in-Ok.ensures.filled told) in
+    opens_not (λ (capture : CaptureState). capture.heading) _ _ _ _ c.in-Err.fault
+    (opens 24 header_of Cut c.args.counted.limit c.args.counted.taken _ _ c.fill.new.into c.in-Ok.count c.fill.new.counted.taken _
+    c.requires.start filled (search rules) c.read_header.ensures.exact (search rules) c.in-Ok.ensures.taken)
+    (search rules)
 
-pub returns-in-Partial-clause-opens : goal.returns-in-Partial-clause-opens
-returns-in-Partial-clause-opens g c = λ told.
-    let short : c.in-Ok.count < 24 = omega (arith, c.in-Partial.ensures.within, c.in-Ok.ensures.bound, length-take c.in-Ok.count c.fill.new.into) in
-    rw (c.short.ensures, c.in-Ok.ensures.kept_limit)
-    (opens_short (λ (capture : CaptureState). capture.heading) c.args.counted.limit c.args.counted.taken (g.F.Files.left c.args.files.now c.args.counted.slot) _
-    (g.F.Files.left c.fill.new.files c.args.counted.slot) c.fill.new.into c.in-Ok.count
-    c.fill.new.counted.taken c.requires.start (fills_straight _ _ _ _ _ _ _ _ c.requires.none c.in-Ok.ensures.back (c.in-Ok.ensures.filled told)) (search rules) c.in-Partial.ensures.exact short
-    c.in-Ok.ensures.taken)
-
-pub returns-in-Whole-clause-opens : goal.returns-in-Whole-clause-opens
-returns-in-Whole-clause-opens g c = λ told.
-    let all : 24 ≤ c.in-Ok.count = omega (arith, c.in-Whole.ensures.within, length-take c.in-Ok.count c.fill.new.into) in (
-      opens_with c.args.counted.limit c.args.counted.taken _ _ c.fill.new.into c.in-Ok.count _ c.requires.start (fills_straight _ _ _ _ _ _ _ _ c.requires.none c.in-Ok.ensures.back (c.in-Ok.ensures.filled told))
-          (search rules) c.in-Whole.ensures.exact,
-      opens_behind c.args.counted.limit c.args.counted.taken _ _ c.fill.new.into c.in-Ok.count (fills_straight _ _ _ _ _ _ _ _ c.requires.none c.in-Ok.ensures.back (c.in-Ok.ensures.filled told)) (search rules) all,
-    )
+pub returns-in-Ok-opened-clause-opens : goal.returns-in-Ok-opened-clause-opens
+returns-in-Ok-opened-clause-opens g c = λ told.
+    let filled = fills_straight _ _ _ _ _ _ _ _ c.requires.none c.in-Ok.ensures.back (c.in-Ok.ensures.filled told) in
+    opens_so (λ (heading : Heading). heading) _ _ _ _ c.in-Ok-opened.heading
+    (opens 24 header_of Cut c.args.counted.limit c.args.counted.taken _ _ c.fill.new.into c.in-Ok.count c.fill.new.counted.taken _
+    c.requires.start filled (search rules) c.read_header.ensures.exact (search rules) c.in-Ok.ensures.taken)
+    (search rules)

@@ -1,0 +1,215 @@
+-- What a whole head says, exactly where its octets are its text.
+use Rattle.std.proofs.Common.{◌≡◌, ℕ, List, [], ◌∷◌, ◌++◌, Option, Some, None, Bool, true, false, ◌<◌, ◌≤◌, ◌+◌, ◌^◌, ◌==◌, length, drop, refl, ap, sym, subst, ◌∙◌, arith, take-append-drop, eqb-true}
+use Rattle.std.specs.Prelude.{IsSome, is_none, nat_lt, if◌then◌else◌}
+use Rattle.std.proofs.lemmas.List.{length-drop}
+use Rattle.std.proofs.lemmas.Bool.Decides.{nat_tests}
+use Rattle.std.proofs.lemmas.Grind.{common_steps}
+use Rattle.byteorder.specs.Endian.{big_bytes, big_number}
+use Rattle.byteorder.specs.Numbers.{big_number-reads_back}
+use Rattle.fs_base.specs.Language.{IsOctets}
+use Rattle.fs_base.specs.Config.{peer_of}
+use Rattle.fs_base.specs.declared.config.Config.{Config}
+use Rattle.fs_base.proofs.Digits.{big_below, big_written}
+use Rattle.fs_base.proofs.Octets.{octets_drop, octets_tail}
+use Rattle.fs_records.specs.declared.head.Head.TheVariants.{Whole, Wrong, Partial}
+use Rattle.fs_tape.specs.declared.fault.TapeReason.TheVariants.{Kind, Peer, Length, Moment}
+use Rattle.fs_tape.specs.declared.header.Said.{Said}
+use Rattle.fs_tape.specs.declared.item.Kind.{Kind as RecordKind}
+use Rattle.fs_tape.specs.declared.item.Kind.TheVariants.{Up, Received, Lost}
+use Rattle.fs_tape.specs.declared.magic.Version.{Version}
+use Rattle.fs_tape.specs.declared.magic.Version.TheVariants.{One, Two}
+use Rattle.fs_tape.specs.Header.{IsTimed, allows, behind_peer, head_from, head_size, kind_of, peer_field, size_field}
+use Rattle.fs_tape.specs.Laws.{IsNumbered, moment_text}
+
+abbrev pub said : RecordKind → ℕ → ℕ → Said
+said kind peer moment = record { kind = kind; peer = peer; moment = moment }
+
+-- what is written of a head is read back as it
+
+known : {A : Type 0} (o : Option A) → IsSome o → is_none o ≡ false
+known None h = cc
+known (Some x) h = refl
+
+abbrev pub head_text : Version → (octet peer moment size : ℕ) → List ℕ
+head_text version octet peer moment size =
+    octet ∷ (big_bytes 2 peer ++ (moment_text version moment ++ big_bytes 4 size))
+
+pub head_read : (config : Config) (version : Version) (last octet : ℕ) (kind : RecordKind) (peer moment size : ℕ) → kind_of octet ≡ Some kind
+    → IsNumbered config peer → size ≤ 65536 → allows kind size ≡ true → moment < 2 ^ 64 → IsTimed version last moment
+    → head_from config version last (head_text version octet peer moment size) ≡ Whole (said kind peer moment) size
+head_read config One last octet kind peer moment size k numbered small allowed room timed =
+    let p : big_number 2 (big_bytes 2 peer ++ big_bytes 4 size) ≡ peer = big_number-reads_back 2 peer (big_bytes 4 size) numbered.0 in
+    let s : big_number 4 (big_bytes 4 size ++ []) ≡ size = big_number-reads_back 4 size [] (omega arith) in
+    let there : is_none (peer_of peer config.peers) ≡ false = known (peer_of peer config.peers) numbered.1 in
+    rw (k, head_from, p, there, s, allowed) (ap (λ m. Whole (said kind peer m) size) (sym timed))
+head_read config Two last octet kind peer moment size k numbered small allowed room timed =
+    let p : big_number 2 (big_bytes 2 peer ++ (big_bytes 8 moment ++ big_bytes 4 size)) ≡ peer =
+    big_number-reads_back 2 peer (big_bytes 8 moment ++ big_bytes 4 size) numbered.0 in
+    let m : big_number 8 (big_bytes 8 moment ++ big_bytes 4 size) ≡ moment = big_number-reads_back 8 moment (big_bytes 4 size) room in
+    let s : big_number 4 (big_bytes 4 size ++ []) ≡ size = big_number-reads_back 4 size [] (omega arith) in
+    let there : is_none (peer_of peer config.peers) ≡ false = known (peer_of peer config.peers) numbered.1 in
+    let after : nat_lt moment last ≡ false = grind (arith, nat_tests) in
+    rw (k, head_from, p, there, m, after, s, allowed) refl
+
+-- a head that is read was written so
+
+abbrev pub octet_of : RecordKind → ℕ
+octet_of Up = 1
+octet_of Received = 2
+octet_of Lost = 3
+
+kind_octet : (octet : ℕ) (kind : RecordKind) → kind_of octet ≡ Some kind → octet ≡ octet_of kind
+kind_octet octet kind h = by (octet == 1) (octet == 2) (octet == 3) (eqb-true octet 1) (eqb-true octet 2) (eqb-true octet 3) h
+  where
+    by : (a b c : Bool) → (a ≡ true → octet ≡ 1) → (b ≡ true → octet ≡ 2) → (c ≡ true → octet ≡ 3)
+        → (if a then Some Up else if b then Some Received else if c then Some Lost else None) ≡ Some kind → octet ≡ octet_of kind
+    by true b c one two three e = let k : Up ≡ kind = cc in one refl ∙ ap octet_of k
+    by false true c one two three e = let k : Received ≡ kind = cc in two refl ∙ ap octet_of k
+    by false false true one two three e = let k : Lost ≡ kind = cc in three refl ∙ ap octet_of k
+    by false false false one two three e = cc
+
+-- the octets of a number, and what follows them
+number_written : (n : ℕ) (octets : List ℕ) → n ≤ length octets → IsOctets octets
+    → octets ≡ big_bytes n (big_number n octets) ++ drop n octets
+number_written n octets held are =
+    sym (take-append-drop n octets) ∙ ap (λ front. front ++ drop n octets) (big_written n octets held are)
+
+nothing : (octets : List ℕ) → length octets ≡ 0 → octets ≡ []
+nothing octets none = grind (arith, common_steps)
+
+-- the octets of a head's last fields, from the length on
+record IsSized (kind : RecordKind) (peer moment : ℕ) (octets : List ℕ) (told : Said) (size : ℕ) : Type 0 where
+  pub is : told ≡ said kind peer moment
+  pub text : octets ≡ big_bytes 4 size
+  pub allowed : allows kind size ≡ true
+
+size_told : (place : ℕ) (kind : RecordKind) (peer moment : ℕ) (octets : List ℕ) (told : Said) (size : ℕ)
+    → size_field place kind peer moment octets ≡ Whole told size → length octets ≡ 4 → IsOctets octets
+    → IsSized kind peer moment octets told size
+size_told place kind peer moment octets told size h four are =
+    by (nat_lt (length octets) 4) (allows kind (big_number 4 octets)) refl h
+  where
+    by : (short allowed : Bool) → allows kind (big_number 4 octets) ≡ allowed
+        → (if short then Partial else if allowed then Whole (said kind peer moment) (big_number 4 octets) else Wrong Length place)
+        ≡ Whole told size
+        → IsSized kind peer moment octets told size
+    by true allowed a e = cc
+    by false false a e = cc
+    by false true a e =
+        let same : big_number 4 octets ≡ size = cc in
+        let none : drop 4 octets ≡ [] = nothing (drop 4 octets) (omega (arith, length-drop 4 octets)) in
+        record {
+          is = (cc);
+          text = number_written 4 octets (omega arith) are ∙ ap (λ rest. big_bytes 4 (big_number 4 octets) ++ rest) none ∙ ap (big_bytes 4) same;
+          allowed = ap (allows kind) (sym same) ∙ a;
+        }
+
+-- those behind the peer's number
+record IsBehind (version : Version) (last : ℕ) (kind : RecordKind) (peer : ℕ) (octets : List ℕ) (told : Said) (size : ℕ) : Type 0 where
+  pub is : told ≡ said kind peer told.moment
+  pub text : octets ≡ moment_text version told.moment ++ big_bytes 4 size
+  pub allowed : allows kind size ≡ true
+  pub room : told.moment < 2 ^ 64
+  pub timed : IsTimed version last told.moment
+
+with_moment : (version : Version) (last : ℕ) (kind : RecordKind) (peer moment : ℕ) (octets rest : List ℕ) (told : Said) (size : ℕ)
+    → IsSized kind peer moment rest told size → octets ≡ moment_text version moment ++ rest → moment < 2 ^ 64 → IsTimed version last moment
+    → IsBehind version last kind peer octets told size
+with_moment version last kind peer moment octets rest told size sized text room timed =
+    let same : moment ≡ told.moment = sym (ap (λ (s : Said). s.moment) sized.is) in
+    record {
+      is = sized.is ∙ ap (said kind peer) same;
+      text = text ∙ ap (λ more. moment_text version moment ++ more) sized.text ∙ ap (λ m. moment_text version m ++ big_bytes 4 size) same;
+      allowed = sized.allowed;
+      room = subst (λ m. m < 2 ^ 64) same room;
+      timed = subst (IsTimed version last) same timed;
+    }
+
+behind_told : (version : Version) (last : ℕ) (kind : RecordKind) (peer : ℕ) (octets : List ℕ) (told : Said) (size : ℕ)
+    → behind_peer version last kind peer octets ≡ Whole told size → 3 + length octets ≡ head_size version → IsOctets octets
+    → IsBehind version last kind peer octets told size
+behind_told One last kind peer octets told size h count are =
+    with_moment One last kind peer 0 octets octets told size (size_told 3 kind peer 0 octets told size h (omega arith) are) refl (omega arith) refl
+behind_told Two last kind peer octets told size h count are =
+    by (nat_lt (length octets) 8) (nat_lt (big_number 8 octets) last) refl h
+  where
+    by : (short before : Bool) → nat_lt (big_number 8 octets) last ≡ before
+        → (if short then Partial else if before then Wrong Moment 3 else size_field 11 kind peer (big_number 8 octets) (drop 8 octets))
+        ≡ Whole told size
+        → IsBehind Two last kind peer octets told size
+    by true before b e = cc
+    by false true b e = cc
+    by false false b e =
+        let four : length (drop 8 octets) ≡ 4 = omega (arith, length-drop 8 octets) in
+        with_moment Two last kind peer (big_number 8 octets) octets (drop 8 octets) told size
+        (size_told 11 kind peer (big_number 8 octets) (drop 8 octets) told size e four (octets_drop 8 octets are))
+        (number_written 8 octets (omega arith) are) (big_below 8 octets are) (grind (arith, nat_tests))
+
+some_of : {A : Type 0} (o : Option A) → is_none o ≡ false → IsSome o
+some_of None h = cc
+some_of (Some x) h = refl
+
+-- all of a head's octets
+pub record IsHeadOf (config : Config) (version : Version) (last : ℕ) (octets : List ℕ) (told : Said) (size : ℕ) : Type 0 where
+  pub text : octets ≡ head_text version (octet_of told.kind) told.peer told.moment size
+  pub allowed : allows told.kind size ≡ true
+  pub numbered : IsNumbered config told.peer
+  pub room : told.moment < 2 ^ 64
+  pub timed : IsTimed version last told.moment
+
+with_peer : (config : Config) (version : Version) (last octet : ℕ) (kind : RecordKind) (peer : ℕ) (octets rest : List ℕ) (told : Said) (size : ℕ)
+    → octet ≡ octet_of kind → octets ≡ big_bytes 2 peer ++ rest → IsNumbered config peer → IsBehind version last kind peer rest told size
+    → IsHeadOf config version last (octet ∷ octets) told size
+with_peer config version last octet kind peer octets rest told size first text numbered behind =
+    let kind_is : kind ≡ told.kind = sym (ap (λ (s : Said). s.kind) behind.is) in
+    let peer_is : peer ≡ told.peer = sym (ap (λ (s : Said). s.peer) behind.is) in
+    record {
+      text =
+          ap (λ o. o ∷ octets) (first ∙ ap octet_of kind_is)
+          ∙ ap (λ more. octet_of told.kind ∷ more) (text ∙ ap (λ more. big_bytes 2 peer ++ more) behind.text)
+          ∙ ap (λ p. head_text version (octet_of told.kind) p told.moment size) peer_is;
+      allowed = subst (λ k. allows k size ≡ true) kind_is behind.allowed;
+      numbered = subst (IsNumbered config) peer_is numbered;
+      room = behind.room;
+      timed = behind.timed;
+    }
+
+peer_told : (config : Config) (version : Version) (last octet : ℕ) (kind : RecordKind) (octets : List ℕ) (told : Said) (size : ℕ)
+    → octet ≡ octet_of kind → peer_field config version last kind octets ≡ Whole told size → 1 + length octets ≡ head_size version
+    → IsOctets octets → IsHeadOf config version last (octet ∷ octets) told size
+peer_told config version last octet kind octets told size first h count are =
+    by (nat_lt (length octets) 2) (is_none (peer_of (big_number 2 octets) config.peers)) refl h
+  where
+    held : (v : Version) → 1 + length octets ≡ head_size v → 2 ≤ length octets
+    held One c = omega arith
+    held Two c = omega arith
+
+    by : (short unknown : Bool) → is_none (peer_of (big_number 2 octets) config.peers) ≡ unknown
+        → (if short then Partial
+        else if unknown then Wrong Peer 1
+        else behind_peer version last kind (big_number 2 octets) (drop 2 octets))
+        ≡ Whole told size
+        → IsHeadOf config version last (octet ∷ octets) told size
+    by true unknown u e = cc
+    by false true u e = cc
+    by false false u e =
+        let two : 2 ≤ length octets = held version count in
+        let behind = behind_told version last kind (big_number 2 octets) (drop 2 octets) told size e
+        (omega (arith, count, two, length-drop 2 octets)) (octets_drop 2 octets are) in
+        with_peer config version last octet kind (big_number 2 octets) octets (drop 2 octets) told size first
+        (number_written 2 octets two are) (big_below 2 octets are, some_of (peer_of (big_number 2 octets) config.peers) u) behind
+
+by_kind : (config : Config) (version : Version) (last octet : ℕ) (octets : List ℕ) (kind : Option RecordKind) (told : Said) (size : ℕ)
+    → kind_of octet ≡ kind → head_from config version last (octet ∷ octets) ≡ Whole told size → 1 + length octets ≡ head_size version
+    → IsOctets octets → IsHeadOf config version last (octet ∷ octets) told size
+by_kind config version last octet octets None told size k h count are =
+    absurd (let no : Wrong Kind 0 ≡ Whole told size = rw (k, head_from) at h in cc)
+by_kind config version last octet octets (Some kind) told size k h count are =
+    peer_told config version last octet kind octets told size (kind_octet octet kind k) (rw (k, head_from) at h) count are
+
+pub head_told : (config : Config) (version : Version) (last : ℕ) (octets : List ℕ) (told : Said) (size : ℕ)
+    → head_from config version last octets ≡ Whole told size → length octets ≡ head_size version → IsOctets octets
+    → IsHeadOf config version last octets told size
+head_told config version last [] told size h count are = cc
+head_told config version last (octet ∷ octets) told size h count are =
+    by_kind config version last octet octets (kind_of octet) told size refl h (omega (arith, count)) (octets_tail octet octets are)
