@@ -10,7 +10,7 @@ use Rattle.fs_base.specs.Bits.{cleared}
 use Rattle.fs_base.specs.Bits.{IsBlock, block_of}
 use Rattle.fs_nlri.specs.Parts.{V4Body, V6Body}
 use Rattle.fs_nlri.specs.Sound.{IsSoundBody}
-use Rattle.fs_packet.specs.Matches.{is_prefix_of}
+use Rattle.fs_packet.specs.Matching.{is_prefix_of}
 use Rattle.fs_compile.specs.declared.pattern.Pattern.{Pattern}
 use Rattle.fs_compile.specs.Facts.{IsSmallAddress, address_number}
 use Rattle.fs_compile.specs.Tests.{IsPatternOf, is_under}

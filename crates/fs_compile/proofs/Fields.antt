@@ -5,7 +5,7 @@ use Rattle.std.proofs.lemmas.Bool.{le-leb, leb-true, lt-leb}
 use Rattle.fs_base.specs.declared.error.Memory.{Memory}
 use Rattle.fs_nlri.specs.Parts.{ListBody, part}
 use Rattle.fs_packet.specs.Fields.{Viewed}
-use Rattle.fs_packet.specs.Matches.{holds_of, list_matches}
+use Rattle.fs_packet.specs.Matching.{holds_of, list_matches}
 use Rattle.fs_compile.specs.declared.numbers.Numbers.{Numbers}
 use Rattle.fs_compile.specs.declared.numbers.Numbers.TheVariants.{Ranges, Pairs}
 use Rattle.fs_compile.specs.declared.tests.Test.{Test}

@@ -6,7 +6,7 @@ use Rattle.std.proofs.lemmas.List.{drop-map, get_or_past}
 use Rattle.std.proofs.lemmas.List.Sums.{sum_by-cons}
 use Rattle.fs_base.specs.declared.prefix.Family.{Family}
 use Rattle.fs_packet.specs.Fields.{Viewed, family_of}
-use Rattle.fs_packet.specs.Matches.{is_match}
+use Rattle.fs_packet.specs.Matching.{is_match}
 use Rattle.fs_rules.specs.Lent.{Listed}
 use Rattle.fs_rules.specs.Walk.{first_from}
 use Rattle.fs_compile.specs.declared.buckets.Buckets.{Buckets}

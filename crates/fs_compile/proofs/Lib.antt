@@ -1,11 +1,10 @@
 pub mod Blocks
-pub mod Calm
 pub mod Enclosing
 pub mod Fields
-pub mod Growing
+pub mod Gapping
+pub mod Grouping
 pub mod Placing
 pub mod Standing
-pub mod Stretches
 pub mod Truths
 pub mod Counts
 pub mod Climbing

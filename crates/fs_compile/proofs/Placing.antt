@@ -9,7 +9,7 @@ use Rattle.fs_nlri.specs.declared.component.Component.{Component}
 use Rattle.fs_nlri.specs.Component.{part_of, parts_of}
 use Rattle.fs_nlri.specs.Sound.{AreSound}
 use Rattle.fs_packet.specs.Fields.{Viewed}
-use Rattle.fs_packet.specs.Matches.{part_matches}
+use Rattle.fs_packet.specs.Matching.{part_matches}
 use Rattle.fs_compile.specs.declared.facts.Facts.{Facts}
 use Rattle.fs_compile.specs.declared.ranges.Range.{Range}
 use Rattle.fs_compile.specs.declared.ranges.Ranges.{Ranges}

@@ -17,7 +17,7 @@ use Rattle.fs_nlri.specs.Rule.{IsRule, IsNormalAt, AreNormal, destination_body, 
 use Rattle.fs_nlri.proofs.Destination.{IsMade, destination_first, made_parts}
 use Rattle.fs_order.specs.Laws.{last_shown}
 use Rattle.fs_packet.specs.Fields.{Viewed, family_of}
-use Rattle.fs_packet.specs.Matches.{is_match, is_prefix_of, body_matches, part_matches}
+use Rattle.fs_packet.specs.Matching.{is_match, is_prefix_of, body_matches, part_matches}
 use Rattle.fs_compile.specs.Facts.{IsSmallAddress}
 use Rattle.fs_compile.specs.Index.{span_by, span_of}
 use Rattle.fs_compile.specs.Reach.{number_of, covers_address, reaches}

@@ -11,7 +11,7 @@ use Rattle.fs_ops.specs.Evaluation.{holds, masks}
 use Rattle.fs_nlri.specs.Parts.{ListBody, V4Body, V6Body, part}
 use Rattle.fs_nlri.specs.Sound.{IsSoundBody}
 use Rattle.fs_nlri.specs.Spelling.{IsRange}
-use Rattle.fs_packet.specs.Matches.{flags_hold}
+use Rattle.fs_packet.specs.Matching.{flags_hold}
 use Rattle.fs_packet.proofs.Flags.{flags_same, sound_is_wide}
 use Rattle.fs_compile.specs.declared.numbers.Numbers.{Numbers}
 use Rattle.fs_compile.specs.declared.pattern.Pattern.{Pattern}

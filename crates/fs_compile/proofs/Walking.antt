@@ -2,7 +2,7 @@
 use Rattle.std.proofs.Common.{◌≡◌, ℕ, ◌+◌, ◌<◌, List, [], ◌∷◌, Bool, true, false, Some, if◌then◌else◌, length, drop, get_or, refl, ap, ◌∙◌, arith, add-one, drop-cons}
 use Rattle.std.proofs.lemmas.Grind.{common_steps}
 use Rattle.fs_packet.specs.Fields.{Viewed}
-use Rattle.fs_packet.specs.Matches.{is_match}
+use Rattle.fs_packet.specs.Matching.{is_match}
 use Rattle.fs_rules.specs.Lent.{Listed}
 use Rattle.fs_rules.specs.Walk.{first_from, goes_on, walk_from}
 use Rattle.fs_compile.specs.Matcher.{WalksByNext, WalksOn}

@@ -4,7 +4,7 @@ use Rattle.std.specs.List.{list_all}
 use Rattle.fs_base.specs.Bits.{afi_of}
 use Rattle.fs_nlri.specs.Parts.{Part, Ruled}
 use Rattle.fs_packet.specs.Fields.{Viewed}
-use Rattle.fs_packet.specs.Matches.{is_match, part_matches}
+use Rattle.fs_packet.specs.Matching.{is_match, part_matches}
 use Rattle.fs_compile.specs.declared.facts.Facts.{Facts}
 use Rattle.fs_compile.specs.declared.fast.Fast.{Fast}
 use Rattle.fs_compile.specs.declared.ranges.Ranges.{Ranges}

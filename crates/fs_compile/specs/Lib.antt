@@ -3,6 +3,8 @@ pub mod Fast
 pub mod Numbers
 pub mod Ranges
 pub mod Spans
+pub mod Gaps
+pub mod Groups
 pub mod Tests
 pub mod Addresses
 pub mod Buckets

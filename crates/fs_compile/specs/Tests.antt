@@ -5,7 +5,7 @@ use Rattle.fs_base.specs.declared.config.Address.TheVariants.{V4, V6}
 use Rattle.fs_ops.specs.Evaluation.{holds, masks}
 use Rattle.fs_nlri.specs.Parts.{Part}
 use Rattle.fs_packet.specs.Fields.{Viewed}
-use Rattle.fs_packet.specs.Matches.{holds_of, part_matches}
+use Rattle.fs_packet.specs.Matching.{holds_of, part_matches}
 use Rattle.fs_compile.specs.declared.facts.Facts.{Facts}
 use Rattle.fs_compile.specs.declared.pattern.Pattern.{Pattern}
 use Rattle.fs_compile.specs.declared.ranges.Range.{Range}

@@ -24,6 +24,7 @@ impl Addresses {
         }
     }
 
+    #[inline(always)]
     pub(crate) fn len(&self) -> usize
         ensures { result ≡ length (numbers_in self.now) }
     {
@@ -33,6 +34,7 @@ impl Addresses {
         }
     }
 
+    #[inline(always)]
     pub(crate) fn at(&self, place: usize) -> u128
         requires { place < length (numbers_in self.now) }
         ensures { result ≡ get_or (numbers_in self.now) place 0 }
@@ -75,6 +77,29 @@ impl Addresses {
 }
 
 fn find_narrow(items: &[u32], address: u128) -> usize
+    requires { AreRising items.now }
+    ensures within { result ≤ length items.now }
+    ensures below { (b : ℕ) → b < result → get_or items.now b 0 < address }
+    ensures from { (b : ℕ) → result ≤ b → b < length items.now → address ≤ get_or items.now b 0 }
+{
+    match u32::try_from(address) {
+        Ok(address) => find_in_width(items, address),
+        Err(_) => find_widened(items, address),
+    }
+}
+
+/// The place among addresses of IPv4 of one of them: it is compared in its own 32 bits.
+fn find_in_width(items: &[u32], address: u32) -> usize
+    requires { AreRising items.now }
+    ensures within { result ≤ length items.now }
+    ensures below { (b : ℕ) → b < result → get_or items.now b 0 < address }
+    ensures from { (b : ℕ) → result ≤ b → b < length items.now → address ≤ get_or items.now b 0 }
+{
+    items.partition_point(|item| *item < address)
+}
+
+/// The place among addresses of IPv4 of a number that may have more bits.
+fn find_widened(items: &[u32], address: u128) -> usize
     requires { AreRising items.now }
     ensures within { result ≤ length items.now }
     ensures below { (b : ℕ) → b < result → get_or items.now b 0 < address }

@@ -24,6 +24,7 @@ pub(crate) struct Facts {
 
 impl Facts {
     /// Reads them.
+    #[inline(always)]
     pub(crate) fn of(view: &View<'_>) -> Facts
         ensures { AreFacts view.now result }
     {

@@ -5,7 +5,7 @@ ghost use Rattle.std.specs.List.{list_all};
 ghost use Rattle.fs_nlri.specs.Component.{parts_of};
 ghost use Rattle.fs_nlri.specs.Parts.{Ruled};
 ghost use Rattle.fs_nlri.specs.Sound.{AreSound};
-ghost use Rattle.fs_packet.specs.Matches.{is_match};
+ghost use Rattle.fs_packet.specs.Matching.{is_match};
 ghost use Rattle.fs_compile.specs.Facts.{AreFacts, IsSmall};
 ghost use Rattle.fs_compile.specs.Fast.{AreFree, AreTestsOf, IsPlaced, StandsFor, fast_holds, holds_of_facts};
 ghost use Rattle.fs_compile.specs.Tests.{passes};
@@ -52,6 +52,7 @@ impl Fast {
     }
 
     /// The same over the packet's fields, so that they are read once for all rules.
+    #[inline(always)]
     pub(crate) fn test_facts<L: Ledger>(
         &self,
         _view: &View<'_>,

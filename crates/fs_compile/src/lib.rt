@@ -8,6 +8,8 @@ mod compiled;
 mod components;
 mod facts;
 mod fast;
+mod gaps;
+mod groups;
 mod index;
 mod nodes;
 mod numbers;

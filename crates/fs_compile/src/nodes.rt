@@ -33,6 +33,7 @@ impl Nodes {
         }
     }
 
+    #[inline(always)]
     pub(crate) fn at(&self, place: usize) -> Node<u128>
         requires { place < length (nodes_in self.now) }
         ensures { result ≡ node_at (nodes_in self.now) place }

@@ -51,6 +51,7 @@ fn scan<L: Ledger>(
 }
 
 /// The first rule that matches of those in the bucket of the place, if that holds the address.
+#[inline(always)]
 fn scan_bucket<L: Ledger>(
     buckets: &Buckets,
     rules: &[Fast],
@@ -93,6 +94,7 @@ fn scan_bucket<L: Ledger>(
 
 /// The first rule that matches, from the place on: in the buckets that hold the address, then among the rules without a
 /// destination. As many steps at most as rules are in these.
+#[inline(always)]
 pub(crate) fn climb<L: Ledger>(
     buckets: &Buckets,
     rules: &[Fast],
@@ -142,6 +144,7 @@ pub(crate) fn climb<L: Ledger>(
 
 /// Where a search for an address begins, among all rules from a number on: at the first bucket that doesn't end below
 /// the address.
+#[inline(always)]
 fn place_from(buckets: &Buckets, address: u128, from: usize) -> Place
     requires { AreSound buckets.now (length buckets.now.homes.items) }
     ensures starts { Starts buckets.now result }
@@ -156,6 +159,7 @@ fn place_from(buckets: &Buckets, address: u128, from: usize) -> Place
 }
 
 /// Where a search for an address goes on behind a rule: in its bucket, unless that ends below the address.
+#[inline(always)]
 fn place_behind(buckets: &Buckets, address: u128, n: usize) -> Place
     requires sound { AreSound buckets.now (length buckets.now.homes.items) }
     requires fits { n + 1 < 2 ^ 64 }
@@ -181,6 +185,7 @@ fn place_behind(buckets: &Buckets, address: u128, n: usize) -> Place
     }
 }
 
+#[inline(always)]
 fn address_of(view: &View<'_>) -> u128
     ensures number { result ≡ number_of view.now.destination }
     ensures family { family_of view.now.destination ≡ view.now.family }
@@ -192,6 +197,7 @@ fn address_of(view: &View<'_>) -> u128
 }
 
 /// The first rule that matches the packet.
+#[inline(always)]
 pub(crate) fn search_first<L: Ledger>(
     buckets: &Buckets,
     rules: &[Fast],

@@ -1,18 +1,17 @@
 //! A list of numeric operators as the numbers that it holds of.
 
-ghost use Rattle.std.specs.Prelude.{◌≡◌, ◌↔◌, ℕ, ◌+◌, ◌^◌, ◌<◌, ◌≤◌, IsTrue, IfOk, IfSome, OnOk, true, length, get_or};
+ghost use Rattle.std.specs.Prelude.{◌≡◌, ◌↔◌, ℕ, ◌^◌, ◌<◌, IsTrue, IfOk};
 ghost use Rattle.std.specs.List.{list_all, list_any};
 ghost use Rattle.fs_ops.specs.Evaluation.{compares, holds};
-ghost use Rattle.fs_compile.specs.Spans.{IsCalm, begun_with, clipped, closed_with, contains, encloses, field_range};
+ghost use Rattle.fs_compile.specs.Spans.{AreApart, clipped, contains, encloses, field_range};
 
 use crate::facts::ABSENT;
+use crate::gaps::append_gaps;
+use crate::groups::append_groups;
 use fs_base::Memory;
 use fs_ops::NumList;
 use std::alloc::Global;
 use std::marker::Model;
-
-/// One more than the greatest number that a list can be asked for.
-const NUMBERS: u128 = 1 << 64;
 
 /// The numbers that a list holds of, as ranges from a first number to a last, in order, with a gap before each next.
 #[derive(Drop)]
@@ -38,18 +37,14 @@ impl Spans {
             → n < 2 ^ 64
             → contains spans n ≡ holds (compares n) list.now) }
     {
-        let mut ranges = Vec::new(alloc);
-        let mut begun = None;
-        let mut from = 0;
-        while from < NUMBERS {
-            let first = from as u64;
-            let now = list.eval(first);
-            close(&mut ranges, begun, from, now)?;
-            begun = begin(begun, first, now);
-            from = same_until(list.pairs(), first) as u128 + 1;
-        }
-        close(&mut ranges, begun, from, false)?;
-        Ok(Spans { ranges })
+        let mut missed = Vec::new(alloc);
+        let mut held = Vec::new(alloc);
+        append_groups(list.pairs(), &mut missed, &mut held)?;
+        missed.clear();
+        append_gaps(&mut held, &mut missed)?;
+        held.clear();
+        append_gaps(&mut missed, &mut held)?;
+        Ok(Spans { ranges: held })
     }
 
     /// Whether the list that these numbers are of holds of the number.
@@ -61,7 +56,8 @@ impl Spans {
 
     /// Whether each of these numbers is one of the others. Takes no memory.
     pub fn within(&self, other: &Spans) -> bool
-        ensures { IsTrue result ↔ ((n : ℕ) → IsTrue (contains self.now n) → IsTrue (contains other.now n)) }
+        ensures { IsTrue result
+            ↔ ((n : ℕ) → n < 2 ^ 64 → IsTrue (contains self.now n) → IsTrue (contains other.now n)) }
     {
         all_enclosed(&self.ranges, &other.ranges)
     }
@@ -102,6 +98,7 @@ fn any_contains(ranges: &[(u64, u64)], number: u64) -> bool
 }
 
 fn all_enclosed(ranges: &[(u64, u64)], others: &[(u64, u64)]) -> bool
+    requires { AreApart 0 others.now }
     ensures { result ≡ list_all (λ range. list_any (encloses range) others.now) ranges.now }
 {
     for &range in ranges {
@@ -112,59 +109,14 @@ fn all_enclosed(ranges: &[(u64, u64)], others: &[(u64, u64)]) -> bool
     true
 }
 
-/// Whether the range lies in one of the others.
+/// Whether the range lies in one of the others: in the first that doesn't end before it does.
 fn is_enclosed(range: (u64, u64), others: &[(u64, u64)]) -> bool
+    requires { AreApart 0 others.now }
     ensures { result ≡ list_any (encloses range) others.now }
 {
-    for &(first, last) in others {
-        if first <= range.0 && range.1 <= last {
-            return true;
-        }
+    let place = others.partition_point(|other| other.1 < range.1);
+    match others.get(place) {
+        Some(&(first, _)) => first <= range.0,
+        None => false,
     }
-    false
-}
-
-/// Ends the range that is begun, if the list doesn't hold of the number.
-fn close(
-    ranges: &mut Vec<(u64, u64)>,
-    begun: Option<u64>,
-    from: u128,
-    now: bool,
-) -> Result<(), Memory>
-    requires begun { IfSome begun (λ start. start < from) }
-    requires number { from ≤ 2 ^ 64 }
-    ensures { OnOk result (ranges.new.items ≡ closed_with ranges.old.items begun from now) }
-{
-    if let Some(start) = begun
-        && !now
-    {
-        ranges.push((start, (from - 1) as u64))?;
-    }
-    Ok(())
-}
-
-/// The first number of the range that is begun, once the list was asked for the number.
-fn begin(begun: Option<u64>, number: u64, now: bool) -> Option<u64>
-    ensures { result ≡ begun_with begun number now }
-{
-    if !now {
-        return None;
-    }
-    begun.or(Some(number))
-}
-
-/// A number, not below the given one, up to which the list says the same: no value stands between.
-fn same_until(pairs: &[(u8, u64)], number: u64) -> u64
-    ensures from { number ≤ result }
-    ensures calm { (k : ℕ) → k < length pairs.now → IsCalm number result (get_or pairs.now k (0, 0)) }
-{
-    let mut end = u64::MAX;
-    for &(_, value) in pairs {
-        if number < value {
-            end = end.min(value - 1);
-        } else if number == value {
-            end = number;
-        }
-    }
-    end
 }

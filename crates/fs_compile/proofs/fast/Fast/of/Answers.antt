@@ -1,7 +1,7 @@
 use Rattle.std.proofs.Common.{◌∙◌, ◌&&◌, ◌==◌, ap}
 use Rattle.std.specs.List.{list_all}
 use Rattle.fs_base.specs.Bits.{afi_of}
-use Rattle.fs_packet.specs.Matches.{part_matches}
+use Rattle.fs_packet.specs.Matching.{part_matches}
 use Rattle.fs_compile.specs.Fast.{fast_holds}
 use Rattle.fs_compile.proofs.fast.Fast.of.Goals as goal
 

@@ -2,7 +2,7 @@ use Rattle.std.proofs.Common.{nat_lt, get_or, rules, of_calls, arith}
 use Rattle.std.proofs.lemmas.List.Sorted.{IsPartitionPoint-from_clause}
 use Rattle.std.proofs.lemmas.Bool.{ltb-true, ltb-false}
 use Rattle.fs_compile.proofs.Finding.{parted}
-use Rattle.fs_compile.proofs.addresses.find_narrow.Goals as goal
+use Rattle.fs_compile.proofs.addresses.find_in_width.Goals as goal
 
 pub returns-clause-below : goal.returns-clause-below
 returns-clause-below c =

@@ -1,0 +1,11 @@
+use Rattle.std.proofs.Common.{rules}
+use Rattle.fs_shadow.specs.Marks.{implied_around}
+use Rattle.fs_shadow.proofs.marks.implied_around.Goals as goal
+
+pub returns-then-implied_at-2 : goal.returns-then-implied_at-2
+unfolding implied_around
+returns-then-implied_at-2 c = search rules
+
+pub returns-else-implied_at-2 : goal.returns-else-implied_at-2
+unfolding implied_around
+returns-else-implied_at-2 c = search rules

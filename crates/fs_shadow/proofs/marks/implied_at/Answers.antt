@@ -1,0 +1,17 @@
+use Rattle.std.proofs.Common.{Bool, not, ap, sym, ◌∙◌}
+use Rattle.fs_ops.specs.Evaluation.{compares, holds}
+use Rattle.fs_shadow.specs.Contains.{implies}
+use Rattle.fs_shadow.specs.Marks.{implied_at}
+use Rattle.fs_shadow.proofs.marks.implied_at.Goals as goal
+
+pub returns-then-not-eval : goal.returns-then-not-eval
+unfolding implied_at
+returns-then-not-eval c =
+    ap not c.if-not-eval.true
+    ∙ sym (ap (λ (b : Bool). implies b (holds (compares c.args.number) c.args.outer.now)) (sym c.eval.ensures ∙ c.if-not-eval.true))
+
+pub returns-else-not-eval : goal.returns-else-not-eval
+unfolding implied_at
+returns-else-not-eval c =
+    c.eval-else-not-eval.ensures
+    ∙ sym (ap (λ (b : Bool). implies b (holds (compares c.args.number) c.args.outer.now)) (sym c.eval.ensures ∙ c.if-not-eval.false))

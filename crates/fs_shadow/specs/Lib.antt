@@ -1,0 +1,5 @@
+pub mod Contains
+pub mod Reporting
+pub mod Tested
+pub mod Marks
+pub mod Ends
