@@ -1,3 +1,6 @@
 pub mod Separated
 pub mod DottedText
 pub mod ColonText
+mod Items
+mod Single
+mod OneRule

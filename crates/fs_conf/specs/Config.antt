@@ -33,16 +33,22 @@ identifier value = written ipv4_of value >>= kept_if (λ id. not (id == 0))
 abbrev pub hold_time_in : Option Data → Option ℕ
 hold_time_in found = number_or 0 0 65535 found >>= kept_if (λ n. n == 0 || nat_le 3 n)
 
--- a peer is a table with these three keys and no others
+-- how many routes a peer may hold, which isn't bounded where the key is missing
+abbrev pub limit_in : Option Data → Option (Option ℕ)
+limit_in None = Some None
+limit_in (Some value) = option_map Some (number_in 1 4294967295 (Some value))
+
+-- a peer is a table with these keys, of which the last may be missing, and no others
 abbrev pub peer_keys : List (List ℕ)
-peer_keys = codes "number" ∷ codes "address" ∷ codes "as" ∷ []
+peer_keys = codes "number" ∷ codes "address" ∷ codes "as" ∷ codes "max_routes" ∷ []
 
 abbrev pub peer_of_members : Members → Option Peer
 peer_of_members members = do
   number ← number_in 1 65535 (get_member (codes "number") members)
   address ← written address_of (get_member (codes "address") members)
   asn ← as_number (get_member (codes "as") members)
-  Some (record { number = number; address = address; asn = asn; max_routes = None })
+  max_routes ← limit_in (get_member (codes "max_routes") members)
+  Some (record { number = number; address = address; asn = asn; max_routes = max_routes })
 
 abbrev pub peer_of_table : Members → Option Peer
 peer_of_table members = if keys_among peer_keys members then peer_of_members members else None

@@ -4,10 +4,10 @@ ghost use Rattle.std.specs.Prelude.{◌≡◌, ◌==◌, Some, None, IfOk, IsErr
 ghost use Rattle.std.specs.List.{list_any};
 ghost use Rattle.toml.specs.Data.{get_member};
 ghost use Rattle.toml.specs.View.{view, items_view, table_view};
-ghost use Rattle.fs_conf.specs.Config.{hold_time_in, peer_of_data, peers_of_items, peers_in, are_distinct, identifier, config_of, config_of_document};
+ghost use Rattle.fs_conf.specs.Config.{hold_time_in, limit_in, peer_of_data, peers_of_items, peers_in, are_distinct, identifier, config_of, config_of_document};
 
 use crate::address::{read_address, read_ipv4};
-use crate::fields::{array_at, flag_at, has_only, number_at, number_or, text_at};
+use crate::fields::{array_at, flag_at, has_only, number_at, number_or, text_at, value_at};
 use fs_base::{Config, Peer, Peers};
 use std::alloc::{AllocFailed, Global};
 use std::str;
@@ -40,7 +40,7 @@ fn read_peer(value: &Value) -> Option<Peer>
     ensures { result ≡ peer_of_data (view value.now) }
 {
     let table = value.as_table()?;
-    if !has_only(table, &["number", "address", "as"]) {
+    if !has_only(table, &["number", "address", "as", "max_routes"]) {
         return None;
     }
     let number = number_at(table, "number", 1, 65535)? as u16;
@@ -50,8 +50,18 @@ fn read_peer(value: &Value) -> Option<Peer>
         number,
         address,
         asn,
-        max_routes: None,
+        max_routes: limit_at(table, "max_routes")?,
     })
+}
+
+// How many routes a peer may hold at most, None inside where it isn't bounded.
+fn limit_at(table: &Table, key: &str) -> Option<Option<u32>>
+    ensures { result ≡ limit_in (get_member key.now (table_view table.now)) }
+{
+    match value_at(table, key) {
+        None => Some(None),
+        Some(_) => Some(Some(number_at(table, key, 1, u32::MAX)?)),
+    }
 }
 
 // A peer for each item.
@@ -157,7 +167,8 @@ fn config_from(alloc: Global, table: &Table) -> Result<Config, ConfFault>
 /// not 0.0.0.0), `allow_no_destination` (false where it is missing), `empty_path_valid` (true where it is
 /// missing), `hold_time` in seconds (0, or 3 to 65535; 0 where it is missing) and 1 to 1024 tables `[[peer]]`,
 /// each with `number` (1 to 65535, no two the same), `address` (dotted IPv4, or IPv6 in the forms 1 and 2 of
-/// RFC 4291 section 2.2) and `as` (1 to 4294967295). A file with any other key is refused.
+/// RFC 4291 section 2.2), `as` (1 to 4294967295) and `max_routes` (1 to 4294967295; not bounded where it is
+/// missing). A file with any other key is refused.
 pub fn read_config(alloc: Global, octets: &[u8]) -> Result<Config, ConfFault>
     ensures ok { IfOk result (λ config. config_of octets.now ≡ Some config) }
     ensures refused { IsErrOf result ConfFault.Refused → config_of octets.now ≡ None }

@@ -11,8 +11,8 @@ ghost use Rattle.fs_conf.specs.Fields.{flag_or, is_named, keys_among, number_in,
 use toml::value::Array;
 use toml::{Table, Value};
 
-// The value at a key.
-fn value_at<'a>(table: &'a Table, key: &str) -> Option<&'a Value>
+/// The value at a key.
+pub(crate) fn value_at<'a>(table: &'a Table, key: &str) -> Option<&'a Value>
     ensures { option_map (λ v. view v.now) result ≡ get_member key.now (table_view table.now) }
 {
     table.get(key)

@@ -1,9 +1,9 @@
 -- One turn: a read, what is said to it, and that it is written.
 use Rattle.std.proofs.Common.{◌≡◌, ℕ, List, [], ◌∷◌, ◌++◌, ◌<◌, ◌≤◌, Option, Ok, length, take, refl, ap, sym, ◌∙◌}
 use Rattle.std.proofs.lemmas.List.{append-nil, length-take-le}
-use Rattle.fs_base.specs.Wire.{EndReads, TakesIn, Told, WireEnd, WireEnds, end_at, heard_end, other_than}
+use Rattle.fs_base.specs.Wire.{EndReads, TakesIn, Told, WireEnd, WireEnds, end_at, heard_end}
 use Rattle.fs_base.specs.declared.outside.files.Failed.{Failed}
-use Rattle.fs_talk.specs.Turn.{Hears, Part, Pieces, Says, Speech, Stance, Turn}
+use Rattle.fs_talk.specs.Turn.{Hears, Says, Speech, Stance, Turn}
 use Rattle.fs_talk.proofs.Composing.{same_stance}
 use Rattle.fs_talk.proofs.Telling.{told_and, told_as}
 

@@ -1,2 +1,4 @@
 pub mod Turn
 pub mod Listening
+pub mod Flow
+pub mod Joined

@@ -3,12 +3,15 @@
 #![tactic(auto)]
 
 mod fault;
+mod joined;
 mod listening;
 mod room;
 mod speaker;
 mod turn;
 
 pub use fault::TalkFault;
+pub use joined::{Flow, Talk, exchange};
 pub use listening::{Heard, hear_out};
 pub use room::Room;
 pub use speaker::Speaker;
+pub use turn::say_all;

@@ -1,6 +1,6 @@
 //! Hearing a stream to its end.
 
-ghost use Rattle.std.specs.Prelude.{◌≡◌, ◌≤◌, ℕ, IfOk};
+ghost use Rattle.std.specs.Prelude.{◌≡◌, ◌≤◌, ◌<◌, ℕ, IfOk};
 ghost use Rattle.std.specs.Result.{IsErrOf};
 ghost use Rattle.fs_base.specs.Outside.{Rose};
 ghost use Rattle.fs_talk.specs.Listening.{HearsOut};
@@ -25,7 +25,8 @@ pub enum Heard {
 }
 
 /// Hears what comes at an end, each piece at the moment that the clock answers behind its read, and writes what the
-/// speaker says to it, until the speaker has closed or is ready, the stream ends, or `limit` octets came.
+/// speaker says to it, until the speaker has closed, has heard `limit` octets up to where it was ready, is ready, or the
+/// stream ends.
 ///
 /// # Errors
 ///
@@ -39,7 +40,7 @@ pub fn hear_out<W: Wire, C: Clock, S: Speaker>(
     room: &mut Room,
 ) -> Result<Heard, TalkFault>
     requires place { end ≤ 1 }
-    requires some { 1 ≤ limit }
+    requires some { S.count speaker.old < limit }
     ensures later { W.faults wire.old ≤ W.faults wire.new }
     ensures failed { IsErrOf result TalkFault.Failed → Rose (W.faults wire.old) (W.faults wire.new) }
     ensures heard { IfOk result (λ heard.
@@ -49,6 +50,7 @@ pub fn hear_out<W: Wire, C: Clock, S: Speaker>(
         (S.stands speaker.new)
         (S.over speaker.new)
         (S.ready speaker.new)
+        (S.count speaker.new)
         end
         limit
         (W.tells wire.old)
@@ -56,21 +58,19 @@ pub fn hear_out<W: Wire, C: Clock, S: Speaker>(
         (C.answers clock.old)
         (C.answers clock.new)) }
 {
-    let mut taken = 0;
     loop {
-        let turn = take_turn(wire, clock, end, speaker, limit - taken, room)?;
-        taken += turn.count;
+        let turn = take_turn(wire, clock, end, speaker, limit - speaker.count(), room)?;
         if speaker.is_over() {
             return Ok(Heard::Over);
+        }
+        if limit <= speaker.count() {
+            return Ok(Heard::AtLimit);
         }
         if speaker.is_ready() {
             return Ok(Heard::Ready);
         }
         if turn.count == 0 {
             return Ok(Heard::All);
-        }
-        if limit <= taken {
-            return Ok(Heard::AtLimit);
         }
     }
 }

@@ -1,6 +1,6 @@
 //! An end that hears octets and says octets, as a trait.
 
-ghost use Rattle.std.specs.Prelude.{◌≡◌, ◌≤◌, ◌<◌, ℕ, List, Bool, false, IsTrue, IfOk, OnOk};
+ghost use Rattle.std.specs.Prelude.{◌≡◌, ◌≤◌, ◌<◌, ◌+◌, ℕ, List, Bool, false, length, IsTrue, IfOk, OnOk};
 ghost use Rattle.fs_talk.specs.Turn.{Hears, Pieces, Says};
 
 use fs_base::Memory;
@@ -16,6 +16,9 @@ pub trait Speaker {
     /// Whether it says what it has to say without hearing more.
     ghost ready: { Self → Bool };
 
+    /// The octets that it heard, up to where it was ready.
+    ghost count: { Self → ℕ };
+
     /// At most so many messages it has still to say unasked.
     ghost ahead: { Self → ℕ };
 
@@ -27,6 +30,8 @@ pub trait Speaker {
     fn hear(&mut self, moment: u64, piece: &[u8], out: &mut Vec<u8>) -> Result<(), Memory>
         ensures hears { OnOk result
             (Hears (stands self.old) (stands self.new) moment piece.now out.old.items out.new.items) }
+        ensures ready { IsTrue (ready self.old) → OnOk result (IsTrue (ready self.new)) }
+        ensures count { OnOk result (ready self.new ≡ false → count self.new ≡ count self.old + length piece.now) }
         ensures ahead { ahead self.new ≤ ahead self.old };
 
     /// Appends the next message that it says unasked, and answers whether there was one.
@@ -39,7 +44,9 @@ pub trait Speaker {
         ensures fewer { IfOk result (λ had. IsTrue had → ahead self.new < ahead self.old) }
         ensures silent { IfOk result (λ had. had ≡ false → out.new.items ≡ out.old.items) }
         ensures all { IfOk result (λ had. had ≡ false → IsTrue (ready self.old) → ahead self.new ≡ 0) }
-        ensures ready { OnOk result (ready self.new ≡ ready self.old) };
+        ensures over { OnOk result (over self.new ≡ over self.old) }
+        ensures ready { OnOk result (ready self.new ≡ ready self.old) }
+        ensures count { OnOk result (count self.new ≡ count self.old) };
 
     /// Whether it has closed.
     fn is_over(&self) -> bool
@@ -48,4 +55,8 @@ pub trait Speaker {
     /// Whether it says what it has to say without hearing more.
     fn is_ready(&self) -> bool
         ensures { result ≡ ready self.now };
+
+    /// How many octets it heard, up to where it was ready.
+    fn count(&self) -> u64
+        ensures { result ≡ count self.now };
 }

@@ -1,13 +1,13 @@
 //! One turn of an end, and one message of its own.
 
-ghost use Rattle.std.specs.Prelude.{◌≡◌, ◌≤◌, ◌<◌, ◌∷◌, [], ℕ, IsSome, IsTrue, None, IfOk, OnOk, OnErr, Ok, length, unwrap_or};
+ghost use Rattle.std.specs.Prelude.{◌≡◌, ◌≤◌, ◌<◌, ◌+◌, ◌∷◌, [], ℕ, false, IsSome, IsTrue, None, IfOk, OnOk, OnErr, Ok, length, unwrap_or};
 ghost use Rattle.std.specs.Result.{IsErrOf};
 ghost use Rattle.std.specs.Io.{ReadsAtMost};
 ghost use Rattle.fs_base.specs.Outside.{HasCause, Rose};
 ghost use Rattle.fs_base.specs.Sink.{Grew};
 ghost use Rattle.fs_base.specs.Wire.{EndReads, TakesIn, Told};
 ghost use Rattle.fs_base.specs.declared.outside.files.Failed.{Failed};
-ghost use Rattle.fs_talk.specs.Turn.{Speech, Turn};
+ghost use Rattle.fs_talk.specs.Turn.{Speech, Spoken, Turn};
 
 use crate::fault::TalkFault;
 use crate::room::{PIECE, Room};
@@ -85,6 +85,9 @@ pub fn take_turn<W: Wire, C: Clock, S: Speaker>(
         (W.tells wire.old)
         (W.tells wire.new)) }
     ensures moment { IfOk result (λ taken. Grew (C.answers clock.old) (C.answers clock.new) (taken.moment ∷ [])) }
+    ensures ready { IsTrue (S.ready speaker.old) → OnOk result (IsTrue (S.ready speaker.new)) }
+    ensures count { IfOk result (λ taken.
+        S.ready speaker.new ≡ false → S.count speaker.new ≡ S.count speaker.old + taken.count) }
     ensures ahead { OnOk result (S.ahead speaker.new ≤ S.ahead speaker.old) }
 {
     let most = left.min(PIECE as u64) as usize;
@@ -116,7 +119,9 @@ pub fn speak<W: Wire, S: Speaker>(
         (W.tells wire.new)) }
     ensures fewer { IfOk result (λ said. IsSome said → S.ahead speaker.new < S.ahead speaker.old) }
     ensures all { IfOk result (λ said. said ≡ None → IsTrue (S.ready speaker.old) → S.ahead speaker.new ≡ 0) }
+    ensures over { OnOk result (S.over speaker.new ≡ S.over speaker.old) }
     ensures ready { OnOk result (S.ready speaker.new ≡ S.ready speaker.old) }
+    ensures count { OnOk result (S.count speaker.new ≡ S.count speaker.old) }
 {
     room.out.clear();
     let had = speaker.next(&mut room.out)?;
@@ -126,4 +131,25 @@ pub fn speak<W: Wire, S: Speaker>(
     } else {
         None
     })
+}
+
+/// Writes all that the speaker says unasked.
+pub fn say_all<W: Wire, S: Speaker>(
+    wire: &mut W,
+    end: u8,
+    speaker: &mut S,
+    room: &mut Room,
+) -> Result<(), TalkFault>
+    requires { end ≤ 1 }
+    ensures later { W.faults wire.old ≤ W.faults wire.new }
+    ensures failed { IsErrOf result TalkFault.Failed → Rose (W.faults wire.old) (W.faults wire.new) }
+    ensures spoke { OnOk result
+        (Told (Spoken (S.stands speaker.old) (S.stands speaker.new) end) (W.tells wire.old) (W.tells wire.new)) }
+    ensures all { OnOk result (IsTrue (S.ready speaker.old) → S.ahead speaker.new ≡ 0) }
+    ensures over { OnOk result (S.over speaker.new ≡ S.over speaker.old) }
+    ensures ready { OnOk result (S.ready speaker.new ≡ S.ready speaker.old) }
+    ensures count { OnOk result (S.count speaker.new ≡ S.count speaker.old) }
+{
+    'messages: while let Some(_) = speak(wire, end, speaker, room)? {}
+    Ok(())
 }

@@ -5,13 +5,12 @@ use Rattle.fs_talk.proofs.listening.hear_out.Given as goal
 abbrev pub invariant-loop-turn : goal.invariant-loop-turn
 invariant-loop-turn g l = record {
   later : g.W.Wire.faults l.fn.wire ≤ g.W.Wire.faults l.wire;
-  within : l.taken < l.fn.limit;
+  within : g.S.Speaker.count l.speaker < l.fn.limit;
   listens :
       Listens
       (g.S.Speaker.stands l.fn.speaker)
       (g.S.Speaker.stands l.speaker)
       l.fn.end
-      l.taken
       (g.W.Wire.tells l.fn.wire)
       (g.W.Wire.tells l.wire)
       (g.C.Clock.answers l.fn.clock)
@@ -19,4 +18,4 @@ invariant-loop-turn g l = record {
 }
 
 abbrev pub decreases-loop-turn : goal.decreases-loop-turn
-decreases-loop-turn g l = l.fn.limit - l.taken
+decreases-loop-turn g l = l.fn.limit - g.S.Speaker.count l.speaker

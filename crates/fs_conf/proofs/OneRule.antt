@@ -1,0 +1,59 @@
+-- Octets that are exactly one frame.
+use Rattle.std.proofs.Common.{◌≡◌, ℕ, ◌≤◌, List, [], ◌∷◌, ◌++◌, Option, Some, None, Result, Ok, Err, length, take, drop, refl, ap, sym, ◌∙◌, subst, arith, append-nil, length-drop}
+use Rattle.std.specs.Prelude.{option_and_then}
+use Rattle.std.proofs.lemmas.List.{take-append-drop, take_all}
+use Rattle.fs_base.specs.declared.prefix.Family.{Family}
+use Rattle.fs_base.specs.Language.{IsOctets}
+use Rattle.fs_nlri.specs.declared.fault.Reason.{Reason}
+use Rattle.fs_nlri.specs.Parts.{Ruled}
+use Rattle.fs_nlri.specs.Spelling.{IsFrame}
+use Rattle.fs_nlri.specs.Fault.{IsFrameBad}
+use Rattle.fs_nlri.specs.Feed.{Frames}
+use Rattle.fs_nlri.specs.Laws.{NoFrameGoesOn}
+use Rattle.fs_nlri.specs.Outcome.{IsFieldOutcome}
+use Rattle.fs_nlri.proofs.OneOutcome.{one_field_outcome}
+use Rattle.fs_attrs.specs.Laws.{IsTheOutcome}
+use Rattle.fs_attrs.specs.Rules.{rules_of}
+use Rattle.fs_conf.specs.Sent.{if_ok, only, rule_of}
+
+abbrev Found : Type 0
+Found = Result (List Ruled) (Reason × ℕ)
+
+abbrev single : Found → Option Ruled
+single found = option_and_then only (if_ok found)
+
+module _ (law : IsTheOutcome) (family : Family) (octets : List ℕ) (small : IsOctets octets) where
+  found_is : (found : Found) → IsFieldOutcome family octets found → rules_of family octets ≡ found
+  found_is found h = one_field_outcome family octets (rules_of family octets) found small (law family octets small) h
+
+  pub one_frame : (rule : Ruled) (taken : ℕ) → taken ≡ length octets → rule.family ≡ family → IsFrame (take taken octets) rule → rule_of family octets ≡ Some rule
+  one_frame rule taken all own frame =
+      let whole : take taken octets ≡ octets = take_all taken octets (omega (arith, all)) in
+      ap single (found_is (Ok (rule ∷ [])) (octets, [], sym (append-nil octets), own, subst (λ (z : List ℕ). IsFrame z rule) whole frame, refl))
+
+  longer : (goes : NoFrameGoesOn) (rule other : Ruled) (taken : ℕ) → taken ≤ length octets → (taken ≡ length octets → ⊥) → rule.family ≡ family → other.family ≡ family
+      → IsFrame (take taken octets) rule → IsFrame octets other → ⊥
+  longer goes rule other taken within more own same frame whole =
+      let none : drop taken octets ≡ [] =
+      goes rule other (take taken octets) (drop taken octets) (own ∙ sym same) frame (subst (λ (z : List ℕ). IsFrame z other) (sym (take-append-drop taken octets)) whole) in
+      more (omega (arith, within, ap length none, length-drop taken octets))
+
+  pub goes_on : (goes : NoFrameGoesOn) (rule : Ruled) (taken : ℕ) → taken ≤ length octets → (taken ≡ length octets → ⊥) → rule.family ≡ family
+      → IsFrame (take taken octets) rule → rule_of family octets ≡ None
+  goes_on goes rule taken within more own frame = by (rules_of family octets) (law family octets small)
+    where
+      by : (found : Found) → IsFieldOutcome family octets found → single found ≡ None
+      by (Err bad) h = refl
+      by (Ok []) h = refl
+      by (Ok (one ∷ other ∷ rest)) h = refl
+      by (Ok (one ∷ [])) h =
+          let whole : octets ≡ h.0 = h.2 ∙ ap (λ (z : List ℕ). h.0 ++ z) h.5 ∙ append-nil h.0 in
+          absurd (longer goes rule one taken within more own h.3 frame (subst (λ (z : List ℕ). IsFrame z one) (sym whole) h.4))
+
+pub bad_frame : IsTheOutcome → (family : Family) (octets : List ℕ) → IsOctets octets → (reason : Reason) (place : ℕ) → IsFrameBad family octets reason place
+    → rule_of family octets ≡ None
+bad_frame law family [] small reason place bad = ap single (found_is law family [] small (Ok []) refl)
+bad_frame law family (octet ∷ octets) small reason place bad =
+    let all : List ℕ = octet ∷ octets in
+    let never : all ≡ [] → ⊥ = λ h. absurd cc in
+    ap single (found_is law family all small (Err (reason, place)) (record { front = []; rules = []; rest = all; frames = refl; split = refl; some = never; bad = bad }))

@@ -1,0 +1,205 @@
+//! The rules file.
+
+ghost use Rattle.std.specs.Prelude.{◌≡◌, Some, None, IfOk, IsErrOf, OnOk, ◌++◌, ◌∷◌, []};
+ghost use Rattle.toml.specs.Data.{get_member};
+ghost use Rattle.toml.specs.View.{view, items_view, table_view};
+ghost use Rattle.fs_conf.specs.Address.{ipv4_of};
+ghost use Rattle.fs_conf.specs.Config.{written};
+ghost use Rattle.fs_conf.specs.Document.{each_item};
+ghost use Rattle.fs_conf.specs.Rules.{number_of, as_path_in, are_single, rules_in, sendable, sending_of_members, sending_of_document, rules_of, Sees};
+ghost use Rattle.fs_conf.specs.Sent.{sent_of_data};
+
+use crate::address::read_ipv4;
+use crate::config::ConfFault;
+use crate::document::read_document;
+use crate::fields::{array_at, has_only, text_at, value_at};
+use crate::sent::read_sent;
+use fs_base::{Config, Memory, Numbers};
+use fs_order::Ranked;
+use fs_speaker::{Sending, Sent, SentList, sender};
+use std::alloc::Global;
+use std::collections::BTreeSet;
+use toml::{Table, Value};
+
+impl From<Memory> for ConfFault {
+    ghost use Rattle.std.specs.Prelude.{◌≡◌};
+    ghost use Rattle.fs_conf.specs.declared.config.ConfFault.TheVariants.{Memory as NoMemory};
+
+    ghost from_gives = { λ e r. r ≡ NoMemory };
+
+    fn from(_error: Memory) -> ConfFault {
+        ConfFault::Memory
+    }
+}
+
+fn number_of(value: &Value) -> Option<u32>
+    ensures { result ≡ number_of (view value.now) }
+{
+    match value {
+        Value::Integer(n) => match u32::try_from(*n) {
+            Ok(n) if 1 <= n => Some(n),
+            _ => None,
+        },
+        _ => None,
+    }
+}
+
+/// An AS number for each item.
+fn numbers_of(alloc: Global, items: &[Value]) -> Result<Vec<u32>, ConfFault>
+    ensures ok { IfOk result (λ numbers. each_item number_of (items_view items.now) ≡ Some numbers.items) }
+    ensures refused { IsErrOf result ConfFault.Refused → each_item number_of (items_view items.now) ≡ None }
+{
+    let mut numbers = Vec::new(alloc);
+    for item in items {
+        let Some(number) = number_of(item) else {
+            return Err(ConfFault::Refused);
+        };
+        keep_number(&mut numbers, number)?;
+    }
+    Ok(numbers)
+}
+
+fn keep_number(numbers: &mut Vec<u32>, number: u32) -> Result<(), Memory>
+    ensures { OnOk result (numbers.new.items ≡ numbers.old.items ++ number ∷ []) }
+{
+    numbers.push(number)?;
+    Ok(())
+}
+
+fn as_path_at(alloc: Global, table: &Table, key: &str) -> Result<Numbers, ConfFault>
+    ensures ok { IfOk result (λ numbers. as_path_in (get_member key.now (table_view table.now)) ≡ Some numbers) }
+    ensures refused { IsErrOf result ConfFault.Refused
+        → as_path_in (get_member key.now (table_view table.now)) ≡ None }
+{
+    let Some(items) = array_at(table, key) else {
+        return Err(ConfFault::Refused);
+    };
+    Ok(Numbers::new(numbers_of(alloc, items)?))
+}
+
+/// A rule for each item.
+fn sents_of(alloc: Global, items: &[Value]) -> Result<Vec<Sent>, ConfFault>
+    ensures ok { IfOk result (λ rules. each_item sent_of_data (items_view items.now) ≡ Some rules.items) }
+    ensures refused { IsErrOf result ConfFault.Refused → each_item sent_of_data (items_view items.now) ≡ None }
+{
+    let mut rules = Vec::new(alloc);
+    for item in items {
+        let sent = read_sent(alloc, item)?;
+        keep_sent(&mut rules, sent)?;
+    }
+    Ok(rules)
+}
+
+fn keep_sent(rules: &mut Vec<Sent>, sent: Sent) -> Result<(), Memory>
+    ensures { OnOk result (rules.new.items ≡ rules.old.items ++ sent ∷ []) }
+{
+    rules.push(sent)?;
+    Ok(())
+}
+
+/// Whether no two are one rule.
+fn are_single(alloc: Global, rules: &[Sent]) -> Result<bool, Memory>
+    ensures { IfOk result (λ single. single ≡ are_single rules.now) }
+{
+    let mut seen = BTreeSet::new(alloc);
+    for sent in rules {
+        if !see(&mut seen, sent)? {
+            return Ok(false);
+        }
+    }
+    Ok(true)
+}
+
+/// Notes a rule, and answers whether it is new.
+fn see(seen: &mut BTreeSet<Ranked>, sent: &Sent) -> Result<bool, Memory>
+    ensures { IfOk result (λ new. Sees seen.old seen.new sent.now new) }
+{
+    let rule = sent.rule.copy()?;
+    Ok(seen.insert(Ranked { rule })?)
+}
+
+fn rules_of(alloc: Global, value: &Value) -> Result<SentList, ConfFault>
+    ensures ok { IfOk result (λ rules. rules_in (Some (view value.now)) ≡ Some rules) }
+    ensures refused { IsErrOf result ConfFault.Refused → rules_in (Some (view value.now)) ≡ None }
+{
+    let Some(items) = value.as_array() else {
+        return Err(ConfFault::Refused);
+    };
+    let rules = sents_of(alloc, items)?;
+    if are_single(alloc, &rules)? {
+        Ok(SentList::new(rules))
+    } else {
+        Err(ConfFault::Refused)
+    }
+}
+
+fn rules_at(alloc: Global, table: &Table, key: &str) -> Result<SentList, ConfFault>
+    ensures ok { IfOk result (λ rules. rules_in (get_member key.now (table_view table.now)) ≡ Some rules) }
+    ensures refused { IsErrOf result ConfFault.Refused
+        → rules_in (get_member key.now (table_view table.now)) ≡ None }
+{
+    match value_at(table, key) {
+        None => Ok(SentList::new(Vec::new(alloc))),
+        Some(value) => rules_of(alloc, value),
+    }
+}
+
+fn address_at(table: &Table, key: &str) -> Option<u32>
+    ensures { result ≡ written ipv4_of (get_member key.now (table_view table.now)) }
+{
+    read_ipv4(text_at(table, key)?)
+}
+
+/// The same, where it may be sent for the peer with the lowest number.
+fn sendable(alloc: Global, config: &Config, sending: Sending) -> Result<Sending, ConfFault>
+    ensures ok { IfOk result (λ found. sendable config.now sending ≡ Some found) }
+    ensures refused { IsErrOf result ConfFault.Refused → sendable config.now sending ≡ None }
+{
+    let Some(peer) = sender(config) else {
+        return Err(ConfFault::Refused);
+    };
+    if sending.may_be_sent(alloc, config, peer)? {
+        Ok(sending)
+    } else {
+        Err(ConfFault::Refused)
+    }
+}
+
+fn sending_in(alloc: Global, table: &Table, config: &Config) -> Result<Sending, ConfFault>
+    ensures ok { IfOk result (λ sending. sending_of_members config.now (table_view table.now) ≡ Some sending) }
+    ensures refused { IsErrOf result ConfFault.Refused
+        → sending_of_members config.now (table_view table.now) ≡ None }
+{
+    let sending = Sending {
+        id: address_at(table, "id").ok_or(ConfFault::Refused)?,
+        as_path: as_path_at(alloc, table, "as_path")?,
+        rules: rules_at(alloc, table, "rule")?,
+    };
+    sendable(alloc, config, sending)
+}
+
+fn sending_from(alloc: Global, table: &Table, config: &Config) -> Result<Sending, ConfFault>
+    ensures ok { IfOk result (λ sending. sending_of_document config.now (table_view table.now) ≡ Some sending) }
+    ensures refused { IsErrOf result ConfFault.Refused
+        → sending_of_document config.now (table_view table.now) ≡ None }
+{
+    if has_only(table, &["id", "as_path", "rule"]) {
+        return sending_in(alloc, table, config);
+    }
+    Err(ConfFault::Refused)
+}
+
+/// Reads a rules file: a TOML document with `id` (dotted IPv4), `as_path` (an array of at most 255 AS numbers from 1 to
+/// 4294967295) and none or more tables `[[rule]]`, no two of which give one rule. Each rule's UPDATE to the peer with
+/// the lowest number fits the 4096 octets of a message. A file with any other key is refused.
+///
+/// # Errors
+///
+/// `Refused` where the octets aren't such a file, `Memory` where the machine refused memory.
+pub fn read_rules(alloc: Global, octets: &[u8], config: &Config) -> Result<Sending, ConfFault>
+    ensures ok { IfOk result (λ sending. rules_of config.now octets.now ≡ Some sending) }
+    ensures refused { IsErrOf result ConfFault.Refused → rules_of config.now octets.now ≡ None }
+{
+    let table = read_document(alloc, octets)?;
+    sending_from(alloc, &table, config)
+}

@@ -1,0 +1,5 @@
+mod Handover
+mod Waking
+mod Happening
+mod Running
+mod Taking
