@@ -12,7 +12,8 @@ use Rattle.fs_rules.specs.Table.{Held}
 use Rattle.fs_attrs.specs.Prefixes.{Shown}
 use Rattle.fs_attrs.specs.declared.update.Update.{Update}
 use Rattle.fs_attrs.specs.Update.{unicast_in, flows_in, given_prefixes}
-use Rattle.fs_desk.specs.Leaves.{last_such, Given, is_prefix, is_rule, given_with, unicast_at, flow_at}
+use Rattle.fs_desk.specs.Leaves.{unicast_at, flow_at}
+use Rattle.fs_desk.specs.Updates.{last_such, Given, is_prefix, is_rule, given_with}
 use Rattle.fs_desk.specs.Apply.{Changes, same, taken_of, given_at, rules_taken, rules_given, given_or, told, told_of}
 use Rattle.fs_desk.proofs.Life.{any-more}
 use Rattle.fs_desk.proofs.Updates.{last-more, later_of}
@@ -227,7 +228,7 @@ back_rule u h r o =
     ∙ ap (λ (w : Bool). told_rule_with w u r o) (sym h)
 
 -- the last of a list that passes is there exactly where some element passes
-last_there : (r : Ruled) (rules : List Ruled) → list_any (is_rule r) rules ≡ is_some (last_such (is_rule r) rules)
+pub last_there : (r : Ruled) (rules : List Ruled) → list_any (is_rule r) rules ≡ is_some (last_such (is_rule r) rules)
 last_there r [] = refl
 last_there r (x ∷ xs) = at (is_rule r x) (last_such (is_rule r) xs) (last_there r xs)
   where

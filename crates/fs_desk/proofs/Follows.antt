@@ -1,5 +1,5 @@
 -- A session that is fed octet by octet and the session of all octets that the peer sent.
-use Rattle.std.proofs.Common.{◌≡◌, ℕ, List, [], ◌∷◌, ◌++◌, length, drop, Option, Some, None, refl, ap, sym, ◌∙◌, append_assoc, append-nil, subst, arith}
+use Rattle.std.proofs.Common.{◌≡◌, ℕ, List, [], ◌∷◌, ◌++◌, length, drop, Option, Some, None, true, refl, ap, sym, ◌∙◌, append_assoc, append-nil, subst, arith}
 use Rattle.std.proofs.lemmas.List.{drop_all}
 use Rattle.fs_base.specs.declared.config.Config.{Config}
 use Rattle.fs_base.specs.declared.config.Peer.{Peer}
@@ -9,7 +9,9 @@ use Rattle.fs_speaker.specs.declared.state.Closed.{Closed}
 use Rattle.fs_speaker.specs.declared.transition.Phase.{Phase}
 use Rattle.fs_speaker.specs.Line.{Step, waits, takes, stops, fresh}
 use Rattle.fs_speaker.specs.Session.{at_start, Last, still, closed, with_update, session_from, Live, live, step_of, Does, step_with}
-use Rattle.fs_desk.specs.Receive.{with_updates, Follows, IsOver}
+use Rattle.fs_desk.specs.Limit.{bounded, bounded_from, first_over, is_over, routes_left, too_many}
+use Rattle.fs_desk.specs.Receive.{with_updates, Follows, IsOver, AreWithin}
+use Rattle.fs_desk.proofs.Bounding.{next_passes, over_stays, bounded_within, bounded_over}
 use Rattle.fs_speaker.proofs.SessionSteps.{session_takes, session_stops, session_waits}
 
 -- an update that a call answered, as a list
@@ -20,6 +22,10 @@ as_list (Some update) = update ∷ []
 -- a session that has not begun
 pub follows_none : (config : Config) (peer : Peer) → Follows config peer [] [] (live config peer fresh) []
 follows_none config peer = record { alive = refl; config_is = refl; peer_is = refl; waiting = refl; goes = λ more. refl }
+
+-- which gave no update
+pub within_none : (peer : Peer) → AreWithin peer []
+within_none peer = record { small = refl; prefixes = tt }
 
 one_more : (updates : List Update) (update : Option Update) (rest : List Update × Last)
     → with_updates updates (with_update update rest) ≡ with_updates (updates ++ as_list update) rest
@@ -98,35 +104,80 @@ module _ (config : Config) (peer : Peer) (octets rest : List ℕ) (old new : Liv
 pub over_more : (config : Config) (peer : Peer) (octets piece : List ℕ) (why : Closed) → IsOver config peer octets why → IsOver config peer (octets ++ piece) why
 over_more config peer octets piece why o = record {
   updates = o.updates;
-  stays = λ more. ap (λ (z : List ℕ). session_from config peer at_start z) (append_assoc octets piece more) ∙ o.stays (piece ++ more);
+  stays = λ more. ap (λ (z : List ℕ). bounded_from config peer z) (append_assoc octets piece more) ∙ o.stays (piece ++ more);
 }
 
 -- a call that closed the session
 pub follows_closed : (config : Config) (peer : Peer) (octets rest : List ℕ) (old : Live) (updates : List Update) (why : Closed)
-    → Follows config peer octets rest old updates → step_with old rest ≡ stops why → IsOver config peer octets why
-follows_closed config peer octets rest old updates why f h =
+    → Follows config peer octets rest old updates → AreWithin peer updates → step_with old rest ≡ stops why → IsOver config peer octets why
+follows_closed config peer octets rest old updates why f w h =
     let at : step_of config peer old.phase (pending old.framing ++ rest) ≡ stops why =
     ap (λ (d : Config). step_of d peer old.phase (pending old.framing ++ rest)) (sym f.config_is)
     ∙ ap (λ (q : Peer). step_of old.config q old.phase (pending old.framing ++ rest)) (sym f.peer_is)
     ∙ h in
+    let small : first_over peer.max_routes (updates ++ []) ≡ None = ap (first_over peer.max_routes) (append-nil updates) ∙ w.small in
     record {
       updates = updates ++ [];
       stays = λ more.
-          f.goes more
+          ap (bounded peer.max_routes)
+          (f.goes more
           ∙ ap (λ (z : List ℕ). with_updates updates (session_from config peer old.phase z)) (sym (append_assoc (pending old.framing) rest more))
-          ∙ ap (λ (r : List Update × Last). with_updates updates r) (session_stops config peer old.phase why (pending old.framing ++ rest) more at);
+          ∙ ap (λ (r : List Update × Last). with_updates updates r) (session_stops config peer old.phase why (pending old.framing ++ rest) more at))
+          ∙ bounded_within peer.max_routes (updates ++ []) (closed why) small;
     }
 
+-- the limit was passed at the last update
+pub follows_over : (config : Config) (peer : Peer) (octets rest : List ℕ) (session : Live) (updates : List Update) (update : Update)
+    → Follows config peer octets rest session (updates ++ update ∷ []) → AreWithin peer updates → is_over peer.max_routes (routes_left (updates ++ update ∷ [])) ≡ true
+    → (more : List ℕ) → first_over peer.max_routes (session_from config peer at_start (octets ++ more)).0 ≡ Some (updates ++ update ∷ [])
+follows_over config peer octets rest session updates update f w h more =
+    ap (λ (r : List Update × Last). first_over peer.max_routes r.0) (f.goes more)
+    ∙ over_stays peer.max_routes (updates ++ update ∷ []) _ (updates ++ update ∷ []) (next_passes peer.max_routes updates update w.small h)
+
+-- where the session closes
+pub follows_ceased : (config : Config) (peer : Peer) (octets rest : List ℕ) (session : Live) (updates : List Update) (update : Update)
+    → Follows config peer octets rest session (updates ++ update ∷ []) → AreWithin peer updates → is_over peer.max_routes (routes_left (updates ++ update ∷ [])) ≡ true
+    → IsOver config peer octets too_many
+follows_ceased config peer octets rest session updates update f w h = record {
+  updates = updates ++ update ∷ [];
+  stays = λ more.
+      bounded_over peer.max_routes (session_from config peer at_start (octets ++ more)).0 (updates ++ update ∷ []) (session_from config peer at_start (octets ++ more)).1
+      (follows_over config peer octets rest session updates update f w h more);
+}
+
 -- what the session of all the octets is, where nothing is left to take
-pub follows_session : (config : Config) (peer : Peer) (octets : List ℕ) (session : Live) (updates : List Update)
+follows_whole : (config : Config) (peer : Peer) (octets : List ℕ) (session : Live) (updates : List Update)
     → Follows config peer octets [] session updates → session_from config peer at_start octets ≡ (updates, still session.phase)
-follows_session config peer octets session updates f =
+follows_whole config peer octets session updates f =
     ap (λ (z : List ℕ). session_from config peer at_start z) (sym (append-nil octets))
     ∙ f.goes []
     ∙ ap (λ (z : List ℕ). with_updates updates (session_from config peer session.phase z)) (append-nil (pending session.framing))
     ∙ ap (λ (r : List Update × Last). with_updates updates r) (session_waits config peer session.phase (pending session.framing) f.waiting)
     ∙ ap (λ (u : List Update). (u, still session.phase)) (append-nil updates)
 
+pub follows_session : (config : Config) (peer : Peer) (octets : List ℕ) (session : Live) (updates : List Update)
+    → Follows config peer octets [] session updates → AreWithin peer updates → bounded_from config peer octets ≡ (updates, still session.phase)
+follows_session config peer octets session updates f w =
+    ap (bounded peer.max_routes) (follows_whole config peer octets session updates f) ∙ bounded_within peer.max_routes updates (still session.phase) w.small
+
+-- and no update of it passes the limit
+pub follows_small : (config : Config) (peer : Peer) (octets : List ℕ) (session : Live) (updates : List Update)
+    → Follows config peer octets [] session updates → AreWithin peer updates → first_over peer.max_routes (session_from config peer at_start octets).0 ≡ None
+follows_small config peer octets session updates f w =
+    ap (λ (r : List Update × Last). first_over peer.max_routes r.0) (follows_whole config peer octets session updates f) ∙ w.small
+
+-- likewise of one that a message closes
+pub closed_small : (config : Config) (peer : Peer) (octets rest : List ℕ) (old : Live) (updates : List Update) (why : Closed)
+    → Follows config peer octets rest old updates → AreWithin peer updates → step_of config peer old.phase (pending old.framing ++ rest) ≡ stops why
+    → (more : List ℕ) → first_over peer.max_routes (session_from config peer at_start (octets ++ more)).0 ≡ None
+closed_small config peer octets rest old updates why f w at more =
+    ap (λ (r : List Update × Last). first_over peer.max_routes r.0)
+    (f.goes more
+    ∙ ap (λ (z : List ℕ). with_updates updates (session_from config peer old.phase z)) (sym (append_assoc (pending old.framing) rest more))
+    ∙ ap (λ (r : List Update × Last). with_updates updates r) (session_stops config peer old.phase why (pending old.framing ++ rest) more at))
+    ∙ ap (first_over peer.max_routes) (append-nil updates)
+    ∙ w.small
+
 pub over_session : (config : Config) (peer : Peer) (octets : List ℕ) (why : Closed) (o : IsOver config peer octets why)
-    → session_from config peer at_start octets ≡ (o.updates, closed why)
-over_session config peer octets why o = ap (λ (z : List ℕ). session_from config peer at_start z) (sym (append-nil octets)) ∙ o.stays []
+    → bounded_from config peer octets ≡ (o.updates, closed why)
+over_session config peer octets why o = ap (λ (z : List ℕ). bounded_from config peer z) (sym (append-nil octets)) ∙ o.stays []

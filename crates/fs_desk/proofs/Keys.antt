@@ -14,7 +14,8 @@ use Rattle.fs_order.specs.Comparison.{rule_cmp}
 use Rattle.fs_order.specs.Ranked.{rule_total}
 use Rattle.fs_unicast.specs.Unicast.{place_cmp}
 use Rattle.fs_unicast.specs.declared.unicast.Place.{Place}
-use Rattle.fs_desk.specs.Leaves.{is_prefix, flow_key_cmp, FlowKey}
+use Rattle.fs_desk.specs.Leaves.{flow_key_cmp, FlowKey}
+use Rattle.fs_desk.specs.Updates.{is_prefix}
 use denote.Enum.Bare.{sameb}
 use Rattle.fs_base.specs.contracts.prefix.Family.{the_type}
 

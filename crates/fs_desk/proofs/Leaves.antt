@@ -5,10 +5,11 @@ use Rattle.fs_base.specs.declared.config.Config.{Config}
 use Rattle.fs_base.specs.declared.config.Peer.{Peer}
 use Rattle.fs_attrs.specs.declared.update.Update.{Update}
 use Rattle.fs_rules.specs.Table.{Held}
-use Rattle.fs_speaker.specs.Session.{still, at_start, session_from, Live}
+use Rattle.fs_speaker.specs.Session.{still, at_start, Live}
 use Rattle.fs_speaker.specs.declared.state.Closed.{Closed}
 use Rattle.fs_tape.specs.Tape.{Item}
 use Rattle.fs_desk.specs.Desk.{Desked, session_at, PeerIs, Played}
+use Rattle.fs_desk.specs.Limit.{bounded_from}
 use Rattle.fs_desk.specs.Receive.{IsFed, IsLeft}
 use Rattle.fs_desk.specs.Leaves.{Leaves, counted, updates_of}
 use Rattle.fs_desk.specs.Life.{life}
@@ -17,15 +18,15 @@ use Rattle.fs_desk.proofs.Updates.{itself}
 
 -- the updates that a session counts are those of all octets that it was fed with
 fed_updates : (config : Config) (peer : Peer) (octets : List ℕ) (session : Live) (why : Option Closed) (updates : List Update)
-    → IsFed config peer octets session why updates → counted (session_from config peer at_start octets) ≡ updates
-fed_updates config peer octets session None updates f = ap counted (follows_session config peer octets session updates f)
+    → IsFed config peer octets session why updates → counted (bounded_from config peer octets) ≡ updates
+fed_updates config peer octets session None updates f = ap counted (follows_session config peer octets session updates f.0 f.1)
 fed_updates config peer octets session (Some why) updates f = ap counted (over_session config peer octets why f.0) ∙ sym f.1
 
 -- of a peer, if there is one, and its life, if it has one
 left_of : (config : Config) (peer : Option Peer) (lived : Option (List ℕ)) (session : Option Live) (number : ℕ) (held : Held)
     → PeerIs config peer lived session number held
     → IsLeft number
-    (elim lived [ None ↦ [] | Some octets ↦ counted (elim peer [ None ↦ ([], still at_start) | Some p ↦ session_from config p at_start octets ]) ])
+    (elim lived [ None ↦ [] | Some octets ↦ counted (elim peer [ None ↦ ([], still at_start) | Some p ↦ bounded_from config p octets ]) ])
     held
 left_of config peer None None number held k = k
 left_of config None None (Some session) number held k = absurd k

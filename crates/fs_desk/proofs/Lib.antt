@@ -1,5 +1,6 @@
+mod Bounding
 mod ChangesJoined
-mod Entries
+mod CountedKeys
 mod Follows
 mod KeyedLists
 mod KeyedSame
@@ -10,7 +11,10 @@ mod Pieces
 mod Played
 mod Replies
 mod Replying
+mod RoutesLeft
 mod SameRoutes
+mod Saying
 pub mod Standing
 mod TableChanges
+mod Telling
 mod Updates

@@ -1,43 +1,94 @@
 -- One session and the table, through a piece of the peer's octets.
-use Rattle.std.proofs.Common.{◌≡◌, inl, inr, ℕ, List, [], ◌∷◌, ◌++◌, drop, Option, Some, None, refl, ap, sym, ◌∙◌, subst, append-nil, is_some, true, false, true≢false}
+use Rattle.std.proofs.Common.{◌≡◌, inl, inr, ℕ, List, [], ◌∷◌, ◌++◌, drop, flat_map, not, Bool, Option, Some, None, refl, ap, sym, ◌∙◌, subst, append-nil, is_some, true, false, true≢false}
+use Rattle.std.specs.List.{AllByRecursion}
 use Rattle.fs_base.specs.declared.config.Config.{Config}
 use Rattle.fs_base.specs.declared.config.Peer.{Peer}
+use Rattle.fs_attrs.specs.Lists.{IsPrefix}
 use Rattle.fs_attrs.specs.declared.update.Update.{Update}
-use Rattle.fs_rules.specs.Table.{Held}
+use Rattle.fs_attrs.specs.Update.{gives_prefixes}
+use Rattle.fs_base.proofs.Bools.{false_of_not, true_of_not}
+use Rattle.fs_base.proofs.Lists.{each_append}
+use Rattle.fs_rules.proofs.Apart.{each_front, each_back}
+use Rattle.fs_rules.specs.Table.{Held, held_count}
 use Rattle.fs_speaker.specs.declared.state.Closed.{Closed}
 use Rattle.fs_speaker.specs.declared.state.Closed.TheVariants.{Fault, Notified, NoFamily, Memory}
 use Rattle.fs_speaker.specs.Line.{Step, stops, CloseIs}
-use Rattle.fs_speaker.specs.Session.{at_start, Live, Does, step_with}
-use Rattle.fs_speaker.specs.Replies.{replies_from}
+use Rattle.fs_speaker.specs.Session.{Live, Does, step_with}
 use Rattle.fs_desk.specs.Apply.{Changes, nothing, told, told_of}
 use Rattle.fs_desk.specs.Leaves.{IsListed}
-use Rattle.fs_desk.specs.Receive.{wants_memory, Follows, IsFed, HasReplied, IsLeft, Spares, IsUp, HasTaken, MessageTaken, TakesMessage, HasRepliedMore}
-use Rattle.fs_desk.proofs.Follows.{follows_piece, follows_fed, follows_closed, over_more}
+use Rattle.fs_desk.specs.Limit.{is_over, routes_left, too_many, bounded_replies_from}
+use Rattle.fs_desk.specs.Receive.{wants_memory, Follows, AreWithin, TakesUpdate, IsFed, HasReplied, IsLeft, Spares, IsUp, HasTaken, MessageTaken, TakesMessage, HasRepliedMore}
+use Rattle.fs_desk.proofs.Bounding.{next_within}
+use Rattle.fs_desk.proofs.Follows.{follows_piece, follows_fed, follows_closed, follows_ceased, over_more}
 use Rattle.fs_desk.proofs.Replying.{replied_exactly, replied_over}
+use Rattle.fs_desk.proofs.RoutesLeft.{counted_left}
+use Rattle.fs_desk.proofs.TableChanges.{lost_to}
 use Rattle.fs_desk.proofs.Updates.{left_more, left_nothing, spares_others, spares_none, spares_then}
 
 -- a message without an update was taken
 pub fed_none : (peer : ℕ) (old new : Live) (table : Held) (piece : List ℕ) (count : ℕ)
     → (old.closed ≡ None → Does (step_with old piece) old new piece count None) → new.closed ≡ None → new.config ≡ old.config → new.peer ≡ old.peer
     → TakesMessage peer old new table table piece (Some count)
-fed_none peer old new table piece count did alive c p = λ config whose octets updates f l k. record {
+fed_none peer old new table piece count did alive c p = λ config whose octets updates f w l k. record {
   updates = updates ++ [];
   follows = follows_fed config whose octets piece old new updates count None f alive c p (did f.alive);
+  within = subst (AreWithin whose) (sym (append-nil updates)) w;
   left = subst (λ (u : List Update). IsLeft peer u table) (sym (append-nil updates)) k;
   spares = spares_none peer table l;
 }
 
+-- an update more, of prefixes
+prefixes_more : (updates : List Update) (update : Update) → AllByRecursion IsPrefix (flat_map gives_prefixes updates) → AllByRecursion IsPrefix (gives_prefixes update)
+    → AllByRecursion IsPrefix (flat_map gives_prefixes (updates ++ update ∷ []))
+prefixes_more [] update all own = each_append IsPrefix (gives_prefixes update) [] own tt
+prefixes_more (u ∷ updates) update all own =
+    each_append IsPrefix (gives_prefixes u) (flat_map gives_prefixes (updates ++ update ∷ [])) (each_front IsPrefix (gives_prefixes u) (flat_map gives_prefixes updates) all)
+    (prefixes_more updates update (each_back IsPrefix (gives_prefixes u) (flat_map gives_prefixes updates) all) own)
+
+-- behind an update that was applied the peer holds as many routes as the updates leave
+pub held_left : (peer : ℕ) (updates : List Update) (update : Update) (old new : Live) (table table' : Held) (replies replies' : List ℕ) (open_ : Bool)
+    → TakesUpdate peer update old new table table' replies replies' open_ → (whose : Peer) → AreWithin whose updates → IsListed table → IsLeft peer updates table → old.peer ≡ whose
+    → open_ ≡ not (is_over whose.max_routes (routes_left (updates ++ update ∷ [])))
+held_left peer updates update old new table table' replies replies' open_ t whose w l k p =
+    t.within
+    ∙ ap (λ (q : Peer). not (is_over q.max_routes (held_count peer t.applied))) p
+    ∙ ap (λ (n : ℕ). not (is_over whose.max_routes n))
+    (counted_left peer (updates ++ update ∷ []) t.applied (t.changes.listed l) (left_more peer updates update table t.applied k t.changes l) (prefixes_more updates update w.prefixes t.prefixes))
+
 -- a message with an update was taken, and the table has it
-pub fed_update : (peer : ℕ) (old new : Live) (table table' : Held) (piece : List ℕ) (count : ℕ) (update : Update)
-    → (old.closed ≡ None → Does (step_with old piece) old new piece count (Some update)) → new.closed ≡ None → new.config ≡ old.config → new.peer ≡ old.peer
-    → Changes peer (told update) (told_of update) table table'
+pub fed_update : (peer : ℕ) (old mid new : Live) (table table' : Held) (replies replies' piece : List ℕ) (count : ℕ) (update : Update) (open_ : Bool) → open_ ≡ true
+    → (old.closed ≡ None → Does (step_with old piece) old mid piece count (Some update)) → mid.closed ≡ None → mid.config ≡ old.config → mid.peer ≡ old.peer
+    → TakesUpdate peer update mid new table table' replies replies' open_
     → TakesMessage peer old new table table' piece (Some count)
-fed_update peer old new table table' piece count update did alive c p t = λ config whose octets updates f l k. record {
-  updates = updates ++ update ∷ [];
-  follows = follows_fed config whose octets piece old new updates count (Some update) f alive c p (did f.alive);
-  left = left_more peer updates update table table' k t l;
-  spares = spares_others peer (told update) (told_of update) table table' t l;
-}
+fed_update peer old mid new table table' replies replies' piece count update open_ goes did alive c p t = λ config whose octets updates f w l k.
+    let follows : Follows config whose octets (drop count piece) mid (updates ++ update ∷ []) = follows_fed config whose octets piece old mid updates count (Some update) f alive c p (did f.alive) in
+    let small : is_over whose.max_routes (routes_left (updates ++ update ∷ [])) ≡ false =
+    false_of_not (is_over whose.max_routes (routes_left (updates ++ update ∷ []))) (sym (held_left peer updates update mid new table table' replies replies' open_ t whose w l k (p ∙ f.peer_is)) ∙ goes) in
+    record {
+      updates = updates ++ update ∷ [];
+      follows = subst (λ (s : Live). Follows config whose octets (drop count piece) s (updates ++ update ∷ [])) (sym (t.stays goes).0) follows;
+      within = record { small = next_within whose.max_routes updates update w.small small; prefixes = prefixes_more updates update w.prefixes t.prefixes };
+      left = subst (IsLeft peer (updates ++ update ∷ [])) (sym (t.stays goes).1) (left_more peer updates update table t.applied k t.changes l);
+      spares = subst (Spares peer table) (sym (t.stays goes).1) (spares_others peer (told update) (told_of update) table t.applied t.changes l);
+    }
+
+-- a message with an update was taken that passes the limit: the session is closed, and the table has nothing of the peer
+pub fed_ceased : (peer : ℕ) (old mid new : Live) (table table' : Held) (replies replies' piece : List ℕ) (count : ℕ) (update : Update) (open_ : Bool) → open_ ≡ false
+    → (old.closed ≡ None → Does (step_with old piece) old mid piece count (Some update)) → mid.closed ≡ None → mid.config ≡ old.config → mid.peer ≡ old.peer
+    → TakesUpdate peer update mid new table table' replies replies' open_
+    → TakesMessage peer old new table table' piece None
+fed_ceased peer old mid new table table' replies replies' piece count update open_ ends did alive c p t = λ config whose octets updates f w l k.
+    let follows : Follows config whose octets (drop count piece) mid (updates ++ update ∷ []) = follows_fed config whose octets piece old mid updates count (Some update) f alive c p (did f.alive) in
+    let over : is_over whose.max_routes (routes_left (updates ++ update ∷ [])) ≡ true =
+    true_of_not (is_over whose.max_routes (routes_left (updates ++ update ∷ []))) (sym (held_left peer updates update mid new table table' replies replies' open_ t whose w l k (p ∙ f.peer_is)) ∙ ends) in
+    let gone : Changes peer nothing nothing t.applied table' = lost_to peer t.applied table' (t.ceases ends).1 in
+    inr (record {
+      why = too_many;
+      closed = (t.ceases ends).0;
+      over = follows_ceased config whose octets (drop count piece) mid updates update follows w over;
+      left = left_nothing peer t.applied table' gone (t.changes.listed l);
+      spares = spares_then peer table t.applied table' (spares_others peer (told update) (told_of update) table t.applied t.changes l) (spares_others peer nothing nothing t.applied table' gone (t.changes.listed l));
+    })
 
 pub close_is : (step : Step) (why : Closed) → (why ≡ Memory → ⊥) → CloseIs step why → step ≡ stops why
 close_is step (Fault code subcode) n h = h
@@ -50,17 +101,17 @@ pub fed_closed : (peer : ℕ) (old new : Live) (table table' : Held) (piece : Li
     → (old.closed ≡ None → CloseIs (step_with old piece) why) → (why ≡ Memory → ⊥) → new.closed ≡ Some why
     → Changes peer nothing nothing table table'
     → TakesMessage peer old new table table' piece None
-fed_closed peer old new table table' piece why did n closed t = λ config whose octets updates f l k. inr (record {
+fed_closed peer old new table table' piece why did n closed t = λ config whose octets updates f w l k. inr (record {
   why = why;
   closed = closed;
-  over = follows_closed config whose octets piece old updates why f (close_is (step_with old piece) why n (did f.alive));
+  over = follows_closed config whose octets piece old updates why f w (close_is (step_with old piece) why n (did f.alive));
   left = left_nothing peer table table' t l;
   spares = spares_others peer nothing nothing table table' t l;
 })
 
 -- nothing is left of the piece
 pub fed_nothing : (peer : ℕ) (session : Live) (table : Held) (piece : List ℕ) → piece ≡ [] → TakesMessage peer session session table table piece None
-fed_nothing peer session table piece e = λ config whose octets updates f l k. inl (e, refl, refl)
+fed_nothing peer session table piece e = λ config whose octets updates f w l k. inl (e, refl, refl)
 
 -- before the first octet of a piece
 pub taken_none : (config : Config) (whose : Peer) (peer : ℕ) (octets piece : List ℕ) (session : Live) (table : Held)
@@ -68,7 +119,8 @@ pub taken_none : (config : Config) (whose : Peer) (peer : ℕ) (octets piece : L
     → HasTaken config whose peer (octets ++ piece) piece session table table
 taken_none config whose peer octets piece session table s open_ l = record {
   updates = s.updates;
-  follows = follows_piece config whose octets piece session s.updates (subst (λ (o : Option Closed). IsFed config whose octets session o s.updates) open_ s.fed);
+  follows = follows_piece config whose octets piece session s.updates (subst (λ (o : Option Closed). IsFed config whose octets session o s.updates) open_ s.fed).0;
+  within = (subst (λ (o : Option Closed). IsFed config whose octets session o s.updates) open_ s.fed).1;
   left = s.left;
   spares = spares_none peer table l;
 }
@@ -77,10 +129,11 @@ pub taken_more_of : (config : Config) (whose : Peer) (peer : ℕ) (octets rest :
     → HasTaken config whose peer octets rest session table now → TakesMessage peer session new now table' rest (Some count)
     → HasTaken config whose peer octets (drop count rest) new table table'
 taken_more_of config whose peer octets rest session new table now table' count r feeds =
-    let g = feeds config whose octets r.updates r.follows r.spares.listed r.left in
+    let g = feeds config whose octets r.updates r.follows r.within r.spares.listed r.left in
     record {
       updates = g.updates;
       follows = g.follows;
+      within = g.within;
       left = g.left;
       spares = spares_then peer table now table' r.spares g.spares;
     }
@@ -89,7 +142,7 @@ pub taken_all : (config : Config) (whose : Peer) (peer : ℕ) (octets rest : Lis
     → HasTaken config whose peer octets rest session table now → HasRepliedMore config whose octets new said first replies' → TakesMessage peer session new now table' rest None
     → IsUp config whose peer octets new table' × Spares peer table table'
 taken_all config whose peer octets rest session new table now table' said first replies' r t feeds =
-    by (feeds config whose octets r.updates r.follows r.spares.listed r.left)
+    by (feeds config whose octets r.updates r.follows r.within r.spares.listed r.left)
   where
     stands : (updates : List Update) → IsFed config whose octets new new.closed updates → IsLeft peer updates table' → IsUp config whose peer octets new table'
     stands updates fed k = record {
@@ -102,7 +155,7 @@ taken_all config whose peer octets rest session new table now table' said first 
     by : MessageTaken config whose octets peer session new now table' rest None → IsUp config whose peer octets new table' × Spares peer table table'
     by (inl e) =
         let f : Follows config whose octets [] session r.updates = subst (λ (z : List ℕ). Follows config whose octets z session r.updates) e.0 r.follows in
-        let fed : IsFed config whose octets session session.closed r.updates = subst (λ (o : Option Closed). IsFed config whose octets session o r.updates) (sym f.alive) f in (
+        let fed : IsFed config whose octets session session.closed r.updates = subst (λ (o : Option Closed). IsFed config whose octets session o r.updates) (sym f.alive) (f, r.within) in (
           stands r.updates
               (subst (λ (v : Live). IsFed config whose octets v v.closed r.updates) (sym e.1) fed)
               (subst (λ (h : Held). IsLeft peer r.updates h) (sym e.2) r.left),
@@ -121,15 +174,15 @@ up_over config whose peer octets piece session table why h l s =
     let o : IsFed config whose octets session (Some why) s.updates = subst (λ (c : Option Closed). IsFed config whose octets session c s.updates) h s.fed in
     let fed : IsFed config whose (octets ++ piece) session session.closed s.updates =
     subst (λ (c : Option Closed). IsFed config whose (octets ++ piece) session c s.updates) (sym h) (over_more config whose octets piece why o.0, o.1) in
-    let said : HasReplied config whose octets session (Some why) (replies_from config whose at_start octets) =
-    subst (λ (c : Option Closed). HasReplied config whose octets session c (replies_from config whose at_start octets)) h s.replied in (
+    let said : HasReplied config whose octets session (Some why) (bounded_replies_from config whose octets) =
+    subst (λ (c : Option Closed). HasReplied config whose octets session c (bounded_replies_from config whose octets)) h s.replied in (
       record {
         updates = s.updates;
         fed = fed;
         replied =
-            replied_exactly config whose (octets ++ piece) session session.closed s.updates (replies_from config whose at_start octets) fed
-            (subst (λ (c : Option Closed). HasReplied config whose (octets ++ piece) session c (replies_from config whose at_start octets)) (sym h)
-            (replied_over config whose octets piece session why (replies_from config whose at_start octets) said));
+            replied_exactly config whose (octets ++ piece) session session.closed s.updates (bounded_replies_from config whose octets) fed
+            (subst (λ (c : Option Closed). HasReplied config whose (octets ++ piece) session c (bounded_replies_from config whose octets)) (sym h)
+            (replied_over config whose octets piece session why (bounded_replies_from config whose octets) said));
         left = s.left;
       },
       spares_none peer table l,

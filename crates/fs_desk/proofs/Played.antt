@@ -13,17 +13,17 @@ use Rattle.fs_base.specs.declared.config.Config.{Config}
 use Rattle.fs_base.specs.declared.config.Peer.{Peer}
 use Rattle.fs_rules.specs.Table.{Held}
 use Rattle.fs_speaker.specs.Line.{fresh}
-use Rattle.fs_speaker.specs.Session.{at_start, Live, live, begins}
-use Rattle.fs_speaker.specs.Replies.{replies_from}
+use Rattle.fs_speaker.specs.Session.{Live, live, begins}
 use Rattle.fs_tape.specs.Tape.{Item, came_up, received, was_lost}
 use Rattle.fs_desk.specs.Life.{bounds_life, begins_life, sent_in, life}
 use Rattle.fs_desk.specs.Apply.{Changes, nothing}
 use Rattle.fs_desk.specs.Leaves.{IsListed}
+use Rattle.fs_desk.specs.Limit.{bounded_replies_from}
 use Rattle.fs_desk.specs.Receive.{IsLeft, Spares, IsUp, TakesPiece, RepliesPiece}
 use Rattle.fs_desk.specs.Desk.{Desked, session_at, PeerIs, Played, Replied}
-use Rattle.fs_desk.proofs.Entries.{lookup-insert_entry, sorted-insert_entry, sorted-remove_entry, is_equal}
+use Rattle.fs_rules.proofs.Entries.{lookup-insert_entry, sorted-insert_entry, sorted-remove_entry, is_equal}
 use Rattle.fs_desk.proofs.Life.{life-bound, life-more}
-use Rattle.fs_desk.proofs.Follows.{follows_none}
+use Rattle.fs_desk.proofs.Follows.{follows_none, within_none}
 use Rattle.fs_desk.proofs.Replying.{replied_none}
 use Rattle.fs_desk.proofs.Updates.{chosen, not_chosen, itself, left_nothing, left_spared, spares_others}
 
@@ -147,7 +147,7 @@ played_up config items n peer session mid new q v c h s p = record {
         (subst (λ (x : Option (List ℕ)). PeerIs config (peer_of n config.peers) x (session_at n mid.sessions) n mid.held) (lost_life n items) (p.each n))
 
     first : IsUp config peer n [] session mid.held
-    first = subst (λ (z : Live). IsUp config peer n [] z mid.held) (sym v) (record { updates = []; fed = follows_none config peer; replied = replied_none config peer; left = down })
+    first = subst (λ (z : Live). IsUp config peer n [] z mid.held) (sym v) (record { updates = []; fed = (follows_none config peer, within_none peer); replied = replied_none config peer; left = down })
 
     at : PeerIs config (peer_of n config.peers) (life n (items ++ came_up n ∷ [])) (session_at n new.sessions) n new.held
     at =
@@ -209,7 +209,7 @@ played_replied config items n piece before now session desk there replies p =
     by (peer_of n config.peers) (life n items) refl (subst (λ (x : Option Live). PeerIs config (peer_of n config.peers) (life n items) x n desk.held) there (p.each n))
   where
     of : List ℕ → Option Peer → List ℕ
-    of octets q = elim q [ None ↦ [] | Some peer ↦ replies_from config peer at_start octets ]
+    of octets q = elim q [ None ↦ [] | Some peer ↦ bounded_replies_from config peer octets ]
 
     by : (q : Option Peer) (l : Option (List ℕ)) → peer_of n config.peers ≡ q → PeerIs config q l (Some session) n desk.held → Replied config n l piece before now
     by None None f k = absurd k
@@ -355,7 +355,7 @@ desk_silent config items n piece before own table sessions old e none p =
     played_silent config items n piece before (record { config = own; held = table; sessions = sessions }) none
     (subst (λ (d : Desked). Played config items d) e p)
 
-abbrev desk_of : Config → Held → List (ℕ × Live) → Desked
+abbrev pub desk_of : Config → Held → List (ℕ × Live) → Desked
 desk_of own table sessions = record { config = own; held = table; sessions = sessions }
 
 -- the sessions stayed as they were

@@ -1,5 +1,5 @@
 -- What is appended to the replies, through a piece of the peer's octets.
-use Rattle.std.proofs.Common.{◌≡◌, ◌==◌, ℕ, List, [], ◌++◌, length, drop, Option, Some, None, IfSome, Result, Err, refl, sym, ap, ◌∙◌, append_assoc, append-nil, subst, is_some, true, arith}
+use Rattle.std.proofs.Common.{◌≡◌, ◌==◌, ℕ, List, [], ◌∷◌, ◌++◌, length, drop, Bool, false, Option, Some, None, IfSome, Result, Err, refl, sym, ap, ◌∙◌, append_assoc, append-nil, subst, is_some, true, arith}
 use Rattle.std.proofs.lemmas.Bool.Decides.{nat_tests}
 use Rattle.std.proofs.lemmas.List.{nil_from_length}
 use Rattle.fs_base.specs.declared.config.Config.{Config}
@@ -10,37 +10,73 @@ use Rattle.fs_speaker.specs.declared.state.Closed.{Closed}
 use Rattle.fs_speaker.specs.declared.state.Closed.TheVariants.{Memory}
 use Rattle.fs_speaker.specs.Line.{CloseIs}
 use Rattle.fs_speaker.specs.Side.{reply_at}
-use Rattle.fs_speaker.specs.Session.{at_start, Live, Does, reply_of, step_with}
-use Rattle.fs_speaker.specs.Replies.{replies_from}
-use Rattle.fs_desk.specs.Receive.{Follows, IsFed, IsReplying, HasReplied, IsUp, RepliesTo, Extends, IsReplyingMore, HasRepliedMore, RepliesMessage}
-use Rattle.fs_desk.proofs.Pieces.{close_is, some_there}
-use Rattle.fs_desk.proofs.Replying.{replying_piece, replying_fed, replying_closed, replied_all}
+use Rattle.fs_speaker.specs.Session.{Live, Does, reply_of, step_with}
+use Rattle.fs_base.proofs.Bools.{true_of_not}
+use Rattle.fs_desk.specs.Leaves.{IsListed}
+use Rattle.fs_desk.specs.Limit.{is_over, routes_left, too_many, bounded_replies_from}
+use Rattle.fs_desk.specs.Receive.{Follows, AreWithin, TakesUpdate, IsLeft, IsFed, IsReplying, HasReplied, IsUp, RepliesTo, Extends, IsReplyingMore, HasRepliedMore, RepliesMessage}
+use Rattle.fs_desk.proofs.Follows.{follows_fed}
+use Rattle.fs_desk.proofs.Pieces.{close_is, some_there, held_left}
+use Rattle.fs_desk.proofs.Replying.{replying_piece, replying_fed, fed_established, replying_closed, replying_ceased, replied_all}
 
 -- one message of a piece was taken
-pub replies_taken : (old new : Live) (replies replies' piece : List ℕ) (count : ℕ) (update : Option Update)
+pub replies_taken : (peer : ℕ) (old new : Live) (table : Held) (replies replies' piece : List ℕ) (count : ℕ) (update : Option Update)
     → (old.closed ≡ None → Does (step_with old piece) old new piece count update × (replies' ≡ replies ++ reply_of old (step_with old piece)))
-    → RepliesMessage old new replies replies' piece (Some count)
-replies_taken old new replies replies' piece count update did = λ config whose octets updates said f s. record {
+    → RepliesMessage peer old new table replies replies' piece (Some count)
+replies_taken peer old new table replies replies' piece count update did = λ config whose octets updates said f w l k s. record {
   more = reply_of old (step_with old piece);
   grows = (did f.alive).1;
   replied = replying_fed config whose octets piece old said new count update f s (step_with old piece) refl (did f.alive).0;
 }
 
+-- and its update was applied
+pub replies_update : (peer : ℕ) (old mid new : Live) (table table' : Held) (replies replies' replies'' piece : List ℕ) (count : ℕ) (update : Update) (open_ : Bool) → open_ ≡ true
+    → (old.closed ≡ None → Does (step_with old piece) old mid piece count (Some update) × (replies' ≡ replies ++ reply_of old (step_with old piece)))
+    → TakesUpdate peer update mid new table table' replies' replies'' open_
+    → RepliesMessage peer old new table replies replies'' piece (Some count)
+replies_update peer old mid new table table' replies replies' replies'' piece count update open_ goes did t =
+    subst (λ (v : Live). RepliesMessage peer old v table replies replies'' piece (Some count)) (sym (t.stays goes).0)
+    (subst (λ (z : List ℕ). RepliesMessage peer old mid table replies z piece (Some count)) (sym (t.stays goes).2)
+    (replies_taken peer old mid table replies replies' piece count (Some update) did))
+
+-- or passes the limit
+pub replies_ceased : (peer : ℕ) (old mid new : Live) (table table' : Held) (replies replies' replies'' piece : List ℕ) (count : ℕ) (update : Update) (open_ : Bool) → open_ ≡ false
+    → (old.closed ≡ None → Does (step_with old piece) old mid piece count (Some update) × (replies' ≡ replies ++ reply_of old (step_with old piece)))
+    → mid.closed ≡ None → mid.config ≡ old.config → mid.peer ≡ old.peer
+    → TakesUpdate peer update mid new table table' replies' replies'' open_
+    → RepliesMessage peer old new table replies replies'' piece None
+replies_ceased peer old mid new table table' replies replies' replies'' piece count update open_ ends did alive c p t = λ config whose octets updates said f w l k s.
+    let follows : Follows config whose octets (drop count piece) mid (updates ++ update ∷ []) = follows_fed config whose octets piece old mid updates count (Some update) f alive c p (did f.alive).0 in
+    let over : is_over whose.max_routes (routes_left (updates ++ update ∷ [])) ≡ true =
+    true_of_not (is_over whose.max_routes (routes_left (updates ++ update ∷ []))) (sym (held_left peer updates update mid new table table' replies' replies'' open_ t whose w l k (p ∙ f.peer_is)) ∙ ends) in
+    let spoke : IsReplying config whose octets (drop count piece) mid (said ++ reply_of old (step_with old piece)) =
+    replying_fed config whose octets piece old said mid count (Some update) f s (step_with old piece) refl (did f.alive).0 in
+    record {
+      more = reply_of old (step_with old piece) ++ reply_at too_many;
+      grows = (t.ceases ends).2 ∙ ap (λ (z : List ℕ). z ++ reply_at too_many) (did f.alive).1 ∙ append_assoc replies (reply_of old (step_with old piece)) (reply_at too_many);
+      replied =
+          subst (λ (o : Option Closed). HasReplied config whose octets new o (said ++ (reply_of old (step_with old piece) ++ reply_at too_many))) (sym (t.ceases ends).0)
+          (λ more.
+          replying_ceased config whose octets (drop count piece) mid updates update (said ++ reply_of old (step_with old piece)) follows w over spoke.said_is
+          (fed_established config whose octets piece old said mid count update f (step_with old piece) refl (did f.alive).0) more
+          ∙ append_assoc said (reply_of old (step_with old piece)) (reply_at too_many));
+    }
+
 -- the session was closed
-pub replies_closed : (old new : Live) (replies replies' piece : List ℕ) (why : Closed)
+pub replies_closed : (peer : ℕ) (old new : Live) (table : Held) (replies replies' piece : List ℕ) (why : Closed)
     → (old.closed ≡ None → CloseIs (step_with old piece) why × (replies' ≡ replies ++ reply_at why)) → (why ≡ Memory → ⊥) → new.closed ≡ Some why
-    → RepliesMessage old new replies replies' piece None
-replies_closed old new replies replies' piece why did n closed = λ config whose octets updates said f s. record {
+    → RepliesMessage peer old new table replies replies' piece None
+replies_closed peer old new table replies replies' piece why did n closed = λ config whose octets updates said f w l k s. record {
   more = reply_at why;
   grows = (did f.alive).1;
   replied =
       subst (λ (o : Option Closed). HasReplied config whose octets new o (said ++ reply_at why)) (sym closed)
-      (replying_closed config whose octets piece old said why f s (close_is (step_with old piece) why n (did f.alive).0));
+      (replying_closed config whose octets piece old said why f w s (close_is (step_with old piece) why n (did f.alive).0));
 }
 
 -- nothing is left of the piece
-pub replies_nothing : (session : Live) (replies piece : List ℕ) → (length piece == 0) ≡ true → RepliesMessage session session replies replies piece None
-replies_nothing session replies piece h = λ config whose octets updates said f s. record {
+pub replies_nothing : (peer : ℕ) (session : Live) (table : Held) (replies piece : List ℕ) → (length piece == 0) ≡ true → RepliesMessage peer session session table replies replies piece None
+replies_nothing peer session table replies piece h = λ config whose octets updates said f w l k s. record {
   more = [];
   grows = sym (append-nil replies);
   replied =
@@ -52,22 +88,22 @@ replies_nothing session replies piece h = λ config whose octets updates said f 
 -- before the first octet of a piece
 pub replying_none : (config : Config) (whose : Peer) (peer : ℕ) (octets piece : List ℕ) (session : Live) (table : Held) (replies : List ℕ)
     → IsUp config whose peer octets session table → session.closed ≡ None
-    → IsReplyingMore config whose (octets ++ piece) piece session (replies_from config whose at_start octets) replies replies
+    → IsReplyingMore config whose (octets ++ piece) piece session (bounded_replies_from config whose octets) replies replies
 replying_none config whose peer octets piece session table replies s open_ = record {
   more = [];
   grows = sym (append-nil replies);
   replied =
-      subst (λ (z : List ℕ). IsReplying config whose (octets ++ piece) piece session z) (sym (append-nil (replies_from config whose at_start octets)))
-      (replying_piece config whose octets piece session (replies_from config whose at_start octets)
-      (subst (λ (o : Option Closed). HasReplied config whose octets session o (replies_from config whose at_start octets)) open_ s.replied));
+      subst (λ (z : List ℕ). IsReplying config whose (octets ++ piece) piece session z) (sym (append-nil (bounded_replies_from config whose octets)))
+      (replying_piece config whose octets piece session (bounded_replies_from config whose octets)
+      (subst (λ (o : Option Closed). HasReplied config whose octets session o (bounded_replies_from config whose octets)) open_ s.replied));
 }
 
 -- one message more
-pub replying_more : (config : Config) (whose : Peer) (octets rest : List ℕ) (session new : Live) (updates : List Update) (said first replies replies' : List ℕ) (count : ℕ)
-    → Follows config whose octets rest session updates → IsReplyingMore config whose octets rest session said first replies
-    → RepliesMessage session new replies replies' rest (Some count) → IsReplyingMore config whose octets (drop count rest) new said first replies'
-replying_more config whose octets rest session new updates said first replies replies' count f s speaks =
-    let t = speaks config whose octets updates (said ++ s.more) f s.replied in
+pub replying_more : (config : Config) (whose : Peer) (peer : ℕ) (octets rest : List ℕ) (session new : Live) (table : Held) (updates : List Update) (said first replies replies' : List ℕ) (count : ℕ)
+    → Follows config whose octets rest session updates → AreWithin whose updates → IsListed table → IsLeft peer updates table
+    → IsReplyingMore config whose octets rest session said first replies → RepliesMessage peer session new table replies replies' rest (Some count) → IsReplyingMore config whose octets (drop count rest) new said first replies'
+replying_more config whose peer octets rest session new table updates said first replies replies' count f w l k s speaks =
+    let t = speaks config whose octets updates (said ++ s.more) f w l k s.replied in
     record {
       more = s.more ++ t.more;
       grows = t.grows ∙ ap (λ (z : List ℕ). z ++ t.more) s.grows ∙ append_assoc first s.more t.more;
@@ -75,11 +111,11 @@ replying_more config whose octets rest session new updates said first replies re
     }
 
 -- and all
-pub replying_all : (config : Config) (whose : Peer) (octets rest : List ℕ) (session new : Live) (updates : List Update) (said first replies replies' : List ℕ)
-    → Follows config whose octets rest session updates → IsReplyingMore config whose octets rest session said first replies
-    → RepliesMessage session new replies replies' rest None → HasRepliedMore config whose octets new said first replies'
-replying_all config whose octets rest session new updates said first replies replies' f s speaks =
-    let t = speaks config whose octets updates (said ++ s.more) f s.replied in
+pub replying_all : (config : Config) (whose : Peer) (peer : ℕ) (octets rest : List ℕ) (session new : Live) (table : Held) (updates : List Update) (said first replies replies' : List ℕ)
+    → Follows config whose octets rest session updates → AreWithin whose updates → IsListed table → IsLeft peer updates table
+    → IsReplyingMore config whose octets rest session said first replies → RepliesMessage peer session new table replies replies' rest None → HasRepliedMore config whose octets new said first replies'
+replying_all config whose peer octets rest session new table updates said first replies replies' f w l k s speaks =
+    let t = speaks config whose octets updates (said ++ s.more) f w l k s.replied in
     record {
       more = s.more ++ t.more;
       grows = t.grows ∙ ap (λ (z : List ℕ). z ++ t.more) s.grows ∙ append_assoc first s.more t.more;
@@ -89,19 +125,19 @@ replying_all config whose octets rest session new updates said first replies rep
 -- so a piece is replied to
 pub replied_to : (config : Config) (whose : Peer) (octets piece : List ℕ) (new : Live) (updates : List Update) (first replies' : List ℕ)
     → IsFed config whose (octets ++ piece) new new.closed updates
-    → HasRepliedMore config whose (octets ++ piece) new (replies_from config whose at_start octets) first replies'
+    → HasRepliedMore config whose (octets ++ piece) new (bounded_replies_from config whose octets) first replies'
     → RepliesTo config whose octets piece first replies'
 replied_to config whose octets piece new updates first replies' fed t =
-    (t.more, t.grows, replied_all config whose (octets ++ piece) new new.closed updates (replies_from config whose at_start octets ++ t.more) fed t.replied)
+    (t.more, t.grows, replied_all config whose (octets ++ piece) new new.closed updates (bounded_replies_from config whose octets ++ t.more) fed t.replied)
 
 -- octets for a closed session are not answered
 pub replied_ended : (config : Config) (whose : Peer) (peer : ℕ) (octets piece : List ℕ) (session : Live) (table : Held) (replies : List ℕ)
     → is_some session.closed ≡ true → IsUp config whose peer octets session table → RepliesTo config whose octets piece replies replies
 replied_ended config whose peer octets piece session table replies h s =
     let found = some_there session.closed h in
-    let said : HasReplied config whose octets session (Some found.0) (replies_from config whose at_start octets) =
-    subst (λ (o : Option Closed). HasReplied config whose octets session o (replies_from config whose at_start octets)) found.1 s.replied in
-    ([], sym (append-nil replies), said piece ∙ sym (append-nil (replies_from config whose at_start octets)))
+    let said : HasReplied config whose octets session (Some found.0) (bounded_replies_from config whose octets) =
+    subst (λ (o : Option Closed). HasReplied config whose octets session o (bounded_replies_from config whose octets)) found.1 s.replied in
+    ([], sym (append-nil replies), said piece ∙ sym (append-nil (bounded_replies_from config whose octets)))
 
 -- in any case what was replied before still stands
 pub extends_none : (replies : List ℕ) → Extends replies replies

@@ -19,7 +19,8 @@ use Rattle.fs_validate.specs.declared.route.FlowRoute.{FlowRoute}
 use Rattle.fs_rules.specs.Table.{Held}
 use Rattle.fs_tape.specs.Tape.{Item}
 use Rattle.fs_desk.specs.Laws.{LeaveSame}
-use Rattle.fs_desk.specs.Leaves.{Leaves, flow_key, flow_key_cmp, given_of, unicast_at, flow_at, Given}
+use Rattle.fs_desk.specs.Leaves.{Leaves, flow_key, flow_key_cmp, given_of, unicast_at, flow_at}
+use Rattle.fs_desk.specs.Updates.{Given}
 use Rattle.fs_desk.proofs.KeyedSame.{value_at, one_list}
 use Rattle.fs_desk.proofs.Keys.{place_total, flow_key_total}
 

@@ -6,10 +6,11 @@ use Rattle.fs_base.specs.declared.config.Peer.{Peer}
 use Rattle.fs_attrs.specs.declared.update.Update.{Update}
 use Rattle.fs_rules.specs.Table.{Held}
 use Rattle.fs_speaker.specs.declared.state.Closed.{Closed}
-use Rattle.fs_speaker.specs.Session.{Last, still, at_start, session_of, session_from, Live as Session}
+use Rattle.fs_speaker.specs.Session.{Last, still, at_start, Live as Session}
 use Rattle.fs_tape.specs.Tape.{Item}
 use Rattle.fs_desk.specs.Life.{life}
 use Rattle.fs_desk.specs.Desk.{Desked, session_at, PeerIs, Played, standing_of, standing_at_desk}
+use Rattle.fs_desk.specs.Limit.{bounded_from, bounded_session}
 use Rattle.fs_desk.specs.Receive.{IsFed}
 use Rattle.fs_speaker.specs.declared.state.Standing.{Standing}
 use Rattle.fs_speaker.specs.declared.state.Standing.TheVariants.{Down, Up, Ended}
@@ -19,19 +20,19 @@ use Rattle.fs_desk.proofs.Follows.{follows_session, over_session}
 -- what a session came to is what the desk keeps of it
 fed_stands : (config : Config) (peer : Peer) (octets : List ℕ) (session : Session) (updates : List Update) (why : Option Closed)
     → IsFed config peer octets session why updates
-    → (elim why [ Some closed ↦ Ended closed | None ↦ Up session.phase.state ]) ≡ standing_at (session_from config peer at_start octets).1
+    → (elim why [ Some closed ↦ Ended closed | None ↦ Up session.phase.state ]) ≡ standing_at (bounded_from config peer octets).1
 fed_stands config peer octets session updates None follows =
-    sym (ap (λ (r : List Update × Last). standing_at r.1) (follows_session config peer octets session updates follows))
+    sym (ap (λ (r : List Update × Last). standing_at r.1) (follows_session config peer octets session updates follows.0 follows.1))
 fed_stands config peer octets session updates (Some why) over =
     sym (ap (λ (r : List Update × Last). standing_at r.1) (over_session config peer octets why over.0))
 
 -- the session of a peer, if it is configured
 abbrev session_with : Config → Option Peer → List ℕ → List Update × Last
-session_with config peer octets = elim peer [ None ↦ ([], still at_start) | Some whose ↦ session_from config whose at_start octets ]
+session_with config peer octets = elim peer [ None ↦ ([], still at_start) | Some whose ↦ bounded_from config whose octets ]
 
 peer_stands : (config : Config) (number : ℕ) (held : Held) (peer : Option Peer) (octets : Option (List ℕ)) (session : Option Session)
     → PeerIs config peer octets session number held → peer_of number config.peers ≡ peer
-    → standing_by session ≡ (elim octets [ None ↦ Down | Some sent ↦ standing_at (session_of config number sent).1 ])
+    → standing_by session ≡ (elim octets [ None ↦ Down | Some sent ↦ standing_at (bounded_session config number sent).1 ])
 peer_stands config number held peer None None left own = refl
 peer_stands config number held (Some peer) (Some octets) (Some session) stands own =
     fed_stands config peer octets session stands.updates session.closed stands.fed

@@ -19,9 +19,10 @@ use Rattle.fs_unicast.specs.Unicast.{place_cmp, Route}
 use Rattle.fs_unicast.specs.declared.unicast.Place.{Place}
 use Rattle.fs_validate.specs.declared.route.FlowRoute.{FlowRoute}
 use Rattle.fs_rules.specs.Table.{Held, put_route, without_route, without_peer, without_peer_unicast, without_peer_flows}
-use Rattle.fs_desk.specs.Leaves.{is_prefix, is_rule, unicast_at, flow_at, flow_key, flow_key_cmp, FlowKey, given_of}
+use Rattle.fs_desk.specs.Leaves.{unicast_at, flow_at, flow_key, flow_key_cmp, FlowKey, given_of}
+use Rattle.fs_desk.specs.Updates.{is_prefix, is_rule}
 use Rattle.fs_desk.specs.Apply.{Changes, same, nothing, taken_of, given_at, rules_taken, rules_given, given_or}
-use Rattle.fs_desk.proofs.Entries.{lookup-insert_entry, sorted-insert_entry, sorted-remove_entry, is_equal}
+use Rattle.fs_rules.proofs.Entries.{lookup-insert_entry, sorted-insert_entry, sorted-remove_entry, is_equal}
 use Rattle.fs_desk.proofs.KeyedLists.{at_key, put_by, at_key-put_by, at_key-without, at_key-filter, listed-put_by, listed-filter}
 use Rattle.fs_desk.proofs.Keys.{place_total, flow_key_total, place_same, key_same}
 

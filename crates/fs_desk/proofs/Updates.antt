@@ -5,10 +5,12 @@ use Rattle.std.specs.List.{list_any}
 use Rattle.fs_base.specs.declared.path.Path.{Path}
 use Rattle.fs_base.specs.declared.prefix.Prefix.{Prefix}
 use Rattle.fs_nlri.specs.Parts.{Ruled}
+use Rattle.fs_nlri.specs.Rule.{shown}
 use Rattle.fs_attrs.specs.declared.update.Update.{Update}
 use Rattle.fs_attrs.specs.Update.{takes_prefixes, takes_rules}
 use Rattle.fs_rules.specs.Table.{Held}
-use Rattle.fs_desk.specs.Leaves.{last_such, is_prefix, gives_at, tells_of, unicast_left, is_rule, Given, rule_given, tells_of_rule, given_with, flow_left, IsListed}
+use Rattle.fs_desk.specs.Leaves.{IsListed}
+use Rattle.fs_desk.specs.Updates.{last_such, is_prefix, gives_at, tells_of, unicast_left, is_rule, Given, rule_given, tells_of_rule, given_with, flow_left}
 use Rattle.fs_desk.specs.Apply.{Changes, nothing, told, told_of}
 use Rattle.fs_desk.specs.Receive.{IsLeft, Spares}
 
@@ -63,9 +65,9 @@ told_choice false false update before given path h = refl
 unicast_left-more : (prefix : Prefix) (updates : List Update) (update : Update)
     → unicast_left prefix (updates ++ update ∷ []) ≡ told update prefix (unicast_left prefix updates)
 unicast_left-more prefix updates update =
-    ap (λ (o : Option Update). option_and_then (λ u. if gives_at prefix u then u.path else None) o) (last-more (tells_of prefix) updates update)
-    ∙ told_choice (list_any (is_prefix prefix) (takes_prefixes update)) (gives_at prefix update) update (last_such (tells_of prefix) updates)
-    (λ u. if gives_at prefix u then u.path else None) update.path refl
+    ap (λ (o : Option Update). option_and_then (λ u. if gives_at (shown prefix) u then u.path else None) o) (last-more (tells_of (shown prefix)) updates update)
+    ∙ told_choice (list_any (is_prefix prefix) (takes_prefixes update)) (gives_at (shown prefix) update) update (last_such (tells_of (shown prefix)) updates)
+    (λ u. if gives_at (shown prefix) u then u.path else None) update.path refl
 
 told_rule : (takes : Bool) (given : Option Ruled) (update : Update) (before : Option Update) (found : Update → Option Given)
     → found update ≡ option_and_then (given_with update) given

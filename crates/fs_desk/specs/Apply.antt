@@ -4,12 +4,14 @@ use Rattle.std.specs.List.{list_any}
 use Rattle.fs_base.specs.declared.path.Path.{Path}
 use Rattle.fs_base.specs.declared.prefix.Prefix.{Prefix}
 use Rattle.fs_nlri.specs.Parts.{Ruled}
+use Rattle.fs_nlri.specs.Rule.{shown}
 use Rattle.fs_unicast.specs.declared.unicast.Place.{Place}
 use Rattle.fs_attrs.specs.Prefixes.{Shown}
 use Rattle.fs_attrs.specs.declared.update.Update.{Update}
 use Rattle.fs_attrs.specs.Update.{takes_prefixes, takes_rules}
 use Rattle.fs_rules.specs.Table.{Held}
-use Rattle.fs_desk.specs.Leaves.{last_such, is_prefix, gives_at, is_rule, Given, rule_given, given_with, IsListed, unicast_at, flow_at}
+use Rattle.fs_desk.specs.Leaves.{IsListed, unicast_at, flow_at}
+use Rattle.fs_desk.specs.Updates.{last_such, is_prefix, gives_at, is_rule, Given, rule_given, given_with}
 
 -- what a change makes of what is held at a prefix, and of a rule
 abbrev pub PrefixChange : Type 0
@@ -64,7 +66,7 @@ Announces peer prefixes rules path actions old new =
 -- what an update says of a prefix and of a rule
 abbrev pub told : Update → Prefix → Option Path → Option Path
 told update prefix before =
-    if gives_at prefix update then update.path
+    if gives_at (shown prefix) update then update.path
     else if list_any (is_prefix prefix) (takes_prefixes update) then None
     else before
 

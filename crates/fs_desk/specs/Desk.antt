@@ -10,12 +10,12 @@ use Rattle.fs_base.specs.declared.config.Peer.{Peer}
 use Rattle.fs_rules.specs.Table.{Held}
 use Rattle.fs_speaker.specs.declared.state.Standing.{Standing}
 use Rattle.fs_speaker.specs.declared.state.Standing.TheVariants.{Down}
-use Rattle.fs_speaker.specs.Replies.{replies_of}
-use Rattle.fs_speaker.specs.Session.{session_of, Live}
+use Rattle.fs_speaker.specs.Session.{Live}
 use Rattle.fs_speaker.specs.State.{standing_at, standing_by}
 use Rattle.fs_tape.specs.Tape.{Item}
 use Rattle.fs_desk.specs.Life.{life}
 use Rattle.fs_desk.specs.Leaves.{IsListed}
+use Rattle.fs_desk.specs.Limit.{bounded_session, bounded_replies}
 use Rattle.fs_desk.specs.Receive.{IsLeft, IsUp}
 
 -- the configuration, the routes held, and the sessions of the peers that are up
@@ -54,7 +54,7 @@ abbrev pub Replied : Config → ℕ → Option (List ℕ) → List ℕ → List 
 Replied config number None piece before now = now ≡ before
 Replied config number (Some octets) piece before now =
     (more : List ℕ) × (now ≡ before ++ more)
-    × (replies_of config number (octets ++ piece) ≡ replies_of config number octets ++ more)
+    × (bounded_replies config number (octets ++ piece) ≡ bounded_replies config number octets ++ more)
 
 -- so behind whatever was played before
 abbrev pub RepliesBehind : ℕ → Desked → List ℕ → List ℕ → List ℕ → Type 0
@@ -66,7 +66,7 @@ RepliesBehind peer desk piece before now =
 -- tells
 abbrev pub standing_of : Config → List Item → ℕ → Standing
 standing_of config items number =
-    elim (life number items) [ None ↦ Down | Some octets ↦ standing_at (session_of config number octets).1 ]
+    elim (life number items) [ None ↦ Down | Some octets ↦ standing_at (bounded_session config number octets).1 ]
 
 -- how it stands with a peer, by the session that the desk keeps of it
 abbrev pub standing_at_desk : Desked → ℕ → Standing

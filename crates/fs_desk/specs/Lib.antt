@@ -3,4 +3,7 @@ pub mod Desk
 pub mod Laws
 pub mod Leaves
 pub mod Life
+pub mod Limit
 pub mod Receive
+pub mod Updates
+pub mod Watched

@@ -1,18 +1,27 @@
 -- What a piece of a peer's octets does to its session, to the replies and to the table.
-use Rattle.std.specs.Prelude.{◌≡◌, ◌==◌, ◌⊎◌, ℕ, List, [], ◌++◌, drop, Bool, true, false, Option, Some, None}
+use Rattle.std.specs.Prelude.{◌≡◌, ◌==◌, ◌⊎◌, ℕ, List, [], ◌++◌, drop, flat_map, Bool, not, true, false, Option, Some, None}
+use Rattle.std.specs.List.{AllByRecursion}
 use Rattle.fs_base.specs.declared.config.Config.{Config}
 use Rattle.fs_base.specs.declared.config.Peer.{Peer}
 use Rattle.fs_nlri.specs.Parts.{Ruled}
 use Rattle.fs_unicast.specs.declared.unicast.Place.{Place}
 use Rattle.fs_message.specs.Deframer.{pending}
 use Rattle.fs_attrs.specs.declared.update.Update.{Update}
-use Rattle.fs_rules.specs.Table.{Held}
+use Rattle.fs_attrs.specs.Lists.{IsPrefix}
+use Rattle.fs_attrs.specs.Update.{gives_prefixes}
+use Rattle.fs_rules.specs.Table.{Held, held_count, without_peer}
+use Rattle.fs_speaker.specs.declared.state.State.{State}
+use Rattle.fs_speaker.specs.declared.state.State.TheVariants.{WaitOpen}
 use Rattle.fs_speaker.specs.declared.state.Closed.{Closed}
 use Rattle.fs_speaker.specs.declared.state.Closed.TheVariants.{Fault, Notified, NoFamily, Memory}
 use Rattle.fs_speaker.specs.Line.{waits}
 use Rattle.fs_speaker.specs.Session.{at_start, Last, closed, session_from, Live, step_of}
 use Rattle.fs_speaker.specs.Replies.{replies_from}
-use Rattle.fs_desk.specs.Leaves.{unicast_left, flow_left, IsListed, unicast_at, flow_at}
+use Rattle.fs_speaker.specs.Side.{reply_to, reply_at}
+use Rattle.fs_desk.specs.Apply.{Applies}
+use Rattle.fs_desk.specs.Leaves.{IsListed, unicast_at, flow_at}
+use Rattle.fs_desk.specs.Limit.{first_over, is_over, too_many, bounded_from, bounded_replies_from}
+use Rattle.fs_desk.specs.Updates.{unicast_left, flow_left}
 
 -- a session that was closed for want of memory, and not by the peer's octets
 abbrev pub wants_memory : Closed → Bool
@@ -39,26 +48,38 @@ pub record Follows (config : Config) (peer : Peer) (octets rest : List ℕ) (ses
 -- The session of the octets closed so, and stays so whatever follows.
 pub record IsOver (config : Config) (peer : Peer) (octets : List ℕ) (why : Closed) : Type 0 where
   pub updates : List Update
-  pub stays : (more : List ℕ) → session_from config peer at_start (octets ++ more) ≡ (updates, closed why)
+  pub stays : (more : List ℕ) → bounded_from config peer (octets ++ more) ≡ (updates, closed why)
+
+-- Behind none of these updates the peer holds more than it may. Each gives prefixes without bits past their lengths.
+pub record AreWithin (peer : Peer) (updates : List Update) : Type 0 where
+  pub small : first_over peer.max_routes updates ≡ None
+  pub prefixes : AllByRecursion IsPrefix (flat_map gives_prefixes updates)
 
 -- The session has been fed with these octets. While it is open it has taken these updates; a closed one counts none.
 abbrev pub IsFed : Config → Peer → List ℕ → Live → Option Closed → List Update → Type 0
-IsFed config peer octets session None updates = Follows config peer octets [] session updates
+IsFed config peer octets session None updates =
+    Follows config peer octets [] session updates × AreWithin peer updates
 IsFed config peer octets session (Some why) updates = IsOver config peer octets why × (updates ≡ [])
+
+-- an open session has replied to the OPEN, once it has taken it, and to nothing else
+abbrev pub said_in : Config → State → List ℕ
+said_in config WaitOpen = []
+said_in config _ = reply_to config WaitOpen
 
 -- Of all the octets a session has yet to take `rest`. It has replied `said`, and what is still to be replied is what it
 -- replies to its octets in hand, to the rest, and to all that follows.
-abbrev pub IsReplying : Config → Peer → List ℕ → List ℕ → Live → List ℕ → Type 0
-IsReplying config peer octets rest session said =
-    (more : List ℕ)
-    → replies_from config peer at_start (octets ++ more)
-    ≡ said ++ replies_from config peer session.phase (pending session.framing ++ (rest ++ more))
+pub record IsReplying (config : Config) (peer : Peer) (octets rest : List ℕ) (session : Live) (said : List ℕ) : Type 0
+  where
+    pub said_is : said ≡ said_in config session.phase.state
+    pub goes : (more : List ℕ)
+        → replies_from config peer at_start (octets ++ more)
+        ≡ said ++ replies_from config peer session.phase (pending session.framing ++ (rest ++ more))
 
 -- The session has been fed with these octets and has replied so. A closed one replies nothing more, whatever follows.
 abbrev pub HasReplied : Config → Peer → List ℕ → Live → Option Closed → List ℕ → Type 0
 HasReplied config peer octets session None said = IsReplying config peer octets [] session said
 HasReplied config peer octets session (Some why) said =
-    (more : List ℕ) → replies_from config peer at_start (octets ++ more) ≡ said
+    (more : List ℕ) → bounded_replies_from config peer (octets ++ more) ≡ said
 
 -- the peer holds what these updates leave
 pub record IsLeft (peer : ℕ) (updates : List Update) (held : Held) : Type 0 where
@@ -80,7 +101,7 @@ pub record IsUp (config : Config) (peer : Peer) (number : ℕ) (octets : List �
     : Type 0 where
   pub updates : List Update
   pub fed : IsFed config peer octets session session.closed updates
-  pub replied : HasReplied config peer octets session session.closed (replies_from config peer at_start octets)
+  pub replied : HasReplied config peer octets session session.closed (bounded_replies_from config peer octets)
   pub left : IsLeft number updates held
 
 -- Of the octets all but `rest` was taken: the session follows, the peer holds what its updates leave, and other peers
@@ -89,6 +110,7 @@ pub record HasTaken (config : Config) (whose : Peer) (peer : ℕ) (octets rest :
     (table now : Held) : Type 0 where
   pub updates : List Update
   pub follows : Follows config whose octets rest session updates
+  pub within : AreWithin whose updates
   pub left : IsLeft peer updates now
   pub spares : Spares peer table now
 
@@ -103,7 +125,7 @@ TakesPiece peer old new table table' piece =
 abbrev pub RepliesTo : Config → Peer → List ℕ → List ℕ → List ℕ → List ℕ → Type 0
 RepliesTo config whose octets piece before now =
     (more : List ℕ) × (now ≡ before ++ more)
-    × (replies_from config whose at_start (octets ++ piece) ≡ replies_from config whose at_start octets ++ more)
+    × (bounded_replies_from config whose (octets ++ piece) ≡ bounded_replies_from config whose octets ++ more)
 
 -- so to whatever the peer sent before
 abbrev pub RepliesPiece : ℕ → Live → Held → List ℕ → List ℕ → List ℕ → Type 0
@@ -135,8 +157,21 @@ MessageTaken config whose octets peer old new table table' piece None =
 abbrev pub TakesMessage : ℕ → Live → Live → Held → Held → List ℕ → Option ℕ → Type 0
 TakesMessage peer old new table table' piece taken =
     (config : Config) (whose : Peer) (octets : List ℕ) (updates : List Update)
-    → Follows config whose octets piece old updates → IsListed table → IsLeft peer updates table
+    → Follows config whose octets piece old updates → AreWithin whose updates → IsListed table
+    → IsLeft peer updates table
     → MessageTaken config whose octets peer old new table table' piece taken
+
+-- An update was applied. Where the peer then holds no more than it may, its session stays as it is; else it is lost, and
+-- its session closes with a NOTIFICATION.
+pub record TakesUpdate (peer : ℕ) (update : Update) (old new : Live) (table table' : Held) (replies replies' : List ℕ)
+    (open' : Bool) : Type 0 where
+  pub applied : Held
+  pub changes : Applies peer update table applied
+  pub prefixes : AllByRecursion IsPrefix (gives_prefixes update)
+  pub within : open' ≡ not (is_over old.peer.max_routes (held_count peer applied))
+  pub stays : open' ≡ true → (new ≡ old) × (table' ≡ applied) × (replies' ≡ replies)
+  pub ceases : open' ≡ false
+      → (new.closed ≡ Some too_many) × (table' ≡ without_peer peer applied) × (replies' ≡ replies ++ reply_at too_many)
 
 -- The session has said all: what it had said before, and what was appended to the replies since.
 pub record IsReplyingMore (config : Config) (whose : Peer) (octets rest : List ℕ) (session : Live)
@@ -160,8 +195,9 @@ MessageReplied config whose octets new said replies replies' piece None =
     HasRepliedMore config whose octets new said replies replies'
 
 -- so of any octets that an open session has been fed with before, and of all that it has said
-abbrev pub RepliesMessage : Live → Live → List ℕ → List ℕ → List ℕ → Option ℕ → Type 0
-RepliesMessage old new replies replies' piece taken =
+abbrev pub RepliesMessage : ℕ → Live → Live → Held → List ℕ → List ℕ → List ℕ → Option ℕ → Type 0
+RepliesMessage peer old new table replies replies' piece taken =
     (config : Config) (whose : Peer) (octets : List ℕ) (updates : List Update) (said : List ℕ)
-    → Follows config whose octets piece old updates → IsReplying config whose octets piece old said
+    → Follows config whose octets piece old updates → AreWithin whose updates → IsListed table
+    → IsLeft peer updates table → IsReplying config whose octets piece old said
     → MessageReplied config whose octets new said replies replies' piece taken

@@ -1,26 +1,31 @@
 //! What an update of a peer does to the table.
 
 ghost use Rattle.std.specs.Prelude.{◌≡◌, ◌++◌, None, map, OnOk, if◌then◌else◌};
+ghost use Rattle.std.specs.List.{AllByRecursion};
 ghost use Rattle.fs_nlri.specs.Rule.{shown};
-ghost use Rattle.fs_attrs.specs.Update.{unicast_in, flows_in};
+ghost use Rattle.fs_attrs.specs.Lists.{IsPrefix};
+ghost use Rattle.fs_attrs.specs.Update.{unicast_in, flows_in, gives_prefixes};
 ghost use Rattle.fs_desk.specs.Apply.{Applies, Announces, Changes, Withdraws, same, taken_of, given_at, rules_taken, rules_given};
+ghost use Rattle.fs_desk.specs.Watched.{Tells};
 
+use crate::watched::WatchedTable;
 use fs_actions::Actions;
 use fs_attrs::{PrefixList, Routes, RuleList, Update};
 use fs_base::{Memory, Path, Prefix, Steps};
 use fs_order::Ranked;
-use fs_rules::Table;
 use std::sync::ledger::Ledger;
 
 /// Takes away what the update takes, and then keeps what it gives. What it gives is taken away too where it is to be
 /// treated as a withdrawal (RFC 7606 section 2).
 pub fn apply<L: Ledger>(
-    table: &mut Table<'_>,
+    table: &mut WatchedTable<'_>,
     peer: u16,
     update: Update,
     steps: &mut Steps<L>,
 ) -> Result<(), Memory>
-    ensures { OnOk result (Applies peer update table.old table.new) }
+    ensures applied { OnOk result (Applies peer update table.old.held table.new.held) }
+    ensures prefixes { OnOk result (AllByRecursion IsPrefix (gives_prefixes update)) }
+    ensures told { OnOk result (Tells table.old table.new) }
 {
     let Update {
         classic_out,
@@ -48,25 +53,30 @@ fn path_given(path: Option<Path>, as_withdraw: bool) -> Option<Path>
 }
 
 fn withdraw<L: Ledger>(
-    table: &mut Table<'_>,
+    table: &mut WatchedTable<'_>,
     peer: u16,
     prefixes: &PrefixList,
     routes: Option<Routes>,
     steps: &mut Steps<L>,
 )
-    ensures { Withdraws peer (prefixes.now ++ unicast_in routes) (flows_in routes) table.old table.new }
+    ensures changes { Withdraws peer (prefixes.now ++ unicast_in routes) (flows_in routes)
+        table.old.held table.new.held }
+    ensures prefixes { AllByRecursion IsPrefix (prefixes.now ++ unicast_in routes) }
+    ensures told { Tells table.old table.new }
 {
     withdraw_prefixes(table, peer, prefixes, steps);
     withdraw_routes(table, peer, routes, steps);
 }
 
 fn withdraw_routes<L: Ledger>(
-    table: &mut Table<'_>,
+    table: &mut WatchedTable<'_>,
     peer: u16,
     routes: Option<Routes>,
     steps: &mut Steps<L>,
 )
-    ensures { Withdraws peer (unicast_in routes) (flows_in routes) table.old table.new }
+    ensures changes { Withdraws peer (unicast_in routes) (flows_in routes) table.old.held table.new.held }
+    ensures prefixes { AllByRecursion IsPrefix (unicast_in routes) }
+    ensures told { Tells table.old table.new }
 {
     match routes {
         Some(Routes::Unicast(_, prefixes)) => withdraw_prefixes(table, peer, &prefixes, steps),
@@ -76,15 +86,17 @@ fn withdraw_routes<L: Ledger>(
 }
 
 fn give_routes<L: Ledger>(
-    table: &mut Table<'_>,
+    table: &mut WatchedTable<'_>,
     peer: u16,
     routes: Option<Routes>,
     path: &Path,
     actions: &Actions,
     steps: &mut Steps<L>,
 ) -> Result<(), Memory>
-    ensures { OnOk result
-        (Announces peer (unicast_in routes) (flows_in routes) path.now actions.now table.old table.new) }
+    ensures changes { OnOk result
+        (Announces peer (unicast_in routes) (flows_in routes) path.now actions.now table.old.held table.new.held) }
+    ensures prefixes { OnOk result (AllByRecursion IsPrefix (unicast_in routes)) }
+    ensures told { OnOk result (Tells table.old table.new) }
 {
     match routes {
         Some(Routes::Unicast(_, prefixes)) => give_prefixes(table, peer, &prefixes, path, steps),
@@ -94,23 +106,26 @@ fn give_routes<L: Ledger>(
 }
 
 fn withdraw_prefixes<L: Ledger>(
-    table: &mut Table<'_>,
+    table: &mut WatchedTable<'_>,
     peer: u16,
     prefixes: &PrefixList,
     steps: &mut Steps<L>,
 )
-    ensures { Changes peer (taken_of prefixes.now) same table.old table.new }
+    ensures changes { Changes peer (taken_of prefixes.now) same table.old.held table.new.held }
+    ensures prefixes { AllByRecursion IsPrefix prefixes.now }
+    ensures told { Tells table.old table.new }
 {
     withdraw_each(table, peer, prefixes.as_slice(), steps);
 }
 
 fn withdraw_each<L: Ledger>(
-    table: &mut Table<'_>,
+    table: &mut WatchedTable<'_>,
     peer: u16,
     prefixes: &[Prefix],
     steps: &mut Steps<L>,
 )
-    ensures { Changes peer (taken_of (map shown prefixes.now)) same table.old table.new }
+    ensures changes { Changes peer (taken_of (map shown prefixes.now)) same table.old.held table.new.held }
+    ensures told { Tells table.old table.new }
 {
     for prefix in prefixes {
         table.withdraw_unicast(peer, prefix, steps);
@@ -118,25 +133,29 @@ fn withdraw_each<L: Ledger>(
 }
 
 fn give_prefixes<L: Ledger>(
-    table: &mut Table<'_>,
+    table: &mut WatchedTable<'_>,
     peer: u16,
     prefixes: &PrefixList,
     path: &Path,
     steps: &mut Steps<L>,
 ) -> Result<(), Memory>
-    ensures { OnOk result (Changes peer (given_at prefixes.now path.now) same table.old table.new) }
+    ensures changes { OnOk result (Changes peer (given_at prefixes.now path.now) same table.old.held table.new.held) }
+    ensures prefixes { OnOk result (AllByRecursion IsPrefix prefixes.now) }
+    ensures told { OnOk result (Tells table.old table.new) }
 {
     give_each(table, peer, prefixes.as_slice(), path, steps)
 }
 
 fn give_each<L: Ledger>(
-    table: &mut Table<'_>,
+    table: &mut WatchedTable<'_>,
     peer: u16,
     prefixes: &[Prefix],
     path: &Path,
     steps: &mut Steps<L>,
 ) -> Result<(), Memory>
-    ensures { OnOk result (Changes peer (given_at (map shown prefixes.now) path.now) same table.old table.new) }
+    ensures changes { OnOk result
+        (Changes peer (given_at (map shown prefixes.now) path.now) same table.old.held table.new.held) }
+    ensures told { OnOk result (Tells table.old table.new) }
 {
     for prefix in prefixes {
         table.put_unicast(peer, *prefix, path.copy()?, steps)?;
@@ -145,12 +164,13 @@ fn give_each<L: Ledger>(
 }
 
 fn withdraw_rules<L: Ledger>(
-    table: &mut Table<'_>,
+    table: &mut WatchedTable<'_>,
     peer: u16,
     rules: RuleList,
     steps: &mut Steps<L>,
 )
-    ensures { Changes peer same (rules_taken rules) table.old table.new }
+    ensures changes { Changes peer same (rules_taken rules) table.old.held table.new.held }
+    ensures told { Tells table.old table.new }
 {
     for rule in rules.into_vec() {
         table.withdraw_flow(peer, &Ranked { rule }, steps);
@@ -158,14 +178,16 @@ fn withdraw_rules<L: Ledger>(
 }
 
 fn give_rules<L: Ledger>(
-    table: &mut Table<'_>,
+    table: &mut WatchedTable<'_>,
     peer: u16,
     rules: RuleList,
     path: &Path,
     actions: &Actions,
     steps: &mut Steps<L>,
 ) -> Result<(), Memory>
-    ensures { OnOk result (Changes peer same (rules_given rules path.now actions.now) table.old table.new) }
+    ensures changes { OnOk result
+        (Changes peer same (rules_given rules path.now actions.now) table.old.held table.new.held) }
+    ensures told { OnOk result (Tells table.old table.new) }
 {
     for rule in rules.into_vec() {
         table.put_flow(peer, rule, path.copy()?, actions.copy()?, steps)?;

@@ -1,8 +1,9 @@
 //! The sessions with all configured peers, and the table of the routes that they hold.
 
-ghost use Rattle.std.specs.Prelude.{◌≡◌, ◌<◌, List, [], IsSome, OnOk, OnErr, Some};
+ghost use Rattle.std.specs.Prelude.{◌≡◌, ◌<◌, false, List, [], IsSome, IfOk, OnOk, OnErr, Some};
 
 use crate::receive::receive;
+use crate::watched::WatchedTable;
 use fs_base::{Config, Memory, Steps};
 use fs_rules::Table;
 use fs_speaker::{Session, Standing};
@@ -16,7 +17,7 @@ use std::sync::ledger::{Blank, Ledger};
 pub struct Desk<'a> {
     alloc: Global,
     config: &'a Config,
-    table: Table<'a>,
+    table: WatchedTable<'a>,
     sessions: BTreeMap<u16, Session<'a>>,
 }
 
@@ -25,7 +26,7 @@ impl<'a> Model for Desk<'a> {
 
     ghost Value = { Desked };
 
-    ghost view = { λ d. record { config = d.config.now; held = d.table; sessions = d.sessions.entries } };
+    ghost view = { λ d. record { config = d.config.now; held = d.table.held; sessions = d.sessions.entries } };
 }
 
 impl<'a> Desk<'a> {
@@ -34,6 +35,7 @@ impl<'a> Desk<'a> {
     ghost use Rattle.fs_tape.specs.Tape.{Item, came_up, received, was_lost};
     ghost use Rattle.fs_desk.specs.Desk.{Played, Plays, RepliesBehind, standing_at_desk, standing_of};
     ghost use Rattle.fs_desk.specs.Leaves.{Leaves};
+    ghost use Rattle.fs_rules.specs.Table.{AdmitsSame, held_count};
 
     /// Every configured peer is down, and nothing is held.
     pub fn new(alloc: Global, config: &'a Config) -> Desk<'a>
@@ -42,7 +44,7 @@ impl<'a> Desk<'a> {
         Desk {
             alloc,
             config,
-            table: Table::new(alloc, config),
+            table: WatchedTable::new(alloc, config),
             sessions: BTreeMap::new(alloc),
         }
     }
@@ -54,10 +56,23 @@ impl<'a> Desk<'a> {
         ensures lost { OnErr result (Plays (was_lost peer) self.old self.new) }
         ensures config { self.new.config ≡ self.old.config }
     {
-        self.lost(peer);
+        self.up_telling(peer)?;
+        Ok(())
+    }
+
+    /// As [`up`](Desk::up), and tells whether the rules that are admitted may be others than before.
+    pub fn up_telling(&mut self, peer: u16) -> Result<bool, Memory>
+        requires { IsSome (peer_of peer self.old.config.peers) }
+        ensures played { OnOk result (Plays (came_up peer) self.old self.new) }
+        ensures lost { OnErr result (Plays (was_lost peer) self.old self.new) }
+        ensures config { self.new.config ≡ self.old.config }
+        ensures told { IfOk result (λ changed. changed ≡ false → AdmitsSame self.old.held self.new.held) }
+        ensures idle { held_count peer self.old.held ≡ 0 → IfOk result (λ changed. changed ≡ false) }
+    {
+        let changed = self.lost_telling(peer);
         let session = Session::new(self.alloc, self.config, peer)?;
         self.sessions.insert(peer, session)?;
-        Ok(())
+        Ok(changed)
     }
 
     /// The peer is lost, and with it all that it held. It needs not be up.
@@ -65,30 +80,65 @@ impl<'a> Desk<'a> {
         ensures played { Plays (was_lost peer) self.old self.new }
         ensures config { self.new.config ≡ self.old.config }
     {
-        lose::<Brand>(Blank::new(1), &mut self.table, peer);
-        self.sessions.remove(&peer);
+        self.lost_telling(peer);
     }
 
-    /// The peer sent these octets. Those of a peer that is down or whose session has closed are skipped. The replies
-    /// of its session are appended to `replies`: to its OPEN the local OPEN and a KEEPALIVE, to a fault a NOTIFICATION
-    /// (RFC 4271 section 6). After `Memory` `replies` is as before.
+    /// As [`lost`](Desk::lost), and tells whether the rules that are admitted may be others than before. Not where
+    /// the peer held nothing.
+    pub fn lost_telling(&mut self, peer: u16) -> bool
+        ensures played { Plays (was_lost peer) self.old self.new }
+        ensures config { self.new.config ≡ self.old.config }
+        ensures told { result ≡ false → AdmitsSame self.old.held self.new.held }
+        ensures idle { held_count peer self.old.held ≡ 0 → result ≡ false }
+    {
+        self.table.watch();
+        lose::<Brand>(Blank::new(1), &mut self.table, peer);
+        self.sessions.remove(&peer);
+        self.table.has_changed()
+    }
+
+    /// The peer sent these octets. Those of a peer that is down or whose session has closed are skipped. Where an
+    /// update leaves the peer holding more routes than it may, the peer holds nothing any more and its session closes
+    /// (RFC 4486, section 4). The replies of its session are appended to `replies`: to its OPEN the local OPEN and a
+    /// KEEPALIVE, to a fault or such an update a NOTIFICATION (RFC 4271 section 6). After `Memory` `replies` is as
+    /// before.
     pub fn octets(&mut self, peer: u16, piece: &[u8], replies: &mut Vec<u8>) -> Result<(), Memory>
         ensures played { OnOk result (Plays (received peer piece.now) self.old self.new) }
         ensures replied { OnOk result (RepliesBehind peer self.old piece.now replies.old.items replies.new.items) }
         ensures err { OnErr result (replies.new.items ≡ replies.old.items) }
         ensures config { self.new.config ≡ self.old.config }
     {
-        match self.sessions.get_mut(&peer) {
-            Some(session) => receive::<Brand>(
-                Blank::new(1),
-                session,
-                &mut self.table,
-                peer,
-                piece,
-                replies,
-            ),
-            None => Ok(()),
-        }
+        self.octets_telling(peer, piece, replies)?;
+        Ok(())
+    }
+
+    /// As [`octets`](Desk::octets), and tells whether the rules that are admitted may be others than before: whether
+    /// a flow route came, went or changed its validity.
+    pub fn octets_telling(
+        &mut self,
+        peer: u16,
+        piece: &[u8],
+        replies: &mut Vec<u8>,
+    ) -> Result<bool, Memory>
+        ensures played { OnOk result (Plays (received peer piece.now) self.old self.new) }
+        ensures replied { OnOk result (RepliesBehind peer self.old piece.now replies.old.items replies.new.items) }
+        ensures err { OnErr result (replies.new.items ≡ replies.old.items) }
+        ensures config { self.new.config ≡ self.old.config }
+        ensures told { IfOk result (λ changed. changed ≡ false → AdmitsSame self.old.held self.new.held) }
+    {
+        self.table.watch();
+        let Some(session) = self.sessions.get_mut(&peer) else {
+            return Ok(false);
+        };
+        receive::<Brand>(
+            Blank::new(1),
+            session,
+            &mut self.table,
+            peer,
+            piece,
+            replies,
+        )?;
+        Ok(self.table.has_changed())
     }
 
     /// The configuration.
@@ -116,11 +166,12 @@ impl<'a> Desk<'a> {
         ensures left { (config : Config) (items : List Item) → Played config items self.now
             → Leaves config items result.now }
     {
-        &self.table
+        self.table.table()
     }
 }
 
-ghost use Rattle.fs_rules.specs.Table.{without_peer};
+ghost use Rattle.fs_rules.specs.Table.{without_peer, held_count};
+ghost use Rattle.fs_desk.specs.Watched.{Tells};
 ghost use Rattle.fs_speaker.specs.State.{standing_by};
 
 /// How it stands with the peer of a session.
@@ -134,11 +185,13 @@ fn standing(session: &Session<'_>) -> Standing
 }
 
 /// Takes all that the peer holds out of the table.
-fn lose<L: Ledger>(blank: Blank, table: &mut Table<'_>, peer: u16)
+fn lose<L: Ledger>(blank: Blank, table: &mut WatchedTable<'_>, peer: u16)
     requires name { blank.name ≡ L.name }
     requires parts { blank.parts ≡ L.parts }
     requires some { 0 < L.parts }
-    ensures { table.new ≡ without_peer peer table.old }
+    ensures lost { table.new.held ≡ without_peer peer table.old.held }
+    ensures told { Tells table.old table.new }
+    ensures idle { held_count peer table.old.held ≡ 0 → table.new.changed ≡ table.old.changed }
 {
     let mut steps = Steps::<L>::new(blank);
     table.lose(peer, &mut steps);

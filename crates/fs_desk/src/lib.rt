@@ -4,7 +4,9 @@
 mod apply;
 mod desk;
 mod laws;
+mod limit;
 mod receive;
+mod watched;
 
 pub use desk::Desk;
 pub use laws::same_routes;

@@ -1,12 +1,15 @@
 //! What a piece of a peer's octets does to its session, to the replies and to the table.
 
-ghost use Rattle.std.specs.Prelude.{◌≡◌, ◌≤◌, ◌<◌, false, IfOk, IfSome, OnOk, OnErr, length};
+ghost use Rattle.std.specs.Prelude.{◌≡◌, ◌≤◌, ◌<◌, false, None, IfOk, IfSome, OnOk, OnErr, length};
 ghost use Rattle.fs_rules.specs.Table.{without_peer};
-ghost use Rattle.fs_desk.specs.Receive.{Extends, RepliesMessage, RepliesPiece, TakesMessage, TakesPiece, wants_memory};
+ghost use Rattle.fs_desk.specs.Receive.{Extends, RepliesMessage, RepliesPiece, TakesMessage, TakesPiece, TakesUpdate, wants_memory};
+ghost use Rattle.fs_desk.specs.Watched.{Tells};
 
 use crate::apply::apply;
+use crate::limit::is_over;
+use crate::watched::WatchedTable;
+use fs_attrs::Update;
 use fs_base::{Memory, Steps};
-use fs_rules::Table;
 use fs_speaker::{Closed, Session};
 use std::sync::ledger::{Blank, Ledger};
 
@@ -15,7 +18,7 @@ use std::sync::ledger::{Blank, Ledger};
 pub fn receive<L: Ledger>(
     blank: Blank,
     session: &mut Session<'_>,
-    table: &mut Table<'_>,
+    table: &mut WatchedTable<'_>,
     peer: u16,
     piece: &[u8],
     replies: &mut Vec<u8>,
@@ -23,9 +26,10 @@ pub fn receive<L: Ledger>(
     requires name { blank.name ≡ L.name }
     requires parts { blank.parts ≡ L.parts }
     requires some { 0 < L.parts }
-    ensures taken { OnOk result (TakesPiece peer session.old session.new table.old table.new piece.now) }
+    ensures taken { OnOk result (TakesPiece peer session.old session.new table.old.held table.new.held piece.now) }
     ensures replied { OnOk result
-        (RepliesPiece peer session.old table.old piece.now replies.old.items replies.new.items) }
+        (RepliesPiece peer session.old table.old.held piece.now replies.old.items replies.new.items) }
+    ensures told { OnOk result (Tells table.old table.new) }
     ensures err { OnErr result (replies.new.items ≡ replies.old.items) }
 {
     let start = replies.len();
@@ -40,7 +44,7 @@ pub fn receive<L: Ledger>(
 fn receive_messages<L: Ledger>(
     blank: Blank,
     session: &mut Session<'_>,
-    table: &mut Table<'_>,
+    table: &mut WatchedTable<'_>,
     peer: u16,
     piece: &[u8],
     replies: &mut Vec<u8>,
@@ -48,9 +52,10 @@ fn receive_messages<L: Ledger>(
     requires name { blank.name ≡ L.name }
     requires parts { blank.parts ≡ L.parts }
     requires some { 0 < L.parts }
-    ensures taken { OnOk result (TakesPiece peer session.old session.new table.old table.new piece.now) }
+    ensures taken { OnOk result (TakesPiece peer session.old session.new table.old.held table.new.held piece.now) }
     ensures replied { OnOk result
-        (RepliesPiece peer session.old table.old piece.now replies.old.items replies.new.items) }
+        (RepliesPiece peer session.old table.old.held piece.now replies.old.items replies.new.items) }
+    ensures told { OnOk result (Tells table.old table.new) }
     ensures grows { Extends replies.old.items replies.new.items }
 {
     if session.closed().is_some() {
@@ -70,16 +75,17 @@ fn receive_messages<L: Ledger>(
 /// brings. Answers how many octets were taken, or None where none are left or the session has closed.
 fn take_message<L: Ledger>(
     session: &mut Session<'_>,
-    table: &mut Table<'_>,
+    table: &mut WatchedTable<'_>,
     peer: u16,
     piece: &[u8],
     replies: &mut Vec<u8>,
     steps: &mut Steps<L>,
 ) -> Result<Option<usize>, Memory>
     ensures some { IfOk result (λ taken. IfSome taken (λ count. (count ≤ length piece.now) × (0 < count))) }
-    ensures taken { IfOk result (TakesMessage peer session.old session.new table.old table.new piece.now) }
+    ensures taken { IfOk result (TakesMessage peer session.old session.new table.old.held table.new.held piece.now) }
     ensures replied { IfOk result
-        (RepliesMessage session.old session.new replies.old.items replies.new.items piece.now) }
+        (RepliesMessage peer session.old session.new table.old.held replies.old.items replies.new.items piece.now) }
+    ensures told { OnOk result (Tells table.old table.new) }
     ensures grows { Extends replies.old.items replies.new.items }
 {
     if piece.is_empty() {
@@ -88,7 +94,10 @@ fn take_message<L: Ledger>(
     match session.feed(piece, replies) {
         Ok((count, None)) => Ok(Some(count)),
         Ok((count, Some(update))) => {
-            apply(table, peer, update, steps)?;
+            let is_open = take_update(session, table, peer, update, replies, steps)?;
+            if !is_open {
+                return Ok(None);
+            }
             Ok(Some(count))
         }
         Err(why) => {
@@ -98,16 +107,53 @@ fn take_message<L: Ledger>(
     }
 }
 
+/// Applies the update that an open session has taken. Where the peer then holds more than it may, it is lost, and its
+/// session closes with a NOTIFICATION Cease (RFC 4486, section 4). Answers whether the session is still open.
+fn take_update<L: Ledger>(
+    session: &mut Session<'_>,
+    table: &mut WatchedTable<'_>,
+    peer: u16,
+    update: Update,
+    replies: &mut Vec<u8>,
+    steps: &mut Steps<L>,
+) -> Result<bool, Memory>
+    requires { session.old.closed ≡ None }
+    ensures taken { IfOk result
+        (TakesUpdate peer update session.old session.new table.old.held table.new.held
+        replies.old.items replies.new.items) }
+    ensures told { OnOk result (Tells table.old table.new) }
+    ensures err { OnErr result (replies.new.items ≡ replies.old.items) }
+{
+    apply(table, peer, update, steps)?;
+    if !is_over(session.max_routes(), table.held_by(peer)) {
+        return Ok(true);
+    }
+    close(table, peer, TOO_MANY_ROUTES, steps)?;
+    match session.cease(MAXIMUM_REACHED, replies) {
+        Ok(()) => Ok(false),
+        Err(_) => Err(Memory),
+    }
+}
+
+/// The subcode of a Cease where the maximum number of prefixes is reached (RFC 4486, section 4).
+const MAXIMUM_REACHED: u8 = 1;
+
+const TOO_MANY_ROUTES: Closed = Closed::Fault {
+    code: 6,
+    subcode: MAXIMUM_REACHED,
+};
+
 /// The peer's session has closed: takes all that the peer holds out of the table. Where it closed for want of memory
 /// the table stays, and `Memory` is answered.
 fn close<L: Ledger>(
-    table: &mut Table<'_>,
+    table: &mut WatchedTable<'_>,
     peer: u16,
     why: Closed,
     steps: &mut Steps<L>,
 ) -> Result<(), Memory>
     ensures octets { OnOk result (wants_memory why ≡ false) }
-    ensures lost { OnOk result (table.new ≡ without_peer peer table.old) }
+    ensures told { OnOk result (Tells table.old table.new) }
+    ensures lost { OnOk result (table.new.held ≡ without_peer peer table.old.held) }
 {
     if wants_memory(why) {
         return Err(Memory);

@@ -13,15 +13,19 @@ pub(crate) const HEADER: usize = 19;
 /// The octets of the longest message.
 pub(crate) const LONGEST: usize = 4096;
 
-/// The types of messages (RFC 4271, section 4.1; RFC 2918, section 3).
+/// The type of an OPEN (RFC 4271, section 4.1).
 pub const OPEN: u8 = 1;
 
+/// The type of an UPDATE (RFC 4271, section 4.1).
 pub const UPDATE: u8 = 2;
 
+/// The type of a NOTIFICATION (RFC 4271, section 4.1).
 pub const NOTIFICATION: u8 = 3;
 
+/// The type of a KEEPALIVE (RFC 4271, section 4.1).
 pub const KEEPALIVE: u8 = 4;
 
+/// The type of a ROUTE-REFRESH (RFC 2918, section 3).
 pub const ROUTE_REFRESH: u8 = 5;
 
 /// The first field that stands whole in these octets of a header and is wrong.

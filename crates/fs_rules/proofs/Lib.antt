@@ -1,3 +1,4 @@
+pub mod Entries
 pub mod Placing
 pub mod Changes
 pub mod Chosen
@@ -14,3 +15,6 @@ pub mod Searching
 pub mod InParts
 pub mod Grouping
 pub mod BothFamilies
+pub mod Telling
+pub mod Counting
+pub mod Marks

@@ -60,7 +60,7 @@ module _ (unicast : List Route) (config : Config) where
   pub mends_keys : (t : Prefix → Bool) (old new : List Entry) (before after : ℕ) → Mends unicast config t old new before after → keys_of new ≡ keys_of old
   mends_keys t old new before after m = ap keys_of m.entries ∙ keys_touched t old
 
-  each_key : (P : Prefix → Type 0) (es : List Entry) → AllByRecursion P (keys_of es) → AllByRecursion (λ e. P e.0) es
+  pub each_key : (P : Prefix → Type 0) (es : List Entry) → AllByRecursion P (keys_of es) → AllByRecursion (λ e. P e.0) es
   each_key P [] h = tt
   each_key P (e ∷ es) h = (h.0, each_key P es h.1)
 
@@ -142,7 +142,7 @@ module _ (unicast : List Route) (config : Config) where
     steps = let f : length group ≤ size (is_at (prefix_cmp p)) old = size_found p old group h in omega arith;
   }
 
-  none_found : (p : Prefix) (es : List Entry) → lookup (is_at (prefix_cmp p)) es ≡ None → AllByRecursion (λ e. is_eq (prefix_cmp p e.0) ≡ false) es
+  pub none_found : (p : Prefix) (es : List Entry) → lookup (is_at (prefix_cmp p)) es ≡ None → AllByRecursion (λ e. is_eq (prefix_cmp p e.0) ≡ false) es
   none_found p [] h = tt
   none_found p (e ∷ es) h = at (is_eq (prefix_cmp p e.0)) refl h (none_found p es) where
     at : (b : Bool) → is_eq (prefix_cmp p e.0) ≡ b → cond b (Some e.1) (lookup (is_at (prefix_cmp p)) es) ≡ None → (lookup (is_at (prefix_cmp p)) es ≡ None → AllByRecursion (λ e. is_eq (prefix_cmp p e.0) ≡ false) es) → AllByRecursion (λ e. is_eq (prefix_cmp p e.0) ≡ false) (e ∷ es)

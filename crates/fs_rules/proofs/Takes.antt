@@ -21,6 +21,11 @@ use Rattle.fs_rules.specs.Groups.{Entry, kept_in, IsTo, ArePlaced, AreInOrder, w
 use Rattle.fs_rules.proofs.Apart.{key_same, each_front, each_back}
 use Rattle.fs_rules.proofs.Changes.{each-filter}
 
+-- told the other way round
+pub turned : (b c : Bool) → not b ≡ c → b ≡ not c
+turned true c h = ap not h
+turned false c h = ap not h
+
 kept_with : (p : Prefix) (ks : List Kept) (es : List Entry) (rest : List Kept) → kept_in (with_group p ks es) rest ≡ ks ++ kept_in es rest
 kept_with p [] es rest = refl
 kept_with p (k ∷ ks) es rest = refl

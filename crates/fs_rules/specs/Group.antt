@@ -1,5 +1,5 @@
 -- Flow routes kept with their validities.
-use Rattle.std.specs.Prelude.{◌≡◌, ℕ, ◌+◌, ◌&&◌, not, Bool, false, Option, Some, None, List, [], ◌∷◌, map, filter, if◌then◌else◌}
+use Rattle.std.specs.Prelude.{◌≡◌, ℕ, ◌+◌, ◌&&◌, not, Bool, true, false, Option, Some, None, List, [], ◌∷◌, map, filter, if◌then◌else◌}
 use Rattle.std.specs.List.{list_any, AllByRecursion}
 use Rattle.std.specs.Ordering.{match_ordering}
 use Rattle.std.specs.declared.cmp.Ordering.TheVariants.{Less}
@@ -18,9 +18,13 @@ use Rattle.fs_rules.specs.Table.{key_cmp, is_key, has_related, is_of_family, is_
 abbrev pub routes_of : List Kept → List FlowRoute
 routes_of kept = map (λ k. k.route) kept
 
+-- the validity is that of the route
+abbrev pub IsRight : List Route → Config → Kept → Type 0
+IsRight unicast config k = k.validity ≡ validity unicast config k.route
+
 -- each validity is that of its route
 abbrev pub AreRight : List Route → Config → List Kept → Type 0
-AreRight unicast config kept = AllByRecursion (λ k. k.validity ≡ validity unicast config k.route) kept
+AreRight unicast config kept = AllByRecursion (IsRight unicast config) kept
 
 -- each is before those after it
 abbrev pub AreSorted : List FlowRoute → Type 0
@@ -47,6 +51,10 @@ is_related_kept prefix k = has_related prefix (destination_prefix k.route.rule)
 
 abbrev pub retested : List Route → Config → Kept → Kept
 retested unicast config k = record { route = k.route; validity = validity unicast config k.route }
+
+-- where it is related to the prefix, the validity is that of the route
+abbrev pub IsRightAt : Prefix → List Route → Config → Kept → Type 0
+IsRightAt prefix unicast config k = is_related_kept prefix k ≡ true → IsRight unicast config k
 
 -- validated anew where it is related to the prefix
 abbrev pub mended : Prefix → List Route → Config → Kept → Kept

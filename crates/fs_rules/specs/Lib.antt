@@ -1,3 +1,4 @@
+pub mod Counts
 pub mod Table
 pub mod Walk
 pub mod Lent

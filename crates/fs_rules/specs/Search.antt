@@ -1,5 +1,5 @@
 -- Groups found by their destination, and what validating their routes anew does.
-use Rattle.std.specs.Prelude.{◌≡◌, ℕ, ◌+◌, ◌≤◌, Bool, true, Option, Some, None, List, [], ◌∷◌, map, length, MatchOption, if◌then◌else◌}
+use Rattle.std.specs.Prelude.{◌≡◌, ℕ, ◌+◌, ◌≤◌, ◌↔◌, Bool, true, false, Option, Some, None, List, [], ◌∷◌, map, length, MatchOption, if◌then◌else◌}
 use Rattle.std.specs.BTreeMap.{BTreeMap}
 use Rattle.std.specs.List.{list_any, AllByRecursion}
 use Rattle.std.specs.Ordering.{is_eq, is_lt, is_le}
@@ -8,7 +8,7 @@ use Rattle.fs_base.specs.declared.prefix.Prefix.{Prefix}
 use Rattle.fs_base.specs.Prefix.{prefix_cmp}
 use Rattle.fs_unicast.specs.Unicast.{Route}
 use Rattle.fs_rules.specs.declared.group.Kept.{Kept}
-use Rattle.fs_rules.specs.Group.{retested}
+use Rattle.fs_rules.specs.Group.{AreRight, retested}
 use Rattle.fs_rules.specs.Groups.{Entry}
 
 -- the groups whose destination passes are validated anew
@@ -25,6 +25,11 @@ module _ (unicast : List Route) (config : Config) where
     pub entries : new ≡ map (touched unicast config test) old
     pub later : before ≤ after
     pub steps : after ≤ before + size test old
+
+  -- it is told that no validity changed exactly where each of these groups' routes had the right one
+  abbrev pub Tells : (Prefix → Bool) → List Entry → Bool → Type 0
+  Tells test old changed =
+      (changed ≡ false) ↔ AllByRecursion (λ e. test e.0 ≡ true → AreRight unicast config e.1) old
 
 abbrev pub GroupMap : Type 0
 GroupMap = BTreeMap Prefix (List Kept)

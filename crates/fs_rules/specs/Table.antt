@@ -1,7 +1,7 @@
 -- What a table holds, how its calls change it, the flow routes that a change at a prefix can touch, and the
 -- admitted rules of a family (RFC 8955 sections 5.1 and 6). Flow routes stand in the order of rules, and of one rule
 -- by peer.
-use Rattle.std.specs.Prelude.{ℕ, ◌==◌, Bool, not, List, [], ◌∷◌, filter, ◌+◌, false, Option, Some, None, if◌then◌else◌, ◌≡◌, ◌&&◌, true}
+use Rattle.std.specs.Prelude.{ℕ, ◌==◌, Bool, not, List, [], ◌∷◌, filter, length, ◌+◌, false, Option, Some, None, if◌then◌else◌, ◌≡◌, ◌&&◌, true}
 use Rattle.std.specs.List.{list_any, AllByRecursion}
 use Rattle.std.specs.Ordering.{nat_cmp, ordering_then, match_ordering, is_eq}
 use Rattle.std.specs.declared.cmp.Ordering.{Ordering}
@@ -71,6 +71,14 @@ abbrev pub without_peer : ℕ → Held → Held
 without_peer peer held =
     record held { unicast = without_peer_unicast peer held.unicast; flows = without_peer_flows peer held.flows }
 
+-- how many routes of a peer stand in these lists
+abbrev pub count_in : ℕ → List Route → List FlowRoute → ℕ
+count_in peer unicast flows = length (filter (λ r. r.0.peer == peer) unicast) + length (filter (λ r. r.peer == peer) flows)
+
+-- how many routes a peer holds: its unicast routes and its flow routes
+abbrev pub held_count : ℕ → Held → ℕ
+held_count peer held = count_in peer held.unicast held.flows
+
 -- the destination covers p or is covered by it
 abbrev pub has_related : Prefix → Option Prefix → Bool
 has_related p None = false
@@ -136,3 +144,12 @@ pub record IsAdmitted (family : Family) (held : Held) (list : List FlowRoute) : 
   pub chosen : list ≡ filter (λ r. is_of_family family r && is_most_preferred held r) held.flows
   pub each_rule : AllByRecursion (HasRule family held list) held.flows
   pub ordered : AreOrdered list
+
+-- each held flow route has the validity that it had
+abbrev pub MarksStay : Held → Held → Type 0
+MarksStay old new =
+    AllByRecursion (λ r. validity new.unicast new.config r ≡ validity old.unicast old.config r) old.flows
+
+-- the same routes are admitted
+abbrev pub AdmitsSame : Held → Held → Type 0
+AdmitsSame old new = (family : Family) → admitted family new ≡ admitted family old

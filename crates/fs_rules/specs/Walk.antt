@@ -3,7 +3,7 @@ use Rattle.std.specs.Prelude.{ℕ, ◌+◌, Bool, Option, Some, None, List, [], 
 use Rattle.std.specs.List.{list_any}
 use Rattle.fs_actions.specs.Community.{has_flag}
 use Rattle.fs_packet.specs.Fields.{Viewed}
-use Rattle.fs_packet.specs.Matches.{is_match}
+use Rattle.fs_packet.specs.Matching.{is_match}
 use Rattle.fs_validate.specs.declared.route.FlowRoute.{FlowRoute}
 use Rattle.fs_rules.specs.Lent.{Listed}
 

@@ -1,9 +1,9 @@
 //! The flow routes of both families.
 
-ghost use Rattle.std.specs.Prelude.{◌≡◌, ◌≤◌, ◌+◌, ◌==◌, not, [], OnOk, OnErr, IfOk, map, filter, length, option_map, slice_get};
+ghost use Rattle.std.specs.Prelude.{◌≡◌, ◌≤◌, ◌+◌, ◌==◌, ◌↔◌, not, false, [], OnOk, OnErr, IfOk, map, filter, length, option_map, slice_get};
 ghost use Rattle.std.specs.List.{list_any, AllByRecursion};
 ghost use Rattle.fs_rules.specs.Table.{is_of_family, IsRuleOf, related_count, is_key};
-ghost use Rattle.fs_rules.specs.Group.{put_kept, mended, AreSorted, routes_of, chosen, of_family};
+ghost use Rattle.fs_rules.specs.Group.{has_key, put_kept, mended, IsRightAt, AreSorted, routes_of, chosen, of_family};
 ghost use Rattle.fs_rules.specs.Lent.{listed, shown_admitted, shown_held, all_admitted, all_held};
 ghost use Rattle.fs_rules.specs.Lists.{judgement, routes_chosen, listing, listings, judgements, nth_listing};
 ghost use Rattle.fs_rules.specs.Walk.{next_match};
@@ -48,10 +48,12 @@ impl Flows {
         }
     }
 
-    /// Keeps the route in its place, instead of one of its key. Where memory is refused nothing changes.
-    pub(crate) fn put(&mut self, k: Kept) -> Result<(), Memory>
+    /// Keeps the route in its place, instead of one of its key, and tells whether there was none. Where memory is
+    /// refused nothing changes.
+    pub(crate) fn put(&mut self, k: Kept) -> Result<bool, Memory>
         requires { AreSorted (routes_of self.old) }
         ensures ok { OnOk result (self.new ≡ put_kept k self.old) }
+        ensures fresh { IfOk result (λ is_new. is_new ≡ not (has_key k.route.rule k.route.peer self.old)) }
         ensures err { OnErr result (self.new ≡ self.old) }
     {
         match k.route.rule.family() {
@@ -80,20 +82,23 @@ impl Flows {
         self.v6.forget(peer);
     }
 
-    /// Validates the routes anew that are related to the prefix. At most as many steps as there are of them.
+    /// Validates the routes anew that are related to the prefix, and tells whether a validity is another than before.
+    /// At most as many steps as there are of them.
     pub(crate) fn mend<L: Ledger>(
         &mut self,
         prefix: &Prefix,
         unicast: &Unicast,
         config: &Config,
         steps: &mut Steps<L>,
-    )
+    ) -> bool
         ensures mended { self.new ≡ map (mended prefix.now unicast.now config.now) self.old }
+        ensures told { (result ≡ false) ↔ AllByRecursion (IsRightAt prefix.now unicast.now config.now) self.old }
         ensures later { steps.old ≤ steps.new }
         ensures steps { steps.new ≤ steps.old + related_count prefix.now (routes_of self.old) }
     {
-        self.v4.mend(prefix, unicast, config, steps);
-        self.v6.mend(prefix, unicast, config, steps);
+        let v4 = self.v4.mend(prefix, unicast, config, steps);
+        let v6 = self.v6.mend(prefix, unicast, config, steps);
+        v4 | v6
     }
 
     /// The admitted rules of the family, in order.

@@ -5,8 +5,8 @@ ghost use Rattle.std.specs.List.{list_any};
 ghost use Rattle.std.specs.Option.{option_copied};
 ghost use Rattle.fs_rules.specs.Table.{is_key, key_cmp, is_of_family, is_valid, same_rule};
 ghost use Rattle.fs_unicast.specs.Preference.{offered, preferred};
-ghost use Rattle.std.specs.Prelude.{◌∷◌, ◌&&◌};
-ghost use Rattle.fs_rules.specs.Group.{put_kept, place_in, retested, is_beaten, is_chosen, has_key_at, AreSorted, routes_of, is_better};
+ghost use Rattle.std.specs.Prelude.{◌∷◌, ◌&&◌, ◌↔◌, false};
+ghost use Rattle.fs_rules.specs.Group.{put_kept, place_in, retested, is_beaten, is_chosen, has_key, has_key_at, AreSorted, AreRight, IsRight, routes_of, is_better};
 
 use fs_base::{Config, Family, Memory, Steps};
 use fs_nlri::Rule;
@@ -51,19 +51,21 @@ fn is_at(kept: &[Kept], place: usize, rule: &Rule, peer: u16) -> bool
     }
 }
 
-/// Keeps the route in its place, instead of one of its key. Where memory is refused nothing changes.
-fn put(kept: &mut Vec<Kept>, k: Kept) -> Result<(), Memory>
+/// Keeps the route in its place, instead of one of its key, and tells whether there was none. Where memory is refused
+/// nothing changes.
+fn put(kept: &mut Vec<Kept>, k: Kept) -> Result<bool, Memory>
     requires { AreSorted (routes_of kept.old.items) }
     ensures ok { OnOk result (kept.new.items ≡ put_kept k kept.old.items) }
+    ensures fresh { IfOk result (λ is_new. is_new ≡ not (has_key k.route.rule k.route.peer kept.old.items)) }
     ensures err { OnErr result (kept.new.items ≡ kept.old.items) }
 {
     let place = place_of(kept, &k.route.rule, k.route.peer);
     if is_at(kept, place, &k.route.rule, k.route.peer) {
         kept[place] = k;
-        return Ok(());
+        return Ok(false);
     }
     kept.insert(place, k)?;
-    Ok(())
+    Ok(true)
 }
 
 /// Takes the route of the key away, and tells whether there was one.
@@ -87,29 +89,35 @@ fn forget(kept: &mut Vec<Kept>, peer: u16)
     kept.retain(|k| k.route.peer != peer);
 }
 
-/// Validates a route anew. At most one step.
-fn retest<L: Ledger>(k: &mut Kept, unicast: &Unicast, config: &Config, steps: &mut Steps<L>)
+/// Validates a route anew, and tells whether its validity is another than before. At most one step.
+fn retest<L: Ledger>(k: &mut Kept, unicast: &Unicast, config: &Config, steps: &mut Steps<L>) -> bool
     ensures retested { k.new ≡ retested unicast.now config.now k.old }
+    ensures told { (result ≡ false) ↔ IsRight unicast.now config.now k.old }
     ensures later { steps.old ≤ steps.new }
     ensures steps { steps.new ≤ steps.old + 1 }
 {
+    let before = k.validity;
     k.validity = valid(unicast, config, &k.route, steps);
+    k.validity != before
 }
 
-/// Validates each route anew.
+/// Validates each route anew, and tells whether a validity is another than before.
 fn retest_each<L: Ledger>(
     kept: &mut [Kept],
     unicast: &Unicast,
     config: &Config,
     steps: &mut Steps<L>,
-)
+) -> bool
     ensures retested { kept.new ≡ map (retested unicast.now config.now) kept.old }
+    ensures told { (result ≡ false) ↔ AreRight unicast.now config.now kept.old }
     ensures later { steps.old ≤ steps.new }
     ensures steps { steps.new ≤ steps.old + length kept.old }
 {
+    let mut changed = false;
     for k in kept.iter_mut() {
-        retest(k, unicast, config, steps);
+        changed |= retest(k, unicast, config, steps);
     }
+    changed
 }
 
 fn stands(validity: Validity) -> bool
@@ -211,10 +219,12 @@ impl Group {
         self.items.is_empty()
     }
 
-    /// Keeps the route in its place, instead of one of its key. Where memory is refused nothing changes.
-    pub(crate) fn put(&mut self, k: Kept) -> Result<(), Memory>
+    /// Keeps the route in its place, instead of one of its key, and tells whether there was none. Where memory is
+    /// refused nothing changes.
+    pub(crate) fn put(&mut self, k: Kept) -> Result<bool, Memory>
         requires { AreSorted (routes_of self.old) }
         ensures ok { OnOk result (self.new ≡ put_kept k self.old) }
+        ensures fresh { IfOk result (λ is_new. is_new ≡ not (has_key k.route.rule k.route.peer self.old)) }
         ensures err { OnErr result (self.new ≡ self.old) }
     {
         put(&mut self.items, k)
@@ -236,17 +246,18 @@ impl Group {
         forget(&mut self.items, peer);
     }
 
-    /// Validates each route anew. At most one step for each.
+    /// Validates each route anew, and tells whether a validity is another than before. At most one step for each.
     pub(crate) fn retest<L: Ledger>(
         &mut self,
         unicast: &Unicast,
         config: &Config,
         steps: &mut Steps<L>,
-    )
+    ) -> bool
         ensures retested { self.new ≡ map (retested unicast.now config.now) self.old }
+        ensures told { (result ≡ false) ↔ AreRight unicast.now config.now self.old }
         ensures later { steps.old ≤ steps.new }
         ensures steps { steps.new ≤ steps.old + length self.old }
     {
-        retest_each(&mut self.items, unicast, config, steps);
+        retest_each(&mut self.items, unicast, config, steps)
     }
 }

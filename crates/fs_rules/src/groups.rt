@@ -1,13 +1,13 @@
 //! The flow routes of one family, grouped by destination.
 
-ghost use Rattle.std.specs.Prelude.{◌≡◌, ◌≤◌, ◌+◌, ◌<◌, ◌^◌, ◌==◌, not, false, [], OnOk, OnErr, IfOk, MatchOption, map, filter, length, option_map, slice_get};
+ghost use Rattle.std.specs.Prelude.{◌≡◌, ◌≤◌, ◌+◌, ◌<◌, ◌^◌, ◌==◌, ◌↔◌, not, false, [], OnOk, OnErr, IfOk, MatchOption, map, filter, length, option_map, slice_get};
 ghost use Rattle.std.specs.List.{list_any, AllByRecursion};
 ghost use Rattle.std.specs.Map.{lookup};
 ghost use Rattle.std.specs.BTreeMap.{is_at};
 ghost use Rattle.fs_base.specs.Prefix.{prefix_cmp};
 ghost use Rattle.fs_nlri.specs.Rule.{IsRule};
 ghost use Rattle.fs_rules.specs.Table.{is_key};
-ghost use Rattle.fs_rules.specs.Group.{put_kept, mended, related_kept, AreSorted, routes_of, chosen, is_other_key};
+ghost use Rattle.fs_rules.specs.Group.{has_key, put_kept, mended, IsRightAt, related_kept, AreSorted, routes_of, chosen, is_other_key};
 ghost use Rattle.fs_rules.specs.Groups.{IsSound, HasSortedGroups, AreInOrder, put_entry, keep_at, keep_each, IsHeldAt};
 ghost use Rattle.fs_rules.specs.Lent.{listed, shown_admitted, shown_held, all_admitted, all_held};
 ghost use Rattle.fs_rules.specs.Lists.{judgement, routes_chosen, listing, listings, judgements, nth_listing};
@@ -60,11 +60,13 @@ impl Groups {
         }
     }
 
-    /// Keeps the route in its place, instead of one of its key. Where memory is refused nothing changes.
-    pub(crate) fn put(&mut self, k: Kept) -> Result<(), Memory>
+    /// Keeps the route in its place, instead of one of its key, and tells whether there was none. Where memory is
+    /// refused nothing changes.
+    pub(crate) fn put(&mut self, k: Kept) -> Result<bool, Memory>
         requires sorted { AreSorted (routes_of self.old) }
         requires sound { AllByRecursion (IsSound k.route.rule.family) self.old }
         ensures ok { OnOk result (self.new ≡ put_kept k self.old) }
+        ensures fresh { IfOk result (λ is_new. is_new ≡ not (has_key k.route.rule k.route.peer self.old)) }
         ensures err { OnErr result (self.new ≡ self.old) }
         ensures rule { IsRule k.route.rule }
     {
@@ -74,14 +76,14 @@ impl Groups {
         };
         match destination {
             Some(destination) => {
-                put_at(&mut self.groups, destination, k, self.rest.allocator())?;
+                let is_new = put_at(&mut self.groups, destination, k, self.rest.allocator())?;
                 self.most = most;
-                Ok(())
+                Ok(is_new)
             }
             None => {
-                self.rest.put(k)?;
+                let is_new = self.rest.put(k)?;
                 self.most = most;
-                Ok(())
+                Ok(is_new)
             }
         }
     }
@@ -108,19 +110,21 @@ impl Groups {
         self.rest.forget(peer);
     }
 
-    /// Validates the routes anew that are related to the prefix. At most as many steps as there are of them.
+    /// Validates the routes anew that are related to the prefix, and tells whether a validity is another than before.
+    /// At most as many steps as there are of them.
     pub(crate) fn mend<L: Ledger>(
         &mut self,
         prefix: &Prefix,
         unicast: &Unicast,
         config: &Config,
         steps: &mut Steps<L>,
-    )
+    ) -> bool
         ensures mended { self.new ≡ map (mended prefix.now unicast.now config.now) self.old }
+        ensures told { (result ≡ false) ↔ AllByRecursion (IsRightAt prefix.now unicast.now config.now) self.old }
         ensures later { steps.old ≤ steps.new }
         ensures steps { steps.new ≤ steps.old + related_kept prefix.now self.old }
     {
-        retest_related(&mut self.groups, prefix, unicast, config, steps);
+        retest_related(&mut self.groups, prefix, unicast, config, steps)
     }
 
     /// The admitted rules, in order.
@@ -178,15 +182,17 @@ impl Groups {
     }
 }
 
-/// Keeps the route in the group of the destination.
+/// Keeps the route in the group of the destination, and tells whether there was none of its key.
 fn put_at(
     groups: &mut BTreeMap<Prefix, Group>,
     destination: Prefix,
     k: Kept,
     alloc: Global,
-) -> Result<(), Memory>
+) -> Result<bool, Memory>
     requires { HasSortedGroups groups.old.entries }
     ensures ok { OnOk result (groups.new.entries ≡ put_entry destination k groups.old.entries) }
+    ensures fresh { IfOk result
+        (λ is_new. IsHeldAt destination k.route.rule k.route.peer groups.old.entries (not is_new)) }
     ensures err { OnErr result (groups.new.entries ≡ groups.old.entries) }
 {
     if let Some(group) = groups.get_mut(&destination) {
@@ -195,7 +201,7 @@ fn put_at(
     let mut group = Group::new(alloc);
     group.put(k)?;
     groups.insert(destination, group)?;
-    Ok(())
+    Ok(true)
 }
 
 /// Takes the route of the key out of the group of the destination, and tells whether there was one.

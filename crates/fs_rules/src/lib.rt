@@ -1,6 +1,7 @@
 //! The table of all held routes: flow routes with their validity kept up to date, and the admitted rules in order.
 #![tactic(auto)]
 
+mod counts;
 mod flows;
 mod group;
 mod groups;

@@ -1,7 +1,7 @@
 //! The lists that the validities of kept routes tell.
 
 ghost use Rattle.std.specs.Prelude.{◌≡◌, ◌≤◌, ◌<◌, ◌+◌, ◌^◌, ◌++◌, OnOk, map, filter, length, option_map, slice_get, ◌&&◌, nat_le, find};
-ghost use Rattle.fs_packet.specs.Matches.{is_match};
+ghost use Rattle.fs_packet.specs.Matching.{is_match};
 ghost use Rattle.fs_rules.specs.Group.{chosen, AreSorted, routes_of};
 ghost use Rattle.fs_rules.specs.Lent.{listed, shown_admitted, shown_held, all_admitted, all_held, AddsRules, AddsHeld};
 ghost use Rattle.fs_rules.specs.Lists.{judgement, routes_chosen, listing, listings, judgements, nth_listing};

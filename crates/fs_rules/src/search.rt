@@ -5,7 +5,7 @@ ghost use Rattle.std.specs.BTreeMap.{is_at};
 ghost use Rattle.std.specs.Prelude.{MatchOption};
 ghost use Rattle.fs_base.specs.Prefix.{covers, prefix_cmp};
 ghost use Rattle.fs_base.specs.Search.{IsFirstFrom, IsLongestCover};
-ghost use Rattle.fs_rules.specs.Search.{Mended, IsNextAfter};
+ghost use Rattle.fs_rules.specs.Search.{Mended, Tells, IsNextAfter};
 ghost use Rattle.fs_rules.specs.Groups.{AreInOrder};
 ghost use Rattle.fs_validate.specs.Laws.{is_related};
 ghost use Rattle.fs_unicast.specs.Search.{is_same_prefix};
@@ -67,74 +67,88 @@ fn longest_cover(groups: &BTreeMap<Prefix, Group>, prefix: &Prefix) -> Option<Pr
     fs_unicast::longest_cover(&ByDestination { groups }, prefix)
 }
 
-/// Validates the routes to the destination anew.
+/// Validates the routes to the destination anew, and tells whether a validity is another than before.
 fn retest_at<L: Ledger>(
     groups: &mut BTreeMap<Prefix, Group>,
     destination: &Prefix,
     unicast: &Unicast,
     config: &Config,
     steps: &mut Steps<L>,
-)
-    ensures { Mended unicast.now config.now (is_same_prefix destination.now) groups.old groups.new steps.old steps.new }
+) -> bool
+    ensures mended { Mended unicast.now config.now (is_same_prefix destination.now)
+        groups.old groups.new steps.old steps.new }
+    ensures told { Tells unicast.now config.now (is_same_prefix destination.now) groups.old.entries result }
 {
-    if let Some(group) = groups.get_mut(destination) {
-        group.retest(unicast, config, steps);
+    match groups.get_mut(destination) {
+        Some(group) => group.retest(unicast, config, steps),
+        None => false,
     }
 }
 
-/// Validates the routes anew whose destination lies under the prefix.
+/// Validates the routes anew whose destination lies under the prefix, and tells whether a validity is another than
+/// before.
 fn retest_under<L: Ledger>(
     groups: &mut BTreeMap<Prefix, Group>,
     prefix: &Prefix,
     unicast: &Unicast,
     config: &Config,
     steps: &mut Steps<L>,
-)
-    ensures { Mended unicast.now config.now (covers prefix.now) groups.old groups.new steps.old steps.new }
+) -> bool
+    ensures mended { Mended unicast.now config.now (covers prefix.now) groups.old groups.new steps.old steps.new }
+    ensures told { Tells unicast.now config.now (covers prefix.now) groups.old.entries result }
 {
     let first = prefix.first_under();
+    let mut changed = false;
     let mut next = first_from(groups, &first);
     while let Some(destination) = next {
         if !prefix.covers(&destination) {
-            return;
+            return changed;
         }
-        retest_at(groups, &destination, unicast, config, steps);
+        changed |= retest_at(groups, &destination, unicast, config, steps);
         next = first_after(groups, &destination);
     }
+    changed
 }
 
-/// Validates the routes anew whose destination covers the prefix.
+/// Validates the routes anew whose destination covers the prefix, and tells whether a validity is another than before.
 fn retest_over<L: Ledger>(
     groups: &mut BTreeMap<Prefix, Group>,
     prefix: &Prefix,
     unicast: &Unicast,
     config: &Config,
     steps: &mut Steps<L>,
-)
-    ensures { Mended unicast.now config.now (λ q. covers q prefix.now) groups.old groups.new steps.old steps.new }
+) -> bool
+    ensures mended { Mended unicast.now config.now (λ q. covers q prefix.now) groups.old groups.new steps.old steps.new }
+    ensures told { Tells unicast.now config.now (λ q. covers q prefix.now) groups.old.entries result }
 {
+    let mut changed = false;
     let mut low = *prefix;
     while let Some(destination) = longest_cover(groups, &low) {
-        retest_at(groups, &destination, unicast, config, steps);
+        changed |= retest_at(groups, &destination, unicast, config, steps);
         if destination.length == 0 {
-            return;
+            return changed;
         }
         low = destination.parent();
     }
+    changed
 }
 
-/// Validates the routes anew whose destination covers the prefix or lies under it.
+/// Validates the routes anew whose destination covers the prefix or lies under it, and tells whether a validity is
+/// another than before.
 pub(crate) fn retest_related<L: Ledger>(
     groups: &mut BTreeMap<Prefix, Group>,
     prefix: &Prefix,
     unicast: &Unicast,
     config: &Config,
     steps: &mut Steps<L>,
-)
-    ensures { Mended unicast.now config.now (is_related prefix.now) groups.old groups.new steps.old steps.new }
+) -> bool
+    ensures mended { Mended unicast.now config.now (is_related prefix.now) groups.old groups.new steps.old steps.new }
+    ensures told { Tells unicast.now config.now (is_related prefix.now) groups.old.entries result }
 {
-    retest_under(groups, prefix, unicast, config, steps);
-    if prefix.length > 0 {
-        retest_over(groups, &prefix.parent(), unicast, config, steps);
+    let under = retest_under(groups, prefix, unicast, config, steps);
+    if prefix.length == 0 {
+        return under;
     }
+    let over = retest_over(groups, &prefix.parent(), unicast, config, steps);
+    under | over
 }

@@ -1,16 +1,17 @@
 //! The table.
 
-ghost use Rattle.std.specs.Prelude.{◌≡◌, ◌≤◌, ◌+◌, [], IfOk, OnOk, OnErr, is_some, option_map, length, map, slice_get};
+ghost use Rattle.std.specs.Prelude.{◌≡◌, ◌≤◌, ◌+◌, ◌↔◌, false, [], IfOk, OnOk, OnErr, is_some, unwrap_or, option_map, length, map, slice_get};
 ghost use Rattle.std.specs.BTreeMap.{insert_entry, is_at};
 ghost use Rattle.std.specs.List.{AllByRecursion};
 ghost use Rattle.std.specs.List.Sorted.{IsStrictlySortedBy};
 ghost use Rattle.std.specs.Map.{keys_of, remove_entry, lookup};
 ghost use Rattle.fs_unicast.specs.Unicast.{place_cmp, has_path};
-ghost use Rattle.fs_rules.specs.Table.{put_route, without_route, has_route, without_peer_unicast, without_peer_flows, related_count, related_sum, admitted, IsAdmitted, IsRuleOf, with_flow, with_path, without_path, without_peer};
+ghost use Rattle.fs_rules.specs.Table.{put_route, without_route, has_route, without_peer_unicast, without_peer_flows, related_count, related_sum, admitted, IsAdmitted, IsRuleOf, with_flow, with_path, without_path, without_peer, held_count, MarksStay, AdmitsSame};
 ghost use Rattle.fs_rules.specs.Lent.{listed, shown_admitted, shown_held, held_flows, AreRising};
 ghost use Rattle.fs_rules.specs.Walk.{next_match};
 ghost use Rattle.fs_unicast.specs.Search.{held_by};
 
+use crate::counts::Counts;
 use crate::flows::Flows;
 use crate::group::Kept;
 use crate::lent::{Admitted, HeldFlow};
@@ -26,23 +27,25 @@ use std::marker::Model;
 use std::sync::ledger::Ledger;
 
 /// All routes that peers hold. A flow route is kept with its validity, which each call leaves as it is over all
-/// held unicast routes.
+/// held unicast routes. How many routes each peer holds is counted as they come and go.
 #[derive(Drop)]
 pub struct Table<'a> {
     config: &'a Config,
     unicast: Unicast,
     flows: Flows,
+    counts: Counts,
 }
 
 impl<'a> Model for Table<'a> {
     ghost use Rattle.fs_rules.specs.Table.{Held};
-    ghost use Rattle.fs_rules.specs.Group.{routes_of, Keeps};
+    ghost use Rattle.fs_rules.specs.Group.{routes_of};
+    ghost use Rattle.fs_rules.specs.Counts.{IsKept};
 
     ghost Value = { Held };
 
     ghost view = { λ a. record { config = a.config.now; unicast = a.unicast; flows = routes_of a.flows } };
 
-    ghost invariant = { λ a. Keeps a.config.now a.unicast a.flows };
+    ghost invariant = { λ a. IsKept a.config.now a.unicast a.flows a.counts };
 }
 
 impl<'a> Table<'a> {
@@ -54,6 +57,7 @@ impl<'a> Table<'a> {
             config,
             unicast: Unicast::new(alloc),
             flows: Flows::new(alloc),
+            counts: Counts::new(alloc),
         }
     }
 
@@ -79,7 +83,9 @@ impl<'a> Table<'a> {
             actions,
         };
         let validity = valid(&self.unicast, self.config, &route, steps);
-        self.flows.put(Kept { route, validity })?;
+        self.counts.reserve(peer)?;
+        let is_new = self.flows.put(Kept { route, validity })?;
+        self.counts.raise(peer, is_new);
         Ok(())
     }
 
@@ -98,9 +104,31 @@ impl<'a> Table<'a> {
         ensures later { steps.old ≤ steps.new }
         ensures steps { steps.new ≤ steps.old + related_count prefix self.old.flows }
     {
-        self.unicast.put(peer, prefix, path)?;
-        self.flows.mend(&prefix, &self.unicast, self.config, steps);
+        self.put_unicast_telling(peer, prefix, path, steps)?;
         Ok(())
+    }
+
+    /// As [`put_unicast`](Table::put_unicast), and tells whether a held flow route has another validity than before.
+    /// Where none has, the same rules are admitted.
+    pub fn put_unicast_telling<L: Ledger>(
+        &mut self,
+        peer: u16,
+        prefix: Prefix,
+        path: Path,
+        steps: &mut Steps<L>,
+    ) -> Result<bool, Memory>
+        ensures ok { OnOk result (self.new ≡ with_path peer prefix path self.old) }
+        ensures err { OnErr result (self.new ≡ self.old) }
+        ensures told { IfOk result (λ changed. (changed ≡ false) ↔ MarksStay self.old self.new) }
+        ensures same { IfOk result (λ changed. changed ≡ false → AdmitsSame self.old self.new) }
+        ensures later { steps.old ≤ steps.new }
+        ensures steps { steps.new ≤ steps.old + related_count prefix self.old.flows }
+    {
+        self.counts.reserve(peer)?;
+        let held = self.unicast.len();
+        self.unicast.put(peer, prefix, path)?;
+        self.counts.raise(peer, held < self.unicast.len());
+        Ok(self.flows.mend(&prefix, &self.unicast, self.config, steps))
     }
 
     /// Takes the peer's route of the rule away, and tells whether there was one. No step.
@@ -114,7 +142,9 @@ impl<'a> Table<'a> {
         ensures held { result ≡ has_route rule.now.rule peer self.old.flows }
         ensures steps { steps.new ≡ steps.old }
     {
-        self.flows.take(&rule.rule, peer)
+        let held = self.flows.take(&rule.rule, peer);
+        self.counts.lower(peer, held);
+        held
     }
 
     /// Takes the peer's unicast route at the prefix away, validates the related flow routes anew, and tells whether
@@ -131,11 +161,45 @@ impl<'a> Table<'a> {
         ensures later { steps.old ≤ steps.new }
         ensures steps { steps.new ≤ steps.old + related_count prefix.now self.old.flows }
     {
+        self.take_unicast(peer, prefix, steps).is_some()
+    }
+
+    /// As [`withdraw_unicast`](Table::withdraw_unicast), but tells whether a held flow route has another validity than
+    /// before. Where none has, the same rules are admitted.
+    pub fn withdraw_unicast_telling<L: Ledger>(
+        &mut self,
+        peer: u16,
+        prefix: &Prefix,
+        steps: &mut Steps<L>,
+    ) -> bool
+        ensures removed { self.new ≡ without_path peer prefix.now self.old }
+        ensures told { (result ≡ false) ↔ MarksStay self.old self.new }
+        ensures same { result ≡ false → AdmitsSame self.old self.new }
+        ensures later { steps.old ≤ steps.new }
+        ensures steps { steps.new ≤ steps.old + related_count prefix.now self.old.flows }
+    {
+        self.take_unicast(peer, prefix, steps).unwrap_or(false)
+    }
+
+    /// Takes the peer's unicast route at the prefix away, if there is one, validates the related flow routes anew,
+    /// and tells whether one has another validity than before. None where there is no such route.
+    fn take_unicast<L: Ledger>(
+        &mut self,
+        peer: u16,
+        prefix: &Prefix,
+        steps: &mut Steps<L>,
+    ) -> Option<bool>
+        ensures removed { self.new ≡ without_path peer prefix.now self.old }
+        ensures held { is_some result ≡ has_path peer prefix.now self.old.unicast }
+        ensures told { (unwrap_or result false ≡ false) ↔ MarksStay self.old self.new }
+        ensures later { steps.old ≤ steps.new }
+        ensures steps { steps.new ≤ steps.old + related_count prefix.now self.old.flows }
+    {
         if !self.unicast.remove(peer, prefix) {
-            return false;
+            return None;
         }
-        self.flows.mend(prefix, &self.unicast, self.config, steps);
-        true
+        self.counts.lower(peer, true);
+        Some(self.flows.mend(prefix, &self.unicast, self.config, steps))
     }
 
     /// Takes away all that the peer holds. At most as many steps as all withdrawals of its unicast routes would take.
@@ -144,25 +208,67 @@ impl<'a> Table<'a> {
         ensures later { steps.old ≤ steps.new }
         ensures steps { steps.new ≤ steps.old + related_sum peer self.old.unicast self.old.flows }
     {
-        self.lose_unicast(peer, steps);
-        self.flows.forget(peer);
+        self.lose_telling(peer, steps);
     }
 
-    /// Takes the peer's unicast routes away, one after the other, in their order.
-    fn lose_unicast<L: Ledger>(&mut self, peer: u16, steps: &mut Steps<L>)
-        ensures removed { self.new ≡ record self.old { unicast = without_peer_unicast peer self.old.unicast } }
+    /// As [`lose`](Table::lose), and tells whether the rules that are admitted may be others than before: whether a
+    /// flow route of the peer went, or another one had another validity behind one of the withdrawals. Not where
+    /// the peer holds nothing.
+    pub fn lose_telling<L: Ledger>(&mut self, peer: u16, steps: &mut Steps<L>) -> bool
+        ensures removed { self.new ≡ without_peer peer self.old }
+        ensures same { result ≡ false → AdmitsSame self.old self.new }
+        ensures idle { held_count peer self.old ≡ 0 → result ≡ false }
         ensures later { steps.old ≤ steps.new }
         ensures steps { steps.new ≤ steps.old + related_sum peer self.old.unicast self.old.flows }
     {
+        if self.counts.of(peer) == 0 {
+            return false;
+        }
+        let marked = self.lose_unicast(peer, steps);
+        let gone = self.lose_flows(peer);
+        gone | marked
+    }
+
+    /// Takes the peer's unicast routes away, one after the other, in their order, and tells whether one of these
+    /// withdrawals changed the validity of a flow route.
+    fn lose_unicast<L: Ledger>(&mut self, peer: u16, steps: &mut Steps<L>) -> bool
+        ensures removed { self.new ≡ record self.old { unicast = without_peer_unicast peer self.old.unicast } }
+        ensures told { result ≡ false → MarksStay self.old self.new }
+        ensures later { steps.old ≤ steps.new }
+        ensures steps { steps.new ≤ steps.old + related_sum peer self.old.unicast self.old.flows }
+    {
+        let mut marked = false;
         let mut from = None;
-        while let Some(prefix) = self.held_by(peer, from) {
-            self.withdraw_unicast(peer, &prefix, steps);
+        while let Some(prefix) = self.next_held(peer, from) {
+            marked |= self.withdraw_unicast_telling(peer, &prefix, steps);
             from = Some(prefix);
         }
+        marked
+    }
+
+    /// Takes the flow routes of a peer without unicast routes away, and tells whether there was one.
+    fn lose_flows(&mut self, peer: u16) -> bool
+        requires { without_peer_unicast peer self.old.unicast ≡ self.old.unicast }
+        ensures removed { self.new ≡ record self.old { flows = without_peer_flows peer self.old.flows } }
+        ensures told { result ≡ false → self.new ≡ self.old }
+    {
+        if self.counts.of(peer) == 0 {
+            return false;
+        }
+        self.flows.forget(peer);
+        self.counts.clear(peer);
+        true
+    }
+
+    /// How many routes the peer holds: unicast routes and flow routes of both families.
+    pub fn held_by(&self, peer: u16) -> usize
+        ensures { result ≡ held_count peer self.now }
+    {
+        self.counts.of(peer)
     }
 
     /// The first prefix from there on, or from the start, at which the peer holds a unicast route.
-    fn held_by(&self, peer: u16, from: Option<Prefix>) -> Option<Prefix>
+    fn next_held(&self, peer: u16, from: Option<Prefix>) -> Option<Prefix>
         ensures first { result ≡ held_by self.now.unicast peer from }
         ensures ordered { IsStrictlySortedBy place_cmp (keys_of self.now.unicast) }
     {

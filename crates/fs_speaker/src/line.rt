@@ -120,12 +120,14 @@ impl Line {
         self.closed = Some(Closed::Memory);
     }
 
+    /// What has closed this end, if anything has.
     pub fn closed(&self) -> Option<Closed>
         ensures { result ≡ self.now.closed }
     {
         self.closed
     }
 
+    /// The state that this end is in; `Closed` from its closing on.
     pub fn state(&self) -> State
         ensures { result ≡ state_in self.now }
     {

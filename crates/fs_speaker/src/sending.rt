@@ -39,18 +39,21 @@ impl Model for SentList {
 }
 
 impl SentList {
+    /// These rules with their actions, in the order in which they are announced.
     pub fn new(items: Vec<Sent>) -> SentList
         ensures { result ≡ items.items }
     {
         SentList { items }
     }
 
+    /// The rules as a vector, without memory.
     pub fn into_vec(self) -> Vec<Sent>
         ensures { result.items ≡ self }
     {
         self.items
     }
 
+    /// Lends the rules.
     pub fn as_slice(&self) -> &[Sent]
         ensures { result.now ≡ self.now }
     {

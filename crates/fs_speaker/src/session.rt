@@ -113,6 +113,13 @@ impl<'a> Session<'a> {
         self.line.cease(subcode, replies)
     }
 
+    /// How many routes the peer may hold at most, where that is bounded.
+    pub fn max_routes(&self) -> Option<u32>
+        ensures { result ≡ self.now.peer.max_routes }
+    {
+        self.peer.max_routes
+    }
+
     /// What has closed the session; None while it is open.
     pub fn closed(&self) -> Option<Closed>
         ensures { result ≡ self.now.closed }

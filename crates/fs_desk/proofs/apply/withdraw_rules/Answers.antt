@@ -1,7 +1,14 @@
-use Rattle.fs_desk.proofs.ChangesJoined.{rules_taken_more}
+use Rattle.fs_desk.proofs.Telling.{tells_none, tells_then}
+use Rattle.fs_desk.proofs.ChangesJoined.{changes_none, rules_taken_more}
 use Rattle.fs_desk.proofs.TableChanges.{rule_taken_to}
 use Rattle.fs_desk.proofs.apply.withdraw_rules.Goals as goal
 
 pub loop-rule-preserved : goal.loop-rule-preserved
-loop-rule-preserved g c =
-    rules_taken_more c.args.peer _ _ _ _ _ c.loop-rule.invariant (rule_taken_to c.args.peer c.in-Some.rule c.loop-rule.table c.withdraw_flow.new.self c.withdraw_flow.ensures.removed)
+loop-rule-preserved g c = record {
+  changes =
+      rules_taken_more c.args.peer _ _ _ _ _ c.loop-rule.invariant.changes (rule_taken_to c.args.peer c.in-Some.rule c.loop-rule.table.held c.withdraw_flow.new.self.held c.withdraw_flow.ensures.removed);
+  told = tells_then c.args.table.now c.loop-rule.table c.withdraw_flow.new.self c.loop-rule.invariant.told c.withdraw_flow.ensures.told;
+}
+
+pub loop-rule-init : goal.loop-rule-init
+loop-rule-init g c = record { changes = changes_none c.args.peer c.args.table.now.held; told = tells_none c.args.table.now }

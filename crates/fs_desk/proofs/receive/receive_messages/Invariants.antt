@@ -1,18 +1,19 @@
 use Rattle.std.proofs.Common.{ℕ, List, ◌++◌, length}
 use Rattle.fs_base.specs.declared.config.Config.{Config}
 use Rattle.fs_base.specs.declared.config.Peer.{Peer}
-use Rattle.fs_speaker.specs.Session.{at_start}
-use Rattle.fs_speaker.specs.Replies.{replies_from}
 use Rattle.fs_desk.specs.Leaves.{IsListed}
+use Rattle.fs_desk.specs.Limit.{bounded_replies_from}
 use Rattle.fs_desk.specs.Receive.{IsUp, HasTaken, Extends, IsReplyingMore}
+use Rattle.fs_desk.specs.Watched.{Tells}
 use Rattle.fs_desk.proofs.receive.receive_messages.Given as goal
 
 abbrev pub invariant-messages : goal.invariant-messages
 invariant-messages g l =
     Extends l.fn.replies.items l.replies.items
-    × ((config : Config) (whose : Peer) (octets : List ℕ) → IsListed l.fn.table → IsUp config whose l.peer octets l.fn.session l.fn.table
-    → HasTaken config whose l.peer (octets ++ l.fn.piece) l.rest l.session l.fn.table l.table
-    × IsReplyingMore config whose (octets ++ l.fn.piece) l.rest l.session (replies_from config whose at_start octets) l.fn.replies.items l.replies.items)
+    × Tells l.fn.table l.table
+    × ((config : Config) (whose : Peer) (octets : List ℕ) → IsListed l.fn.table.held → IsUp config whose l.peer octets l.fn.session l.fn.table.held
+    → HasTaken config whose l.peer (octets ++ l.fn.piece) l.rest l.session l.fn.table.held l.table.held
+    × IsReplyingMore config whose (octets ++ l.fn.piece) l.rest l.session (bounded_replies_from config whose octets) l.fn.replies.items l.replies.items)
 
 abbrev pub decreases-messages : goal.decreases-messages
 decreases-messages g l = length l.rest

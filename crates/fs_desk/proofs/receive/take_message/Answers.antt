@@ -2,47 +2,64 @@ use Rattle.std.proofs.Common.{Option, subst, sym, ◌∙◌}
 use Rattle.fs_attrs.specs.declared.update.Update.{Update}
 use Rattle.fs_speaker.specs.Side.{reply_at}
 use Rattle.fs_speaker.specs.Session.{Does, step_with}
-use Rattle.fs_desk.proofs.Pieces.{fed_none, fed_update, fed_closed, not_memory}
-use Rattle.fs_desk.proofs.Replies.{replies_taken, replies_closed, replies_nothing, extends_fed}
+use Rattle.fs_desk.specs.Limit.{too_many}
+use Rattle.fs_desk.proofs.Pieces.{fed_none, fed_update, fed_ceased, fed_closed, not_memory}
+use Rattle.fs_desk.proofs.Replies.{replies_taken, replies_update, replies_ceased, replies_closed, replies_nothing, extends_fed, extends_then}
 use Rattle.fs_desk.proofs.TableChanges.{lost_to}
 use Rattle.fs_desk.proofs.receive.take_message.Goals as goal
 
 pub returns-in-Ok-default-None-clause-taken : goal.returns-in-Ok-default-None-clause-taken
 returns-in-Ok-default-None-clause-taken g c =
     let fed = c.in-Ok-default-None in
-    fed_none c.args.peer c.args.session.now c.feed.new.self c.args.table.now c.args.piece.now fed.count
+    fed_none c.args.peer c.args.session.now c.feed.new.self c.args.table.now.held c.args.piece.now fed.count
     (λ h. subst (λ (u : Option Update). Does (step_with c.args.session.now c.args.piece.now) c.args.session.now c.feed.new.self c.args.piece.now fed.count u) fed.field-0-1-is (fed.ensures.exact h).0)
     fed.ensures.closed fed.ensures.same.0 fed.ensures.same.1
 
-pub returns-in_ok-apply-in-Ok-default-Some-clause-taken : goal.returns-in_ok-apply-in-Ok-default-Some-clause-taken
-returns-in_ok-apply-in-Ok-default-Some-clause-taken g c =
+pub returns-else-not-is_open-clause-taken : goal.returns-else-not-is_open-clause-taken
+returns-else-not-is_open-clause-taken g c =
     let fed = c.in-Ok-default-Some in
-    fed_update c.args.peer c.args.session.now c.feed.new.self c.args.table.now c.apply.new.table c.args.piece.now fed.count fed.update
+    fed_update c.args.peer c.args.session.now c.feed.new.self c.take_update.new.session c.args.table.now.held c.take_update.new.table.held c.feed.new.replies.items c.take_update.new.replies.items c.args.piece.now fed.count fed.update _ c.if-not-is_open.false
     (λ h. subst (λ (u : Option Update). Does (step_with c.args.session.now c.args.piece.now) c.args.session.now c.feed.new.self c.args.piece.now fed.count u) fed.field-0-1-is (fed.ensures.exact h).0)
-    fed.ensures.closed fed.ensures.same.0 fed.ensures.same.1 c.in_ok-apply-in-Ok-default-Some.ensures
+    fed.ensures.closed fed.ensures.same.0 fed.ensures.same.1 c.in_ok-is_open-in-Ok-default-Some.ensures.taken
+
+pub returns-then-not-is_open-clause-taken : goal.returns-then-not-is_open-clause-taken
+returns-then-not-is_open-clause-taken g c =
+    let fed = c.in-Ok-default-Some in
+    fed_ceased c.args.peer c.args.session.now c.feed.new.self c.take_update.new.session c.args.table.now.held c.take_update.new.table.held c.feed.new.replies.items c.take_update.new.replies.items c.args.piece.now fed.count fed.update _ c.if-not-is_open.true
+    (λ h. subst (λ (u : Option Update). Does (step_with c.args.session.now c.args.piece.now) c.args.session.now c.feed.new.self c.args.piece.now fed.count u) fed.field-0-1-is (fed.ensures.exact h).0)
+    fed.ensures.closed fed.ensures.same.0 fed.ensures.same.1 c.in_ok-is_open-in-Ok-default-Some.ensures.taken
 
 pub returns-in_ok-close-in-Err-clause-taken : goal.returns-in_ok-close-in-Err-clause-taken
 returns-in_ok-close-in-Err-clause-taken g c =
-    fed_closed c.args.peer c.args.session.now c.feed.new.self c.args.table.now c.close.new.table c.args.piece.now c.in-Err.why
+    fed_closed c.args.peer c.args.session.now c.feed.new.self c.args.table.now.held c.close.new.table.held c.args.piece.now c.in-Err.why
     (λ h. (c.in-Err.ensures.exact h).0) (not_memory c.in-Err.why c.in_ok-close-in-Err.ensures.octets) c.in-Err.ensures.closed
-    (lost_to c.args.peer c.args.table.now c.close.new.table c.in_ok-close-in-Err.ensures.lost)
+    (lost_to c.args.peer c.args.table.now.held c.close.new.table.held c.in_ok-close-in-Err.ensures.lost)
 
 pub returns-then-is_empty-clause-replied : goal.returns-then-is_empty-clause-replied
-returns-then-is_empty-clause-replied g c = replies_nothing c.args.session.now c.args.replies.now.items c.args.piece.now (sym c.is_empty.ensures ∙ c.if-is_empty.true)
+returns-then-is_empty-clause-replied g c = replies_nothing c.args.peer c.args.session.now c.args.table.now.held c.args.replies.now.items c.args.piece.now (sym c.is_empty.ensures ∙ c.if-is_empty.true)
 
 pub returns-in-Ok-default-None-clause-replied : goal.returns-in-Ok-default-None-clause-replied
 returns-in-Ok-default-None-clause-replied g c =
     let fed = c.in-Ok-default-None in
-    replies_taken c.args.session.now c.feed.new.self c.args.replies.now.items c.feed.new.replies.items c.args.piece.now fed.count fed.field-0-1 fed.ensures.exact
+    replies_taken c.args.peer c.args.session.now c.feed.new.self c.args.table.now.held c.args.replies.now.items c.feed.new.replies.items c.args.piece.now fed.count fed.field-0-1 fed.ensures.exact
 
-pub returns-in_ok-apply-in-Ok-default-Some-clause-replied : goal.returns-in_ok-apply-in-Ok-default-Some-clause-replied
-returns-in_ok-apply-in-Ok-default-Some-clause-replied g c =
+pub returns-else-not-is_open-clause-replied : goal.returns-else-not-is_open-clause-replied
+returns-else-not-is_open-clause-replied g c =
     let fed = c.in-Ok-default-Some in
-    replies_taken c.args.session.now c.feed.new.self c.args.replies.now.items c.feed.new.replies.items c.args.piece.now fed.count fed.field-0-1 fed.ensures.exact
+    replies_update c.args.peer c.args.session.now c.feed.new.self c.take_update.new.session c.args.table.now.held c.take_update.new.table.held c.args.replies.now.items c.feed.new.replies.items c.take_update.new.replies.items c.args.piece.now fed.count fed.update _ c.if-not-is_open.false
+    (λ h. (subst (λ (u : Option Update). Does (step_with c.args.session.now c.args.piece.now) c.args.session.now c.feed.new.self c.args.piece.now fed.count u) fed.field-0-1-is (fed.ensures.exact h).0, (fed.ensures.exact h).1))
+    c.in_ok-is_open-in-Ok-default-Some.ensures.taken
+
+pub returns-then-not-is_open-clause-replied : goal.returns-then-not-is_open-clause-replied
+returns-then-not-is_open-clause-replied g c =
+    let fed = c.in-Ok-default-Some in
+    replies_ceased c.args.peer c.args.session.now c.feed.new.self c.take_update.new.session c.args.table.now.held c.take_update.new.table.held c.args.replies.now.items c.feed.new.replies.items c.take_update.new.replies.items c.args.piece.now fed.count fed.update _ c.if-not-is_open.true
+    (λ h. (subst (λ (u : Option Update). Does (step_with c.args.session.now c.args.piece.now) c.args.session.now c.feed.new.self c.args.piece.now fed.count u) fed.field-0-1-is (fed.ensures.exact h).0, (fed.ensures.exact h).1))
+    fed.ensures.closed fed.ensures.same.0 fed.ensures.same.1 c.in_ok-is_open-in-Ok-default-Some.ensures.taken
 
 pub returns-in_ok-close-in-Err-clause-replied : goal.returns-in_ok-close-in-Err-clause-replied
 returns-in_ok-close-in-Err-clause-replied g c =
-    replies_closed c.args.session.now c.feed.new.self c.args.replies.now.items c.feed.new.replies.items c.args.piece.now c.in-Err.why
+    replies_closed c.args.peer c.args.session.now c.feed.new.self c.args.table.now.held c.args.replies.now.items c.feed.new.replies.items c.args.piece.now c.in-Err.why
     c.in-Err.ensures.exact (not_memory c.in-Err.why c.in_ok-close-in-Err.ensures.octets) c.in-Err.ensures.closed
 
 pub returns-in_ok-close-in-Err-clause-grows : goal.returns-in_ok-close-in-Err-clause-grows
@@ -54,3 +71,10 @@ pub returns-in_err-close-in-Err-clause-grows : goal.returns-in_err-close-in-Err-
 returns-in_err-close-in-Err-clause-grows g c =
     extends_fed c.args.session.now.closed c.args.session.now c.feed.new.self _ c.args.replies.now.items c.feed.new.replies.items (reply_at c.in-Err.why) c.in-Err.ensures.again
     (λ h. (c.in-Err.ensures.exact h).1)
+
+pub returns-then-not-is_open-clause-grows : goal.returns-then-not-is_open-clause-grows
+returns-then-not-is_open-clause-grows g c =
+    let fed = c.in-Ok-default-Some in
+    extends_then c.args.replies.now.items c.feed.new.replies.items c.take_update.new.replies.items
+    (extends_fed c.args.session.now.closed c.args.session.now c.feed.new.self _ c.args.replies.now.items c.feed.new.replies.items _ fed.ensures.again (λ h. (fed.ensures.exact h).1))
+    (reply_at too_many, (c.in_ok-is_open-in-Ok-default-Some.ensures.taken.ceases c.if-not-is_open.true).2)

@@ -1,11 +1,12 @@
 use Rattle.std.specs.Map.{keys_of}
-use Rattle.fs_rules.specs.Search.{Mends}
+use Rattle.fs_rules.specs.Search.{Mends, Tells}
 use Rattle.fs_rules.proofs.Searching.{done, IsFrom, IsThere, left}
 use Rattle.fs_rules.proofs.search.retest_under.Given as goal
 
 abbrev pub invariant-loop-next : goal.invariant-loop-next
 invariant-loop-next g l = record {
   mends : Mends l.unicast l.config (done l.prefix l.next) l.fn.groups.entries l.groups.entries l.fn.steps l.steps;
+  told : Tells l.unicast l.config (done l.prefix l.next) l.fn.groups.entries l.changed;
   from : IsFrom l.prefix l.next;
   there : IsThere (keys_of l.groups.entries) l.next;
 }

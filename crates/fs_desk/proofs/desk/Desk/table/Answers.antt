@@ -1,4 +1,4 @@
-use Rattle.std.proofs.Common.{ap, sym, subst}
+use Rattle.std.proofs.Common.{ap, sym, subst, ◌∙◌}
 use Rattle.fs_rules.specs.Table.{Held}
 use Rattle.fs_desk.specs.Desk.{Desked}
 use Rattle.fs_desk.specs.Leaves.{Leaves}
@@ -6,4 +6,4 @@ use Rattle.fs_desk.proofs.Leaves.{played_leaves}
 use Rattle.fs_desk.proofs.desk.Desk.table.Goals as goal
 
 pub returns-clause-left : goal.returns-clause-left
-returns-clause-left c = λ config items played. subst (λ (h : Held). Leaves config items h) (sym (ap (λ (d : Desked). d.held) c.self.view_is)) (played_leaves config items c.args.self.now played)
+returns-clause-left c = λ config items played. subst (λ (h : Held). Leaves config items h) (sym (c.table.ensures ∙ ap (λ (d : Desked). d.held) c.self.view_is)) (played_leaves config items c.args.self.now played)

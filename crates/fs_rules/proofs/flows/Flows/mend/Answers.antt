@@ -1,9 +1,17 @@
+use Rattle.std.proofs.Common.{◌≡◌, ◌↔◌, ◌||◌, false, subst}
+use Rattle.std.specs.List.{AllByRecursion}
 use Rattle.fs_base.specs.declared.prefix.Family.TheVariants.{V4, V6}
+use Rattle.fs_rules.specs.Group.{IsRightAt}
+use Rattle.fs_rules.proofs.Telling.{told_families}
 use Rattle.fs_rules.proofs.BothFamilies.{mended_now, steps_both}
 use Rattle.fs_rules.proofs.flows.Flows.mend.Goals as goal
 
 pub invariant_of-self : goal.invariant_of-self
-invariant_of-self g c = record { first = mended_now V4 c.args.prefix.now c.args.unicast.now c.args.config.now c.self.inside.v4 c.mend.new.self c.mend.ensures.mended c.self.invariant.first; second = mended_now V6 c.args.prefix.now c.args.unicast.now c.args.config.now c.self.inside.v6 c.mend-2.new.self c.mend-2.ensures.mended c.self.invariant.second }
+invariant_of-self g c = record { first = mended_now V4 c.args.prefix.now c.args.unicast.now c.args.config.now c.self.inside.v4 c.mend-v4.new.self c.mend-v4.ensures.mended c.self.invariant.first; second = mended_now V6 c.args.prefix.now c.args.unicast.now c.args.config.now c.self.inside.v6 c.mend-v6.new.self c.mend-v6.ensures.mended c.self.invariant.second }
 
 pub returns-clause-steps : goal.returns-clause-steps
-returns-clause-steps g c = steps_both c.args.prefix.now c.self.inside.v4 c.self.inside.v6 c.args.self.now c.args.steps.now c.mend.new.steps c.mend-2.new.steps c.self.view_is c.mend.ensures.steps c.mend-2.ensures.steps
+returns-clause-steps g c = steps_both c.args.prefix.now c.self.inside.v4 c.self.inside.v6 c.args.self.now c.args.steps.now c.mend-v4.new.steps c.mend-v6.new.steps c.self.view_is c.mend-v4.ensures.steps c.mend-v6.ensures.steps
+
+pub returns-clause-told : goal.returns-clause-told
+returns-clause-told g c = subst (λ ks. ((c.mend-v4.result || c.mend-v6.result) ≡ false) ↔ AllByRecursion (IsRightAt c.args.prefix.now c.args.unicast.now c.args.config.now) ks) c.self.view_is
+    (told_families c.args.unicast.now c.args.config.now c.args.prefix.now c.self.inside.v4 c.self.inside.v6 _ _ c.mend-v4.ensures.told c.mend-v6.ensures.told)

@@ -1,9 +1,10 @@
-use Rattle.std.proofs.Common.{◌++◌, sym, ap, ◌∙◌}
+use Rattle.std.proofs.Common.{Bool, not, ◌++◌, sym, ap, ◌∙◌}
 use Rattle.fs_base.specs.declared.prefix.Family.TheVariants.{V4, V6}
 use Rattle.fs_rules.specs.Groups.{IsSound}
-use Rattle.fs_rules.specs.Group.{put_kept}
+use Rattle.fs_rules.specs.Group.{has_key, put_kept}
 use Rattle.fs_rules.proofs.Apart.{ok_weaker}
-use Rattle.fs_rules.proofs.BothFamilies.{each_now, put_first, put_second, sorted_first, sorted_second}
+use Rattle.fs_rules.proofs.BothFamilies.{each_now, put_first, put_second, held_first, held_second, sorted_first, sorted_second}
+use Rattle.fs_rules.proofs.Chosen.{ok_along}
 use Rattle.fs_rules.proofs.flows.Flows.put.Goals as goal
 
 pub put-requires-clause-sorted : goal.put-requires-clause-sorted
@@ -23,3 +24,9 @@ returns-in-V4-clause-ok c = ok_weaker _ _ c.put.result (λ e. ap (λ ks. ks ++ c
 
 pub returns-in-V6-clause-ok : goal.returns-in-V6-clause-ok
 returns-in-V6-clause-ok c = ok_weaker _ _ c.put-in-V6.result (λ e. ap (λ ks. c.self.inside.v4 ++ ks) e ∙ put_second c.args.k c.self.inside.v4 c.self.inside.v6 (record { family = sym c.family.ensures ∙ c.in-V6.is; rule = c.put-in-V6.ensures.rule }) c.self.invariant ∙ ap (put_kept c.args.k) c.self.view_is) c.put-in-V6.ensures.ok
+
+pub returns-in-V4-clause-fresh : goal.returns-in-V4-clause-fresh
+returns-in-V4-clause-fresh c = ok_along (λ (is_new : Bool). is_new) _ _ c.put.result (ap not (held_first c.args.k.route.rule c.args.k.route.peer c.self.inside.v4 c.self.inside.v6 c.put.ensures.rule (sym c.family.ensures ∙ c.in-V4.is) c.self.invariant ∙ ap (has_key c.args.k.route.rule c.args.k.route.peer) c.self.view_is)) c.put.ensures.fresh
+
+pub returns-in-V6-clause-fresh : goal.returns-in-V6-clause-fresh
+returns-in-V6-clause-fresh c = ok_along (λ (is_new : Bool). is_new) _ _ c.put-in-V6.result (ap not (held_second c.args.k.route.rule c.args.k.route.peer c.self.inside.v4 c.self.inside.v6 c.put-in-V6.ensures.rule (sym c.family.ensures ∙ c.in-V6.is) c.self.invariant ∙ ap (has_key c.args.k.route.rule c.args.k.route.peer) c.self.view_is)) c.put-in-V6.ensures.fresh

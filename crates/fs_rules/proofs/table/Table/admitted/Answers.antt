@@ -9,11 +9,11 @@ use Rattle.fs_rules.proofs.Complete.{is_admitted_list, sorted_now}
 use Rattle.fs_rules.proofs.table.Table.admitted.Goals as goal
 
 pub returns-clause-list : goal.returns-clause-list
-returns-clause-list c = ok_along (λ list. map shown_admitted list.items) _ _ c.admitted.result (listed_is c.args.family c.self.inside.config.now c.self.inside.unicast c.self.inside.flows c.args.self.now c.self.invariant c.self.view_is) c.admitted.ensures.list
+returns-clause-list c = ok_along (λ list. map shown_admitted list.items) _ _ c.admitted.result (listed_is c.args.family c.self.inside.config.now c.self.inside.unicast c.self.inside.flows c.args.self.now c.self.invariant.keeps c.self.view_is) c.admitted.ensures.list
 
 pub returns-clause-admitted : goal.returns-clause-admitted
-returns-clause-admitted c = is_admitted_list c.args.family c.args.self.now (sorted_now (routes_of c.self.inside.flows) c.args.self.now c.self.invariant.sorted (ap (λ held. held.flows) c.self.view_is))
+returns-clause-admitted c = is_admitted_list c.args.family c.args.self.now (sorted_now (routes_of c.self.inside.flows) c.args.self.now c.self.invariant.keeps.sorted (ap (λ held. held.flows) c.self.view_is))
 
 pub returns-clause-rules : goal.returns-clause-rules
-returns-clause-rules c = subst (AllByRecursion (IsRuleOf c.args.family)) (admitted_is c.args.family c.self.inside.config.now c.self.inside.unicast c.self.inside.flows c.args.self.now c.self.invariant c.self.view_is)
+returns-clause-rules c = subst (AllByRecursion (IsRuleOf c.args.family)) (admitted_is c.args.family c.self.inside.config.now c.self.inside.unicast c.self.inside.flows c.args.self.now c.self.invariant.keeps c.self.view_is)
     (each_mapped (λ k. k.route) (IsRuleOf c.args.family) (chosen c.args.family c.self.inside.flows) c.admitted.ensures.rules)

@@ -5,4 +5,4 @@ use Rattle.fs_rules.proofs.Chosen.{held_is, get-map}
 use Rattle.fs_rules.proofs.table.Table.held_flow.Goals as goal
 
 pub returns : goal.returns
-returns c = c.held_at.ensures ∙ get-map judgement (filter (λ k. is_of_family c.args.family k.route) c.self.inside.flows) c.args.n ∙ ap (λ xs. slice_get xs c.args.n) (held_is c.args.family c.self.inside.config.now c.self.inside.unicast c.self.inside.flows c.args.self.now c.self.invariant c.self.view_is)
+returns c = c.held_at.ensures ∙ get-map judgement (filter (λ k. is_of_family c.args.family k.route) c.self.inside.flows) c.args.n ∙ ap (λ xs. slice_get xs c.args.n) (held_is c.args.family c.self.inside.config.now c.self.inside.unicast c.self.inside.flows c.args.self.now c.self.invariant.keeps c.self.view_is)

@@ -1,12 +1,24 @@
-use Rattle.std.proofs.Common.{ap, ◌∙◌}
-use Rattle.fs_rules.specs.Table.{put_route}
+use Rattle.std.proofs.Common.{ap, sym, ◌∙◌, not}
+use Rattle.fs_rules.specs.Table.{put_route, is_key}
 use Rattle.fs_rules.specs.Group.{routes_of}
-use Rattle.fs_rules.proofs.Changes.{keeps-put, routes-put}
+use Rattle.fs_rules.proofs.Changes.{keeps-put, routes-put, any-routes}
 use Rattle.fs_rules.proofs.Chosen.{flows_changed}
+use Rattle.fs_rules.proofs.Counting.{counted_as, counted_put_flow}
 use Rattle.fs_rules.proofs.table.Table.put_flow.Goals as goal
 
+pub invariant_of-self : goal.invariant_of-self
+invariant_of-self g c = record {
+  keeps = c.self.invariant.keeps;
+  counted = counted_as c.self.inside.unicast (routes_of c.self.inside.flows) c.self.inside.counts c.reserve.new.self c.reserve.ensures.same c.self.invariant.counted;
+}
+
 pub invariant_of-self-2 : goal.invariant_of-self-2
-invariant_of-self-2 g c = rw c.in_ok-put.ensures.ok (keeps-put c.self.inside.config.now c.self.inside.unicast _ c.self.inside.flows c.valid-validity.ensures.validity c.self.invariant)
+invariant_of-self-2 g c = record {
+  keeps = rw c.in_ok-is_new.ensures.ok (keeps-put c.self.inside.config.now c.self.inside.unicast _ c.self.inside.flows c.valid-validity.ensures.validity c.self.invariant.keeps);
+  counted = counted_put_flow c.self.inside.unicast _ (routes_of c.self.inside.flows) _ c.reserve.new.self c.raise.new.self c.in_ok-is_new.is_new c.self.invariant.keeps.sorted
+      (counted_as c.self.inside.unicast (routes_of c.self.inside.flows) c.self.inside.counts c.reserve.new.self c.reserve.ensures.same c.self.invariant.counted)
+      c.raise.ensures (c.in_ok-is_new.ensures.fresh ∙ ap not (any-routes (is_key c.args.rule c.args.peer) c.self.inside.flows)) (ap routes_of c.in_ok-is_new.ensures.ok ∙ routes-put _ c.self.inside.flows);
+}
 
 pub returns-clause-ok : goal.returns-clause-ok
-returns-clause-ok g c = flows_changed (put_route _) c.self.inside.config.now c.self.inside.unicast c.self.inside.flows c.put.new.self _ c.self.view_is (ap routes_of c.in_ok-put.ensures.ok ∙ routes-put _ c.self.inside.flows)
+returns-clause-ok g c = flows_changed (put_route _) c.self.inside.config.now c.self.inside.unicast c.self.inside.flows c.put.new.self _ c.self.view_is (ap routes_of c.in_ok-is_new.ensures.ok ∙ routes-put _ c.self.inside.flows)

@@ -7,4 +7,4 @@ use Rattle.fs_rules.proofs.table.Table.rule.Goals as goal
 pub returns : goal.returns
 returns c = c.admitted_at.ensures ∙ get-map (λ k. listed k.route) (chosen c.args.family c.self.inside.flows) c.args.n
     ∙ ap (λ xs. slice_get xs c.args.n) (map-map (λ k. k.route) listed (chosen c.args.family c.self.inside.flows)) ∙ sym (get-map listed (routes_of (chosen c.args.family c.self.inside.flows)) c.args.n)
-    ∙ ap (λ rs. option_map listed (slice_get rs c.args.n)) (admitted_is c.args.family c.self.inside.config.now c.self.inside.unicast c.self.inside.flows c.args.self.now c.self.invariant c.self.view_is)
+    ∙ ap (λ rs. option_map listed (slice_get rs c.args.n)) (admitted_is c.args.family c.self.inside.config.now c.self.inside.unicast c.self.inside.flows c.args.self.now c.self.invariant.keeps c.self.view_is)

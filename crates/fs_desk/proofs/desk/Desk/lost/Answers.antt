@@ -1,9 +1,0 @@
-use Rattle.std.proofs.Common.{sym}
-use Rattle.fs_desk.proofs.TableChanges.{lost_to}
-use Rattle.fs_desk.proofs.Played.{desk_lost}
-use Rattle.fs_desk.proofs.desk.Desk.lost.Goals as goal
-
-pub returns-clause-played : goal.returns-clause-played
-returns-clause-played c = λ config items played.
-    desk_lost config items c.args.peer c.self.inside.config.now c.self.inside.table c.lose.new.table c.self.inside.sessions.entries c.remove.new.self.entries c.args.self.now
-    (sym c.self.view_is) (lost_to c.args.peer c.self.inside.table c.lose.new.table c.lose.ensures) c.remove.ensures.entries played
