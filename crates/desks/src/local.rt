@@ -4,13 +4,13 @@ use crate::fault::Fault;
 use fs_base::{Address, Config, Peer, Peers};
 use std::alloc::Global;
 
-/// AS 65000, 192.0.2.254, with peer 1 of AS 65001 at 198.51.100.1.
+/// AS 65000, 192.0.2.254, with peer 1 of AS 65001 at 198.51.100.1, which may hold two routes.
 pub fn configuration(alloc: Global) -> Result<Config, Fault> {
     let peer = Peer {
         number: 1,
         address: Address::V4(0xc633_6401),
         asn: 65001,
-        max_routes: None,
+        max_routes: Some(2),
     };
     Ok(Config {
         local_as: 65000,

@@ -39,6 +39,7 @@ fn try_file(rt: &HostRuntime, name: &str, text: &str) -> Result<(), Fault> {
     let config = configuration(rt.alloc())?;
     let mut desk = Desk::new(rt.alloc(), &config);
     let mut replies = Vec::new(rt.alloc());
+    let mut changed = false;
     let mut tally = Tally::new();
     for line in text.lines() {
         let Some((word, rest)) = parts(line) else {
@@ -46,43 +47,44 @@ fn try_file(rt: &HostRuntime, name: &str, text: &str) -> Result<(), Fault> {
         };
         match rest.split_once("= ") {
             Some((_, expected)) => {
-                let came = told(rt.alloc(), &desk, word, &mut replies)?;
+                let came = told(rt.alloc(), &desk, word, changed, &mut replies)?;
                 tally.compare(rt, line, expected, came.as_str())?;
             }
-            None => happen(rt.alloc(), &mut desk, word, rest, &mut replies)?,
+            None => changed = happen(rt.alloc(), &mut desk, word, rest, &mut replies)?,
         }
     }
     tally.finish(rt, name)?;
     Ok(())
 }
 
-/// The peer comes up, sends octets, or is lost.
+/// The peer comes up, sends octets, or is lost. Answers whether the rules that are admitted may be others than before.
 fn happen(
     alloc: Global,
     desk: &mut Desk<'_>,
     word: &str,
     rest: &str,
     replies: &mut Vec<u8>,
-) -> Result<(), Fault> {
+) -> Result<bool, Fault> {
     match word {
         "up" => {
             if desk.config().peer(PEER).is_none() {
                 return Err(Fault::Line);
             }
-            desk.up(PEER)?;
+            Ok(desk.up_telling(PEER)?)
         }
-        "sends" => desk.octets(PEER, &octets(alloc, rest)?, replies)?,
-        "lost" => desk.lost(PEER),
-        _ => return Err(Fault::Line),
+        "sends" => Ok(desk.octets_telling(PEER, &octets(alloc, rest)?, replies)?),
+        "lost" => Ok(desk.lost_telling(PEER)),
+        _ => Err(Fault::Line),
     }
-    Ok(())
 }
 
-/// What the desk tells: the state of the peer, how many rules are admitted, or what was replied since it was last asked.
+/// What the desk tells: the state of the peer, how many rules are admitted, how many routes the peer holds, whether the
+/// admitted rules may be others than before what happened last, or what was replied since it was last asked.
 fn told(
     alloc: Global,
     desk: &Desk<'_>,
     word: &str,
+    changed: bool,
     replies: &mut Vec<u8>,
 ) -> Result<String, Fault> {
     match word {
@@ -91,6 +93,11 @@ fn told(
             let count = desk.table().count(Family::V4);
             Ok(format!(in alloc; "{count}")?)
         }
+        "routes" => {
+            let count = desk.table().held_by(PEER);
+            Ok(format!(in alloc; "{count}")?)
+        }
+        "changed" => Ok(format!(in alloc; "{changed}")?),
         "replies" => {
             let digits = hex::encode(alloc, replies.as_slice())?;
             replies.clear();

@@ -2,13 +2,15 @@
 
 use crate::names::Names;
 use crate::stop::Stop;
-use crate::words::hexadecimal;
+use crate::words::tell_octets;
 use fs_actions::{ActionFault, Actions, Rate, Redirect, from_communities};
+use fs_cases::Told;
 use std::alloc::Global;
 
 /// The communities of a copy of the list, and what they say; or that their length is none.
 pub fn read(alloc: Global, names: &Names, input: &str) -> Result<String, Stop> {
-    match from_communities(alloc, &names.octets(input)?) {
+    let octets = names.octets(input)?;
+    match from_communities(alloc, &octets) {
         Ok(actions) => list_text(alloc, &actions.copy()?),
         Err(ActionFault::BadLength) => Ok(String::from_str(alloc, "BadLength")?),
         Err(ActionFault::Memory) => Err(Stop::Memory),
@@ -21,57 +23,81 @@ pub fn none(alloc: Global) -> Result<String, Stop> {
 }
 
 fn list_text(alloc: Global, actions: &Actions) -> Result<String, Stop> {
-    let mut text = communities_text(alloc, actions)?;
-    if actions.discards() {
-        text.push_str(" discards")?;
-    }
-    if actions.more() {
-        text.push_str(" more")?;
-    }
-    if actions.sample() {
-        text.push_str(" sample")?;
-    }
-    if let Some(mark) = actions.mark() {
-        text.push_str(format!(in alloc; " mark {mark}")?.as_str())?;
-    }
+    let mut told = Told::new(alloc);
+    tell_communities(alloc, actions, &mut told)?;
+    tell_marks(actions, &mut told);
     if let Some(redirect) = actions.redirect() {
-        text.push_str(redirect_text(alloc, redirect)?.as_str())?;
+        tell_redirect(redirect, &mut told);
     }
-    text.push_str(rates_text(alloc, actions)?.as_str())?;
-    Ok(text)
+    tell_rates(actions, &mut told);
+    Ok(told.finish()?)
 }
 
-/// The communities of the list in hexadecimal, as they are appended to an octet.
-pub fn communities_text(alloc: Global, actions: &Actions) -> Result<String, Stop> {
+/// Which of the simple actions are there.
+fn tell_marks(actions: &Actions, told: &mut Told) {
+    if actions.discards() {
+        told.word(" discards");
+    }
+    if actions.more() {
+        told.word(" more");
+    }
+    if actions.sample() {
+        told.word(" sample");
+    }
+    if let Some(mark) = actions.mark() {
+        told.word(" mark ");
+        told.number(mark.into());
+    }
+}
+
+/// The communities of the list in hexadecimal, as they are appended to an octet, or `-` where there are none.
+pub fn tell_communities(alloc: Global, actions: &Actions, told: &mut Told) -> Result<(), Stop> {
     let mut out = vec![in alloc; 7u8]?;
     actions.to_communities(&mut out)?;
     match out.as_slice() {
-        [7, communities @ ..] => hexadecimal(alloc, communities),
-        _ => Err(Stop::Line),
+        [7, communities @ ..] => tell_octets(communities, told),
+        _ => return Err(Stop::Line),
+    }
+    Ok(())
+}
+
+fn tell_redirect(redirect: Redirect, told: &mut Told) {
+    match redirect {
+        Redirect::As2 { asn, number } => {
+            told.word(" as2 ");
+            tell_pair(asn.into(), number.into(), told);
+        }
+        Redirect::Ip4 { address, number } => {
+            told.word(" ip4 ");
+            told.octets(&address.to_be_bytes());
+            told.word(" ");
+            told.number(number.into());
+        }
+        Redirect::As4 { asn, number } => {
+            told.word(" as4 ");
+            tell_pair(asn.into(), number.into(), told);
+        }
     }
 }
 
-fn redirect_text(alloc: Global, redirect: Redirect) -> Result<String, Stop> {
-    match redirect {
-        Redirect::As2 { asn, number } => Ok(format!(in alloc; " as2 {asn} {number}")?),
-        Redirect::Ip4 { address, number } => Ok(format!(in alloc; " ip4 {address:08x} {number}")?),
-        Redirect::As4 { asn, number } => Ok(format!(in alloc; " as4 {asn} {number}")?),
-    }
+fn tell_pair(asn: u64, number: u64, told: &mut Told) {
+    told.number(asn);
+    told.word(" ");
+    told.number(number);
 }
 
 /// The rates that let something pass.
-fn rates_text(alloc: Global, actions: &Actions) -> Result<String, Stop> {
-    let mut text = String::new(alloc);
+fn tell_rates(actions: &Actions, told: &mut Told) {
     for place in 0..actions.as_slice().len() {
         match actions.rate(place) {
-            Some(Rate::Bytes(figure)) => {
-                text.push_str(format!(in alloc; " bytes {figure:08x}")?.as_str())?;
-            }
-            Some(Rate::Packets(figure)) => {
-                text.push_str(format!(in alloc; " packets {figure:08x}")?.as_str())?;
-            }
+            Some(Rate::Bytes(figure)) => tell_figure(" bytes ", figure, told),
+            Some(Rate::Packets(figure)) => tell_figure(" packets ", figure, told),
             None => {}
         }
     }
-    Ok(text)
+}
+
+fn tell_figure(word: &str, figure: u32, told: &mut Told) {
+    told.word(word);
+    told.octets(&figure.to_be_bytes());
 }

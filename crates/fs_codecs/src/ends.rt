@@ -1,32 +1,17 @@
 //! Both ends of a session and their timers (RFC 4271 sections 4.4, 6.5 and 8): what each says, event by event.
 
-use crate::messages::front;
+use crate::local::configuration;
+use crate::messages::{front, tell_codes};
 use crate::names::Names;
+use crate::sessions::name_of;
 use crate::stop::Stop;
-use crate::words::{first, hexadecimal, numbered, short};
+use crate::words::{first, numbered, short, tell_octets};
 use fs_actions::from_communities;
-use fs_base::{Address, Config, Family, Numbers, Peer, Peers};
+use fs_base::{Config, Family, Numbers};
+use fs_cases::{Told, number};
 use fs_nlri::decode;
 use fs_speaker::{Announcer, Closed, Sending, Sent, SentList, Session, State, sender};
 use std::alloc::Global;
-
-/// The local end of AS 65000, 192.0.2.254, with peer 1 of AS 65001 at 198.51.100.1; both offer this hold time.
-fn configuration(alloc: Global, hold_time: u16) -> Result<Config, Stop> {
-    let peer = Peer {
-        number: 1,
-        address: Address::V4(0xc633_6401),
-        asn: 65001,
-        max_routes: None,
-    };
-    Ok(Config {
-        local_as: 65000,
-        local_id: 0xc000_02fe,
-        allow_no_destination: false,
-        empty_path_valid: true,
-        hold_time,
-        peers: Peers::new(vec![in alloc; peer]?),
-    })
-}
 
 /// The rule `mail`, with the action to discard, that the peer announces under this identifier.
 fn sending(alloc: Global, names: &Names, id: u32) -> Result<Sending, Stop> {
@@ -62,42 +47,62 @@ struct Both<'a> {
 /// announcing one wrote.
 pub fn play(alloc: Global, names: &Names, input: &str) -> Result<String, Stop> {
     let (hold_time, input) = numbered(input)?;
-    let (id, input) = numbered(input)?;
+    let (id, events) = numbered(input)?;
     let Ok(hold_time) = u16::try_from(hold_time) else {
         return Err(Stop::Line);
     };
     let config = configuration(alloc, hold_time)?;
-    let mut both = Both {
-        announcer: announcer(alloc, &config, sending(alloc, names, short(id)?)?)?,
-        session: session(alloc, &config)?,
+    let mut both = open_both(alloc, &config, sending(alloc, names, short(id)?)?)?;
+    let mut told = Told::new(alloc);
+    told.word("appended");
+    tell_events(alloc, names, &mut both, events, &mut told)?;
+    tell_ends(&both, &mut told);
+    Ok(told.finish()?)
+}
+
+fn open_both<'a>(alloc: Global, config: &'a Config, sending: Sending) -> Result<Both<'a>, Stop> {
+    Ok(Both {
+        announcer: announcer(alloc, config, sending)?,
+        session: session(alloc, config)?,
         sent: Vec::new(alloc),
         replied: Vec::new(alloc),
         taken: 0,
         heard: 0,
         updates: 0,
-    };
-    let mut text = String::from_str(alloc, "appended")?;
-    let mut events = input;
-    for _ in 0..input.len() {
-        let (event, rest) = match events.split_once(", ") {
-            Some((event, rest)) => (event, rest),
-            None => (events, ""),
-        };
-        if event.is_empty() {
-            break;
-        }
-        let count = happen(alloc, names, &mut both, event)?;
-        text.push_str(format!(in alloc; " {count}")?.as_str())?;
-        events = rest;
+    })
+}
+
+/// How many octets each event appended.
+fn tell_events(
+    alloc: Global,
+    names: &Names,
+    both: &mut Both<'_>,
+    events: &str,
+    told: &mut Told,
+) -> Result<(), Stop> {
+    for event in events.split(',') {
+        let before = written(both);
+        happen(alloc, names, both, event.trim())?;
+        told.word(" ");
+        told.number(written(both).saturating_sub(before));
     }
-    let updates = both.updates;
-    let taker = state_text(alloc, both.session.state(), both.session.closed())?;
-    let sender = state_text(alloc, both.announcer.state(), both.announcer.closed())?;
-    let said = hexadecimal(alloc, &both.sent)?;
-    text.push_str(format!(in alloc;
-        " updates {updates} taker {taker} sender {sender} said {said}"
-    )?.as_str())?;
-    Ok(text)
+    Ok(())
+}
+
+/// How many octets both ends wrote.
+fn written(both: &Both<'_>) -> u64 {
+    both.sent.len().saturating_add(both.replied.len()) as u64
+}
+
+fn tell_ends(both: &Both<'_>, told: &mut Told) {
+    told.word(" updates ");
+    told.number(both.updates);
+    told.word(" taker ");
+    tell_state(both.session.state(), both.session.closed(), told);
+    told.word(" sender ");
+    tell_state(both.announcer.state(), both.announcer.closed(), told);
+    told.word(" said ");
+    tell_octets(&both.sent, told);
 }
 
 fn announcer<'a>(
@@ -121,37 +126,39 @@ fn session<'a>(alloc: Global, config: &'a Config) -> Result<Session<'a>, Stop> {
     Ok(Session::new(alloc, config, 1)?)
 }
 
-/// How many octets an event appended.
-fn happen(alloc: Global, names: &Names, both: &mut Both<'_>, event: &str) -> Result<usize, Stop> {
-    let before = both.sent.len().saturating_add(both.replied.len());
+fn happen(alloc: Global, names: &Names, both: &mut Both<'_>, event: &str) -> Result<(), Stop> {
     let (word, rest) = first(event);
     match word {
         "start" => drop(both.announcer.start(&mut both.sent)),
         "next" => drop(both.announcer.next_message(&mut both.sent)),
         "hears" => hear(&mut both.announcer, 0, &names.octets(rest)?, &mut both.sent),
-        "tick" => drop(both.session.tick(numbered(rest)?.0, &mut both.replied)),
-        "pulse" => drop(both.announcer.tick(numbered(rest)?.0, &mut both.sent)),
-        "take" => {
-            let (count, rest) = numbered(rest)?;
-            let piece = Vec::from_slice(alloc, front(unheard(&both.sent, both.taken), count))?;
-            both.taken = both.taken.saturating_add(piece.len());
-            take(both, numbered(rest)?.0, &piece);
-        }
-        "hear" => {
-            let (count, rest) = numbered(rest)?;
-            let piece = Vec::from_slice(alloc, front(unheard(&both.replied, both.heard), count))?;
-            both.heard = both.heard.saturating_add(piece.len());
-            hear(
-                &mut both.announcer,
-                numbered(rest)?.0,
-                &piece,
-                &mut both.sent,
-            );
-        }
+        "tick" => drop(both.session.tick(number(rest)?, &mut both.replied)),
+        "pulse" => drop(both.announcer.tick(number(rest)?, &mut both.sent)),
+        "take" => take_front(alloc, both, rest)?,
+        "hear" => hear_front(alloc, both, rest)?,
         _ => return Err(Stop::Line),
     }
-    let after = both.sent.len().saturating_add(both.replied.len());
-    Ok(after.saturating_sub(before))
+    Ok(())
+}
+
+/// The receiving end takes so many octets that are in flight to it, at a moment.
+fn take_front(alloc: Global, both: &mut Both<'_>, fields: &str) -> Result<(), Stop> {
+    let (count, moment) = numbered(fields)?;
+    let moment = number(moment)?;
+    let piece = Vec::from_slice(alloc, front(unheard(&both.sent, both.taken), count))?;
+    both.taken = both.taken.saturating_add(piece.len());
+    take(both, moment, &piece);
+    Ok(())
+}
+
+/// The announcing end hears so many octets that are in flight to it, at a moment.
+fn hear_front(alloc: Global, both: &mut Both<'_>, fields: &str) -> Result<(), Stop> {
+    let (count, moment) = numbered(fields)?;
+    let moment = number(moment)?;
+    let piece = Vec::from_slice(alloc, front(unheard(&both.replied, both.heard), count))?;
+    both.heard = both.heard.saturating_add(piece.len());
+    hear(&mut both.announcer, moment, &piece, &mut both.sent);
+    Ok(())
 }
 
 fn unheard(octets: &[u8], heard: usize) -> &[u8] {
@@ -183,23 +190,18 @@ fn hear(announcer: &mut Announcer<'_>, moment: u64, piece: &[u8], out: &mut Vec<
     }
 }
 
-fn state_text(alloc: Global, state: State, closed: Option<Closed>) -> Result<String, Stop> {
+fn tell_state(state: State, closed: Option<Closed>, told: &mut Told) {
     match closed {
-        Some(Closed::Fault { code, subcode }) => Ok(format!(in alloc; "closed-{code}/{subcode}")?),
-        Some(Closed::Notified { code, subcode }) => {
-            Ok(format!(in alloc; "notified-{code}/{subcode}")?)
+        Some(Closed::Fault { code, subcode }) => {
+            told.word("closed-");
+            tell_codes(code, subcode, told);
         }
-        Some(Closed::NoFamily) => Ok(String::from_str(alloc, "no-family")?),
-        Some(Closed::Memory) => Err(Stop::Memory),
-        None => Ok(String::from_str(alloc, name_of(state))?),
-    }
-}
-
-fn name_of(state: State) -> &'static str {
-    match state {
-        State::WaitOpen => "wait-open",
-        State::WaitKeep => "wait-keepalive",
-        State::Established => "established",
-        State::Closed => "closed",
+        Some(Closed::Notified { code, subcode }) => {
+            told.word("notified-");
+            tell_codes(code, subcode, told);
+        }
+        Some(Closed::NoFamily) => told.word("no-family"),
+        Some(Closed::Memory) => told.word("no-memory"),
+        None => told.word(name_of(state)),
     }
 }

@@ -2,8 +2,9 @@
 
 use crate::names::Names;
 use crate::stop::Stop;
-use crate::words::{first, hexadecimal, numbered};
+use crate::words::first;
 use fs_base::Memory;
+use fs_cases::{Told, number};
 use fs_ops::{MaskList, NumList, OpsFault};
 use std::alloc::Global;
 
@@ -74,19 +75,29 @@ pub fn read(alloc: Global, names: &Names, input: &str) -> Result<String, Stop> {
     let octets = names.octets(octets)?;
     match List::read(alloc, kind, &octets) {
         Ok((list, taken)) => pairs_text(alloc, taken, list.pairs()),
-        Err(OpsFault::Cut { place }) => Ok(format!(in alloc; "Cut at {place}")?),
-        Err(OpsFault::Width { place }) => Ok(format!(in alloc; "Width at {place}")?),
+        Err(OpsFault::Cut { place }) => place_text(alloc, "Cut at ", place),
+        Err(OpsFault::Width { place }) => place_text(alloc, "Width at ", place),
         Err(OpsFault::Memory) => Err(Stop::Memory),
     }
 }
 
+fn place_text(alloc: Global, word: &str, place: usize) -> Result<String, Stop> {
+    let mut told = Told::new(alloc);
+    told.word(word);
+    told.number(place as u64);
+    Ok(told.finish()?)
+}
+
 fn pairs_text(alloc: Global, taken: usize, pairs: &[(u8, u64)]) -> Result<String, Stop> {
-    let mut text = format!(in alloc; "{taken}")?;
+    let mut told = Told::new(alloc);
+    told.number(taken as u64);
     for (operator, value) in pairs {
-        let pair = format!(in alloc; " {operator:02x}/{value}")?;
-        text.push_str(pair.as_str())?;
+        told.word(" ");
+        told.octets(&[*operator]);
+        told.word("/");
+        told.number(*value);
     }
-    Ok(text)
+    Ok(told.finish()?)
 }
 
 /// The list of the kind and the octets that stand in front of the input, and the rest.
@@ -103,23 +114,31 @@ fn list_of<'a>(alloc: Global, names: &Names, input: &'a str) -> Result<(List, &'
 /// Of the numbers behind the list those that it holds of.
 pub fn hold(alloc: Global, names: &Names, input: &str) -> Result<String, Stop> {
     let (list, numbers) = list_of(alloc, names, input)?;
-    let mut text = String::from_str(alloc, "of")?;
+    let mut told = Told::new(alloc);
+    told.word("of");
+    tell_held(&list, numbers, &mut told)?;
+    Ok(told.finish()?)
+}
+
+fn tell_held(list: &List, numbers: &str, told: &mut Told) -> Result<(), Stop> {
     for word in numbers.split_whitespace() {
-        let (number, _) = numbered(word)?;
-        if list.eval(number) {
-            text.push_str(" ")?;
-            text.push_str(word)?;
+        if list.eval(number(word)?) {
+            told.word(" ");
+            told.word(word);
         }
     }
-    Ok(text)
+    Ok(())
 }
 
 /// The octets of a copy of the list once these bits of its values are kept, and how many octets it says it has.
 pub fn keep(alloc: Global, names: &Names, input: &str) -> Result<String, Stop> {
     let (mut list, bits) = list_of(alloc, names, input)?;
-    let (bits, _) = numbered(bits)?;
+    let bits = number(bits)?;
     let mut out = Vec::new(alloc);
     let len = list.write_kept(bits, &mut out)?;
-    let digits = hexadecimal(alloc, &out)?;
-    Ok(format!(in alloc; "{digits} {len}")?)
+    let mut told = Told::new(alloc);
+    told.octets(&out);
+    told.word(" ");
+    told.number(len as u64);
+    Ok(told.finish()?)
 }

@@ -5,6 +5,7 @@
 mod actions;
 mod ends;
 mod lists;
+mod local;
 mod messages;
 mod names;
 mod rules;

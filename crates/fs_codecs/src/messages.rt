@@ -3,6 +3,7 @@
 use crate::names::Names;
 use crate::stop::Stop;
 use crate::words::{first, hexadecimal, numbered, short};
+use fs_cases::Told;
 use fs_message::{
     Deframer, MessageFault, Notice, Open, write_keepalive, write_notice, write_open,
     write_update_frame,
@@ -15,22 +16,26 @@ pub fn frames(alloc: Global, names: &Names, input: &str) -> Result<String, Stop>
     let (size, octets) = numbered(input)?;
     let octets = names.octets(octets)?;
     let mut deframer = Deframer::new(alloc)?;
-    let mut text = String::from_str(alloc, "came")?;
-    let mut rest = octets.as_slice();
+    let mut told = Told::new(alloc);
+    told.word("came");
+    tell_frames(&mut deframer, &octets, size, &mut told);
+    Ok(told.finish()?)
+}
+
+fn tell_frames(deframer: &mut Deframer, octets: &[u8], size: u64, told: &mut Told) {
+    let mut rest = octets;
     for _ in 0..octets.len() {
-        let piece = front(rest, size);
-        match deframer.feed(piece) {
+        match deframer.feed(front(rest, size)) {
             Ok((taken, _)) => {
-                text.push_str(message_text(alloc, &deframer)?.as_str())?;
+                tell_message(deframer, told);
                 rest = behind(rest, taken);
             }
             Err(fault) => {
-                text.push_str(faults_text(alloc, fault, &mut deframer)?.as_str())?;
+                tell_faults(fault, deframer, told);
                 break;
             }
         }
     }
-    Ok(text)
 }
 
 /// At most so many octets of the front.
@@ -47,34 +52,35 @@ pub fn behind(octets: &[u8], taken: usize) -> &[u8] {
 }
 
 /// The message that stands, if one does.
-fn message_text(alloc: Global, deframer: &Deframer) -> Result<String, Stop> {
-    match deframer.message() {
-        Some(frame) => {
-            let kind = frame.kind;
-            let len = frame.body.len();
-            Ok(format!(in alloc; " {kind}:{len}")?)
-        }
-        None => Ok(String::new(alloc)),
+fn tell_message(deframer: &Deframer, told: &mut Told) {
+    if let Some(frame) = deframer.message() {
+        told.word(" ");
+        told.number(frame.kind.into());
+        told.word(":");
+        told.number(frame.body.len() as u64);
     }
 }
 
 /// The fault, and what a further octet is answered.
-fn faults_text(
-    alloc: Global,
-    fault: MessageFault,
-    deframer: &mut Deframer,
-) -> Result<String, Stop> {
-    let mut text = String::from_str(alloc, " ")?;
-    text.push_str(fault_text(alloc, fault)?.as_str())?;
+fn tell_faults(fault: MessageFault, deframer: &mut Deframer, told: &mut Told) {
+    told.word(" ");
+    tell_codes(fault.code, fault.subcode, told);
     if deframer.feed(&[0xff]) == Err(fault) {
-        text.push_str(" again")?;
+        told.word(" again");
     }
-    Ok(text)
 }
 
-fn fault_text(alloc: Global, fault: MessageFault) -> Result<String, Stop> {
-    let MessageFault { code, subcode } = fault;
-    Ok(format!(in alloc; "{code}/{subcode}")?)
+/// The two codes of an error (RFC 4271 section 4.5).
+pub fn tell_codes(code: u8, subcode: u8, told: &mut Told) {
+    told.number(code.into());
+    told.word("/");
+    told.number(subcode.into());
+}
+
+fn codes_text(alloc: Global, code: u8, subcode: u8) -> Result<String, Stop> {
+    let mut told = Told::new(alloc);
+    tell_codes(code, subcode, &mut told);
+    Ok(told.finish()?)
 }
 
 /// What an OPEN's body says where this AS is expected, or its first fault.
@@ -86,27 +92,30 @@ pub fn open_message(alloc: Global, names: &Names, input: &str) -> Result<String,
     }
     match Open::read(&body, short(asn)?) {
         Ok(open) => open_text(alloc, &open),
-        Err(fault) => fault_text(alloc, fault),
+        Err(fault) => codes_text(alloc, fault.code, fault.subcode),
     }
 }
 
 fn open_text(alloc: Global, open: &Open) -> Result<String, Stop> {
-    let asn = open.asn;
-    let hold = open.hold_time;
-    let id = open.id;
-    let mut text = format!(in alloc; "as {asn} hold {hold} id {id:08x}")?;
-    for (named, word) in [
-        (open.four, " four"),
-        (open.v4_unicast, " v4-unicast"),
-        (open.v4_flow, " v4-flow"),
-        (open.v6_unicast, " v6-unicast"),
-        (open.v6_flow, " v6-flow"),
-    ] {
-        if named {
-            text.push_str(word)?;
-        }
+    let mut told = Told::new(alloc);
+    told.word("as ");
+    told.number(open.asn.into());
+    told.word(" hold ");
+    told.number(open.hold_time.into());
+    told.word(" id ");
+    told.octets(&open.id.to_be_bytes());
+    tell_if(open.four, " four", &mut told);
+    tell_if(open.v4_unicast, " v4-unicast", &mut told);
+    tell_if(open.v4_flow, " v4-flow", &mut told);
+    tell_if(open.v6_unicast, " v6-unicast", &mut told);
+    tell_if(open.v6_flow, " v6-flow", &mut told);
+    Ok(told.finish()?)
+}
+
+fn tell_if(named: bool, word: &str, told: &mut Told) {
+    if named {
+        told.word(word);
     }
-    Ok(text)
 }
 
 /// The two codes of a NOTIFICATION's body.
@@ -116,37 +125,44 @@ pub fn notice(alloc: Global, names: &Names, input: &str) -> Result<String, Stop>
         return Err(Stop::Line);
     }
     let Notice { code, subcode } = Notice::read(&body);
-    Ok(format!(in alloc; "{code}/{subcode}")?)
+    codes_text(alloc, code, subcode)
 }
 
 /// A message that is written, in hexadecimal without its marker.
 pub fn write(alloc: Global, names: &Names, input: &str) -> Result<String, Stop> {
     let mut out = Vec::new(alloc);
     match first(input) {
-        ("open", rest) => {
-            let (asn, rest) = numbered(rest)?;
-            let (hold_time, rest) = numbered(rest)?;
-            let (id, _) = numbered(rest)?;
-            let Ok(hold_time) = u16::try_from(hold_time) else {
-                return Err(Stop::Line);
-            };
-            write_open(short(asn)?, hold_time, short(id)?, &mut out)?;
-        }
+        ("open", rest) => append_open(rest, &mut out)?,
         ("keepalive", _) => write_keepalive(&mut out)?,
-        ("notification", body) => {
-            let codes = names.octets(body)?;
-            let [code, subcode] = codes.as_slice() else {
-                return Err(Stop::Line);
-            };
-            write_notice(*code, *subcode, &mut out)?;
-        }
-        (_, body) => {
-            let body = names.octets(body)?;
-            if body.len() > 4077 {
-                return Err(Stop::Line);
-            }
-            write_update_frame(&body, &mut out)?;
-        }
+        ("notification", body) => append_notice(&names.octets(body)?, &mut out)?,
+        (_, body) => append_update(&names.octets(body)?, &mut out)?,
     }
     hexadecimal(alloc, &out)
+}
+
+fn append_open(fields: &str, out: &mut Vec<u8>) -> Result<(), Stop> {
+    let (asn, rest) = numbered(fields)?;
+    let (hold_time, rest) = numbered(rest)?;
+    let (id, _) = numbered(rest)?;
+    let Ok(hold_time) = u16::try_from(hold_time) else {
+        return Err(Stop::Line);
+    };
+    write_open(short(asn)?, hold_time, short(id)?, out)?;
+    Ok(())
+}
+
+fn append_notice(codes: &[u8], out: &mut Vec<u8>) -> Result<(), Stop> {
+    let [code, subcode] = codes else {
+        return Err(Stop::Line);
+    };
+    write_notice(*code, *subcode, out)?;
+    Ok(())
+}
+
+fn append_update(body: &[u8], out: &mut Vec<u8>) -> Result<(), Stop> {
+    if body.len() > 4077 {
+        return Err(Stop::Line);
+    }
+    write_update_frame(body, out)?;
+    Ok(())
 }

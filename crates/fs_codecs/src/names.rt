@@ -43,12 +43,17 @@ impl Names {
     pub fn octets(&self, words: &str) -> Result<Vec<u8>, Stop> {
         let mut all = Vec::new(self.alloc);
         for word in words.split_whitespace() {
-            match self.find(word) {
-                Some(found) => all.extend_from_slice(found)?,
-                None => all.extend_from_slice(&octets(self.alloc, word)?)?,
-            }
+            self.append(word, &mut all)?;
         }
         Ok(all)
+    }
+
+    fn append(&self, word: &str, all: &mut Vec<u8>) -> Result<(), Stop> {
+        match self.find(word) {
+            Some(found) => all.extend_from_slice(found)?,
+            None => all.extend_from_slice(&octets(self.alloc, word)?)?,
+        }
+        Ok(())
     }
 
     fn find(&self, word: &str) -> Option<&[u8]> {

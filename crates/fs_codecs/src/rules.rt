@@ -2,8 +2,9 @@
 
 use crate::names::Names;
 use crate::stop::Stop;
-use crate::words::{family, first, hexadecimal, numbered};
-use fs_base::{Family, Memory};
+use crate::words::{family, first, numbered};
+use fs_base::{Family, Prefix};
+use fs_cases::Told;
 use fs_nlri::{Component, Feed, NlriFault, Reason, Rule, RuleFault, decode, encode};
 use fs_ops::NumList;
 use fs_order::{Ranked, precedes};
@@ -14,34 +15,46 @@ use std::cmp::Ordering;
 pub fn read(alloc: Global, names: &Names, input: &str) -> Result<String, Stop> {
     let (family, octets) = family(input)?;
     let octets = names.octets(octets)?;
+    let mut told = Told::new(alloc);
     match decode(alloc, family, &octets) {
         Ok((rule, taken)) => {
-            let digits = frame_text(alloc, &rule.copy()?)?;
-            Ok(format!(in alloc; "{taken} {digits}")?)
+            told.number(taken as u64);
+            told.word(" ");
+            tell_frame(alloc, &rule.copy()?, &mut told)?;
         }
-        Err(fault) => fault_text(alloc, fault),
+        Err(fault) => tell_fault(fault, &mut told)?,
     }
+    Ok(told.finish()?)
 }
 
 /// How many components the rule of a frame has, and its destination.
 pub fn destination(alloc: Global, names: &Names, input: &str) -> Result<String, Stop> {
     let (ranked, _) = ranked(alloc, names, input)?;
-    let count = ranked.rule.components().len();
+    let mut told = Told::new(alloc);
+    told.number(ranked.rule.components().len() as u64);
     match ranked.rule.destination() {
         Some(prefix) => {
-            let bits = prefix.bits;
-            let length = prefix.length;
-            Ok(format!(in alloc; "{count} to {bits:x}/{length}")?)
+            told.word(" to ");
+            tell_prefix(&prefix, &mut told);
         }
-        None => Ok(format!(in alloc; "{count} to any")?),
+        None => told.word(" to any"),
     }
+    Ok(told.finish()?)
 }
 
-/// The canonical frame in hexadecimal.
-pub fn frame_text(alloc: Global, rule: &Rule) -> Result<String, Stop> {
+/// Address and length of a prefix.
+pub fn tell_prefix(prefix: &Prefix, told: &mut Told) {
+    told.hex_number(prefix.bits);
+    told.word("/");
+    told.number(prefix.length.into());
+}
+
+/// Tells the canonical frame in hexadecimal.
+pub fn tell_frame(alloc: Global, rule: &Rule, told: &mut Told) -> Result<(), Stop> {
     let mut frame = Vec::new(alloc);
     encode(rule, &mut frame)?;
-    hexadecimal(alloc, &frame)
+    told.octets(&frame);
+    Ok(())
 }
 
 /// The name of a reason.
@@ -57,11 +70,13 @@ pub fn reason_name(reason: Reason) -> &'static str {
     }
 }
 
-fn fault_text(alloc: Global, fault: NlriFault) -> Result<String, Stop> {
+fn tell_fault(fault: NlriFault, told: &mut Told) -> Result<(), Stop> {
     match fault {
         NlriFault::Bad { reason, place } => {
-            let name = reason_name(reason);
-            Ok(format!(in alloc; "{name} at {place}")?)
+            told.word(reason_name(reason));
+            told.word(" at ");
+            told.number(place as u64);
+            Ok(())
         }
         NlriFault::Memory => Err(Stop::Memory),
     }
@@ -73,20 +88,26 @@ pub fn feed(alloc: Global, names: &Names, input: &str) -> Result<String, Stop> {
     let octets = names.octets(octets)?;
     let mut feed = Feed::new(alloc, family);
     let mut out = Vec::new(alloc);
-    let mut text = String::from_str(alloc, "fed")?;
+    let mut told = Told::new(alloc);
+    told.word("fed");
     for octet in &octets {
-        if let Err(fault) = feed.feed(&[*octet], &mut out) {
-            text.push_str(" ")?;
-            text.push_str(fault_text(alloc, fault)?.as_str())?;
-        }
-        let rules = out.len();
-        text.push_str(format!(in alloc; " {rules}")?.as_str())?;
-        if let Err(fault) = feed.end() {
-            text.push_str(" ")?;
-            text.push_str(fault_text(alloc, fault)?.as_str())?;
-        }
+        feed_one(&mut feed, *octet, &mut out, &mut told)?;
     }
-    Ok(text)
+    Ok(told.finish()?)
+}
+
+fn feed_one(feed: &mut Feed, octet: u8, out: &mut Vec<Rule>, told: &mut Told) -> Result<(), Stop> {
+    if let Err(fault) = feed.feed(&[octet], out) {
+        told.word(" ");
+        tell_fault(fault, told)?;
+    }
+    told.word(" ");
+    told.number(out.len() as u64);
+    if let Err(fault) = feed.end() {
+        told.word(" ");
+        tell_fault(fault, told)?;
+    }
+    Ok(())
 }
 
 /// The canonical frame of a rule that is made of components, each a word and the octets of its list; or why it is none.
@@ -107,7 +128,11 @@ pub fn make(alloc: Global, names: &Names, input: &str) -> Result<String, Stop> {
 
 fn made(alloc: Global, family: Family, components: Vec<Component>) -> Result<String, Stop> {
     match Rule::new(alloc, family, components) {
-        Ok(rule) => frame_text(alloc, &rule),
+        Ok(rule) => {
+            let mut told = Told::new(alloc);
+            tell_frame(alloc, &rule, &mut told)?;
+            Ok(told.finish()?)
+        }
         Err(RuleFault::NotOfFamily) => Ok(String::from_str(alloc, "NotOfFamily")?),
         Err(RuleFault::Order) => Ok(String::from_str(alloc, "Order")?),
         Err(RuleFault::TooLong) => Ok(String::from_str(alloc, "TooLong")?),
@@ -129,11 +154,7 @@ fn component(alloc: Global, names: &Names, word: &str, octets: &str) -> Result<C
 /// `01 06`, and `81 06`; or why there is none.
 pub fn long(alloc: Global, input: &str) -> Result<String, Stop> {
     let (times, _) = numbered(input)?;
-    let mut octets = Vec::from_slice(alloc, &[0x11, 0x00, 0x06])?;
-    for _ in 0..times {
-        octets.extend_from_slice(&[0x01, 0x06])?;
-    }
-    octets.extend_from_slice(&[0x81, 0x06])?;
+    let octets = long_list(alloc, times)?;
     let Ok((list, _)) = NumList::decode(alloc, &octets) else {
         return Err(Stop::Line);
     };
@@ -145,11 +166,21 @@ pub fn long(alloc: Global, input: &str) -> Result<String, Stop> {
     }
 }
 
+fn long_list(alloc: Global, times: u64) -> Result<Vec<u8>, Stop> {
+    let mut octets = Vec::from_slice(alloc, &[0x11, 0x00, 0x06])?;
+    for _ in 0..times {
+        octets.extend_from_slice(&[0x01, 0x06])?;
+    }
+    octets.extend_from_slice(&[0x81, 0x06])?;
+    Ok(octets)
+}
+
 fn len_text(alloc: Global, rule: &Rule) -> Result<String, Stop> {
     let mut frame = Vec::new(alloc);
     encode(rule, &mut frame)?;
-    let len = frame.len();
-    Ok(format!(in alloc; "{len}")?)
+    let mut told = Told::new(alloc);
+    told.number(frame.len() as u64);
+    Ok(told.finish()?)
 }
 
 /// Which of two rules is before the other, by both calls and in both directions.

@@ -1,53 +1,46 @@
 //! Sessions (RFC 4271 section 8): what octets make of one, and what is replied to them.
 
-use crate::messages::{behind, front};
+use crate::local::configuration;
+use crate::messages::{behind, front, tell_codes};
 use crate::names::Names;
 use crate::stop::Stop;
-use crate::words::{hexadecimal, numbered};
-use fs_base::{Address, Config, Peer, Peers};
+use crate::words::{numbered, tell_octets};
+use fs_cases::Told;
 use fs_speaker::{Closed, Session, State};
 use std::alloc::Global;
-
-/// The local end of AS 65000, 192.0.2.254, with peer 1 of AS 65001 at 198.51.100.1.
-fn configuration(alloc: Global) -> Result<Config, Stop> {
-    let peer = Peer {
-        number: 1,
-        address: Address::V4(0xc633_6401),
-        asn: 65001,
-        max_routes: None,
-    };
-    Ok(Config {
-        local_as: 65000,
-        local_id: 0xc000_02fe,
-        allow_no_destination: false,
-        empty_path_valid: true,
-        hold_time: 0,
-        peers: Peers::new(vec![in alloc; peer]?),
-    })
-}
 
 /// Feeds the octets in pieces of the length that stands in front. The session's state, how many updates came and how
 /// many of them are to be taken as withdrawals, and the replies.
 pub fn play(alloc: Global, names: &Names, input: &str) -> Result<String, Stop> {
     let (size, octets) = numbered(input)?;
     let octets = names.octets(octets)?;
-    let config = configuration(alloc)?;
+    let config = configuration(alloc, 0)?;
     if config.peer(1).is_none() {
         return Err(Stop::Line);
     }
     let mut session = Session::new(alloc, &config, 1)?;
+    let mut told = Told::new(alloc);
+    tell_session(alloc, &mut session, &octets, size, &mut told);
+    Ok(told.finish()?)
+}
+
+fn tell_session(
+    alloc: Global,
+    session: &mut Session<'_>,
+    octets: &[u8],
+    size: u64,
+    told: &mut Told,
+) {
     let mut replies = Vec::new(alloc);
-    let came = feed(&mut session, &octets, size, &mut replies);
-    let state = state_text(alloc, &session)?;
-    let stays = stays_closed(&mut session, &mut replies);
-    let Came {
-        updates,
-        withdrawals,
-    } = came;
-    let replied = hexadecimal(alloc, &replies)?;
-    Ok(format!(in alloc;
-        "{state}{stays} updates {updates} withdrawals {withdrawals} replies {replied}"
-    )?)
+    let came = feed(session, octets, size, &mut replies);
+    tell_state(session, told);
+    told.word(stays_closed(session, &mut replies));
+    told.word(" updates ");
+    told.number(came.updates);
+    told.word(" withdrawals ");
+    told.number(came.withdrawals);
+    told.word(" replies ");
+    tell_octets(&replies, told);
 }
 
 /// How many updates came, and how many of them are to be taken as withdrawals.
@@ -78,21 +71,30 @@ fn feed(session: &mut Session<'_>, octets: &[u8], size: u64, replies: &mut Vec<u
     came
 }
 
-fn state_text(alloc: Global, session: &Session<'_>) -> Result<String, Stop> {
-    let name = match session.state() {
+/// The name of a state.
+pub fn name_of(state: State) -> &'static str {
+    match state {
         State::WaitOpen => "wait-open",
         State::WaitKeep => "wait-keepalive",
         State::Established => "established",
         State::Closed => "closed",
-    };
+    }
+}
+
+fn tell_state(session: &Session<'_>, told: &mut Told) {
+    told.word(name_of(session.state()));
     match session.closed() {
-        Some(Closed::Fault { code, subcode }) => Ok(format!(in alloc; "{name} {code}/{subcode}")?),
-        Some(Closed::Notified { code, subcode }) => {
-            Ok(format!(in alloc; "{name} by {code}/{subcode}")?)
+        Some(Closed::Fault { code, subcode }) => {
+            told.word(" ");
+            tell_codes(code, subcode, told);
         }
-        Some(Closed::NoFamily) => Err(Stop::Line),
-        Some(Closed::Memory) => Err(Stop::Memory),
-        None => Ok(String::from_str(alloc, name)?),
+        Some(Closed::Notified { code, subcode }) => {
+            told.word(" by ");
+            tell_codes(code, subcode, told);
+        }
+        Some(Closed::NoFamily) => told.word(" without a family"),
+        Some(Closed::Memory) => told.word(" for memory"),
+        None => {}
     }
 }
 

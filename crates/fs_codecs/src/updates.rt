@@ -1,15 +1,17 @@
 //! UPDATE messages (RFC 4271 section 4.3, RFC 4760, RFC 7606): reading and writing.
 
-use crate::actions::communities_text;
+use crate::actions::tell_communities;
 use crate::names::Names;
-use crate::rules::{frame_text, reason_name};
+use crate::rules::{reason_name, tell_frame, tell_prefix};
 use crate::stop::Stop;
-use crate::words::{first, hexadecimal, numbered};
+use crate::words::{first, numbered};
 use fs_actions::Actions;
 use fs_attrs::{
     PrefixList, Routes, Terms, Update, UpdateFault, WriteFault, read_update, write_update,
 };
 use fs_base::{Address, Family, Path, Prefix, Segment};
+use fs_cases::Told;
+use fs_nlri::Rule;
 use std::alloc::Global;
 
 /// The terms of that name, of a peer at 198.51.100.1: `external`, `internal`, with `-two` for AS numbers of two octets.
@@ -39,80 +41,88 @@ pub fn read(alloc: Global, names: &Names, input: &str) -> Result<String, Stop> {
 }
 
 fn fault_text(alloc: Global, fault: UpdateFault) -> Result<String, Stop> {
+    let mut told = Told::new(alloc);
     match fault {
-        UpdateFault::List => Ok(String::from_str(alloc, "List")?),
-        UpdateFault::Network => Ok(String::from_str(alloc, "Network")?),
-        UpdateFault::Optional(None) => Ok(String::from_str(alloc, "Optional")?),
+        UpdateFault::List => told.word("List"),
+        UpdateFault::Network => told.word("Network"),
+        UpdateFault::Optional(None) => told.word("Optional"),
         UpdateFault::Optional(Some((reason, place))) => {
-            let name = reason_name(reason);
-            Ok(format!(in alloc; "Optional {name} at {place}")?)
+            told.word("Optional ");
+            told.word(reason_name(reason));
+            told.word(" at ");
+            told.number(place as u64);
         }
-        UpdateFault::Memory => Err(Stop::Memory),
+        UpdateFault::Memory => return Err(Stop::Memory),
     }
+    Ok(told.finish()?)
 }
 
 /// All parts of the update that say something, in the order in which they act, and then path and actions.
 fn update_text(alloc: Global, update: &Update) -> Result<String, Stop> {
-    let mut text = String::from_str(alloc, "says")?;
-    add_prefixes(alloc, " out", update.classic_out.as_slice(), &mut text)?;
-    add_routes(alloc, " unreach", &update.unreach, &mut text)?;
-    add_routes(alloc, " reach", &update.reach, &mut text)?;
-    add_prefixes(alloc, " in", update.classic_in.as_slice(), &mut text)?;
+    let mut told = Told::new(alloc);
+    told.word("says");
+    tell_update(alloc, update, &mut told)?;
+    Ok(told.finish()?)
+}
+
+fn tell_update(alloc: Global, update: &Update, told: &mut Told) -> Result<(), Stop> {
+    tell_prefixes(" out", update.classic_out.as_slice(), told);
+    tell_routes(alloc, " unreach", &update.unreach, told)?;
+    tell_routes(alloc, " reach", &update.reach, told)?;
+    tell_prefixes(" in", update.classic_in.as_slice(), told);
     if update.as_withdraw {
-        text.push_str(" as-withdraw")?;
+        told.word(" as-withdraw");
     }
     if let Some(path) = &update.path {
-        add_path(alloc, path, &mut text)?;
+        tell_path(path, told);
     }
-    if !update.actions.as_slice().is_empty() {
-        text.push_str(" actions ")?;
-        text.push_str(communities_text(alloc, &update.actions)?.as_str())?;
-    }
-    Ok(text)
-}
-
-fn add_prefixes(
-    alloc: Global,
-    word: &str,
-    prefixes: &[Prefix],
-    text: &mut String,
-) -> Result<(), Stop> {
-    if prefixes.is_empty() {
+    if update.actions.as_slice().is_empty() {
         return Ok(());
     }
-    text.push_str(word)?;
-    for prefix in prefixes {
-        let bits = prefix.bits;
-        let length = prefix.length;
-        text.push_str(format!(in alloc; " {bits:x}/{length}")?.as_str())?;
-    }
-    Ok(())
+    told.word(" actions ");
+    tell_communities(alloc, &update.actions, told)
 }
 
-fn add_routes(
+fn tell_prefixes(word: &str, prefixes: &[Prefix], told: &mut Told) {
+    if prefixes.is_empty() {
+        return;
+    }
+    told.word(word);
+    for prefix in prefixes {
+        told.word(" ");
+        tell_prefix(prefix, told);
+    }
+}
+
+fn tell_routes(
     alloc: Global,
     word: &str,
     routes: &Option<Routes>,
-    text: &mut String,
+    told: &mut Told,
 ) -> Result<(), Stop> {
     match routes {
         Some(Routes::Unicast(family, prefixes)) => {
-            text.push_str(word)?;
-            text.push_str(family_name(*family))?;
-            add_prefixes(alloc, " unicast", prefixes.as_slice(), text)
+            told.word(word);
+            told.word(family_name(*family));
+            tell_prefixes(" unicast", prefixes.as_slice(), told);
+            Ok(())
         }
         Some(Routes::Flow(family, rules)) => {
-            text.push_str(word)?;
-            text.push_str(family_name(*family))?;
-            text.push_str(" flow")?;
-            for rule in rules.as_slice() {
-                text.push_str(" ")?;
-                text.push_str(frame_text(alloc, rule)?.as_str())?;
-            }
-            Ok(())
+            told.word(word);
+            told.word(family_name(*family));
+            told.word(" flow");
+            tell_rules(alloc, rules.as_slice(), told)
         }
         None => Ok(()),
     }
+}
+
+fn tell_rules(alloc: Global, rules: &[Rule], told: &mut Told) -> Result<(), Stop> {
+    for rule in rules {
+        told.word(" ");
+        tell_frame(alloc, rule, told)?;
+    }
+    Ok(())
 }
 
 fn family_name(family: Family) -> &'static str {
@@ -123,32 +133,33 @@ fn family_name(family: Family) -> &'static str {
 }
 
 /// The path: where it comes from, its segments with their forms, and its local preference and originator.
-fn add_path(alloc: Global, path: &Path, text: &mut String) -> Result<(), Stop> {
-    let origin = path.origin;
-    text.push_str(format!(in alloc; " origin {origin}")?.as_str())?;
-    text.push_str(if path.external {
+fn tell_path(path: &Path, told: &mut Told) {
+    told.word(" origin ");
+    told.number(path.origin.into());
+    told.word(if path.external {
         " external"
     } else {
         " internal"
-    })?;
+    });
     for segment in path.segments.as_slice() {
-        add_segment(alloc, segment, text)?;
+        tell_segment(segment, told);
     }
-    let preference = path.local_pref;
-    text.push_str(format!(in alloc; " preference {preference}")?.as_str())?;
+    told.word(" preference ");
+    told.number(path.local_pref.into());
     if let Some(originator) = path.originator {
-        text.push_str(format!(in alloc; " originator {originator:08x}")?.as_str())?;
+        told.word(" originator ");
+        told.octets(&originator.to_be_bytes());
     }
-    Ok(())
 }
 
-fn add_segment(alloc: Global, segment: &Segment, text: &mut String) -> Result<(), Stop> {
-    let form = segment.form;
-    text.push_str(format!(in alloc; " form {form}:")?.as_str())?;
+fn tell_segment(segment: &Segment, told: &mut Told) {
+    told.word(" form ");
+    told.number(segment.form.into());
+    told.word(":");
     for number in segment.numbers.as_slice() {
-        text.push_str(format!(in alloc; " {number}")?.as_str())?;
+        told.word(" ");
+        told.number((*number).into());
     }
-    Ok(())
 }
 
 /// The message that is written of what a body says; the body is read on the first terms and written on the second.
@@ -167,47 +178,37 @@ fn written(alloc: Global, update: &Update, terms: &Terms) -> Result<String, Stop
         return Ok(String::from_str(alloc, "not writable")?);
     }
     let mut out = vec![in alloc; 7u8]?;
+    let mut told = Told::new(alloc);
     match write_update(update, terms, &mut out) {
-        Ok(()) => tail_text(alloc, &out),
+        Ok(()) => tell_tail(&out, &mut told),
         Err(WriteFault::TooLong) => {
-            let left = out.len();
-            Ok(format!(in alloc; "too long, {left} octet left")?)
+            told.word("too long, ");
+            told.number(out.len() as u64);
+            told.word(" octet left");
         }
-        Err(WriteFault::Memory) => Err(Stop::Memory),
+        Err(WriteFault::Memory) => return Err(Stop::Memory),
     }
+    Ok(told.finish()?)
 }
 
 /// What stands behind the first octet, or how many octets they are where they are many.
-fn tail_text(alloc: Global, out: &[u8]) -> Result<String, Stop> {
-    let [7, message @ ..] = out else {
-        return Err(Stop::Line);
-    };
-    if message.len() > 200 {
-        let len = message.len();
-        return Ok(format!(in alloc; "{len} octets")?);
+fn tell_tail(out: &[u8], told: &mut Told) {
+    match out {
+        [7, message @ ..] if message.len() > 200 => {
+            told.number(message.len() as u64);
+            told.word(" octets");
+        }
+        [7, message @ ..] => told.octets(message),
+        _ => told.word("another first octet"),
     }
-    hexadecimal(alloc, message)
 }
 
 /// Writes an UPDATE that withdraws so many prefixes of three octets, and so many of none.
 pub fn withdraw_many(alloc: Global, input: &str) -> Result<String, Stop> {
     let (long, rest) = numbered(input)?;
     let (short, _) = numbered(rest)?;
-    let (Some(net), Some(all)) = (
-        Prefix::new(Family::V4, 0xc000_0200, 24),
-        Prefix::new(Family::V4, 0, 0),
-    ) else {
-        return Err(Stop::Line);
-    };
-    let mut prefixes = Vec::new(alloc);
-    for _ in 0..long {
-        prefixes.push(net)?;
-    }
-    for _ in 0..short {
-        prefixes.push(all)?;
-    }
     let update = Update {
-        classic_out: PrefixList::new(prefixes),
+        classic_out: PrefixList::new(many_prefixes(alloc, long, short)?),
         unreach: None,
         reach: None,
         classic_in: PrefixList::new(Vec::new(alloc)),
@@ -216,4 +217,24 @@ pub fn withdraw_many(alloc: Global, input: &str) -> Result<String, Stop> {
         as_withdraw: false,
     };
     written(alloc, &update, &terms_of("external")?)
+}
+
+fn many_prefixes(alloc: Global, long: u64, short: u64) -> Result<Vec<Prefix>, Stop> {
+    let (Some(net), Some(all)) = (
+        Prefix::new(Family::V4, 0xc000_0200, 24),
+        Prefix::new(Family::V4, 0, 0),
+    ) else {
+        return Err(Stop::Line);
+    };
+    let mut prefixes = Vec::new(alloc);
+    append_times(net, long, &mut prefixes)?;
+    append_times(all, short, &mut prefixes)?;
+    Ok(prefixes)
+}
+
+fn append_times(prefix: Prefix, times: u64, prefixes: &mut Vec<Prefix>) -> Result<(), Stop> {
+    for _ in 0..times {
+        prefixes.push(prefix)?;
+    }
+    Ok(())
 }

@@ -2,7 +2,7 @@
 
 use crate::stop::Stop;
 use fs_base::Family;
-use fs_cases::number;
+use fs_cases::{Told, number};
 use std::alloc::Global;
 
 /// The first word and the rest.
@@ -36,10 +36,18 @@ pub fn short(number: u64) -> Result<u32, Stop> {
     }
 }
 
+/// Tells the octets in hexadecimal, or `-` where there are none.
+pub fn tell_octets(octets: &[u8], told: &mut Told) {
+    if octets.is_empty() {
+        told.word("-");
+    } else {
+        told.octets(octets);
+    }
+}
+
 /// The octets in hexadecimal, or `-` where there are none.
 pub fn hexadecimal(alloc: Global, octets: &[u8]) -> Result<String, Stop> {
-    if octets.is_empty() {
-        return Ok(String::from_str(alloc, "-")?);
-    }
-    Ok(hex::encode(alloc, octets)?)
+    let mut told = Told::new(alloc);
+    tell_octets(octets, &mut told);
+    Ok(told.finish()?)
 }

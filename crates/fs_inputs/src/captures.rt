@@ -87,3 +87,28 @@ pub fn record_text(alloc: Global, given: Given) -> Result<String, Fault> {
         end => Ok(format!(in alloc; "{link:?} {end:?}")?),
     }
 }
+
+/// The moments of the records of a capture, up to nine, and how it ends.
+pub fn moments_text(alloc: Global, given: Given) -> Result<String, Fault> {
+    let limit = given.limit;
+    let mut files = opened(alloc, given)?;
+    let mut into = buffer(alloc, LONGEST_RECORD)?;
+    let mut capture = match Capture::begin(Counted::new(0, limit), &mut files) {
+        Ok(capture) => capture,
+        Err(fault) => return Ok(format!(in alloc; "{fault:?}")?),
+    };
+    let mut text = String::new(alloc);
+    for _ in 0..10u8 {
+        match capture.next(&mut files, &mut into) {
+            Ok(Some(caught)) => {
+                let moment = caught.moment;
+                text.push_str(format!(in alloc; "{moment} ")?.as_str())?;
+            }
+            end => {
+                text.push_str(format!(in alloc; "{end:?}")?.as_str())?;
+                return Ok(text);
+            }
+        }
+    }
+    Err(Fault::TooLarge)
+}

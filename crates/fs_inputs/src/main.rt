@@ -11,6 +11,7 @@ mod outside;
 mod packets;
 mod paths;
 mod real;
+mod rules;
 mod script;
 mod tapes;
 

@@ -1,6 +1,6 @@
 //! A case file, from its first line to its last.
 
-use crate::captures::{capture_text, record_text};
+use crate::captures::{self, capture_text, record_text};
 use crate::configurations::{address_text, said_text, taken_text};
 use crate::fields::{count, pair, sides};
 use crate::given::Given;
@@ -10,7 +10,8 @@ use crate::outside::{
 use crate::packets::{link_text, match_text, view_text};
 use crate::paths::copy_text;
 use crate::real::real_text;
-use crate::tapes::tape_text;
+use crate::rules::{numbers_text, rules_text, wide_text};
+use crate::tapes::{self, tape_text};
 use fs_cases::{Fault, Tally, octets, parts, text};
 use std::alloc::Global;
 
@@ -99,6 +100,8 @@ impl Script {
             "tape" => tape_text(self.alloc, given),
             "capture" => capture_text(self.alloc, given),
             "record" => record_text(self.alloc, given),
+            "item_moments" => tapes::moments_text(self.alloc, given),
+            "record_moments" => captures::moments_text(self.alloc, given),
             "view" => view_text(self.alloc, said, &given),
             "match" => self.plain(match_text(self.alloc, said, &given)?),
             "link" => link_text(self.alloc, said),
@@ -125,6 +128,9 @@ impl Script {
             "says" => said_text(self.alloc, &octets),
             "address" => address_text(self.alloc, &octets),
             "peers" => self.plain(taken_text(self.alloc, &self.peers(said)?)?),
+            "rules" => rules_text(self.alloc, &octets),
+            "numbers" => self.plain(numbers_text(self.alloc, count(said)?)?),
+            "wide" => self.plain(wide_text(self.alloc, count(said)?)?),
             _ => Err(Fault::NoWord),
         }
     }

@@ -85,3 +85,31 @@ pub fn tape_text(alloc: Global, given: Given) -> Result<String, Fault> {
     let again = played.again;
     Ok(format!(in alloc; "{items} {end:?}, and then {again:?}")?)
 }
+
+/// The version of the tape of these octets, its moment before the first item and behind each, up to nine, and how it
+/// ends.
+pub fn moments_text(alloc: Global, given: Given) -> Result<String, Fault> {
+    let mut files = MemFiles::new(alloc, given.failing);
+    had(files.add("tape", given.octets))?;
+    let _ = files.open_file(0, "tape");
+    let config = config(alloc)?;
+    let mut into = buffer(alloc, LONGEST_PAYLOAD)?;
+    let mut tape = match Tape::begin(Counted::new(0, given.limit), &mut files) {
+        Ok(tape) => tape,
+        Err(fault) => return Ok(format!(in alloc; "{fault:?}")?),
+    };
+    let version = tape.version();
+    let mut text = format!(in alloc; "{version:?}")?;
+    for _ in 0..10u8 {
+        let moment = tape.moment();
+        text.push_str(format!(in alloc; " {moment}")?.as_str())?;
+        match tape.next(&mut files, &config, &mut into) {
+            Ok(Some(_)) => {}
+            end => {
+                text.push_str(format!(in alloc; " {end:?}")?.as_str())?;
+                return Ok(text);
+            }
+        }
+    }
+    Err(Fault::TooLarge)
+}

@@ -6,7 +6,8 @@ use crate::fault::Fault;
 use crate::plain::Plain;
 use crate::pool::Pool;
 use fs_actions::{Actions, from_communities};
-use fs_base::{Config, Steps};
+use fs_base::{Config, Path, Steps};
+use fs_nlri::Rule;
 use fs_order::Ranked;
 use fs_rules::Table;
 use fs_validate::FlowRoute;
@@ -22,9 +23,27 @@ pub struct Pair<'a> {
     pool: &'a Pool,
 }
 
-/// A traffic-marking with a drawn DSCP value.
-fn actions(alloc: Global, draws: &mut Draws) -> Result<Actions, Fault> {
-    let dscp = draws.below(64) as u8;
+/// The peer's route of a copy of the rule with a copy of the path, and a traffic-marking with the DSCP value.
+fn route_of(
+    alloc: Global,
+    peer: u16,
+    rule: &Rule,
+    path: &Path,
+    dscp: u8,
+) -> Result<FlowRoute, Fault> {
+    let actions = actions(alloc, dscp)?;
+    let path = path.copy()?;
+    let rule = rule.copy()?;
+    Ok(FlowRoute {
+        peer,
+        rule,
+        path,
+        actions,
+    })
+}
+
+/// A traffic-marking with the DSCP value.
+fn actions(alloc: Global, dscp: u8) -> Result<Actions, Fault> {
     match from_communities(alloc, &[0x80, 0x09, 0, 0, 0, 0, 0, dscp]) {
         Ok(actions) => Ok(actions),
         Err(_) => Err(Fault::Memory),
@@ -63,15 +82,12 @@ impl<'a> Pair<'a> {
         let peer = draws.peer();
         let rule = draws.one_of(&self.pool.rules)?;
         let path = draws.one_of(&self.pool.paths)?;
-        let actions = actions(self.alloc, draws)?;
-        self.plain.put_flow(FlowRoute {
-            peer,
-            rule: rule.copy()?,
-            path: path.copy()?,
-            actions: actions.copy()?,
-        })?;
+        let dscp = draws.below(64) as u8;
+        self.plain
+            .put_flow(route_of(self.alloc, peer, rule, path, dscp)?)?;
+        let route = route_of(self.alloc, peer, rule, path, dscp)?;
         self.table
-            .put_flow(peer, rule.copy()?, path.copy()?, actions, steps)?;
+            .put_flow(peer, route.rule, route.path, route.actions, steps)?;
         Ok(())
     }
 

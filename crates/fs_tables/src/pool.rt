@@ -61,46 +61,32 @@ impl Pool {
 
     /// `prefix NAME FAMILY ADDRESS LENGTH`
     fn prefix(&mut self, alloc: Global, words: &[&str]) -> Result<(), Fault> {
+        let thing = prefix_of(alloc, words)?;
         let name = name(alloc, words)?;
-        let family = family(word(words, 2)?)?;
-        let bits = bits(alloc, word(words, 3)?)?;
-        let Some(thing) = Prefix::new(family, bits, octet(word(words, 4)?)?) else {
-            return Err(Fault::Line);
-        };
         self.prefixes.push(Named { name, thing })?;
         Ok(())
     }
 
     /// `rule NAME FAMILY FRAME`
     fn rule(&mut self, alloc: Global, words: &[&str]) -> Result<(), Fault> {
+        let thing = rule_of(alloc, words)?;
         let name = name(alloc, words)?;
-        let family = family(word(words, 2)?)?;
-        let frame = octets(alloc, word(words, 3)?)?;
-        let Ok((thing, _)) = decode(alloc, family, &frame) else {
-            return Err(Fault::Line);
-        };
         self.rules.push(Named { name, thing })?;
         Ok(())
     }
 
     /// `path NAME LOCAL_PREF ORIGIN external|internal ORIGINATOR_ID|- SEGMENT ..`
     fn path(&mut self, alloc: Global, words: &[&str]) -> Result<(), Fault> {
+        let thing = path_of(alloc, words)?;
         let name = name(alloc, words)?;
-        let thing = Path {
-            origin: octet(word(words, 3)?)?,
-            segments: segments(alloc, words)?,
-            local_pref: wide(word(words, 2)?)?,
-            originator: originator(word(words, 5)?)?,
-            external: word(words, 4)? == "external",
-        };
         self.paths.push(Named { name, thing })?;
         Ok(())
     }
 
     /// `packet NAME OCTETS`
     fn packet(&mut self, alloc: Global, words: &[&str]) -> Result<(), Fault> {
-        let name = name(alloc, words)?;
         let thing = octets(alloc, word(words, 2)?)?;
+        let name = name(alloc, words)?;
         self.packets.push(Named { name, thing })?;
         Ok(())
     }
@@ -109,6 +95,39 @@ impl Pool {
 fn name(alloc: Global, words: &[&str]) -> Result<String, Fault> {
     let name = String::from_str(alloc, word(words, 1)?)?;
     Ok(name)
+}
+
+fn prefix_of(alloc: Global, words: &[&str]) -> Result<Prefix, Fault> {
+    let family = family(word(words, 2)?)?;
+    let bits = bits(alloc, word(words, 3)?)?;
+    let length = octet(word(words, 4)?)?;
+    match Prefix::new(family, bits, length) {
+        Some(prefix) => Ok(prefix),
+        None => Err(Fault::Line),
+    }
+}
+
+fn rule_of(alloc: Global, words: &[&str]) -> Result<Rule, Fault> {
+    let family = family(word(words, 2)?)?;
+    let frame = octets(alloc, word(words, 3)?)?;
+    match decode(alloc, family, &frame) {
+        Ok((rule, _)) => Ok(rule),
+        Err(_) => Err(Fault::Line),
+    }
+}
+
+fn path_of(alloc: Global, words: &[&str]) -> Result<Path, Fault> {
+    let local_pref = wide(word(words, 2)?)?;
+    let origin = octet(word(words, 3)?)?;
+    let external = word(words, 4)? == "external";
+    let originator = originator(word(words, 5)?)?;
+    Ok(Path {
+        origin,
+        segments: segments(alloc, words)?,
+        local_pref,
+        originator,
+        external,
+    })
 }
 
 fn originator(word: &str) -> Result<Option<u32>, Fault> {
@@ -132,12 +151,15 @@ fn segment(alloc: Global, word: &str) -> Result<Segment, Fault> {
     let Some((form, numbers)) = word.split_once(':') else {
         return Err(Fault::Line);
     };
-    let mut list = Vec::new(alloc);
-    for number in numbers.split(',') {
-        list.push(wide(number)?)?;
+    let form = octet(form)?;
+    let numbers = Numbers::new(numbers_of(alloc, numbers)?);
+    Ok(Segment { form, numbers })
+}
+
+fn numbers_of(alloc: Global, digits: &str) -> Result<Vec<u32>, Fault> {
+    let mut numbers = Vec::new(alloc);
+    for number in digits.split(',') {
+        numbers.push(wide(number)?)?;
     }
-    Ok(Segment {
-        form: octet(form)?,
-        numbers: Numbers::new(list),
-    })
+    Ok(numbers)
 }

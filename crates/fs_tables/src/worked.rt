@@ -93,10 +93,11 @@ impl<'a> Worked<'a> {
 
     fn flow<L: Ledger>(&mut self, words: &[&str], steps: &mut Steps<L>) -> Result<String, Fault> {
         let peer = peer(word(words, 1)?)?;
-        let rule = thing_of(&self.pool.rules, word(words, 2)?)?.copy()?;
-        let path = thing_of(&self.pool.paths, word(words, 3)?)?.copy()?;
+        let rule = thing_of(&self.pool.rules, word(words, 2)?)?;
+        let path = thing_of(&self.pool.paths, word(words, 3)?)?;
         let actions = self.actions(words)?;
-        self.table.put_flow(peer, rule, path, actions, steps)?;
+        self.table
+            .put_flow(peer, rule.copy()?, path.copy()?, actions, steps)?;
         self.nothing()
     }
 
