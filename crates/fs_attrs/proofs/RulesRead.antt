@@ -9,7 +9,7 @@ use Rattle.fs_base.specs.declared.prefix.Family.{Family}
 use Rattle.fs_base.specs.Language.{IsOctets}
 use Rattle.fs_base.proofs.Octets.{octets_drop}
 use Rattle.fs_ops.specs.declared.kind.Kind.{Kind}
-use Rattle.fs_ops.specs.declared.error.OpsFault.TheVariants.{Cut as ListCut, Width as ListWidth}
+use Rattle.fs_ops.specs.declared.fault.OpsFault.TheVariants.{Cut as ListCut, Width as ListWidth}
 use Rattle.fs_ops.specs.Operator.{counted_bits, ends, width_code, width_of}
 use Rattle.fs_ops.specs.OperatorList.{text, Spells as SpellsPairs}
 use Rattle.fs_ops.specs.Fault.{IsFault}

@@ -12,9 +12,7 @@ pub mod Nesting
 pub mod Addresses
 pub mod CommonBits
 pub mod PrefixPrecedence
-pub mod Records
 pub mod Lists
 pub mod Seeking
 pub mod Digits
-pub mod Done
 pub mod SamePrefix

@@ -1,55 +1,12 @@
 -- Laws of the parts of an octet list.
-use Rattle.std.proofs.Common.{
-  ◌≡◌,
-  ℕ,
-  zero,
-  suc,
-  Bool,
-  List,
-  [],
-  ◌∷◌,
-  ◌++◌,
-  Option,
-  Some,
-  None,
-  ◌<◌,
-  ◌≤◌,
-  ◌+◌,
-  ◌-◌,
-  ◌⊎◌,
-  inl,
-  inr,
-  length,
-  take,
-  drop,
-  refl,
-  ap,
-  sym,
-  ◌∙◌,
-  arith,
-  append_assoc,
-  length-drop,
-  subst,
-}
+use Rattle.std.proofs.Common.{◌≡◌, ℕ, zero, suc, Bool, List, [], ◌∷◌, ◌++◌, Option, Some, None, ◌<◌, ◌≤◌, ◌+◌, ◌-◌, ◌⊎◌, inl, inr, length, take, drop, refl, ap, sym, ◌∙◌, arith, append_assoc, length-drop, subst}
 use Rattle.std.specs.Prelude.{flat_map, nat_le}
 use Rattle.std.proofs.lemmas.List.{drop-take, length-take}
 use Rattle.std.proofs.lemmas.Bool.Decides.{nat_tests}
 use Rattle.std.specs.List.{AllByRecursion}
 use Rattle.fs_base.specs.Language.{IsOctets}
 use Rattle.fs_base.proofs.Octets.{octets_right}
-use Rattle.fs_base.specs.Parts.{
-  with_part,
-  parts_within,
-  parts_of,
-  parts_then,
-  Shrinks,
-  Stable,
-  ReadsText,
-  SpellsText,
-  window,
-  at_limit,
-  to_come,
-}
+use Rattle.fs_base.specs.Parts.{with_part, parts_within, parts_of, parts_then, Shrinks, Stable, ReadsText, SpellsText, window, at_limit, to_come}
 
 abbrev Reading : {A : Type 0} → (List ℕ → Option (A × List ℕ)) → List ℕ → Type 0
 Reading {A} next octets = (next octets ≡ None) ⊎ ((found : A × List ℕ) × (next octets ≡ Some found))

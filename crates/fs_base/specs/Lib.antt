@@ -1,6 +1,5 @@
 pub mod Language
 pub mod Parts
-pub mod Records
 pub mod Bits
 pub mod Prefix
 pub mod Search

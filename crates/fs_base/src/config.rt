@@ -40,18 +40,21 @@ impl Model for Peers {
 }
 
 impl Peers {
+    /// These peers, in this order.
     pub fn new(items: Vec<Peer>) -> Peers
         ensures { result ≡ items.items }
     {
         Peers { items }
     }
 
+    /// The peers as a vector, without memory.
     pub fn into_vec(self) -> Vec<Peer>
         ensures { result.items ≡ self }
     {
         self.items
     }
 
+    /// Lends the peers.
     pub fn as_slice(&self) -> &[Peer]
         ensures { result.now ≡ self.now }
     {

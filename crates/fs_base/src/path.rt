@@ -21,18 +21,21 @@ impl Model for Numbers {
 }
 
 impl Numbers {
+    /// These AS numbers, in this order.
     pub fn new(items: Vec<u32>) -> Numbers
         ensures { result ≡ items.items }
     {
         Numbers { items }
     }
 
+    /// The AS numbers as a vector, without memory.
     pub fn into_vec(self) -> Vec<u32>
         ensures { result.items ≡ self }
     {
         self.items
     }
 
+    /// Lends the AS numbers.
     pub fn as_slice(&self) -> &[u32]
         ensures { result.now ≡ self.now }
     {
@@ -96,18 +99,21 @@ impl Model for Segments {
 }
 
 impl Segments {
+    /// These segments, in this order.
     pub fn new(items: Vec<Segment>) -> Segments
         ensures { result ≡ items.items }
     {
         Segments { items }
     }
 
+    /// The segments as a vector, without memory.
     pub fn into_vec(self) -> Vec<Segment>
         ensures { result.items ≡ self }
     {
         self.items
     }
 
+    /// Lends the segments.
     pub fn as_slice(&self) -> &[Segment]
         ensures { result.now ≡ self.now }
     {

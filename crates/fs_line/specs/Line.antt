@@ -1,5 +1,5 @@
 -- The lines that `enforce` writes for the packets of a capture.
-use Rattle.std.specs.Prelude.{ℕ, List, [], ◌∷◌, ◌++◌, map, flat_map, filter_map, if◌then◌else◌, codes, decimal}
+use Rattle.std.specs.Prelude.{◌≡◌, true, ℕ, List, [], ◌∷◌, ◌++◌, map, flat_map, filter_map, if◌then◌else◌, codes, decimal}
 use Rattle.std.specs.Option.{option_map_or}
 use Rattle.std.specs.List.{join_with_byte, list_any}
 use Rattle.std.specs.Int.{to_be_bytes, w32}
@@ -74,6 +74,15 @@ line_of number rules =
     ++ (verdict_text (actions_walked rules)
     ++ (numbers_text (numbers_walked rules)
     ++ (effects_text (actions_walked rules) ++ codes "\n")))
+
+-- the actions discard the packet, and say no more
+pub record SaysDiscard (actions : List (List ℕ)) : Type 0 where
+  pub discards : list_any is_discard actions ≡ true
+  pub silent : effects_text actions ≡ []
+
+-- the line of a packet that walked one rule whose actions do so
+abbrev pub discarded_line : (number rule : ℕ) → List ℕ
+discarded_line number rule = decimal number ++ (codes " discard rules " ++ (decimal rule ++ codes "\n"))
 
 -- the line of a packet that can't be judged, with the number of the reason
 abbrev pub unread_line_of : ℕ → ℕ → List ℕ

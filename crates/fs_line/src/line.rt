@@ -1,10 +1,10 @@
 //! The lines of packets, written piece by piece without memory.
 
-ghost use Rattle.std.specs.Prelude.{◌≡◌, [], ◌++◌, codes};
+ghost use Rattle.std.specs.Prelude.{◌≡◌, ◌≤◌, ◌+◌, [], ◌++◌, IsTrue, codes, length};
 ghost use Rattle.std.specs.Int.{to_be_bytes, w32};
 ghost use Rattle.std.specs.Option.{option_map_or};
 ghost use Rattle.hex.specs.Hex.{encode_lower};
-ghost use Rattle.fs_line.specs.Line.{address_text, effects_text, line_of, mark_text, numbered, numbers_text, others_text, rate_text, rates_text, redirect_text, sample_text, unread_line_of, verdict_text};
+ghost use Rattle.fs_line.specs.Line.{SaysDiscard, address_text, discarded_line, effects_text, line_of, mark_text, numbered, numbers_text, others_text, rate_text, rates_text, redirect_text, sample_text, unread_line_of, verdict_text};
 ghost use Rattle.fs_line.specs.Output.{Sends};
 ghost use Rattle.fs_line.specs.Walked.{actions_walked, entries, numbers_walked};
 
@@ -14,11 +14,70 @@ use fs_actions::{Actions, Rate, Redirect};
 use fs_base::{Failed, Sink};
 use itoa::{Buffer, Integer};
 
+/// At least so many octets has a line of two numbers and no effects.
+const SHORT_LINE: usize = 104;
+
 /// Writes the line of a packet that was judged: the record's number, from 1, the verdict, the numbers of the rules
 /// that the packet has walked, and what they say beside the verdict. `walked` are these rules in the order of the walk.
 ///
 /// Answers Failed where the sink fails. A part of what was to go may then be written, and nothing is pending.
 pub fn write_packet_line<S: Sink>(
+    output: &mut Output,
+    sink: &mut S,
+    number: u64,
+    walked: &[Walked<'_>],
+) -> Result<(), Failed>
+    ensures { Sends S.Sink sink.old sink.new output.old output.new (line_of number (entries walked.now)) result }
+{
+    output.make_room(sink, SHORT_LINE)?;
+    match walked {
+        [] => {
+            keep_passed(output, number);
+            Ok(())
+        }
+        [rule] if discards_alone(rule.actions) => {
+            keep_discarded(output, number, rule.number);
+            Ok(())
+        }
+        _ => write_whole_line(output, sink, number, walked),
+    }
+}
+
+/// Keeps back the line of a packet that walked no rule.
+fn keep_passed(output: &mut Output, number: u64)
+    requires { length output.old + SHORT_LINE ≤ 65536 }
+    ensures { output.new ≡ output.old ++ line_of number [] }
+{
+    output.keep_decimal(number);
+    output.keep_back(b" pass\n");
+}
+
+/// Keeps back the line of a packet that walked one rule, which discards it and says no more.
+fn keep_discarded(output: &mut Output, number: u64, rule: usize)
+    requires { length output.old + SHORT_LINE ≤ 65536 }
+    ensures { output.new ≡ output.old ++ discarded_line number rule }
+{
+    output.keep_decimal(number);
+    output.keep_back(b" discard rules ");
+    output.keep_decimal(rule);
+    output.keep_back(b"\n");
+}
+
+/// Whether each action discards, and there is one.
+fn discards_alone(actions: &Actions) -> bool
+    ensures { IsTrue result → SaysDiscard actions.now }
+{
+    let actions = actions.as_slice();
+    for action in actions {
+        if !action.discards() {
+            return false;
+        }
+    }
+    !actions.is_empty()
+}
+
+/// Writes the line of a packet piece by piece.
+fn write_whole_line<S: Sink>(
     output: &mut Output,
     sink: &mut S,
     number: u64,

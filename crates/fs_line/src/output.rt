@@ -6,28 +6,34 @@ ghost use Rattle.fs_base.specs.Sink.{Grew, GrewPart};
 ghost use Rattle.fs_line.specs.Output.{Sends};
 
 use fs_base::{Failed, Memory, Sink, write_all};
+use itoa::{Buffer, Integer};
 use std::alloc::Global;
 use std::marker::Model;
 
 /// How many octets an `Output` keeps back.
 const CAPACITY: usize = 65536;
 
+/// The longest number that is printed: 40 digits.
+pub(crate) const LONGEST_NUMBER: usize = 40;
+
 /// Text on its way to a sink. Small pieces are kept back, in a buffer that is made once, and leave together.
 ///
 /// Contracts see the octets that are kept back.
 #[derive(Drop)]
 pub struct Output {
-    pending: Vec<u8>,
+    /// `CAPACITY` octets, of which the first `count` are kept back.
+    buffer: Vec<u8>,
+    count: usize,
 }
 
 impl Model for Output {
-    ghost use Rattle.std.specs.Prelude.{ℕ, ◌≤◌, List, vec_capacity, vec_len};
+    ghost use Rattle.std.specs.Prelude.{◌≡◌, ℕ, ◌≤◌, List, length, take};
 
     ghost Value = { List ℕ };
 
-    ghost view = { λ a. a.pending.items };
+    ghost view = { λ a. take a.count a.buffer.items };
 
-    ghost invariant = { λ a. (65536 ≤ vec_capacity a.pending) × (vec_len a.pending ≤ 65536) };
+    ghost invariant = { λ a. (length a.buffer.items ≡ 65536) × (a.count ≤ 65536) };
 }
 
 impl Output {
@@ -36,7 +42,8 @@ impl Output {
         ensures { IfOk result (λ output. output ≡ []) }
     {
         Ok(Output {
-            pending: Vec::with_capacity(alloc, CAPACITY)?,
+            buffer: vec![in alloc; 0u8; CAPACITY]?,
+            count: 0,
         })
     }
 
@@ -73,28 +80,52 @@ impl Output {
         ensures empty { self.new ≡ [] }
         ensures cause { HasCause (S.faults sink.old) (S.faults sink.new) result }
     {
-        if self.pending.is_empty() {
+        if self.count == 0 {
             return Ok(());
         }
-        let outcome = write_all(sink, &self.pending);
-        self.pending.clear();
+        let outcome = write_all(sink, &self.buffer[..self.count]);
+        self.count = 0;
         outcome
+    }
+
+    /// Writes out what is pending, unless the buffer takes so many more octets.
+    pub(crate) fn make_room<S: Sink>(&mut self, sink: &mut S, octets: usize) -> Result<(), Failed>
+        requires { octets ≤ CAPACITY }
+        ensures sends { Sends S.Sink sink.old sink.new self.old self.new [] result }
+        ensures room { OnOk result (length self.new + octets ≤ CAPACITY) }
+    {
+        if octets <= self.room() {
+            return Ok(());
+        }
+        self.flush(sink)
     }
 
     /// How many more octets the buffer takes.
     fn room(&self) -> usize
         ensures { result + length self.now ≡ CAPACITY }
     {
-        CAPACITY - self.pending.len()
+        CAPACITY - self.count
     }
 
     /// Adds a piece that fits to the octets that are kept back.
-    fn keep_back(&mut self, piece: &[u8])
+    #[inline(always)]
+    pub(crate) fn keep_back(&mut self, piece: &[u8])
         requires { length self.old + length piece.now ≤ CAPACITY }
         ensures { self.new ≡ self.old ++ piece.now }
     {
-        let Ok(()) = self.pending.extend_from_slice(piece) else {
-            unreachable!()
-        };
+        let end = self.count + piece.len();
+        self.buffer[self.count..end].copy_from_slice(piece);
+        self.count = end;
+    }
+
+    /// Adds a number in decimal to the octets that are kept back.
+    #[inline(always)]
+    pub(crate) fn keep_decimal<N: Integer>(&mut self, number: N)
+        requires { length self.old + LONGEST_NUMBER ≤ CAPACITY }
+        ensures text { self.new ≡ self.old ++ N.text number }
+        ensures short { length self.new ≤ length self.old + LONGEST_NUMBER }
+    {
+        let mut buffer = Buffer::new();
+        self.keep_back(buffer.format(number).as_bytes());
     }
 }

@@ -42,5 +42,6 @@ fn reason_name(reason: TapeReason) -> &'static [u8]
         TapeReason::Peer => b"Peer",
         TapeReason::Length => b"Length",
         TapeReason::Cut => b"Cut",
+        TapeReason::Moment => b"Moment",
     }
 }

@@ -11,8 +11,8 @@ use Rattle.fs_base.proofs.Languages.{cut_as, fault_as}
 use Rattle.fs_ops.specs.declared.kind.Kind.{Kind}
 use Rattle.fs_ops.specs.OperatorList.{Spells as SpellsPairs, IsText, all_said}
 use Rattle.fs_ops.specs.Fault.{IsFault}
-use Rattle.fs_ops.specs.declared.error.OpsFault.{OpsFault}
-use Rattle.fs_ops.specs.declared.error.OpsFault.TheVariants.{Cut, Width, Memory}
+use Rattle.fs_ops.specs.declared.fault.OpsFault.{OpsFault}
+use Rattle.fs_ops.specs.declared.fault.OpsFault.TheVariants.{Cut, Width, Memory}
 use Rattle.fs_nlri.specs.Forms.{V4Form, V6Form, ListForm, kept_bits}
 use Rattle.fs_nlri.specs.Parts.{V6Body, ListBody}
 use Rattle.fs_nlri.specs.Spelling.{SpellsV6, SpellsList, IsRange, octets_for}

@@ -5,7 +5,7 @@ use Rattle.std.proofs.lemmas.Bool.{cases_lt, cases_eq, both_ways}
 use Rattle.fs_base.specs.declared.prefix.Family.{Family}
 use Rattle.fs_base.specs.declared.prefix.Family.TheVariants.{V4, V6}
 use Rattle.fs_ops.specs.declared.kind.Kind.{Kind}
-use Rattle.fs_ops.specs.declared.error.OpsFault.TheVariants.{Cut as ListCut, Width as ListWidth, Memory as ListMemory}
+use Rattle.fs_ops.specs.declared.fault.OpsFault.TheVariants.{Cut as ListCut, Width as ListWidth, Memory as ListMemory}
 use Rattle.fs_ops.proofs.Every.{every, IsOutcome}
 use Rattle.fs_nlri.specs.declared.fault.Reason.{Reason}
 use Rattle.fs_nlri.specs.declared.fault.Reason.TheVariants.{Cut, NoType, Order, PrefixLength, Offset, Width, Length}

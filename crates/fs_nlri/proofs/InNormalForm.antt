@@ -1,12 +1,11 @@
 -- Components that are in normal form are the family's, by rising types, and clearing changes nothing in them.
-use Rattle.std.proofs.Common.{◌≡◌, ℕ, ◌-◌, ◌≤◌, ◌<◌, ◌==◌, Bool, true, false, if◌then◌else◌, ◌&&◌, ◌||◌, List, [], ◌∷◌, Option, Some, None, Result, Ok, Err, refl, ap, sym, ◌∙◌, arith, inl, inr, ◌⊎◌, length, nat_le, nat_lt}
+use Rattle.std.proofs.Common.{◌≡◌, ℕ, ◌-◌, ◌==◌, Bool, true, false, if◌then◌else◌, ◌&&◌, ◌||◌, List, [], ◌∷◌, Option, Some, None, Ok, Err, refl, ap, sym, ◌∙◌, inl, inr, ◌⊎◌, length, nat_le, nat_lt}
 use Rattle.std.proofs.lemmas.Bool.{and_from, lt-ltb, le-leb, eq-eqb}
 use Rattle.fs_base.specs.declared.prefix.Family.{Family}
 use Rattle.fs_base.specs.declared.prefix.Family.TheVariants.{V4, V6}
-use Rattle.fs_nlri.specs.declared.fault.RuleFault.{RuleFault}
-use Rattle.fs_nlri.specs.declared.fault.RuleFault.TheVariants.{NotOfFamily, Order, TooLong}
-use Rattle.fs_nlri.specs.Forms.{Form, V4Form, V6Form, ListForm, form_of, all_allowed}
-use Rattle.fs_nlri.specs.Parts.{Body, V4Body, V6Body, ListBody, Part, Ruled, part, ruled}
+use Rattle.fs_nlri.specs.declared.fault.RuleFault.TheVariants.{TooLong}
+use Rattle.fs_nlri.specs.Forms.{Form, V4Form, V6Form, ListForm, form_of}
+use Rattle.fs_nlri.specs.Parts.{Body, V4Body, V6Body, ListBody, Part, part, ruled}
 use Rattle.fs_nlri.specs.Spelling.{IsRange}
 use Rattle.fs_nlri.specs.Rule.{IsNormalBody, IsNormalAt, AreNormal, canonical_value}
 use Rattle.fs_nlri.specs.Making.{is_range, body_given, given_at, part_given, all_given, rises, cleared_body, cleared_at, cleared_part, cleared_parts, rule_of}

@@ -2,8 +2,8 @@
 use Rattle.std.specs.Prelude.{◌≡◌, ℕ, ◌+◌, List, ◌∷◌, ◌++◌, length, Some, Result, Ok, Err, IsSome, IsNone}
 use Rattle.fs_base.specs.declared.prefix.Family.{Family}
 use Rattle.fs_base.specs.Language.{IsCut, IsFirstFault}
-use Rattle.fs_ops.specs.declared.error.OpsFault.{OpsFault}
-use Rattle.fs_ops.specs.declared.error.OpsFault.TheVariants.{Cut as ListCut, Width as ListWidth, Memory as ListMemory}
+use Rattle.fs_ops.specs.declared.fault.OpsFault.{OpsFault}
+use Rattle.fs_ops.specs.declared.fault.OpsFault.TheVariants.{Cut as ListCut, Width as ListWidth, Memory as ListMemory}
 use Rattle.fs_ops.specs.Fault.{IsOperatorPlace}
 use Rattle.fs_nlri.specs.declared.fault.Reason.{Reason}
 use Rattle.fs_nlri.specs.declared.fault.Reason.TheVariants.{Cut, NoType, Order, PrefixLength, Offset, Width, Length}

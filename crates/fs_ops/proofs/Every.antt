@@ -8,8 +8,8 @@ use Rattle.fs_base.proofs.Languages.{one_fault, cut_or_fault}
 use Rattle.fs_ops.specs.Operator.{Kind, counted_bits, ends, width_code, width_of}
 use Rattle.fs_ops.specs.OperatorList.{IsText, Spells}
 use Rattle.fs_ops.specs.Fault.{IsFault}
-use Rattle.fs_ops.specs.declared.error.OpsFault.{OpsFault}
-use Rattle.fs_ops.specs.declared.error.OpsFault.TheVariants.{Cut, Width, Memory}
+use Rattle.fs_ops.specs.declared.fault.OpsFault.{OpsFault}
+use Rattle.fs_ops.specs.declared.fault.OpsFault.TheVariants.{Cut, Width, Memory}
 use Rattle.fs_ops.proofs.Grammar.{same_list}
 use Rattle.fs_ops.proofs.Found.{HasRead, cut_between, cut_within, bad_width, next_found, goes_on, ends_here}
 

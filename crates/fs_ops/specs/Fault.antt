@@ -2,8 +2,8 @@
 use Rattle.std.specs.Prelude.{◌≡◌, ℕ, List, [], ◌∷◌, ◌++◌, length}
 use Rattle.fs_base.specs.Language.{NoFront, IsCut, IsFirstFault}
 use Rattle.fs_ops.specs.OperatorList.{Written, AreMiddle, IsText, text}
-use Rattle.fs_ops.specs.declared.error.OpsFault.{OpsFault}
-use Rattle.fs_ops.specs.declared.error.OpsFault.TheVariants.{Cut, Width, Memory}
+use Rattle.fs_ops.specs.declared.fault.OpsFault.{OpsFault}
+use Rattle.fs_ops.specs.declared.fault.OpsFault.TheVariants.{Cut, Width, Memory}
 
 -- all codes of a value's length: 1, 2, 4 and 8 octets
 abbrev pub all_widths : List ℕ

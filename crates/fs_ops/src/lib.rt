@@ -2,8 +2,8 @@
 //! reading with exact faults, writing, and evaluation.
 #![tactic(auto)]
 
-mod error;
 mod evaluation;
+mod fault;
 mod kind;
 mod making;
 mod mask_list;
@@ -14,7 +14,7 @@ mod size;
 mod values;
 mod writing;
 
-pub use error::OpsFault;
+pub use fault::OpsFault;
 pub use kind::Kind;
 pub use mask_list::MaskList;
 pub use num_list::NumList;

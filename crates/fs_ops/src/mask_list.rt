@@ -6,7 +6,7 @@ ghost use Rattle.fs_ops.specs.OperatorList.{Spells, IsNormal, canonical, first_j
 ghost use Rattle.fs_ops.specs.Fault.{IsFault, all_widths};
 ghost use Rattle.fs_ops.specs.Evaluation.{holds, masks};
 
-use crate::error::OpsFault;
+use crate::fault::OpsFault;
 use crate::kind::Kind;
 use crate::{evaluation, making, reading, size, values, writing};
 use fs_base::Memory;

@@ -4,7 +4,7 @@ ghost use Rattle.std.specs.Prelude.{◌≡◌, ◌≤◌, ◌<◌, length, take,
 ghost use Rattle.fs_ops.specs.OperatorList.{Spells};
 ghost use Rattle.fs_ops.specs.Fault.{IsFault};
 
-use crate::error::OpsFault;
+use crate::fault::OpsFault;
 use crate::kind::Kind;
 use crate::operator::{allows, clear_ignored, is_last, value_len, width_code_of};
 use byteorder::{BigEndian, ByteOrder};

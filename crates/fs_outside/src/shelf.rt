@@ -60,6 +60,7 @@ pub fn copy_behind(content: &[u8], taken: usize, most: usize, into: &mut [u8]) -
 impl Shelf {
     ghost use Rattle.fs_outside.specs.MemoryFiles.{shelf_left};
 
+    /// No files, and each slot shut.
     pub fn new(alloc: Global) -> Shelf
         ensures empty { result.files.items ≡ [] }
         ensures left { (slot : ℕ) → shelf_left result slot ≡ [] }
@@ -70,6 +71,7 @@ impl Shelf {
         }
     }
 
+    /// Puts a file with this name and content on the shelf; `Memory` where the machine refused it, and then the files are as before.
     pub fn add(&mut self, name: &str, content: Vec<u8>) -> Result<(), Memory>
         ensures ok { OnOk result (AddsFile
             (content_named self.old.files.items)

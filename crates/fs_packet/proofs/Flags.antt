@@ -9,7 +9,7 @@ use Rattle.fs_ops.specs.OperatorList.{AreNormal}
 use Rattle.fs_ops.specs.Evaluation.{groups_of, has_bit, holds, masks, onto_group}
 use Rattle.fs_nlri.specs.Parts.{ListBody}
 use Rattle.fs_nlri.specs.Sound.{IsSoundBody}
-use Rattle.fs_packet.specs.Matches.{tcp_flags}
+use Rattle.fs_packet.specs.Matching.{tcp_flags}
 
 -- each value fits its width
 abbrev pub AreWide : List (ℕ × ℕ) → Type 0

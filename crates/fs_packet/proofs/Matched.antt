@@ -5,7 +5,7 @@ use Rattle.fs_nlri.specs.declared.component.Component.{Component}
 use Rattle.fs_nlri.specs.Component.{parts_of}
 use Rattle.fs_nlri.specs.Sound.{AreSound}
 use Rattle.fs_packet.specs.Fields.{Viewed}
-use Rattle.fs_packet.specs.Matches.{part_matches}
+use Rattle.fs_packet.specs.Matching.{part_matches}
 
 -- the components before the index match
 pub record Matching (view : Viewed) (components : List Component) (index : ℕ) : Type 0 where

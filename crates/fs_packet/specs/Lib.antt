@@ -1,4 +1,4 @@
 pub mod Fields
 pub mod Chain
-pub mod Matches
+pub mod Matching
 pub mod Reading

@@ -6,7 +6,7 @@ ghost use Rattle.fs_base.specs.Bits.{cleared, width_of};
 ghost use Rattle.fs_nlri.specs.Component.{body_of, part_of, parts_of};
 ghost use Rattle.fs_nlri.specs.Parts.{ListBody};
 ghost use Rattle.fs_nlri.specs.Sound.{AreSound, IsSoundBody};
-ghost use Rattle.fs_packet.specs.Matches.{flags_hold, holds_of, is_match, is_prefix_of, part_matches};
+ghost use Rattle.fs_packet.specs.Matching.{flags_hold, holds_of, is_match, is_prefix_of, part_matches};
 
 use crate::fields::View;
 use fs_base::{Address, Family, Prefix};

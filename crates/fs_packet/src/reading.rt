@@ -23,6 +23,7 @@ const SERVICE_TAG: u16 = 0x88a8;
 
 /// The view of the packet in a record's octets, or the first test of its headers that fails (RFC 791 section 3.1,
 /// RFC 8200 sections 3 and 4).
+#[inline(always)]
 pub fn view(link: Link, octets: &[u8]) -> Result<View<'_>, Unread>
     ensures { result ≡ view_of link octets.now }
 {
@@ -46,6 +47,7 @@ pub fn view(link: Link, octets: &[u8]) -> Result<View<'_>, Unread>
 }
 
 /// The packet behind an Ethernet header with at most two tags.
+#[inline(always)]
 fn behind_tags(octets: &[u8]) -> Result<(Family, &[u8]), Unread>
     ensures { found_in result ≡ behind_tags 2 12 octets.now }
 {
@@ -65,6 +67,7 @@ fn behind_tags(octets: &[u8]) -> Result<(Family, &[u8]), Unread>
 }
 
 /// The packet behind a link header of `size` octets, whose EtherType stands at `place`.
+#[inline(always)]
 fn behind_type(octets: &[u8], place: usize, size: usize) -> Result<(Family, &[u8]), Unread>
     requires { place + 2 ≤ size }
     ensures { found_in result ≡ behind_type place size octets.now }
@@ -102,6 +105,7 @@ fn family_of_type(number: u16) -> Option<Family>
     }
 }
 
+#[inline(always)]
 fn packet_view(family: Family, packet: &[u8]) -> Result<View<'_>, Unread>
     ensures { result ≡ packet_view family packet.now }
 {
@@ -122,6 +126,7 @@ fn raw_view(packet: &[u8]) -> Result<View<'_>, Unread>
     }
 }
 
+#[inline(always)]
 fn v4_view(packet: &[u8]) -> Result<View<'_>, Unread>
     ensures { result ≡ v4_view packet.now }
 {
@@ -166,6 +171,7 @@ fn v4_transport(packet: &[u8], size: usize, count: usize, field: u16) -> &[u8]
     }
 }
 
+#[inline(always)]
 fn v6_view(packet: &[u8]) -> Result<View<'_>, Unread>
     ensures { result ≡ v6_view packet.now }
 {

@@ -39,6 +39,7 @@ impl Model for Routes {
 }
 
 impl Routes {
+    /// No routes. Takes no memory.
     pub fn new(alloc: Global) -> Routes
         ensures { result ≡ [] }
     {

@@ -1,6 +1,6 @@
 //! The table of unicast routes.
 
-ghost use Rattle.std.specs.Prelude.{◌≡◌, [], OnOk, OnErr, is_some, option_map, ◌+◌};
+ghost use Rattle.std.specs.Prelude.{◌≡◌, [], OnOk, OnErr, is_some, option_map, length, ◌+◌};
 ghost use Rattle.std.specs.BTreeMap.{insert_entry, is_at};
 ghost use Rattle.std.specs.List.Sorted.{IsStrictlySortedBy};
 ghost use Rattle.std.specs.Map.{keys_of, remove_entry, lookup};
@@ -44,6 +44,7 @@ impl Model for Unicast {
 }
 
 impl Unicast {
+    /// A table without routes. Takes no memory.
     pub fn new(alloc: Global) -> Unicast
         ensures { result ≡ [] }
     {
@@ -72,6 +73,14 @@ impl Unicast {
             peer,
         };
         self.routes.remove(&place)
+    }
+
+    /// How many routes there are. They are in the order of their places.
+    pub fn len(&self) -> usize
+        ensures len { result ≡ length self.now }
+        ensures ordered { IsStrictlySortedBy place_cmp (keys_of self.now) }
+    {
+        self.routes.paths().len()
     }
 
     /// The most preferred route at the prefix. One step.

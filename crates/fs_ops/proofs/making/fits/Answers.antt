@@ -1,4 +1,4 @@
-use Rattle.std.proofs.Common.{ap, sym, ◌∙◌, refl}
+use Rattle.std.proofs.Common.{◌∙◌, refl}
 use Rattle.fs_ops.proofs.NormalPairs.{fits_eight}
 use Rattle.fs_ops.proofs.making.fits.Goals as goal
 

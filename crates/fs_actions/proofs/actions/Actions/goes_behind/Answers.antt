@@ -1,4 +1,4 @@
-use Rattle.std.proofs.Common.{◌≡◌, Option, Some, None, List, ℕ, sym, ◌∙◌, ap, subst, length, ◌-◌}
+use Rattle.std.proofs.Common.{◌≡◌, Option, Some, None, List, ℕ, ◌∙◌, ap, subst, length, ◌-◌}
 use Rattle.std.specs.Prelude.{◌↔◌, IsTrue, slice_get}
 use Rattle.std.specs.List.{last_or}
 use Rattle.fs_actions.specs.Actions.{IsAbove}

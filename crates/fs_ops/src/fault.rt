@@ -1,7 +1,7 @@
 //! Why octets aren't the front of an operator list.
 
 ghost use Rattle.std.specs.Prelude.{◌≡◌};
-ghost use Rattle.fs_ops.specs.declared.error.OpsFault.TheVariants.{Memory as OutOfMemory};
+ghost use Rattle.fs_ops.specs.declared.fault.OpsFault.TheVariants.{Memory as OutOfMemory};
 
 use fs_base::Memory;
 use std::alloc::{AllocError, AllocFailed};
