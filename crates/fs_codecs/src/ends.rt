@@ -40,11 +40,11 @@ struct Both<'a> {
     updates: u64,
 }
 
-/// The hold time, the identifier of the announcing end, and events with commas between them: `start` and `next` of the
-/// announcing end; `take N MOMENT` and `hear N MOMENT` of N octets that are in flight to the receiving end and to the
-/// announcing one; `hears OCTETS` of others; `tick MOMENT` and `pulse MOMENT` of the clocks of the two. The answer is
-/// how many octets each event appended, then how many updates were taken, how it stands with both ends, and all that the
-/// announcing one wrote.
+/// The hold time, the identifier of the announcing end, and events with commas between them: `start` and `next` of
+/// the announcing end; `take N MOMENT` and `hear N MOMENT` of N octets that are in flight to the receiving end and to
+/// the announcing one; `hears OCTETS` of others; `tick MOMENT` and `pulse MOMENT` of the clocks of the two. The
+/// answer is how many octets each event appended, then how many updates were taken, how it stands with both ends, and
+/// all that the announcing one wrote.
 pub fn play(alloc: Global, names: &Names, input: &str) -> Result<String, Stop> {
     let (hold_time, input) = numbered(input)?;
     let (id, events) = numbered(input)?;

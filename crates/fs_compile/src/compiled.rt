@@ -36,8 +36,9 @@ impl Compiled {
         })
     }
 
-    /// The least number, from 0, of a rule of the packet's family that matches it. At most as many steps as the family
-    /// has rules whose destination covers the packet's, or that have none (of IPv6 none with offset 0). Takes no memory.
+    /// The least number, from 0, of a rule of the packet's family that matches it. At most as many steps as the
+    /// family has rules whose destination covers the packet's, or that have none (of IPv6 none with offset 0). Takes
+    /// no memory.
     pub fn first<L: Ledger>(&self, view: &View<'_>, steps: &mut Steps<L>) -> Option<usize>
         ensures first { (rules : Family → List Listed)
             → StandsForLists rules self.now

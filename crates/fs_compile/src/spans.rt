@@ -62,8 +62,8 @@ impl Spans {
         all_enclosed(&self.ranges, &other.ranges)
     }
 
-    /// Of the numbers below 2^32, which fields have, the first and the last, where they and all between are these; where
-    /// none are, a first above the last. None where they are more than one range.
+    /// Of the numbers below 2^32, which fields have, the first and the last, where they and all between are these;
+    /// where none are, a first above the last. None where they are more than one range.
     pub(crate) fn range(&self) -> Option<(u32, u32)>
         ensures { result ≡ field_range self.now }
     {

@@ -1,12 +1,11 @@
 -- The configuration file: a TOML document with these keys and no others.
 use Rattle.std.specs.Prelude.{ℕ, ◌==◌, nat_le, Bool, true, false, not, ◌&&◌, ◌||◌, if◌then◌else◌, List, [], ◌∷◌, length, codes, Option, Some, None, option_map, option_and_then}
 use Rattle.std.specs.List.{list_any}
-use Rattle.std.specs.Str.{is_utf8}
 use Rattle.toml.specs.Data.{Data, as_str, as_array, as_table, Items, no_items, item, Members, get_member}
-use Rattle.toml.specs.Parse.{parse_document}
 use Rattle.fs_base.specs.declared.config.Config.{Config}
 use Rattle.fs_base.specs.declared.config.Peer.{Peer}
 use Rattle.fs_conf.specs.Address.{ipv4_of, address_of}
+use Rattle.fs_conf.specs.Document.{document_of}
 use Rattle.fs_conf.specs.Fields.{flag_or, keys_among, number_in, number_or}
 
 infixl 10 ◌>>=◌
@@ -103,4 +102,4 @@ config_of_document members = if keys_among config_keys members then config_of_me
 
 -- the configuration that the octets write
 abbrev pub config_of : List ℕ → Option Config
-config_of octets = if is_utf8 octets then parse_document octets >>= config_of_document else None
+config_of octets = document_of octets >>= config_of_document

@@ -7,10 +7,10 @@ ghost use Rattle.toml.specs.View.{view, items_view, table_view};
 ghost use Rattle.fs_conf.specs.Config.{hold_time_in, limit_in, peer_of_data, peers_of_items, peers_in, are_distinct, identifier, config_of, config_of_document};
 
 use crate::address::{read_address, read_ipv4};
+use crate::document::read_document;
 use crate::fields::{array_at, flag_at, has_only, number_at, number_or, text_at, value_at};
 use fs_base::{Config, Peer, Peers};
 use std::alloc::{AllocFailed, Global};
-use std::str;
 use toml::{Table, Value};
 
 /// Why a configuration file wasn't taken.
@@ -173,12 +173,6 @@ pub fn read_config(alloc: Global, octets: &[u8]) -> Result<Config, ConfFault>
     ensures ok { IfOk result (λ config. config_of octets.now ≡ Some config) }
     ensures refused { IsErrOf result ConfFault.Refused → config_of octets.now ≡ None }
 {
-    let Ok(text) = str::from_utf8(octets) else {
-        return Err(ConfFault::Refused);
-    };
-    match toml::table_from_str(alloc, text) {
-        Ok(table) => config_from(alloc, &table),
-        Err(error) if error.is_memory() => Err(ConfFault::Memory),
-        Err(_) => Err(ConfFault::Refused),
-    }
+    let table = read_document(alloc, octets)?;
+    config_from(alloc, &table)
 }

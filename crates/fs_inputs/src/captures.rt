@@ -54,8 +54,8 @@ fn opened(alloc: Global, given: Given) -> Result<MemFiles, Fault> {
     Ok(files)
 }
 
-/// How many records the capture of these octets gives and how it ends. A capture that answers otherwise when asked again
-/// tells that too.
+/// How many records the capture of these octets gives and how it ends. A capture that answers otherwise when asked
+/// again tells that too.
 pub fn capture_text(alloc: Global, given: Given) -> Result<String, Fault> {
     let limit = given.limit;
     let mut files = opened(alloc, given)?;

@@ -171,8 +171,8 @@ fn wire_calls<W: Wire>(alloc: Global, wire: &mut W, calls: &str) -> Result<Strin
     Ok(text)
 }
 
-/// A wire in memory with room for so many octets, whose end 0 is to receive `abc` and of which these calls fail: what the
-/// calls behind the `;` answer, and then what was written through each end.
+/// A wire in memory with room for so many octets, whose end 0 is to receive `abc` and of which these calls fail: what
+/// the calls behind the `;` answer, and then what was written through each end.
 pub fn wire_text(alloc: Global, fields: &str) -> Result<String, Fault> {
     let Some((head, calls)) = fields.split_once(';') else {
         return Err(Fault::NoField);

@@ -72,8 +72,10 @@ impl Component {
     /// give the component, or its type the form and the widths that it has.
     pub fn cleared(self, family: Family) -> Option<Component>
         ensures some { IfSome result (λ own. part_of own ≡ cleared_part family (part_of self)) }
-        ensures normal { IfSome result (λ own. let part = part_of own in IsNormalAt (form_of family part.kind) part.body) }
-        ensures none { IfNone result (let part = part_of self in IsNormalAt (form_of family part.kind) part.body → ⊥) }
+        ensures normal { IfSome result (λ own.
+            let part = part_of own in IsNormalAt (form_of family part.kind) part.body) }
+        ensures none { IfNone result
+            (let part = part_of self in IsNormalAt (form_of family part.kind) part.body → ⊥) }
         ensures same { let part = part_of self in
             IsNormalAt (form_of family part.kind) part.body → cleared_part family part ≡ part }
     {

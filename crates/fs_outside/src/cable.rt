@@ -97,8 +97,10 @@ pub struct Cable {
     pub ghost second_room: { room ≤ vec_capacity second.written },
     pub ghost first_size: { vec_len first.written ≤ room },
     pub ghost second_size: { vec_len second.written ≤ room },
-    pub ghost first_taken: { first.taken ≤ length (source_of first.origin first.to_receive.items second.written.items) },
-    pub ghost second_taken: { second.taken ≤ length (source_of second.origin second.to_receive.items first.written.items) },
+    pub ghost first_taken: { first.taken
+        ≤ length (source_of first.origin first.to_receive.items second.written.items) },
+    pub ghost second_taken: { second.taken
+        ≤ length (source_of second.origin second.to_receive.items first.written.items) },
 }
 
 /// Appends octets, where they go within the room.

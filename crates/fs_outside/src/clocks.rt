@@ -6,8 +6,8 @@ ghost use Rattle.fs_outside.specs.Moments.{answer_at, told_answers};
 
 use fs_base::Clock;
 
-/// A clock that answers the moments of a list in turn, and then the last of them again and again; 0 where there is none.
-/// It tells its answers for the first 2^64 - 1 of them.
+/// A clock that answers the moments of a list in turn, and then the last of them again and again; 0 where there is
+/// none. It tells its answers for the first 2^64 - 1 of them.
 #[derive(Drop)]
 pub struct MemClock {
     moments: Vec<u64>,

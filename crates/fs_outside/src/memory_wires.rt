@@ -145,8 +145,9 @@ impl Wire for MemWire {
         ensures cause { HasCause (mem_wire_faults self.old) (mem_wire_faults self.new) result }
         ensures reads { EndReads end result into.new (mem_wire_ends self.old) (mem_wire_ends self.new) }
         ensures fails { is_err result ≡ mem_wire_fails self.old }
-        ensures count { IfOk result
-            (λ n. n ≡ min (length (end_at end (mem_wire_ends self.old)).left) (min (length into.new) (mem_wire_most self.old))) }
+        ensures count { IfOk result (λ n. n ≡ min
+            (length (end_at end (mem_wire_ends self.old)).left)
+            (min (length into.new) (mem_wire_most self.old))) }
         ensures calls { mem_wire_calls self.new ≡ min (mem_wire_calls self.old + 1) (2 ^ 64 - 1) }
         ensures failing { mem_wire_failing self.new ≡ mem_wire_failing self.old }
         ensures room { mem_wire_room self.new ≡ mem_wire_room self.old }

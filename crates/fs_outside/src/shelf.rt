@@ -71,7 +71,8 @@ impl Shelf {
         }
     }
 
-    /// Puts a file with this name and content on the shelf; `Memory` where the machine refused it, and then the files are as before.
+    /// Puts a file with this name and content on the shelf; `Memory` where the machine refused it, and then the files
+    /// are as before.
     pub fn add(&mut self, name: &str, content: Vec<u8>) -> Result<(), Memory>
         ensures ok { OnOk result (AddsFile
             (content_named self.old.files.items)

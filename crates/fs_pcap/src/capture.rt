@@ -17,10 +17,10 @@ use fs_base::{Counted, Files, fill};
 use fs_records::{Ended, next_record, opened};
 use std::marker::Model;
 
-/// A captured packet. `taken` octets of it were captured, of `original`; they stand at the front of the buffer that was
-/// handed in. `fraction` counts microseconds or nanoseconds, as the capture's magic says. `moment`, in nanoseconds since
-/// the start of 1970, is the greatest time of the capture's records up to and with this one, a time being the seconds
-/// and the fraction.
+/// A captured packet. `taken` octets of it were captured, of `original`; they stand at the front of the buffer that
+/// was handed in. `fraction` counts microseconds or nanoseconds, as the capture's magic says. `moment`, in
+/// nanoseconds since the start of 1970, is the greatest time of the capture's records up to and with this one, a time
+/// being the seconds and the fraction.
 #[derive(Clone, Copy, Debug, PartialEq, Eq, Drop)]
 pub struct Caught {
     pub seconds: u32,

@@ -17,6 +17,7 @@ pub enum CaptureReason {
     Cut,
 }
 
-/// Why a capture gives no further record. The place of a wrong field is that of its first octet in the capture, from 0:
-/// `Magic` 0, `Version` 4, `Link` 20, `RecordTooLong` 8 behind the record's first octet; for `Cut` the capture's length.
+/// Why a capture gives no further record. The place of a wrong field is that of its first octet in the capture, from
+/// 0: `Magic` 0, `Version` 4, `Link` 20, `RecordTooLong` 8 behind the record's first octet; for `Cut` the capture's
+/// length.
 pub type CaptureFault = Fault<CaptureReason>;

@@ -11,8 +11,8 @@ use crate::fault::{Ended, Fault};
 use crate::head::{Found, Head, Heads, MOST_HEAD};
 use fs_base::{Counted, Files, fill};
 
-/// Reads the next record of an input. Its payload stands at the front of `into`. `None`: the input ended behind its last
-/// record. After that, and after any fault, each call answers the same again and reads nothing.
+/// Reads the next record of an input. Its payload stands at the front of `into`. `None`: the input ended behind its
+/// last record. After that, and after any fault, each call answers the same again and reads nothing.
 ///
 /// # Errors
 ///

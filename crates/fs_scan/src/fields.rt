@@ -34,8 +34,8 @@ pub fn take_octets<F: Files, R: Copy + Drop>(
     Ok(())
 }
 
-/// Takes the octets of the first field of a part of the input. `false`: the input ended before the part, and nothing was
-/// taken.
+/// Takes the octets of the first field of a part of the input. `false`: the input ended before the part, and nothing
+/// was taken.
 ///
 /// # Errors
 ///

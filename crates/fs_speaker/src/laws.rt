@@ -28,8 +28,8 @@ pub fn steps_make_what_is_handed()
     ensures replies { HandsReplies }
 {}
 
-/// Pieces that are handed to an open end one after the other, at whatever moments, give the updates and the replies of their
-/// octets at once. So the updates of whatever front was taken are the first ones of all, in their order.
+/// Pieces that are handed to an open end one after the other, at whatever moments, give the updates and the replies
+/// of their octets at once. So the updates of whatever front was taken are the first ones of all, in their order.
 pub fn pieces_join()
     ensures updates { HandsBoth }
     ensures replies { HandsBothReplies }

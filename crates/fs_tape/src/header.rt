@@ -22,7 +22,8 @@ pub(crate) struct Said {
     pub(crate) moment: u64,
 }
 
-/// What the reading of a head depends on: the configured peers, the tape's version, and the moment of the record before.
+/// What the reading of a head depends on: the configured peers, the tape's version, and the moment of the record
+/// before.
 #[derive(Drop)]
 pub(crate) struct Standing<'a> {
     pub(crate) config: &'a Config,

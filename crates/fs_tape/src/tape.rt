@@ -159,7 +159,8 @@ impl Tape {
 
 fn item(said: Said, size: usize) -> TapeItem
     ensures told { Tells said size result }
-    ensures known { (config : Config) → IsSome (peer_of said.peer config.peers) → size ≤ longest_payload → IsItem config result }
+    ensures known { (config : Config) → IsSome (peer_of said.peer config.peers) → size ≤ longest_payload
+        → IsItem config result }
 {
     match said.kind {
         Kind::Up => TapeItem::Up(said.peer),
