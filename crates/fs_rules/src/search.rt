@@ -118,8 +118,8 @@ fn retest_over<L: Ledger>(
     config: &Config,
     steps: &mut Steps<L>,
 ) -> bool
-    ensures mended {
-        Mended unicast.now config.now (λ q. covers q prefix.now) groups.old groups.new steps.old steps.new }
+    ensures mended { Mended unicast.now config.now (λ q. covers q prefix.now)
+        groups.old groups.new steps.old steps.new }
     ensures told { Tells unicast.now config.now (λ q. covers q prefix.now) groups.old.entries result }
 {
     let mut changed = false;

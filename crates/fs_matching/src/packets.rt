@@ -1,0 +1,80 @@
+//! Drawn packets: headers of IPv4 and IPv6, and what stands behind them.
+
+use crate::addresses::{v4_address, v6_address};
+use crate::draws::Draws;
+use fs_base::Family;
+
+/// How many octets a drawn packet has.
+pub const SIZE: usize = 64;
+
+/// TCP, UDP, ICMP, or a protocol that has no ports.
+fn draw_protocol(draws: &mut Draws, family: Family) -> u8 {
+    match (draws.below(4), family) {
+        (0, _) => 6,
+        (1, _) => 17,
+        (2, Family::V4) => 1,
+        (2, Family::V6) => 58,
+        _ => 47,
+    }
+}
+
+/// What stands behind the address: ports or type and code, and the flags of TCP.
+fn draw_behind(draws: &mut Draws, protocol: u8) -> [u8; 20] {
+    let mut octets = [0u8; 20];
+    octets[0] = match protocol {
+        1 | 58 => draws.below(6),
+        _ => 0,
+    };
+    octets[1] = draws.below(6);
+    octets[3] = draws.below(6);
+    octets[12] = 0x50;
+    octets[13] = draws.below(16);
+    octets
+}
+
+/// The field of flags and offset: mostly none, else one that must not be fragmented, a first or a later fragment.
+fn draw_fragment(draws: &mut Draws) -> [u8; 2] {
+    match draws.below(6) {
+        0 => [0x40, 0],
+        1 => [0x20, 0],
+        2 => [0x20, 1],
+        3 => [0, 1],
+        _ => [0, 0],
+    }
+}
+
+fn draw_v4(draws: &mut Draws) -> [u8; SIZE] {
+    let mut packet = [0u8; SIZE];
+    let protocol = draw_protocol(draws, Family::V4);
+    packet[0] = 0x45;
+    packet[1] = draws.below(6) * 4;
+    packet[3] = 40 + draws.below(24);
+    packet[6..8].copy_from_slice(&draw_fragment(draws));
+    packet[9] = protocol;
+    packet[12..16].copy_from_slice(&v4_address(draws));
+    packet[16..20].copy_from_slice(&v4_address(draws));
+    packet[20..40].copy_from_slice(&draw_behind(draws, protocol));
+    packet
+}
+
+fn draw_v6(draws: &mut Draws) -> [u8; SIZE] {
+    let mut packet = [0u8; SIZE];
+    let protocol = draw_protocol(draws, Family::V6);
+    packet[0] = 0x60;
+    packet[1] = (draws.below(4) & 1) * 64;
+    packet[3] = draws.below(4);
+    packet[5] = 20 + draws.below(4);
+    packet[6] = protocol;
+    packet[8..24].copy_from_slice(&v6_address(draws));
+    packet[24..40].copy_from_slice(&v6_address(draws));
+    packet[40..60].copy_from_slice(&draw_behind(draws, protocol));
+    packet
+}
+
+/// A packet of the family.
+pub fn draw_packet(draws: &mut Draws, family: Family) -> [u8; SIZE] {
+    match family {
+        Family::V4 => draw_v4(draws),
+        Family::V6 => draw_v6(draws),
+    }
+}
