@@ -1,0 +1,6 @@
+//! The admitted rules in words.
+#![tactic(auto)]
+
+mod worded;
+
+pub use worded::desk_words;
