@@ -140,7 +140,8 @@ pub record Promises {F S W : Type 0} (limit : ℕ) (w : World F S W) (words : Li
   pub headline : AreTold w → answer ≡ 0 → (config tape capture : List ℕ)
       → form_of words ≡ Some (Enforce config tape capture)
       → Enforced limit (names_in w) config tape capture (happened_in w)
-  -- At 0 a survey was written of what the tape leaves: by `rules`, the peers' states and the rules.
+  -- At 0 a survey was written of what the tape leaves: by `rules`, the peers' states and the rules; by
+  -- `list`, the admitted rules in words.
   pub listed : AreTold w → answer ≡ 0 → (survey : Survey) (config tape : List ℕ)
       → form_of words ≡ Some (Surveys survey config tape)
       → Listed (text_for survey) limit (names_in w) config tape (happened_in w)

@@ -7,11 +7,12 @@ use Rattle.fs_records.specs.Records.{done}
 use Rattle.fs_base.specs.declared.config.Config.{Config}
 use Rattle.fs_conf.specs.Config.{config_of}
 use Rattle.fs_cli.specs.declared.survey.Survey.{Survey}
-use Rattle.fs_cli.specs.declared.survey.Survey.TheVariants.{Rules}
+use Rattle.fs_cli.specs.declared.survey.Survey.TheVariants.{Rules, Words}
 use Rattle.fs_listing.specs.Listing.{listing}
 use Rattle.fs_listing.specs.TapeFault.{tape_fault_line}
 use Rattle.fs_rules.specs.Table.{Held}
 use Rattle.fs_tape.specs.Tape.{Item, Timed, tape_of}
+use Rattle.fs_worded.specs.Worded.{worded}
 use Rattle.fs_stages.specs.Load.{Names}
 use Rattle.fs_desk.specs.Leaves.{Leaves}
 use Rattle.fs_stages.specs.Play.{accepted_stage, untimed}
@@ -26,6 +27,7 @@ Text = Config → List Item → Held → List ℕ
 
 abbrev pub text_for : Survey → Text
 text_for Rules = listing
+text_for Words = worded
 
 -- what is written at a refusal: of a tape's fault its name and its place
 abbrev pub stopped_text : Refusal → List ℕ

@@ -94,6 +94,7 @@ fn survey_of(word: &str) -> Option<Survey>
 {
     match word {
         "rules" => Some(Survey::Rules),
+        "list" => Some(Survey::Words),
         _ => None,
     }
 }

@@ -16,6 +16,7 @@ use fs_desk::Desk;
 use fs_listing::{desk_text, tape_fault_text};
 use fs_stages::{Refusal, load_config, play_tape, write_text};
 use fs_tape::TapeReason;
+use fs_worded::desk_words;
 use std::alloc::Global;
 
 /// What is told of the routes that a tape leaves.
@@ -24,6 +25,8 @@ pub enum Survey {
     /// A line for each configured peer, by number, then for IPv4 and for IPv6 the admitted rules in order and the held
     /// routes that aren't valid.
     Rules,
+    /// The admitted rules in words, for IPv4 and then for IPv6, in order.
+    Words,
 }
 
 /// The names of the files that a survey is made of.
@@ -95,6 +98,7 @@ fn survey_text(alloc: Global, survey: Survey, desk: &Desk<'_>) -> Result<Vec<u8>
 {
     match survey {
         Survey::Rules => desk_text(alloc, desk),
+        Survey::Words => desk_words(alloc, desk),
     }
 }
 
