@@ -1,6 +1,6 @@
 //! Hearing a stream to its end.
 
-ghost use Rattle.std.specs.Prelude.{◌≡◌, ◌≤◌, ◌<◌, ℕ, IfOk};
+ghost use Rattle.std.specs.Prelude.{◌≡◌, ◌≤◌, ◌<◌, ℕ, IfOk, OnOk};
 ghost use Rattle.std.specs.Result.{IsErrOf};
 ghost use Rattle.fs_base.specs.Outside.{Rose};
 ghost use Rattle.fs_talk.specs.Listening.{HearsOut};
@@ -43,6 +43,7 @@ pub fn hear_out<W: Wire, C: Clock, S: Speaker>(
     requires some { S.count speaker.old < limit }
     ensures later { W.faults wire.old ≤ W.faults wire.new }
     ensures failed { IsErrOf result TalkFault.Failed → Rose (W.faults wire.old) (W.faults wire.new) }
+    ensures bound { OnOk result (S.count speaker.new ≤ limit) }
     ensures heard { IfOk result (λ heard.
         HearsOut
         heard

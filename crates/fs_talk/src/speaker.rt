@@ -32,6 +32,7 @@ pub trait Speaker {
             (Hears (stands self.old) (stands self.new) moment piece.now out.old.items out.new.items) }
         ensures ready { IsTrue (ready self.old) → OnOk result (IsTrue (ready self.new)) }
         ensures count { OnOk result (ready self.new ≡ false → count self.new ≡ count self.old + length piece.now) }
+        ensures bound { OnOk result (count self.new ≤ count self.old + length piece.now) }
         ensures ahead { ahead self.new ≤ ahead self.old };
 
     /// Appends the next message that it says unasked, and answers whether there was one.

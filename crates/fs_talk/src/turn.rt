@@ -88,6 +88,7 @@ pub fn take_turn<W: Wire, C: Clock, S: Speaker>(
     ensures ready { IsTrue (S.ready speaker.old) → OnOk result (IsTrue (S.ready speaker.new)) }
     ensures count { IfOk result (λ taken.
         S.ready speaker.new ≡ false → S.count speaker.new ≡ S.count speaker.old + taken.count) }
+    ensures bound { IfOk result (λ taken. S.count speaker.new ≤ S.count speaker.old + taken.count) }
     ensures ahead { OnOk result (S.ahead speaker.new ≤ S.ahead speaker.old) }
 {
     let most = left.min(PIECE as u64) as usize;
