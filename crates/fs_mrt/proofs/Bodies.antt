@@ -1,0 +1,65 @@
+-- What the parts of a body say.
+use Rattle.std.proofs.Common.{◌≡◌, ℕ, List, Bool, true, Option, Some, Result, Ok, Err, ◌≤◌, ◌+◌, ◌-◌, ◌*◌, length, take, drop, refl, ap, sym, ◌∙◌, arith}
+use Rattle.std.specs.Prelude.{nat_le, ◌&&◌, if◌then◌else◌}
+use Rattle.std.proofs.lemmas.List.{drop-take}
+use Rattle.std.proofs.lemmas.Bool.Decides.{nat_tests}
+use Rattle.byteorder.specs.Endian.{big_number}
+use Rattle.byteorder.specs.Numbers.{big_from-take}
+use Rattle.fs_base.specs.declared.counted.Counted.{Counted}
+use Rattle.fs_scan.specs.Reads.{Reads, whole}
+use Rattle.fs_scan.specs.Scan.{Scanner, and, field, gives}
+use Rattle.fs_scan.proofs.Lifting.{reads_as, reads_gives, reads_then}
+use Rattle.fs_mrt.specs.Record.{ends_size, family_in, front_behind, front_in, time_of}
+use Rattle.fs_mrt.specs.Shape.{family_of, front_size, states_size}
+use Rattle.fs_mrt.specs.declared.fault.DumpReason.{DumpReason}
+use Rattle.fs_mrt.specs.declared.fault.DumpReason.TheVariants.{Cut}
+use Rattle.fs_mrt.specs.declared.record.Front.{Front}
+use Rattle.fs_mrt.specs.declared.shape.Family.{Family}
+use Rattle.fs_mrt.specs.declared.shape.Shape.{Shape as RecordShape}
+
+time_same : (timed : Bool) (seconds n : ℕ) (octets : List ℕ) → 4 ≤ n
+    → seconds * 1000000000 + (if timed then big_number 4 (take n octets) * 1000 else 0)
+    ≡ seconds * 1000000000 + (if timed then big_number 4 octets * 1000 else 0)
+time_same timed seconds n octets some =
+    ap (λ micros. seconds * 1000000000 + (if timed then micros * 1000 else 0)) (big_from-take 0 4 n octets some)
+
+module _ (spot seconds size : ℕ) (shape : RecordShape) (octets : List ℕ) (family : Family) where
+  found : family_of (big_number 2 (drop (front_size shape) octets)) ≡ Some family
+      → family_of (big_number 2 (drop (front_size shape) (take (front_size shape + 2) octets))) ≡ Some family
+  found is =
+      ap family_of (ap (λ (l : List ℕ). big_number 2 l) (drop-take (front_size shape) 2 octets)
+      ∙ big_from-take 0 2 2 (drop (front_size shape) octets) (omega arith)) ∙ is
+
+  told_front : (time start place : ℕ) (rest : List ℕ) → 4 ≤ front_size shape + 2
+      → family_of (big_number 2 (drop (front_size shape) octets)) ≡ Some family
+      → ends_size shape family + states_size shape ≤ size → time ≡ time_of shape seconds octets
+      → gives {A = Front} {R = DumpReason} (record { time = time; family = family }) place rest
+      ≡ front_behind spot start seconds size shape (take (front_size shape + 2) octets) place rest
+  told_front time start place rest some is room at_time =
+      let test : nat_le (ends_size shape family + states_size shape) size ≡ true = let r = room in grind (arith, nat_tests) in
+      let same : time_of shape seconds (take (front_size shape + 2) octets) ≡ time =
+      time_same shape.timed seconds (front_size shape + 2) octets some ∙ sym at_time in
+      rw (found is, test, same) refl
+
+passed : (spot seconds size : ℕ) (shape : RecordShape) (start : ℕ) (rest : List ℕ) → front_size shape + 2 ≤ size → size ≤ 65536
+    → and (field (front_size shape + 2) whole) (front_behind spot start seconds size shape) start rest ≡ front_in spot seconds size shape start rest
+passed spot seconds size shape start rest some most =
+    let first : nat_le (front_size shape + 2) size ≡ true = let s = some in grind (arith, nat_tests) in
+    let second : nat_le size 65536 ≡ true = let s = most in grind (arith, nat_tests) in
+    rw (first, second) refl
+
+pub front_reads : {T : Type 0} {told : Bool} {faults mid : ℕ} {left left' : ℕ → List ℕ} {holds holds' : List ℕ → Option (List ℕ)}
+    {old now : Counted} {answer : T} (spot seconds size : ℕ) (shape : RecordShape) (octets : List ℕ) (family : Family) (time : ℕ)
+    → 4 ≤ front_size shape + 2 → front_size shape + 2 ≤ size → size ≤ 65536
+    → family_of (big_number 2 (drop (front_size shape) octets)) ≡ Some family
+    → ends_size shape family + states_size shape ≤ size → time ≡ time_of shape seconds octets
+    → Reads told faults mid left left' holds holds' (field (front_size shape + 2) whole) Cut old now
+    (λ (_ : T). take (front_size shape + 2) octets) (Ok answer)
+    → Reads told faults mid left left' holds holds' (front_in spot seconds size shape) Cut old now (λ (front : Front). front)
+    (Ok (record { time = time; family = family }))
+front_reads {old = old} {now = now} spot seconds size shape octets family time four some most is room at_time h =
+    reads_as (front_in spot seconds size shape) (λ rest. passed spot seconds size shape old.taken rest some most)
+    (reads_then (front_behind spot old.taken seconds size shape) (λ (front : Front). front) h
+    (reads_as (front_behind spot old.taken seconds size shape (take (front_size shape + 2) octets))
+    (λ rest. told_front spot seconds size shape octets family time old.taken now.taken rest four is room at_time)
+    (reads_gives (λ (front : Front). front) (record { time = time; family = family }))))

@@ -1,0 +1,4 @@
+pub mod Takes
+pub mod Hearing
+pub mod Messages
+pub mod Bodies

@@ -1,0 +1,29 @@
+use Rattle.std.proofs.Common.{rules, arith, ◌≡◌, ◌≤◌, ◌+◌, Some, take, drop, subst, ap, sym, ◌∙◌, Ok}
+use Rattle.byteorder.specs.Endian.{big_number}
+use Rattle.fs_scan.specs.Reads.{Reads, whole}
+use Rattle.fs_scan.specs.Scan.{field}
+use Rattle.fs_mrt.specs.Record.{ends_size}
+use Rattle.fs_mrt.specs.Shape.{family_of, front_size, states_size}
+use Rattle.fs_mrt.specs.declared.fault.DumpReason.TheVariants.{Cut}
+use Rattle.fs_mrt.proofs.Bodies.{front_reads}
+use Rattle.fs_mrt.proofs.Messages.{behind_first}
+use Rattle.fs_mrt.proofs.record.take_front.Goals as goal
+
+pub returns-clause-reads : goal.returns-clause-reads
+returns-clause-reads g c =
+    let octets = c.take_part.new.into in
+    let first : c.front_size-first.result ≡ front_size c.args.shape = c.front_size-first.ensures.exact in
+    let says : family_of (big_number 2 (drop c.front_size-first.result octets)) ≡ Some c.in-Some.family =
+    ap (λ l. family_of (big_number 2 l)) (sym (behind_first c.front_size-first.result octets)) ∙ (search rules) in
+    let four : 4 ≤ front_size c.args.shape + 2 = search rules in
+    let some : front_size c.args.shape + 2 ≤ c.args.head.size = search rules in
+    let most : c.args.head.size ≤ 65536 = search rules in
+    let room : ends_size c.args.shape c.in-Some.family + states_size c.args.shape ≤ c.args.head.size = search rules in
+    front_reads c.args.head.spot c.args.head.seconds c.args.head.size c.args.shape octets c.in-Some.family c.time_of.result four some most
+    (subst (λ n. family_of (big_number 2 (drop n octets)) ≡ Some c.in-Some.family) first says) room c.time_of.ensures
+    (subst
+    (λ n. Reads g.F.Files.tells (g.F.Files.faults c.args.files.now) (g.F.Files.faults c.take_part.new.files)
+    (g.F.Files.left c.args.files.now) (g.F.Files.left c.take_part.new.files)
+    (g.F.Files.holds c.args.files.now) (g.F.Files.holds c.take_part.new.files) (field (n + 2) whole) Cut
+    c.args.counted.now c.take_part.new.counted (λ _. take (n + 2) octets) (Ok c.in_default.field-0))
+    first c.in_default.ensures.reads)

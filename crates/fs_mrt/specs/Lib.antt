@@ -1,0 +1,4 @@
+pub mod Shape
+pub mod Peers
+pub mod Record
+pub mod Dump
