@@ -1,15 +1,15 @@
 -- What the parts of a body say.
-use Rattle.std.proofs.Common.{◌≡◌, ℕ, List, Bool, true, Option, Some, Result, Ok, Err, ◌≤◌, ◌+◌, ◌-◌, ◌*◌, length, take, drop, refl, ap, sym, ◌∙◌, arith}
-use Rattle.std.specs.Prelude.{nat_le, ◌&&◌, if◌then◌else◌}
+use Rattle.std.proofs.Common.{◌≡◌, ℕ, List, Bool, true, Option, Some, Ok, ◌≤◌, ◌+◌, ◌*◌, take, drop, refl, ap, sym, ◌∙◌, arith}
+use Rattle.std.specs.Prelude.{nat_le, if◌then◌else◌}
 use Rattle.std.proofs.lemmas.List.{drop-take}
 use Rattle.std.proofs.lemmas.Bool.Decides.{nat_tests}
 use Rattle.byteorder.specs.Endian.{big_number}
 use Rattle.byteorder.specs.Numbers.{big_from-take}
 use Rattle.fs_base.specs.declared.counted.Counted.{Counted}
 use Rattle.fs_scan.specs.Reads.{Reads, whole}
-use Rattle.fs_scan.specs.Scan.{Scanner, and, field, gives}
+use Rattle.fs_scan.specs.Scan.{and, field, gives}
 use Rattle.fs_scan.proofs.Lifting.{reads_as, reads_gives, reads_then}
-use Rattle.fs_mrt.specs.Record.{ends_size, family_in, front_behind, front_in, time_of}
+use Rattle.fs_mrt.specs.Record.{ends_size, front_behind, front_in, time_of}
 use Rattle.fs_mrt.specs.Shape.{family_of, front_size, states_size}
 use Rattle.fs_mrt.specs.declared.fault.DumpReason.{DumpReason}
 use Rattle.fs_mrt.specs.declared.fault.DumpReason.TheVariants.{Cut}

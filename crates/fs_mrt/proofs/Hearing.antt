@@ -1,6 +1,5 @@
 -- What is heard, of the records that are to come.
-use Rattle.std.proofs.Common.{◌≡◌, ℕ, List, [], Bool, true, false, Option, Some, None, Result, Ok, Err, refl, ap, sym, ◌∙◌, subst}
-use Rattle.std.specs.Prelude.{⊤}
+use Rattle.std.proofs.Common.{◌≡◌, ℕ, List, Bool, true, false, Option, Ok, Err, ap, ◌∙◌, subst}
 use Rattle.fs_records.specs.Reading.{Advances}
 use Rattle.fs_records.specs.Records.{End}
 use Rattle.fs_records.specs.declared.fault.Fault.{Fault}

@@ -1,5 +1,5 @@
 -- A message whose header and rest were taken is one.
-use Rattle.std.proofs.Common.{◌≡◌, ℕ, List, ◌++◌, Bool, true, false, Option, Result, Ok, Err, ◌≤◌, ◌+◌, ◌-◌, ◌==◌, length, take, drop, refl, ap, sym, ◌∙◌, subst, arith}
+use Rattle.std.proofs.Common.{◌≡◌, ℕ, List, ◌++◌, Bool, true, Option, Ok, Err, ◌≤◌, ◌+◌, ◌-◌, ◌==◌, length, take, drop, refl, ap, sym, ◌∙◌, arith}
 use Rattle.std.specs.Prelude.{nat_le}
 use Rattle.std.proofs.Math.Seq.{take-add}
 use Rattle.std.proofs.lemmas.List.{drop-take, length-drop, take_all}
@@ -9,13 +9,12 @@ use Rattle.byteorder.specs.Numbers.{big_from-take}
 use Rattle.fs_base.specs.declared.counted.Counted.{Counted}
 use Rattle.fs_records.specs.declared.fault.Fault.{Fault}
 use Rattle.fs_scan.specs.Reads.{Reads, whole}
-use Rattle.fs_scan.specs.Scan.{Scan, Scanner, and, field, gives, needs}
+use Rattle.fs_scan.specs.Scan.{Scanner, and, field, gives, needs}
 use Rattle.fs_scan.proofs.Lifting.{reads_as, reads_ends, reads_gives, reads_then}
 use Rattle.fs_mrt.specs.Dump.{said_from}
-use Rattle.fs_mrt.specs.Record.{Said, message, message_behind, message_in}
+use Rattle.fs_mrt.specs.Record.{message, message_behind, message_in}
 use Rattle.fs_mrt.specs.declared.fault.DumpReason.{DumpReason}
 use Rattle.fs_mrt.specs.declared.fault.DumpReason.TheVariants.{Cut, Message as WrongMessage}
-use Rattle.fs_mrt.specs.declared.heard.What.{What}
 use Rattle.fs_mrt.specs.declared.heard.What.TheVariants.{Message}
 
 -- a test that holds is passed

@@ -1,6 +1,5 @@
 -- An MRT dump: records, one behind the other. Those of configured peers are heard.
-use Rattle.std.specs.Prelude.{ℕ, List, [], ◌∷◌, Option, Some, None, Result, Ok, Err, Bool, ◌≡◌, ◌≤◌, ◌<◌, IsSome, take, ⊤}
-use Rattle.fs_base.specs.Config.{peer_of}
+use Rattle.std.specs.Prelude.{ℕ, List, [], ◌∷◌, Option, Some, None, Result, Ok, Err, ◌≡◌, ◌≤◌, ◌<◌, take, ⊤}
 use Rattle.fs_base.specs.declared.config.Config.{Config}
 use Rattle.fs_base.specs.declared.config.Peer.{Peer}
 use Rattle.fs_records.specs.Records.{End}

@@ -1,13 +1,11 @@
-use Rattle.std.proofs.Common.{rules, arith, ◌≡◌, ◌<◌, ◌+◌, ◌-◌, ℕ, List, Option, Ok, Err, Some, IsTrue, refl, ap, sym, ◌∙◌, subst}
+use Rattle.std.proofs.Common.{rules, arith, ◌≡◌, ◌+◌, ◌-◌, Option, refl, ap, ◌∙◌}
 use Rattle.std.specs.Option.{option_map}
-use Rattle.fs_scan.specs.Reads.{Reads, Starts}
 use Rattle.fs_scan.specs.Scan.{gives}
 use Rattle.fs_scan.proofs.Advancing.{first_advances, later_advances, over_advances, part_advances, some_taken}
 use Rattle.fs_scan.proofs.Lifting.{reads_as, reads_ends, reads_gives, reads_then, starts_reads}
 use Rattle.fs_mrt.specs.Dump.{spoken_from}
-use Rattle.fs_mrt.specs.Record.{Spoken, head_of, headed_in, moment_behind, record_behind, record_in}
+use Rattle.fs_mrt.specs.Record.{head_of, headed_in, moment_behind, record_behind, record_in}
 use Rattle.fs_mrt.specs.declared.fault.DumpReason.TheVariants.{Cut}
-use Rattle.fs_mrt.specs.declared.record.Head.{Head}
 use Rattle.fs_mrt.specs.declared.heard.Heard.{Heard}
 use Rattle.fs_mrt.proofs.Hearing.{heard_behind, starts_false, starts_true}
 use Rattle.fs_mrt.proofs.Takes.{record_takes}

@@ -1,4 +1,4 @@
-use Rattle.std.proofs.Common.{rules, arith, ◌≡◌, ◌≤◌, ap, drop, sym, ◌∙◌}
+use Rattle.std.proofs.Common.{rules, ◌≡◌, ◌≤◌, ap, drop, sym, ◌∙◌}
 use Rattle.byteorder.specs.Endian.{big_number}
 use Rattle.fs_mrt.proofs.Messages.{behind_first, message_ends, message_reads}
 use Rattle.fs_mrt.proofs.fields.take_message.Goals as goal

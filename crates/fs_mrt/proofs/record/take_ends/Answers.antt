@@ -1,4 +1,4 @@
-use Rattle.std.proofs.Common.{rules, ap}
+use Rattle.std.proofs.Common.{ap}
 use Rattle.std.specs.Option.{option_map}
 use Rattle.fs_scan.proofs.Lifting.{reads_as, reads_then}
 use Rattle.fs_mrt.specs.Dump.{spoken_from}

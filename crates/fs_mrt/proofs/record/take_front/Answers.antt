@@ -1,4 +1,4 @@
-use Rattle.std.proofs.Common.{rules, arith, ◌≡◌, ◌≤◌, ◌+◌, Some, take, drop, subst, ap, sym, ◌∙◌, Ok}
+use Rattle.std.proofs.Common.{rules, ◌≡◌, ◌≤◌, ◌+◌, Some, take, drop, subst, ap, sym, ◌∙◌, Ok}
 use Rattle.byteorder.specs.Endian.{big_number}
 use Rattle.fs_scan.specs.Reads.{Reads, whole}
 use Rattle.fs_scan.specs.Scan.{field}
