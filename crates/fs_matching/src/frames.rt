@@ -1,5 +1,7 @@
 //! The NLRI of drawn rules (RFC 8955 section 4.2, RFC 8956 section 3).
 
+ghost use Rattle.std.specs.Prelude.{◌<◌};
+
 use crate::addresses::{v4_address, v6_address};
 use crate::draws::Draws;
 use crate::octets::Octets;
