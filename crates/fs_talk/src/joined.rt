@@ -113,6 +113,7 @@ pub fn exchange<W: Wire, C: Clock, R: Speaker, A: Speaker>(
     requires other { A.over second.old ≡ false }
     ensures later { W.faults wire.old ≤ W.faults wire.new }
     ensures failed { IsErrOf result TalkFault.Failed → Rose (W.faults wire.old) (W.faults wire.new) }
+    ensures own { OnOk result ((R.own first.new ≡ R.own first.old) × (A.own second.new ≡ A.own second.old)) }
     ensures talked { IfOk result (λ talk.
         Exchanges
         talk

@@ -44,6 +44,7 @@ pub fn hear_out<W: Wire, C: Clock, S: Speaker>(
     ensures later { W.faults wire.old ≤ W.faults wire.new }
     ensures failed { IsErrOf result TalkFault.Failed → Rose (W.faults wire.old) (W.faults wire.new) }
     ensures bound { OnOk result (S.count speaker.new ≤ limit) }
+    ensures own { OnOk result (S.own speaker.new ≡ S.own speaker.old) }
     ensures heard { IfOk result (λ heard.
         HearsOut
         heard

@@ -22,6 +22,9 @@ pub trait Speaker {
     /// At most so many messages it has still to say unasked.
     ghost ahead: { Self → ℕ };
 
+    /// The end without what it heard and said: whose it is, and what it is to say. That stays.
+    ghost own: { Self → Self };
+
     /// Hears a piece at a moment, and appends what it says to it.
     ///
     /// # Errors
@@ -33,7 +36,8 @@ pub trait Speaker {
         ensures ready { IsTrue (ready self.old) → OnOk result (IsTrue (ready self.new)) }
         ensures count { OnOk result (ready self.new ≡ false → count self.new ≡ count self.old + length piece.now) }
         ensures bound { OnOk result (count self.new ≤ count self.old + length piece.now) }
-        ensures ahead { ahead self.new ≤ ahead self.old };
+        ensures ahead { ahead self.new ≤ ahead self.old }
+        ensures own { OnOk result (own self.new ≡ own self.old) };
 
     /// Appends the next message that it says unasked, and answers whether there was one.
     ///
@@ -47,7 +51,8 @@ pub trait Speaker {
         ensures all { IfOk result (λ had. had ≡ false → IsTrue (ready self.old) → ahead self.new ≡ 0) }
         ensures over { OnOk result (over self.new ≡ over self.old) }
         ensures ready { OnOk result (ready self.new ≡ ready self.old) }
-        ensures count { OnOk result (count self.new ≡ count self.old) };
+        ensures count { OnOk result (count self.new ≡ count self.old) }
+        ensures own { OnOk result (own self.new ≡ own self.old) };
 
     /// Whether it has closed.
     fn is_over(&self) -> bool

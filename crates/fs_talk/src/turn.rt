@@ -90,6 +90,7 @@ pub fn take_turn<W: Wire, C: Clock, S: Speaker>(
         S.ready speaker.new ≡ false → S.count speaker.new ≡ S.count speaker.old + taken.count) }
     ensures bound { IfOk result (λ taken. S.count speaker.new ≤ S.count speaker.old + taken.count) }
     ensures ahead { OnOk result (S.ahead speaker.new ≤ S.ahead speaker.old) }
+    ensures own { OnOk result (S.own speaker.new ≡ S.own speaker.old) }
 {
     let most = left.min(PIECE as u64) as usize;
     let Arrival { moment, count } = read_end(wire, clock, end, &mut room.buffer[..most])?;
@@ -123,6 +124,7 @@ pub fn speak<W: Wire, S: Speaker>(
     ensures over { OnOk result (S.over speaker.new ≡ S.over speaker.old) }
     ensures ready { OnOk result (S.ready speaker.new ≡ S.ready speaker.old) }
     ensures count { OnOk result (S.count speaker.new ≡ S.count speaker.old) }
+    ensures own { OnOk result (S.own speaker.new ≡ S.own speaker.old) }
 {
     room.out.clear();
     let had = speaker.next(&mut room.out)?;
@@ -150,6 +152,7 @@ pub fn say_all<W: Wire, S: Speaker>(
     ensures over { OnOk result (S.over speaker.new ≡ S.over speaker.old) }
     ensures ready { OnOk result (S.ready speaker.new ≡ S.ready speaker.old) }
     ensures count { OnOk result (S.count speaker.new ≡ S.count speaker.old) }
+    ensures own { OnOk result (S.own speaker.new ≡ S.own speaker.old) }
 {
     'messages: while let Some(_) = speak(wire, end, speaker, room)? {}
     Ok(())

@@ -1,4 +1,4 @@
-use Rattle.std.proofs.Common.{rules, arith, inl, inr, sym, ◌∙◌, ◌≡◌}
+use Rattle.std.proofs.Common.{rules, arith, inl, inr, refl, sym, ◌∙◌, ◌≡◌}
 use Rattle.fs_talk.proofs.Exchanging.{talked, talking_none, talking_first, talking_second, talking_said, never_first, never_second, talked_done}
 use Rattle.fs_talk.proofs.joined.exchange.Goals.{else-flow-gt0-2-via-then-flow-gt0-2+else-flow-limit, else-flow-gt0-2-via-else-flow-gt0-2}
 use Rattle.fs_talk.proofs.joined.exchange.Goals as goal
@@ -11,6 +11,8 @@ loop-flow-init g c = record {
   open_first = c.requires.open;
   open_second = c.requires.other;
   counted = search rules;
+  own_first = refl;
+  own_second = refl;
   talking = rw c.none-flow.ensures (talking_none _ _ _ _);
 }
 
@@ -22,6 +24,8 @@ loop-flow-preserved-else-turn-eq0 g c = record {
   open_first = search rules;
   open_second = c.loop-flow.invariant.open_second;
   counted = search rules;
+  own_first = c.in_ok-turn.ensures.own ∙ c.loop-flow.invariant.own_first;
+  own_second = c.loop-flow.invariant.own_second;
   talking = talking_first _ _ _ _ _ _ _ _ _ _ _ _ _ _ _ _ c.loop-flow.invariant.talking c.in_ok-flow.ensures c.in_ok-turn.ensures.turn c.in_ok-turn.ensures.moment;
 }
 
@@ -33,6 +37,8 @@ loop-flow-preserved-then-flow-limit g c = record {
   open_first = c.loop-flow.invariant.open_first;
   open_second = search rules;
   counted = search rules;
+  own_first = c.loop-flow.invariant.own_first;
+  own_second = c.in_ok-turn-2.ensures.own ∙ c.loop-flow.invariant.own_second;
   talking = talking_second _ _ _ _ _ _ _ _ _ _ _ _ _ _ _ _ c.loop-flow.invariant.talking c.in_ok-flow-2.ensures c.in_ok-turn-2.ensures.turn c.in_ok-turn-2.ensures.moment;
 }
 
@@ -44,6 +50,8 @@ loop-flow-preserved g c = record {
   open_first = c.loop-flow.invariant.open_first;
   open_second = search rules;
   counted = search rules;
+  own_first = c.loop-flow.invariant.own_first;
+  own_second = c.in_ok-said.ensures.own ∙ c.loop-flow.invariant.own_second;
   talking = talking_said _ _ _ _ _ _ _ _ _ _ _ _ _ c.loop-flow.invariant.talking c.in_ok-flow-3.ensures (rw c.in-Some.is at c.in_ok-said.ensures.spoke);
 }
 

@@ -10,6 +10,8 @@ invariant-loop-flow g l = record {
   open_first : g.R.Speaker.over l.first ≡ false;
   open_second : g.A.Speaker.over l.second ≡ false;
   counted : g.A.Speaker.ready l.second ≡ false → g.A.Speaker.count l.second ≡ l.flow.second_read;
+  own_first : g.R.Speaker.own l.first ≡ g.R.Speaker.own l.fn.first;
+  own_second : g.A.Speaker.own l.second ≡ g.A.Speaker.own l.fn.second;
   talking :
       Talking
       (g.R.Speaker.stands l.fn.first)

@@ -1,14 +1,15 @@
-use Rattle.std.proofs.Common.{rules}
+use Rattle.std.proofs.Common.{rules, refl, ◌∙◌}
 use Rattle.fs_talk.proofs.Attending.{hears_out, listens_more, listens_none}
 use Rattle.fs_talk.proofs.listening.hear_out.Goals as goal
 
 pub loop-turn-init : goal.loop-turn-init
-loop-turn-init g c = record { later = search rules; within = c.requires.some; listens = listens_none _ _ _ _ }
+loop-turn-init g c = record { later = search rules; within = c.requires.some; own = refl; listens = listens_none _ _ _ _ }
 
 pub loop-turn-preserved : goal.loop-turn-preserved
 loop-turn-preserved g c = record {
   later = search rules;
   within = search rules;
+  own = c.in_ok-turn.ensures.own ∙ c.loop-turn.invariant.own;
   listens = listens_more _ _ _ _ _ _ _ _ _ _ _ _ _ c.loop-turn.invariant.listens c.in_ok-turn.ensures.turn c.in_ok-turn.ensures.moment;
 }
 

@@ -1,4 +1,4 @@
-use Rattle.std.proofs.Common.{◌≤◌, ◌<◌, ◌-◌}
+use Rattle.std.proofs.Common.{◌≡◌, ◌≤◌, ◌<◌, ◌-◌}
 use Rattle.fs_talk.specs.Listening.{Listens}
 use Rattle.fs_talk.proofs.listening.hear_out.Given as goal
 
@@ -6,6 +6,7 @@ abbrev pub invariant-loop-turn : goal.invariant-loop-turn
 invariant-loop-turn g l = record {
   later : g.W.Wire.faults l.fn.wire ≤ g.W.Wire.faults l.wire;
   within : g.S.Speaker.count l.speaker < l.fn.limit;
+  own : g.S.Speaker.own l.speaker ≡ g.S.Speaker.own l.fn.speaker;
   listens :
       Listens
       (g.S.Speaker.stands l.fn.speaker)

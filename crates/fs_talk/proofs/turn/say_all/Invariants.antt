@@ -13,6 +13,7 @@ invariant-messages g l = record {
       (g.W.Wire.tells l.wire);
   over : g.S.Speaker.over l.speaker ≡ g.S.Speaker.over l.fn.speaker;
   ready : g.S.Speaker.ready l.speaker ≡ g.S.Speaker.ready l.fn.speaker;
+  own : g.S.Speaker.own l.speaker ≡ g.S.Speaker.own l.fn.speaker;
   count : g.S.Speaker.count l.speaker ≡ g.S.Speaker.count l.fn.speaker;
 }
 
