@@ -17,4 +17,5 @@ mod Saying
 pub mod Standing
 mod TableChanges
 mod Telling
+mod Ticking
 mod Updates

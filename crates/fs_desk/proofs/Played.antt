@@ -33,7 +33,7 @@ nat_same m n = grind (arith, nat_tests)
 same_swapped : (m n : ℕ) (b : Bool) → (m == n) ≡ b → (n == m) ≡ b
 same_swapped m n b h = grind (arith, nat_tests, h)
 
-one_number : (m n : ℕ) → (m == n) ≡ true → m ≡ n
+pub one_number : (m n : ℕ) → (m == n) ≡ true → m ≡ n
 one_number m n h = grind (arith, nat_tests, h)
 
 -- of the peer's session, with another put in its place or taken away
@@ -77,7 +77,7 @@ life_other m items item t u s =
     at (Some octets) = ap Some (append-nil octets)
 
 -- whether two numbers are one
-cases_of : (b : Bool) → (b ≡ true) ⊎ (b ≡ false)
+pub cases_of : (b : Bool) → (b ≡ true) ⊎ (b ≡ false)
 cases_of true = inl refl
 cases_of false = inr refl
 
@@ -330,6 +330,17 @@ session_set m n session sessions there =
 is_there : (o : Option Live) (session : Live) → o ≡ Some session → IsSome o
 is_there o session h = subst (λ (x : Option Live). IsSome x) (sym h) refl
 
+-- so of the sessions that then stand
+pub session_value : (m n : ℕ) (session session' : Live) (sessions sessions' : List (ℕ × Live)) → session_at n sessions ≡ Some session
+    → sessions' ≡ set_value (is_at (nat_cmp n)) sessions session' → session_at m sessions' ≡ (if m == n then Some session' else session_at m sessions)
+session_value m n session session' sessions sessions' there s =
+    ap (session_at m) s ∙ session_set m n session' sessions (is_there (session_at n sessions) session there)
+
+pub sorted_value : (n : ℕ) (session' : Live) (sessions sessions' : List (ℕ × Live)) → sessions' ≡ set_value (is_at (nat_cmp n)) sessions session'
+    → IsStrictlySortedBy nat_cmp (keys_of sessions) → IsStrictlySortedBy nat_cmp (keys_of sessions')
+sorted_value n session' sessions sessions' s sorted =
+    subst (λ (ks : List ℕ). IsStrictlySortedBy nat_cmp ks) (sym (ap keys_of s ∙ keys-set_value (is_at (nat_cmp n)) sessions session')) sorted
+
 pub desk_fed : (config : Config) (items : List Item) (n : ℕ) (piece : List ℕ) (session session' : Live) (own : Config) (table table' : Held) (sessions sessions' : List (ℕ × Live)) (old : Desked)
     → old ≡ record { config = own; held = table; sessions = sessions }
     → session_at n sessions ≡ Some session → TakesPiece n session session' table table' piece
@@ -337,8 +348,8 @@ pub desk_fed : (config : Config) (items : List Item) (n : ℕ) (piece : List ℕ
     → Played config items old → Played config (items ++ received n piece ∷ []) (record { config = own; held = table'; sessions = sessions' })
 desk_fed config items n piece session session' own table table' sessions sessions' old e there takes s p =
     desk_octets config items n piece session session' own table table' sessions sessions' old e there takes
-    (λ m. ap (session_at m) s ∙ session_set m n session' sessions (is_there (session_at n sessions) session there))
-    (λ sorted. subst (λ (ks : List ℕ). IsStrictlySortedBy nat_cmp ks) (sym (ap keys_of s ∙ keys-set_value (is_at (nat_cmp n)) sessions session')) sorted)
+    (λ m. session_value m n session session' sessions sessions' there s)
+    (sorted_value n session' sessions sessions' s)
     p
 
 pub desk_replied : (config : Config) (items : List Item) (n : ℕ) (piece before now : List ℕ) (session : Live) (own : Config) (table : Held) (sessions : List (ℕ × Live)) (old : Desked)

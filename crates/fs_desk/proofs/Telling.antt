@@ -1,5 +1,5 @@
 -- What changes of the table tell, one after the other.
-use Rattle.std.proofs.Common.{◌≡◌, ℕ, List, true, false, not, filter, refl, sym, ap, subst, ◌∙◌}
+use Rattle.std.proofs.Common.{◌≡◌, ℕ, List, true, false, not, refl, sym, ap, subst, ◌∙◌}
 use Rattle.fs_base.proofs.Lists.{each_weaker, filter_all, none_each}
 use Rattle.fs_nlri.specs.Parts.{Ruled}
 use Rattle.fs_validate.specs.declared.route.FlowRoute.{FlowRoute}

@@ -1,5 +1,5 @@
 -- What the desk keeps, and what the items that were played make of it.
-use Rattle.std.specs.Prelude.{◌≡◌, ℕ, List, [], ◌∷◌, ◌++◌, Option, Some, None}
+use Rattle.std.specs.Prelude.{◌≡◌, ◌≢◌, ◌==◌, if◌then◌else◌, ℕ, List, [], ◌∷◌, ◌++◌, Option, Some, None}
 use Rattle.std.specs.Ordering.{nat_cmp}
 use Rattle.std.specs.List.Sorted.{IsStrictlySortedBy}
 use Rattle.std.specs.Map.{lookup, keys_of}
@@ -9,14 +9,17 @@ use Rattle.fs_base.specs.declared.config.Config.{Config}
 use Rattle.fs_base.specs.declared.config.Peer.{Peer}
 use Rattle.fs_rules.specs.Table.{Held}
 use Rattle.fs_speaker.specs.declared.state.Standing.{Standing}
-use Rattle.fs_speaker.specs.declared.state.Standing.TheVariants.{Down}
-use Rattle.fs_speaker.specs.Session.{Live}
+use Rattle.fs_speaker.specs.declared.state.Standing.TheVariants.{Down, Ended}
+use Rattle.fs_speaker.specs.declared.state.Closed.TheVariants.{Fault}
+use Rattle.fs_speaker.specs.declared.transition.Phase.{Phase}
+use Rattle.fs_speaker.specs.Session.{Live, still}
 use Rattle.fs_speaker.specs.State.{standing_at, standing_by}
 use Rattle.fs_tape.specs.Tape.{Item}
 use Rattle.fs_desk.specs.Life.{life}
 use Rattle.fs_desk.specs.Leaves.{IsListed}
 use Rattle.fs_desk.specs.Limit.{bounded_session, bounded_replies}
 use Rattle.fs_desk.specs.Receive.{IsLeft, IsUp}
+use Rattle.fs_desk.specs.HoldTimer.{TicksSession}
 
 -- the configuration, the routes held, and the sessions of the peers that are up
 pub record Desked : Type 0 where
@@ -71,3 +74,36 @@ standing_of config items number =
 -- how it stands with a peer, by the session that the desk keeps of it
 abbrev pub standing_at_desk : Desked → ℕ → Standing
 standing_at_desk desk number = standing_by (session_at number desk.sessions)
+
+-- The clock at a peer, at a moment: one that is down does nothing, and the sessions of the others stay.
+abbrev pub TicksPeer : ℕ → ℕ → Desked → Desked → (replies replies' : List ℕ) → Type 0
+TicksPeer peer moment old new replies replies' =
+    elim (session_at peer old.sessions) [
+      | None ↦ (new ≡ old) × (replies' ≡ replies)
+      | Some session ↦
+          (session' : Live)
+          × (TicksSession peer moment session session' old.held new.held replies replies'
+          × ((number : ℕ)
+          → session_at number new.sessions ≡ (if number == peer then Some session' else session_at number old.sessions)))
+    ]
+
+-- Unless the session with the peer closes by it, the desk stands as what was played leaves it.
+abbrev pub StaysPlayed : ℕ → Desked → Desked → Type 0
+StaysPlayed peer old new =
+    standing_at_desk new peer ≡ standing_at_desk old peer
+    → (config : Config) (items : List Item) → Played config items old → Played config items new
+
+-- The octets of the peer's life leave its session open, and agree on a hold time.
+pub record HasHoldTime (config : Config) (items : List Item) (peer : ℕ) : Type 0 where
+  pub octets : List ℕ
+  pub life_is : life peer items ≡ Some octets
+  pub phase : Phase
+  pub found : (bounded_session config peer octets).1 ≡ still phase
+  pub timed : phase.hold ≢ 0
+
+-- Where it closes, the hold time has expired that the peer's octets agreed on.
+abbrev pub ExpiresSo : ℕ → Desked → Desked → Type 0
+ExpiresSo peer old new =
+    standing_at_desk new peer ≢ standing_at_desk old peer
+    → (standing_at_desk new peer ≡ Ended (Fault 4 0))
+    × ((config : Config) (items : List Item) → Played config items old → HasHoldTime config items peer)

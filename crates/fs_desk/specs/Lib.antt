@@ -1,5 +1,6 @@
 pub mod Apply
 pub mod Desk
+pub mod HoldTimer
 pub mod Laws
 pub mod Leaves
 pub mod Life

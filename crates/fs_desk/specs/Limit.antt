@@ -1,6 +1,6 @@
 -- The limit of routes per peer: how many routes the updates of a peer leave it holding, and its session, which closes
 -- where they are more than it may hold.
-use Rattle.std.specs.Prelude.{◌≡◌, ℕ, ◌+◌, nat_lt, List, [], ◌∷◌, ◌++◌, map, filter, find, flat_map, Bool, false, Option, Some, None, is_some}
+use Rattle.std.specs.Prelude.{ℕ, ◌+◌, nat_lt, List, [], ◌∷◌, ◌++◌, map, filter, find, flat_map, Bool, false, Option, Some, None, is_some}
 use Rattle.std.specs.Set.{distinct_count}
 use Rattle.fs_base.specs.Config.{peer_of}
 use Rattle.fs_base.specs.declared.config.Config.{Config}

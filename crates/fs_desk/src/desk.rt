@@ -2,6 +2,7 @@
 
 ghost use Rattle.std.specs.Prelude.{◌≡◌, ◌<◌, false, List, [], IsSome, IfOk, OnOk, OnErr, Some};
 
+use crate::hold_timer::tick_session;
 use crate::receive::receive;
 use crate::watched::WatchedTable;
 use fs_base::{Config, Memory, Steps};
@@ -33,7 +34,7 @@ impl<'a> Desk<'a> {
     ghost use Rattle.fs_base.specs.declared.config.Config.{Config};
     ghost use Rattle.fs_base.specs.Config.{peer_of};
     ghost use Rattle.fs_tape.specs.Tape.{Item, came_up, received, was_lost};
-    ghost use Rattle.fs_desk.specs.Desk.{Played, Plays, RepliesBehind, standing_at_desk, standing_of};
+    ghost use Rattle.fs_desk.specs.Desk.{ExpiresSo, Played, Plays, RepliesBehind, StaysPlayed, TicksPeer, standing_at_desk, standing_of};
     ghost use Rattle.fs_desk.specs.Leaves.{Leaves};
     ghost use Rattle.fs_rules.specs.Table.{AdmitsSame, held_count};
 
@@ -136,6 +137,51 @@ impl<'a> Desk<'a> {
             &mut self.table,
             peer,
             piece,
+            replies,
+        )?;
+        Ok(self.table.has_changed())
+    }
+
+    /// The clock of the session with a peer, at a moment in milliseconds. Where the agreed hold time has passed since
+    /// the last message was taken, the session closes with 4/0, its NOTIFICATION is appended to `replies`, and the
+    /// peer holds nothing any more (RFC 4271, section 6.5); else a KEEPALIVE is appended where a third of it has passed
+    /// since the last one. Nothing is done for a peer that is down or whose session has closed, before its OPEN, nor
+    /// with a hold time of 0. After `Memory` `replies` is as before.
+    pub fn tick(&mut self, peer: u16, moment: u64, replies: &mut Vec<u8>) -> Result<(), Memory>
+        ensures ticked { OnOk result (TicksPeer peer moment self.old self.new replies.old.items replies.new.items) }
+        ensures played { OnOk result (StaysPlayed peer self.old self.new) }
+        ensures expired { OnOk result (ExpiresSo peer self.old self.new) }
+        ensures err { OnErr result (replies.new.items ≡ replies.old.items) }
+        ensures config { self.new.config ≡ self.old.config }
+    {
+        self.tick_telling(peer, moment, replies)?;
+        Ok(())
+    }
+
+    /// As [`tick`](Desk::tick), and tells whether the rules that are admitted may be others than before.
+    pub fn tick_telling(
+        &mut self,
+        peer: u16,
+        moment: u64,
+        replies: &mut Vec<u8>,
+    ) -> Result<bool, Memory>
+        ensures ticked { OnOk result (TicksPeer peer moment self.old self.new replies.old.items replies.new.items) }
+        ensures played { OnOk result (StaysPlayed peer self.old self.new) }
+        ensures expired { OnOk result (ExpiresSo peer self.old self.new) }
+        ensures err { OnErr result (replies.new.items ≡ replies.old.items) }
+        ensures config { self.new.config ≡ self.old.config }
+        ensures told { IfOk result (λ changed. changed ≡ false → AdmitsSame self.old.held self.new.held) }
+    {
+        self.table.watch();
+        let Some(session) = self.sessions.get_mut(&peer) else {
+            return Ok(false);
+        };
+        tick_session::<Brand>(
+            Blank::new(1),
+            session,
+            &mut self.table,
+            peer,
+            moment,
             replies,
         )?;
         Ok(self.table.has_changed())

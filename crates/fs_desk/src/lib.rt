@@ -3,6 +3,7 @@
 
 mod apply;
 mod desk;
+mod hold_timer;
 mod laws;
 mod limit;
 mod receive;

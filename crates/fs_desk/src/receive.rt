@@ -1,6 +1,6 @@
 //! What a piece of a peer's octets does to its session, to the replies and to the table.
 
-ghost use Rattle.std.specs.Prelude.{◌≡◌, ◌≤◌, ◌<◌, false, None, IfOk, IfSome, OnOk, OnErr, length};
+ghost use Rattle.std.specs.Prelude.{◌≡◌, ◌≤◌, ◌<◌, true, false, None, IfOk, IfSome, OnOk, OnErr, length};
 ghost use Rattle.fs_rules.specs.Table.{without_peer};
 ghost use Rattle.fs_desk.specs.Receive.{Extends, RepliesMessage, RepliesPiece, TakesMessage, TakesPiece, TakesUpdate, wants_memory};
 ghost use Rattle.fs_desk.specs.Watched.{Tells};
@@ -145,13 +145,14 @@ const TOO_MANY_ROUTES: Closed = Closed::Fault {
 
 /// The peer's session has closed: takes all that the peer holds out of the table. Where it closed for want of memory
 /// the table stays, and `Memory` is answered.
-fn close<L: Ledger>(
+pub(crate) fn close<L: Ledger>(
     table: &mut WatchedTable<'_>,
     peer: u16,
     why: Closed,
     steps: &mut Steps<L>,
 ) -> Result<(), Memory>
     ensures octets { OnOk result (wants_memory why ≡ false) }
+    ensures err { OnErr result (wants_memory why ≡ true) }
     ensures told { OnOk result (Tells table.old table.new) }
     ensures lost { OnOk result (table.new.held ≡ without_peer peer table.old.held) }
 {

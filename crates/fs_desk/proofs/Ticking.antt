@@ -1,0 +1,242 @@
+-- The clock at a peer: what was played still stands, unless its session closes by it.
+use Rattle.std.proofs.Common.{◌≡◌, ◌≢◌, ℕ, ◌==◌, List, [], Option, Some, None, if◌then◌else◌, refl, ap, sym, ◌∙◌, subst, inl, inr}
+use Rattle.std.specs.Ordering.{nat_cmp}
+use Rattle.std.specs.Map.{set_value}
+use Rattle.std.specs.BTreeMap.{is_at}
+use Rattle.fs_base.specs.Config.{peer_of}
+use Rattle.fs_base.specs.declared.config.Config.{Config}
+use Rattle.fs_base.specs.declared.config.Peer.{Peer}
+use Rattle.fs_attrs.specs.declared.update.Update.{Update}
+use Rattle.fs_rules.specs.Table.{Held}
+use Rattle.fs_speaker.specs.declared.state.Closed.{Closed}
+use Rattle.fs_speaker.specs.declared.state.Closed.TheVariants.{Fault}
+use Rattle.fs_speaker.specs.declared.state.Standing.TheVariants.{Up, Ended}
+use Rattle.fs_speaker.specs.declared.times.Tick.{Tick}
+use Rattle.fs_speaker.specs.declared.times.Tick.TheVariants.{Quiet, Keeps, Expires}
+use Rattle.fs_speaker.specs.declared.times.Times.{Times}
+use Rattle.fs_speaker.specs.Session.{Last, Live, at_start, still}
+use Rattle.fs_speaker.specs.State.{standing_by}
+use Rattle.fs_speaker.specs.Times.{at_moment, tick_at}
+use Rattle.fs_tape.specs.Tape.{Item}
+use Rattle.fs_desk.specs.Desk.{Desked, ExpiresSo, HasHoldTime, session_at, PeerIs, Played, TicksPeer, standing_at_desk}
+use Rattle.fs_desk.specs.HoldTimer.{TickMakes, TicksIn, TicksSession, with_times}
+use Rattle.fs_desk.specs.Life.{life}
+use Rattle.fs_desk.specs.Limit.{bounded_from, bounded_replies_from}
+use Rattle.fs_desk.specs.Receive.{HasReplied, IsFed, IsUp}
+use Rattle.fs_desk.proofs.Follows.{follows_session}
+use Rattle.fs_desk.proofs.Played.{desk_of, session_value, sorted_value, cases_of, one_number}
+use Rattle.fs_desk.proofs.Updates.{chosen, not_chosen, itself}
+
+-- moments say nothing of what a session was fed with
+fed_timed : (config : Config) (peer : Peer) (octets : List ℕ) (session : Live) (times : Times) (why : Option Closed) (updates : List Update)
+    → IsFed config peer octets session why updates → IsFed config peer octets (with_times times session) why updates
+fed_timed config peer octets session times None updates f =
+    (record { alive = f.0.alive; config_is = f.0.config_is; peer_is = f.0.peer_is; waiting = f.0.waiting; goes = f.0.goes }, f.1)
+fed_timed config peer octets session times (Some why) updates f = f
+
+replied_timed : (config : Config) (peer : Peer) (octets : List ℕ) (session : Live) (times : Times) (why : Option Closed) (said : List ℕ)
+    → HasReplied config peer octets session why said → HasReplied config peer octets (with_times times session) why said
+replied_timed config peer octets session times None said r = record { said_is = r.said_is; goes = r.goes }
+replied_timed config peer octets session times (Some why) said r = r
+
+up_timed : (config : Config) (peer : Peer) (number : ℕ) (octets : List ℕ) (session : Live) (times : Times) (held : Held)
+    → IsUp config peer number octets session held → IsUp config peer number octets (with_times times session) held
+up_timed config peer number octets session times held u = record {
+  updates = u.updates;
+  fed = fed_timed config peer octets session times session.closed u.updates u.fed;
+  replied = replied_timed config peer octets session times session.closed (bounded_replies_from config peer octets) u.replied;
+  left = u.left;
+}
+
+-- the session of a peer is as it was, but for its moments
+abbrev SameUp : ℕ → Live → Live → Held → Type 0
+SameUp n session session' held =
+    (config : Config) (peer : Peer) (octets : List ℕ) → IsUp config peer n octets session held → IsUp config peer n octets session' held
+
+module _ (config : Config) (items : List Item) (n : ℕ) (session session' : Live) (own : Config) (table : Held) (sessions sessions' : List (ℕ × Live)) where
+  stays_up : session_at n sessions ≡ Some session → sessions' ≡ set_value (is_at (nat_cmp n)) sessions session' → SameUp n session session' table
+      → Played config items (desk_of own table sessions) → Played config items (desk_of own table sessions')
+  stays_up there s same p = record {
+    config_is = p.config_is;
+    held_is = p.held_is;
+    listed = p.listed;
+    sessions = sorted_value n session' sessions sessions' s p.sessions;
+    each = λ m. elim (cases_of (m == n)) [
+      | inl e ↦ subst (λ (z : ℕ). PeerIs config (peer_of z config.peers) (life z items) (session_at z sessions') z table) (sym (one_number m n e)) own_is
+      | inr e ↦
+          subst (λ (x : Option Live). PeerIs config (peer_of m config.peers) (life m items) x m table)
+          (sym (session_value m n session session' sessions sessions' there s ∙ not_chosen (m == n) _ _ e)) (p.each m)
+    ];
+  }
+    where
+      by : (q : Option Peer) (l : Option (List ℕ)) → PeerIs config q l (Some session) n table → PeerIs config q l (Some session') n table
+      by None None k = absurd k
+      by (Some peer) None k = absurd k
+      by None (Some octets) k = absurd k
+      by (Some peer) (Some octets) k = same config peer octets k
+
+      own_is : PeerIs config (peer_of n config.peers) (life n items) (session_at n sessions') n table
+      own_is =
+          subst (λ (x : Option Live). PeerIs config (peer_of n config.peers) (life n items) x n table)
+          (sym (session_value n n session session' sessions sessions' there s ∙ chosen (n == n) _ _ (itself n)))
+          (by (peer_of n config.peers) (life n items)
+          (subst (λ (x : Option Live). PeerIs config (peer_of n config.peers) (life n items) x n table) there (p.each n)))
+
+-- how it stood and how it stands, by the sessions
+stood : (n : ℕ) (session : Live) (sessions : List (ℕ × Live)) (own : Config) (table : Held) → session_at n sessions ≡ Some session
+    → standing_at_desk (desk_of own table sessions) n ≡ standing_by (Some session)
+stood n session sessions own table there = ap standing_by there
+
+never_ended : (session session' : Live) (why : Closed) → session.closed ≡ None → session'.closed ≡ Some why → standing_by (Some session') ≡ standing_by (Some session) → ⊥
+never_ended session session' why alive shut e = ended_not (sym by ∙ e ∙ was)
+  where
+    ended_not : Ended why ≡ Up session.phase.state → ⊥
+    ended_not h = absurd cc
+
+    by : standing_by (Some session') ≡ Ended why
+    by = ap (λ (c : Option Closed). elim c [ Some w ↦ Ended w | None ↦ Up session'.phase.state ]) shut
+
+    was : standing_by (Some session) ≡ Up session.phase.state
+    was = ap (λ (c : Option Closed). elim c [ Some w ↦ Ended w | None ↦ Up session.phase.state ]) alive
+
+-- of the desk's parts
+pub desk_ticked : (config : Config) (items : List Item) (n moment : ℕ) (session session' : Live) (own : Config) (table table' : Held) (sessions sessions' : List (ℕ × Live)) (old : Desked)
+    (replies replies' : List ℕ) → old ≡ desk_of own table sessions → session_at n sessions ≡ Some session → TicksSession n moment session session' table table' replies replies'
+    → sessions' ≡ set_value (is_at (nat_cmp n)) sessions session' → standing_at_desk (desk_of own table' sessions') n ≡ standing_at_desk old n
+    → Played config items old → Played config items (desk_of own table' sessions')
+desk_ticked config items n moment session session' own table table' sessions sessions' old replies replies' e there ticks s stays p =
+    by session.closed refl ticks
+  where
+    whole : Played config items (desk_of own table sessions)
+    whole = subst (λ (d : Desked). Played config items d) e p
+
+    same_table : table' ≡ table → SameUp n session session' table → Played config items (desk_of own table' sessions')
+    same_table t same =
+        subst (λ (h : Held). Played config items (desk_of own h sessions')) (sym t) (stays_up config items n session session' own table sessions sessions' there s same whole)
+
+    timed : (times : Times) → session' ≡ with_times times session → SameUp n session session' table
+    timed times h config peer octets u =
+        subst (λ (l : Live). IsUp config peer n octets l table) (sym h) (up_timed config peer n octets session times table u)
+
+    untouched : session' ≡ session → SameUp n session session' table
+    untouched h config peer octets u = subst (λ (l : Live). IsUp config peer n octets l table) (sym h) u
+
+    now_stands : standing_at_desk (desk_of own table' sessions') n ≡ standing_by (Some session')
+    now_stands = ap standing_by (session_value n n session session' sessions sessions' there s ∙ chosen (n == n) _ _ (itself n))
+
+    did_stand : standing_at_desk old n ≡ standing_by (Some session)
+    did_stand = ap (λ (d : Desked). standing_at_desk d n) e ∙ ap standing_by there
+
+    makes : (tick : Tick) (times : Times) → session.closed ≡ None → TickMakes tick n times session session' table table' replies replies' → Played config items (desk_of own table' sessions')
+    makes Quiet times alive k = same_table k.1.0 (timed times k.0)
+    makes Keeps times alive k = same_table k.1.0 (timed _ k.0)
+    makes Expires times alive k = absurd (never_ended session session' (Fault 4 0) alive k.0 (sym now_stands ∙ stays ∙ did_stand))
+
+    by : (c : Option Closed) → session.closed ≡ c → TicksIn c n moment session session' table table' replies replies' → Played config items (desk_of own table' sessions')
+    by (Some why) h k = same_table k.1.0 (untouched k.0)
+    by None h k = makes (tick_at session.phase.hold (at_moment moment session.times)) (at_moment moment session.times) h k
+
+-- what the clock does at a peer, by the session that is kept of it
+abbrev TicksFor : Option Live → ℕ → ℕ → Desked → Desked → (replies replies' : List ℕ) → Type 0
+TicksFor found peer moment old new replies replies' =
+    elim found [
+      | None ↦ (new ≡ old) × (replies' ≡ replies)
+      | Some session ↦
+          (session' : Live)
+          × (TicksSession peer moment session session' old.held new.held replies replies'
+          × ((number : ℕ) → session_at number new.sessions ≡ (if number == peer then Some session' else session_at number old.sessions)))
+    ]
+
+pub desk_ticks : (n moment : ℕ) (session session' : Live) (own : Config) (table table' : Held) (sessions sessions' : List (ℕ × Live)) (old : Desked) (replies replies' : List ℕ)
+    → old ≡ desk_of own table sessions → session_at n sessions ≡ Some session → TicksSession n moment session session' table table' replies replies'
+    → sessions' ≡ set_value (is_at (nat_cmp n)) sessions session' → TicksPeer n moment old (desk_of own table' sessions') replies replies'
+desk_ticks n moment session session' own table table' sessions sessions' old replies replies' e there ticks s =
+    subst (λ (d : Desked). TicksPeer n moment d (desk_of own table' sessions') replies replies') (sym e) (by (session_at n sessions) there)
+  where
+    by : (found : Option Live) → found ≡ Some session → TicksFor found n moment (desk_of own table sessions) (desk_of own table' sessions') replies replies'
+    by None h = absurd cc
+    by (Some was) h =
+        let same : was ≡ session = cc in (
+          session',
+          (
+            subst (λ (l : Live). TicksSession n moment l session' table table' replies replies') (sym same) ticks,
+            λ number. session_value number n session session' sessions sessions' there s,
+          ),
+        )
+
+pub desk_rests : (n moment : ℕ) (own : Config) (table : Held) (sessions sessions' : List (ℕ × Live)) (old : Desked) (replies : List ℕ) → old ≡ desk_of own table sessions
+    → session_at n sessions ≡ None → sessions' ≡ sessions → TicksPeer n moment old (desk_of own table sessions') replies replies
+desk_rests n moment own table sessions sessions' old replies e none s =
+    subst (λ (d : Desked). TicksPeer n moment d (desk_of own table sessions') replies replies) (sym e) (by (session_at n sessions) none)
+  where
+    by : (found : Option Live) → found ≡ None → TicksFor found n moment (desk_of own table sessions) (desk_of own table sessions') replies replies
+    by None h = (ap (desk_of own table) s, refl)
+    by (Some was) h = absurd cc
+
+-- an open session's hold time is the one that the octets of its life agree on
+has_hold_time : (config : Config) (items : List Item) (n : ℕ) (session : Live) (desk : Desked) → session_at n desk.sessions ≡ Some session → session.closed ≡ None → session.phase.hold ≢ 0
+    → Played config items desk → HasHoldTime config items n
+has_hold_time config items n session desk there alive timed p =
+    by (peer_of n config.peers) (life n items) refl refl (subst (λ (x : Option Live). PeerIs config (peer_of n config.peers) (life n items) x n desk.held) there (p.each n))
+  where
+    session_with : Option Peer → List ℕ → List Update × Last
+    session_with o octets = elim o [ None ↦ ([], still at_start) | Some whose ↦ bounded_from config whose octets ]
+
+    by : (q : Option Peer) (l : Option (List ℕ)) → peer_of n config.peers ≡ q → life n items ≡ l → PeerIs config q l (Some session) n desk.held → HasHoldTime config items n
+    by None None f g k = absurd k
+    by (Some peer) None f g k = absurd k
+    by None (Some octets) f g k = absurd k
+    by (Some peer) (Some octets) f g k =
+        let fed = subst (λ (c : Option Closed). IsFed config peer octets session c k.updates) alive k.fed in
+        record {
+          octets = octets;
+          life_is = g;
+          phase = session.phase;
+          found = ap (λ (o : Option Peer). (session_with o octets).1) f
+              ∙ ap (λ (r : List Update × Last). r.1) (follows_session config peer octets session k.updates fed.0 fed.1);
+          timed = timed;
+        }
+
+expires_timed : (hold : ℕ) (now : Times) → tick_at hold now ≡ Expires → hold ≢ 0
+expires_timed hold now h zero_is = quiet (subst (λ (n : ℕ). tick_at n now ≡ Expires) zero_is h)
+  where
+    quiet : Quiet ≡ Expires → ⊥
+    quiet e = cc
+
+pub desk_expires : (n moment : ℕ) (session session' : Live) (own : Config) (table table' : Held) (sessions sessions' : List (ℕ × Live)) (old : Desked) (replies replies' : List ℕ)
+    → old ≡ desk_of own table sessions → session_at n sessions ≡ Some session → TicksSession n moment session session' table table' replies replies'
+    → sessions' ≡ set_value (is_at (nat_cmp n)) sessions session' → ExpiresSo n old (desk_of own table' sessions')
+desk_expires n moment session session' own table table' sessions sessions' old replies replies' e there ticks s other = by session.closed refl ticks
+  where
+    now_stands : standing_at_desk (desk_of own table' sessions') n ≡ standing_by (Some session')
+    now_stands = ap standing_by (session_value n n session session' sessions sessions' there s ∙ chosen (n == n) _ _ (itself n))
+
+    did_stand : standing_at_desk old n ≡ standing_by (Some session)
+    did_stand = ap (λ (d : Desked). standing_at_desk d n) e ∙ ap standing_by there
+
+    same : standing_by (Some session') ≡ standing_by (Some session) → ⊥
+    same h = other (now_stands ∙ h ∙ sym did_stand)
+
+    found : (config : Config) (items : List Item) → session.closed ≡ None → session.phase.hold ≢ 0 → Played config items old → HasHoldTime config items n
+    found config items alive timed p =
+        has_hold_time config items n session old (ap (λ (d : Desked). session_at n d.sessions) e ∙ there) alive timed p
+
+    makes : (tick : Tick) → tick_at session.phase.hold (at_moment moment session.times) ≡ tick → session.closed ≡ None
+        → TickMakes tick n (at_moment moment session.times) session session' table table' replies replies'
+        → (standing_at_desk (desk_of own table' sessions') n ≡ Ended (Fault 4 0)) × ((config : Config) (items : List Item) → Played config items old → HasHoldTime config items n)
+    makes Quiet h alive k = absurd (same (ap (λ (l : Live). standing_by (Some l)) k.0))
+    makes Keeps h alive k = absurd (same (ap (λ (l : Live). standing_by (Some l)) k.0))
+    makes Expires h alive k = (
+      now_stands ∙ ap (λ (c : Option Closed). elim c [ Some w ↦ Ended w | None ↦ Up session'.phase.state ]) k.0,
+      λ config items p. found config items alive (expires_timed session.phase.hold (at_moment moment session.times) h) p,
+    )
+
+    by : (c : Option Closed) → session.closed ≡ c → TicksIn c n moment session session' table table' replies replies'
+        → (standing_at_desk (desk_of own table' sessions') n ≡ Ended (Fault 4 0)) × ((config : Config) (items : List Item) → Played config items old → HasHoldTime config items n)
+    by (Some why) h k = absurd (same (ap (λ (l : Live). standing_by (Some l)) k.0))
+    by None h k = makes (tick_at session.phase.hold (at_moment moment session.times)) refl h k
+
+pub desk_keeps_standing : (n : ℕ) (own : Config) (table : Held) (sessions sessions' : List (ℕ × Live)) (old : Desked) → old ≡ desk_of own table sessions → sessions' ≡ sessions
+    → ExpiresSo n old (desk_of own table sessions')
+desk_keeps_standing n own table sessions sessions' old e s other =
+    absurd (other (ap (λ (z : List (ℕ × Live)). standing_at_desk (desk_of own table z) n) s ∙ sym (ap (λ (d : Desked). standing_at_desk d n) e)))
