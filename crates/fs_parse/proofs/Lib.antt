@@ -1,0 +1,4 @@
+pub mod Runs
+pub mod Numerals
+pub mod Words
+pub mod Found

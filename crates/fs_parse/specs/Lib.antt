@@ -1,0 +1,5 @@
+pub mod Pieces
+pub mod Reading
+pub mod Shown
+pub mod ActionWord
+pub mod ActionParts
