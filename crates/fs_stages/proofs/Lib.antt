@@ -1,3 +1,4 @@
+pub mod LookingAhead
 pub mod Playing
 pub mod Stages
 pub mod Texts

@@ -1,4 +1,5 @@
 pub mod Refusal
 pub mod Load
 pub mod Play
+pub mod Player
 pub mod Writing

@@ -4,11 +4,13 @@
 
 mod load;
 mod play;
+mod player;
 mod refusal;
 pub mod status;
 mod writing;
 
 pub use load::{CAPTURE_SLOT, CONFIG_SLOT, TAPE_SLOT, load_config, open};
-pub use play::play_tape;
+pub use play::{WholeTape, play_tape, play_whole};
+pub use player::Player;
 pub use refusal::Refusal;
 pub use writing::write_text;

@@ -1,6 +1,7 @@
 //! Opening files, and reading the configuration.
 
 ghost use Rattle.std.specs.Prelude.{◌≡◌, ◌≤◌, IfErr, IsTrue, Some, MatchResult};
+ghost use Rattle.fs_base.specs.Files.{OnlySlot};
 ghost use Rattle.fs_base.specs.Outside.{Rose};
 ghost use Rattle.fs_stages.specs.Refusal.{IsLate, HasReason, Reaches, or_stop};
 ghost use Rattle.fs_stages.specs.declared.refusal.Refusal.TheVariants.{Outside};
@@ -35,6 +36,7 @@ pub fn open<F: Files>(files: &mut F, slot: u8, name: &str) -> Result<(), Refusal
         → MatchResult result
         (λ _. F.holds files.old name.now ≡ Some (F.left files.new slot))
         (HasReason (or_stop Outside (F.holds files.old name.now)) (Rose (F.faults files.old) (F.faults files.new))) }
+    ensures others { OnlySlot F.tells F.left F.holds slot files.old files.new }
 {
     match files.open_file(slot, name) {
         Ok(true) => Ok(()),

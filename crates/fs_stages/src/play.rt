@@ -1,28 +1,36 @@
 //! Playing a tape.
 
-ghost use Rattle.std.specs.Prelude.{◌≡◌, ◌≤◌, ◌<◌, ◌++◌, ◌∷◌, [], Some, None, List, length};
+ghost use Rattle.std.specs.Prelude.{◌≡◌, ◌≢◌, ◌≤◌, ◌<◌, None, false, length};
 ghost use Rattle.std.specs.Prelude.{IsTrue, IfOk, IfSome, OnOk, MatchResult};
+ghost use Rattle.fs_base.specs.Files.{OnlySlot};
 ghost use Rattle.fs_base.specs.Outside.{Rose};
 ghost use Rattle.fs_base.specs.declared.config.Config.{Config};
-ghost use Rattle.fs_tape.specs.Header.{longest_payload};
-ghost use Rattle.fs_tape.specs.Tape.{Item, IsItem, coming, item_from};
-ghost use Rattle.fs_stages.specs.Refusal.{HasReason};
-ghost use Rattle.fs_stages.specs.Play.{tape_stage, played_to, IsPlayed, Gives, PlaysOn, refused_by};
-ghost use Rattle.fs_desk.specs.Desk.{Played};
+ghost use Rattle.fs_rules.specs.Table.{AdmitsSame};
+ghost use Rattle.fs_tape.specs.Header.{IsTimed, longest_payload};
+ghost use Rattle.fs_tape.specs.Tape.{IsBegun, IsItem, coming, item_from};
+ghost use Rattle.fs_stages.specs.Refusal.{HasReason, answered, status_of};
+ghost use Rattle.fs_stages.specs.Play.{tape_stage, played_to, IsOpened, IsPlayed, IsWhole, Gives, PlaysOn, refused_by};
+ghost use Rattle.fs_desk.specs.Desk.{Plays};
 
 use crate::load::{TAPE_SLOT, open};
 use crate::refusal::Refusal;
 use fs_base::{Config, Counted, Files, Memory};
 use fs_desk::Desk;
-use fs_tape::{LONGEST_PAYLOAD, Tape, TapeFault, TapeItem};
+use fs_tape::{LONGEST_PAYLOAD, Tape, TapeFault, TapeItem, Version};
 use std::alloc::Global;
+
+/// A tape that was played whole: the desk behind it, and the tape's version.
+#[derive(Drop)]
+pub struct WholeTape<'a> {
+    pub desk: Desk<'a>,
+    pub version: Version,
+}
 
 /// Plays the whole tape.
 ///
 /// # Errors
 ///
-/// `Outside` where the file isn't there or the files failed, `Tape` where it has a fault, `Limit` where it has at least
-/// `limit` octets without one, `Memory` where the machine refused memory.
+/// As of [`play_whole`].
 pub fn play_tape<'a, F: Files>(
     alloc: Global,
     files: &mut F,
@@ -39,16 +47,65 @@ pub fn play_tape<'a, F: Files>(
         (HasReason (tape_stage config.entry.now limit (F.holds files.old) name.now)
         (Rose (F.faults files.old) (F.faults files.new))) }
 {
-    open(files, TAPE_SLOT, name)?;
-    let mut tape = match Tape::begin(Counted::new(TAPE_SLOT, limit), files) {
-        Ok(tape) => tape,
-        Err(fault) => return Err(refusal_of(fault)),
-    };
+    match play_whole(alloc, files, config, name, limit) {
+        Ok(whole) => {
+            let WholeTape { desk, .. } = whole;
+            Ok(desk)
+        }
+        Err(refusal) => Err(refusal),
+    }
+}
+
+/// Plays the whole tape, and tells its version.
+///
+/// # Errors
+///
+/// `Outside` where the file isn't there or the files failed, `Tape` where it has a fault, `Limit` where it has at least
+/// `limit` octets without one, `Memory` where the machine refused memory.
+pub fn play_whole<'a, F: Files>(
+    alloc: Global,
+    files: &mut F,
+    config: &'a Config,
+    name: &str,
+    limit: u64,
+) -> Result<WholeTape<'a>, Refusal>
+    ensures later { F.faults files.old ≤ F.faults files.new }
+    ensures holds { IsTrue F.tells → F.holds files.new ≡ F.holds files.old }
+
+    ensures played { IsTrue F.tells
+        → MatchResult result
+        (λ whole. IsWhole config.entry.now limit (F.holds files.old) name.now whole.version whole.desk)
+        (HasReason (tape_stage config.entry.now limit (F.holds files.old) name.now)
+        (Rose (F.faults files.old) (F.faults files.new))) }
+{
+    let mut tape = open_tape(files, name, limit)?;
+    let version = tape.version();
     let mut desk = Desk::new(alloc, config);
     let mut buffer = vec![in alloc; 0u8; LONGEST_PAYLOAD]?;
     match play_items(alloc, files, &mut tape, config, &mut desk, &mut buffer) {
-        Ok(()) => Ok(desk),
+        Ok(()) => Ok(WholeTape { desk, version }),
         Err(refusal) => Err(refusal),
+    }
+}
+
+/// Opens the tape, up to its first item.
+pub(crate) fn open_tape<F: Files>(files: &mut F, name: &str, limit: u64) -> Result<Tape, Refusal>
+    ensures later { F.faults files.old ≤ F.faults files.new }
+    ensures state { IfOk result (IsBegun 1 limit) }
+    ensures within { IfOk result (λ tape. tape.place ≤ tape.limit) }
+    ensures late { answered result ≢ 3 }
+
+    ensures opened { IsTrue F.tells
+        → MatchResult result
+        (IsOpened limit (F.holds files.old) name.now (F.left files.new 1))
+        (λ refusal. (config : Config) → HasReason (tape_stage config limit (F.holds files.old) name.now)
+        (Rose (F.faults files.old) (F.faults files.new)) refusal) }
+    ensures others { OnlySlot F.tells F.left F.holds 1 files.old files.new }
+{
+    open(files, TAPE_SLOT, name)?;
+    match Tape::begin(Counted::new(TAPE_SLOT, limit), files) {
+        Ok(tape) => Ok(tape),
+        Err(fault) => Err(refusal_of(fault)),
     }
 }
 
@@ -70,7 +127,7 @@ fn play_items<F: Files>(
 
     ensures played { IsTrue F.tells
         → MatchResult result
-        (λ _. PlaysOn config.now (coming config.now tape.old (F.left files.old tape.old.slot)) desk.old desk.new)
+        (λ _. PlaysOn config.now tape.old.version (coming config.now tape.old (F.left files.old tape.old.slot)) desk.old desk.new)
         (HasReason (played_to (coming config.now tape.old (F.left files.old tape.old.slot)))
         (Rose (F.faults files.old) (F.faults files.new))) }
 {
@@ -82,33 +139,29 @@ fn play_items<F: Files>(
     Ok(())
 }
 
-/// Plays one item, whose octets stand at the front of the buffer.
-fn play_item(
+/// Plays one item, whose octets stand at the front of the buffer, and tells whether the rules that are admitted may be
+/// others than before.
+pub(crate) fn play_item(
     desk: &mut Desk<'_>,
     item: TapeItem,
     buffer: &[u8],
     replies: &mut Vec<u8>,
-) -> Result<(), Memory>
+) -> Result<bool, Memory>
     requires room { longest_payload ≤ length buffer.now }
     requires item { IsItem desk.old.config item }
     ensures config { desk.new.config ≡ desk.old.config }
-    ensures played { OnOk result ((config : Config)
-        → (items : List Item)
-        → Played config items desk.old
-        → Played config (items ++ item_from item buffer.now ∷ []) desk.new) }
+    ensures played { OnOk result (Plays (item_from item buffer.now) desk.old desk.new) }
+    ensures told { IfOk result (λ changed. changed ≡ false → AdmitsSame desk.old.held desk.new.held) }
 {
     match item {
-        TapeItem::Up(peer) => desk.up(peer),
-        TapeItem::Octets(peer, count) => desk.octets(peer, &buffer[..count], replies),
-        TapeItem::Lost(peer) => {
-            desk.lost(peer);
-            Ok(())
-        }
+        TapeItem::Up(peer) => desk.up_telling(peer),
+        TapeItem::Octets(peer, count) => desk.octets_telling(peer, &buffer[..count], replies),
+        TapeItem::Lost(peer) => Ok(desk.lost_telling(peer)),
     }
 }
 
 /// The tape's next item, or None at its end.
-fn next_item<F: Files>(
+pub(crate) fn next_item<F: Files>(
     files: &mut F,
     tape: &mut Tape,
     config: &Config,
@@ -120,6 +173,9 @@ fn next_item<F: Files>(
     ensures holds { IsTrue F.tells → F.holds files.new ≡ F.holds files.old }
     ensures slot { tape.new.slot ≡ tape.old.slot }
     ensures limit { tape.new.limit ≡ tape.old.limit }
+    ensures version { tape.new.version ≡ tape.old.version }
+    ensures late { answered result ≢ 3 }
+    ensures timed { IfOk result (λ found. IfSome found (λ _. IsTimed tape.old.version tape.old.moment tape.new.moment)) }
     ensures known { IfOk result (λ found. IfSome found (IsItem config.now)) }
     ensures open { IfOk result (λ found. IfSome found (λ _. tape.new.end ≡ None)) }
     ensures grows { IfOk result (λ found. IfSome found (λ _.
@@ -131,6 +187,7 @@ fn next_item<F: Files>(
         (coming config.now tape.new (F.left files.new tape.old.slot)) tape.new.moment buffer.new)
         (HasReason (played_to (coming config.now tape.old (F.left files.old tape.old.slot)))
         (Rose (F.faults files.old) (F.faults files.new))) }
+    ensures others { OnlySlot F.tells F.left F.holds tape.old.slot files.old files.new }
 {
     match tape.next(files, config, buffer) {
         Ok(found) => Ok(found),
@@ -140,7 +197,8 @@ fn next_item<F: Files>(
 
 /// The refusal for a tape's fault.
 fn refusal_of(fault: TapeFault) -> Refusal
-    ensures { result ≡ refused_by fault }
+    ensures result { result ≡ refused_by fault }
+    ensures late { status_of result ≢ 3 }
 {
     match fault {
         TapeFault::Read => Refusal::Outside,

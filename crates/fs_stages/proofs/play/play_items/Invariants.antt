@@ -10,12 +10,13 @@ invariant-items g l = record {
   unended : l.tape.end ≡ None;
   slot : l.tape.slot ≡ l.fn.tape.slot;
   limit : l.tape.limit ≡ l.fn.tape.limit;
+  version : l.tape.version ≡ l.fn.tape.version;
   within : l.tape.place ≤ l.tape.limit;
   config : l.desk.config ≡ l.config;
   later : g.F.Files.faults l.fn.files ≤ g.F.Files.faults l.files;
   holds : IsTrue g.F.Files.tells → g.F.Files.holds l.files ≡ g.F.Files.holds l.fn.files;
   playing : IsTrue g.F.Files.tells
-      → Playing l.config (coming l.config l.fn.tape (g.F.Files.left l.fn.files l.fn.tape.slot)) (coming l.config l.tape (g.F.Files.left l.files l.tape.slot)) l.fn.desk l.desk;
+      → Playing l.config l.fn.tape.version (coming l.config l.fn.tape (g.F.Files.left l.fn.files l.fn.tape.slot)) (coming l.config l.tape (g.F.Files.left l.files l.tape.slot)) l.fn.desk l.desk;
 }
 
 abbrev pub decreases-items : goal.decreases-items

@@ -1,0 +1,22 @@
+use Rattle.std.proofs.Common.{◌≡◌, ◌≤◌, List, IsTrue, false}
+use Rattle.fs_base.specs.Files.{OnlySlot}
+use Rattle.fs_rules.specs.Table.{AdmitsSame}
+use Rattle.fs_tape.specs.Tape.{Timed}
+use Rattle.fs_stages.specs.Player.{Stands}
+use Rattle.fs_stages.proofs.LookingAhead.{ahead_left}
+use Rattle.fs_stages.proofs.player.Player.play_to.Given as goal
+
+abbrev pub invariant-items : goal.invariant-items
+invariant-items g l = record {
+  slot : l.self.tape.slot ≡ l.fn.self.tape.slot;
+  config : l.self.desk.config ≡ l.fn.self.desk.config;
+  later : g.F.Files.faults l.fn.files ≤ g.F.Files.faults l.files;
+  told : l.changed ≡ false → AdmitsSame l.fn.self.desk.held l.self.desk.held;
+  others : OnlySlot g.F.Files.tells g.F.Files.left g.F.Files.holds l.fn.self.tape.slot l.fn.files l.files;
+  played : IsTrue g.F.Files.tells → (items : List Timed) → Stands items l.moment l.fn.self (g.F.Files.left l.fn.files l.fn.self.tape.slot)
+      → Stands items l.moment l.self (g.F.Files.left l.files l.fn.self.tape.slot);
+}
+
+-- one more than is left behind the item ahead
+abbrev pub decreases-items : goal.decreases-items
+decreases-items g l = ahead_left l.self.ahead l.self.tape.limit l.self.tape.place

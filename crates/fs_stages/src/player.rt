@@ -1,0 +1,170 @@
+//! A tape that is played up to moments.
+
+use crate::play::{next_item, open_tape, play_item};
+use crate::refusal::Refusal;
+use fs_base::{Config, Files};
+use fs_desk::Desk;
+use fs_rules::Table;
+use fs_tape::{LONGEST_PAYLOAD, Tape, TapeItem};
+use std::alloc::Global;
+use std::marker::Model;
+
+/// Plays a tape up to moments, one after the other. It reads one item ahead, which waits until its moment has come.
+#[derive(Drop)]
+pub struct Player<'a> {
+    tape: Tape,
+    desk: Desk<'a>,
+    ahead: Option<TapeItem>,
+    buffer: Vec<u8>,
+    replies: Vec<u8>,
+}
+
+impl<'a> Model for Player<'a> {
+    ghost use Rattle.std.specs.Prelude.{◌≤◌, IfSome, length};
+    ghost use Rattle.fs_stages.specs.Player.{IsReady, PlayerState};
+    ghost use Rattle.fs_tape.specs.Header.{longest_payload};
+
+    ghost Value = { PlayerState };
+
+    ghost view = { λ p. record { tape = p.tape; ahead = p.ahead; into = p.buffer.items; desk = p.desk } };
+
+    ghost invariant = { λ p.
+        (longest_payload ≤ length p.buffer.items) × IfSome p.ahead (IsReady p.tape p.desk.config) };
+}
+
+impl<'a> Player<'a> {
+    ghost use Rattle.std.specs.Prelude.{ℕ, ◌≡◌, ◌≢◌, ◌≤◌, ◌<◌, false, List, Some, IfOk, IfSome, IsTrue, MatchResult};
+    ghost use Rattle.fs_base.specs.Files.{OnlySlot};
+    ghost use Rattle.fs_base.specs.Outside.{Rose};
+    ghost use Rattle.fs_desk.specs.Leaves.{Leaves};
+    ghost use Rattle.fs_rules.specs.Table.{AdmitsSame};
+    ghost use Rattle.fs_stages.specs.Play.{HasVersion, tape_stage, until};
+    ghost use Rattle.fs_stages.specs.Player.{IsUnplayed, Stands, due_item};
+    ghost use Rattle.fs_stages.specs.Refusal.{Found, answered};
+    ghost use Rattle.fs_tape.specs.Tape.{Timed};
+    ghost use Rattle.fs_tape.specs.declared.magic.Version.TheVariants.{Two};
+
+    /// Opens the tape, and reads its first item ahead. Nothing is played yet.
+    ///
+    /// # Errors
+    ///
+    /// `Outside` where the file isn't there or the files failed, `Tape` where the tape has a fault before its first
+    /// item, `Limit` where it has at least `limit` octets without one, `Memory` where the machine refused memory.
+    pub fn begin<F: Files>(
+        alloc: Global,
+        files: &mut F,
+        config: &'a Config,
+        name: &str,
+        limit: u64,
+    ) -> Result<Player<'a>, Refusal>
+        ensures later { F.faults files.old ≤ F.faults files.new }
+        ensures slot { IfOk result (λ player. player.tape.slot ≡ 1) }
+        ensures config { IfOk result (λ player. player.desk.config ≡ config.entry.now) }
+        ensures late { answered result ≢ 3 }
+
+        ensures begun { IsTrue F.tells
+            → (items : List Timed)
+            → tape_stage config.entry.now limit (F.holds files.old) name.now ≡ Found items
+            → HasVersion limit (F.holds files.old) name.now Two
+            → MatchResult result
+            (λ player. Stands items 0 player (F.left files.new 1))
+            (IsUnplayed (Rose (F.faults files.old) (F.faults files.new))) }
+        ensures others { OnlySlot F.tells F.left F.holds 1 files.old files.new }
+    {
+        let mut tape = open_tape(files, name, limit)?;
+        let mut buffer = vec![in alloc; 0u8; LONGEST_PAYLOAD]?;
+        let ahead = next_item(files, &mut tape, config, &mut buffer)?;
+        Ok(Player {
+            tape,
+            desk: Desk::new(alloc, config),
+            ahead,
+            buffer,
+            replies: Vec::new(alloc),
+        })
+    }
+
+    /// Plays the items whose moments are at most this one, and tells whether the rules that are admitted may be others
+    /// than before.
+    ///
+    /// # Errors
+    ///
+    /// `Outside` where the files failed, `Tape` and `Limit` where the tape ends so, `Memory` where the machine refused
+    /// memory.
+    pub fn play_to<F: Files>(&mut self, files: &mut F, moment: u64) -> Result<bool, Refusal>
+        ensures later { F.faults files.old ≤ F.faults files.new }
+        ensures slot { self.new.tape.slot ≡ self.old.tape.slot }
+        ensures config { self.new.desk.config ≡ self.old.desk.config }
+        ensures late { answered result ≢ 3 }
+
+        ensures played { IsTrue F.tells
+            → (items : List Timed)
+            → Stands items moment self.old (F.left files.old self.old.tape.slot)
+            → MatchResult result
+            (λ _. Stands items moment self.new (F.left files.new self.old.tape.slot)
+            × Leaves self.old.desk.config (until moment items) self.new.desk.held)
+            (IsUnplayed (Rose (F.faults files.old) (F.faults files.new))) }
+        ensures told { IfOk result (λ changed. changed ≡ false → AdmitsSame self.old.desk.held self.new.desk.held) }
+        ensures others { OnlySlot F.tells F.left F.holds self.old.tape.slot files.old files.new }
+    {
+        let mut changed = false;
+        'items: while let Some(item) = self.due(moment) {
+            let told = self.step(files, item)?;
+            changed = changed || told;
+        }
+        Ok(changed)
+    }
+
+    /// The item ahead, where its moment has come.
+    fn due(&self, moment: u64) -> Option<TapeItem>
+        ensures { result ≡ due_item self.now.ahead self.now.tape.moment moment }
+    {
+        match self.ahead {
+            None => None,
+            Some(item) => {
+                if self.tape.moment() <= moment {
+                    Some(item)
+                } else {
+                    None
+                }
+            }
+        }
+    }
+
+    /// Plays the item ahead, and reads the next one.
+    fn step<F: Files>(&mut self, files: &mut F, item: TapeItem) -> Result<bool, Refusal>
+        requires { self.old.ahead ≡ Some item }
+        ensures later { F.faults files.old ≤ F.faults files.new }
+        ensures slot { self.new.tape.slot ≡ self.old.tape.slot }
+        ensures limit { self.new.tape.limit ≡ self.old.tape.limit }
+        ensures config { self.new.desk.config ≡ self.old.desk.config }
+        ensures late { answered result ≢ 3 }
+        ensures grows { IfOk result (λ _. IfSome self.new.ahead (λ _.
+            (self.old.tape.place < self.new.tape.place) × (self.new.tape.place ≤ self.new.tape.limit))) }
+
+        ensures played { IsTrue F.tells
+            → (items : List Timed)
+            → (t : ℕ)
+            → self.old.tape.moment ≤ t
+            → Stands items t self.old (F.left files.old self.old.tape.slot)
+            → MatchResult result
+            (λ _. Stands items t self.new (F.left files.new self.old.tape.slot))
+            (IsUnplayed (Rose (F.faults files.old) (F.faults files.new))) }
+        ensures told { IfOk result (λ changed. changed ≡ false → AdmitsSame self.old.desk.held self.new.desk.held) }
+        ensures others { OnlySlot F.tells F.left F.holds self.old.tape.slot files.old files.new }
+    {
+        self.replies.clear();
+        self.ahead = None;
+        let told = play_item(&mut self.desk, item, &self.buffer, &mut self.replies)?;
+        let config = self.desk.config();
+        let ahead = next_item(files, &mut self.tape, config, &mut self.buffer)?;
+        self.ahead = ahead;
+        Ok(told)
+    }
+
+    /// The table of the routes that are held behind what was played.
+    pub fn table(&self) -> &Table<'a>
+        ensures { result.now ≡ self.now.desk.held }
+    {
+        self.desk.table()
+    }
+}
