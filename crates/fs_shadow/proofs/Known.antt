@@ -16,14 +16,14 @@ use Rattle.fs_shadow.proofs.Lying.{Knows, row}
 use Rattle.fs_shadow.proofs.Patterns.{below_all, bits_at, bits_below, first_of, first_shifted, ones_split}
 
 -- a multiple is told by its count
-same_multiple : (a b k : ℕ) → (a * 2 ^ k == b * 2 ^ k) ≡ (a == b)
+pub same_multiple : (a b k : ℕ) → (a * 2 ^ k == b * 2 ^ k) ≡ (a == b)
 same_multiple a b k =
     same_truth (a * 2 ^ k == b * 2 ^ k) (a == b)
     (λ h. eq-eqb a b (sym (shl-shr a k) ∙ ap (λ q. q / 2 ^ k) (eqb-true (a * 2 ^ k) (b * 2 ^ k) h) ∙ shl-shr b k))
     (λ h. eq-eqb (a * 2 ^ k) (b * 2 ^ k) (ap (λ q. q * 2 ^ k) (eqb-true a b h)))
 
 -- a pattern whose first n bits count is a multiple
-counted : (n m p : ℕ) → p ≡ cleared (n + m) n p → p ≡ p / 2 ^ m * 2 ^ m
+pub counted : (n m p : ℕ) → p ≡ cleared (n + m) n p → p ≡ p / 2 ^ m * 2 ^ m
 counted n m p clear =
     let e : p ≡ bits_at n m p * 2 ^ m = clear ∙ first_of n m p in
     e ∙ sym (ap (λ q. q / 2 ^ m * 2 ^ m) e ∙ ap (λ q. q * 2 ^ m) (shl-shr (bits_at n m p) m))
@@ -56,7 +56,7 @@ known_v4 family len bits sound =
     subst (λ j. Knows 32 (λ x. is_prefix_of (V4Body family len bits) (V4 x)) 0 len (32 - len) (bits / 2 ^ j)) f
     (known 32 len 0 (32 - len) bits (λ x. is_prefix_of (V4Body family len bits) (V4 x)) e sound.2 (λ x. let g : x ≡ x * 2 ^ 0 = omega arith in ap (λ y. cleared 32 len y == bits) g))
 
-ordered : (len offset : ℕ) → IsRange len offset → offset ≤ len
+pub ordered : (len offset : ℕ) → IsRange len offset → offset ≤ len
 ordered len offset range = at range.1
   where
     at : (offset < len) ⊎ ((len ≡ 0) × (offset ≡ 0)) → offset ≤ len

@@ -5,3 +5,8 @@ pub mod Lying
 pub mod Marking
 pub mod Patterns
 pub mod Testing
+pub mod ByBits
+pub mod Measuring
+pub mod Destinations
+pub mod Reported
+pub mod Spanning

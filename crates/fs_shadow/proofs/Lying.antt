@@ -44,7 +44,7 @@ highest_below w o n k v width small =
     (row ((2 ^ o - 1) * 2 ^ n + v) (2 ^ k) (2 ^ k - 1) (2 ^ (o + n)) a (omega arith))
 
 -- where the bits known lie within those known inside, the numbers inside tell them
-inner_bits : (o n k v p m j x : ℕ) → o + (n + k) ≡ p + (m + j) → o ≤ p → k ≤ j → bits_at n k x ≡ v → bits_at m j x ≡ bits_at m (j - k) v
+pub inner_bits : (o n k v p m j x : ℕ) → o + (n + k) ≡ p + (m + j) → o ≤ p → k ≤ j → bits_at n k x ≡ v → bits_at m j x ≡ bits_at m (j - k) v
 inner_bits o n k v p m j x width first last e =
     let f : n ≡ (p - o) + (m + (j - k)) = omega arith in
     let g : j ≡ k + (j - k) = omega arith in
@@ -53,7 +53,7 @@ inner_bits o n k v p m j x width first last e =
     ∙ ap (λ i. bits_at m (j - k) (bits_at i k x)) (sym f)
     ∙ ap (bits_at m (j - k)) e
 
-no_bits : (j x : ℕ) → bits_at 0 j x ≡ 0
+pub no_bits : (j x : ℕ) → bits_at 0 j x ≡ 0
 no_bits j x = mod-one (x / 2 ^ j)
 
 module _ (w : ℕ) (inner outer : ℕ → Bool) (o n k v p m j u : ℕ) (knows : Knows w inner o n k v) (known : Knows w outer p m j u) where

@@ -21,7 +21,7 @@ first_of n m y =
     ap (λ j. y % 2 ^ (n + m) / 2 ^ j * 2 ^ j) e ∙ ap (λ q. q * 2 ^ m) (field_of y n m)
 
 -- a shift to the left moves them up
-shifted : (n o k x : ℕ) → bits_at n (o + k) (x * 2 ^ o) ≡ bits_at n k x
+pub shifted : (n o k x : ℕ) → bits_at n (o + k) (x * 2 ^ o) ≡ bits_at n k x
 shifted n o k x = ap (λ q. q % 2 ^ n) (sym (shr-shr (x * 2 ^ o) o k) ∙ ap (λ q. q / 2 ^ k) (shl-shr x o))
 
 pub first_shifted : (n o k x : ℕ) → cleared (n + (o + k)) n (x * 2 ^ o) ≡ bits_at n k x * 2 ^ (o + k)

@@ -26,7 +26,7 @@ no_prefix kind pairs (V4 p) = refl
 no_prefix kind pairs (V6 m o a) = refl
 
 -- types of which one may lie in the other test alike
-alike : (inner outer : ℕ) → may_lie_in inner outer ≡ true → tests_bits inner ≡ tests_bits outer
+pub alike : (inner outer : ℕ) → may_lie_in inner outer ≡ true → tests_bits inner ≡ tests_bits outer
 alike inner outer h = elim (or_cases (inner == outer) ((outer == 4) && ((inner == 5) || (inner == 6))) h) [
   | inl same ↦ ap tests_bits (eqb-true inner outer same)
   | inr ports ↦ port (and_parts (outer == 4) ((inner == 5) || (inner == 6)) ports)

@@ -3,3 +3,5 @@ pub mod Reporting
 pub mod Tested
 pub mod Marks
 pub mod Ends
+pub mod Extents
+pub mod Outlines

@@ -3,7 +3,12 @@
 
 mod checking;
 mod ends;
+mod extents;
 mod marks;
+mod outlines;
+mod prefixes;
+mod reporting;
 mod tested;
 
 pub use checking::confirm;
+pub use reporting::report;

@@ -1,0 +1,32 @@
+use Rattle.std.proofs.Common.{◌≡◌, ℕ, ◌+◌, ◌<◌, ◌≤◌, ◌++◌, if◌then◌else◌, length, sym, subst, ◌∙◌, arith}
+use Rattle.std.proofs.lemmas.List.{length-map}
+use Rattle.fs_rules.specs.Lent.{all_admitted, shown_admitted}
+use Rattle.fs_shadow.specs.Reporting.{report_of}
+use Rattle.fs_shadow.proofs.Destinations.{AreApart}
+use Rattle.fs_shadow.proofs.Reported.{apart_later, got_at, none_before, outlines_size, report_ends, report_step, stretch_apart}
+use Rattle.fs_shadow.proofs.reporting.append_report.Goals as goal
+
+pub stretch_start-start-requires-clause-inside : goal.stretch_start-start-requires-clause-inside
+stretch_start-start-requires-clause-inside c =
+    omega (arith, c.loop-number-test.true, outlines_size (all_admitted c.args.list.now) c.args.outlines.now c.requires.outlines, length-map c.args.list.now shown_admitted)
+
+pub loop-number-preserved : goal.loop-number-preserved
+loop-number-preserved c = record {
+  within = omega (arith, c.stretch_start-start.ensures.within);
+  apart = apart_later (all_admitted c.args.list.now) c.stretch_start-start.result c.loop-number.number apart;
+  rest = report_step (all_admitted c.args.list.now) c.args.outlines.now c.stretch_start-start.result c.loop-number.number c.index-outlines-number.result c.loop-number.pairs.items c.append_covered.new.pairs.items
+      (c.args.pairs.now.items ++ report_of (all_admitted c.args.list.now)) c.requires.outlines
+      (got_at c.args.outlines.now c.loop-number.number c.index-outlines-number.result (omega (arith, c.loop-number-test.true)) c.index-outlines-number.is)
+      apart c.in_ok-append_covered.ensures c.loop-number.invariant.rest;
+} where
+  inside : c.loop-number.number < length (all_admitted c.args.list.now)
+  inside = omega (arith, c.loop-number-test.true, outlines_size (all_admitted c.args.list.now) c.args.outlines.now c.requires.outlines)
+
+  apart : AreApart (all_admitted c.args.list.now) c.stretch_start-start.result c.loop-number.number
+  apart = subst (λ (s : ℕ). AreApart (all_admitted c.args.list.now) s c.loop-number.number) (sym c.stretch_start-start.ensures.start)
+      (stretch_apart (all_admitted c.args.list.now) c.loop-number.start c.loop-number.number c.requires.order inside c.loop-number.invariant.apart)
+
+pub returns : goal.returns
+returns c =
+    report_ends (all_admitted c.args.list.now) c.loop-number.number c.loop-number.pairs.items (c.args.pairs.now.items ++ report_of (all_admitted c.args.list.now))
+    (omega (arith, c.loop-number-test.false, outlines_size (all_admitted c.args.list.now) c.args.outlines.now c.requires.outlines)) c.loop-number.invariant.rest
