@@ -5,3 +5,4 @@ pub mod Marks
 pub mod Ends
 pub mod Extents
 pub mod Outlines
+pub mod Text

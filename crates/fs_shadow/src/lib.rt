@@ -9,6 +9,8 @@ mod outlines;
 mod prefixes;
 mod reporting;
 mod tested;
+mod text;
 
 pub use checking::confirm;
 pub use reporting::report;
+pub use text::shadow_text;
