@@ -7,7 +7,7 @@ use Rattle.fs_base.specs.declared.prefix.Family.TheVariants.{V4, V6}
 use Rattle.fs_cli.specs.declared.command.Command.{Command}
 use Rattle.fs_cli.specs.declared.command.Command.TheVariants.{Enforce as EnforceCommand, Survey as SurveyCommand, Check as CheckCommand, Gen as GenCommand}
 use Rattle.fs_cli.specs.declared.survey.Survey.{Survey}
-use Rattle.fs_cli.specs.declared.survey.Survey.TheVariants.{Rules, Words}
+use Rattle.fs_cli.specs.declared.survey.Survey.TheVariants.{Rules, Shadow, Words}
 
 -- a command, with the names of the files that it is to read, or the family and the word that it is to say of, or how
 -- many steps and packets it is to generate
@@ -37,7 +37,9 @@ count_of word =
 -- the survey that a word asks for
 abbrev pub survey_of : List ℕ → Option Survey
 survey_of word =
-    if bytes_eq word (codes "rules") then Some Rules else if bytes_eq word (codes "list") then Some Words else None
+    if bytes_eq word (codes "rules") then Some Rules
+    else if bytes_eq word (codes "list") then Some Words
+    else if bytes_eq word (codes "shadow") then Some Shadow else None
 
 -- the command of these words, or none
 abbrev pub form_of : List (List ℕ) → Option Form

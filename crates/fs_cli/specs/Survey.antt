@@ -7,10 +7,11 @@ use Rattle.fs_records.specs.Records.{done}
 use Rattle.fs_base.specs.declared.config.Config.{Config}
 use Rattle.fs_conf.specs.Config.{config_of}
 use Rattle.fs_cli.specs.declared.survey.Survey.{Survey}
-use Rattle.fs_cli.specs.declared.survey.Survey.TheVariants.{Rules, Words}
+use Rattle.fs_cli.specs.declared.survey.Survey.TheVariants.{Rules, Shadow, Words}
 use Rattle.fs_listing.specs.Listing.{listing}
 use Rattle.fs_listing.specs.TapeFault.{tape_fault_line}
 use Rattle.fs_rules.specs.Table.{Held}
+use Rattle.fs_shadow.specs.Text.{shadow_listing}
 use Rattle.fs_tape.specs.Tape.{Item, Timed, tape_of}
 use Rattle.fs_worded.specs.Worded.{worded}
 use Rattle.fs_stages.specs.Load.{Names}
@@ -28,6 +29,7 @@ Text = Config → List Item → Held → List ℕ
 abbrev pub text_for : Survey → Text
 text_for Rules = listing
 text_for Words = worded
+text_for Shadow = shadow_listing
 
 -- what is written at a refusal: of a tape's fault its name and its place
 abbrev pub stopped_text : Refusal → List ℕ

@@ -95,6 +95,7 @@ fn survey_of(word: &str) -> Option<Survey>
     match word {
         "rules" => Some(Survey::Rules),
         "list" => Some(Survey::Words),
+        "shadow" => Some(Survey::Shadow),
         _ => None,
     }
 }

@@ -14,6 +14,7 @@ ghost use Rattle.fs_cli.specs.Survey.{Lists, SaysOf, text_for};
 use fs_base::{Files, Memory, Sink};
 use fs_desk::Desk;
 use fs_listing::{desk_text, tape_fault_text};
+use fs_shadow::shadow_text;
 use fs_stages::{Refusal, load_config, play_tape, write_text};
 use fs_tape::TapeReason;
 use fs_worded::desk_words;
@@ -27,6 +28,8 @@ pub enum Survey {
     Rules,
     /// The admitted rules in words, for IPv4 and then for IPv6, in order.
     Words,
+    /// For IPv4 and for IPv6 a line for each admitted rule of which an earlier one takes all packets.
+    Shadow,
 }
 
 /// The names of the files that a survey is made of.
@@ -99,6 +102,7 @@ fn survey_text(alloc: Global, survey: Survey, desk: &Desk<'_>) -> Result<Vec<u8>
     match survey {
         Survey::Rules => desk_text(alloc, desk),
         Survey::Words => desk_words(alloc, desk),
+        Survey::Shadow => shadow_text(alloc, desk),
     }
 }
 
