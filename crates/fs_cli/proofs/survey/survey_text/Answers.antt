@@ -5,3 +5,6 @@ returns-in-Rules c = rw c.in-Rules.is c.desk_text.ensures
 
 pub returns-in-Words : goal.returns-in-Words
 returns-in-Words c = rw c.in-Words.is c.desk_words.ensures
+
+pub returns-in-Shadow : goal.returns-in-Shadow
+returns-in-Shadow c = rw c.in-Shadow.is c.shadow_text.ensures
