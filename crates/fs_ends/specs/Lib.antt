@@ -1,0 +1,3 @@
+pub mod Opening
+pub mod HoldTime
+pub mod Teller
