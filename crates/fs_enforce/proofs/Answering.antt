@@ -16,13 +16,13 @@ use Rattle.fs_records.specs.declared.fault.Fault.{Fault}
 use Rattle.fs_records.specs.declared.fault.Fault.TheVariants.{Read, Limit, Bad}
 use Rattle.fs_rules.specs.Table.{Held}
 use Rattle.fs_stages.proofs.Stages.{answers_for, answers_memory, answers_outside, no_octets, rose_earlier, rose_later, take_nothing}
-use Rattle.fs_enforce.specs.Judge.{refused_by, capture_stage, status_at, Partly, Breaks, verdict_of, admitted_rules, lines_from, lines_of}
+use Rattle.fs_enforce.specs.Judge.{refused_by, capture_stage, status_at, Partly, Breaks, verdict_of, rules_by, lines_from, lines_of}
 use Rattle.fs_stages.specs.Load.{Names}
 use Rattle.fs_stages.specs.Refusal.{Verdict, answered, Answers, Stage, Found, and_then, or_stop, status_of, HasReason}
 use Rattle.fs_stages.specs.declared.refusal.Refusal.{Refusal}
 use Rattle.fs_stages.specs.declared.refusal.Refusal.TheVariants.{Outside, Memory}
 
-pub answers_stopped : (held : Held) (stage : Stage Recorded) (failed : Type 0) (a : Option (List ℕ)) (refusal : Refusal)
+pub answers_stopped : (held : ℕ → Held) (stage : Stage Recorded) (failed : Type 0) (a : Option (List ℕ)) (refusal : Refusal)
     → HasReason stage failed refusal → Answers (verdict_of held stage) failed a a (status_of refusal)
 answers_stopped held stage failed a refusal (inl h) =
     subst (λ (s : Stage Recorded). Answers (verdict_of held s) failed a a (status_of refusal)) (sym h)
@@ -31,17 +31,17 @@ answers_stopped held stage failed a refusal (inr (inl e)) = answers_memory (verd
 answers_stopped held stage failed a refusal (inr (inr h)) = answers_outside (verdict_of held stage) failed a refusal h.0 h.1
 
 -- the capture's stage, where the file is there
-found_capture : (limit : ℕ) (holds : Names) (name octets : List ℕ) → holds name ≡ Some octets → capture_stage limit holds name ≡ Found (capture_of limit octets)
+pub found_capture : (limit : ℕ) (holds : Names) (name octets : List ℕ) → holds name ≡ Some octets → capture_stage limit holds name ≡ Found (capture_of limit octets)
 found_capture limit holds name octets h = ap (λ (c : Option (List ℕ)). and_then (or_stop Outside c) (λ z. Found (capture_of limit z))) h
 
-abbrev opens_to : (limit : ℕ) (octets : List ℕ) → Result Heading (End CaptureReason) → Recorded
+abbrev pub opens_to : (limit : ℕ) (octets : List ℕ) → Result Heading (End CaptureReason) → Recorded
 opens_to limit octets o = elim o [
   | Ok heading ↦ recorded heading.link (packets_to_come heading limit 24 0 (drop 24 octets))
   | Err end ↦ record { link = None; packets = []; end = end }
 ]
 
 -- a capture whose header has a fault
-answers_ended : (held : Held) (limit : ℕ) (holds : Names) (name octets : List ℕ) (failed : Type 0) (a : Option (List ℕ)) (end : End CaptureReason) (refusal : Refusal)
+answers_ended : (held : ℕ → Held) (limit : ℕ) (holds : Names) (name octets : List ℕ) (failed : Type 0) (a : Option (List ℕ)) (end : End CaptureReason) (refusal : Refusal)
     → holds name ≡ Some octets → heading_of limit octets ≡ Err end → status_of refusal ≡ status_at end
     → Answers (verdict_of held (capture_stage limit holds name)) failed a a (status_of refusal)
 answers_ended held limit holds name octets failed a end refusal h o e =
@@ -49,7 +49,7 @@ answers_ended held limit holds name octets failed a end refusal h o e =
     (sym (found_capture limit holds name octets h ∙ ap (λ (r : Result Heading (End CaptureReason)). Found (opens_to limit octets r)) o))
     (record { status_is = inl e; part = part_none a a [] (Grew-refl a); whole = λ six one. Grew-refl a })
 
-pub answers_fault : {T : Type 0} (held : Held) (limit : ℕ) (holds : Names) (name octets left : List ℕ) (failed : Type 0) (a : Option (List ℕ)) (heading : T → Heading) (fault : Fault CaptureReason)
+pub answers_fault : {T : Type 0} (held : ℕ → Held) (limit : ℕ) (holds : Names) (name octets left : List ℕ) (failed : Type 0) (a : Option (List ℕ)) (heading : T → Heading) (fault : Fault CaptureReason)
     → holds name ≡ Some octets → Opens heading (heading_of limit octets) (drop 24 octets) left (Err fault) → (fault ≡ Read → failed)
     → Answers (verdict_of held (capture_stage limit holds name)) failed a a (status_of (refused_by fault))
 answers_fault held limit holds name octets left failed a heading Read h o f = answers_outside (verdict_of held (capture_stage limit holds name)) failed a Outside refl (f refl)
@@ -67,7 +67,7 @@ abbrev pub Went : (end : End CaptureReason) (before mid : Option (List ℕ)) (pe
 Went end before mid pending text failed result =
     MatchResult result (λ _. (end ≡ done) × Goes before mid [] pending text) (Breaks end before mid [] pending text failed)
 
-partly_flushed : (before mid now : Option (List ℕ)) (pending text : List ℕ) → Partly before mid [] pending text → GrewPart mid now pending → GrewPart before now text
+pub partly_flushed : (before mid now : Option (List ℕ)) (pending text : List ℕ) → Partly before mid [] pending text → GrewPart mid now pending → GrewPart before now text
 partly_flushed before mid now pending text (inl p) grew =
     subst (λ (l : List ℕ). GrewPart before now l) (sym p.parts) (part_more before now p.front p.rest (goes_flush_part now p.goes grew))
 partly_flushed before mid now pending text (inr h) grew =
@@ -101,14 +101,14 @@ answers_flushed end before mid now pending text failed (Err refusal) (inr h) gre
     text_broken end text failed before now refusal h.0 h.1.0 (partly_flushed before mid now pending text h.1.1 (part_whole mid now pending grew))
 
 -- under these routes, of a capture's packets and its end
-abbrev under : Held → Option Link → List Captured × End CaptureReason → Verdict
-under held link found = record { status = status_at found.1; text = lines_of (admitted_rules held) link found.0 }
+abbrev under : (ℕ → Held) → Option Link → List Captured × End CaptureReason → Verdict
+under held link found = record { status = status_at found.1; text = lines_of (rules_by held) link found.0 }
 
 -- of an opened capture
-opened_verdict : (held : Held) (limit : ℕ) (holds : Names) (name octets left : List ℕ) (heading : Heading) (link : Link)
+opened_verdict : (held : ℕ → Held) (limit : ℕ) (holds : Names) (name octets left : List ℕ) (heading : Heading) (link : Link)
     → holds name ≡ Some octets → (heading_of limit octets ≡ Ok heading) × (left ≡ drop 24 octets) → link ≡ heading.link
     → verdict_of held (capture_stage limit holds name)
-    ≡ record { status = status_at (packets_to_come heading limit 24 0 left).1; text = lines_from 0 (admitted_rules held) link (packets_to_come heading limit 24 0 left).0 }
+    ≡ record { status = status_at (packets_to_come heading limit 24 0 left).1; text = lines_from 0 (rules_by held) link (packets_to_come heading limit 24 0 left).0 }
 opened_verdict held limit holds name octets left heading link h o l =
     ap (verdict_of held) (found_capture limit holds name octets h ∙ ap (λ (r : Result Heading (End CaptureReason)). Found (opens_to limit octets r)) o.0)
     ∙ ap (λ (z : List ℕ). verdict_of held (Found (recorded heading.link (packets_to_come heading limit 24 0 z)))) (sym o.1)
@@ -117,23 +117,23 @@ opened_verdict held limit holds name octets left heading link h o l =
 -- A capture that was opened in a slot of the files.
 
 -- its header has a fault
-pub answers_unopened : {T : Type 0} (held : Held) (limit : ℕ) (holds : Names) (name : List ℕ) (before after : ℕ → List ℕ) (slot counted : ℕ) (failed : Type 0) (a : Option (List ℕ)) (heading : T → Heading) (fault : Fault CaptureReason)
+pub answers_unopened : {T : Type 0} (held : ℕ → Held) (limit : ℕ) (holds : Names) (name : List ℕ) (before after : ℕ → List ℕ) (slot counted : ℕ) (failed : Type 0) (a : Option (List ℕ)) (heading : T → Heading) (fault : Fault CaptureReason)
     → slot ≡ 2 → holds name ≡ Some (before 2) → counted ≡ limit → Opens heading (heading_of counted (before slot)) (drop 24 (before slot)) (after slot) (Err fault) → (fault ≡ Read → failed)
     → Answers (verdict_of held (capture_stage limit holds name)) failed a a (status_of (refused_by fault))
 answers_unopened held limit holds name before after slot counted failed a heading fault two h l o f =
     answers_fault held limit holds name (before slot) (after slot) failed a heading fault
     (h ∙ ap (λ (n : ℕ). Some (before n)) (sym two)) (subst (λ (n : ℕ). Opens heading (heading_of n (before slot)) (drop 24 (before slot)) (after slot) (Err fault)) l o) f
 
-pub answers_early : (held : Held) (stage : Stage Recorded) (failed : Type 0) (a : Option (List ℕ)) {T : Type 0} (r : Result T Refusal) → IsErrAnd r (λ e. e ≡ Memory) → Answers (verdict_of held stage) failed a a (answered r)
+pub answers_early : (held : ℕ → Held) (stage : Stage Recorded) (failed : Type 0) (a : Option (List ℕ)) {T : Type 0} (r : Result T Refusal) → IsErrAnd r (λ e. e ≡ Memory) → Answers (verdict_of held stage) failed a a (answered r)
 answers_early held stage failed a (Ok t) h = absurd h
 answers_early held stage failed a (Err e) h = answers_memory (verdict_of held stage) failed a e h
 
 -- what it is to answer and write
-pub read_verdict : (held : Held) (limit : ℕ) (holds : Names) (name : List ℕ) (before after : ℕ → List ℕ) (slot counted : ℕ) (capture : CaptureState) (link : Link)
+pub read_verdict : (held : ℕ → Held) (limit : ℕ) (holds : Names) (name : List ℕ) (before after : ℕ → List ℕ) (slot counted : ℕ) (capture : CaptureState) (link : Link)
     → slot ≡ 2 → holds name ≡ Some (before 2) → counted ≡ limit → (heading_of counted (before slot) ≡ Ok capture.heading) × (after slot ≡ drop 24 (before slot))
     → capture.slot ≡ slot → capture.limit ≡ counted → capture.place ≡ 24 → capture.moment ≡ 0 → link ≡ capture.heading.link
     → verdict_of held (capture_stage limit holds name)
-    ≡ record { status = status_at (coming capture (after capture.slot)).1; text = lines_from 0 (admitted_rules held) link (coming capture (after capture.slot)).0 }
+    ≡ record { status = status_at (coming capture (after capture.slot)).1; text = lines_from 0 (rules_by held) link (coming capture (after capture.slot)).0 }
 read_verdict held limit holds name before after slot counted capture link two h l o s c p m known =
     opened_verdict held limit holds name (before slot) (after slot) capture.heading link (h ∙ ap (λ (n : ℕ). Some (before n)) (sym two))
     (subst (λ (n : ℕ). heading_of n (before slot) ≡ Ok capture.heading) l o.0, o.1) known
@@ -147,7 +147,7 @@ went_from : {T : Type 0} (end : End CaptureReason) (before mid : Option (List �
 went_from end before mid first pending text failed result e w =
     subst (λ (p : List ℕ). MatchResult result (λ _. (end ≡ done) × Goes before mid p pending text) (Breaks end before mid p pending text failed)) e w
 
-pub judge_flushed : {T : Type 0} (held : Held) (stage : Stage Recorded) (end : End CaptureReason) (text first pending : List ℕ) (before mid now : Option (List ℕ)) (f f1 f2 s s1 s2 : ℕ) (result : Result T Refusal)
+pub judge_flushed : {T : Type 0} (held : ℕ → Held) (stage : Stage Recorded) (end : End CaptureReason) (text first pending : List ℕ) (before mid now : Option (List ℕ)) (f f1 f2 s s1 s2 : ℕ) (result : Result T Refusal)
     → verdict_of held stage ≡ record { status = status_at end; text = text } → first ≡ []
     → MatchResult result (λ _. (end ≡ done) × Goes before mid first pending text) (Breaks end before mid first pending text (Rose f1 f2 ⊎ Rose s s1))
     → f ≤ f1 → s1 ≤ s2 → Grew mid now pending
@@ -169,7 +169,7 @@ unflushed end text first pending before mid now failed other (Err cause) refusal
 unflushed end text first pending before mid now failed other (Err cause) refusal (inr h) part f e =
     text_broken end text failed before now refusal e f (partly_flushed before mid now pending text h.1.1 part)
 
-pub judge_unflushed : {T U : Type 0} (held : Held) (stage : Stage Recorded) (end : End CaptureReason) (text first pending : List ℕ) (before mid now : Option (List ℕ)) (f f1 f2 s s1 s2 : ℕ) (result : Result T Refusal) (answer : Result U Refusal)
+pub judge_unflushed : {T U : Type 0} (held : ℕ → Held) (stage : Stage Recorded) (end : End CaptureReason) (text first pending : List ℕ) (before mid now : Option (List ℕ)) (f f1 f2 s s1 s2 : ℕ) (result : Result T Refusal) (answer : Result U Refusal)
     → verdict_of held stage ≡ record { status = status_at end; text = text } → first ≡ []
     → MatchResult result (λ _. (end ≡ done) × Goes before mid first pending text) (Breaks end before mid first pending text (Rose f1 f2 ⊎ Rose s s1))
     → s ≤ s1 → Rose s1 s2 → GrewPart mid now pending → IsErrAnd answer (λ e. e ≡ Outside)

@@ -1,17 +1,27 @@
 -- How the answer of `enforce` follows from those of its stages.
-use Rattle.std.proofs.Common.{◌≡◌, inl, inr, ◌∙◌, ℕ, List, Option, ap, sym, subst}
+use Rattle.std.proofs.Common.{◌≡◌, ◌⊎◌, inl, inr, ◌∙◌, ℕ, List, [], Option, Some, None, ap, sym, subst}
+use Rattle.fs_base.specs.Sink.{Grew}
+use Rattle.fs_base.proofs.Grew.{Grew-refl}
+use Rattle.fs_records.specs.Records.{End, done, limited, bad}
+use Rattle.fs_pcap.specs.Capture.{Recorded, capture_of}
+use Rattle.fs_pcap.specs.declared.fault.CaptureReason.{CaptureReason}
 use Rattle.fs_base.specs.declared.config.Config.{Config}
 use Rattle.fs_rules.specs.Table.{Held}
 use Rattle.fs_tape.specs.Tape.{Timed}
+use Rattle.fs_tape.specs.declared.magic.Version.{Version}
+use Rattle.fs_tape.specs.declared.magic.Version.TheVariants.{One, Two}
 use Rattle.fs_desk.specs.Desk.{Desked}
 use Rattle.fs_enforce.specs.Command.{EnforcesSo}
 use Rattle.fs_stages.specs.Load.{Names, config_stage}
 use Rattle.fs_desk.specs.Leaves.{Leaves}
-use Rattle.fs_stages.specs.Play.{tape_stage, accepted_stage, IsPlayed, untimed}
-use Rattle.fs_enforce.specs.Judge.{capture_stage, verdict_of}
-use Rattle.fs_stages.specs.Refusal.{Answers, Stage, Found, and_then, status_of, HasReason}
+use Rattle.fs_stages.specs.Play.{HasVersion, HaveNoMoments, IsWhole, tape_stage, accepted_stage, untimed}
+use Rattle.fs_enforce.specs.Judge.{always, capture_stage, status_at, verdict_of}
+use Rattle.fs_enforce.specs.Moments.{AnswersAt, verdict_at}
+use Rattle.fs_enforce.proofs.MomentAnswers.{always_judged, at_for}
+use Rattle.fs_stages.specs.Refusal.{Answers, Stage, Found, and_then, or_stop, status_of, HasReason}
 use Rattle.fs_stages.specs.declared.refusal.Refusal.{Refusal}
-use Rattle.fs_stages.proofs.Stages.{accepted_with, answers_for, ends_early, reason_then}
+use Rattle.fs_stages.specs.declared.refusal.Refusal.TheVariants.{Outside}
+use Rattle.fs_stages.proofs.Stages.{accepted_with, ends_early, reason_then}
 use Rattle.fs_desk.proofs.Leaves.{played_leaves}
 
 -- the configuration ended the run
@@ -32,21 +42,72 @@ tape_ends limit holds holds' config tape capture accepted failed failed' a refus
     (reason_then (tape_stage accepted limit holds tape) (λ items. Found (accepted, items)) failed refusal told) in
     inl (ends_early (accepted_stage limit holds config tape) failed failed' a refusal whole f)
 
--- the capture was judged
-pub capture_judged : (limit : ℕ) (holds tape_holds capture_holds : Names) (config tape capture : List ℕ) (accepted : Config) (desk : Desked) (table : Held) (failed failed' : Type 0) (before now : Option (List ℕ)) (answer : ℕ)
+-- the capture was judged, by what a tape of the first version leaves
+pub capture_judged : (limit : ℕ) (holds tape_holds capture_holds : Names) (config tape capture : List ℕ) (accepted : Config) (version : Version) (desk : Desked) (table : Held) (failed failed' : Type 0) (before now : Option (List ℕ)) (answer : ℕ)
     → config_stage limit holds config ≡ Found accepted → tape_holds ≡ holds → capture_holds ≡ tape_holds
-    → IsPlayed accepted (tape_stage accepted limit tape_holds tape) desk
-    → desk.held ≡ table → Answers (verdict_of table (capture_stage limit capture_holds capture)) failed before now answer → (failed → failed')
+    → IsWhole accepted limit tape_holds tape version desk → version ≡ One
+    → table ≡ desk.held → Answers (verdict_of (always table) (capture_stage limit capture_holds capture)) failed before now answer → (answer ≡ 6 → Grew before now [])
+    → (failed → failed')
     → EnforcesSo limit holds config tape capture failed' before now answer
-capture_judged limit holds tape_holds capture_holds config tape capture accepted desk table failed failed' before now answer e same same' p t a f =
-    let found : tape_stage accepted limit holds tape ≡ Found p.items = subst (λ (names : Names). tape_stage accepted limit names tape ≡ Found p.items) same p.found in
+capture_judged limit holds tape_holds capture_holds config tape capture accepted version desk table failed failed' before now answer e same same' w v t a six f =
+    let items : List Timed = w.played.items in
+    let found : tape_stage accepted limit holds tape ≡ Found items = subst (λ (names : Names). tape_stage accepted limit names tape ≡ Found items) same w.played.found in
     inr (record {
       accepted = accepted;
-      items = p.items;
-      held = table;
+      items = items;
       found = accepted_with limit holds config tape accepted e ∙ ap (λ (s : Stage (List Timed)). and_then s (λ items. Found (accepted, items))) found;
-      leaves = subst (λ (h : Held). Leaves accepted (untimed p.items) h) t (played_leaves accepted (untimed p.items) desk p.played);
-      answers =
-          answers_for (verdict_of table (capture_stage limit holds capture)) failed failed' before now answer
-          (subst (λ (names : Names). Answers (verdict_of table (capture_stage limit names capture)) failed before now answer) (same' ∙ same) a) f;
+      judged = always_judged accepted items table (capture_stage limit holds capture) failed failed' before now answer
+          (subst (λ (z : Version). HaveNoMoments z items) v w.moments)
+          (subst (λ (h : Held). Leaves accepted (untimed items) h) (sym t) (played_leaves accepted (untimed items) desk w.played.played))
+          (subst (λ (names : Names). Answers (verdict_of (always table) (capture_stage limit names capture)) failed before now answer) (same' ∙ same) a) six f;
     })
+
+-- or by what one of the second version holds at the packets' moments
+pub moments_judged : (limit : ℕ) (holds tape_holds capture_holds : Names) (config tape capture : List ℕ) (accepted : Config) (version : Version) (desk : Desked) (failed failed' : Type 0) (before now : Option (List ℕ)) (answer : ℕ)
+    → config_stage limit holds config ≡ Found accepted → tape_holds ≡ holds → capture_holds ≡ tape_holds
+    → IsWhole accepted limit tape_holds tape version desk → version ≡ Two
+    → ((items : List Timed) → tape_stage accepted limit capture_holds tape ≡ Found items → HasVersion limit capture_holds tape Two
+    → AnswersAt accepted items (capture_stage limit capture_holds capture) failed before now answer)
+    → (failed → failed') → EnforcesSo limit holds config tape capture failed' before now answer
+moments_judged limit holds tape_holds capture_holds config tape capture accepted version desk failed failed' before now answer e same same' w v judge f =
+    let items : List Timed = w.played.items in
+    let found : tape_stage accepted limit holds tape ≡ Found items = subst (λ (names : Names). tape_stage accepted limit names tape ≡ Found items) same w.played.found in
+    let told : tape_stage accepted limit capture_holds tape ≡ Found items = subst (λ (names : Names). tape_stage accepted limit names tape ≡ Found items) (sym same') w.played.found in
+    let second : HasVersion limit capture_holds tape Two =
+    subst (λ (names : Names). HasVersion limit names tape Two) (sym same') (subst (HasVersion limit tape_holds tape) v w.has_version) in
+    inr (record {
+      accepted = accepted;
+      items = items;
+      found = accepted_with limit holds config tape accepted e ∙ ap (λ (s : Stage (List Timed)). and_then s (λ items. Found (accepted, items))) found;
+      judged = at_for accepted items (capture_stage limit holds capture) failed failed' before now answer
+          (subst (λ (names : Names). AnswersAt accepted items (capture_stage limit names capture) failed before now answer) (same' ∙ same) (judge items told second)) f;
+    })
+
+-- nothing was written, and memory was wanting
+pub kept_at_six : {S : Type 0} (written : S → Option (List ℕ)) (old new : S) (answer : ℕ) → (answer ≡ 6 → new ≡ old) → answer ≡ 6 → Grew (written old) (written new) []
+kept_at_six {S} written old new answer kept six = subst (λ (s : S). Grew (written old) (written s) []) (sym (kept six)) (Grew-refl (written old))
+
+-- no status of a capture that was judged is that of a tape's fault
+pub never_tape : {A : Type 0} (config : Config) (items : List Timed) (stage : Stage Recorded) (content : Option (List ℕ)) (limit : ℕ) (failed : Type 0) (before now : Option (List ℕ)) (answer : ℕ)
+    → stage ≡ and_then (or_stop Outside content) (λ octets. Found (capture_of limit octets))
+    → AnswersAt config items stage failed before now answer → answer ≡ 4 → A
+never_tape {A} config items stage content limit failed before now answer s a four = by content s a.answers.status_is
+  where
+    of_end : (end : End CaptureReason) → 4 ≡ status_at end → A
+    of_end done h = absurd cc
+    of_end limited h = absurd cc
+    of_end (bad reason place) h = absurd cc
+
+    by : (content : Option (List ℕ)) → stage ≡ and_then (or_stop Outside content) (λ octets. Found (capture_of limit octets))
+        → (answer ≡ (verdict_at a.came.held a.came.judged stage).status) ⊎ (answer ≡ 6) ⊎ ((answer ≡ 1) × failed) → A
+    by None e (inl h) = let wrong : 4 ≡ 1 = sym four ∙ h ∙ ap (λ (s : Stage Recorded). (verdict_at a.came.held a.came.judged s).status) e in absurd cc
+    by (Some octets) e (inl h) =
+        of_end (capture_of limit octets).end (sym four ∙ h ∙ ap (λ (s : Stage Recorded). (verdict_at a.came.held a.came.judged s).status) e)
+    by content e (inr (inl h)) = let wrong : 4 ≡ 6 = sym four ∙ h in absurd cc
+    by content e (inr (inr h)) = let wrong : 4 ≡ 1 = sym four ∙ h.0 in absurd cc
+
+-- a tape of the second version is one
+pub is_second : (limit : ℕ) (holds holds' : Names) (config : Config) (tape : List ℕ) (version : Version) (desk : Desked)
+    → holds' ≡ holds → IsWhole config limit holds' tape version desk → version ≡ Two → HasVersion limit holds tape Two
+is_second limit holds holds' config tape version desk same w v =
+    subst (λ (names : Names). HasVersion limit names tape Two) same (subst (HasVersion limit holds' tape) v w.has_version)

@@ -19,47 +19,47 @@ use Rattle.fs_enforce.specs.Judge.{Ceases, status_at, Breaks, JudgingState, Admi
 use Rattle.fs_stages.specs.Refusal.{status_of}
 
 -- of all packets some were judged, and the rest is to come
-pub record Judging (rules : AdmittedRules) (link : Link) (all rest : List Captured × End CaptureReason) (before now : Option (List ℕ)) (pending pending_now : List ℕ) (number : ℕ) : Type 0 where
+pub record Judging (rules : ℕ → AdmittedRules) (link : Link) (all rest : List Captured × End CaptureReason) (before now : Option (List ℕ)) (pending pending_now : List ℕ) (number : ℕ) : Type 0 where
   pub gone : List Captured
   pub parts : all.0 ≡ gone ++ rest.0
   pub end_is : all.1 ≡ rest.1
   pub count : number ≡ length gone
   pub goes : Goes before now pending pending_now (lines_from 0 rules link gone)
 
-lines_append : (rules : AdmittedRules) (link : Link) (n : ℕ) (xs ys : List Captured) → lines_from n rules link (xs ++ ys) ≡ lines_from n rules link xs ++ lines_from (n + length xs) rules link ys
+pub lines_append : (rules : ℕ → AdmittedRules) (link : Link) (n : ℕ) (xs ys : List Captured) → lines_from n rules link (xs ++ ys) ≡ lines_from n rules link xs ++ lines_from (n + length xs) rules link ys
 lines_append rules link n [] ys = ap (λ (k : ℕ). lines_from k rules link ys) (omega (arith))
 lines_append rules link n (x ∷ xs) ys =
-    ap (λ (z : List ℕ). packet_text (n + 1) rules link x.octets ++ z) (lines_append rules link (n + 1) xs ys)
-    ∙ sym (append_assoc (packet_text (n + 1) rules link x.octets) (lines_from (n + 1) rules link xs) (lines_from (n + 1 + length xs) rules link ys))
-    ∙ ap (λ (k : ℕ). (packet_text (n + 1) rules link x.octets ++ lines_from (n + 1) rules link xs) ++ lines_from k rules link ys) (omega (arith))
+    ap (λ (z : List ℕ). packet_text (n + 1) (rules x.moment) link x.octets ++ z) (lines_append rules link (n + 1) xs ys)
+    ∙ sym (append_assoc (packet_text (n + 1) (rules x.moment) link x.octets) (lines_from (n + 1) rules link xs) (lines_from (n + 1 + length xs) rules link ys))
+    ∙ ap (λ (k : ℕ). (packet_text (n + 1) (rules x.moment) link x.octets ++ lines_from (n + 1) rules link xs) ++ lines_from k rules link ys) (omega (arith))
 
 -- the lines of those that were judged, of the next, and of those behind it
-lines_parted : (rules : AdmittedRules) (link : Link) (gone : List Captured) (packet : Captured) (packets : List Captured) (number : ℕ) → number ≡ length gone
-    → lines_from 0 rules link (gone ++ packet ∷ packets) ≡ (lines_from 0 rules link gone ++ packet_text (number + 1) rules link packet.octets) ++ lines_from (number + 1) rules link packets
+pub lines_parted : (rules : ℕ → AdmittedRules) (link : Link) (gone : List Captured) (packet : Captured) (packets : List Captured) (number : ℕ) → number ≡ length gone
+    → lines_from 0 rules link (gone ++ packet ∷ packets) ≡ (lines_from 0 rules link gone ++ packet_text (number + 1) (rules packet.moment) link packet.octets) ++ lines_from (number + 1) rules link packets
 lines_parted rules link gone packet packets number e =
     lines_append rules link 0 gone (packet ∷ packets)
-    ∙ ap (λ (k : ℕ). lines_from 0 rules link gone ++ (packet_text (k + 1) rules link packet.octets ++ lines_from (k + 1) rules link packets)) (omega (arith, e))
-    ∙ sym (append_assoc (lines_from 0 rules link gone) (packet_text (number + 1) rules link packet.octets) (lines_from (number + 1) rules link packets))
+    ∙ ap (λ (k : ℕ). lines_from 0 rules link gone ++ (packet_text (k + 1) (rules packet.moment) link packet.octets ++ lines_from (k + 1) rules link packets)) (omega (arith, e))
+    ∙ sym (append_assoc (lines_from 0 rules link gone) (packet_text (number + 1) (rules packet.moment) link packet.octets) (lines_from (number + 1) rules link packets))
 
-pub judging_none : (rules : AdmittedRules) (link : Link) (all : List Captured × End CaptureReason) (now : Option (List ℕ)) (pending : List ℕ) → Judging rules link all all now now pending pending 0
+pub judging_none : (rules : ℕ → AdmittedRules) (link : Link) (all : List Captured × End CaptureReason) (now : Option (List ℕ)) (pending : List ℕ) → Judging rules link all all now now pending pending 0
 judging_none rules link all now pending = record { gone = []; parts = refl; end_is = refl; count = refl; goes = goes_none now pending }
 
-pub judging_more : (rules : AdmittedRules) (link : Link) (all rest rest' : List Captured × End CaptureReason) (before now now' : Option (List ℕ)) (pending pending_now pending' : List ℕ) (number : ℕ) (packet : Captured)
+pub judging_more : (rules : ℕ → AdmittedRules) (link : Link) (all rest rest' : List Captured × End CaptureReason) (before now now' : Option (List ℕ)) (pending pending_now pending' : List ℕ) (number : ℕ) (packet : Captured)
     → Judging rules link all rest before now pending pending_now number → rest ≡ with_part packet rest'
-    → Goes now now' pending_now pending' (packet_text (number + 1) rules link packet.octets)
+    → Goes now now' pending_now pending' (packet_text (number + 1) (rules packet.moment) link packet.octets)
     → Judging rules link all rest' before now' pending pending' (number + 1)
 judging_more rules link all rest rest' before now now' pending pending_now pending' number packet p e f = record {
   gone = p.gone ++ packet ∷ [];
   parts = p.parts ∙ ap (λ (r : List Captured × End CaptureReason). p.gone ++ r.0) e ∙ sym (append_assoc p.gone (packet ∷ []) rest'.0);
   end_is = p.end_is ∙ ap (λ (r : List Captured × End CaptureReason). r.1) e;
   count = ap (λ (n : ℕ). n + 1) p.count ∙ sym (length-append p.gone (packet ∷ []));
-  goes = goes_as (sym (lines_parted rules link p.gone packet [] number p.count ∙ append-nil (lines_from 0 rules link p.gone ++ packet_text (number + 1) rules link packet.octets))) (goes_then p.goes f);
+  goes = goes_as (sym (lines_parted rules link p.gone packet [] number p.count ∙ append-nil (lines_from 0 rules link p.gone ++ packet_text (number + 1) (rules packet.moment) link packet.octets))) (goes_then p.goes f);
 }
 
-lines_all : (rules : AdmittedRules) (link : Link) (all rest : List Captured × End CaptureReason) (gone : List Captured) → all.0 ≡ gone ++ rest.0 → rest.0 ≡ [] → lines_from 0 rules link gone ≡ lines_from 0 rules link all.0
+pub lines_all : (rules : ℕ → AdmittedRules) (link : Link) (all rest : List Captured × End CaptureReason) (gone : List Captured) → all.0 ≡ gone ++ rest.0 → rest.0 ≡ [] → lines_from 0 rules link gone ≡ lines_from 0 rules link all.0
 lines_all rules link all rest gone parts e = ap (lines_from 0 rules link) (sym (parts ∙ ap (λ (z : List Captured). gone ++ z) e ∙ append-nil gone))
 
-pub judging_done : (rules : AdmittedRules) (link : Link) (all rest : List Captured × End CaptureReason) (before now : Option (List ℕ)) (pending pending_now : List ℕ) (number : ℕ)
+pub judging_done : (rules : ℕ → AdmittedRules) (link : Link) (all rest : List Captured × End CaptureReason) (before now : Option (List ℕ)) (pending pending_now : List ℕ) (number : ℕ)
     → Judging rules link all rest before now pending pending_now number → rest ≡ ([], done)
     → (all.1 ≡ done) × Goes before now pending pending_now (lines_from 0 rules link all.0)
 judging_done rules link all rest before now pending pending_now number p e = (
@@ -67,7 +67,7 @@ judging_done rules link all rest before now pending pending_now number p e = (
   goes_as (lines_all rules link all rest p.gone p.parts (ap (λ (r : List Captured × End CaptureReason). r.0) e)) p.goes,
 )
 
-pub judging_ceased : (rules : AdmittedRules) (link : Link) (all rest : List Captured × End CaptureReason) (before now : Option (List ℕ)) (pending pending_now : List ℕ) (number : ℕ) (first mid after : ℕ) (other : Type 0) (cause refusal : Refusal)
+pub judging_ceased : (rules : ℕ → AdmittedRules) (link : Link) (all rest : List Captured × End CaptureReason) (before now : Option (List ℕ)) (pending pending_now : List ℕ) (number : ℕ) (first mid after : ℕ) (other : Type 0) (cause refusal : Refusal)
     → Judging rules link all rest before now pending pending_now number → first ≤ mid → refusal ≡ cause → Ceases rest (Rose mid after) cause
     → Breaks all.1 before now pending pending_now (lines_from 0 rules link all.0) (Rose first after ⊎ other) refusal
 judging_ceased rules link all rest before now pending pending_now number first mid after other cause refusal p l s (inl h) =
@@ -86,9 +86,9 @@ judging_ceased rules link all rest before now pending pending_now number first m
       ),
     )
 
-pub judging_stopped : (rules : AdmittedRules) (link : Link) (all rest rest' : List Captured × End CaptureReason) (before now now' : Option (List ℕ)) (pending pending_now pending' : List ℕ) (number : ℕ) (packet : Captured) (files : Type 0) (first mid after : ℕ) (refusal : Refusal)
+pub judging_stopped : (rules : ℕ → AdmittedRules) (link : Link) (all rest rest' : List Captured × End CaptureReason) (before now now' : Option (List ℕ)) (pending pending_now pending' : List ℕ) (number : ℕ) (packet : Captured) (files : Type 0) (first mid after : ℕ) (refusal : Refusal)
     → Judging rules link all rest before now pending pending_now number → rest ≡ with_part packet rest'
-    → Stops now now' pending_now pending' (packet_text (number + 1) rules link packet.octets) → first ≤ mid → Rose mid after → refusal ≡ Outside
+    → Stops now now' pending_now pending' (packet_text (number + 1) (rules packet.moment) link packet.octets) → first ≤ mid → Rose mid after → refusal ≡ Outside
     → Breaks all.1 before now' pending pending' (lines_from 0 rules link all.0) (files ⊎ Rose first after) refusal
 judging_stopped rules link all rest rest' before now now' pending pending_now pending' number packet files first mid after refusal p e stop l rose s =
     inr (

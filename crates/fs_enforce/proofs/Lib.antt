@@ -1,4 +1,7 @@
 pub mod Answering
+pub mod AtMoments
 pub mod Enforcing
 pub mod Judging
+pub mod KeptWalk
+pub mod MomentAnswers
 pub mod Walking

@@ -4,14 +4,14 @@ use Rattle.fs_records.specs.Records.{done}
 use Rattle.fs_base.specs.declared.config.Config.{Config}
 use Rattle.fs_tape.specs.Tape.{Timed, tape_of}
 use Rattle.fs_pcap.specs.Capture.{Recorded, capture_of}
-use Rattle.fs_stages.specs.Refusal.{Stage, Found, Stopped, and_then, status_of, Answers, EndsEarly}
+use Rattle.fs_stages.specs.Refusal.{Stage, Found, Stopped, and_then, status_of, EndsEarly}
 use Rattle.fs_stages.specs.Load.{Names}
 use Rattle.fs_base.specs.Happened.{Happened, FilesFailed, SinkFailed, Wrote}
 use Rattle.fs_conf.specs.Config.{config_of}
 use Rattle.fs_rules.specs.Table.{Held}
-use Rattle.fs_desk.specs.Leaves.{Leaves}
-use Rattle.fs_stages.specs.Play.{accepted_stage, untimed}
-use Rattle.fs_enforce.specs.Judge.{capture_stage, status_at, verdict_of, output_of}
+use Rattle.fs_stages.specs.Play.{accepted_stage}
+use Rattle.fs_enforce.specs.Judge.{capture_stage, status_at, output_of}
+use Rattle.fs_enforce.specs.Moments.{AnswersAt, HoldAt}
 
 pub record Inputs : Type 0 where
   pub config : Config
@@ -32,14 +32,13 @@ abbrev pub status_for : Stage Inputs → ℕ
 status_for (Found given) = status_at given.capture.end
 status_for (Stopped refusal) = status_of refusal
 
--- The configuration and the tape are accepted, the tape leaves these routes held, and under them the capture was judged.
+-- The configuration and the tape are accepted, and the capture was judged under the routes that the tape holds at the
+-- packets' moments.
 pub record Judges (limit : ℕ) (holds : Names) (config tape capture : List ℕ) (failed : Type 0) (before now : Option (List ℕ)) (answer : ℕ) : Type 0 where
   pub accepted : Config
   pub items : List Timed
-  pub held : Held
   pub found : accepted_stage limit holds config tape ≡ Found (accepted, items)
-  pub leaves : Leaves accepted (untimed items) held
-  pub answers : Answers (verdict_of held (capture_stage limit holds capture)) failed before now answer
+  pub judged : AnswersAt accepted items (capture_stage limit holds capture) failed before now answer
 
 abbrev pub EnforcesSo : ℕ → Names → (config tape capture : List ℕ) → Type 0 → (before now : Option (List ℕ)) → ℕ → Type 0
 EnforcesSo limit holds config tape capture failed before now answer =
@@ -51,8 +50,8 @@ Enforces limit holds config tape capture call answer =
     EnforcesSo limit holds config tape capture (FilesFailed call ⊎ SinkFailed call) call.before.written call.now.written answer
 
 -- Of the files that these names hold, all of them without a fault and within the limit, the lines of the capture's
--- packets were written: of the ordered walk over the rules that validation admits from the routes that the tape leaves
--- held.
+-- packets were written: of the ordered walk over the rules that validation admits from the routes that the tape holds at
+-- the packet's moment.
 pub record Enforced (limit : ℕ) (holds : Names) (config tape capture : List ℕ) (call : Happened) : Type 0 where
   pub config_octets : List ℕ
   pub config_is : holds config ≡ Some config_octets
@@ -66,6 +65,6 @@ pub record Enforced (limit : ℕ) (holds : Names) (config tape capture : List �
   pub capture_octets : List ℕ
   pub capture_is : holds capture ≡ Some capture_octets
   pub capture_done : (capture_of limit capture_octets).end ≡ done
-  pub held : Held
-  pub leaves : Leaves accepted (untimed items) held
+  pub held : ℕ → Held
+  pub leaves : HoldAt accepted items held (capture_of limit capture_octets).packets
   pub wrote : Wrote call (output_of held (capture_of limit capture_octets))

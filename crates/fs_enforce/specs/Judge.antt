@@ -49,20 +49,28 @@ text_by number rules (Err unread) = unread_line_of number (unread_number unread)
 abbrev pub packet_text : ℕ → AdmittedRules → Link → List ℕ → List ℕ
 packet_text number rules link octets = text_by number rules (view_of link octets)
 
--- the lines of these packets, of which the first has the number behind this one
-abbrev pub lines_from : ℕ → AdmittedRules → Link → List Captured → List ℕ
+-- the admitted rules at each moment, of the routes that are held then
+abbrev pub rules_by : (ℕ → Held) → ℕ → AdmittedRules
+rules_by held moment = admitted_rules (held moment)
+
+-- the same routes at each moment: so of a tape without moments
+abbrev pub always : Held → ℕ → Held
+always held moment = held
+
+-- the lines of these packets, of which the first has the number behind this one: each by the rules at its moment
+abbrev pub lines_from : ℕ → (ℕ → AdmittedRules) → Link → List Captured → List ℕ
 lines_from number rules link [] = []
 lines_from number rules link (packet ∷ packets) =
-    packet_text (number + 1) rules link packet.octets ++ lines_from (number + 1) rules link packets
+    packet_text (number + 1) (rules packet.moment) link packet.octets ++ lines_from (number + 1) rules link packets
 
 -- a capture whose header has a fault has no packets
-abbrev pub lines_of : AdmittedRules → Option Link → List Captured → List ℕ
+abbrev pub lines_of : (ℕ → AdmittedRules) → Option Link → List Captured → List ℕ
 lines_of rules None packets = []
 lines_of rules (Some link) packets = lines_from 0 rules link packets
 
--- all lines of a capture, under the routes held
-abbrev pub output_of : Held → Recorded → List ℕ
-output_of held capture = lines_of (admitted_rules held) capture.link capture.packets
+-- all lines of a capture, under the routes held at each moment
+abbrev pub output_of : (ℕ → Held) → Recorded → List ℕ
+output_of held capture = lines_of (rules_by held) capture.link capture.packets
 
 -- a capture's packets are judged up to its end, whatever that is
 abbrev pub capture_stage : ℕ → Names → List ℕ → Stage Recorded
@@ -74,8 +82,8 @@ status_at done = 0
 status_at limited = 7
 status_at (bad reason place) = 5
 
--- of a capture, under the routes that are held
-abbrev pub verdict_of : Held → Stage Recorded → Verdict
+-- of a capture, under the routes held at each moment
+abbrev pub verdict_of : (ℕ → Held) → Stage Recorded → Verdict
 verdict_of held (Found capture) = record { status = status_at capture.end; text = output_of held capture }
 verdict_of held (Stopped refusal) = record { status = status_of refusal; text = [] }
 
@@ -121,6 +129,6 @@ pub record JudgingState : Type 0 where
 abbrev pub JudgesAll : {T : Type 0} → (old : JudgingState) → (coming : List Captured × End CaptureReason) → Happened → (pending : List ℕ) → Result T Refusal → Type 0
 JudgesAll old coming call pending result =
     MatchResult result
-    (λ _. (coming.1 ≡ done) × Goes call.before.written call.now.written old.pending pending (lines_from 0 old.rules old.link coming.0))
-    (Breaks coming.1 call.before.written call.now.written old.pending pending (lines_from 0 old.rules old.link coming.0)
+    (λ _. (coming.1 ≡ done) × Goes call.before.written call.now.written old.pending pending (lines_from 0 (λ moment. old.rules) old.link coming.0))
+    (Breaks coming.1 call.before.written call.now.written old.pending pending (lines_from 0 (λ moment. old.rules) old.link coming.0)
     (FilesFailed call ⊎ SinkFailed call))

@@ -1,3 +1,5 @@
 pub mod Judge
+pub mod Kept
 pub mod Matcher
+pub mod Moments
 pub mod Command

@@ -1,29 +1,28 @@
 //! The command `enforce`.
 
-ghost use Rattle.std.specs.Prelude.{◌≡◌, ◌≤◌, ◌⊎◌, IsTrue};
+ghost use Rattle.std.specs.Prelude.{◌≡◌, ◌≤◌, IsTrue};
 ghost use Rattle.fs_base.specs.Happened.{happened};
 ghost use Rattle.fs_enforce.specs.Command.{Enforces};
+ghost use Rattle.fs_stages.specs.Play.{HasVersion};
 ghost use Rattle.fs_stages.specs.Refusal.{answered};
+ghost use Rattle.fs_tape.specs.declared.magic.Version.TheVariants.{Two};
 
 use crate::judge::judge;
+use crate::moments::judge_moments;
+use crate::names::InputNames;
 use fs_base::{Files, Sink};
-use fs_stages::{Refusal, load_config, play_tape};
+use fs_stages::{Refusal, load_config, play_whole};
+use fs_tape::Version;
 use std::alloc::Global;
 
-/// The names of the files that `enforce` reads.
-#[derive(Clone, Copy, Drop)]
-pub struct InputNames<'w> {
-    pub config: &'w str,
-    pub tape: &'w str,
-    pub capture: &'w str,
-}
-
-/// Plays the tape, and writes a line for each packet of the capture.
+/// Plays the tape, and writes a line for each packet of the capture: by the rules that a tape of the first version
+/// leaves admitted, and by those that one of the second version admits at the packet's moment. That one is read twice.
 ///
 /// # Errors
 ///
 /// The first of these, in this order of work: the configuration's, the tape's, the capture's. What is written before the
-/// capture is read is nothing, and no memory is taken behind the first packet.
+/// capture is read is nothing. Over a tape of the first version no memory is taken behind the first packet; over one of
+/// the second version, at want of memory the lines of the packets before are written.
 pub fn enforce<F: Files, S: Sink>(
     alloc: Global,
     files: &mut F,
@@ -33,8 +32,10 @@ pub fn enforce<F: Files, S: Sink>(
 ) -> Result<(), Refusal>
     ensures files_later { F.faults files.old ≤ F.faults files.new }
     ensures sink_later { S.faults sink.old ≤ S.faults sink.new }
-    ensures quiet { (answered result ≡ 3) ⊎ (answered result ≡ 4) → sink.new ≡ sink.old }
-    ensures unwritten { answered result ≡ 6 → sink.new ≡ sink.old }
+    ensures quiet { answered result ≡ 3 → sink.new ≡ sink.old }
+    ensures still { IsTrue F.tells → answered result ≡ 4 → sink.new ≡ sink.old }
+    ensures unwritten { IsTrue F.tells → answered result ≡ 6
+        → (HasVersion limit (F.holds files.old) names.now.tape.now Two → ⊥) → sink.new ≡ sink.old }
 
     ensures enforces { IsTrue F.tells
         → Enforces limit (F.holds files.old) names.now.config.now names.now.tape.now names.now.capture.now
@@ -42,6 +43,9 @@ pub fn enforce<F: Files, S: Sink>(
         (answered result) }
 {
     let config = load_config(alloc, files, names.config, limit)?;
-    let desk = play_tape(alloc, files, &config, names.tape, limit)?;
-    judge(alloc, files, sink, desk.table(), names.capture, limit)
+    let whole = play_whole(alloc, files, &config, names.tape, limit)?;
+    match whole.version {
+        Version::One => judge(alloc, files, sink, whole.desk.table(), names.capture, limit),
+        Version::Two => judge_moments(alloc, files, sink, &config, names, limit),
+    }
 }

@@ -2,12 +2,13 @@
 
 ghost use Rattle.std.specs.Prelude.{◌≡◌, ◌≤◌, ◌<◌, ◌^◌, ◌⊎◌, [], None, IsTrue};
 ghost use Rattle.std.specs.Prelude.{IfErr, IfOk, IfSome, MatchResult, OnErr, OnOk, length};
+ghost use Rattle.fs_base.specs.Files.{OnlySlot};
 ghost use Rattle.fs_base.specs.Happened.{happened};
 ghost use Rattle.fs_base.specs.Outside.{HasCause, Rose};
 ghost use Rattle.fs_base.specs.Sink.{Grew, GrewPart};
 ghost use Rattle.fs_pcap.specs.Capture.{coming};
 ghost use Rattle.fs_pcap.specs.Head.{longest_record};
-ghost use Rattle.fs_enforce.specs.Judge.{admitted_rules, capture_stage, Ceases, JudgesAll, packet_text, refused_by, verdict_of, Yields};
+ghost use Rattle.fs_enforce.specs.Judge.{admitted_rules, always, capture_stage, Ceases, JudgesAll, packet_text, refused_by, verdict_of, Yields};
 ghost use Rattle.fs_stages.specs.Refusal.{Answers, IsAtPacket, IsLate, answered};
 ghost use Rattle.fs_line.specs.Output.{Sends};
 
@@ -43,7 +44,7 @@ pub fn judge<F: Files, S: Sink>(
 
     ensures answers { IsTrue F.tells
         → Answers
-        (verdict_of table.now (capture_stage limit (F.holds files.old) name.now))
+        (verdict_of (always table.now) (capture_stage limit (F.holds files.old) name.now))
         (Rose (F.faults files.old) (F.faults files.new) ⊎ Rose (S.faults sink.old) (S.faults sink.new))
         (S.written sink.old)
         (S.written sink.new)
@@ -94,7 +95,7 @@ fn judge_packets<F: Files, S: Sink>(
 }
 
 /// The capture's next packet, or None at its end. Its octets stand at the front of the buffer.
-fn next_packet<F: Files>(
+pub(crate) fn next_packet<F: Files>(
     files: &mut F,
     capture: &mut Capture,
     buffer: &mut [u8],
@@ -106,6 +107,9 @@ fn next_packet<F: Files>(
     ensures holds { IsTrue F.tells → F.holds files.new ≡ F.holds files.old }
     ensures slot { capture.new.slot ≡ capture.old.slot }
     ensures limit { capture.new.limit ≡ capture.old.limit }
+    ensures heading { capture.new.heading ≡ capture.old.heading }
+    ensures times { IfOk result (λ found. IfSome found (λ caught.
+        (capture.new.moment ≡ caught.moment) × (capture.old.moment ≤ capture.new.moment))) }
     ensures open { IfOk result (λ found. IfSome found (λ _. capture.new.end ≡ None)) }
     ensures grows { IfOk result (λ found. IfSome found (λ caught.
         (capture.old.place < capture.new.place) × (capture.new.place ≤ capture.new.limit) × (caught.taken ≤ longest_record))) }
@@ -116,6 +120,7 @@ fn next_packet<F: Files>(
         (coming capture.new (F.left files.new capture.old.slot)) buffer.new)
         (Ceases (coming capture.old (F.left files.old capture.old.slot))
         (Rose (F.faults files.old) (F.faults files.new))) }
+    ensures others { OnlySlot F.tells F.left F.holds capture.old.slot files.old files.new }
 {
     match capture.next(files, buffer) {
         Ok(found) => Ok(found),
@@ -124,7 +129,7 @@ fn next_packet<F: Files>(
 }
 
 /// The refusal for a capture's fault.
-fn refusal_of(fault: CaptureFault) -> Refusal
+pub(crate) fn refusal_of(fault: CaptureFault) -> Refusal
     ensures result { result ≡ refused_by fault }
     ensures late { IsAtPacket result }
 {

@@ -1,11 +1,15 @@
-//! The command `enforce`: the packets of a capture under the rules that a tape leaves.
+//! The command `enforce`: the packets of a capture under the rules that a tape holds at their moments.
 #![tactic(auto)]
 
 mod command;
 mod judge;
+mod kept;
 mod laws;
 mod matcher;
+mod moments;
+mod names;
 
-pub use command::{InputNames, enforce};
+pub use command::enforce;
 pub use laws::same_lines;
 pub use matcher::Matcher;
+pub use names::InputNames;

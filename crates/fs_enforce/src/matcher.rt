@@ -181,7 +181,7 @@ fn walk<'t, L: Ledger>(
 }
 
 /// The first place from `from` on of a rule that matches the packet.
-fn first_match<L: Ledger>(
+pub(crate) fn first_match<L: Ledger>(
     compiled: &Compiled,
     view: &View<'_>,
     from: usize,

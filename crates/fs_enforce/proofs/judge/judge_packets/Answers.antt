@@ -26,7 +26,7 @@ packets-preserved g c = record {
   files_later = omega (arith, c.packets.invariant.files_later, c.in_ok-caught.ensures.later);
   sink_later = omega (arith, c.packets.invariant.sink_later, c.in_ok-judge_packet.ensures.sends.later);
   judging = λ told.
-      judging_more c.args.judging.now.rules c.args.judging.now.link _ _ _ _ _ _ _ _ _ c.packets.number (packet_from c.in-Some.caught c.next_packet.new.buffer) (c.packets.invariant.judging told)
+      judging_more (λ moment. c.args.judging.now.rules) c.args.judging.now.link _ _ _ _ _ _ _ _ _ c.packets.number (packet_from c.in-Some.caught c.next_packet.new.buffer) (c.packets.invariant.judging told)
       (subst (λ (slot : ℕ).
       coming c.packets.capture (g.F.Files.left c.packets.files c.packets.capture.slot)
       ≡ with_part (packet_from c.in-Some.caught c.next_packet.new.buffer) (coming c.next_packet.new.capture (g.F.Files.left c.next_packet.new.files slot)))
@@ -36,12 +36,12 @@ packets-preserved g c = record {
 
 pub returns-in_err-caught-clause-judged : goal.returns-in_err-caught-clause-judged
 returns-in_err-caught-clause-judged g c = λ told. match_err _ _ c.from_residual.result c.from_residual.ensures.1 (λ refusal same.
-    judging_ceased c.args.judging.now.rules c.args.judging.now.link _ _ _ _ _ _ c.packets.number (g.F.Files.faults c.args.files.now) (g.F.Files.faults c.packets.files) (g.F.Files.faults c.next_packet.new.files) _ c.in_err-caught.field-0.0 refusal
+    judging_ceased (λ moment. c.args.judging.now.rules) c.args.judging.now.link _ _ _ _ _ _ c.packets.number (g.F.Files.faults c.args.files.now) (g.F.Files.faults c.packets.files) (g.F.Files.faults c.next_packet.new.files) _ c.in_err-caught.field-0.0 refusal
     (c.packets.invariant.judging told) c.packets.invariant.files_later same (c.in_err-caught.ensures.gives told))
 
 pub returns-in_err-judge_packet-clause-judged : goal.returns-in_err-judge_packet-clause-judged
 returns-in_err-judge_packet-clause-judged g c = λ told. match_err _ _ c.from_residual-in_err-judge_packet.result c.from_residual-in_err-judge_packet.ensures.1 (λ refusal same.
-    judging_stopped c.args.judging.now.rules c.args.judging.now.link _ _ _ _ _ _ _ _ _ c.packets.number (packet_from c.in-Some.caught c.next_packet.new.buffer) _ (g.S.Sink.faults c.args.sink.now) (g.S.Sink.faults c.packets.sink) (g.S.Sink.faults c.judge_packet.new.sink) refusal
+    judging_stopped (λ moment. c.args.judging.now.rules) c.args.judging.now.link _ _ _ _ _ _ _ _ _ c.packets.number (packet_from c.in-Some.caught c.next_packet.new.buffer) _ (g.S.Sink.faults c.args.sink.now) (g.S.Sink.faults c.packets.sink) (g.S.Sink.faults c.judge_packet.new.sink) refusal
     (c.packets.invariant.judging told)
     (subst (λ (slot : ℕ).
     coming c.packets.capture (g.F.Files.left c.packets.files c.packets.capture.slot)

@@ -16,7 +16,7 @@ invariant-packets g l = record {
   files_later : g.F.Files.faults l.fn.files ≤ g.F.Files.faults l.files;
   sink_later : g.S.Sink.faults l.fn.sink ≤ g.S.Sink.faults l.sink;
   judging : IsTrue g.F.Files.tells
-      → Judging l.fn.judging.rules l.fn.judging.link (coming l.fn.capture (g.F.Files.left l.fn.files l.fn.capture.slot)) (coming l.capture (g.F.Files.left l.files l.capture.slot))
+      → Judging (λ moment. l.fn.judging.rules) l.fn.judging.link (coming l.fn.capture (g.F.Files.left l.fn.files l.fn.capture.slot)) (coming l.capture (g.F.Files.left l.files l.capture.slot))
       (g.S.Sink.written l.fn.sink) (g.S.Sink.written l.sink) l.fn.judging.pending l.judging.pending l.number;
 }
 

@@ -1,0 +1,96 @@
+-- The lines of a capture's packets, each under the routes that a tape holds at its moment, and what becomes of them.
+use Rattle.std.specs.Prelude.{ℕ, List, [], ◌∷◌, ◌++◌, Option, Some, None, Result, ◌≡◌, ◌≢◌, ◌⊎◌, MatchResult, take}
+use Rattle.std.specs.List.{AllByRecursion}
+use Rattle.fs_base.specs.Happened.{Happened, FilesFailed, SinkFailed}
+use Rattle.fs_base.specs.Sink.{Grew}
+use Rattle.fs_base.specs.declared.config.Config.{Config}
+use Rattle.fs_records.specs.Records.{End, done}
+use Rattle.fs_pcap.specs.Capture.{Captured, CaptureState, Recorded, coming, recorded}
+use Rattle.fs_pcap.specs.declared.fault.CaptureReason.{CaptureReason}
+use Rattle.fs_pcap.specs.declared.link.Link.{Link}
+use Rattle.fs_rules.specs.Table.{Held}
+use Rattle.fs_tape.specs.Tape.{Timed}
+use Rattle.fs_desk.specs.Laws.{LeaveSame}
+use Rattle.fs_desk.specs.Leaves.{Leaves}
+use Rattle.fs_line.specs.Output.{Goes}
+use Rattle.fs_stages.specs.Play.{until}
+use Rattle.fs_stages.specs.Load.{Names}
+use Rattle.fs_stages.specs.Refusal.{Answers, Stage, Found, Stopped, Verdict, status_of, verdict_with}
+use Rattle.fs_stages.specs.declared.refusal.Refusal.{Refusal}
+use Rattle.fs_stages.specs.declared.refusal.Refusal.TheVariants.{Outside, Memory}
+use Rattle.fs_enforce.specs.Judge.{Partly, capture_stage, lines_from, lines_of, rules_by, status_at}
+
+-- At the moment of each of these packets the items up to that moment leave these routes held.
+abbrev pub HoldAt : Config → List Timed → (ℕ → Held) → List Captured → Type 0
+HoldAt config items held packets =
+    AllByRecursion (λ (packet : Captured). Leaves config (until packet.moment items) (held packet.moment)) packets
+
+-- at the moment of each of these packets both tapes leave the same
+abbrev pub LeaveSameAt : Config → (items other : List Timed) → List Captured → Type 0
+LeaveSameAt config items other packets =
+    AllByRecursion (λ (packet : Captured). LeaveSame config (until packet.moment items) (until packet.moment other)) packets
+
+-- The packets that judging came to, the rest, and the routes that are held at the moments of those.
+pub record CameTo (config : Config) (items : List Timed) (packets : List Captured) : Type 0 where
+  pub held : ℕ → Held
+  pub judged : List Captured
+  pub rest : List Captured
+  pub parts : packets ≡ judged ++ rest
+  pub leaves : HoldAt config items held judged
+
+-- the lines of the packets that judging came to
+abbrev pub came_lines : {config : Config} {items : List Timed} {packets : List Captured} → Link → CameTo config items packets → List ℕ
+came_lines link came = lines_from 0 (rules_by came.held) link came.judged
+
+-- Why judging ended early: the capture ends so, behind all its packets; or memory was wanting, behind the lines of those
+-- that it came to; or a call on the outside failed, and a front of these lines went on.
+abbrev pub BreaksBehind : {config : Config} {items : List Timed} {packets : List Captured}
+    → End CaptureReason → Link → CameTo config items packets → (before now : Option (List ℕ)) → (pending pending_now : List ℕ) → Type 0 → Refusal → Type 0
+BreaksBehind end link came before now pending pending_now failed refusal =
+    ((status_at end ≡ status_of refusal) × (came.rest ≡ []) × Goes before now pending pending_now (came_lines link came))
+    ⊎ ((refusal ≡ Memory) × Goes before now pending pending_now (came_lines link came))
+    ⊎ ((refusal ≡ Outside) × failed × Partly before now pending pending_now (came_lines link came))
+
+abbrev pub BreaksOff : Config → List Timed → Link → List Captured × End CaptureReason → (before now : Option (List ℕ)) → (pending pending_now : List ℕ) → Type 0 → Refusal → Type 0
+BreaksOff config items link coming before now pending pending_now failed refusal =
+    (came : CameTo config items coming.0) × BreaksBehind coming.1 link came before now pending pending_now failed refusal
+
+abbrev pub JudgesSo : {T : Type 0} → Config → List Timed → Link → List Captured × End CaptureReason → (before now : Option (List ℕ)) → (pending pending_now : List ℕ) → Type 0 → Result T Refusal → Type 0
+JudgesSo config items link coming before now pending pending_now failed result =
+    MatchResult result
+    (λ _. (came : CameTo config items coming.0) × (came.rest ≡ []) × (coming.1 ≡ done) × Goes before now pending pending_now (came_lines link came))
+    (BreaksOff config items link coming before now pending pending_now failed)
+
+-- The packets to come were all judged, up to the capture's end; or judging broke off.
+abbrev pub JudgesMoments : {T : Type 0} → Config → List Timed → Link → List Captured × End CaptureReason → Happened → (pending pending_now : List ℕ) → Result T Refusal → Type 0
+JudgesMoments config items link coming call pending pending_now result =
+    JudgesSo config items link coming call.before.written call.now.written pending pending_now (FilesFailed call ⊎ SinkFailed call) result
+
+abbrev pub packets_of : Stage Recorded → List Captured
+packets_of (Found capture) = capture.packets
+packets_of (Stopped refusal) = []
+
+-- of a capture of which judging came to these packets
+abbrev pub verdict_at : (ℕ → Held) → List Captured → Stage Recorded → Verdict
+verdict_at held judged (Found capture) = verdict_with (status_at capture.end) (lines_of (rules_by held) capture.link judged)
+verdict_at held judged (Stopped refusal) = verdict_with (status_of refusal) []
+
+-- The packets of a capture were judged under the routes that the tape holds at their moments. All of them were, but for
+-- want of memory and for a call on the outside that failed. At want of memory whole lines are written, of the first
+-- packets that judging came to.
+pub record AnswersAt (config : Config) (items : List Timed) (stage : Stage Recorded) (failed : Type 0) (before now : Option (List ℕ)) (answer : ℕ) : Type 0 where
+  pub came : CameTo config items (packets_of stage)
+  pub answers : Answers (verdict_at came.held came.judged stage) failed before now answer
+  pub all : answer ≢ 6 → answer ≢ 1 → came.rest ≡ []
+  pub wanting : answer ≡ 6 → (k : ℕ) × Grew before now (verdict_at came.held (take k came.judged) stage).text
+
+-- a capture was opened of which this is to come
+abbrev pub IsCaptureOpened : ℕ → Names → List ℕ → List ℕ → CaptureState → Type 0
+IsCaptureOpened limit holds name left capture =
+    capture_stage limit holds name ≡ Found (recorded capture.heading.link (coming capture left))
+
+-- no packet was judged: the capture has none, and ends so; or memory was wanting, or a call on the outside failed
+abbrev pub EndsBefore : Stage Recorded → Type 0 → Refusal → Type 0
+EndsBefore stage failed refusal =
+    ((packets_of stage ≡ []) × ((held : ℕ → Held) → (verdict_at held [] stage).status ≡ status_of refusal))
+    ⊎ (refusal ≡ Memory) ⊎ ((refusal ≡ Outside) × failed)
