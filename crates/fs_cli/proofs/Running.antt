@@ -1,5 +1,5 @@
 -- What the clauses of a run say follows from what it does.
-use Rattle.std.proofs.Common.{◌≡◌, ◌≢◌, ◌⊎◌, inl, inr, ◌<◌, ◌∙◌, ◌^◌, ◌-◌, ◌↔◌, ℕ, List, Option, Some, None, Result, IsTrue, refl, ap, sym, subst, arith, true, false, Bool, if◌then◌else◌, length, nat_le}
+use Rattle.std.proofs.Common.{◌≡◌, ◌≢◌, ◌⊎◌, ◌++◌, append-nil, inl, inr, ◌<◌, ◌∙◌, ◌^◌, ◌-◌, ◌↔◌, ℕ, List, Option, Some, None, Result, IsTrue, refl, ap, sym, subst, arith, true, false, Bool, if◌then◌else◌, length, nat_le}
 use Rattle.std.proofs.lemmas.Bool.Decides.{nat_tests}
 use Rattle.fs_base.specs.Happened.{Happened, happened, FilesFailed, SinkFailed, FilesStood, SinkStood}
 use Rattle.fs_base.specs.Outside.{Rose}
@@ -11,20 +11,22 @@ use Rattle.fs_records.specs.Records.{End, done, limited, bad}
 use Rattle.fs_base.specs.declared.config.Config.{Config}
 use Rattle.fs_base.specs.declared.prefix.Family.{Family}
 use Rattle.fs_conf.specs.Config.{config_of}
-use Rattle.fs_pcap.specs.Capture.{Recorded, capture_of}
+use Rattle.fs_pcap.specs.Capture.{Captured, Recorded, capture_of}
 use Rattle.fs_pcap.specs.declared.fault.CaptureReason.{CaptureReason}
 use Rattle.fs_rules.specs.Table.{Held}
 use Rattle.fs_tape.specs.Tape.{Timed, tape_of}
 use Rattle.fs_tape.specs.declared.fault.TapeReason.{TapeReason}
-use Rattle.fs_cli.specs.Program.{ChecksSo, Does, Runs, HasStatus, HasCauses, Completes, Promises, world}
+use Rattle.fs_cli.specs.Program.{ChecksSo, Does, Runs, HasNoMoments, HasStatus, HasCauses, Completes, Promises, world}
 use Rattle.fs_enforce.specs.Command.{Enforces, EnforcesSo, Enforced, Inputs, inputs, inputs_stage, status_for}
 use Rattle.fs_generate.specs.Command.{Generates, GeneratesSo, Generated}
 use Rattle.fs_stages.specs.Load.{Names, fetch, config_stage}
 use Rattle.fs_cli.specs.Command.{Form, Enforce, Surveys, Check, Gen, form_of}
 use Rattle.fs_cli.specs.Survey.{Text, Lists, ListsSo, Listed, listed_status, text_for}
 use Rattle.fs_cli.specs.declared.survey.Survey.{Survey}
-use Rattle.fs_stages.specs.Play.{played_to, tape_stage, accepted_stage}
-use Rattle.fs_enforce.specs.Judge.{capture_stage, status_at, verdict_of, output_of}
+use Rattle.fs_tape.specs.declared.magic.Version.TheVariants.{Two}
+use Rattle.fs_stages.specs.Play.{HasVersion, played_to, tape_stage, accepted_stage}
+use Rattle.fs_enforce.specs.Judge.{capture_stage, lines_of, output_of, rules_by, status_at}
+use Rattle.fs_enforce.specs.Moments.{AnswersAt, HoldAt, verdict_at}
 use Rattle.fs_stages.specs.Refusal.{answered, Stage, Found, Stopped, and_then, or_stop, status_of}
 use Rattle.fs_stages.specs.declared.refusal.Refusal.{Refusal}
 use Rattle.fs_stages.specs.declared.refusal.Refusal.TheVariants.{Outside, Config as Refused, Tape, Capture, Memory, Limit}
@@ -41,9 +43,10 @@ runs_words tells limit holds (Some form) call answer r = (λ e. absurd (r.0 e), 
 abbrev with_capture : Config × List Timed → Recorded → Stage Inputs
 with_capture accepted found = Found (inputs accepted.0 accepted.1 found)
 
-capture_status : (held : Held) (stage : Stage Recorded) (accepted : Config × List Timed) → (verdict_of held stage).status ≡ status_for (and_then stage (with_capture accepted))
-capture_status held (Found capture) accepted = refl
-capture_status held (Stopped refusal) accepted = refl
+capture_status : (held : ℕ → Held) (judged : List Captured) (stage : Stage Recorded) (accepted : Config × List Timed)
+    → (verdict_at held judged stage).status ≡ status_for (and_then stage (with_capture accepted))
+capture_status held judged (Found capture) accepted = refl
+capture_status held judged (Stopped refusal) accepted = refl
 
 abbrev Caused : Type 0 → ℕ → ℕ → Type 0
 Caused failed status answer = (answer ≡ status) ⊎ (answer ≡ 6) ⊎ ((answer ≡ 1) × failed)
@@ -57,14 +60,14 @@ enforce_status limit holds config tape capture failed before now answer (inl ear
         → Caused failed (status_for (inputs_stage limit holds config tape capture)) answer
     at (inl h) = inl (h.2 ∙ sym (ap (λ (s : Stage (Config × List Timed)). status_for (and_then s (λ accepted. and_then (capture_stage limit holds capture) (with_capture accepted)))) h.1))
     at (inr h) = inr h
-enforce_status limit holds config tape capture failed before now answer (inr judged) = at judged.answers.status_is
+enforce_status limit holds config tape capture failed before now answer (inr judged) = at judged.judged.answers.status_is
   where
-    stage : status_for (inputs_stage limit holds config tape capture) ≡ (verdict_of judged.held (capture_stage limit holds capture)).status
+    stage : status_for (inputs_stage limit holds config tape capture) ≡ (verdict_at judged.judged.came.held judged.judged.came.judged (capture_stage limit holds capture)).status
     stage =
         ap (λ (s : Stage (Config × List Timed)). status_for (and_then s (λ accepted. and_then (capture_stage limit holds capture) (with_capture accepted)))) judged.found
-        ∙ sym (capture_status judged.held (capture_stage limit holds capture) (judged.accepted, judged.items))
+        ∙ sym (capture_status judged.judged.came.held judged.judged.came.judged (capture_stage limit holds capture) (judged.accepted, judged.items))
 
-    at : Caused failed (verdict_of judged.held (capture_stage limit holds capture)).status answer → Caused failed (status_for (inputs_stage limit holds config tape capture)) answer
+    at : Caused failed (verdict_at judged.judged.came.held judged.judged.came.judged (capture_stage limit holds capture)).status answer → Caused failed (status_for (inputs_stage limit holds config tape capture)) answer
     at (inl h) = inl (h ∙ sym stage)
     at (inr h) = inr h
 
@@ -209,7 +212,7 @@ enforced_well limit holds config tape capture failed call answer (inl early) zer
     at (inl h) = never_zero h.0 (sym h.2 ∙ zero)
     at (inr (inl h)) = absurd cc
     at (inr (inr h)) = let one : answer ≡ 1 = h.0 in absurd cc
-enforced_well limit holds config tape capture failed call answer (inr judged) zero = at judged.answers.status_is
+enforced_well limit holds config tape capture failed call answer (inr judged) zero = at judged.judged.answers.status_is
   where
     six : answer ≢ 6
     six = λ e. absurd cc
@@ -220,15 +223,25 @@ enforced_well limit holds config tape capture failed call answer (inr judged) ze
     inputs_are : Passed limit holds config tape judged.accepted judged.items
     inputs_are = passed limit holds config tape judged.accepted judged.items judged.found
 
-    by : (held : Held) (content : Option (List ℕ)) → answer ≡ (verdict_of held (and_then (or_stop Outside content) (λ o. Found (capture_of limit o)))).status
-        → Grew call.before.written call.now.written (verdict_of held (and_then (or_stop Outside content) (λ o. Found (capture_of limit o)))).text
-        → (octets : List ℕ) × (content ≡ Some octets) × ((capture_of limit octets).end ≡ done) × Grew call.before.written call.now.written (output_of held (capture_of limit octets))
-    by held None e g = absurd cc
-    by held (Some octets) e g = (octets, refl, ended_well (capture_of limit octets).end (sym e ∙ zero), g)
+    by : (content : Option (List ℕ)) (a : AnswersAt judged.accepted judged.items (and_then (or_stop Outside content) (λ o. Found (capture_of limit o))) failed call.before.written call.now.written answer)
+        → answer ≡ (verdict_at a.came.held a.came.judged (and_then (or_stop Outside content) (λ o. Found (capture_of limit o)))).status
+        → (octets : List ℕ) × (held : ℕ → Held) × (content ≡ Some octets) × ((capture_of limit octets).end ≡ done)
+        × HoldAt judged.accepted judged.items held (capture_of limit octets).packets × Grew call.before.written call.now.written (output_of held (capture_of limit octets))
+    by None a e = absurd cc
+    by (Some octets) a e =
+        let all : a.came.judged ≡ (capture_of limit octets).packets =
+        sym (a.came.parts ∙ ap (λ (rest : List Captured). a.came.judged ++ rest) (a.all six one) ∙ append-nil a.came.judged) in (
+          octets,
+          a.came.held,
+          refl,
+          ended_well (capture_of limit octets).end (sym e ∙ zero),
+          subst (HoldAt judged.accepted judged.items a.came.held) all a.came.leaves,
+          subst (λ (packets : List Captured). Grew call.before.written call.now.written (lines_of (rules_by a.came.held) (capture_of limit octets).link packets)) all (a.answers.whole six one),
+        )
 
-    whole : answer ≡ (verdict_of judged.held (capture_stage limit holds capture)).status → Enforced limit holds config tape capture call
+    whole : answer ≡ (verdict_at judged.judged.came.held judged.judged.came.judged (capture_stage limit holds capture)).status → Enforced limit holds config tape capture call
     whole h =
-        let read = by judged.held (holds capture) h (judged.answers.whole six one) in
+        let read = by (holds capture) judged.judged h in
         record {
           config_octets = inputs_are.config_octets;
           config_is = inputs_are.config_is;
@@ -240,14 +253,14 @@ enforced_well limit holds config tape capture failed call answer (inr judged) ze
           items = judged.items;
           items_are = inputs_are.items_are;
           capture_octets = read.0;
-          capture_is = read.1;
-          capture_done = read.2;
-          held = judged.held;
-          leaves = judged.leaves;
-          wrote = read.3;
+          capture_is = read.2;
+          capture_done = read.3;
+          held = read.1;
+          leaves = read.4;
+          wrote = read.5;
         }
 
-    at : Caused failed (verdict_of judged.held (capture_stage limit holds capture)).status answer → Enforced limit holds config tape capture call
+    at : Caused failed (verdict_at judged.judged.came.held judged.judged.came.judged (capture_stage limit holds capture)).status answer → Enforced limit holds config tape capture call
     at (inl h) = whole h
     at (inr (inl h)) = absurd cc
     at (inr (inr h)) = let bad : answer ≡ 1 = h.0 in absurd cc
@@ -339,6 +352,14 @@ pub does_gen : {T : Type 0} (tells : Bool) (limit : ℕ) (holds : Names) (form :
 does_gen tells limit holds form count call result answer e a d =
     subst (λ (f : Form). Does tells limit holds f call answer) (sym e) (subst (λ (n : ℕ). Generates count call n) a d)
 
+-- at want of memory nothing is written, over a tape that isn't of the second version
+pub wants_enforce : {S T : Type 0} (tells : Bool) (limit : ℕ) (holds : Names) (form : Form) (config tape capture : List ℕ) (old new : S) (result : Result T Refusal) (answer : ℕ)
+    → form ≡ Enforce config tape capture → answered result ≡ answer
+    → (IsTrue tells → answered result ≡ 6 → (HasVersion limit holds tape Two → ⊥) → new ≡ old)
+    → answer ≡ 6 → HasNoMoments tells limit holds form → new ≡ old
+wants_enforce tells limit holds form config tape capture old new result answer e a kept six none =
+    let premise = none config tape capture e in kept premise.0 (a ∙ six) premise.1
+
 -- the promises of a run, whose words ask for no command
 
 pub promises_none : {F S W : Type 0} (limit : ℕ) (of_files : files.Ghosts F) (of_sink : sink.Ghosts S) (files : F) (sink : S) (wire : W) (words : List (List ℕ))
@@ -351,8 +372,8 @@ promises_none limit of_files of_sink files sink wire words e = record {
   gen_opens_nothing = λ count asked. refl;
   wire_unused = refl;
   config_writes_nothing = λ three. refl;
-  tape_writes_nothing = λ four config tape capture asked. refl;
-  memory_writes_nothing = λ six. refl;
+  tape_writes_nothing = λ told four config tape capture asked. refl;
+  memory_writes_nothing = λ six form asked none. refl;
   causes = λ told. subst (λ (f : Option Form). HasCauses limit (of_files.holds files) f (happened of_files of_sink files files sink sink) 2) e tt;
   complete = λ told stood sink_stood. subst (λ (f : Option Form). Completes limit (of_files.holds files) f 2) e tt;
   headline = λ told zero config tape capture asked. absurd cc;
@@ -373,12 +394,13 @@ pub promises_some : {F S W : Type 0} (limit : ℕ) (of_files : files.Ghosts F) (
     → Some form ≡ form_of words
     → Does of_files.tells limit (of_files.holds files) form (happened of_files of_sink files files' sink sink') answer
     → answer ≢ 2
-    → ((answer ≡ 3) ⊎ (answer ≡ 6) → sink' ≡ sink)
-    → (answer ≡ 4 → (config tape capture : List ℕ) → form ≡ Enforce config tape capture → sink' ≡ sink)
+    → (answer ≡ 3 → sink' ≡ sink)
+    → (answer ≡ 6 → HasNoMoments of_files.tells limit (of_files.holds files) form → sink' ≡ sink)
+    → (IsTrue of_files.tells → answer ≡ 4 → (config tape capture : List ℕ) → form ≡ Enforce config tape capture → sink' ≡ sink)
     → ((family : Family) (word : List ℕ) → form ≡ Check family word → files' ≡ files)
     → ((count : ℕ) → form ≡ Gen count → files' ≡ files)
     → Promises limit (world of_files of_sink files files' sink sink' wire wire) words answer
-promises_some limit of_files of_sink files files' sink sink' wire words form answer e does known quiet still unopened generates =
+promises_some limit of_files of_sink files files' sink sink' wire words form answer e does known quiet wanting still unopened generates =
     let call : Happened = happened of_files of_sink files files' sink sink' in
     let holds : Names = of_files.holds files in
     let ran : Runs of_files.tells limit holds (form_of words) call answer =
@@ -390,10 +412,11 @@ promises_some limit of_files of_sink files files' sink sink' wire words form ans
       check_opens_nothing = λ family word asked. unopened family word (some_form form (Check family word) (form_of words) e asked);
       gen_opens_nothing = λ count asked. generates count (some_form form (Gen count) (form_of words) e asked);
       wire_unused = refl;
-      config_writes_nothing = λ three. quiet (inl three);
-      tape_writes_nothing = λ four config tape capture asked.
-          still four config tape capture (some_form form (Enforce config tape capture) (form_of words) e asked);
-      memory_writes_nothing = λ six. quiet (inr six);
+      config_writes_nothing = quiet;
+      tape_writes_nothing = λ told four config tape capture asked.
+          still told four config tape capture (some_form form (Enforce config tape capture) (form_of words) e asked);
+      memory_writes_nothing = λ six asked is none.
+          wanting six (subst (HasNoMoments of_files.tells limit (of_files.holds files)) (sym (some_form form asked (form_of words) e is)) none);
       causes = λ told. runs_causes of_files.tells limit holds (form_of words) call answer told ran;
       complete = λ told stood sink_stood.
           causes_complete limit holds (form_of words) call answer stood sink_stood

@@ -9,7 +9,8 @@ use Rattle.fs_enforce.specs.Command.{Enforces, Enforced, inputs_stage, status_fo
 use Rattle.fs_generate.specs.Command.{Generates, Generated}
 use Rattle.fs_stages.specs.Load.{Names}
 use Rattle.fs_cli.specs.Command.{Form, Enforce, Surveys, Check, Gen, form_of}
-use Rattle.fs_stages.specs.Play.{accepted_stage}
+use Rattle.fs_stages.specs.Play.{HasVersion, accepted_stage}
+use Rattle.fs_tape.specs.declared.magic.Version.TheVariants.{Two}
 use Rattle.fs_cli.specs.Survey.{Lists, Listed, listed_status, text_for}
 use Rattle.fs_cli.specs.declared.survey.Survey.{Survey}
 use Rattle.fs_base.specs.declared.outside.files.Files as files
@@ -63,6 +64,12 @@ abbrev pub HasCauses : (limit : ℕ) (holds : Names) → Option Form → Happene
 HasCauses limit holds form call answer =
     IfSome form (λ asked.
     HasStatus limit holds asked answer ⊎ (answer ≡ 6) ⊎ ((answer ≡ 1) × (FilesFailed call ⊎ SinkFailed call)))
+
+-- The command isn't `enforce` over a tape of the second version. Of `enforce` only files that tell can say so.
+abbrev pub HasNoMoments : (tells : Bool) (limit : ℕ) (holds : Names) → Form → Type 0
+HasNoMoments tells limit holds form =
+    (config tape capture : List ℕ) → form ≡ Enforce config tape capture
+    → IsTrue tells × (HasVersion limit holds tape Two → ⊥)
 
 -- The world of a run: the files, the sink and the wire, before it and behind it.
 pub record World (F S W : Type 0) : Type 1 where
@@ -125,18 +132,20 @@ pub record Promises {F S W : Type 0} (limit : ℕ) (w : World F S W) (words : Li
   pub wire_unused : WireKept w
   -- At 3 nothing is written, whatever the files tell.
   pub config_writes_nothing : answer ≡ 3 → SinkKept w
-  -- At 4 `enforce` writes nothing, whatever the files tell.
-  pub tape_writes_nothing : answer ≡ 4 → (config tape capture : List ℕ)
+  -- At 4 `enforce` writes nothing, where the files tell.
+  pub tape_writes_nothing : AreTold w → answer ≡ 4 → (config tape capture : List ℕ)
       → form_of words ≡ Some (Enforce config tape capture) → SinkKept w
-  -- At 6 nothing is written: no packet ends a run for want of memory.
-  pub memory_writes_nothing : answer ≡ 6 → SinkKept w
+  -- At 6 nothing is written, but by `enforce` over a tape of the second version: no packet ends another run for want of
+  -- memory.
+  pub memory_writes_nothing : answer ≡ 6 → (form : Form) → form_of words ≡ Some form
+      → HasNoMoments w.of_files.tells limit (names_in w) form → SinkKept w
   -- Each status has its cause: what the words and the files call for, want of memory, or a call that failed.
   pub causes : AreTold w → HasCauses limit (names_in w) (form_of words) (happened_in w) answer
   -- Where no call failed, only want of memory prevents the status that words and files call for.
   pub complete : AreTold w → FilesStood (happened_in w) → SinkStood (happened_in w)
       → Completes limit (names_in w) (form_of words) answer
   -- At 0 `enforce` wrote, packet by packet, the actions that the ordered walk gives on the rules that validation admits
-  -- from the routes that the tape leaves held.
+  -- from the routes that the tape holds at the packet's moment.
   pub headline : AreTold w → answer ≡ 0 → (config tape capture : List ℕ)
       → form_of words ≡ Some (Enforce config tape capture)
       → Enforced limit (names_in w) config tape capture (happened_in w)

@@ -14,7 +14,7 @@ const MOST: u32 = 1_000_000;
 /// A command, and what it is to read.
 #[derive(Clone, Copy, Drop)]
 pub enum Command<'w> {
-    /// Plays a tape, and judges the packets of a capture by the rules that it leaves.
+    /// Plays a tape, and judges the packets of a capture by the rules that it admits at their moments.
     Enforce {
         config: &'w str,
         tape: &'w str,

@@ -1,9 +1,9 @@
 //! The program.
 
-ghost use Rattle.std.specs.Prelude.{◌≡◌, ◌≢◌, ◌≤◌, ◌⊎◌, ◌^◌, ℕ, List, map, string_bytes};
+ghost use Rattle.std.specs.Prelude.{◌≡◌, ◌≢◌, ◌≤◌, ◌^◌, ℕ, IsTrue, List, map, string_bytes};
 ghost use Rattle.fs_base.specs.Happened.{at_sink, happened};
 ghost use Rattle.fs_base.specs.declared.prefix.Family.{Family};
-ghost use Rattle.fs_cli.specs.Program.{Checks, Does, Promises, world};
+ghost use Rattle.fs_cli.specs.Program.{Checks, Does, HasNoMoments, Promises, world};
 ghost use Rattle.fs_cli.specs.Command.{form_shown, Check, Enforce, Gen};
 
 use crate::command::{Command, parse};
@@ -68,8 +68,10 @@ fn perform<F: Files, S: Sink>(
     ensures does { Does F.tells limit (F.holds files.old) (form_shown command.entry)
         (happened F.Files S.Sink files.old files.new sink.old sink.new) result }
     ensures known { result ≢ 2 }
-    ensures quiet { (result ≡ 3) ⊎ (result ≡ 6) → sink.new ≡ sink.old }
-    ensures still { result ≡ 4
+    ensures quiet { result ≡ 3 → sink.new ≡ sink.old }
+    ensures wanting { result ≡ 6 → HasNoMoments F.tells limit (F.holds files.old) (form_shown command.entry) → sink.new ≡ sink.old }
+    ensures still { IsTrue F.tells
+        → result ≡ 4
         → (config tape capture : List ℕ)
         → form_shown command.entry ≡ Enforce config tape capture
         → sink.new ≡ sink.old }

@@ -7,4 +7,4 @@ returns-in-None g c = promises_none c.args.limit g.F.Files g.S.Sink c.args.files
 pub returns-in-Some : goal.returns-in-Some
 returns-in-Some g c =
     promises_some c.args.limit g.F.Files g.S.Sink c.args.files.now c.perform.new.files c.args.sink.now c.perform.new.sink c.args._wire.now _ _ c.perform.result
-    c.in-Some.ensures c.perform.ensures.does c.perform.ensures.known c.perform.ensures.quiet c.perform.ensures.still c.perform.ensures.unopened c.perform.ensures.generates
+    c.in-Some.ensures c.perform.ensures.does c.perform.ensures.known c.perform.ensures.quiet c.perform.ensures.wanting c.perform.ensures.still c.perform.ensures.unopened c.perform.ensures.generates
