@@ -1,0 +1,147 @@
+#!/usr/bin/env python3
+"""Times `enforce` over a tape of version 2, along which packets and items take turns.
+
+    bench/moments.py PROGRAM [--packets N] [--items N] [--rules N,N,..] [--runs N]
+
+One peer announces a /24 and one rule for each of many destinations. Then packets come, each at its own moment, with
+items between them at even distances. Reported are packets per second in three cases: without items; with a unicast
+route elsewhere that comes and goes, which changes no mark, so that the rules stay; and with a rule that comes and goes,
+so that they are taken and compiled anew each time. Of the third the time of one change is reported, over several
+numbers of rules.
+"""
+
+import argparse
+import pathlib
+import struct
+import subprocess
+import sys
+import tempfile
+import time
+
+from enforce import CONFIG, OPEN, PATH, message
+
+HOP = bytes.fromhex("400304c6336401")
+DROP = bytes.fromhex("c01008 8006fde900000000")
+
+
+def record(kind, moment, payload=b""):
+    return struct.pack(">BHQI", kind, 1, moment, len(payload)) + payload
+
+
+def update(withdrawn, attributes, announced):
+    body = struct.pack(">H", len(withdrawn)) + withdrawn + struct.pack(">H", len(attributes)) + attributes + announced
+    return message(2, body)
+
+
+def attribute(kind, value):
+    return struct.pack(">BBB", 0x80, kind, len(value)) + value
+
+
+def destination(number):
+    """The /24 of that number under 10.0.0.0/8, then 11.0.0.0/8, as NLRI."""
+    return bytes([24, 10 + number // 65536, number // 256 % 256, number % 256])
+
+
+def flow_of(number):
+    return bytes([5, 1]) + destination(number)
+
+
+def rule_comes(number):
+    return update(b"", attribute(14, bytes.fromhex("0001850000") + flow_of(number)) + PATH + DROP, b"")
+
+
+def rule_goes(number):
+    return update(b"", attribute(15, bytes.fromhex("000185") + flow_of(number)), b"")
+
+
+def route_comes(prefix):
+    return update(b"", PATH + HOP, prefix)
+
+
+def route_goes(prefix):
+    return update(prefix, b"", b"")
+
+
+def start(rules):
+    parts = [b"FSTAPE2\n", record(1, 0), record(2, 0, message(1, OPEN) + message(4, b""))]
+    for number in range(rules):
+        parts.append(record(2, 0, route_comes(destination(number)) + rule_comes(number)))
+    return b"".join(parts)
+
+
+def moments(packets, items):
+    """The moments of the items: at even distances between the packets, of which one comes each microsecond."""
+    return [(item + 1) * packets // (items + 1) * 1000 + 500 for item in range(items)]
+
+
+def churn(packets, items):
+    elsewhere = bytes([24, 203, 0, 113])
+    return b"".join(
+        record(2, moment, route_comes(elsewhere) if turn % 2 == 0 else route_goes(elsewhere))
+        for turn, moment in enumerate(moments(packets, items))
+    )
+
+
+def changes(packets, items, rules):
+    """A rule for a destination that has a route and no rule else."""
+    number = rules
+    parts = [record(2, 0, route_comes(destination(number)))]
+    parts += [
+        record(2, moment, rule_comes(number) if turn % 2 == 0 else rule_goes(number))
+        for turn, moment in enumerate(moments(packets, items))
+    ]
+    return b"".join(parts)
+
+
+def capture(path, packets, rules):
+    with open(path, "wb") as out:
+        out.write(struct.pack("<IHHIIII", 0xA1B2C3D4, 2, 4, 0, 0, 262144, 101))
+        state = 1
+        for n in range(packets):
+            state = (state * 6364136223846793005 + 1442695040888963407) % 2**64
+            to = destination((state >> 32) % (2 * rules))[1:] + b"\x09"
+            octets = bytes.fromhex("45000028 00000000 40060000 cb007105") + to + bytes.fromhex(
+                "c3500019 00000000 00000000 50022000 00000000"
+            )
+            out.write(struct.pack("<IIII", n // 1000000, n % 1000000, len(octets), len(octets)) + octets)
+
+
+def seconds_of(program, folder, tape, runs):
+    (folder / "tape").write_bytes(tape)
+    words = [str(folder / name) for name in ("config", "tape", "capture")]
+    best = None
+    for _ in range(runs):
+        begin = time.monotonic()
+        done = subprocess.run([program, "enforce", *words], stdout=subprocess.DEVNULL)
+        took = time.monotonic() - begin
+        if done.returncode != 0:
+            sys.exit(f"status {done.returncode}")
+        best = took if best is None else min(best, took)
+    return best
+
+
+def main():
+    words = argparse.ArgumentParser(description=__doc__, formatter_class=argparse.RawDescriptionHelpFormatter)
+    words.add_argument("program")
+    words.add_argument("--packets", type=int, default=1000000)
+    words.add_argument("--items", type=int, default=10000)
+    words.add_argument("--rules", default="100,1000,10000,100000")
+    words.add_argument("--runs", type=int, default=1)
+    asked = words.parse_args()
+    with tempfile.TemporaryDirectory() as name:
+        folder = pathlib.Path(name)
+        (folder / "config").write_text(CONFIG)
+        for rules in [int(word) for word in asked.rules.split(",")]:
+            capture(folder / "capture", asked.packets, rules)
+            front = start(rules)
+            alone = seconds_of(asked.program, folder, front, asked.runs)
+            churned = seconds_of(asked.program, folder, front + churn(asked.packets, asked.items), asked.runs)
+            print(f"{rules} rules: {asked.packets / alone:.0f} packets a second without items,", end=" ")
+            print(f"{asked.packets / churned:.0f} with {asked.items} items that change no mark,", end=" ", flush=True)
+            items = min(asked.items, max(20, 20000000 // max(rules, 1) // 10))
+            changed = seconds_of(asked.program, folder, front + changes(asked.packets, items, rules), asked.runs)
+            print(f"{asked.packets / changed:.0f} with {items} changes of a rule", end=": ")
+            print(f"{(changed - alone) / items * 1000:.3f} ms a change", flush=True)
+
+
+main()
