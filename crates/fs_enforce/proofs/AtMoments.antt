@@ -17,7 +17,7 @@ use Rattle.fs_pcap.specs.declared.fault.CaptureReason.{CaptureReason}
 use Rattle.fs_rules.specs.Table.{Held}
 use Rattle.fs_tape.specs.Tape.{Item, Timed}
 use Rattle.fs_stages.specs.declared.refusal.Refusal.{Refusal}
-use Rattle.fs_stages.specs.declared.refusal.Refusal.TheVariants.{Outside, Memory}
+use Rattle.fs_stages.specs.declared.refusal.Refusal.TheVariants.{Outside}
 use Rattle.fs_stages.specs.Play.{until}
 use Rattle.fs_stages.specs.Player.{IsUnplayed, PlayerState, Stands}
 use Rattle.fs_stages.specs.Refusal.{status_of}

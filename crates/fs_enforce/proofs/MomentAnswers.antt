@@ -1,7 +1,6 @@
 -- How the answer of a run follows from what was judged at the packets' moments.
-use Rattle.std.proofs.Common.{◌≡◌, ◌≢◌, ◌⊎◌, inl, inr, ◌∙◌, ◌≤◌, ℕ, List, [], ◌∷◌, ◌++◌, Bool, true, Option, Some, None, Result, Ok, Err, length, take, drop, filter, refl, ap, sym, subst, append-nil, arith}
+use Rattle.std.proofs.Common.{◌≡◌, ◌≢◌, ◌⊎◌, inl, inr, ◌∙◌, ◌≤◌, ℕ, List, [], ◌∷◌, Bool, true, Option, Some, None, Result, Ok, Err, length, take, drop, filter, refl, ap, sym, subst, append-nil, arith}
 use Rattle.std.specs.Prelude.{nat_le, if◌then◌else◌}
-use Rattle.std.specs.List.{AllByRecursion}
 use Rattle.std.specs.Result.{IsErrAnd}
 use Rattle.std.proofs.lemmas.Bool.Decides.{nat_tests}
 use Rattle.std.proofs.lemmas.Grind.{common_steps}
@@ -22,10 +21,10 @@ use Rattle.fs_rules.specs.Table.{Held}
 use Rattle.fs_tape.specs.Tape.{Timed}
 use Rattle.fs_tape.specs.declared.magic.Version.TheVariants.{One}
 use Rattle.fs_desk.specs.Leaves.{Leaves}
-use Rattle.fs_stages.specs.Play.{HaveNoMoments, until, untimed}
-use Rattle.fs_stages.specs.Refusal.{Answers, Stage, Found, Stopped, HasReason, answered, status_of, verdict_with}
+use Rattle.fs_stages.specs.Play.{HaveNoMoments, untimed}
+use Rattle.fs_stages.specs.Refusal.{Answers, Stage, Found, Stopped, HasReason, answered, status_of}
 use Rattle.fs_stages.specs.declared.refusal.Refusal.{Refusal}
-use Rattle.fs_stages.specs.declared.refusal.Refusal.TheVariants.{Outside, Memory}
+use Rattle.fs_stages.specs.declared.refusal.Refusal.TheVariants.{Outside}
 use Rattle.fs_stages.specs.Load.{Names}
 use Rattle.fs_stages.specs.Player.{IsUnplayed}
 use Rattle.fs_stages.proofs.LookingAhead.{rose_on}

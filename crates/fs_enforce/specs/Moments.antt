@@ -1,5 +1,5 @@
 -- The lines of a capture's packets, each under the routes that a tape holds at its moment, and what becomes of them.
-use Rattle.std.specs.Prelude.{ℕ, List, [], ◌∷◌, ◌++◌, Option, Some, None, Result, ◌≡◌, ◌≢◌, ◌⊎◌, MatchResult, take}
+use Rattle.std.specs.Prelude.{ℕ, List, [], ◌++◌, Option, Result, ◌≡◌, ◌≢◌, ◌⊎◌, MatchResult, take}
 use Rattle.std.specs.List.{AllByRecursion}
 use Rattle.fs_base.specs.Happened.{Happened, FilesFailed, SinkFailed}
 use Rattle.fs_base.specs.Sink.{Grew}

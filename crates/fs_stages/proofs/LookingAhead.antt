@@ -1,5 +1,5 @@
 -- A player that holds one item ahead.
-use Rattle.std.proofs.Common.{◌≡◌, inl, inr, ◌≤◌, ◌<◌, ◌-◌, ℕ, suc, List, [], ◌∷◌, ◌++◌, Bool, true, false, Option, Some, None, refl, ap, sym, ◌∙◌, subst, append_assoc, append-nil, arith, filter}
+use Rattle.std.proofs.Common.{◌≡◌, inl, inr, ◌≤◌, ◌<◌, ◌-◌, ℕ, suc, List, [], ◌∷◌, ◌++◌, Bool, true, false, Option, Some, None, refl, ap, sym, ◌∙◌, subst, append_assoc, arith, filter}
 use Rattle.std.specs.Prelude.{nat_le, if◌then◌else◌, option_map, Result, Ok, Err, IfSome, MatchResult}
 use Rattle.std.specs.Result.{IsErrAnd}
 use Rattle.std.specs.List.{AllByRecursion}
@@ -21,7 +21,6 @@ use Rattle.fs_desk.specs.Desk.{Desked, Played, Plays}
 use Rattle.fs_desk.specs.Leaves.{Leaves}
 use Rattle.fs_desk.proofs.Leaves.{played_leaves}
 use Rattle.fs_stages.specs.declared.refusal.Refusal.{Refusal}
-use Rattle.fs_stages.specs.declared.refusal.Refusal.TheVariants.{Outside, Memory}
 use Rattle.fs_stages.specs.Load.{Names}
 use Rattle.fs_stages.specs.Refusal.{Stage, Found, Stopped, HasReason}
 use Rattle.fs_stages.specs.Play.{Gives, HasVersion, IsOpened, played_to, tape_stage, until, untimed}

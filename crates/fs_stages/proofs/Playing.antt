@@ -15,7 +15,7 @@ use Rattle.fs_stages.specs.declared.refusal.Refusal.{Refusal}
 use Rattle.fs_stages.specs.declared.refusal.Refusal.TheVariants.{Outside}
 use Rattle.fs_stages.specs.Refusal.{Stage, Found, Stopped, and_then, or_stop, HasReason}
 use Rattle.fs_stages.specs.Load.{Names}
-use Rattle.fs_stages.specs.Play.{HasVersion, HaveNoMoments, IsOpened, IsPlayed, IsWhole, PlaysOn, played_to, tape_stage, untimed}
+use Rattle.fs_stages.specs.Play.{HasVersion, HaveNoMoments, IsOpened, IsWhole, PlaysOn, played_to, tape_stage, untimed}
 use Rattle.fs_desk.specs.Desk.{Desked, Played}
 
 -- of all items some were played, and the rest is to come

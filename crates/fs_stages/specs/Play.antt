@@ -1,5 +1,5 @@
 -- The stage of the tape, and a tape as the program plays it.
-use Rattle.std.specs.Prelude.{ℕ, List, ◌≡◌, ◌++◌, [], map, filter, nat_le, Option, Some, None, Result, Ok, option_map}
+use Rattle.std.specs.Prelude.{ℕ, List, ◌≡◌, ◌++◌, [], map, filter, nat_le, Option, Some, None, Ok, option_map}
 use Rattle.std.specs.List.{AllByRecursion}
 use Rattle.fs_records.specs.Records.{End, done, limited, bad}
 use Rattle.fs_base.specs.declared.config.Config.{Config}

@@ -1,5 +1,5 @@
 -- A tape that is played up to moments, by a player that holds one item ahead.
-use Rattle.std.specs.Prelude.{ℕ, List, [], ◌≡◌, ◌≤◌, ◌++◌, ◌⊎◌, Option, Some, None, IfSome, if◌then◌else◌, nat_le}
+use Rattle.std.specs.Prelude.{ℕ, List, [], ◌≡◌, ◌≤◌, ◌++◌, ◌⊎◌, Option, Some, None, if◌then◌else◌, nat_le}
 use Rattle.std.specs.List.{AllByRecursion}
 use Rattle.fs_base.specs.Parts.{with_part}
 use Rattle.fs_records.specs.Records.{End, done}

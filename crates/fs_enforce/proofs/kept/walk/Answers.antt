@@ -1,7 +1,6 @@
-use Rattle.std.proofs.Common.{◌≡◌, ℕ, List, Option, ◌+◌, ap, sym, subst, ◌∙◌, refl, arith, None}
+use Rattle.std.proofs.Common.{◌≡◌, ℕ, List, Option, ◌+◌, ap, sym, subst, ◌∙◌, arith}
 use Rattle.fs_line.specs.declared.walked.Walked.{Walked}
 use Rattle.fs_line.specs.Walked.{entries}
-use Rattle.fs_rules.specs.Lent.{Listed}
 use Rattle.fs_rules.specs.Walk.{goes_on, walk_of}
 use Rattle.fs_enforce.specs.Matcher.{FindsFrom}
 use Rattle.fs_enforce.proofs.KeptWalk.{WalkGoesOn, place_among, walk_ends, walk_on, walk_over}

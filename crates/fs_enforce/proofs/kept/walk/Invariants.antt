@@ -1,4 +1,4 @@
-use Rattle.std.proofs.Common.{◌≡◌, ◌≤◌, ◌-◌, length, List}
+use Rattle.std.proofs.Common.{◌≤◌, ◌-◌, length, List}
 use Rattle.fs_rules.specs.Lent.{Listed}
 use Rattle.fs_enforce.specs.Kept.{WalksWith}
 use Rattle.fs_enforce.proofs.KeptWalk.{WalkGoesOn}

@@ -1,7 +1,6 @@
-use Rattle.std.proofs.Common.{◌≡◌, ◌⊎◌, inl, inr, ◌∙◌, ◌≢◌, List, ℕ, refl, ap, sym, subst, le_trans}
+use Rattle.std.proofs.Common.{◌≡◌, ◌⊎◌, inl, inr, ◌∙◌, refl, ap, sym, subst, le_trans}
 use Rattle.fs_base.specs.Outside.{Rose}
 use Rattle.fs_pcap.specs.Capture.{coming}
-use Rattle.fs_tape.specs.Tape.{Timed}
 use Rattle.fs_tape.specs.declared.magic.Version.TheVariants.{Two}
 use Rattle.fs_stages.specs.Load.{Names}
 use Rattle.fs_stages.specs.Play.{HasVersion, tape_stage}

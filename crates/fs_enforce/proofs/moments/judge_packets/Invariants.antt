@@ -1,5 +1,4 @@
 use Rattle.std.proofs.Common.{◌≡◌, ◌≤◌, ◌-◌, length, List, IsTrue, None}
-use Rattle.fs_base.specs.Files.{OnlySlot}
 use Rattle.fs_pcap.specs.Capture.{coming}
 use Rattle.fs_pcap.specs.Head.{longest_record}
 use Rattle.fs_tape.specs.Tape.{Timed}
