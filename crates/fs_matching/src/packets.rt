@@ -1,5 +1,7 @@
 //! Drawn packets: headers of IPv4 and IPv6, and what stands behind them.
 
+ghost use Rattle.std.specs.Prelude.{◌≤◌};
+
 use crate::addresses::{v4_address, v6_address};
 use crate::draws::Draws;
 use fs_base::Family;
@@ -18,18 +20,18 @@ fn draw_protocol(draws: &mut Draws, family: Family) -> u8 {
     }
 }
 
-/// What stands behind the address: ports or type and code, and the flags of TCP.
-fn draw_behind(draws: &mut Draws, protocol: u8) -> [u8; 20] {
-    let mut octets = [0u8; 20];
-    octets[0] = match protocol {
+/// Writes what stands behind the addresses, from that octet on: ports or type and code, and the flags of TCP.
+fn draw_behind(draws: &mut Draws, protocol: u8, packet: &mut [u8; SIZE], at: usize)
+    requires { at ≤ 40 }
+{
+    packet[at] = match protocol {
         1 | 58 => draws.below(6),
         _ => 0,
     };
-    octets[1] = draws.below(6);
-    octets[3] = draws.below(6);
-    octets[12] = 0x50;
-    octets[13] = draws.below(16);
-    octets
+    packet[at + 1] = draws.below(6);
+    packet[at + 3] = draws.below(6);
+    packet[at + 12] = 0x50;
+    packet[at + 13] = draws.below(16);
 }
 
 /// The field of flags and offset: mostly none, else one that must not be fragmented, a first or a later fragment.
@@ -53,7 +55,7 @@ fn draw_v4(draws: &mut Draws) -> [u8; SIZE] {
     packet[9] = protocol;
     packet[12..16].copy_from_slice(&v4_address(draws));
     packet[16..20].copy_from_slice(&v4_address(draws));
-    packet[20..40].copy_from_slice(&draw_behind(draws, protocol));
+    draw_behind(draws, protocol, &mut packet, 20);
     packet
 }
 
@@ -67,7 +69,7 @@ fn draw_v6(draws: &mut Draws) -> [u8; SIZE] {
     packet[6] = protocol;
     packet[8..24].copy_from_slice(&v6_address(draws));
     packet[24..40].copy_from_slice(&v6_address(draws));
-    packet[40..60].copy_from_slice(&draw_behind(draws, protocol));
+    draw_behind(draws, protocol, &mut packet, 40);
     packet
 }
 
