@@ -1,3 +1,4 @@
 pub mod OpenSteps
 pub mod Moments
-pub mod Telling
+mod Telling
+mod Announced

@@ -1,3 +1,4 @@
 pub mod Opening
 pub mod HoldTime
 pub mod Teller
+pub mod Tell
