@@ -3,3 +3,4 @@ pub mod Reading
 pub mod Shown
 pub mod ActionWord
 pub mod ActionParts
+pub mod ListWord

@@ -7,6 +7,7 @@
 
 mod actions;
 mod figures;
+mod lists;
 mod parts;
 
 pub use actions::read_action;

@@ -18,14 +18,14 @@ pub enum Piece<'a> {
 }
 
 /// Whether an octet is a letter or a digit.
-fn is_plain(octet: u8) -> bool
+pub(crate) fn is_plain(octet: u8) -> bool
     ensures { result ≡ is_plain octet }
 {
     char::from(octet).is_digit(36)
 }
 
 /// How many letters and digits stand at the front.
-fn run_len(text: &[u8]) -> usize
+pub(crate) fn run_len(text: &[u8]) -> usize
     ensures value { result ≡ prefix_len is_plain text.now }
     ensures within { result ≤ length text.now }
 {
