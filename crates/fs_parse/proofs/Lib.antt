@@ -6,3 +6,4 @@ pub mod Cuts
 pub mod Made
 pub mod Pairs
 pub mod Wide
+pub mod Listed

@@ -4,3 +4,4 @@ pub mod Shown
 pub mod ActionWord
 pub mod ActionParts
 pub mod ListWord
+pub mod Components

@@ -9,5 +9,7 @@ mod actions;
 mod figures;
 mod lists;
 mod parts;
+mod values;
 
 pub use actions::read_action;
+pub use values::read_list;
