@@ -1,0 +1,55 @@
+-- What a packet's block tells, passed field by field.
+use Rattle.std.proofs.Common.{◌≡◌, ℕ, List, true, false, ◌≤◌, ◌<◌, ◌+◌, take, drop, length, refl, subst, arith}
+use Rattle.std.specs.Prelude.{nat_le}
+use Rattle.std.proofs.lemmas.Bool.Decides.{nat_tests}
+use Rattle.std.proofs.lemmas.List.{length-drop, take_all}
+use Rattle.fs_pcap.specs.Order.{number}
+use Rattle.fs_pcap.specs.declared.order.Endian.{Endian}
+use Rattle.fs_scan.specs.Scan.{Scanner, fails}
+use Rattle.fs_pcapng.specs.Block.{fitting}
+use Rattle.fs_pcapng.specs.Options.{option_behind, padded, value_in}
+use Rattle.fs_pcapng.specs.declared.fault.NgReason.{NgReason}
+use Rattle.fs_pcapng.specs.declared.fault.NgReason.TheVariants.{Length, RecordTooLong}
+use Rattle.fs_pcapng.specs.declared.fields.Frame.{Frame}
+use Rattle.fs_pcapng.specs.declared.options.Walk.{Walk}
+
+le_true : (a b : ℕ) → a ≤ b → nat_le a b ≡ true
+le_true a b h = let s = h in grind (arith, nat_tests)
+
+le_false : (a b : ℕ) → b < a → nat_le a b ≡ false
+le_false a b h = let s = h in grind (arith, nat_tests)
+
+-- a number that is read of what stands behind the first octets, all that is left
+pub behind_all : (n m : ℕ) (octets : List ℕ) → length octets ≤ n + m → take m (drop n octets) ≡ drop n octets
+behind_all n m octets most = take_all m (drop n octets) (let l = length-drop n octets in omega (arith, l, most))
+
+module _ {A : Type 0} (frame : Frame) (fixed captured place : ℕ) (next : Scanner A NgReason) where
+  -- a captured length that fits
+  pub fits : captured ≤ 262144 → fixed + padded captured ≤ frame.total → (at : ℕ) (octets : List ℕ)
+      → next at octets ≡ fitting frame fixed captured place next at octets
+  fits few room at octets = rw (le_true captured 262144 few, le_true (fixed + padded captured) frame.total room) refl
+
+  -- one that is too long
+  pub too_long : 262144 < captured → (spot : ℕ) → spot ≡ place → (at : ℕ) (octets : List ℕ)
+      → fails {A = A} RecordTooLong spot at octets ≡ fitting frame fixed captured place next at octets
+  too_long many spot is at octets = rw (is, le_false captured 262144 many) refl
+
+  -- one that the block has no room for
+  pub no_room : captured ≤ 262144 → frame.total < fixed + padded captured → (spot : ℕ) → spot ≡ frame.start + 4 → (at : ℕ) (octets : List ℕ)
+      → fails {A = A} Length spot at octets ≡ fitting frame fixed captured place next at octets
+  no_room few none spot is at octets = rw (is, le_true captured 262144 few, le_false (fixed + padded captured) frame.total none) refl
+
+module _ (order : Endian) (now : Walk) (place code size : ℕ) (head : List ℕ) (code_is : code ≡ number order 2 head)
+    (size_is : size ≡ number order 2 (drop 2 head)) where
+  -- an option whose value fits
+  pub value_fits : 4 + padded size ≤ now.left → (at : ℕ) (octets : List ℕ) → value_in now code size at octets ≡ option_behind order now place head at octets
+  value_fits room at octets =
+      let r : 4 + padded (number order 2 (drop 2 head)) ≤ now.left = subst (λ n. 4 + padded n ≤ now.left) size_is room in
+      rw (code_is, size_is, le_true (4 + padded (number order 2 (drop 2 head))) now.left r) refl
+
+  -- one whose value doesn't
+  pub value_exceeds : now.left < 4 + padded size → (at : ℕ) (octets : List ℕ)
+      → fails {A = Walk} Length place at octets ≡ option_behind order now place head at octets
+  value_exceeds none at octets =
+      let r : now.left < 4 + padded (number order 2 (drop 2 head)) = subst (λ n. now.left < 4 + padded n) size_is none in
+      rw (le_false (4 + padded (number order 2 (drop 2 head))) now.left r) refl

@@ -1,0 +1,136 @@
+-- The first block of a capture, octets of which may have been put back.
+use Rattle.std.proofs.Common.{◌≡◌, ◌≢◌, inl, inr, ℕ, List, [], ◌++◌, Bool, true, false, Option, Some, None, Result, Ok, Err, IsTrue, ◌<◌, ◌≤◌, ◌==◌, ◌&&◌, not, length, take, refl, ap, sym, ◌∙◌, subst, arith}
+use Rattle.std.specs.Prelude.{if◌then◌else◌, nat_le, unwrap_or}
+use Rattle.std.proofs.lemmas.Bool.Decides.{nat_tests}
+use Rattle.fs_base.specs.Parts.{at_limit, window}
+use Rattle.fs_base.specs.declared.counted.Counted.{Counted}
+use Rattle.fs_records.specs.Records.{End, bad, done, limited}
+use Rattle.fs_records.specs.declared.fault.Fault.{Fault}
+use Rattle.fs_records.specs.declared.fault.Fault.TheVariants.{Read, Limit, Bad}
+use Rattle.fs_scan.specs.Reads.{Fails, HasMore, Reads, ahead, end_of, ends_by, whole}
+use Rattle.fs_scan.specs.Scan.{Scanner, and, and_then, field, gives, got, partial}
+use Rattle.fs_scan.proofs.Lifting.{reads_as, reads_ends, reads_then}
+use Rattle.byteorder.specs.Endian.{big_number}
+use Rattle.fs_pcap.specs.declared.order.Endian.{Endian}
+use Rattle.fs_pcapng.proofs.Bodies.{gives_for, header_kind}
+use Rattle.fs_scan.proofs.Advancing.{part_advances}
+use Rattle.fs_scan.proofs.Again.{nothing_ahead}
+use Rattle.fs_scan.proofs.Coming.{end_comes}
+use Rattle.fs_pcapng.specs.Block.{Packet, Stands, block_in, kind_behind, opened, section_in}
+use Rattle.fs_pcapng.specs.Pcapng.{Begins, nothing, only_packets, packets_to_come, pcapng_of}
+use Rattle.fs_pcapng.specs.declared.fault.NgReason.{NgReason}
+use Rattle.fs_pcapng.specs.declared.fault.NgReason.TheVariants.{Cut}
+use Rattle.fs_pcapng.proofs.Takes.{block_takes}
+
+-- a call behind which nothing is put back, as before it
+pub reads_ahead : {T A : Type 0} {scanner : Scanner A NgReason} {tells : T → A} {told : Bool} {faults faults' : ℕ}
+    {left left' : ℕ → List ℕ} {holds holds' : List ℕ → Option (List ℕ)} {old new : Counted} {result : Result T (Fault NgReason)}
+    → old.back ≡ [] → new.back ≡ []
+    → Reads told faults faults' left left' holds holds' scanner Cut old new tells result
+    → Reads told faults faults' (ahead old left) (ahead new left') holds holds' scanner Cut old new tells result
+reads_ahead {scanner = scanner} {tells = tells} {told = told} {faults = faults} {faults' = faults'} {left = left} {left' = left'} {holds = holds}
+    {holds' = holds'} {old = old} {new = new} {result = result} none later h =
+    subst (λ l. Reads told faults faults' l (ahead new left') holds holds' scanner Cut old new tells result) (sym (nothing_ahead old left none))
+    (subst (λ l. Reads told faults faults' left l holds holds' scanner Cut old new tells result) (sym (nothing_ahead new left' later)) h)
+
+here : (counted : Counted) (left : ℕ → List ℕ) → ahead counted left counted.slot ≡ counted.back ++ left counted.slot
+here counted left = let test : (counted.slot == counted.slot) ≡ true = grind (arith, nat_tests) in rw test refl
+
+apart_from : (counted : Counted) (left : ℕ → List ℕ) (slot : ℕ) → slot ≢ counted.slot → ahead counted left slot ≡ left slot
+apart_from counted left slot apart = let test : (slot == counted.slot) ≡ false = let a = apart in grind (arith, nat_tests) in rw test refl
+
+module _ (limit : ℕ) (content : List ℕ) where
+  picks : (test : Bool) → (length (window limit 0 content) == 0) && not (at_limit limit 0 content) ≡ test
+      → pcapng_of limit content ≡ (if test then ([], bad Cut 0) else packets_to_come limit 0 nothing content)
+  picks test is = ap (λ t. if t then ([], bad Cut 0) else packets_to_come limit 0 nothing content) is
+
+  judged : 0 < length (window limit 0 content) → pcapng_of limit content ≡ packets_to_come limit 0 nothing content
+  judged some =
+      let test : (length (window limit 0 content) == 0) ≡ false = let s = some in grind (arith, nat_tests) in
+      picks false (λ i. test i && not (at_limit limit 0 content))
+
+  empty : length (window limit 0 content) ≡ 0 → at_limit limit 0 content ≡ false
+      → ends_by (block_in nothing) Cut limit 0 content ≡ Some (bad Cut 0)
+  empty none free = λ i.
+      end_of Cut (free i) 0 (none i)
+      (and_then (kind_behind nothing 0) 0 (window limit 0 content)
+      (if nat_le 4 (none i) then got (whole (take 4 (window limit 0 content))) 4 else partial))
+
+  opens_ends : (end : End NgReason) → ends_by (block_in nothing) Cut limit 0 content ≡ Some end → pcapng_of limit content ≡ ([], end)
+  opens_ends end h = by (length (window limit 0 content) == 0) refl (at_limit limit 0 content) refl
+    where
+      later : HasMore limit 0 content → packets_to_come limit 0 nothing content ≡ ([], end)
+      later more = ap only_packets (end_comes block_in Cut limit 0 nothing content end more h)
+
+      by : (none : Bool) → (length (window limit 0 content) == 0) ≡ none → (reached : Bool) → at_limit limit 0 content ≡ reached
+          → pcapng_of limit content ≡ ([], end)
+      by true e true r = picks false (λ i. e i && not (r i)) ∙ later (inl r)
+      by true e false r =
+          let none : length (window limit 0 content) ≡ 0 = let s = e in grind (arith, nat_tests) in
+          picks true (λ i. e i && not (r i)) ∙ ap (λ o. ([], unwrap_or o done)) (sym (empty none r) ∙ h)
+      by false e reached r =
+          let some : 0 < length (window limit 0 content) = let s = e in grind (arith, nat_tests) in
+          picks false (λ i. e i && not (at_limit limit 0 content)) ∙ later (inr some)
+
+  fails_to_open : {T : Type 0} (coming : T → List Packet × End NgReason) (fault : Fault NgReason)
+      → Fails (ends_by (block_in nothing) Cut limit 0 content) fault → Begins (pcapng_of limit content) coming (Err fault)
+  fails_to_open coming Read h = tt
+  fails_to_open coming Limit h = opens_ends limited h
+  fails_to_open coming (Bad reason place) h = opens_ends (bad reason place) h
+
+module _ {told : Bool} {faults faults' : ℕ} (left left' : ℕ → List ℕ) {holds holds' : List ℕ → Option (List ℕ)} {old new : Counted} {now : Stands}
+    {T : Type 0} where
+  -- the first block was read, and gave no packet
+  pub opens : {answer : T} → old.taken ≡ 0 → new.back ≡ [] → IsTrue told
+      → Reads told faults faults' (ahead old left) (ahead new left') holds holds' (block_in nothing) Cut old new (λ (_ : T). (None, now)) (Ok answer)
+      → pcapng_of old.limit (old.back ++ left old.slot) ≡ packets_to_come new.limit new.taken now (left' old.slot)
+  opens start none tells_so h =
+      let content = ahead old left old.slot in
+      let took = h.scanned tells_so in
+      let held = block_takes nothing old.taken (window old.limit old.taken content) _ took.count took.is in
+      let one : 1 ≤ took.count = held.0 in
+      let some : 0 < length (window old.limit old.taken content) = omega (arith, one, held.1) in
+      let behind : ahead new left' new.slot ≡ left' old.slot = λ i. nothing_ahead new left' none i (h.slot i) in
+      ap (λ l. pcapng_of old.limit l) (sym (here old left))
+      ∙ judged old.limit content (subst (λ n. 0 < length (window old.limit n content)) start some)
+      ∙ ap (λ n. packets_to_come old.limit n nothing content) (sym start)
+      ∙ ap only_packets (part_advances block_in block_takes Cut nothing tells_so h)
+      ∙ ap (λ l. packets_to_come new.limit new.taken now l) behind
+
+  -- the first block could not be read
+  pub opens_not : {U : Type 0} {fault : Fault NgReason} (coming : U → List Packet × End NgReason) → old.taken ≡ 0 → IsTrue told
+      → Reads told faults faults' (ahead old left) (ahead new left') holds holds' (block_in nothing) Cut old new (λ (_ : T). (None, now)) (Err fault)
+      → Begins (pcapng_of old.limit (old.back ++ left old.slot)) coming (Err fault)
+  opens_not {fault = fault} coming start tells_so h =
+      fails_to_open old.limit (old.back ++ left old.slot) coming fault
+      (subst (λ n. Fails (ends_by (block_in nothing) Cut old.limit n (old.back ++ left old.slot)) fault) start
+      (subst (λ l. Fails (ends_by (block_in nothing) Cut old.limit old.taken l) fault) (here old left) (h.scanned tells_so)))
+
+  pub opens_others : {result : Result T (Fault NgReason)} → IsTrue told
+      → Reads told faults faults' (ahead old left) (ahead new left') holds holds' (block_in nothing) Cut old new (λ (_ : T). (None, now)) result
+      → (other : ℕ) → other ≢ old.slot → left' other ≡ left other
+  opens_others tells_so h other apart =
+      sym (apart_from new left' other (λ e. apart (e ∙ h.slot))) ∙ h.others tells_so other apart ∙ apart_from old left other apart
+
+module _ {T U : Type 0} {told : Bool} {faults mid late : ℕ} (left : ℕ → List ℕ) {left' left'' : ℕ → List ℕ} {holds holds' holds'' : List ℕ → Option (List ℕ)}
+    {old now new : Counted} {answer : T} (later : Stands) (kind : List ℕ) (start : old.taken ≡ 0) (is : big_number 4 kind ≡ 0x0a0d0d0a) where
+  pub opening_reads : {order : Endian} {last : U} → later ≡ opened order 0 → now.back ≡ [] → new.back ≡ []
+      → Reads told faults mid (ahead old left) (ahead now left') holds holds' (field 4 whole) Cut old now (λ (_ : T). kind) (Ok answer)
+      → Reads told mid late left' left'' holds' holds'' (section_in 0) Cut now new (λ (o : Endian). o) (Ok order)
+      → Reads told faults late (ahead old left) (ahead new left'') holds holds'' (block_in nothing) Cut old new (λ (_ : U). (None, later)) (Ok last)
+  opening_reads {order = order} {last = last} same none none' first second =
+      reads_as (block_in nothing) (λ octets. ap (λ n. and (field 4 whole) (kind_behind nothing n) old.taken octets) (sym start))
+      (reads_then (kind_behind nothing 0) (λ (_ : U). (None, later)) first
+      (reads_as (kind_behind nothing 0 kind) (header_kind nothing 0 kind is now.taken)
+      (reads_then (λ order. gives (None, opened order 0)) (λ (_ : U). (None, later)) (reads_ahead none none' second)
+      (gives_for (None, opened order 0) (λ (_ : U). (None, later)) last (ap (λ s. (None, s)) (sym same))))))
+
+  pub opening_fails : {fault : Fault NgReason} → now.back ≡ [] → new.back ≡ []
+      → Reads told faults mid (ahead old left) (ahead now left') holds holds' (field 4 whole) Cut old now (λ (_ : T). kind) (Ok answer)
+      → Reads told mid late left' left'' holds' holds'' (section_in 0) Cut now new (λ (o : Endian). o) (Err fault)
+      → Reads told faults late (ahead old left) (ahead new left'') holds holds'' (block_in nothing) Cut old new (λ (_ : U). (None, later)) (Err fault)
+  opening_fails none none' first second =
+      reads_as (block_in nothing) (λ octets. ap (λ n. and (field 4 whole) (kind_behind nothing n) old.taken octets) (sym start))
+      (reads_then (kind_behind nothing 0) (λ (_ : U). (None, later)) first
+      (reads_as (kind_behind nothing 0 kind) (header_kind nothing 0 kind is now.taken)
+      (reads_ends (λ order. gives (None, opened order 0)) (λ (_ : U). (None, later)) (reads_ahead none none' second))))

@@ -1,0 +1,30 @@
+use Rattle.std.proofs.Common.{rules, ◌≡◌, ◌+◌, true, Some, ap, sym, ◌∙◌}
+use Rattle.fs_pcap.specs.Order.{number}
+use Rattle.fs_scan.proofs.Lifting.{reads_as, reads_then}
+use Rattle.fs_pcapng.specs.Block.{allows, body_in, frame_of, kind_of, least_of, plain_in, total_behind}
+use Rattle.fs_pcapng.specs.declared.fault.NgReason.TheVariants.{Length}
+use Rattle.fs_pcapng.proofs.Bodies.{told_of}
+use Rattle.fs_pcapng.proofs.Parts.{needs_true}
+use Rattle.fs_pcapng.proofs.block.take_plain.Goals as goal
+
+pub returns-clause-reads : goal.returns-clause-reads
+returns-clause-reads g c =
+    let now = c.args.section.now in
+    let start = c.args.start in
+    let order = c.in-Some.order in
+    let octets = c.args.kind.now in
+    let total = c.in-Ok.total in
+    let place = c.take_number.new.counted.taken in
+    let tells = told_of c.take_body.new.into c.take_body.new.section in
+    let found : Some order ≡ now.order = sym c.in-Some.is ∙ c.order.ensures in
+    let kind : c.kind_of-kind.result ≡ kind_of (number order 4 octets) = c.kind_of-kind.ensures ∙ ap kind_of c.read_u32.ensures in
+    let passes : c.allows.result ≡ true = search rules in
+    let test : allows (least_of (kind_of (number order 4 octets))) total ≡ true =
+    sym (ap (λ n. allows n total) (c.least.ensures.exact ∙ ap least_of kind)) ∙ sym c.allows.ensures ∙ passes in
+    reads_as (plain_in start now now.order octets) (λ rest. ap (λ o. plain_in start now o octets c.args.counted.now.taken rest) found)
+    (reads_then (total_behind start order now (kind_of (number order 4 octets))) tells c.in-Ok.ensures.reads
+    (reads_as (total_behind start order now (kind_of (number order 4 octets)) total)
+    (λ rest. ap (λ k. body_in (frame_of order start total) now k place rest) kind
+    ∙ needs_true (allows (least_of (kind_of (number order 4 octets))) total) Length (start + 4)
+    (body_in (frame_of order start total) now (kind_of (number order 4 octets))) test place rest)
+    c.take_body.ensures.reads))

@@ -1,0 +1,7 @@
+use Rattle.fs_scan.proofs.Lifting.{reads_then}
+use Rattle.fs_pcapng.specs.Block.{close_in}
+use Rattle.fs_pcapng.proofs.fields.end_block.Goals as goal
+
+pub returns-clause-reads : goal.returns-clause-reads
+returns-clause-reads g c =
+    reads_then (λ _. close_in c.args.frame) (λ _. c.args.frame.total) c.in_default.ensures.reads c.close_block.ensures.reads

@@ -1,0 +1,4 @@
+pub mod Time
+pub mod Options
+pub mod Block
+pub mod Pcapng

@@ -1,0 +1,77 @@
+-- A pcapng capture: blocks, the first of which is a section header. Those with packets give them.
+use Rattle.std.specs.Prelude.{ℕ, List, [], ◌∷◌, Option, Some, None, Result, Ok, Err, ◌≡◌, ◌≤◌, ◌<◌, ◌==◌, ◌&&◌, not, if◌then◌else◌, length, take, ⊤}
+use Rattle.fs_base.specs.Parts.{at_limit, window}
+use Rattle.fs_pcap.specs.declared.link.Link.{Link}
+use Rattle.fs_records.specs.Records.{End, bad, limited}
+use Rattle.fs_records.specs.declared.fault.Ended.{Ended}
+use Rattle.fs_records.specs.declared.fault.Fault.{Fault}
+use Rattle.fs_records.specs.declared.fault.Fault.TheVariants.{Read, Limit, Bad}
+use Rattle.fs_scan.specs.Coming.{parts_to_come}
+use Rattle.fs_pcapng.specs.Block.{Packet, Stands, block_in}
+use Rattle.fs_pcapng.specs.declared.caught.NgCaught.{NgCaught}
+use Rattle.fs_pcapng.specs.declared.caught.Seen.{Seen}
+use Rattle.fs_pcapng.specs.declared.fault.NgReason.{NgReason}
+use Rattle.fs_pcapng.specs.declared.fault.NgReason.TheVariants.{Cut}
+
+abbrev pub packets_of : List (Option Packet) → List Packet
+packets_of [] = []
+packets_of (None ∷ blocks) = packets_of blocks
+packets_of (Some found ∷ blocks) = found ∷ packets_of blocks
+
+abbrev pub only_packets : List (Option Packet) × End NgReason → List Packet × End NgReason
+only_packets found = (packets_of found.0, found.1)
+
+-- the packets that are still to come, where a capture stands so and so many octets of it were taken, and how it ends
+abbrev pub packets_to_come : (limit taken : ℕ) → Stands → List ℕ → List Packet × End NgReason
+packets_to_come limit taken now left = only_packets (parts_to_come block_in Cut limit taken now left)
+
+-- before the first section header
+abbrev pub nothing : Stands
+nothing = record { order = None; interfaces = []; moment = 0 }
+
+-- The packets of a capture of this content, and how it ends. Only its first `limit` octets are judged. No octets at all
+-- are no capture.
+abbrev pub pcapng_of : ℕ → List ℕ → List Packet × End NgReason
+pcapng_of limit content =
+    if (length (window limit 0 content) == 0) && not (at_limit limit 0 content)
+    then ([], bad Cut 0)
+    else packets_to_come limit 0 nothing content
+
+-- What a capture shows: its slot and limit, how many octets of it were taken, how it ended, where it did, where it
+-- stands, and the link type of its last packet, where it is known.
+pub record NgState : Type 0 where
+  pub slot : ℕ
+  pub limit : ℕ
+  pub place : ℕ
+  pub end : Option (Ended NgReason)
+  pub standing : Stands
+  pub link : Option Link
+
+-- the packets that a capture which hasn't ended is still to give, of what its slot has left, and how it will end
+abbrev pub coming : NgState → List ℕ → List Packet × End NgReason
+coming capture left = packets_to_come capture.limit capture.place capture.standing left
+
+-- a packet as the answer tells it; its octets stand at the front of the buffer
+abbrev pub packet_from : Option Link → NgCaught → List ℕ → Packet
+packet_from link caught into = record {
+  moment = caught.moment;
+  link = link;
+  original = caught.original;
+  octets = take caught.taken into;
+}
+
+-- A packet raises the place, up to the limit at most. It isn't too long.
+abbrev pub Grows : (old new limit : ℕ) → Result (Option NgCaught) (Fault NgReason) → Type 0
+Grows old new limit (Ok (Some caught)) = (old < new) × (new ≤ limit) × (caught.taken ≤ 262144)
+Grows old new limit (Ok None) = ⊤
+Grows old new limit (Err fault) = ⊤
+
+abbrev pub seen_from : List ℕ → Seen → Packet
+seen_from into seen = packet_from seen.link seen.caught into
+
+-- An opened capture is still to give all packets. A fault is what ends it before them.
+abbrev pub Begins : {T : Type 0} → List Packet × End NgReason → (T → List Packet × End NgReason) → Result T (Fault NgReason) → Type 0
+Begins all coming (Ok capture) = all ≡ coming capture
+Begins all coming (Err Read) = ⊤
+Begins all coming (Err Limit) = all ≡ ([], limited)
+Begins all coming (Err (Bad reason place)) = all ≡ ([], bad reason place)

@@ -1,0 +1,198 @@
+//! Blocks.
+ghost use Rattle.std.specs.Prelude.{◌≡◌, ◌≤◌, ◌<◌, ◌+◌, [], IfOk, IfSome, length};
+ghost use Rattle.std.specs.Option.{option_map};
+ghost use Rattle.fs_scan.specs.Reads.{Reads};
+ghost use Rattle.fs_pcapng.specs.Block.{body_in, kind_behind, kind_of, least_of, plain_in};
+ghost use Rattle.fs_pcapng.specs.Pcapng.{seen_from};
+ghost use Rattle.fs_pcapng.specs.declared.fault.NgReason.TheVariants.{Cut};
+
+use crate::caught::Seen;
+use crate::fault::{NgFault, NgReason};
+use crate::fields::{Frame, end_block, read_u32, take_number};
+use crate::header::{allows, take_header};
+use crate::packets::{take_described, take_enhanced, take_simple};
+use crate::section::Section;
+use byteorder::{BigEndian, ByteOrder};
+use fs_base::{Counted, Files};
+
+/// The type of a section header, the same in either order.
+pub(crate) const SECTION_HEADER: u32 = 0x0a0d_0d0a;
+
+/// The kinds of blocks behind a section header.
+#[derive(Clone, Copy, Debug, PartialEq, Eq, Drop)]
+pub(crate) enum Kind {
+    /// Describes an interface.
+    Described,
+    /// An enhanced packet.
+    Enhanced,
+    /// A simple packet.
+    Simple,
+    /// All else, which is skipped.
+    Other,
+}
+
+fn kind_of(number: u32) -> Kind
+    ensures { result ≡ kind_of number }
+{
+    match number {
+        1 => Kind::Described,
+        6 => Kind::Enhanced,
+        3 => Kind::Simple,
+        _ => Kind::Other,
+    }
+}
+
+impl Kind {
+    /// The octets of the fields that a block of this kind needs.
+    fn least(self) -> u32
+        ensures exact { result ≡ least_of self }
+        ensures some { 12 ≤ result }
+    {
+        match self {
+            Kind::Described => 20,
+            Kind::Enhanced => 32,
+            Kind::Simple => 16,
+            Kind::Other => 12,
+        }
+    }
+}
+
+/// Reads a block behind the octets of its type: the packet that it gives, if any.
+pub(crate) fn take_block<F: Files>(
+    start: u64,
+    kind: &[u8],
+    section: &mut Section,
+    counted: &mut Counted,
+    files: &mut F,
+    into: &mut [u8],
+) -> Result<Option<Seen>, NgFault>
+    requires kind { 4 ≤ length kind.now }
+    requires room { 262144 ≤ length into.old }
+    requires none { counted.old.back ≡ [] }
+    requires place { counted.old.taken ≡ start + 4 }
+    ensures none { counted.new.back ≡ [] }
+    ensures room { length into.new ≡ length into.old }
+    ensures grows { IfOk result (λ _. start < counted.new.taken) }
+    ensures size { IfOk result (λ found. IfSome found (λ seen. seen.caught.taken ≤ 262144)) }
+    ensures moment { IfOk result (λ found. IfSome found (λ seen. seen.caught.moment ≡ section.new.moment)) }
+    ensures reads { Reads F.tells (F.faults files.old) (F.faults files.new) (F.left files.old) (F.left files.new)
+        (F.holds files.old) (F.holds files.new) (kind_behind section.old start kind.now) Cut counted.old counted.new
+        (λ found. (option_map (seen_from into.new) found, section.new)) result }
+{
+    if BigEndian::read_u32(kind) == SECTION_HEADER {
+        return match take_header(start, counted, files) {
+            Ok(order) => {
+                section.open(order);
+                Ok(None)
+            }
+            Err(fault) => Err(fault),
+        };
+    }
+    take_plain(start, kind, section, counted, files, into)
+}
+
+/// Reads a block that is no section header.
+fn take_plain<F: Files>(
+    start: u64,
+    kind: &[u8],
+    section: &mut Section,
+    counted: &mut Counted,
+    files: &mut F,
+    into: &mut [u8],
+) -> Result<Option<Seen>, NgFault>
+    requires kind { 4 ≤ length kind.now }
+    requires room { 262144 ≤ length into.old }
+    requires none { counted.old.back ≡ [] }
+    requires place { counted.old.taken ≡ start + 4 }
+    ensures none { counted.new.back ≡ [] }
+    ensures room { length into.new ≡ length into.old }
+    ensures grows { IfOk result (λ _. start < counted.new.taken) }
+    ensures size { IfOk result (λ found. IfSome found (λ seen. seen.caught.taken ≤ 262144)) }
+    ensures moment { IfOk result (λ found. IfSome found (λ seen. seen.caught.moment ≡ section.new.moment)) }
+    ensures reads { Reads F.tells (F.faults files.old) (F.faults files.new) (F.left files.old) (F.left files.new)
+        (F.holds files.old) (F.holds files.new) (plain_in start section.old section.old.order kind.now) Cut
+        counted.old counted.new (λ found. (option_map (seen_from into.new) found, section.new)) result }
+{
+    let Some(order) = section.order() else {
+        return Err(NgFault::Bad {
+            reason: NgReason::Magic,
+            place: start,
+        });
+    };
+    let kind = kind_of(read_u32(order, kind));
+    let total = match take_number(order, counted, files) {
+        Ok(total) => total,
+        Err(fault) => return Err(fault),
+    };
+    if !allows(kind.least(), total) {
+        return Err(NgFault::Bad {
+            reason: NgReason::Length,
+            place: counted.taken - 4,
+        });
+    }
+    let frame = Frame {
+        order,
+        start,
+        total,
+    };
+    take_body(frame, kind, section, counted, files, into)
+}
+
+/// Reads the body of a block, and ends it.
+fn take_body<F: Files>(
+    frame: Frame,
+    kind: Kind,
+    section: &mut Section,
+    counted: &mut Counted,
+    files: &mut F,
+    into: &mut [u8],
+) -> Result<Option<Seen>, NgFault>
+    requires room { 262144 ≤ length into.old }
+    requires none { counted.old.back ≡ [] }
+    requires place { counted.old.taken ≡ frame.start + 8 }
+    requires long { least_of kind ≤ frame.total }
+    ensures none { counted.new.back ≡ [] }
+    ensures room { length into.new ≡ length into.old }
+    ensures grows { IfOk result (λ _. frame.start < counted.new.taken) }
+    ensures size { IfOk result (λ found. IfSome found (λ seen. seen.caught.taken ≤ 262144)) }
+    ensures moment { IfOk result (λ found. IfSome found (λ seen. seen.caught.moment ≡ section.new.moment)) }
+    ensures reads { Reads F.tells (F.faults files.old) (F.faults files.new) (F.left files.old) (F.left files.new)
+        (F.holds files.old) (F.holds files.new) (body_in frame section.old kind) Cut counted.old counted.new
+        (λ found. (option_map (seen_from into.new) found, section.new)) result }
+{
+    match kind {
+        Kind::Described => {
+            if !section.has_room() {
+                return Err(NgFault::Bad {
+                    reason: NgReason::TooMany,
+                    place: frame.start,
+                });
+            }
+            match take_described(frame, counted, files) {
+                Ok(interface) => {
+                    section.add(interface);
+                    Ok(None)
+                }
+                Err(fault) => Err(fault),
+            }
+        }
+        Kind::Enhanced => match take_enhanced(frame, section, counted, files, into) {
+            Ok(seen) => {
+                section.pass(seen.caught.moment);
+                Ok(Some(seen))
+            }
+            Err(fault) => Err(fault),
+        },
+        Kind::Simple => match take_simple(frame, section, counted, files, into) {
+            Ok(seen) => {
+                section.pass(seen.caught.moment);
+                Ok(Some(seen))
+            }
+            Err(fault) => Err(fault),
+        },
+        Kind::Other => match end_block(frame, frame.total as u64 - 12, counted, files) {
+            Ok(()) => Ok(None),
+            Err(fault) => Err(fault),
+        },
+    }
+}

@@ -1,0 +1,311 @@
+//! A capture, read packet by packet.
+ghost use Rattle.std.specs.Prelude.{◌≡◌, ◌≤◌, ◌<◌, ◌+◌, ◌++◌, [], None, IsSome, IsTrue, IfOk, IfSome, length};
+ghost use Rattle.std.specs.Option.{option_map};
+ghost use Rattle.std.specs.Result.{IsErrOf};
+ghost use Rattle.fs_base.specs.Files.{OnlySlot};
+ghost use Rattle.fs_base.specs.Outside.{Rose};
+ghost use Rattle.fs_base.specs.Parts.{with_part};
+ghost use Rattle.fs_records.specs.Reading.{Advances, answer_of, ended_after};
+ghost use Rattle.fs_records.specs.declared.fault.Fault.TheVariants.{Read};
+ghost use Rattle.fs_scan.specs.Coming.{parts_to_come};
+ghost use Rattle.fs_scan.specs.Reads.{Reads, Starts, ahead, whole};
+ghost use Rattle.fs_scan.specs.Scan.{field};
+ghost use Rattle.fs_pcapng.specs.Block.{block_in};
+ghost use Rattle.fs_pcapng.specs.Pcapng.{Begins, Grows, nothing, packet_from, packets_to_come, pcapng_of, seen_from};
+ghost use Rattle.fs_pcapng.specs.declared.fault.NgReason.TheVariants.{Cut};
+
+use crate::block::{SECTION_HEADER, take_block};
+use crate::caught::{NgCaught, Seen};
+use crate::fault::{NgFault, NgReason};
+use crate::header::take_header;
+use crate::section::Section;
+use byteorder::{BigEndian, ByteOrder};
+use fs_base::{Counted, Files};
+use fs_pcap::Link;
+use fs_records::Ended;
+use fs_scan::{take_again, take_first};
+use std::marker::Model;
+
+/// A capture that is read from a slot.
+#[derive(Drop)]
+pub struct Ng {
+    counted: Counted,
+    end: Option<Ended<NgReason>>,
+    section: Section,
+    link: Option<Link>,
+}
+
+impl Model for Ng {
+    ghost use Rattle.std.specs.Prelude.{◌≡◌, []};
+    ghost use Rattle.fs_pcapng.specs.Pcapng.{NgState};
+
+    ghost Value = { NgState };
+
+    ghost view = { λ capture.
+        record {
+          slot = capture.counted.slot;
+          limit = capture.counted.limit;
+          place = capture.counted.taken;
+          end = capture.end;
+          standing = capture.section;
+          link = capture.link;
+        } };
+
+    ghost invariant = { λ capture. capture.counted.back ≡ [] };
+}
+
+impl Ng {
+    ghost use Rattle.fs_pcapng.specs.Pcapng.{coming};
+
+    /// Reads the first block, which is a section header. Octets of it may have been put back.
+    ///
+    /// # Errors
+    ///
+    /// `Magic`, `Version` or `Length`, as soon as the field is read; `Cut` where the capture ends within the block;
+    /// `Limit` where the limit is reached in it and no field before is wrong; `Read` where the files failed.
+    pub fn begin<F: Files>(mut counted: Counted, files: &mut F) -> Result<Ng, NgFault>
+        requires start { counted.taken ≡ 0 }
+        requires few { length counted.back ≤ 4 }
+        ensures later { F.faults files.old ≤ F.faults files.new }
+        ensures read { IsErrOf result Read → Rose (F.faults files.old) (F.faults files.new) }
+        ensures slot { IfOk result (λ capture. capture.slot ≡ counted.slot) }
+        ensures limit { IfOk result (λ capture. capture.limit ≡ counted.limit) }
+        ensures end { IfOk result (λ capture. capture.end ≡ None) }
+        ensures link { IfOk result (λ capture. capture.link ≡ None) }
+        ensures within { IfOk result (λ capture. capture.place ≤ capture.limit) }
+
+        ensures begins { IsTrue F.tells
+            → Begins
+            (pcapng_of counted.limit (counted.back ++ F.left files.old counted.slot))
+            (λ capture. coming capture (F.left files.new counted.slot))
+            result }
+        ensures others { OnlySlot F.tells F.left F.holds counted.slot files.old files.new }
+    {
+        let mut section = Section::nothing();
+        match take_opening(&mut section, &mut counted, files) {
+            Ok(()) => Ok(Ng {
+                counted,
+                end: None,
+                section,
+                link: None,
+            }),
+            Err(fault) => Err(fault),
+        }
+    }
+
+    /// The link type of the last packet's interface; None before the first packet, and where it isn't one of the six
+    /// that are read.
+    pub fn link(&self) -> Option<Link>
+        ensures { result ≡ self.now.link }
+    {
+        self.link
+    }
+
+    /// Reads up to the next packet. Its octets stand at the front of `into`. `None`: the capture ended behind a block.
+    /// After that, and after any fault, each call answers the same again and reads nothing.
+    ///
+    /// # Errors
+    ///
+    /// The first field that stands whole and is wrong, as soon as it is read; `Cut` where the capture ends within a
+    /// block; `Limit` where the limit is reached and no field before it is wrong; `Read` where the files failed.
+    pub fn next<F: Files>(
+        &mut self,
+        files: &mut F,
+        into: &mut [u8],
+    ) -> Result<Option<NgCaught>, NgFault>
+        requires { 262144 ≤ length into.old }
+        ensures room { length into.new ≡ length into.old }
+        ensures later { F.faults files.old ≤ F.faults files.new }
+        ensures read { self.old.end ≡ None → IsErrOf result Read → Rose (F.faults files.old) (F.faults files.new) }
+        ensures slot { self.new.slot ≡ self.old.slot }
+        ensures limit { self.new.limit ≡ self.old.limit }
+        ensures again { IfSome self.old.end (λ ended. result ≡ answer_of ended) }
+        ensures stays { IsSome self.old.end → self.new ≡ self.old }
+        ensures unread { IsSome self.old.end → files.new ≡ files.old }
+        ensures ended { self.new.end ≡ ended_after result }
+        ensures grows { self.old.end ≡ None → Grows self.old.place self.new.place self.new.limit result }
+        ensures times { IfOk result (λ found. IfSome found (λ caught. caught.moment ≡ self.new.standing.moment)) }
+
+        ensures advances { IsTrue F.tells
+            → self.old.end ≡ None
+            → Advances
+            (coming self.old (F.left files.old self.old.slot))
+            (λ caught. with_part
+            (packet_from self.new.link caught into.new)
+            (coming self.new (F.left files.new self.old.slot)))
+            result }
+        ensures others { OnlySlot F.tells F.left F.holds self.old.slot files.old files.new }
+    {
+        if let Some(ended) = self.end {
+            return answer(ended);
+        }
+        match next_seen(&mut self.section, &mut self.counted, files, into) {
+            Ok(Some(seen)) => {
+                self.link = seen.link;
+                Ok(Some(seen.caught))
+            }
+            Ok(None) => {
+                self.end = Some(Ended::Done);
+                Ok(None)
+            }
+            Err(fault) => {
+                self.end = Some(Ended::Stopped(fault));
+                Err(fault)
+            }
+        }
+    }
+}
+
+/// What a capture that ended answers.
+fn answer(ended: Ended<NgReason>) -> Result<Option<NgCaught>, NgFault>
+    ensures { result ≡ answer_of ended }
+{
+    match ended {
+        Ended::Done => Ok(None),
+        Ended::Stopped(fault) => Err(fault),
+    }
+}
+
+/// Reads the first block of a capture.
+fn take_opening<F: Files>(
+    section: &mut Section,
+    counted: &mut Counted,
+    files: &mut F,
+) -> Result<(), NgFault>
+    requires nothing { section.old ≡ nothing }
+    requires start { counted.old.taken ≡ 0 }
+    requires few { length counted.old.back ≤ 4 }
+    ensures none { IfOk result (λ _. counted.new.back ≡ []) }
+    ensures reads { Reads F.tells (F.faults files.old) (F.faults files.new)
+        (ahead counted.old (F.left files.old)) (ahead counted.new (F.left files.new))
+        (F.holds files.old) (F.holds files.new) (block_in nothing) Cut counted.old counted.new
+        (λ _. (None, section.new)) result }
+{
+    let mut kind = [0u8; 4];
+    if let Err(fault) = take_kind(counted, files, &mut kind) {
+        return Err(fault);
+    }
+    if BigEndian::read_u32(&kind) != SECTION_HEADER {
+        return Err(NgFault::Bad {
+            reason: NgReason::Magic,
+            place: 0,
+        });
+    }
+    match take_header(0, counted, files) {
+        Ok(order) => {
+            section.open(order);
+            Ok(())
+        }
+        Err(fault) => Err(fault),
+    }
+}
+
+/// Takes the type of the first block.
+fn take_kind<F: Files>(counted: &mut Counted, files: &mut F, kind: &mut [u8]) -> Result<(), NgFault>
+    requires room { length kind.old ≡ 4 }
+    requires few { length counted.old.back ≤ 4 }
+    ensures none { IfOk result (λ _. counted.new.back ≡ []) }
+    ensures room { length kind.new ≡ 4 }
+    ensures taken { IfOk result (λ _. counted.new.taken ≡ counted.old.taken + 4) }
+    ensures reads { Reads F.tells (F.faults files.old) (F.faults files.new)
+        (ahead counted.old (F.left files.old)) (ahead counted.new (F.left files.new))
+        (F.holds files.old) (F.holds files.new) (field 4 whole) Cut counted.old counted.new
+        (λ _. kind.new) result }
+{
+    take_again(NgReason::Cut, counted, files, kind)
+}
+
+/// Reads blocks up to one that gives a packet.
+fn next_seen<F: Files>(
+    section: &mut Section,
+    counted: &mut Counted,
+    files: &mut F,
+    into: &mut [u8],
+) -> Result<Option<Seen>, NgFault>
+    requires room { 262144 ≤ length into.old }
+    requires none { counted.old.back ≡ [] }
+    ensures none { counted.new.back ≡ [] }
+    ensures room { length into.new ≡ length into.old }
+    ensures later { F.faults files.old ≤ F.faults files.new }
+    ensures read { IsErrOf result Read → Rose (F.faults files.old) (F.faults files.new) }
+    ensures slot { counted.new.slot ≡ counted.old.slot }
+    ensures limit { counted.new.limit ≡ counted.old.limit }
+    ensures grows { IfOk result (λ found. IfSome found (λ seen. counted.old.taken < counted.new.taken)) }
+    ensures size { IfOk result (λ found. IfSome found (λ seen. seen.caught.taken ≤ 262144)) }
+    ensures moment { IfOk result (λ found. IfSome found (λ seen. seen.caught.moment ≡ section.new.moment)) }
+
+    ensures advances { IsTrue F.tells
+        → Advances
+        (packets_to_come counted.old.limit counted.old.taken section.old (F.left files.old counted.old.slot))
+        (λ seen. with_part
+        (seen_from into.new seen)
+        (packets_to_come counted.new.limit counted.new.taken section.new (F.left files.new counted.old.slot)))
+        result }
+    ensures others { OnlySlot F.tells F.left F.holds counted.old.slot files.old files.new }
+{
+    'blocks: loop {
+        match advance(section, counted, files, into) {
+            Ok(Some(Some(seen))) => return Ok(Some(seen)),
+            Ok(Some(None)) => {}
+            Ok(None) => return Ok(None),
+            Err(fault) => return Err(fault),
+        }
+    }
+}
+
+/// Reads one block: the packet that it gives, if any. `None`: the capture ended before it.
+fn advance<F: Files>(
+    section: &mut Section,
+    counted: &mut Counted,
+    files: &mut F,
+    into: &mut [u8],
+) -> Result<Option<Option<Seen>>, NgFault>
+    requires room { 262144 ≤ length into.old }
+    requires none { counted.old.back ≡ [] }
+    ensures none { counted.new.back ≡ [] }
+    ensures room { length into.new ≡ length into.old }
+    ensures later { F.faults files.old ≤ F.faults files.new }
+    ensures read { IsErrOf result Read → Rose (F.faults files.old) (F.faults files.new) }
+    ensures slot { counted.new.slot ≡ counted.old.slot }
+    ensures limit { counted.new.limit ≡ counted.old.limit }
+    ensures grows { IfOk result (λ found. IfSome found (λ told. counted.old.taken < counted.new.taken)) }
+    ensures size { IfOk result (λ found. IfSome found (λ told. IfSome told (λ seen. seen.caught.taken ≤ 262144))) }
+    ensures moment { IfOk result (λ found.
+        IfSome found (λ told. IfSome told (λ seen. seen.caught.moment ≡ section.new.moment))) }
+
+    ensures advances { IsTrue F.tells
+        → Advances
+        (parts_to_come block_in Cut counted.old.limit counted.old.taken section.old (F.left files.old counted.old.slot))
+        (λ told. with_part
+        (option_map (seen_from into.new) told)
+        (parts_to_come block_in Cut counted.new.limit counted.new.taken section.new (F.left files.new counted.new.slot)))
+        result }
+    ensures others { OnlySlot F.tells F.left F.holds counted.old.slot files.old files.new }
+{
+    let mut kind = [0u8; 4];
+    match begin_block(counted, files, &mut kind) {
+        Ok(true) => match take_block(counted.taken - 4, &kind, section, counted, files, into) {
+            Ok(found) => Ok(Some(found)),
+            Err(fault) => Err(fault),
+        },
+        Ok(false) => Ok(None),
+        Err(fault) => Err(fault),
+    }
+}
+
+/// Takes the type of a block. `false`: the capture ended before it.
+fn begin_block<F: Files>(
+    counted: &mut Counted,
+    files: &mut F,
+    kind: &mut [u8],
+) -> Result<bool, NgFault>
+    requires room { length kind.old ≡ 4 }
+    requires none { counted.old.back ≡ [] }
+    ensures none { counted.new.back ≡ [] }
+    ensures room { length kind.new ≡ 4 }
+    ensures taken { IfOk result (λ found. IsTrue found → counted.new.taken ≡ counted.old.taken + 4) }
+    ensures starts { Starts F.tells (F.faults files.old) (F.faults files.new) (F.left files.old) (F.left files.new)
+        (F.holds files.old) (F.holds files.new) 4 Cut counted.old counted.new kind.new result }
+{
+    take_first(NgReason::Cut, counted, files, kind)
+}

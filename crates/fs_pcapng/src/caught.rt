@@ -1,0 +1,20 @@
+//! Captured packets.
+
+use fs_pcap::Link;
+
+/// A captured packet. `taken` octets of it were captured, of `original`; they stand at the front of the buffer that was
+/// handed in. `moment`, in nanoseconds since the start of 1970, is the greatest time of the packets up to and with this
+/// one; a simple packet's time is 0.
+#[derive(Clone, Copy, Debug, PartialEq, Eq, Drop)]
+pub struct NgCaught {
+    pub moment: u64,
+    pub taken: usize,
+    pub original: u32,
+}
+
+/// A packet and the link type of its interface.
+#[derive(Clone, Copy, Debug, PartialEq, Eq, Drop)]
+pub(crate) struct Seen {
+    pub(crate) caught: NgCaught,
+    pub(crate) link: Option<Link>,
+}

@@ -1,0 +1,160 @@
+//! Taking the fields of blocks.
+ghost use Rattle.std.specs.Prelude.{◌≡◌, ◌≤◌, ◌+◌, [], IfOk, length, take, drop};
+ghost use Rattle.fs_pcap.specs.Order.{number};
+ghost use Rattle.fs_scan.specs.Reads.{Reads, whole};
+ghost use Rattle.fs_scan.specs.Scan.{field, skips};
+ghost use Rattle.fs_pcapng.specs.Block.{close_in, end_in};
+ghost use Rattle.fs_pcapng.specs.declared.fault.NgReason.TheVariants.{Cut};
+
+use crate::fault::{NgFault, NgReason};
+use byteorder::{BigEndian, ByteOrder, LittleEndian};
+use fs_base::{Counted, Files};
+use fs_pcap::Endian;
+use fs_scan::{skip_octets, take_octets};
+
+/// Where a block stands: the order of its numbers, the place of its first octet, and its total length.
+#[derive(Clone, Copy, Debug, PartialEq, Eq, Drop)]
+pub(crate) struct Frame {
+    pub(crate) order: Endian,
+    pub(crate) start: u64,
+    pub(crate) total: u32,
+}
+
+/// The number in the first two octets.
+pub(crate) fn read_u16(order: Endian, octets: &[u8]) -> u16
+    requires { 2 ≤ length octets.now }
+    ensures { result ≡ number order 2 octets.now }
+{
+    match order {
+        Endian::Big => BigEndian::read_u16(octets),
+        Endian::Little => LittleEndian::read_u16(octets),
+    }
+}
+
+/// The number in the first four octets.
+pub(crate) fn read_u32(order: Endian, octets: &[u8]) -> u32
+    requires { 4 ≤ length octets.now }
+    ensures { result ≡ number order 4 octets.now }
+{
+    match order {
+        Endian::Big => BigEndian::read_u32(octets),
+        Endian::Little => LittleEndian::read_u32(octets),
+    }
+}
+
+/// Takes so many octets into the front of `into`.
+pub(crate) fn take_front<F: Files>(
+    size: usize,
+    counted: &mut Counted,
+    files: &mut F,
+    into: &mut [u8],
+) -> Result<(), NgFault>
+    requires room { size ≤ length into.old }
+    requires none { counted.old.back ≡ [] }
+    ensures none { counted.new.back ≡ [] }
+    ensures room { length into.new ≡ length into.old }
+    ensures taken { IfOk result (λ _. counted.new.taken ≡ counted.old.taken + size) }
+    ensures reads { Reads F.tells (F.faults files.old) (F.faults files.new) (F.left files.old) (F.left files.new)
+        (F.holds files.old) (F.holds files.new) (field size whole) Cut counted.old counted.new
+        (λ _. take size into.new) result }
+{
+    take_octets(NgReason::Cut, counted, files, &mut into[..size])
+}
+
+/// Takes a number of two octets.
+pub(crate) fn take_short<F: Files>(
+    order: Endian,
+    counted: &mut Counted,
+    files: &mut F,
+) -> Result<u16, NgFault>
+    requires none { counted.old.back ≡ [] }
+    ensures none { counted.new.back ≡ [] }
+    ensures taken { IfOk result (λ _. counted.new.taken ≡ counted.old.taken + 2) }
+    ensures reads { Reads F.tells (F.faults files.old) (F.faults files.new) (F.left files.old) (F.left files.new)
+        (F.holds files.old) (F.holds files.new) (field 2 (number order 2)) Cut counted.old counted.new (λ n. n) result }
+{
+    let mut octets = [0u8; 2];
+    if let Err(fault) = take_front(2, counted, files, &mut octets) {
+        return Err(fault);
+    }
+    Ok(read_u16(order, &octets))
+}
+
+/// Takes a number of four octets.
+pub(crate) fn take_number<F: Files>(
+    order: Endian,
+    counted: &mut Counted,
+    files: &mut F,
+) -> Result<u32, NgFault>
+    requires none { counted.old.back ≡ [] }
+    ensures none { counted.new.back ≡ [] }
+    ensures taken { IfOk result (λ _. counted.new.taken ≡ counted.old.taken + 4) }
+    ensures reads { Reads F.tells (F.faults files.old) (F.faults files.new) (F.left files.old) (F.left files.new)
+        (F.holds files.old) (F.holds files.new) (field 4 (number order 4)) Cut counted.old counted.new (λ n. n) result }
+{
+    let mut octets = [0u8; 4];
+    if let Err(fault) = take_front(4, counted, files, &mut octets) {
+        return Err(fault);
+    }
+    Ok(read_u32(order, &octets))
+}
+
+/// Takes the total length again.
+pub(crate) fn close_block<F: Files>(
+    frame: Frame,
+    counted: &mut Counted,
+    files: &mut F,
+) -> Result<(), NgFault>
+    requires none { counted.old.back ≡ [] }
+    requires place { counted.old.taken + 4 ≡ frame.start + frame.total }
+    ensures none { counted.new.back ≡ [] }
+    ensures taken { IfOk result (λ _. counted.new.taken ≡ frame.start + frame.total) }
+    ensures reads { Reads F.tells (F.faults files.old) (F.faults files.new) (F.left files.old) (F.left files.new)
+        (F.holds files.old) (F.holds files.new) (close_in frame) Cut counted.old counted.new (λ _. frame.total) result }
+{
+    let place = counted.taken;
+    match take_number(frame.order, counted, files) {
+        Ok(again) => {
+            if again != frame.total {
+                return Err(NgFault::Bad {
+                    reason: NgReason::Length,
+                    place,
+                });
+            }
+            Ok(())
+        }
+        Err(fault) => Err(fault),
+    }
+}
+
+/// Skips so many octets.
+pub(crate) fn skip<F: Files>(size: u64, counted: &mut Counted, files: &mut F) -> Result<(), NgFault>
+    requires none { counted.old.back ≡ [] }
+    ensures none { counted.new.back ≡ [] }
+    ensures taken { IfOk result (λ _. counted.new.taken ≡ counted.old.taken + size) }
+    ensures reads { Reads F.tells (F.faults files.old) (F.faults files.new) (F.left files.old) (F.left files.new)
+        (F.holds files.old) (F.holds files.new) (skips size) Cut counted.old counted.new (λ _. size) result }
+{
+    let mut octets = [0u8; 64];
+    skip_octets(NgReason::Cut, size, counted, files, &mut octets)
+}
+
+/// Skips what is left of a block, so many octets, and takes the total length again.
+pub(crate) fn end_block<F: Files>(
+    frame: Frame,
+    size: u64,
+    counted: &mut Counted,
+    files: &mut F,
+) -> Result<(), NgFault>
+    requires none { counted.old.back ≡ [] }
+    requires place { counted.old.taken + size + 4 ≡ frame.start + frame.total }
+    ensures none { counted.new.back ≡ [] }
+    ensures taken { IfOk result (λ _. counted.new.taken ≡ frame.start + frame.total) }
+    ensures reads { Reads F.tells (F.faults files.old) (F.faults files.new) (F.left files.old) (F.left files.new)
+        (F.holds files.old) (F.holds files.new) (end_in frame size) Cut counted.old counted.new (λ _. frame.total) result }
+{
+    if let Err(fault) = skip(size, counted, files) {
+        return Err(fault);
+    }
+    close_block(frame, counted, files)
+}

@@ -1,0 +1,17 @@
+//! Captures of the pcapng format.
+#![tactic(auto)]
+
+mod block;
+mod capture;
+mod caught;
+mod fault;
+mod fields;
+mod header;
+mod options;
+mod packets;
+mod section;
+mod time;
+
+pub use capture::Ng;
+pub use caught::NgCaught;
+pub use fault::{NgFault, NgReason};
