@@ -27,8 +27,8 @@ pub enum Ending {
     AtLimit,
 }
 
-/// Announces through end 1 of the wire, which is open: the OPEN, then what answers the octets that come, up to the message
-/// that establishes the session, and then the rules.
+/// Announces through end 1 of the wire, which is open: the OPEN, then what answers the octets that come, up to the
+/// message that establishes the session, and then the rules.
 ///
 /// # Errors
 ///

@@ -114,8 +114,8 @@ fn wake(announcer: &mut Announcer<'_>, moment: u64, out: &mut Vec<u8>) -> Result
     }
 }
 
-/// Takes the piece up to the end of one message, and answers how many octets that were; None where none are left, or the
-/// end is established or has closed.
+/// Takes the piece up to the end of one message, and answers how many octets that were; None where none are left, or
+/// the end is established or has closed.
 fn take_message(
     announcer: &mut Announcer<'_>,
     piece: &[u8],
@@ -140,8 +140,8 @@ fn take_message(
     }
 }
 
-/// Takes the piece message by message, up to and with the one that establishes the session. Answers how many octets that
-/// were, all of them where none does.
+/// Takes the piece message by message, up to and with the one that establishes the session. Answers how many octets
+/// that were, all of them where none does.
 fn take_until(
     announcer: &mut Announcer<'_>,
     piece: &[u8],
@@ -150,7 +150,8 @@ fn take_until(
     ensures bound { IfOk result (λ count. count ≤ length piece.now) }
     ensures taken { IfOk result (λ count.
         Takes announcer.old announcer.new piece.now (drop count piece.now) out.old.items out.new.items) }
-    ensures all { IfOk result (λ count. is_established (state_in announcer.new.line) ≡ false → count ≡ length piece.now) }
+    ensures all { IfOk result (λ count.
+        is_established (state_in announcer.new.line) ≡ false → count ≡ length piece.now) }
     ensures same { KeepsOwn announcer.old announcer.new }
 {
     let mut rest = piece;

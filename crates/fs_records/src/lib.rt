@@ -10,4 +10,4 @@ mod reading;
 pub use fault::{Ended, Fault};
 pub use head::{Found, Head, Heads, MOST_HEAD};
 pub use opening::opened;
-pub use reading::{next_record, short};
+pub use reading::{answer, ended_by, next_record, short};

@@ -86,8 +86,12 @@ fn stopped<T, R: Drop>(cut: R, counted: &Counted, count: usize) -> Result<Option
     Err(short(cut, counted))
 }
 
-/// What an input that ended answers.
-fn answer<T, R>(ended: Ended<R>) -> Result<Option<T>, Fault<R>>
+/// What an input that ended answers, on every further call.
+///
+/// # Errors
+///
+/// The fault that stays.
+pub fn answer<T, R>(ended: Ended<R>) -> Result<Option<T>, Fault<R>>
     ensures { result ≡ answer_of ended }
 {
     match ended {
@@ -96,8 +100,8 @@ fn answer<T, R>(ended: Ended<R>) -> Result<Option<T>, Fault<R>>
     }
 }
 
-/// How an input stands ended behind an answer.
-fn ended_by<T, R: Copy>(found: &Result<Option<T>, Fault<R>>) -> Option<Ended<R>>
+/// How an input stands ended behind an answer: `None` where a record was read.
+pub fn ended_by<T, R: Copy>(found: &Result<Option<T>, Fault<R>>) -> Option<Ended<R>>
     ensures { result ≡ ended_after found.now }
 {
     match found {

@@ -24,7 +24,9 @@ pub fn confirm(a: &Rule, b: &Rule) -> bool
 fn each_has_one(components: &[Component], others: &[Component]) -> bool
     requires components { AreSound (parts_of components.now) }
     requires others { AreSound (parts_of others.now) }
-    ensures { result ≡ list_all (λ outer. list_any (λ inner. part_lies_in inner outer) (parts_of others.now)) (parts_of components.now) }
+    ensures { result ≡ list_all
+        (λ outer. list_any (λ inner. part_lies_in inner outer) (parts_of others.now))
+        (parts_of components.now) }
 {
     for component in components {
         if !has_one(component, others) {

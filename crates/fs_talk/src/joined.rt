@@ -92,8 +92,8 @@ fn sum(one: u64, other: u64) -> Result<u64, Memory>
     one.checked_add(other).ok_or(Memory)
 }
 
-/// Two ends that are joined hear each other by turns, each piece at the moment that the clock answers behind its read: the
-/// first where octets to it are unread, else the second, else the second says its next message. Until an end has
+/// Two ends that are joined hear each other by turns, each piece at the moment that the clock answers behind its read:
+/// the first where octets to it are unread, else the second, else the second says its next message. Until an end has
 /// closed, has heard `limit` octets (the second: up to where it was ready), or nothing more is said.
 ///
 /// # Errors

@@ -1,5 +1,5 @@
-//! The loops of the commands that speak over a wire: what an end hears at a moment and says, over any wire, any clock and
-//! ends given by a trait.
+//! The loops of the commands that speak over a wire: what an end hears at a moment and says, over any wire, any clock
+//! and ends given by a trait.
 #![tactic(auto)]
 
 mod fault;

@@ -25,8 +25,8 @@ pub enum Heard {
 }
 
 /// Hears what comes at an end, each piece at the moment that the clock answers behind its read, and writes what the
-/// speaker says to it, until the speaker has closed, has heard `limit` octets up to where it was ready, is ready, or the
-/// stream ends.
+/// speaker says to it, until the speaker has closed, has heard `limit` octets up to where it was ready, is ready, or
+/// the stream ends.
 ///
 /// # Errors
 ///
