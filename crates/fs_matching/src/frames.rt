@@ -3,9 +3,9 @@
 ghost use Rattle.std.specs.Prelude.{◌<◌};
 
 use crate::addresses::{v4_address, v6_address};
-use crate::draws::Draws;
 use crate::octets::Octets;
 use fs_base::Family;
+use fs_draws::Draws;
 
 /// How the last operator of a list is marked.
 const LAST: u8 = 0x80;
@@ -25,7 +25,7 @@ fn push_list(draws: &mut Draws, bits: u8, most: u8, wide: bool, out: &mut Octets
 fn push_pair(draws: &mut Draws, bits: u8, most: u8, wide: bool, last: bool, out: &mut Octets)
     requires { 0 < most }
 {
-    let mut operator = draws.below(128) & bits;
+    let mut operator = draws.octet_below(128) & bits;
     if last {
         operator |= LAST;
     }
@@ -35,22 +35,22 @@ fn push_pair(draws: &mut Draws, bits: u8, most: u8, wide: bool, last: bool, out:
     } else {
         out.push(operator);
     }
-    out.push(draws.below(most));
+    out.push(draws.octet_below(most));
 }
 
 /// As `push_list`, with values of two octets.
 fn push_long_list(draws: &mut Draws, bits: u8, most: u8, out: &mut Octets)
     requires { 0 < most }
 {
-    out.push(draws.below(128) & bits | LAST | 0x10);
+    out.push(draws.octet_below(128) & bits | LAST | 0x10);
     out.push(0);
-    out.push(draws.below(most));
+    out.push(draws.octet_below(most));
 }
 
 /// A prefix of IPv4: its length and the octets that it has.
 fn push_v4_prefix(draws: &mut Draws, out: &mut Octets) {
     let address = v4_address(draws);
-    let length = match draws.below(6) {
+    let length = match draws.octet_below(6) {
         0 => 0u8,
         1 => 8,
         2 => 16,
@@ -65,7 +65,7 @@ fn push_v4_prefix(draws: &mut Draws, out: &mut Octets) {
 /// A prefix of IPv6: its length, its offset, and the octets between.
 fn push_v6_prefix(draws: &mut Draws, out: &mut Octets) {
     let address = v6_address(draws);
-    let length = match draws.below(6) {
+    let length = match draws.octet_below(6) {
         0 => 0u8,
         1 => 32,
         2 => 40,
@@ -75,7 +75,7 @@ fn push_v6_prefix(draws: &mut Draws, out: &mut Octets) {
     };
     out.push(length);
     if length != 0 && draws.chance(3) {
-        let skipped = 1 + usize::from(draws.below(3));
+        let skipped = 1 + usize::from(draws.octet_below(3));
         out.push((skipped * 8) as u8);
         out.push_all(&address[skipped..(usize::from(length) + 7) / 8]);
         return;

@@ -2,7 +2,6 @@
 #![tactic(auto)]
 
 mod addresses;
-mod draws;
 mod fault;
 mod frames;
 mod octets;

@@ -1,6 +1,5 @@
 //! The compiled rules beside the plain walk of the table that they were compiled from.
 
-use crate::draws::Draws;
 use crate::fault::Fault;
 use crate::frames::draw_frame;
 use crate::octets::Octets;
@@ -8,6 +7,7 @@ use crate::packets::draw_packet;
 use fs_actions::Actions;
 use fs_base::{Config, Family, Path, Segments, Steps};
 use fs_compile::Compiled;
+use fs_draws::Draws;
 use fs_nlri::{Rule, decode};
 use fs_packet::{Link, View, view};
 use fs_rules::Table;

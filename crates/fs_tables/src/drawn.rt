@@ -3,11 +3,11 @@
 use crate::answers::{Seen, compare_all};
 use crate::configs::Configs;
 use crate::count::Count;
-use crate::draws::Draws;
 use crate::fault::Fault;
 use crate::pair::Pair;
 use crate::pool::{Pool, thing_of};
 use fs_base::{Config, Steps};
+use fs_draws::Draws;
 use fs_packet::{Link, View, view};
 use std::alloc::Global;
 use std::sync::ledger::Ledger;

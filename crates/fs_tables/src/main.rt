@@ -3,11 +3,11 @@
 #![tactic(auto)]
 
 mod answers;
+mod choice;
 mod configs;
 mod count;
 mod counter;
 mod drawn;
-mod draws;
 mod fault;
 mod fields;
 mod lookups;

@@ -1,12 +1,13 @@
 //! The table and a plain one that holds the same, and one drawn call of both.
 
+use crate::choice::{draw_one, draw_peer};
 use crate::count::Count;
-use crate::draws::Draws;
 use crate::fault::Fault;
 use crate::plain::Plain;
 use crate::pool::Pool;
 use fs_actions::{Actions, from_communities};
 use fs_base::{Config, Path, Steps};
+use fs_draws::Draws;
 use fs_nlri::Rule;
 use fs_order::Ranked;
 use fs_rules::Table;
@@ -66,9 +67,9 @@ impl<'a> Pair<'a> {
         draws: &mut Draws,
         steps: &mut Steps<L>,
     ) -> Result<(), Fault> {
-        let peer = draws.peer();
-        let prefix = *draws.one_of(&self.pool.prefixes)?;
-        let path = draws.one_of(&self.pool.paths)?;
+        let peer = draw_peer(draws);
+        let prefix = *draw_one(draws, &self.pool.prefixes)?;
+        let path = draw_one(draws, &self.pool.paths)?;
         self.plain.put_unicast(peer, prefix, path.copy()?)?;
         self.table.put_unicast(peer, prefix, path.copy()?, steps)?;
         Ok(())
@@ -79,9 +80,9 @@ impl<'a> Pair<'a> {
         draws: &mut Draws,
         steps: &mut Steps<L>,
     ) -> Result<(), Fault> {
-        let peer = draws.peer();
-        let rule = draws.one_of(&self.pool.rules)?;
-        let path = draws.one_of(&self.pool.paths)?;
+        let peer = draw_peer(draws);
+        let rule = draw_one(draws, &self.pool.rules)?;
+        let path = draw_one(draws, &self.pool.paths)?;
         let dscp = draws.below(64) as u8;
         self.plain
             .put_flow(route_of(self.alloc, peer, rule, path, dscp)?)?;
@@ -97,8 +98,8 @@ impl<'a> Pair<'a> {
         count: &mut Count,
         steps: &mut Steps<L>,
     ) -> Result<(), Fault> {
-        let peer = draws.peer();
-        let prefix = draws.one_of(&self.pool.prefixes)?;
+        let peer = draw_peer(draws);
+        let prefix = draw_one(draws, &self.pool.prefixes)?;
         let held = self.plain.withdraw_unicast(peer, prefix);
         count.note(self.table.withdraw_unicast(peer, prefix, steps) == held);
         Ok(())
@@ -110,8 +111,8 @@ impl<'a> Pair<'a> {
         count: &mut Count,
         steps: &mut Steps<L>,
     ) -> Result<(), Fault> {
-        let peer = draws.peer();
-        let rule = draws.one_of(&self.pool.rules)?;
+        let peer = draw_peer(draws);
+        let rule = draw_one(draws, &self.pool.rules)?;
         let held = self.plain.withdraw_flow(peer, rule);
         let key = Ranked { rule: rule.copy()? };
         count.note(self.table.withdraw_flow(peer, &key, steps) == held);
@@ -119,7 +120,7 @@ impl<'a> Pair<'a> {
     }
 
     fn lose<L: Ledger>(&mut self, draws: &mut Draws, steps: &mut Steps<L>) {
-        let peer = draws.peer();
+        let peer = draw_peer(draws);
         self.table.lose(peer, steps);
         self.plain.lose(peer);
     }
