@@ -18,7 +18,7 @@ use Rattle.fs_order.specs.Ranked.{rule_total}
 use Rattle.fs_order.specs.Laws.{destination_cmp}
 use Rattle.fs_order.proofs.First.{destinations_first}
 use Rattle.fs_order.proofs.Same.{same_rules}
-use Rattle.fs_rules.specs.declared.group.Kept.{Kept}
+use Rattle.fs_rules.specs.Kept.{Kept}
 use Rattle.fs_rules.specs.Table.{key_cmp, is_key, same_rule}
 use Rattle.fs_rules.specs.Groups.{Entry, kept_in, IsTo, ArePlaced, AreInOrder, IsSound}
 

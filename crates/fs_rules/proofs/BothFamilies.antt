@@ -13,7 +13,7 @@ use Rattle.fs_nlri.specs.Parts.{Ruled}
 use Rattle.fs_nlri.specs.Rule.{IsRule}
 use Rattle.fs_order.specs.Comparison.{parts_cmp}
 use Rattle.fs_unicast.specs.Unicast.{Route}
-use Rattle.fs_rules.specs.declared.group.Kept.{Kept}
+use Rattle.fs_rules.specs.Kept.{Kept}
 use Rattle.fs_rules.specs.Table.{is_key, is_of_family, is_valid, related_count}
 use Rattle.fs_rules.specs.Group.{AreSorted, routes_of, put_kept, mended, retested, is_related_kept, related_kept, is_beaten, is_chosen, chosen}
 use Rattle.fs_rules.specs.Groups.{IsSound}

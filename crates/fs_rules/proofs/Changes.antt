@@ -19,7 +19,7 @@ use Rattle.fs_validate.specs.Laws.{is_related, related}
 use Rattle.fs_validate.specs.Validity.{validity, validity_to}
 use Rattle.fs_validate.specs.declared.route.FlowRoute.{FlowRoute}
 use Rattle.fs_validate.proofs.Local.{validity_local}
-use Rattle.fs_rules.specs.declared.group.Kept.{Kept}
+use Rattle.fs_rules.specs.Kept.{Kept}
 use Rattle.fs_rules.specs.Table.{key_cmp, put_route, has_related, related_count}
 use Rattle.fs_rules.specs.Group.{routes_of, AreRight, AreSorted, Keeps, put_kept, mended, retested, is_related_kept, related_kept}
 

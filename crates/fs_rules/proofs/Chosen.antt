@@ -7,7 +7,7 @@ use Rattle.fs_base.proofs.Lists.{each_weaker, filter_on}
 use Rattle.fs_unicast.specs.Unicast.{Route, place_cmp}
 use Rattle.fs_validate.specs.Validity.{validity}
 use Rattle.fs_validate.specs.declared.route.FlowRoute.{FlowRoute}
-use Rattle.fs_rules.specs.declared.group.Kept.{Kept}
+use Rattle.fs_rules.specs.Kept.{Kept}
 use Rattle.fs_rules.specs.Table.{Held, is_of_family, is_valid, beats, is_most_preferred, admitted}
 use Rattle.fs_rules.specs.Lent.{Judged, judged, listed, held_flows}
 use Rattle.fs_rules.specs.Lists.{judgement}

@@ -13,7 +13,7 @@ use Rattle.fs_unicast.specs.Unicast.{Route}
 use Rattle.fs_nlri.specs.Parts.{Ruled}
 use Rattle.fs_nlri.specs.Rule.{IsRule, destination_prefix}
 use Rattle.fs_validate.specs.Laws.{is_related}
-use Rattle.fs_rules.specs.declared.group.Kept.{Kept}
+use Rattle.fs_rules.specs.Kept.{Kept}
 use Rattle.fs_rules.specs.Table.{is_key}
 use Rattle.fs_rules.specs.Group.{put_kept, mended, related_kept, chosen}
 use Rattle.fs_rules.specs.Groups.{Entry, kept_in, IsTo, ArePlaced, AreInOrder, IsSound, IsGrouped, put_entry, keep_at, keep_each}

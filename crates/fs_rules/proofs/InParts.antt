@@ -9,7 +9,7 @@ use Rattle.fs_base.proofs.Lists.{each_weaker, each_both, filter_on, filter-appen
 use Rattle.fs_packet.specs.Fields.{Viewed}
 use Rattle.fs_packet.specs.Matching.{is_match}
 use Rattle.fs_validate.specs.declared.route.FlowRoute.{FlowRoute}
-use Rattle.fs_rules.specs.declared.group.Kept.{Kept}
+use Rattle.fs_rules.specs.Kept.{Kept}
 use Rattle.fs_rules.specs.Table.{is_of_family, is_valid, same_rule, beats}
 use Rattle.fs_rules.specs.Group.{routes_of, is_beaten, is_chosen, chosen}
 use Rattle.fs_rules.specs.Groups.{Entry, kept_in, IsTo, ArePlaced, AreInOrder, IsSound}

@@ -12,7 +12,7 @@ use Rattle.fs_base.proofs.SamePrefix.{same_from_cmp}
 use Rattle.fs_base.proofs.Lists.{each_weaker}
 use Rattle.fs_unicast.specs.Unicast.{Route}
 use Rattle.fs_validate.specs.Laws.{is_related}
-use Rattle.fs_rules.specs.declared.group.Kept.{Kept}
+use Rattle.fs_rules.specs.Kept.{Kept}
 use Rattle.fs_rules.specs.Group.{retested, mended, related_kept}
 use Rattle.fs_rules.specs.Table.{has_related}
 use Rattle.fs_rules.proofs.Placing.{related-append}

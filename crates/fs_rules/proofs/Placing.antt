@@ -2,7 +2,7 @@
 use Rattle.std.proofs.Common.{ℕ, zero, suc, ◌≡◌, ◌+◌, ◌<◌, refl, sym, ap, ◌∙◌, Bool, true, false, true≢false, not, ◌||◌, cond, List, [], ◌∷◌, ◌++◌, length, insert, remove, set, get_or, slice_get, Ordering, Less, Equal, Greater, is_eq, nat_cmp, filter, arith, zero-add}
 use Rattle.std.specs.Ordering.{match_ordering, ordering_then}
 use Rattle.fs_nlri.specs.Parts.{Ruled}
-use Rattle.fs_rules.specs.declared.group.Kept.{Kept}
+use Rattle.fs_rules.specs.Kept.{Kept}
 use Rattle.fs_rules.specs.Table.{key_cmp, is_key}
 use Rattle.fs_rules.specs.Group.{put_kept, place_in, has_key_at, related_kept, AreSorted, routes_of}
 use Rattle.fs_base.specs.declared.prefix.Prefix.{Prefix}

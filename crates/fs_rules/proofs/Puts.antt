@@ -10,7 +10,7 @@ use Rattle.fs_base.specs.declared.prefix.Prefix.{Prefix}
 use Rattle.fs_base.specs.Prefix.{prefix_cmp, prefix_total}
 use Rattle.fs_base.proofs.Lists.{each_weaker}
 use Rattle.fs_base.proofs.SamePrefix.{same_from_cmp}
-use Rattle.fs_rules.specs.declared.group.Kept.{Kept}
+use Rattle.fs_rules.specs.Kept.{Kept}
 use Rattle.fs_rules.specs.Table.{key_cmp}
 use Rattle.fs_rules.specs.Group.{put_kept, AreSorted, routes_of}
 use Rattle.fs_rules.specs.Groups.{Entry, kept_in, IsTo, ArePlaced, AreInOrder, IsSound, put_entry, HasSortedGroups}

@@ -11,7 +11,7 @@ use Rattle.fs_order.specs.Comparison.{rule_cmp}
 use Rattle.fs_order.specs.Ranked.{rule_total}
 use Rattle.fs_validate.specs.declared.route.FlowRoute.{FlowRoute}
 use Rattle.fs_unicast.specs.Preference.{preferred}
-use Rattle.fs_rules.specs.declared.group.Kept.{Kept}
+use Rattle.fs_rules.specs.Kept.{Kept}
 use Rattle.fs_rules.specs.Table.{key_cmp, is_valid, same_rule, beats}
 use Rattle.fs_rules.specs.Group.{routes_of, AreSorted, place_in, is_beaten}
 

@@ -2,7 +2,7 @@
 use Rattle.std.proofs.Common.{ℕ, suc, ◌≡◌, ◌+◌, ◌<◌, refl, sym, ap, ◌∙◌, Bool, true, false, true≢false, ◌&&◌, cond, List, ◌∷◌, length, get_or, drop, filter, find, nat_le, Option, Some, drop-cons, arith}
 use Rattle.fs_packet.specs.Fields.{Viewed}
 use Rattle.fs_packet.specs.Matching.{is_match}
-use Rattle.fs_rules.specs.declared.group.Kept.{Kept}
+use Rattle.fs_rules.specs.Kept.{Kept}
 use Rattle.fs_rules.specs.Group.{routes_of}
 use Rattle.fs_rules.specs.Walk.{matching_from}
 

@@ -15,7 +15,7 @@ use Rattle.fs_base.proofs.Lists.{each_weaker, each_both, each_append, filter-app
 use Rattle.fs_base.proofs.SamePrefix.{same_from_cmp}
 use Rattle.fs_nlri.specs.Parts.{Ruled}
 use Rattle.fs_nlri.specs.Rule.{IsRule, destination_prefix}
-use Rattle.fs_rules.specs.declared.group.Kept.{Kept}
+use Rattle.fs_rules.specs.Kept.{Kept}
 use Rattle.fs_rules.specs.Table.{is_key}
 use Rattle.fs_rules.specs.Groups.{Entry, kept_in, IsTo, ArePlaced, AreInOrder, with_group, keep_at, keep_each}
 use Rattle.fs_rules.proofs.Apart.{key_same, each_front, each_back}

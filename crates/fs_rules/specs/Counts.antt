@@ -5,7 +5,7 @@ use Rattle.std.specs.Map.{lookup}
 use Rattle.std.specs.Ordering.{nat_cmp}
 use Rattle.fs_base.specs.declared.config.Config.{Config}
 use Rattle.fs_unicast.specs.Unicast.{Route}
-use Rattle.fs_rules.specs.declared.group.Kept.{Kept}
+use Rattle.fs_rules.specs.Kept.{Kept}
 use Rattle.fs_rules.specs.Group.{Keeps, routes_of}
 use Rattle.fs_rules.specs.Table.{count_in}
 

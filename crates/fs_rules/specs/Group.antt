@@ -12,7 +12,7 @@ use Rattle.fs_unicast.specs.Unicast.{Route}
 use Rattle.fs_nlri.specs.Rule.{destination_prefix}
 use Rattle.fs_validate.specs.Validity.{validity}
 use Rattle.fs_validate.specs.declared.route.FlowRoute.{FlowRoute}
-use Rattle.fs_rules.specs.declared.group.Kept.{Kept}
+use Rattle.fs_rules.specs.Kept.{Kept}
 use Rattle.fs_rules.specs.Table.{key_cmp, is_key, has_related, is_of_family, is_valid, beats}
 
 abbrev pub routes_of : List Kept → List FlowRoute

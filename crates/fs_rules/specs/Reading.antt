@@ -1,7 +1,7 @@
 -- What is told of one group after the other.
 use Rattle.std.specs.Prelude.{ℕ, Option, map, option_map, slice_get, List, [], ◌∷◌, ◌++◌}
 use Rattle.fs_base.specs.declared.prefix.Family.{Family}
-use Rattle.fs_rules.specs.declared.group.Kept.{Kept}
+use Rattle.fs_rules.specs.Kept.{Kept}
 use Rattle.fs_rules.specs.Group.{chosen}
 use Rattle.fs_rules.specs.Groups.{Entry, kept_in}
 use Rattle.fs_rules.specs.Lists.{listing, judgement, judgements}

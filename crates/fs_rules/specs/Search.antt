@@ -7,7 +7,7 @@ use Rattle.fs_base.specs.declared.config.Config.{Config}
 use Rattle.fs_base.specs.declared.prefix.Prefix.{Prefix}
 use Rattle.fs_base.specs.Prefix.{prefix_cmp}
 use Rattle.fs_unicast.specs.Unicast.{Route}
-use Rattle.fs_rules.specs.declared.group.Kept.{Kept}
+use Rattle.fs_rules.specs.Kept.{Kept}
 use Rattle.fs_rules.specs.Group.{AreRight, retested}
 use Rattle.fs_rules.specs.Groups.{Entry}
 

@@ -8,8 +8,8 @@ ghost use Rattle.fs_rules.specs.Lent.{listed, shown_admitted, shown_held, all_ad
 ghost use Rattle.fs_rules.specs.Lists.{judgement, routes_chosen, listing, listings, judgements, nth_listing};
 ghost use Rattle.fs_rules.specs.Walk.{next_match};
 
-use crate::group::Kept;
 use crate::groups::Groups;
+use crate::kept::Kept;
 use crate::lent::{Admitted, HeldFlow};
 use fs_base::{Config, Family, Memory, Prefix, Steps};
 use fs_nlri::Rule;
@@ -28,7 +28,7 @@ pub(crate) struct Flows {
 
 impl Model for Flows {
     ghost use Rattle.std.specs.Prelude.{List, ◌++◌};
-    ghost use Rattle.fs_rules.specs.declared.group.Kept.{Kept};
+    ghost use Rattle.fs_rules.specs.Kept.{Kept};
     ghost use Rattle.fs_rules.specs.Flows.{AreOfFamilies};
 
     ghost Value = { List Kept };
@@ -48,6 +48,10 @@ impl Flows {
         }
     }
 
+    pub(crate) fn allocator(&self) -> Global {
+        self.v4.allocator()
+    }
+
     /// Keeps the route in its place, instead of one of its key, and tells whether there was none. Where memory is
     /// refused nothing changes.
     pub(crate) fn put(&mut self, k: Kept) -> Result<bool, Memory>
@@ -56,7 +60,7 @@ impl Flows {
         ensures fresh { IfOk result (λ is_new. is_new ≡ not (has_key k.route.rule k.route.peer self.old)) }
         ensures err { OnErr result (self.new ≡ self.old) }
     {
-        match k.route.rule.family() {
+        match k.family() {
             Family::V4 => self.v4.put(k),
             Family::V6 => self.v6.put(k),
         }

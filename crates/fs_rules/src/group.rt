@@ -8,6 +8,7 @@ ghost use Rattle.fs_unicast.specs.Preference.{offered, preferred};
 ghost use Rattle.std.specs.Prelude.{◌∷◌, ◌&&◌, ◌↔◌, false};
 ghost use Rattle.fs_rules.specs.Group.{put_kept, place_in, retested, is_beaten, is_chosen, has_key, has_key_at, AreSorted, AreRight, IsRight, routes_of, is_better};
 
+use crate::kept::Kept;
 use fs_base::{Config, Family, Memory, Steps};
 use fs_nlri::Rule;
 use fs_order::compare;
@@ -17,13 +18,6 @@ use std::alloc::Global;
 use std::cmp::Ordering;
 use std::marker::Model;
 use std::sync::ledger::Ledger;
-
-/// A flow route and its validity.
-#[derive(Drop)]
-pub(crate) struct Kept {
-    pub route: FlowRoute,
-    pub validity: Validity,
-}
 
 /// How a rule and a peer are ordered to a route's.
 fn compare_key(rule: &Rule, peer: u16, route: &FlowRoute) -> Ordering
@@ -38,7 +32,7 @@ fn place_of(kept: &[Kept], rule: &Rule, peer: u16) -> usize
     ensures place { result ≡ place_in rule.now peer kept.now }
     ensures within { result ≤ length kept.now }
 {
-    kept.partition_point(|k| compare_key(rule, peer, &k.route).is_gt())
+    kept.partition_point(|k| compare_key(rule, peer, k.route()).is_gt())
 }
 
 /// Whether the route at the place, if there is one, has the key.
@@ -46,7 +40,7 @@ fn is_at(kept: &[Kept], place: usize, rule: &Rule, peer: u16) -> bool
     ensures { result ≡ has_key_at rule.now peer (slice_get kept.now place) }
 {
     match kept.get(place) {
-        Some(k) => compare_key(rule, peer, &k.route).is_eq(),
+        Some(k) => compare_key(rule, peer, k.route()).is_eq(),
         None => false,
     }
 }
@@ -59,13 +53,24 @@ fn put(kept: &mut Vec<Kept>, k: Kept) -> Result<bool, Memory>
     ensures fresh { IfOk result (λ is_new. is_new ≡ not (has_key k.route.rule k.route.peer kept.old.items)) }
     ensures err { OnErr result (kept.new.items ≡ kept.old.items) }
 {
-    let place = place_of(kept, &k.route.rule, k.route.peer);
-    if is_at(kept, place, &k.route.rule, k.route.peer) {
+    let route = k.route();
+    let place = place_of(kept, &route.rule, route.peer);
+    if is_at(kept, place, &route.rule, route.peer) {
         kept[place] = k;
         return Ok(false);
     }
     kept.insert(place, k)?;
     Ok(true)
+}
+
+/// Makes room for the first route alone: most groups hold one.
+fn make_room(kept: &mut Vec<Kept>) -> Result<(), Memory>
+    ensures { kept.new.items ≡ kept.old.items }
+{
+    if kept.is_empty() {
+        kept.reserve_exact(1)?;
+    }
+    Ok(())
 }
 
 /// Takes the route of the key away, and tells whether there was one.
@@ -86,7 +91,7 @@ fn take(kept: &mut Vec<Kept>, rule: &Rule, peer: u16) -> bool
 fn forget(kept: &mut Vec<Kept>, peer: u16)
     ensures { kept.new.items ≡ filter (λ k. not (k.route.peer == peer)) kept.old.items }
 {
-    kept.retain(|k| k.route.peer != peer);
+    kept.retain(|k| k.route().peer != peer);
 }
 
 /// Validates a route anew, and tells whether its validity is another than before. At most one step.
@@ -96,9 +101,10 @@ fn retest<L: Ledger>(k: &mut Kept, unicast: &Unicast, config: &Config, steps: &m
     ensures later { steps.old ≤ steps.new }
     ensures steps { steps.new ≤ steps.old + 1 }
 {
-    let before = k.validity;
-    k.validity = valid(unicast, config, &k.route, steps);
-    k.validity != before
+    let before = k.validity();
+    let after = valid(unicast, config, k.route(), steps);
+    k.judge(after);
+    after != before
 }
 
 /// Validates each route anew, and tells whether a validity is another than before.
@@ -126,17 +132,17 @@ fn stands(validity: Validity) -> bool
     validity == Validity::Valid
 }
 
-fn is_same_rule(s: &FlowRoute, r: &FlowRoute) -> bool
-    ensures { result ≡ same_rule s.now r.now }
+fn is_same_rule(s: &Kept, k: &Kept) -> bool
+    ensures { result ≡ same_rule s.now.route k.now.route }
 {
-    compare(&s.rule, &r.rule).is_eq()
+    compare(&s.route().rule, &k.route().rule).is_eq()
 }
 
 /// Whether `s` is valid and preferred to `k`.
 fn is_better(s: &Kept, k: &Kept) -> bool
     ensures { result ≡ is_better s.now k.now }
 {
-    stands(s.validity) && seen(&s.route).is_preferred(&seen(&k.route))
+    stands(s.validity()) && seen(s.route()).is_preferred(&seen(k.route()))
 }
 
 fn seen(route: &FlowRoute) -> Offer<'_>
@@ -153,9 +159,9 @@ fn is_beaten(kept: &[Kept], k: &Kept) -> bool
     requires { AreSorted (routes_of kept.now) }
     ensures { result ≡ is_beaten kept.now k.now }
 {
-    let start = place_of(kept, &k.route.rule, 0);
+    let start = place_of(kept, &k.route().rule, 0);
     for s in &kept[start..] {
-        if !is_same_rule(&s.route, &k.route) {
+        if !is_same_rule(s, k) {
             return false;
         }
         if is_better(s, k) {
@@ -170,7 +176,7 @@ pub(crate) fn is_chosen(family: Family, kept: &[Kept], k: &Kept) -> bool
     requires { AreSorted (routes_of kept.now) }
     ensures { result ≡ is_chosen family kept.now k.now }
 {
-    is_of_family(family, &k.route) && stands(k.validity) && !is_beaten(kept, k)
+    is_of_family(family, k.route()) && stands(k.validity()) && !is_beaten(kept, k)
 }
 
 pub(crate) fn is_of_family(family: Family, route: &FlowRoute) -> bool
@@ -187,7 +193,7 @@ pub(crate) struct Group {
 
 impl Model for Group {
     ghost use Rattle.std.specs.Prelude.{List};
-    ghost use Rattle.fs_rules.specs.declared.group.Kept.{Kept};
+    ghost use Rattle.fs_rules.specs.Kept.{Kept};
 
     ghost Value = { List Kept };
 
@@ -227,6 +233,7 @@ impl Group {
         ensures fresh { IfOk result (λ is_new. is_new ≡ not (has_key k.route.rule k.route.peer self.old)) }
         ensures err { OnErr result (self.new ≡ self.old) }
     {
+        make_room(&mut self.items)?;
         put(&mut self.items, k)
     }
 

@@ -13,15 +13,15 @@ ghost use Rattle.fs_rules.specs.Lent.{listed, shown_admitted, shown_held, all_ad
 ghost use Rattle.fs_rules.specs.Lists.{judgement, routes_chosen, listing, listings, judgements, nth_listing};
 ghost use Rattle.fs_rules.specs.Walk.{next_match};
 
-use crate::group::{Group, Kept};
+use crate::group::Group;
+use crate::kept::{Kept, destination_key};
 use crate::lent::{Admitted, HeldFlow};
 use crate::reading::{self, push_admitted, push_held};
 use crate::search::retest_related;
 use fs_base::{Config, Family, Memory, Prefix, Steps};
 use fs_nlri::Rule;
 use fs_packet::View;
-use fs_unicast::Unicast;
-use fs_validate::destination;
+use fs_unicast::{PrefixKey, Unicast};
 use std::alloc::Global;
 use std::collections::BTreeMap;
 use std::marker::Model;
@@ -31,7 +31,7 @@ use std::sync::ledger::Ledger;
 /// of prefixes, and last the routes without a destination.
 #[derive(Drop)]
 pub(crate) struct Groups {
-    groups: BTreeMap<Prefix, Group>,
+    groups: BTreeMap<PrefixKey, Group>,
     rest: Group,
     /// No more routes than this are held.
     most: usize,
@@ -39,7 +39,7 @@ pub(crate) struct Groups {
 
 impl Model for Groups {
     ghost use Rattle.std.specs.Prelude.{List};
-    ghost use Rattle.fs_rules.specs.declared.group.Kept.{Kept};
+    ghost use Rattle.fs_rules.specs.Kept.{Kept};
     ghost use Rattle.fs_rules.specs.Groups.{kept_in, IsGrouped};
 
     ghost Value = { List Kept };
@@ -60,6 +60,10 @@ impl Groups {
         }
     }
 
+    pub(crate) fn allocator(&self) -> Global {
+        self.rest.allocator()
+    }
+
     /// Keeps the route in its place, instead of one of its key, and tells whether there was none. Where memory is
     /// refused nothing changes.
     pub(crate) fn put(&mut self, k: Kept) -> Result<bool, Memory>
@@ -70,7 +74,7 @@ impl Groups {
         ensures err { OnErr result (self.new ≡ self.old) }
         ensures rule { IsRule k.route.rule }
     {
-        let destination = destination(&k.route.rule);
+        let destination = k.destination();
         let Some(most) = self.most.checked_add(1) else {
             return Err(Memory);
         };
@@ -96,7 +100,7 @@ impl Groups {
         ensures held { result ≡ list_any (λ k. is_key rule.now peer k.route) self.old }
         ensures rule { IsRule rule.now }
     {
-        match destination(rule) {
+        match destination_key(rule) {
             Some(destination) => take_at(&mut self.groups, &destination, rule, peer),
             None => self.rest.take(rule, peer),
         }
@@ -184,8 +188,8 @@ impl Groups {
 
 /// Keeps the route in the group of the destination, and tells whether there was none of its key.
 fn put_at(
-    groups: &mut BTreeMap<Prefix, Group>,
-    destination: Prefix,
+    groups: &mut BTreeMap<PrefixKey, Group>,
+    destination: PrefixKey,
     k: Kept,
     alloc: Global,
 ) -> Result<bool, Memory>
@@ -206,8 +210,8 @@ fn put_at(
 
 /// Takes the route of the key out of the group of the destination, and tells whether there was one.
 fn take_at(
-    groups: &mut BTreeMap<Prefix, Group>,
-    destination: &Prefix,
+    groups: &mut BTreeMap<PrefixKey, Group>,
+    destination: &PrefixKey,
     rule: &Rule,
     peer: u16,
 ) -> bool
@@ -226,7 +230,7 @@ fn take_at(
 }
 
 /// Takes out of each group what the peer gave.
-fn forget_each(groups: &mut BTreeMap<Prefix, Group>, peer: u16)
+fn forget_each(groups: &mut BTreeMap<PrefixKey, Group>, peer: u16)
     ensures kept { groups.new.entries ≡ keep_each (λ k. not (k.route.peer == peer)) groups.old.entries }
     ensures ordered { AreInOrder groups.new.entries }
 {

@@ -5,6 +5,7 @@ mod counts;
 mod flows;
 mod group;
 mod groups;
+mod kept;
 mod lent;
 mod lists;
 mod reading;

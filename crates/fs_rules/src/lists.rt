@@ -7,7 +7,8 @@ ghost use Rattle.fs_rules.specs.Lent.{listed, shown_admitted, shown_held, all_ad
 ghost use Rattle.fs_rules.specs.Lists.{judgement, routes_chosen, listing, listings, judgements, nth_listing};
 ghost use Rattle.fs_rules.specs.Walk.{matching_from};
 
-use crate::group::{Kept, is_chosen};
+use crate::group::is_chosen;
+use crate::kept::Kept;
 use crate::lent::{Admitted, HeldFlow};
 use fs_base::{Family, Memory};
 use fs_packet::{View, matches};
@@ -15,20 +16,22 @@ use fs_packet::{View, matches};
 fn lend(k: &Kept) -> Admitted<'_>
     ensures { shown_admitted result ≡ listing k.now }
 {
+    let route = k.route();
     Admitted {
-        rule: &k.route.rule,
-        peer: k.route.peer,
-        actions: &k.route.actions,
+        rule: &route.rule,
+        peer: route.peer,
+        actions: &route.actions,
     }
 }
 
 fn lend_held(k: &Kept) -> HeldFlow<'_>
     ensures { shown_held result ≡ judgement k.now }
 {
+    let route = k.route();
     HeldFlow {
-        rule: &k.route.rule,
-        peer: k.route.peer,
-        validity: k.validity,
+        rule: &route.rule,
+        peer: route.peer,
+        validity: k.validity(),
     }
 }
 
@@ -98,7 +101,7 @@ pub(crate) fn held_at(kept: &[Kept], n: usize) -> Option<HeldFlow<'_>>
 fn is_next(k: &Kept, view: &View<'_>, n: usize, number: usize) -> bool
     ensures { result ≡ (is_match k.now.route.rule view.now && nat_le n number) }
 {
-    n <= number && matches(&k.route.rule, view)
+    n <= number && matches(&k.route().rule, view)
 }
 
 /// The least number from `n` on of an admitted rule that matches the packet, where the first has the number `first`.

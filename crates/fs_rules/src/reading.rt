@@ -11,13 +11,14 @@ ghost use Rattle.fs_rules.specs.Walk.{next_match};
 use crate::group::Group;
 use crate::lent::{Admitted, HeldFlow};
 use crate::lists;
-use fs_base::{Family, Memory, Prefix};
+use fs_base::{Family, Memory};
 use fs_packet::View;
+use fs_unicast::PrefixKey;
 use std::collections::BTreeMap;
 
 /// Adds the admitted rules to the list.
 pub(crate) fn push_admitted<'a>(
-    groups: &'a BTreeMap<Prefix, Group>,
+    groups: &'a BTreeMap<PrefixKey, Group>,
     rest: &'a Group,
     family: Family,
     list: &mut Vec<Admitted<'a>>,
@@ -34,7 +35,7 @@ pub(crate) fn push_admitted<'a>(
 
 /// Adds the routes to the list.
 pub(crate) fn push_held<'a>(
-    groups: &'a BTreeMap<Prefix, Group>,
+    groups: &'a BTreeMap<PrefixKey, Group>,
     rest: &'a Group,
     list: &mut Vec<HeldFlow<'a>>,
 ) -> Result<(), Memory>
@@ -47,7 +48,7 @@ pub(crate) fn push_held<'a>(
 }
 
 /// How many rules are admitted.
-pub(crate) fn count(groups: &BTreeMap<Prefix, Group>, rest: &Group, family: Family) -> usize
+pub(crate) fn count(groups: &BTreeMap<PrefixKey, Group>, rest: &Group, family: Family) -> usize
     requires groups { HasSortedGroups groups.now.entries }
     requires rest { AreSorted (routes_of rest.now) }
     requires most { length (chosen_in family groups.now.entries rest.now) < 2 ^ 64 }
@@ -62,7 +63,7 @@ pub(crate) fn count(groups: &BTreeMap<Prefix, Group>, rest: &Group, family: Fami
 
 /// The admitted rule of that number.
 pub(crate) fn admitted_at<'a>(
-    groups: &'a BTreeMap<Prefix, Group>,
+    groups: &'a BTreeMap<PrefixKey, Group>,
     rest: &'a Group,
     family: Family,
     n: usize,
@@ -84,7 +85,7 @@ pub(crate) fn admitted_at<'a>(
 
 /// The route of that number.
 pub(crate) fn held_at<'a>(
-    groups: &'a BTreeMap<Prefix, Group>,
+    groups: &'a BTreeMap<PrefixKey, Group>,
     rest: &'a Group,
     n: usize,
 ) -> Option<HeldFlow<'a>>
@@ -103,7 +104,7 @@ pub(crate) fn held_at<'a>(
 
 /// The least number from `n` on of an admitted rule that matches the packet.
 pub(crate) fn next_match(
-    groups: &BTreeMap<Prefix, Group>,
+    groups: &BTreeMap<PrefixKey, Group>,
     rest: &Group,
     family: Family,
     view: &View<'_>,

@@ -12,30 +12,30 @@ ghost use Rattle.fs_unicast.specs.Search.{is_same_prefix};
 
 use crate::group::Group;
 use fs_base::{Config, Prefix, Steps};
-use fs_unicast::{InOrder, Unicast};
+use fs_unicast::{InOrder, PrefixKey, Unicast};
 use std::collections::BTreeMap;
 use std::ops::Bound;
 use std::sync::ledger::Ledger;
 
 /// The first destination in order, from `low` on.
-fn first_from(groups: &BTreeMap<Prefix, Group>, low: &Prefix) -> Option<Prefix>
+fn first_from(groups: &BTreeMap<PrefixKey, Group>, low: &Prefix) -> Option<Prefix>
     ensures { IsFirstFrom (λ e. e.0) groups.now.entries low.now result }
 {
-    match groups.range(*low..).next() {
-        Some((destination, _)) => Some(*destination),
+    match groups.range(PrefixKey::of(low)..).next() {
+        Some((destination, _)) => Some(destination.prefix()),
         None => None,
     }
 }
 
 /// The first destination in order behind `low`.
-fn first_after(groups: &BTreeMap<Prefix, Group>, low: &Prefix) -> Option<Prefix>
+fn first_after(groups: &BTreeMap<PrefixKey, Group>, low: &Prefix) -> Option<Prefix>
     ensures { IsNextAfter groups.now.entries low.now result }
 {
     match groups
-        .range((Bound::Excluded(*low), Bound::Unbounded))
+        .range((Bound::Excluded(PrefixKey::of(low)), Bound::Unbounded))
         .next()
     {
-        Some((destination, _)) => Some(*destination),
+        Some((destination, _)) => Some(destination.prefix()),
         None => None,
     }
 }
@@ -43,7 +43,7 @@ fn first_after(groups: &BTreeMap<Prefix, Group>, low: &Prefix) -> Option<Prefix>
 /// The groups in the order of their destinations.
 #[derive(Clone, Copy, Drop)]
 struct ByDestination<'a> {
-    groups: &'a BTreeMap<Prefix, Group>,
+    groups: &'a BTreeMap<PrefixKey, Group>,
 }
 
 impl InOrder for ByDestination<'_> {
@@ -61,7 +61,7 @@ impl InOrder for ByDestination<'_> {
 }
 
 /// The longest destination that covers the prefix.
-fn longest_cover(groups: &BTreeMap<Prefix, Group>, prefix: &Prefix) -> Option<Prefix>
+fn longest_cover(groups: &BTreeMap<PrefixKey, Group>, prefix: &Prefix) -> Option<Prefix>
     ensures { IsLongestCover (λ e. e.0) groups.now.entries prefix.now result }
 {
     fs_unicast::longest_cover(&ByDestination { groups }, prefix)
@@ -69,8 +69,23 @@ fn longest_cover(groups: &BTreeMap<Prefix, Group>, prefix: &Prefix) -> Option<Pr
 
 /// Validates the routes to the destination anew, and tells whether a validity is another than before.
 fn retest_at<L: Ledger>(
-    groups: &mut BTreeMap<Prefix, Group>,
+    groups: &mut BTreeMap<PrefixKey, Group>,
     destination: &Prefix,
+    unicast: &Unicast,
+    config: &Config,
+    steps: &mut Steps<L>,
+) -> bool
+    ensures mended { Mended unicast.now config.now (is_same_prefix destination.now)
+        groups.old groups.new steps.old steps.new }
+    ensures told { Tells unicast.now config.now (is_same_prefix destination.now) groups.old.entries result }
+{
+    retest_group(groups, &PrefixKey::of(destination), unicast, config, steps)
+}
+
+/// Validates the routes of the group anew, if there is one, and tells whether a validity is another than before.
+fn retest_group<L: Ledger>(
+    groups: &mut BTreeMap<PrefixKey, Group>,
+    destination: &PrefixKey,
     unicast: &Unicast,
     config: &Config,
     steps: &mut Steps<L>,
@@ -88,7 +103,7 @@ fn retest_at<L: Ledger>(
 /// Validates the routes anew whose destination lies under the prefix, and tells whether a validity is another than
 /// before.
 fn retest_under<L: Ledger>(
-    groups: &mut BTreeMap<Prefix, Group>,
+    groups: &mut BTreeMap<PrefixKey, Group>,
     prefix: &Prefix,
     unicast: &Unicast,
     config: &Config,
@@ -112,7 +127,7 @@ fn retest_under<L: Ledger>(
 
 /// Validates the routes anew whose destination covers the prefix, and tells whether a validity is another than before.
 fn retest_over<L: Ledger>(
-    groups: &mut BTreeMap<Prefix, Group>,
+    groups: &mut BTreeMap<PrefixKey, Group>,
     prefix: &Prefix,
     unicast: &Unicast,
     config: &Config,
@@ -137,7 +152,7 @@ fn retest_over<L: Ledger>(
 /// Validates the routes anew whose destination covers the prefix or lies under it, and tells whether a validity is
 /// another than before.
 pub(crate) fn retest_related<L: Ledger>(
-    groups: &mut BTreeMap<Prefix, Group>,
+    groups: &mut BTreeMap<PrefixKey, Group>,
     prefix: &Prefix,
     unicast: &Unicast,
     config: &Config,

@@ -13,7 +13,7 @@ ghost use Rattle.fs_unicast.specs.Search.{held_by};
 
 use crate::counts::Counts;
 use crate::flows::Flows;
-use crate::group::Kept;
+use crate::kept::Kept;
 use crate::lent::{Admitted, HeldFlow};
 use fs_actions::Actions;
 use fs_base::{Config, Family, Memory, Path, Prefix, Steps};
@@ -83,8 +83,9 @@ impl<'a> Table<'a> {
             actions,
         };
         let validity = valid(&self.unicast, self.config, &route, steps);
+        let k = Kept::new(self.flows.allocator(), route, validity)?;
         self.counts.reserve(peer)?;
-        let is_new = self.flows.put(Kept { route, validity })?;
+        let is_new = self.flows.put(k)?;
         self.counts.raise(peer, is_new);
         Ok(())
     }

@@ -1,5 +1,5 @@
 -- The ranges of places that a look-up goes over.
-use Rattle.std.proofs.Common.{ℕ, ◌≡◌, ◌<◌, ◌≤◌, ◌^◌, refl, sym, ap, subst, ◌∙◌, Bool, true, false, true≢false, not, ◌&&◌, ◌||◌, nat_le, ◌==◌, find, option_map, List, [], ◌∷◌, Some, None, filter, map, Option, Ordering, Less, Equal, Greater, is_eq, is_le, is_lt, nat_cmp, arith}
+use Rattle.std.proofs.Common.{ℕ, ◌≡◌, ◌<◌, ◌≤◌, ◌^◌, refl, sym, ap, subst, ◌∙◌, Bool, true, false, not, ◌&&◌, ◌||◌, nat_le, ◌==◌, find, option_map, List, [], ◌∷◌, Some, None, filter, map, Option, Ordering, Less, Equal, Greater, is_eq, is_le, is_lt, nat_cmp, arith}
 use Rattle.std.specs.List.{AllByRecursion, list_any, list_all}
 use Rattle.std.specs.List.Sorted.{IsStrictlySortedBy}
 use Rattle.std.specs.Map.{keys_of}

@@ -1,3 +1,4 @@
+pub mod Key
 pub mod Neighbour
 pub mod Preference
 pub mod Unicast

@@ -2,6 +2,7 @@
 #![tactic(auto)]
 
 mod cover;
+mod key;
 mod laws;
 mod neighbour;
 mod preference;
@@ -11,6 +12,7 @@ mod turns;
 mod unicast;
 
 pub use cover::{InOrder, longest_cover};
+pub use key::PrefixKey;
 pub use laws::best_is_preferred;
 pub use neighbour::{first_as, neighbour_as};
 pub use preference::Offer;

@@ -10,6 +10,7 @@ ghost use Rattle.std.specs.List.Sorted.{IsStrictlySortedBy};
 ghost use Rattle.std.specs.Map.{keys_of};
 
 use crate::cover::{InOrder, longest_cover};
+use crate::key::PrefixKey;
 use crate::preference::Offer;
 use crate::routes::Routes;
 use crate::unicast::Place;
@@ -22,12 +23,13 @@ pub fn best_at<'a>(routes: &'a BTreeMap<Place, Path>, prefix: &Prefix) -> Option
     requires { HasSmallPeers routes.now.entries }
     ensures { option_map offered result ≡ best_at routes.now.entries prefix.now }
 {
+    let key = PrefixKey::of(prefix);
     let low = Place {
-        prefix: *prefix,
+        prefix: key,
         peer: 0,
     };
     let high = Place {
-        prefix: *prefix,
+        prefix: key,
         peer: u16::MAX,
     };
     let mut best = None;
@@ -80,11 +82,11 @@ fn first_from(routes: &BTreeMap<Place, Path>, low: &Prefix) -> Option<Prefix>
     ensures { IsFirstFrom (λ r. r.0.prefix) routes.now.entries low.now result }
 {
     let low = Place {
-        prefix: *low,
+        prefix: PrefixKey::of(low),
         peer: 0,
     };
     match routes.range(low..).next() {
-        Some((place, _)) => Some(place.prefix),
+        Some((place, _)) => Some(place.prefix.prefix()),
         None => None,
     }
 }
@@ -94,11 +96,11 @@ pub fn others_under(routes: &Routes, prefix: &Prefix, local_as: u32, asn: Option
     ensures { result ≡ others_under routes.now prefix.now local_as asn }
 {
     let low = Place {
-        prefix: prefix.first_under(),
+        prefix: PrefixKey::of(&prefix.first_under()),
         peer: 0,
     };
     let high = Place {
-        prefix: *prefix,
+        prefix: PrefixKey::of(prefix),
         peer: 0,
     };
     routes.others_within(low, &high, local_as, asn)
@@ -111,7 +113,7 @@ pub fn held_by(routes: &BTreeMap<Place, Path>, peer: u16, from: Option<&Prefix>)
 {
     for (place, _) in routes.range((start(from), Bound::Unbounded)) {
         if place.peer == peer {
-            return Some(place.prefix);
+            return Some(place.prefix.prefix());
         }
     }
     None
@@ -122,7 +124,7 @@ fn start(from: Option<&Prefix>) -> Bound<Place>
 {
     match from {
         Some(prefix) => Bound::Included(Place {
-            prefix: *prefix,
+            prefix: PrefixKey::of(prefix),
             peer: 0,
         }),
         None => Bound::Unbounded,

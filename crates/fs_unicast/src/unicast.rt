@@ -9,6 +9,7 @@ ghost use Rattle.fs_unicast.specs.Search.{best_at, best_match_of, others_under, 
 ghost use Rattle.fs_unicast.specs.Preference.{offered};
 ghost use Rattle.std.specs.Option.{option_copied};
 
+use crate::key::PrefixKey;
 use crate::preference::Offer;
 use crate::routes::Routes;
 use crate::search;
@@ -18,9 +19,9 @@ use std::marker::Model;
 use std::sync::ledger::Ledger;
 
 /// Where a route is kept: by its prefix, then by the number of the peer that gave it.
-#[derive(Clone, Copy, Debug, PartialEq, Eq, PartialOrd, Ord)]
+#[derive(Clone, Copy, PartialEq, Eq, PartialOrd, Ord)]
 pub struct Place {
-    pub prefix: Prefix,
+    pub prefix: PrefixKey,
     pub peer: u16,
 }
 
@@ -59,7 +60,11 @@ impl Unicast {
         ensures ok { OnOk result (self.new ≡ put_path peer prefix path self.old) }
         ensures err { OnErr result (self.new ≡ self.old) }
     {
-        self.routes.put(Place { prefix, peer }, path)?;
+        let place = Place {
+            prefix: PrefixKey::of(&prefix),
+            peer,
+        };
+        self.routes.put(place, path)?;
         Ok(())
     }
 
@@ -69,7 +74,7 @@ impl Unicast {
         ensures held { result ≡ has_path peer prefix.now self.old }
     {
         let place = Place {
-            prefix: *prefix,
+            prefix: PrefixKey::of(prefix),
             peer,
         };
         self.routes.remove(&place)

@@ -1,6 +1,7 @@
-use Rattle.std.proofs.Common.{ap, sym, ◌∙◌, not}
+use Rattle.std.proofs.Common.{◌≡◌, ap, subst, ◌∙◌, not}
+use Rattle.fs_rules.specs.Kept.{Kept}
 use Rattle.fs_rules.specs.Table.{put_route, is_key}
-use Rattle.fs_rules.specs.Group.{routes_of}
+use Rattle.fs_rules.specs.Group.{routes_of, put_kept, has_key}
 use Rattle.fs_rules.proofs.Changes.{keeps-put, routes-put, any-routes}
 use Rattle.fs_rules.proofs.Chosen.{flows_changed}
 use Rattle.fs_rules.proofs.Counting.{counted_as, counted_put_flow}
@@ -14,11 +15,14 @@ invariant_of-self g c = record {
 
 pub invariant_of-self-2 : goal.invariant_of-self-2
 invariant_of-self-2 g c = record {
-  keeps = rw c.in_ok-is_new.ensures.ok (keeps-put c.self.inside.config.now c.self.inside.unicast _ c.self.inside.flows c.valid-validity.ensures.validity c.self.invariant.keeps);
+  keeps = rw c.in_ok-is_new.ensures.ok (rw c.in_ok-k.ensures (keeps-put c.self.inside.config.now c.self.inside.unicast _ c.self.inside.flows c.valid-validity.ensures.validity c.self.invariant.keeps));
   counted = counted_put_flow c.self.inside.unicast _ (routes_of c.self.inside.flows) _ c.reserve.new.self c.raise.new.self c.in_ok-is_new.is_new c.self.invariant.keeps.sorted
       (counted_as c.self.inside.unicast (routes_of c.self.inside.flows) c.self.inside.counts c.reserve.new.self c.reserve.ensures.same c.self.invariant.counted)
-      c.raise.ensures (c.in_ok-is_new.ensures.fresh ∙ ap not (any-routes (is_key c.args.rule c.args.peer) c.self.inside.flows)) (ap routes_of c.in_ok-is_new.ensures.ok ∙ routes-put _ c.self.inside.flows);
+      c.raise.ensures
+      (subst (λ (k : Kept). c.in_ok-is_new.is_new ≡ not (has_key k.route.rule k.route.peer c.self.inside.flows)) c.in_ok-k.ensures c.in_ok-is_new.ensures.fresh ∙ ap not (any-routes (is_key c.args.rule c.args.peer) c.self.inside.flows))
+      (ap routes_of (subst (λ (k : Kept). c.put.new.self ≡ put_kept k c.self.inside.flows) c.in_ok-k.ensures c.in_ok-is_new.ensures.ok) ∙ routes-put _ c.self.inside.flows);
 }
 
 pub returns-clause-ok : goal.returns-clause-ok
-returns-clause-ok g c = flows_changed (put_route _) c.self.inside.config.now c.self.inside.unicast c.self.inside.flows c.put.new.self _ c.self.view_is (ap routes_of c.in_ok-is_new.ensures.ok ∙ routes-put _ c.self.inside.flows)
+returns-clause-ok g c = flows_changed (put_route _) c.self.inside.config.now c.self.inside.unicast c.self.inside.flows c.put.new.self _ c.self.view_is
+    (ap routes_of (subst (λ (k : Kept). c.put.new.self ≡ put_kept k c.self.inside.flows) c.in_ok-k.ensures c.in_ok-is_new.ensures.ok) ∙ routes-put _ c.self.inside.flows)

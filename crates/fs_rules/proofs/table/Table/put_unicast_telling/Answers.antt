@@ -1,4 +1,4 @@
-use Rattle.std.proofs.Common.{rules, of_calls, ap, sym, ◌∙◌}
+use Rattle.std.proofs.Common.{rules, of_calls, ap, ◌∙◌}
 use Rattle.std.specs.BTreeMap.{insert_entry}
 use Rattle.fs_unicast.specs.Unicast.{place_cmp}
 use Rattle.fs_rules.specs.Table.{Held}

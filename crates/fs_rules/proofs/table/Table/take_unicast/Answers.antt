@@ -1,7 +1,7 @@
 use Rattle.std.proofs.Common.{◌≡◌, refl, sym, ap, ◌∙◌, subst}
 use Rattle.std.specs.BTreeMap.{is_at}
 use Rattle.std.specs.Map.{remove_entry}
-use Rattle.fs_unicast.specs.Unicast.{place_cmp, take_path}
+use Rattle.fs_unicast.specs.Unicast.{place_cmp}
 use Rattle.fs_rules.specs.Counts.{IsKept}
 use Rattle.fs_rules.specs.Group.{routes_of}
 use Rattle.fs_rules.specs.Table.{MarksStay}

@@ -1,7 +1,7 @@
 use Rattle.std.proofs.Common.{sym, ap}
 use Rattle.fs_rules.proofs.Mending.{mends_found, mends_missing}
 use Rattle.fs_rules.proofs.Telling.{told_found, told_missing}
-use Rattle.fs_rules.proofs.search.retest_at.Goals as goal
+use Rattle.fs_rules.proofs.search.retest_group.Goals as goal
 
 pub returns-in-Some-clause-mended : goal.returns-in-Some-clause-mended
 returns-in-Some-clause-mended g c = mends_found c.args.unicast.now c.args.config.now c.args.destination.now c.args.groups.now.entries _ c.in-Some.group.now c.retest.new.self c.args.steps.now c.retest.new.steps c.in-Some.ensures.ordered (sym c.in-Some.ensures.value) c.retest.ensures.retested (c.get_mut.follows.holds c.retest.new.self).0 c.retest.ensures.later c.retest.ensures.steps

@@ -1,0 +1,7 @@
+-- A flow route and its validity.
+use Rattle.fs_validate.specs.declared.route.FlowRoute.{FlowRoute}
+use Rattle.fs_validate.specs.declared.validity.Validity.{Validity}
+
+pub record Kept : Type 0 where
+  pub route : FlowRoute
+  pub validity : Validity

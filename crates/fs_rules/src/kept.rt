@@ -1,0 +1,84 @@
+//! A flow route and its validity.
+
+ghost use Rattle.std.specs.Prelude.{◌≡◌};
+ghost use Rattle.fs_nlri.specs.Rule.{IsRule, destination_prefix};
+
+use fs_base::{Family, Memory};
+use fs_nlri::Rule;
+use fs_unicast::PrefixKey;
+use fs_validate::{FlowRoute, Validity, destination};
+use std::alloc::Global;
+use std::marker::Model;
+
+/// A flow route and its validity. The route stands in a block of its own, so that a group moves few octets to make a
+/// place among many routes.
+#[derive(Drop)]
+pub(crate) struct Kept {
+    route: Box<FlowRoute>,
+    validity: Validity,
+}
+
+impl Model for Kept {
+    ghost use Rattle.fs_rules.specs.Kept.{Kept};
+
+    ghost Value = { Kept };
+
+    ghost view = { λ a. record { route = a.route.value; validity = a.validity } };
+}
+
+/// The destination of a rule, as a key.
+pub(crate) fn destination_key(rule: &Rule) -> Option<PrefixKey>
+    ensures value { result ≡ destination_prefix rule.now }
+    ensures rule { IsRule rule.now }
+{
+    match destination(rule) {
+        Some(destination) => Some(PrefixKey::of(&destination)),
+        None => None,
+    }
+}
+
+impl Kept {
+    ghost use Rattle.std.specs.Prelude.{◌≡◌, IfOk};
+    ghost use Rattle.fs_nlri.specs.Rule.{IsRule, destination_prefix};
+
+    /// The route with this validity.
+    pub(crate) fn new(alloc: Global, route: FlowRoute, validity: Validity) -> Result<Kept, Memory>
+        ensures { IfOk result (λ k. k ≡ record { route = route; validity = validity }) }
+    {
+        let route = Box::new(alloc, route)?;
+        Ok(Kept { route, validity })
+    }
+
+    pub(crate) fn route(&self) -> &FlowRoute
+        ensures { result.now ≡ self.now.route }
+    {
+        self.route.as_ref()
+    }
+
+    pub(crate) fn family(&self) -> Family
+        ensures { result ≡ self.now.route.rule.family }
+    {
+        self.route.rule.family()
+    }
+
+    /// The destination of the route's rule, as a key.
+    pub(crate) fn destination(&self) -> Option<PrefixKey>
+        ensures value { result ≡ destination_prefix self.now.route.rule }
+        ensures rule { IsRule self.now.route.rule }
+    {
+        destination_key(&self.route.rule)
+    }
+
+    pub(crate) fn validity(&self) -> Validity
+        ensures { result ≡ self.now.validity }
+    {
+        self.validity
+    }
+
+    /// Gives the route another validity.
+    pub(crate) fn judge(&mut self, validity: Validity)
+        ensures { self.new ≡ record { route = self.old.route; validity = validity } }
+    {
+        self.validity = validity;
+    }
+}
