@@ -1,3 +1,4 @@
+pub mod Beginning
 pub mod Headings
 pub mod Packets
 pub mod ReadsBack

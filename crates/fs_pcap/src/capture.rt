@@ -1,5 +1,5 @@
 //! A capture, read record by record.
-ghost use Rattle.std.specs.Prelude.{◌≡◌, ◌≤◌, [], None, IsSome, IsTrue, IfOk, IfSome, drop, length};
+ghost use Rattle.std.specs.Prelude.{◌≡◌, ◌≤◌, ◌++◌, [], None, IsSome, IsTrue, IfOk, IfSome, drop, length};
 ghost use Rattle.std.specs.Result.{IsErrOf};
 ghost use Rattle.fs_base.specs.Files.{OnlySlot};
 ghost use Rattle.fs_base.specs.Outside.{Rose};
@@ -62,7 +62,7 @@ impl Capture {
     ghost use Rattle.fs_records.specs.declared.fault.Fault.TheVariants.{Read};
     ghost use Rattle.fs_pcap.specs.Capture.{CaptureState, coming};
 
-    /// Reads the header, up to the limit.
+    /// Reads the header, up to the limit. Octets of its front may have been put back.
     ///
     /// # Errors
     ///
@@ -70,7 +70,7 @@ impl Capture {
     /// where these are all that the limit allows; `Read` where the files failed.
     pub fn begin<F: Files>(mut counted: Counted, files: &mut F) -> Result<Capture, CaptureFault>
         requires start { counted.taken ≡ 0 }
-        requires none { counted.back ≡ [] }
+        requires few { length counted.back ≤ 4 }
         ensures later { F.faults files.old ≤ F.faults files.new }
         ensures read { IsErrOf result Read → Rose (F.faults files.old) (F.faults files.new) }
         ensures slot { IfOk result (λ capture. capture.slot ≡ counted.slot) }
@@ -83,8 +83,8 @@ impl Capture {
         ensures opens { IsTrue F.tells
             → Opens
             (λ (capture : CaptureState). capture.heading)
-            (heading_of counted.limit (F.left files.old counted.slot))
-            (drop 24 (F.left files.old counted.slot))
+            (heading_of counted.limit (counted.back ++ F.left files.old counted.slot))
+            (drop 24 (counted.back ++ F.left files.old counted.slot))
             (F.left files.new counted.slot)
             result }
         ensures others { OnlySlot F.tells F.left F.holds counted.slot files.old files.new }

@@ -5,3 +5,5 @@ pub mod Takes
 pub mod Fitting
 pub mod Opening
 pub mod Bodies
+pub mod Merged
+pub mod Told

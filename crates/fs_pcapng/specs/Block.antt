@@ -1,7 +1,10 @@
 -- A block of a pcapng capture, as a chain of fields: type and total length, of four octets each, the body, and the total
--- length again. A section header tells the order of the octets in the numbers behind it.
+-- length again. A section header tells the order of the octets in the numbers behind it. (The draft 'PCAP Next Generation
+-- (pcapng) Capture File Format', draft-ietf-opsawg-pcapng: its sections 'General Block Structure', 'Section Header Block',
+-- 'Interface Description Block', 'Enhanced Packet Block' and 'Simple Packet Block'. Blocks of other types are skipped.)
 use Rattle.std.specs.Prelude.{ℕ, List, [], ◌∷◌, ◌++◌, Option, Some, None, Bool, ◌+◌, ◌-◌, ◌*◌, ◌%◌, ◌==◌, ◌&&◌, length, drop, max, min, nat_le, nat_lt, slice_get, if◌then◌else◌}
 use Rattle.byteorder.specs.Endian.{big_number}
+use Rattle.fs_pcap.specs.Head.{longest_record}
 use Rattle.fs_pcap.specs.Link.{link_of}
 use Rattle.fs_pcap.specs.Order.{number}
 use Rattle.fs_pcap.specs.declared.link.Link.{Link}
@@ -91,7 +94,7 @@ octets_in frame fixed captured =
 -- a captured length, which stands at `place`: not too long, and no more than the block has room for
 abbrev pub fitting : {A : Type 0} → Frame → (fixed captured place : ℕ) → Scanner A NgReason → Scanner A NgReason
 fitting frame fixed captured place next =
-    needs (nat_le captured 262144) RecordTooLong place
+    needs (nat_le captured longest_record) RecordTooLong place
     (needs (nat_le (fixed + padded captured) frame.total) Length (frame.start + 4) next)
 
 abbrev pub packet : (moment link original : ℕ) → List ℕ → Packet
@@ -173,9 +176,13 @@ abbrev pub plain_in : (start : ℕ) → Stands → Option Endian → List ℕ �
 plain_in start now None kind = fails Magic start
 plain_in start now (Some order) kind = and (field 4 (number order 4)) (total_behind start order now (kind_of (number order 4 kind)))
 
+-- the type of a section header, the same in either order
+abbrev pub section_header : ℕ
+section_header = 0x0a0d0d0a
+
 abbrev pub kind_behind : Stands → (start : ℕ) → List ℕ → Scanner (Option Packet × Stands) NgReason
 kind_behind now start kind =
-    if big_number 4 kind == 0x0a0d0d0a
+    if big_number 4 kind == section_header
     then and (section_in start) (λ order. gives (None, opened order now.moment))
     else plain_in start now now.order kind
 

@@ -1,4 +1,5 @@
 pub mod Time
 pub mod Options
 pub mod Block
+pub mod Packets
 pub mod Pcapng

@@ -1,6 +1,8 @@
--- A pcapng capture: blocks, the first of which is a section header. Those with packets give them.
+-- A pcapng capture: blocks, the first of which is a section header. Those with packets give them (the pcapng draft's
+-- sections 'Block Types' and 'Logical Block Hierarchy').
 use Rattle.std.specs.Prelude.{ℕ, List, [], ◌∷◌, Option, Some, None, Result, Ok, Err, ◌≡◌, ◌≤◌, ◌<◌, ◌==◌, ◌&&◌, not, if◌then◌else◌, length, take, ⊤}
 use Rattle.fs_base.specs.Parts.{at_limit, window}
+use Rattle.fs_pcap.specs.Head.{longest_record}
 use Rattle.fs_pcap.specs.declared.link.Link.{Link}
 use Rattle.fs_records.specs.Records.{End, bad, limited}
 use Rattle.fs_records.specs.declared.fault.Ended.{Ended}
@@ -62,7 +64,7 @@ packet_from link caught into = record {
 
 -- A packet raises the place, up to the limit at most. It isn't too long.
 abbrev pub Grows : (old new limit : ℕ) → Result (Option NgCaught) (Fault NgReason) → Type 0
-Grows old new limit (Ok (Some caught)) = (old < new) × (new ≤ limit) × (caught.taken ≤ 262144)
+Grows old new limit (Ok (Some caught)) = (old < new) × (new ≤ limit) × (caught.taken ≤ longest_record)
 Grows old new limit (Ok None) = ⊤
 Grows old new limit (Err fault) = ⊤
 

@@ -1,4 +1,5 @@
--- The units in which an interface counts time.
+-- The units in which an interface counts time (the option 'if_tsresol' in the pcapng draft's section 'Interface
+-- Description Block').
 use Rattle.std.specs.Prelude.{ℕ, ◌-◌, ◌*◌, ◌/◌, ◌^◌, min, nat_lt, if◌then◌else◌}
 
 -- so many units of an interface, in whole nanoseconds, at most 2 to the 64th less 1: units of 10 to the minus `unit`

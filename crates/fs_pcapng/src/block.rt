@@ -1,6 +1,7 @@
 //! Blocks.
 ghost use Rattle.std.specs.Prelude.{◌≡◌, ◌≤◌, ◌<◌, ◌+◌, [], IfOk, IfSome, length};
 ghost use Rattle.std.specs.Option.{option_map};
+ghost use Rattle.fs_pcap.specs.Head.{longest_record};
 ghost use Rattle.fs_scan.specs.Reads.{Reads};
 ghost use Rattle.fs_pcapng.specs.Block.{body_in, kind_behind, kind_of, least_of, plain_in};
 ghost use Rattle.fs_pcapng.specs.Pcapng.{seen_from};
@@ -15,8 +16,8 @@ use crate::section::Section;
 use byteorder::{BigEndian, ByteOrder};
 use fs_base::{Counted, Files};
 
-/// The type of a section header, the same in either order.
-pub(crate) const SECTION_HEADER: u32 = 0x0a0d_0d0a;
+/// The type of a section header, the same in either order: a pcapng capture's first four octets.
+pub const SECTION_HEADER: u32 = 0x0a0d_0d0a;
 
 /// The kinds of blocks behind a section header.
 #[derive(Clone, Copy, Debug, PartialEq, Eq, Drop)]
@@ -67,14 +68,15 @@ pub(crate) fn take_block<F: Files>(
     into: &mut [u8],
 ) -> Result<Option<Seen>, NgFault>
     requires kind { 4 ≤ length kind.now }
-    requires room { 262144 ≤ length into.old }
+    requires room { longest_record ≤ length into.old }
     requires none { counted.old.back ≡ [] }
     requires place { counted.old.taken ≡ start + 4 }
     ensures none { counted.new.back ≡ [] }
     ensures room { length into.new ≡ length into.old }
     ensures grows { IfOk result (λ _. start < counted.new.taken) }
-    ensures size { IfOk result (λ found. IfSome found (λ seen. seen.caught.taken ≤ 262144)) }
+    ensures size { IfOk result (λ found. IfSome found (λ seen. seen.caught.taken ≤ longest_record)) }
     ensures moment { IfOk result (λ found. IfSome found (λ seen. seen.caught.moment ≡ section.new.moment)) }
+    ensures rises { section.old.moment ≤ section.new.moment }
     ensures reads { Reads F.tells (F.faults files.old) (F.faults files.new) (F.left files.old) (F.left files.new)
         (F.holds files.old) (F.holds files.new) (kind_behind section.old start kind.now) Cut counted.old counted.new
         (λ found. (option_map (seen_from into.new) found, section.new)) result }
@@ -101,14 +103,15 @@ fn take_plain<F: Files>(
     into: &mut [u8],
 ) -> Result<Option<Seen>, NgFault>
     requires kind { 4 ≤ length kind.now }
-    requires room { 262144 ≤ length into.old }
+    requires room { longest_record ≤ length into.old }
     requires none { counted.old.back ≡ [] }
     requires place { counted.old.taken ≡ start + 4 }
     ensures none { counted.new.back ≡ [] }
     ensures room { length into.new ≡ length into.old }
     ensures grows { IfOk result (λ _. start < counted.new.taken) }
-    ensures size { IfOk result (λ found. IfSome found (λ seen. seen.caught.taken ≤ 262144)) }
+    ensures size { IfOk result (λ found. IfSome found (λ seen. seen.caught.taken ≤ longest_record)) }
     ensures moment { IfOk result (λ found. IfSome found (λ seen. seen.caught.moment ≡ section.new.moment)) }
+    ensures rises { section.old.moment ≤ section.new.moment }
     ensures reads { Reads F.tells (F.faults files.old) (F.faults files.new) (F.left files.old) (F.left files.new)
         (F.holds files.old) (F.holds files.new) (plain_in start section.old section.old.order kind.now) Cut
         counted.old counted.new (λ found. (option_map (seen_from into.new) found, section.new)) result }
@@ -147,15 +150,16 @@ fn take_body<F: Files>(
     files: &mut F,
     into: &mut [u8],
 ) -> Result<Option<Seen>, NgFault>
-    requires room { 262144 ≤ length into.old }
+    requires room { longest_record ≤ length into.old }
     requires none { counted.old.back ≡ [] }
     requires place { counted.old.taken ≡ frame.start + 8 }
     requires long { least_of kind ≤ frame.total }
     ensures none { counted.new.back ≡ [] }
     ensures room { length into.new ≡ length into.old }
     ensures grows { IfOk result (λ _. frame.start < counted.new.taken) }
-    ensures size { IfOk result (λ found. IfSome found (λ seen. seen.caught.taken ≤ 262144)) }
+    ensures size { IfOk result (λ found. IfSome found (λ seen. seen.caught.taken ≤ longest_record)) }
     ensures moment { IfOk result (λ found. IfSome found (λ seen. seen.caught.moment ≡ section.new.moment)) }
+    ensures rises { section.old.moment ≤ section.new.moment }
     ensures reads { Reads F.tells (F.faults files.old) (F.faults files.new) (F.left files.old) (F.left files.new)
         (F.holds files.old) (F.holds files.new) (body_in frame section.old kind) Cut counted.old counted.new
         (λ found. (option_map (seen_from into.new) found, section.new)) result }

@@ -5,6 +5,7 @@ ghost use Rattle.std.specs.Result.{IsErrOf};
 ghost use Rattle.fs_base.specs.Files.{OnlySlot};
 ghost use Rattle.fs_base.specs.Outside.{Rose};
 ghost use Rattle.fs_base.specs.Parts.{with_part};
+ghost use Rattle.fs_pcap.specs.Head.{longest_record};
 ghost use Rattle.fs_records.specs.Reading.{Advances, answer_of, ended_after};
 ghost use Rattle.fs_records.specs.declared.fault.Fault.TheVariants.{Read};
 ghost use Rattle.fs_scan.specs.Coming.{parts_to_come};
@@ -22,7 +23,7 @@ use crate::section::Section;
 use byteorder::{BigEndian, ByteOrder};
 use fs_base::{Counted, Files};
 use fs_pcap::Link;
-use fs_records::Ended;
+use fs_records::{Ended, answer};
 use fs_scan::{take_again, take_first};
 use std::marker::Model;
 
@@ -72,6 +73,7 @@ impl Ng {
         ensures limit { IfOk result (λ capture. capture.limit ≡ counted.limit) }
         ensures end { IfOk result (λ capture. capture.end ≡ None) }
         ensures link { IfOk result (λ capture. capture.link ≡ None) }
+        ensures moment { IfOk result (λ capture. capture.standing.moment ≡ 0) }
         ensures within { IfOk result (λ capture. capture.place ≤ capture.limit) }
 
         ensures begins { IsTrue F.tells
@@ -113,7 +115,7 @@ impl Ng {
         files: &mut F,
         into: &mut [u8],
     ) -> Result<Option<NgCaught>, NgFault>
-        requires { 262144 ≤ length into.old }
+        requires { longest_record ≤ length into.old }
         ensures room { length into.new ≡ length into.old }
         ensures later { F.faults files.old ≤ F.faults files.new }
         ensures read { self.old.end ≡ None → IsErrOf result Read → Rose (F.faults files.old) (F.faults files.new) }
@@ -125,6 +127,7 @@ impl Ng {
         ensures ended { self.new.end ≡ ended_after result }
         ensures grows { self.old.end ≡ None → Grows self.old.place self.new.place self.new.limit result }
         ensures times { IfOk result (λ found. IfSome found (λ caught. caught.moment ≡ self.new.standing.moment)) }
+        ensures rises { self.old.standing.moment ≤ self.new.standing.moment }
 
         ensures advances { IsTrue F.tells
             → self.old.end ≡ None
@@ -156,16 +159,6 @@ impl Ng {
     }
 }
 
-/// What a capture that ended answers.
-fn answer(ended: Ended<NgReason>) -> Result<Option<NgCaught>, NgFault>
-    ensures { result ≡ answer_of ended }
-{
-    match ended {
-        Ended::Done => Ok(None),
-        Ended::Stopped(fault) => Err(fault),
-    }
-}
-
 /// Reads the first block of a capture.
 fn take_opening<F: Files>(
     section: &mut Section,
@@ -176,6 +169,7 @@ fn take_opening<F: Files>(
     requires start { counted.old.taken ≡ 0 }
     requires few { length counted.old.back ≤ 4 }
     ensures none { IfOk result (λ _. counted.new.back ≡ []) }
+    ensures moment { IfOk result (λ _. section.new.moment ≡ 0) }
     ensures reads { Reads F.tells (F.faults files.old) (F.faults files.new)
         (ahead counted.old (F.left files.old)) (ahead counted.new (F.left files.new))
         (F.holds files.old) (F.holds files.new) (block_in nothing) Cut counted.old counted.new
@@ -222,7 +216,7 @@ fn next_seen<F: Files>(
     files: &mut F,
     into: &mut [u8],
 ) -> Result<Option<Seen>, NgFault>
-    requires room { 262144 ≤ length into.old }
+    requires room { longest_record ≤ length into.old }
     requires none { counted.old.back ≡ [] }
     ensures none { counted.new.back ≡ [] }
     ensures room { length into.new ≡ length into.old }
@@ -231,8 +225,9 @@ fn next_seen<F: Files>(
     ensures slot { counted.new.slot ≡ counted.old.slot }
     ensures limit { counted.new.limit ≡ counted.old.limit }
     ensures grows { IfOk result (λ found. IfSome found (λ seen. counted.old.taken < counted.new.taken)) }
-    ensures size { IfOk result (λ found. IfSome found (λ seen. seen.caught.taken ≤ 262144)) }
+    ensures size { IfOk result (λ found. IfSome found (λ seen. seen.caught.taken ≤ longest_record)) }
     ensures moment { IfOk result (λ found. IfSome found (λ seen. seen.caught.moment ≡ section.new.moment)) }
+    ensures rises { section.old.moment ≤ section.new.moment }
 
     ensures advances { IsTrue F.tells
         → Advances
@@ -260,7 +255,7 @@ fn advance<F: Files>(
     files: &mut F,
     into: &mut [u8],
 ) -> Result<Option<Option<Seen>>, NgFault>
-    requires room { 262144 ≤ length into.old }
+    requires room { longest_record ≤ length into.old }
     requires none { counted.old.back ≡ [] }
     ensures none { counted.new.back ≡ [] }
     ensures room { length into.new ≡ length into.old }
@@ -269,16 +264,19 @@ fn advance<F: Files>(
     ensures slot { counted.new.slot ≡ counted.old.slot }
     ensures limit { counted.new.limit ≡ counted.old.limit }
     ensures grows { IfOk result (λ found. IfSome found (λ told. counted.old.taken < counted.new.taken)) }
-    ensures size { IfOk result (λ found. IfSome found (λ told. IfSome told (λ seen. seen.caught.taken ≤ 262144))) }
+    ensures size { IfOk result (λ found.
+        IfSome found (λ told. IfSome told (λ seen. seen.caught.taken ≤ longest_record))) }
     ensures moment { IfOk result (λ found.
         IfSome found (λ told. IfSome told (λ seen. seen.caught.moment ≡ section.new.moment))) }
+    ensures rises { section.old.moment ≤ section.new.moment }
 
     ensures advances { IsTrue F.tells
         → Advances
         (parts_to_come block_in Cut counted.old.limit counted.old.taken section.old (F.left files.old counted.old.slot))
         (λ told. with_part
         (option_map (seen_from into.new) told)
-        (parts_to_come block_in Cut counted.new.limit counted.new.taken section.new (F.left files.new counted.new.slot)))
+        (parts_to_come block_in Cut counted.new.limit counted.new.taken section.new
+        (F.left files.new counted.new.slot)))
         result }
     ensures others { OnlySlot F.tells F.left F.holds counted.old.slot files.old files.new }
 {

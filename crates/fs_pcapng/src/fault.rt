@@ -22,7 +22,7 @@ pub enum NgReason {
     Cut,
 }
 
-/// Why a capture gives no further packet. The place of a wrong field is that of its first octet in the capture, from 0; for
-/// `TooMany`, and for `Interface` of a simple packet, that of the block; for an option that overruns its block that of the
-/// option; for `Cut` the capture's length.
+/// Why a capture gives no further packet. The place of a wrong field is that of its first octet in the capture, from
+/// 0; for `TooMany`, and for `Interface` of a simple packet, that of the block; for an option that overruns its block
+/// that of the option; for `Cut` the capture's length.
 pub type NgFault = Fault<NgReason>;

@@ -151,7 +151,8 @@ pub(crate) fn end_block<F: Files>(
     ensures none { counted.new.back ≡ [] }
     ensures taken { IfOk result (λ _. counted.new.taken ≡ frame.start + frame.total) }
     ensures reads { Reads F.tells (F.faults files.old) (F.faults files.new) (F.left files.old) (F.left files.new)
-        (F.holds files.old) (F.holds files.new) (end_in frame size) Cut counted.old counted.new (λ _. frame.total) result }
+        (F.holds files.old) (F.holds files.new) (end_in frame size) Cut counted.old counted.new
+        (λ _. frame.total) result }
 {
     if let Err(fault) = skip(size, counted, files) {
         return Err(fault);

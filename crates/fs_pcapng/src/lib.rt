@@ -12,6 +12,7 @@ mod packets;
 mod section;
 mod time;
 
+pub use block::SECTION_HEADER;
 pub use capture::Ng;
 pub use caught::NgCaught;
 pub use fault::{NgFault, NgReason};

@@ -1,5 +1,6 @@
 //! The options of an interface.
 ghost use Rattle.std.specs.Prelude.{◌≡◌, ◌≤◌, ◌<◌, ◌+◌, ◌-◌, ◌/◌, ◌*◌, [], IfOk, length};
+ghost use Rattle.fs_pcap.specs.Head.{longest_record};
 ghost use Rattle.fs_scan.specs.Reads.{Reads};
 ghost use Rattle.fs_pcapng.specs.Options.{option_in, options_in, padded, unit_in, value_in, walk};
 ghost use Rattle.fs_pcapng.specs.declared.fault.NgReason.TheVariants.{Cut};
@@ -18,7 +19,7 @@ pub(crate) struct Walk {
 
 /// So many octets, with those that pad them to a multiple of four.
 pub(crate) fn padded(size: u32) -> u32
-    requires { size ≤ 262144 }
+    requires { size ≤ longest_record }
     ensures { result ≡ padded size }
 {
     (size + 3) / 4 * 4
@@ -63,7 +64,8 @@ fn take_option<F: Files>(
     ensures less { IfOk result (λ later. later.left < now.left) }
     ensures taken { IfOk result (λ later. counted.new.taken + later.left ≡ counted.old.taken + now.left) }
     ensures reads { Reads F.tells (F.faults files.old) (F.faults files.new) (F.left files.old) (F.left files.new)
-        (F.holds files.old) (F.holds files.new) (option_in order now) Cut counted.old counted.new (λ later. later) result }
+        (F.holds files.old) (F.holds files.new) (option_in order now) Cut counted.old counted.new
+        (λ later. later) result }
 {
     let place = counted.taken;
     let mut head = [0u8; 4];
@@ -95,7 +97,8 @@ fn take_value<F: Files>(
     ensures less { IfOk result (λ later. later.left < now.left) }
     ensures taken { IfOk result (λ later. counted.new.taken + later.left + 4 ≡ counted.old.taken + now.left) }
     ensures reads { Reads F.tells (F.faults files.old) (F.faults files.new) (F.left files.old) (F.left files.new)
-        (F.holds files.old) (F.holds files.new) (value_in now code size) Cut counted.old counted.new (λ later. later) result }
+        (F.holds files.old) (F.holds files.new) (value_in now code size) Cut counted.old counted.new
+        (λ later. later) result }
 {
     if code == 9 && size == 1 {
         return take_unit(now, counted, files);

@@ -1,8 +1,11 @@
 //! Blocks that describe interfaces or hold packets.
 ghost use Rattle.std.specs.Prelude.{◌≡◌, ◌≤◌, ◌<◌, ◌+◌, ◌-◌, ◌*◌, [], IfOk, Some, length, max, min, take};
+ghost use Rattle.fs_pcap.specs.Head.{longest_record};
 ghost use Rattle.fs_pcap.specs.Link.{link_of};
+ghost use Rattle.fs_scan.specs.Judging.{scan_of};
 ghost use Rattle.fs_scan.specs.Reads.{Reads};
-ghost use Rattle.fs_pcapng.specs.Block.{cut_to, described_in, enhanced_in, octets_in, original_in, simple_in, timed_in};
+ghost use Rattle.fs_pcapng.specs.Block.{cut_to, described_in, enhanced_in, octets_in, simple_in};
+ghost use Rattle.fs_pcapng.specs.Packets.{Suits, told_by, told_in};
 ghost use Rattle.fs_pcapng.specs.Pcapng.{seen_from};
 ghost use Rattle.fs_pcapng.specs.declared.fault.NgReason.TheVariants.{Cut};
 
@@ -12,18 +15,21 @@ use crate::fields::{Frame, close_block, end_block, read_u16, read_u32, take_fron
 use crate::options::{padded, read_options};
 use crate::section::{Interface, Section};
 use crate::time::time_of;
-use fs_base::{Counted, Files};
-use fs_pcap::Link;
+use fs_base::{Counted, Files, fill};
+use fs_pcap::{LONGEST_RECORD, Link};
+use fs_scan::{Judged, settle};
 
 /// The longest packet that is taken.
-const LONGEST_PACKET: u32 = 262144;
+const LONGEST_PACKET: u32 = LONGEST_RECORD as u32;
 
-/// What a packet's block tells before its octets: the link type's number, the moment, and how many octets were captured.
+/// What a packet's block tells before its octets: the link type's number, the moment, how many octets were captured,
+/// and how many the packet had.
 #[derive(Clone, Copy, Debug, PartialEq, Eq, Drop)]
-struct Told {
-    link: u16,
-    moment: u64,
-    captured: u32,
+pub(crate) struct Told {
+    pub(crate) link: u16,
+    pub(crate) moment: u64,
+    pub(crate) captured: u32,
+    pub(crate) original: u32,
 }
 
 /// Reads the description of an interface.
@@ -59,7 +65,8 @@ pub(crate) fn take_described<F: Files>(
     }
 }
 
-/// Takes so many octets of a packet, behind so many others of the block, and ends the block.
+/// Takes so many octets of a packet, behind so many others of the block, and ends the block: in one piece
+/// where `into` has room for what else the block holds.
 fn take_captured<F: Files>(
     frame: Frame,
     fixed: u32,
@@ -68,8 +75,46 @@ fn take_captured<F: Files>(
     files: &mut F,
     into: &mut [u8],
 ) -> Result<(), NgFault>
-    requires room { 262144 ≤ length into.old }
-    requires size { captured ≤ 262144 }
+    requires room { longest_record ≤ length into.old }
+    requires size { captured ≤ longest_record }
+    requires long { fixed + captured ≤ frame.total }
+    requires none { counted.old.back ≡ [] }
+    requires place { counted.old.taken + 4 ≡ frame.start + fixed }
+    ensures none { counted.new.back ≡ [] }
+    ensures room { length into.new ≡ length into.old }
+    ensures taken { IfOk result (λ _. counted.new.taken ≡ frame.start + frame.total) }
+    ensures reads { Reads F.tells (F.faults files.old) (F.faults files.new) (F.left files.old) (F.left files.new)
+        (F.holds files.old) (F.holds files.new) (octets_in frame fixed captured) Cut counted.old counted.new
+        (λ _. take captured into.new) result }
+{
+    let rest = (frame.total - fixed - captured) as usize;
+    let size = captured as usize + rest + 4;
+    if size > into.len() {
+        return take_pieces(frame, fixed, captured, counted, files, into);
+    }
+    if let Err(fault) = take_front(size, counted, files, into) {
+        return Err(fault);
+    }
+    if read_u32(frame.order, &into[size - 4..size]) != frame.total {
+        return Err(NgFault::Bad {
+            reason: NgReason::Length,
+            place: counted.taken - 4,
+        });
+    }
+    Ok(())
+}
+
+/// The same, piece by piece.
+fn take_pieces<F: Files>(
+    frame: Frame,
+    fixed: u32,
+    captured: u32,
+    counted: &mut Counted,
+    files: &mut F,
+    into: &mut [u8],
+) -> Result<(), NgFault>
+    requires room { longest_record ≤ length into.old }
+    requires size { captured ≤ longest_record }
     requires long { fixed + captured ≤ frame.total }
     requires none { counted.old.back ≡ [] }
     requires place { counted.old.taken + 4 ≡ frame.start + fixed }
@@ -94,41 +139,9 @@ fn take_captured<F: Files>(
     }
 }
 
-/// Reads a packet's length and its octets, of an enhanced packet.
-fn take_original<F: Files>(
-    frame: Frame,
-    told: Told,
-    counted: &mut Counted,
-    files: &mut F,
-    into: &mut [u8],
-) -> Result<Seen, NgFault>
-    requires room { 262144 ≤ length into.old }
-    requires size { told.captured ≤ 262144 }
-    requires long { 32 + told.captured ≤ frame.total }
-    requires none { counted.old.back ≡ [] }
-    requires place { counted.old.taken ≡ frame.start + 24 }
-    ensures none { counted.new.back ≡ [] }
-    ensures room { length into.new ≡ length into.old }
-    ensures grows { IfOk result (λ _. frame.start < counted.new.taken) }
-    ensures size { IfOk result (λ seen. seen.caught.taken ≤ 262144) }
-    ensures moment { IfOk result (λ seen. seen.caught.moment ≡ told.moment) }
-    ensures reads { Reads F.tells (F.faults files.old) (F.faults files.new) (F.left files.old) (F.left files.new)
-        (F.holds files.old) (F.holds files.new) (original_in frame told.link told.moment told.captured) Cut
-        counted.old counted.new (seen_from into.new) result }
-{
-    let original = match take_number(frame.order, counted, files) {
-        Ok(original) => original,
-        Err(fault) => return Err(fault),
-    };
-    match take_captured(frame, 32, told.captured, counted, files, into) {
-        Ok(()) => Ok(seen(told, original)),
-        Err(fault) => Err(fault),
-    }
-}
-
-fn seen(told: Told, original: u32) -> Seen
+fn seen(told: Told) -> Seen
     ensures { result ≡ record {
-      caught = record { moment = told.moment; taken = told.captured; original = original };
+      caught = record { moment = told.moment; taken = told.captured; original = told.original };
       link = link_of told.link;
     } }
 {
@@ -136,58 +149,100 @@ fn seen(told: Told, original: u32) -> Seen
         caught: NgCaught {
             moment: told.moment,
             taken: told.captured as usize,
-            original,
+            original: told.original,
         },
         link: Link::of(told.link as u32),
     }
 }
 
-/// Reads the time and the captured length of an enhanced packet, and what stands behind them.
-fn take_timed<F: Files>(
+/// Judges the octets in hand of the 16 behind the number of an enhanced packet's interface, which stands at `at`.
+fn judge_timed(
     frame: Frame,
     interface: Interface,
     moment: u64,
-    counted: &mut Counted,
-    files: &mut F,
-    into: &mut [u8],
-) -> Result<Seen, NgFault>
-    requires room { 262144 ≤ length into.old }
-    requires none { counted.old.back ≡ [] }
-    requires place { counted.old.taken ≡ frame.start + 12 }
-    ensures none { counted.new.back ≡ [] }
-    ensures room { length into.new ≡ length into.old }
-    ensures grows { IfOk result (λ _. frame.start < counted.new.taken) }
-    ensures size { IfOk result (λ seen. seen.caught.taken ≤ 262144) }
-    ensures reads { Reads F.tells (F.faults files.old) (F.faults files.new) (F.left files.old) (F.left files.new)
-        (F.holds files.old) (F.holds files.new) (timed_in frame moment (Some interface)) Cut counted.old counted.new
-        (seen_from into.new) result }
+    at: u64,
+    octets: &[u8],
+) -> Judged<Told, NgReason>
+    requires place { at ≡ frame.start + 8 }
+    requires within { at + 4 + length octets.now ≤ 18446744073709551615 }
+    ensures fits { Suits frame moment 16 (length octets.now) result }
+    ensures said { scan_of 16 result ≡ told_by frame moment (Some interface) (at + 4) octets.now }
 {
-    let mut octets = [0u8; 12];
-    if let Err(fault) = take_front(12, counted, files, &mut octets) {
-        return Err(fault);
+    if octets.len() < 12 {
+        return Judged::Partial;
     }
-    let captured = read_u32(frame.order, &octets[8..]);
+    let head = &octets[..12];
+    let captured = read_u32(frame.order, &head[8..]);
     if captured > LONGEST_PACKET {
-        return Err(NgFault::Bad {
+        return Judged::Wrong {
             reason: NgReason::RecordTooLong,
-            place: counted.taken - 4,
-        });
+            place: at + 12,
+        };
     }
     if 32 + padded(captured) > frame.total {
-        return Err(NgFault::Bad {
+        return Judged::Wrong {
             reason: NgReason::Length,
-            place: counted.taken - 20,
-        });
+            place: at - 4,
+        };
     }
-    let high = read_u32(frame.order, &octets);
-    let low = read_u32(frame.order, &octets[4..]);
+    if octets.len() < 16 {
+        return Judged::Partial;
+    }
+    let high = read_u32(frame.order, head);
+    let low = read_u32(frame.order, &head[4..]);
     let time = time_of(interface.unit, high as u64 * 4294967296 + low as u64);
-    let told = Told {
+    Judged::Whole(Told {
         link: interface.link,
         moment: moment.max(time),
         captured,
+        original: read_u32(frame.order, &octets[12..16]),
+    })
+}
+
+/// Judges the octets in hand of the 20 that stand before an enhanced packet's own; with them, so many octets of the
+/// input were `taken`.
+fn judge_told(frame: Frame, section: &Section, taken: u64, octets: &[u8]) -> Judged<Told, NgReason>
+    requires place { taken ≡ frame.start + 8 + length octets.now }
+    ensures fits { Suits frame section.now.moment 20 (length octets.now) result }
+    ensures said { scan_of 20 result ≡ told_in frame section.now (frame.start + 8) octets.now }
+{
+    if octets.len() < 4 {
+        return Judged::Partial;
+    }
+    let at = taken - octets.len() as u64;
+    match section.interface(read_u32(frame.order, &octets[..4])) {
+        Some(interface) => judge_timed(frame, interface, section.moment(), at, &octets[4..]),
+        None => Judged::Wrong {
+            reason: NgReason::Interface,
+            place: at,
+        },
+    }
+}
+
+/// Takes what an enhanced packet's block tells before the packet's octets, at once.
+fn take_told<F: Files>(
+    frame: Frame,
+    section: &Section,
+    counted: &mut Counted,
+    files: &mut F,
+) -> Result<Told, NgFault>
+    requires none { counted.old.back ≡ [] }
+    requires place { counted.old.taken ≡ frame.start + 8 }
+    ensures none { counted.new.back ≡ [] }
+    ensures taken { IfOk result (λ _. counted.new.taken ≡ frame.start + 28) }
+    ensures size { IfOk result (λ told. told.captured ≤ longest_record) }
+    ensures long { IfOk result (λ told. 32 + told.captured ≤ frame.total) }
+    ensures rises { IfOk result (λ told. section.now.moment ≤ told.moment) }
+    ensures reads { Reads F.tells (F.faults files.old) (F.faults files.new) (F.left files.old) (F.left files.new)
+        (F.holds files.old) (F.holds files.new) (told_in frame section.now) Cut counted.old counted.new
+        (λ told. told) result }
+{
+    let mut octets = [0u8; 20];
+    let Ok(count) = fill(counted, files, &mut octets) else {
+        return Err(NgFault::Read);
     };
-    take_original(frame, told, counted, files, into)
+    let judged = judge_told(frame, section, counted.taken, &octets[..count]);
+    settle(NgReason::Cut, counted, judged)
 }
 
 /// Reads an enhanced packet.
@@ -198,27 +253,25 @@ pub(crate) fn take_enhanced<F: Files>(
     files: &mut F,
     into: &mut [u8],
 ) -> Result<Seen, NgFault>
-    requires room { 262144 ≤ length into.old }
+    requires room { longest_record ≤ length into.old }
     requires none { counted.old.back ≡ [] }
     requires place { counted.old.taken ≡ frame.start + 8 }
     ensures none { counted.new.back ≡ [] }
     ensures room { length into.new ≡ length into.old }
     ensures grows { IfOk result (λ _. frame.start < counted.new.taken) }
-    ensures size { IfOk result (λ seen. seen.caught.taken ≤ 262144) }
+    ensures size { IfOk result (λ seen. seen.caught.taken ≤ longest_record) }
+    ensures rises { IfOk result (λ seen. section.now.moment ≤ seen.caught.moment) }
     ensures reads { Reads F.tells (F.faults files.old) (F.faults files.new) (F.left files.old) (F.left files.new)
         (F.holds files.old) (F.holds files.new) (enhanced_in frame section.now) Cut counted.old counted.new
         (seen_from into.new) result }
 {
-    let which = match take_number(frame.order, counted, files) {
-        Ok(which) => which,
+    let told = match take_told(frame, section, counted, files) {
+        Ok(told) => told,
         Err(fault) => return Err(fault),
     };
-    match section.interface(which) {
-        Some(interface) => take_timed(frame, interface, section.moment(), counted, files, into),
-        None => Err(NgFault::Bad {
-            reason: NgReason::Interface,
-            place: counted.taken - 4,
-        }),
+    match take_captured(frame, 32, told.captured, counted, files, into) {
+        Ok(()) => Ok(seen(told)),
+        Err(fault) => Err(fault),
     }
 }
 
@@ -241,13 +294,14 @@ pub(crate) fn take_simple<F: Files>(
     files: &mut F,
     into: &mut [u8],
 ) -> Result<Seen, NgFault>
-    requires room { 262144 ≤ length into.old }
+    requires room { longest_record ≤ length into.old }
     requires none { counted.old.back ≡ [] }
     requires place { counted.old.taken ≡ frame.start + 8 }
     ensures none { counted.new.back ≡ [] }
     ensures room { length into.new ≡ length into.old }
     ensures grows { IfOk result (λ _. frame.start < counted.new.taken) }
-    ensures size { IfOk result (λ seen. seen.caught.taken ≤ 262144) }
+    ensures size { IfOk result (λ seen. seen.caught.taken ≤ longest_record) }
+    ensures rises { IfOk result (λ seen. section.now.moment ≤ seen.caught.moment) }
     ensures reads { Reads F.tells (F.faults files.old) (F.faults files.new) (F.left files.old) (F.left files.new)
         (F.holds files.old) (F.holds files.new) (simple_in frame section.now) Cut counted.old counted.new
         (seen_from into.new) result }
@@ -266,6 +320,7 @@ pub(crate) fn take_simple<F: Files>(
         link: interface.link,
         moment: section.moment(),
         captured: cut_to(interface.snap, original),
+        original,
     };
     if told.captured > LONGEST_PACKET {
         return Err(NgFault::Bad {
@@ -280,7 +335,7 @@ pub(crate) fn take_simple<F: Files>(
         });
     }
     match take_captured(frame, 16, told.captured, counted, files, into) {
-        Ok(()) => Ok(seen(told, original)),
+        Ok(()) => Ok(seen(told)),
         Err(fault) => Err(fault),
     }
 }

@@ -15,7 +15,8 @@ pub(crate) struct Interface {
 /// At most so many interfaces are taken in a section.
 const MOST: usize = 256;
 
-/// Where a capture stands: the order of its section, the interfaces described so far, and the moment of the last packet.
+/// Where a capture stands: the order of its section, the interfaces described so far, and the moment of the last
+/// packet.
 #[derive(Drop)]
 pub(crate) struct Section {
     order: Option<Endian>,

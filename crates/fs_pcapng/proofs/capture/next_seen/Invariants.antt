@@ -9,6 +9,7 @@ invariant-blocks-2 g l = record {
   slot : l.counted.slot ≡ l.fn.counted.slot;
   limit : l.counted.limit ≡ l.fn.counted.limit;
   place : l.fn.counted.taken ≤ l.counted.taken;
+  rises : l.fn.section.moment ≤ l.section.moment;
   later : g.F.Files.faults l.fn.files ≤ g.F.Files.faults l.files;
   others : IsTrue g.F.Files.tells → (other : ℕ) → other ≢ l.fn.counted.slot → g.F.Files.left l.files other ≡ g.F.Files.left l.fn.files other;
   same : IsTrue g.F.Files.tells → g.F.Files.holds l.files ≡ g.F.Files.holds l.fn.files;

@@ -1,17 +1,34 @@
-use Rattle.std.proofs.Common.{◌≡◌, Some, sym, ◌∙◌}
-use Rattle.std.specs.Prelude.{slice_get}
-use Rattle.fs_scan.proofs.Lifting.{reads_as, reads_then}
-use Rattle.fs_pcapng.specs.Block.{timed_in}
+use Rattle.std.proofs.Common.{take, ap, sym}
+use Rattle.fs_scan.specs.Scan.{gives}
+use Rattle.fs_scan.proofs.Lifting.{reads_as, reads_ends, reads_then}
+use Rattle.fs_pcapng.specs.Block.{enhanced_in, packet}
 use Rattle.fs_pcapng.specs.Pcapng.{seen_from}
+use Rattle.fs_pcapng.proofs.Bodies.{gives_for}
+use Rattle.fs_pcapng.proofs.Told.{behind_told, enhanced_is}
 use Rattle.fs_pcapng.proofs.packets.take_enhanced.Goals as goal
 
-pub returns-in-Some-clause-reads : goal.returns-in-Some-clause-reads
-returns-in-Some-clause-reads g c =
+pub returns-in-Ok-take_captured-clause-reads : goal.returns-in-Ok-take_captured-clause-reads
+returns-in-Ok-take_captured-clause-reads g c =
     let frame = c.args.frame in
     let now = c.args.section.now in
-    let which = c.in-Ok.which in
-    let found : Some c.in-Some.interface ≡ slice_get now.interfaces which = sym c.in-Some.is ∙ c.interface.ensures in
-    reads_then (λ which. timed_in frame now.moment (slice_get now.interfaces which)) (seen_from c.take_timed.new.into) c.in-Ok.ensures.reads
-    (reads_as (timed_in frame now.moment (slice_get now.interfaces which))
-    (λ octets i. timed_in frame (c.moment.ensures i) (found i) c.take_number.new.counted.taken octets)
-    c.take_timed.ensures.reads)
+    let told = c.in-Ok.told in
+    let into = c.take_captured.new.into in
+    reads_as (enhanced_in frame now) (enhanced_is frame now c.args.counted.now.taken)
+    (reads_then (behind_told frame) (seen_from into) c.in-Ok.ensures.reads
+    (reads_then (λ octets. gives (packet told.moment told.link told.original octets)) (seen_from into) c.in-Ok-take_captured.ensures.reads
+    (gives_for (packet told.moment told.link told.original (take told.captured into)) (seen_from into) c.seen.result
+    (ap (seen_from into) (sym c.seen.ensures)))))
+
+pub returns-in-Err-clause-reads : goal.returns-in-Err-clause-reads
+returns-in-Err-clause-reads g c =
+    reads_as (enhanced_in c.args.frame c.args.section.now) (enhanced_is c.args.frame c.args.section.now c.args.counted.now.taken)
+    (reads_ends (behind_told c.args.frame) (seen_from c.args.into.now) c.in-Err.ensures.reads)
+
+pub returns-in-Err-take_captured-clause-reads : goal.returns-in-Err-take_captured-clause-reads
+returns-in-Err-take_captured-clause-reads g c =
+    let frame = c.args.frame in
+    let told = c.in-Ok.told in
+    let into = c.take_captured.new.into in
+    reads_as (enhanced_in frame c.args.section.now) (enhanced_is frame c.args.section.now c.args.counted.now.taken)
+    (reads_then (behind_told frame) (seen_from into) c.in-Ok.ensures.reads
+    (reads_ends (λ octets. gives (packet told.moment told.link told.original octets)) (seen_from into) c.in-Err-take_captured.ensures.reads))

@@ -1,0 +1,111 @@
+-- A capture of either format: of the pcapng format where its first four octets are the type of a section header, and of
+-- the libpcap format else.
+use Rattle.std.specs.Prelude.{ℕ, List, [], Option, Some, None, Bool, Result, Ok, Err, ◌≡◌, ◌≤◌, ◌<◌, ◌==◌, ◌&&◌, if◌then◌else◌, length, map, take, ⊤}
+use Rattle.byteorder.specs.Endian.{big_number}
+use Rattle.fs_base.specs.Parts.{window}
+use Rattle.fs_pcap.specs.Capture.{Captured as Record, Recorded as Records, capture_of as pcap_of, packets_to_come as records_to_come}
+use Rattle.fs_pcap.specs.Head.{longest_record}
+use Rattle.fs_pcap.specs.declared.header.Heading.{Heading}
+use Rattle.fs_pcap.specs.declared.link.Link.{Link}
+use Rattle.fs_pcapng.specs.Block.{Packet as Block, Stands, section_header}
+use Rattle.fs_pcapng.specs.Pcapng.{packets_to_come as blocks_to_come, pcapng_of}
+use Rattle.fs_pcapng.specs.declared.fault.NgReason.{NgReason}
+use Rattle.fs_records.specs.Records.{End, limited, bad}
+use Rattle.fs_records.specs.declared.fault.Ended.{Ended}
+use Rattle.fs_records.specs.declared.fault.Fault.{Fault}
+use Rattle.fs_records.specs.declared.fault.Fault.TheVariants.{Read, Limit, Bad}
+use Rattle.fs_capture.specs.Answer.{end_as}
+use Rattle.fs_capture.specs.declared.caught.Caught.{Caught}
+use Rattle.fs_capture.specs.declared.fault.CaptureReason.{CaptureReason}
+use Rattle.fs_capture.specs.declared.fault.CaptureReason.TheVariants.{Pcap, Pcapng}
+
+-- A captured packet: the link type of its capture or interface, where it is one of the six that are read; its moment, in
+-- nanoseconds since the start of 1970, the greatest time of the packets up to and with it; and its captured octets.
+pub record Captured : Type 0 where
+  pub link : Option Link
+  pub moment : ℕ
+  pub octets : List ℕ
+
+abbrev pub of_record : Option Link → Record → Captured
+of_record link found = record { link = link; moment = found.moment; octets = found.octets }
+
+abbrev pub of_block : Block → Captured
+of_block found = record { link = found.link; moment = found.moment; octets = found.octets }
+
+-- the packets of a capture of the libpcap format, which are all of its link type, and how it ends
+abbrev pub of_records : Records → List Captured × End CaptureReason
+of_records found = (map (of_record found.link) found.packets, end_as Pcap found.end)
+
+-- the packets of a capture of the pcapng format, and how it ends
+abbrev pub of_blocks : List Block × End NgReason → List Captured × End CaptureReason
+of_blocks found = (map of_block found.0, end_as Pcapng found.1)
+
+-- four octets that are the type of a section header
+abbrev pub is_section : List ℕ → Bool
+is_section front = (length front == 4) && (big_number 4 front == section_header)
+
+-- The packets of a capture of this content, and how it ends. Only its first `limit` octets are judged.
+abbrev pub captured_in : ℕ → List ℕ → List Captured × End CaptureReason
+captured_in limit content =
+    if is_section (take 4 (window limit 0 content)) then of_blocks (pcapng_of limit content) else of_records (pcap_of limit content)
+
+-- a capture: its packets, and how it ends
+pub record Recorded : Type 0 where
+  pub packets : List Captured
+  pub end : End CaptureReason
+
+abbrev pub recorded : List Captured × End CaptureReason → Recorded
+recorded found = record { packets = found.0; end = found.1 }
+
+-- the capture of this content
+abbrev pub capture_of : ℕ → List ℕ → Recorded
+capture_of limit content = recorded (captured_in limit content)
+
+-- what the packets to come depend on: what the header says, or where the blocks stand
+pub data Standing : Type 0 where
+  records : Heading → Standing
+  blocks : Stands → Standing
+
+-- What a capture shows: its slot and limit, how many octets of it were taken, how it ended, where it did, the moment of
+-- its last packet, 0 before the first, and where it stands.
+pub record CaptureState : Type 0 where
+  pub slot : ℕ
+  pub limit : ℕ
+  pub place : ℕ
+  pub end : Option (Ended CaptureReason)
+  pub moment : ℕ
+  pub standing : Standing
+
+abbrev pub coming_by : (limit place moment : ℕ) → Standing → List ℕ → List Captured × End CaptureReason
+coming_by limit place moment (records heading) left =
+    let found = records_to_come heading limit place moment left in
+    (map (of_record (Some heading.link)) found.0, end_as Pcap found.1)
+coming_by limit place moment (blocks now) left = of_blocks (blocks_to_come limit place now left)
+
+-- the packets that a capture which hasn't ended is still to give, of what its slot has left, and how it will end
+abbrev pub coming : CaptureState → List ℕ → List Captured × End CaptureReason
+coming capture left = coming_by capture.limit capture.place capture.moment capture.standing left
+
+-- a packet as the answer tells it; its octets stand at the front of the buffer
+abbrev pub packet_from : Caught → List ℕ → Captured
+packet_from caught into = record { link = caught.link; moment = caught.moment; octets = take caught.taken into }
+
+-- A packet raises the place, up to the limit at most. It isn't too long.
+abbrev pub Grows : (old new limit : ℕ) → Result (Option Caught) (Fault CaptureReason) → Type 0
+Grows old new limit (Ok (Some caught)) = (old < new) × (new ≤ limit) × (caught.taken ≤ longest_record)
+Grows old new limit (Ok None) = ⊤
+Grows old new limit (Err fault) = ⊤
+
+-- a packet's moment becomes the capture's, and doesn't fall
+abbrev pub Times : (old new : ℕ) → Result (Option Caught) (Fault CaptureReason) → Type 0
+Times old new (Ok (Some caught)) = (new ≡ caught.moment) × (old ≤ new)
+Times old new (Ok None) = ⊤
+Times old new (Err fault) = ⊤
+
+-- An opened capture is still to give all packets. A fault is what ends it before them.
+abbrev pub Begins : {T : Type 0} → List Captured × End CaptureReason → (T → List Captured × End CaptureReason)
+    → Result T (Fault CaptureReason) → Type 0
+Begins all coming (Ok capture) = all ≡ coming capture
+Begins all coming (Err Read) = ⊤
+Begins all coming (Err Limit) = all ≡ ([], limited)
+Begins all coming (Err (Bad reason place)) = all ≡ ([], bad reason place)

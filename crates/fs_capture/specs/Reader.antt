@@ -1,0 +1,25 @@
+-- What a capture shows, by its format.
+use Rattle.std.specs.Option.{option_map}
+use Rattle.fs_capture.specs.Answer.{ended_as}
+use Rattle.fs_capture.specs.Capture.{CaptureState, blocks, records}
+use Rattle.fs_capture.specs.declared.fault.CaptureReason.TheVariants.{Pcap, Pcapng}
+use Rattle.fs_capture.specs.declared.reader.Reader.{Reader}
+use Rattle.fs_capture.specs.declared.reader.Reader.TheVariants.{Records, Blocks}
+
+abbrev pub state_of : Reader → CaptureState
+state_of (Records capture) = record {
+  slot = capture.slot;
+  limit = capture.limit;
+  place = capture.place;
+  end = option_map (ended_as Pcap) capture.end;
+  moment = capture.moment;
+  standing = records capture.heading;
+}
+state_of (Blocks capture) = record {
+  slot = capture.slot;
+  limit = capture.limit;
+  place = capture.place;
+  end = option_map (ended_as Pcapng) capture.end;
+  moment = capture.standing.moment;
+  standing = blocks capture.standing;
+}

@@ -1,0 +1,186 @@
+//! A capture, read packet by packet.
+ghost use Rattle.std.specs.Prelude.{◌≡◌, ◌≤◌, ◌++◌, [], None, IsSome, IsTrue, IfOk, IfSome, length};
+ghost use Rattle.std.specs.Result.{IsErrOf};
+ghost use Rattle.fs_base.specs.Files.{OnlySlot};
+ghost use Rattle.fs_base.specs.Outside.{Rose};
+ghost use Rattle.fs_base.specs.Parts.{with_part};
+ghost use Rattle.fs_pcap.specs.Capture.{capture_of as pcap_of};
+ghost use Rattle.fs_pcap.specs.Head.{longest_record};
+ghost use Rattle.fs_pcapng.specs.Pcapng.{pcapng_of};
+ghost use Rattle.fs_records.specs.Reading.{Advances, answer_of, ended_after};
+ghost use Rattle.fs_records.specs.declared.fault.Fault.TheVariants.{Read};
+ghost use Rattle.fs_capture.specs.Capture.{Begins, Grows, Times, captured_in, coming, is_section, of_blocks, of_records, packet_from};
+
+use crate::answer::{block_answer, block_fault, record_answer, record_fault};
+use crate::caught::Caught;
+use crate::fault::CaptureFault;
+use crate::reader::Reader;
+use byteorder::{BigEndian, ByteOrder};
+use fs_base::{Counted, Files, fill};
+use fs_pcap::Capture as Pcap;
+use fs_pcapng::{Ng, SECTION_HEADER};
+use std::marker::Model;
+
+/// A capture of either format that is read from a slot.
+#[derive(Drop)]
+pub struct Capture {
+    reader: Reader,
+}
+
+impl Model for Capture {
+    ghost use Rattle.fs_capture.specs.Capture.{CaptureState};
+
+    ghost Value = { CaptureState };
+
+    ghost use Rattle.fs_capture.specs.Reader.{state_of};
+
+    ghost view = { λ capture. state_of capture.reader };
+}
+
+impl Capture {
+    /// Begins to read, up to the limit. A capture whose first four octets are `0a 0d 0d 0a` is of the pcapng format,
+    /// every other of the libpcap format; these octets are put back, and read again by what reads the format.
+    ///
+    /// # Errors
+    ///
+    /// The first field of the header, or of the first block, that stands whole and is wrong; `Cut` where the capture
+    /// ends within it; `Limit` where the limit is reached in it; `Read` where the files failed.
+    pub fn begin<F: Files>(mut counted: Counted, files: &mut F) -> Result<Capture, CaptureFault>
+        requires start { counted.taken ≡ 0 }
+        requires none { counted.back ≡ [] }
+        ensures later { F.faults files.old ≤ F.faults files.new }
+        ensures read { IsErrOf result Read → Rose (F.faults files.old) (F.faults files.new) }
+        ensures slot { IfOk result (λ capture. capture.slot ≡ counted.slot) }
+        ensures limit { IfOk result (λ capture. capture.limit ≡ counted.limit) }
+        ensures end { IfOk result (λ capture. capture.end ≡ None) }
+        ensures moment { IfOk result (λ capture. capture.moment ≡ 0) }
+        ensures within { IfOk result (λ capture. capture.place ≤ capture.limit) }
+
+        ensures begins { IsTrue F.tells
+            → Begins
+            (captured_in counted.limit (F.left files.old counted.slot))
+            (λ capture. coming capture (F.left files.new counted.slot))
+            result }
+        ensures others { OnlySlot F.tells F.left F.holds counted.slot files.old files.new }
+    {
+        let mut front = [0u8; 4];
+        let Ok(count) = fill(&mut counted, files, &mut front) else {
+            return Err(CaptureFault::Read);
+        };
+        let front = &front[..count];
+        counted.put_back(front);
+        if is_section(front) {
+            begin_blocks(counted, files)
+        } else {
+            begin_records(counted, files)
+        }
+    }
+
+    /// Reads the next packet. Its octets stand at the front of `into`. `None`: the capture ended behind its last
+    /// record or block. After that, and after any fault, each call answers the same again and reads nothing.
+    ///
+    /// # Errors
+    ///
+    /// The first field that stands whole and is wrong, as soon as it is read; `Cut` where the capture ends within a
+    /// record or block; `Limit` where the limit is reached and no field before it is wrong; `Read` where the files
+    /// failed.
+    pub fn next<F: Files>(
+        &mut self,
+        files: &mut F,
+        into: &mut [u8],
+    ) -> Result<Option<Caught>, CaptureFault>
+        requires { longest_record ≤ length into.old }
+        ensures later { F.faults files.old ≤ F.faults files.new }
+        ensures read { self.old.end ≡ None → IsErrOf result Read → Rose (F.faults files.old) (F.faults files.new) }
+        ensures slot { self.new.slot ≡ self.old.slot }
+        ensures limit { self.new.limit ≡ self.old.limit }
+        ensures again { IfSome self.old.end (λ ended. result ≡ answer_of ended) }
+        ensures stays { IsSome self.old.end → self.new ≡ self.old }
+        ensures unread { IsSome self.old.end → files.new ≡ files.old }
+        ensures ended { self.new.end ≡ ended_after result }
+        ensures grows { self.old.end ≡ None → Grows self.old.place self.new.place self.new.limit result }
+        ensures times { self.old.end ≡ None → Times self.old.moment self.new.moment result }
+
+        ensures advances { IsTrue F.tells
+            → self.old.end ≡ None
+            → Advances
+            (coming self.old (F.left files.old self.old.slot))
+            (λ caught. with_part
+            (packet_from caught into.new)
+            (coming self.new (F.left files.new self.old.slot)))
+            result }
+        ensures others { OnlySlot F.tells F.left F.holds self.old.slot files.old files.new }
+    {
+        match &mut self.reader {
+            Reader::Records(capture) => {
+                let found = capture.next(files, into);
+                record_answer(capture.link(), found)
+            }
+            Reader::Blocks(capture) => {
+                let found = capture.next(files, into);
+                block_answer(capture.link(), found)
+            }
+        }
+    }
+}
+
+/// Whether the first octets of a capture, up to four, are the type of a section header.
+fn is_section(front: &[u8]) -> bool
+    ensures { result ≡ is_section front.now }
+{
+    front.len() == 4 && BigEndian::read_u32(front) == SECTION_HEADER
+}
+
+/// Begins to read a capture of the libpcap format. Octets of its front were put back.
+fn begin_records<F: Files>(counted: Counted, files: &mut F) -> Result<Capture, CaptureFault>
+    requires start { counted.taken ≡ 0 }
+    requires few { length counted.back ≤ 4 }
+    ensures later { F.faults files.old ≤ F.faults files.new }
+    ensures read { IsErrOf result Read → Rose (F.faults files.old) (F.faults files.new) }
+    ensures slot { IfOk result (λ capture. capture.slot ≡ counted.slot) }
+    ensures limit { IfOk result (λ capture. capture.limit ≡ counted.limit) }
+    ensures end { IfOk result (λ capture. capture.end ≡ None) }
+    ensures moment { IfOk result (λ capture. capture.moment ≡ 0) }
+    ensures within { IfOk result (λ capture. capture.place ≤ capture.limit) }
+
+    ensures begins { IsTrue F.tells
+        → Begins
+        (of_records (pcap_of counted.limit (counted.back ++ F.left files.old counted.slot)))
+        (λ capture. coming capture (F.left files.new counted.slot))
+        result }
+    ensures others { OnlySlot F.tells F.left F.holds counted.slot files.old files.new }
+{
+    match Pcap::begin(counted, files) {
+        Ok(capture) => Ok(Capture {
+            reader: Reader::Records(capture),
+        }),
+        Err(fault) => Err(record_fault(fault)),
+    }
+}
+
+/// Begins to read a capture of the pcapng format. Octets of its front were put back.
+fn begin_blocks<F: Files>(counted: Counted, files: &mut F) -> Result<Capture, CaptureFault>
+    requires start { counted.taken ≡ 0 }
+    requires few { length counted.back ≤ 4 }
+    ensures later { F.faults files.old ≤ F.faults files.new }
+    ensures read { IsErrOf result Read → Rose (F.faults files.old) (F.faults files.new) }
+    ensures slot { IfOk result (λ capture. capture.slot ≡ counted.slot) }
+    ensures limit { IfOk result (λ capture. capture.limit ≡ counted.limit) }
+    ensures end { IfOk result (λ capture. capture.end ≡ None) }
+    ensures moment { IfOk result (λ capture. capture.moment ≡ 0) }
+    ensures within { IfOk result (λ capture. capture.place ≤ capture.limit) }
+
+    ensures begins { IsTrue F.tells
+        → Begins
+        (of_blocks (pcapng_of counted.limit (counted.back ++ F.left files.old counted.slot)))
+        (λ capture. coming capture (F.left files.new counted.slot))
+        result }
+    ensures others { OnlySlot F.tells F.left F.holds counted.slot files.old files.new }
+{
+    match Ng::begin(counted, files) {
+        Ok(capture) => Ok(Capture {
+            reader: Reader::Blocks(capture),
+        }),
+        Err(fault) => Err(block_fault(fault)),
+    }
+}

@@ -1,0 +1,13 @@
+//! Captured packets.
+
+use fs_pcap::Link;
+
+/// A captured packet, of which `taken` octets were captured; they stand at the front of the buffer that was handed in.
+/// `link` is the link type of its capture or interface, None where that isn't one of the six that are read.
+/// `moment`, in nanoseconds since the start of 1970, is the greatest time of the packets up to and with this one.
+#[derive(Clone, Copy, Debug, PartialEq, Eq, Drop)]
+pub struct Caught {
+    pub link: Option<Link>,
+    pub moment: u64,
+    pub taken: usize,
+}

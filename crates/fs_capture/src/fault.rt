@@ -1,0 +1,17 @@
+//! What is wrong with a capture.
+
+use fs_pcap::CaptureReason as PcapReason;
+use fs_pcapng::NgReason;
+use fs_records::Fault;
+
+/// What is wrong with a capture, as its format has it.
+#[derive(Clone, Copy, Debug, PartialEq, Eq, Drop)]
+pub enum CaptureReason {
+    /// With one of the libpcap format.
+    Pcap(PcapReason),
+    /// With one of the pcapng format.
+    Pcapng(NgReason),
+}
+
+/// Why a capture gives no further packet. The place of a wrong field is as its format has it.
+pub type CaptureFault = Fault<CaptureReason>;
