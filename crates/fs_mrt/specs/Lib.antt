@@ -2,3 +2,4 @@ pub mod Shape
 pub mod Peers
 pub mod Record
 pub mod Dump
+pub mod Laws

@@ -20,7 +20,7 @@ use crate::record::{Head, take_body};
 use crate::shape::shape_of;
 use byteorder::{BigEndian, ByteOrder};
 use fs_base::{Config, Counted, Files, Peer};
-use fs_records::Ended;
+use fs_records::{Ended, answer, ended_by};
 use fs_scan::take_first;
 use std::marker::Model;
 
@@ -83,8 +83,8 @@ impl Dump {
     ///
     /// # Errors
     ///
-    /// The first field that stands whole and is wrong, as soon as it is read; `Cut` where the dump ends within a record;
-    /// `Limit` where the limit is reached and no field before it is wrong; `Read` where the files failed.
+    /// The first field that stands whole and is wrong, as soon as it is read; `Cut` where the dump ends within a
+    /// record; `Limit` where the limit is reached and no field before it is wrong; `Read` where the files failed.
     pub fn next<F: Files>(
         &mut self,
         files: &mut F,
@@ -124,27 +124,6 @@ impl Dump {
             self.moment = heard.moment;
         }
         found
-    }
-}
-
-/// What a dump that ended answers.
-fn answer(ended: Ended<DumpReason>) -> Result<Option<Heard>, DumpFault>
-    ensures { result ≡ answer_of ended }
-{
-    match ended {
-        Ended::Done => Ok(None),
-        Ended::Stopped(fault) => Err(fault),
-    }
-}
-
-/// How a dump stands ended behind an answer.
-fn ended_by(found: &Result<Option<Heard>, DumpFault>) -> Option<Ended<DumpReason>>
-    ensures { result ≡ ended_after found.now }
-{
-    match found {
-        Ok(Some(_)) => None,
-        Ok(None) => Some(Ended::Done),
-        Err(fault) => Some(Ended::Stopped(*fault)),
     }
 }
 
@@ -208,7 +187,8 @@ fn advance<F: Files>(
 
     ensures advances { IsTrue F.tells
         → Advances
-        (parts_to_come (record_in peers.now) Cut counted.old.limit counted.old.taken moment (F.left files.old counted.old.slot))
+        (parts_to_come (record_in peers.now) Cut counted.old.limit counted.old.taken moment
+        (F.left files.old counted.old.slot))
         (λ heard. with_part
         (option_map (λ heard. spoken_from heard into.new) heard)
         (parts_to_come (record_in peers.now) Cut counted.new.limit counted.new.taken

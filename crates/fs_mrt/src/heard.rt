@@ -1,7 +1,8 @@
 //! What a record tells of a peer.
 
-/// A message or a change of state of a configured peer. `moment`, in nanoseconds since the start of 1970, is the greatest
-/// time of the records of configured peers up to and with this one. `wide` tells that AS numbers have four octets.
+/// A message or a change of state of a configured peer. `moment`, in nanoseconds since the start of 1970, is the
+/// greatest time of the records of configured peers up to and with this one. `wide` tells that AS numbers have four
+/// octets.
 #[derive(Clone, Copy, Debug, PartialEq, Eq, Drop)]
 pub struct Heard {
     pub peer: u16,

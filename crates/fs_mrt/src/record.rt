@@ -18,8 +18,8 @@ use byteorder::{BigEndian, ByteOrder};
 use fs_base::{Address, Counted, Files, Peer};
 use fs_scan::skip_octets;
 
-/// What the fields before a record's addresses tell: its time, in nanoseconds since the start of 1970, and the family of
-/// the addresses.
+/// What the fields before a record's addresses tell: its time, in nanoseconds since the start of 1970, and the family
+/// of the addresses.
 #[derive(Clone, Copy, Debug, PartialEq, Eq, Drop)]
 pub(crate) struct Front {
     pub(crate) time: u64,
@@ -77,8 +77,8 @@ fn take_front<F: Files>(
     ensures most { IfOk result (λ _. head.size ≤ 65536) }
     ensures grows { IfOk result (λ _. counted.old.taken ≤ counted.new.taken) }
     ensures reads { Reads F.tells (F.faults files.old) (F.faults files.new) (F.left files.old) (F.left files.new)
-        (F.holds files.old) (F.holds files.new) (front_in head.spot head.seconds head.size shape) Cut counted.old counted.new
-        (λ front. front) result }
+        (F.holds files.old) (F.holds files.new) (front_in head.spot head.seconds head.size shape) Cut
+        counted.old counted.new (λ front. front) result }
 {
     let size = head.size as usize;
     let first = shape.front_size();
@@ -148,8 +148,8 @@ fn take_heard<F: Files>(
     ensures within { IfOk result (λ found. IfSome found (λ heard. IsWithin heard.what)) }
     ensures grows { IfOk result (λ _. counted.old.taken ≤ counted.new.taken) }
     ensures reads { Reads F.tells (F.faults files.old) (F.faults files.new) (F.left files.old) (F.left files.new)
-        (F.holds files.old) (F.holds files.new) (heard_in rest.moment rest.size rest.shape peer) Cut counted.old counted.new
-        (option_map (λ heard. spoken_from heard into.new)) result }
+        (F.holds files.old) (F.holds files.new) (heard_in rest.moment rest.size rest.shape peer) Cut
+        counted.old counted.new (option_map (λ heard. spoken_from heard into.new)) result }
 {
     let Some(peer) = peer else {
         return match skip_octets(DumpReason::Cut, rest.size as u64, counted, files, into) {
@@ -185,7 +185,8 @@ pub(crate) fn take_body<F: Files>(
     ensures within { IfOk result (λ found. IfSome found (λ heard. IsWithin heard.what)) }
     ensures grows { IfOk result (λ _. counted.old.taken ≤ counted.new.taken) }
     ensures reads { Reads F.tells (F.faults files.old) (F.faults files.new) (F.left files.old) (F.left files.new)
-        (F.holds files.old) (F.holds files.new) (body_in peers.now moment head.spot head.seconds head.size head.shape) Cut
+        (F.holds files.old) (F.holds files.new)
+        (body_in peers.now moment head.spot head.seconds head.size head.shape) Cut
         counted.old counted.new (option_map (λ heard. spoken_from heard into.new)) result }
 {
     let Some(shape) = head.shape else {

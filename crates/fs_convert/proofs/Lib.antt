@@ -1,0 +1,4 @@
+pub mod Writing
+pub mod Items
+pub mod Ending
+pub mod Fitting

@@ -1,0 +1,5 @@
+pub mod Greeting
+pub mod Lives
+pub mod Making
+pub mod Command
+pub mod Laws
