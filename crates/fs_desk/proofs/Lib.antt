@@ -1,7 +1,9 @@
 mod Bounding
 mod ChangesJoined
+mod Coming
 mod CountedKeys
 mod Follows
+mod Handed
 mod KeyedLists
 mod KeyedSame
 mod Keys

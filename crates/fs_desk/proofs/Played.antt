@@ -320,6 +320,12 @@ desk_up config items n session own table sessions sessions' mid e b s p =
     (found.2 ∙ ap (λ (c : Config). live c found.0 fresh) q.config_is)
     refl refl s q
 
+-- and it has heard nothing yet
+pub desk_begun : (n : ℕ) (session : Live) (own own' : Config) (sessions sessions' : List (ℕ × Live)) → own ≡ own' → begins own n ≡ Some session → sessions' ≡ insert_entry nat_cmp sessions n session
+    → session_at n sessions' ≡ begins own' n
+desk_begun n session own own' sessions sessions' e b s =
+    ap (session_at n) s ∙ session_put n n session sessions ∙ chosen (n == n) (Some session) (session_at n sessions) (itself n) ∙ sym b ∙ ap (λ (c : Config). begins c n) e
+
 -- a session's value is written back in its place
 session_set : (m n : ℕ) (session : Live) (sessions : List (ℕ × Live)) → IsSome (session_at n sessions)
     → session_at m (set_value (is_at (nat_cmp n)) sessions session) ≡ (if m == n then Some session else session_at m sessions)

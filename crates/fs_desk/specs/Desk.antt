@@ -12,13 +12,15 @@ use Rattle.fs_speaker.specs.declared.state.Standing.{Standing}
 use Rattle.fs_speaker.specs.declared.state.Standing.TheVariants.{Down, Ended}
 use Rattle.fs_speaker.specs.declared.state.Closed.TheVariants.{Fault}
 use Rattle.fs_speaker.specs.declared.transition.Phase.{Phase}
+use Rattle.fs_speaker.specs.Handed.{hand}
 use Rattle.fs_speaker.specs.Session.{Live, still}
+use Rattle.fs_speaker.specs.Side.{receiver}
 use Rattle.fs_speaker.specs.State.{standing_at, standing_by}
 use Rattle.fs_tape.specs.Tape.{Item}
 use Rattle.fs_desk.specs.Life.{life}
 use Rattle.fs_desk.specs.Leaves.{IsListed}
 use Rattle.fs_desk.specs.Limit.{bounded_session, bounded_replies}
-use Rattle.fs_desk.specs.Receive.{IsLeft, IsUp}
+use Rattle.fs_desk.specs.Receive.{IsLeft, IsUp, point_of}
 use Rattle.fs_desk.specs.HoldTimer.{TicksSession}
 
 -- the configuration, the routes held, and the sessions of the peers that are up
@@ -64,6 +66,22 @@ abbrev pub RepliesBehind : ℕ → Desked → List ℕ → List ℕ → List ℕ
 RepliesBehind peer desk piece before now =
     (config : Config) (items : List Item) → Played config items desk
     → Replied config peer (life peer items) piece before now
+
+-- An open session that a piece leaves open stands where it is left that is handed the piece at the greatest of its
+-- moments, and answers what is answered there.
+pub record IsHanded (old new : Live) (piece replies replies' : List ℕ) : Type 0 where
+  pub alive : old.closed ≡ None
+  pub point_is : point_of new
+      ≡ (hand (receiver old.config old.peer) old.times.greatest (point_of old) piece).point
+  pub grows : replies'
+      ≡ replies ++ (hand (receiver old.config old.peer) old.times.greatest (point_of old) piece).text
+
+-- so of the session that a desk keeps of a peer, behind whatever was played before
+abbrev pub HandsPeer : ℕ → Desked → Desked → (piece replies replies' : List ℕ) → Type 0
+HandsPeer peer old new piece replies replies' =
+    (config : Config) (items : List Item) (session session' : Live) → Played config items old
+    → session_at peer old.sessions ≡ Some session → session_at peer new.sessions ≡ Some session'
+    → session'.closed ≡ None → IsHanded session session' piece replies replies'
 
 -- how it stands with a peer behind these items: it is down without a life, and else the session of its life's octets
 -- tells

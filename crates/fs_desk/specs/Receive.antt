@@ -14,10 +14,11 @@ use Rattle.fs_speaker.specs.declared.state.State.{State}
 use Rattle.fs_speaker.specs.declared.state.State.TheVariants.{WaitOpen}
 use Rattle.fs_speaker.specs.declared.state.Closed.{Closed}
 use Rattle.fs_speaker.specs.declared.state.Closed.TheVariants.{Fault, Notified, NoFamily, Memory}
+use Rattle.fs_speaker.specs.Handed.{Handed, Point, point, runs_by}
 use Rattle.fs_speaker.specs.Line.{waits}
 use Rattle.fs_speaker.specs.Session.{at_start, Last, closed, session_from, Live, step_of}
 use Rattle.fs_speaker.specs.Replies.{replies_from}
-use Rattle.fs_speaker.specs.Side.{reply_to, reply_at}
+use Rattle.fs_speaker.specs.Side.{receiver, reply_to, reply_at}
 use Rattle.fs_desk.specs.Apply.{Applies}
 use Rattle.fs_desk.specs.Leaves.{IsListed, unicast_at, flow_at}
 use Rattle.fs_desk.specs.Limit.{first_over, is_over, too_many, bounded_from, bounded_replies_from}
@@ -201,3 +202,36 @@ RepliesMessage peer old new table replies replies' piece taken =
     → Follows config whose octets piece old updates → AreWithin whose updates → IsListed table
     → IsLeft peer updates table → IsReplying config whose octets piece old said
     → MessageReplied config whose octets new said replies replies' piece taken
+
+-- where a session stands, and with what moments
+abbrev pub point_of : Live → Point
+point_of session = point (pending session.framing) session.phase session.times session.closed
+
+-- What a session is still to come to with these octets behind those in hand.
+abbrev pub comes_to : Live → List ℕ → Handed
+comes_to session rest =
+    runs_by (receiver session.config session.peer) session.phase session.times (pending session.framing ++ rest)
+
+-- Of what a session was to come to with these octets, a front was said, and the other is still to come to the rest.
+pub record Comes (old : Live) (octets : List ℕ) (new : Live) (rest replies replies' : List ℕ) : Type 0 where
+  pub more : List ℕ
+  pub grows : replies' ≡ replies ++ more
+  pub text : (comes_to old octets).text ≡ more ++ (comes_to new rest).text
+  pub point_is : (comes_to old octets).point ≡ (comes_to new rest).point
+
+-- so where a message was taken; or nothing was left of the piece, or the session closed
+abbrev pub MessageComes : Live → Live → (piece replies replies' : List ℕ) → Option ℕ → Type 0
+MessageComes old new piece replies replies' (Some count) =
+    (new.closed ≡ None) × Comes old piece new (drop count piece) replies replies'
+MessageComes old new piece replies replies' None =
+    new.closed ≡ None → (piece ≡ []) × (new ≡ old) × (replies' ≡ replies)
+
+-- of an open session
+abbrev pub ComesOpen : Live → Live → (piece replies replies' : List ℕ) → Option ℕ → Type 0
+ComesOpen old new piece replies replies' taken =
+    old.closed ≡ None → MessageComes old new piece replies replies' taken
+
+-- A session that is open behind a piece was so before, and has taken all of it.
+abbrev pub PieceComes : Live → Live → (piece replies replies' : List ℕ) → Type 0
+PieceComes old new piece replies replies' =
+    new.closed ≡ None → (old.closed ≡ None) × Comes old piece new [] replies replies'

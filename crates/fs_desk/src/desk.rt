@@ -34,9 +34,10 @@ impl<'a> Desk<'a> {
     ghost use Rattle.fs_base.specs.declared.config.Config.{Config};
     ghost use Rattle.fs_base.specs.Config.{peer_of};
     ghost use Rattle.fs_tape.specs.Tape.{Item, came_up, received, was_lost};
-    ghost use Rattle.fs_desk.specs.Desk.{ExpiresSo, Played, Plays, RepliesBehind, StaysPlayed, TicksPeer, standing_at_desk, standing_of};
+    ghost use Rattle.fs_desk.specs.Desk.{ExpiresSo, HandsPeer, Played, Plays, RepliesBehind, StaysPlayed, TicksPeer, session_at, standing_at_desk, standing_of};
     ghost use Rattle.fs_desk.specs.Leaves.{Leaves};
     ghost use Rattle.fs_rules.specs.Table.{AdmitsSame, held_count};
+    ghost use Rattle.fs_speaker.specs.Session.{begins};
 
     /// Every configured peer is down, and nothing is held.
     pub fn new(alloc: Global, config: &'a Config) -> Desk<'a>
@@ -55,6 +56,7 @@ impl<'a> Desk<'a> {
         requires { IsSome (peer_of peer self.old.config.peers) }
         ensures played { OnOk result (Plays (came_up peer) self.old self.new) }
         ensures lost { OnErr result (Plays (was_lost peer) self.old self.new) }
+        ensures begun { OnOk result (session_at peer self.new.sessions ≡ begins self.old.config peer) }
         ensures config { self.new.config ≡ self.old.config }
     {
         self.up_telling(peer)?;
@@ -66,6 +68,7 @@ impl<'a> Desk<'a> {
         requires { IsSome (peer_of peer self.old.config.peers) }
         ensures played { OnOk result (Plays (came_up peer) self.old self.new) }
         ensures lost { OnErr result (Plays (was_lost peer) self.old self.new) }
+        ensures begun { OnOk result (session_at peer self.new.sessions ≡ begins self.old.config peer) }
         ensures config { self.new.config ≡ self.old.config }
         ensures told { IfOk result (λ changed. changed ≡ false → AdmitsSame self.old.held self.new.held) }
         ensures idle { held_count peer self.old.held ≡ 0 → IfOk result (λ changed. changed ≡ false) }
@@ -101,11 +104,14 @@ impl<'a> Desk<'a> {
     /// The peer sent these octets. Those of a peer that is down or whose session has closed are skipped. Where an
     /// update leaves the peer holding more routes than it may, the peer holds nothing any more and its session closes
     /// (RFC 4486, section 4). The replies of its session are appended to `replies`: to its OPEN the local OPEN and a
-    /// KEEPALIVE, to a fault or such an update a NOTIFICATION (RFC 4271 section 6). After `Memory` `replies` is as
+    /// KEEPALIVE, to a fault or such an update a NOTIFICATION (RFC 4271 section 6). The octets are heard at the
+    /// greatest moment of the session so far: that of the last [`tick`](Desk::tick). After `Memory` `replies` is as
     /// before.
     pub fn octets(&mut self, peer: u16, piece: &[u8], replies: &mut Vec<u8>) -> Result<(), Memory>
         ensures played { OnOk result (Plays (received peer piece.now) self.old self.new) }
         ensures replied { OnOk result (RepliesBehind peer self.old piece.now replies.old.items replies.new.items) }
+        ensures handed { OnOk result
+            (HandsPeer peer self.old self.new piece.now replies.old.items replies.new.items) }
         ensures err { OnErr result (replies.new.items ≡ replies.old.items) }
         ensures config { self.new.config ≡ self.old.config }
     {
@@ -123,6 +129,8 @@ impl<'a> Desk<'a> {
     ) -> Result<bool, Memory>
         ensures played { OnOk result (Plays (received peer piece.now) self.old self.new) }
         ensures replied { OnOk result (RepliesBehind peer self.old piece.now replies.old.items replies.new.items) }
+        ensures handed { OnOk result
+            (HandsPeer peer self.old self.new piece.now replies.old.items replies.new.items) }
         ensures err { OnErr result (replies.new.items ≡ replies.old.items) }
         ensures config { self.new.config ≡ self.old.config }
         ensures told { IfOk result (λ changed. changed ≡ false → AdmitsSame self.old.held self.new.held) }

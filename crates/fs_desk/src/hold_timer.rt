@@ -10,8 +10,9 @@ use fs_base::{Memory, Steps};
 use fs_speaker::Session;
 use std::sync::ledger::{Blank, Ledger};
 
-/// The clock at the peer's session, at a moment in milliseconds. Where its hold time has expired the session closes, and
-/// the peer holds nothing any more. What the session says is appended to `replies`; after `Memory` they are as before.
+/// The clock at the peer's session, at a moment in milliseconds. Where its hold time has expired the session closes,
+/// and the peer holds nothing any more. What the session says is appended to `replies`; after `Memory` they are as
+/// before.
 pub(crate) fn tick_session<L: Ledger>(
     blank: Blank,
     session: &mut Session<'_>,

@@ -2,7 +2,7 @@
 
 ghost use Rattle.std.specs.Prelude.{◌≡◌, ◌≤◌, ◌<◌, true, false, None, IfOk, IfSome, OnOk, OnErr, length};
 ghost use Rattle.fs_rules.specs.Table.{without_peer};
-ghost use Rattle.fs_desk.specs.Receive.{Extends, RepliesMessage, RepliesPiece, TakesMessage, TakesPiece, TakesUpdate, wants_memory};
+ghost use Rattle.fs_desk.specs.Receive.{ComesOpen, Extends, PieceComes, RepliesMessage, RepliesPiece, TakesMessage, TakesPiece, TakesUpdate, wants_memory};
 ghost use Rattle.fs_desk.specs.Watched.{Tells};
 
 use crate::apply::apply;
@@ -29,6 +29,8 @@ pub fn receive<L: Ledger>(
     ensures taken { OnOk result (TakesPiece peer session.old session.new table.old.held table.new.held piece.now) }
     ensures replied { OnOk result
         (RepliesPiece peer session.old table.old.held piece.now replies.old.items replies.new.items) }
+    ensures handed { OnOk result
+        (PieceComes session.old session.new piece.now replies.old.items replies.new.items) }
     ensures told { OnOk result (Tells table.old table.new) }
     ensures err { OnErr result (replies.new.items ≡ replies.old.items) }
 {
@@ -55,6 +57,8 @@ fn receive_messages<L: Ledger>(
     ensures taken { OnOk result (TakesPiece peer session.old session.new table.old.held table.new.held piece.now) }
     ensures replied { OnOk result
         (RepliesPiece peer session.old table.old.held piece.now replies.old.items replies.new.items) }
+    ensures handed { OnOk result
+        (PieceComes session.old session.new piece.now replies.old.items replies.new.items) }
     ensures told { OnOk result (Tells table.old table.new) }
     ensures grows { Extends replies.old.items replies.new.items }
 {
@@ -85,6 +89,8 @@ fn take_message<L: Ledger>(
     ensures taken { IfOk result (TakesMessage peer session.old session.new table.old.held table.new.held piece.now) }
     ensures replied { IfOk result
         (RepliesMessage peer session.old session.new table.old.held replies.old.items replies.new.items piece.now) }
+    ensures handed { IfOk result
+        (ComesOpen session.old session.new piece.now replies.old.items replies.new.items) }
     ensures told { OnOk result (Tells table.old table.new) }
     ensures grows { Extends replies.old.items replies.new.items }
 {

@@ -1,5 +1,5 @@
-mod Handover
-mod Waking
+pub mod Handover
+pub mod Waking
 mod Happening
 mod Running
 mod Taking

@@ -1,8 +1,9 @@
 use Rattle.std.proofs.Common.{◌++◌, List, ℕ, sym, subst, ap, ◌∙◌, is_some}
 use Rattle.std.proofs.lemmas.List.{take_rest}
 use Rattle.fs_desk.specs.Limit.{bounded_replies_from}
-use Rattle.fs_desk.specs.Receive.{IsReplyingMore, HasTaken}
-use Rattle.fs_desk.proofs.Pieces.{taken_none, taken_more_of, taken_all, up_ended, none_there}
+use Rattle.fs_desk.specs.Receive.{Comes, IsReplyingMore, HasTaken}
+use Rattle.fs_desk.proofs.Coming.{comes_all, comes_none, comes_shut, comes_then}
+use Rattle.fs_desk.proofs.Pieces.{taken_none, taken_more_of, taken_all, up_ended, none_there, some_there}
 use Rattle.fs_desk.proofs.Replies.{replying_none, replying_more, replying_all, replied_to, replied_ended, extends_none, extends_then}
 use Rattle.fs_desk.proofs.Telling.{tells_none, tells_then}
 use Rattle.fs_desk.proofs.receive.receive_messages.Goals as goal
@@ -26,6 +27,8 @@ messages-init g c = (
         taken_none config whose c.args.peer octets c.args.piece.now c.args.session.now c.args.table.now.held s open_ l,
         replying_none config whose c.args.peer octets c.args.piece.now c.args.session.now c.args.table.now.held c.args.replies.now.items s open_,
       ),
+  none_there c.args.session.now.closed (ap is_some (sym c.closed.ensures) ∙ sym c.is_some.ensures ∙ c.if-is_some.false),
+  comes_none c.args.session.now c.args.piece.now c.args.replies.now.items,
 )
 
 pub messages-preserved : goal.messages-preserved
@@ -43,6 +46,11 @@ messages-preserved g c = (
             (replying_more config whose c.args.peer (octets ++ c.args.piece.now) c.messages.rest.now c.messages.session c.take_message.new.session c.messages.table.held before.0.updates (bounded_replies_from config whose octets)
             c.args.replies.now.items c.messages.replies.items c.take_message.new.replies.items c.in-Some.count before.0.follows before.0.within before.0.spares.listed before.0.left before.1 (rw c.in-Some.is at c.in_ok-count.ensures.replied)),
       ),
+  ((rw c.in-Some.is at c.in_ok-count.ensures.handed) c.messages.invariant.3).0,
+  subst (λ (rest : List ℕ). Comes c.args.session.now c.args.piece.now c.take_message.new.session rest c.args.replies.now.items c.take_message.new.replies.items)
+      (sym (take_rest c.messages.rest.now c.in-Some.count))
+      (comes_then c.args.session.now c.messages.session c.take_message.new.session c.args.piece.now c.messages.rest.now _ c.args.replies.now.items c.messages.replies.items c.take_message.new.replies.items
+      c.messages.invariant.4 ((rw c.in-Some.is at c.in_ok-count.ensures.handed) c.messages.invariant.3).1),
 )
 
 pub returns-clause-taken : goal.returns-clause-taken
@@ -78,3 +86,15 @@ returns-then-is_some-clause-told g c = tells_none c.args.table.now
 
 pub returns-clause-told : goal.returns-clause-told
 returns-clause-told g c = tells_then c.args.table.now c.messages.table c.take_message.new.table c.messages.invariant.1 c.in_ok-count.ensures.told
+
+pub returns-then-is_some-clause-handed : goal.returns-then-is_some-clause-handed
+returns-then-is_some-clause-handed g c = λ alive.
+    let found = some_there c.args.session.now.closed (ap is_some (sym c.closed.ensures) ∙ sym c.is_some.ensures ∙ c.if-is_some.true) in
+    comes_shut c.args.session.now found.0 found.1 alive
+
+pub returns-clause-handed : goal.returns-clause-handed
+returns-clause-handed g c = λ alive. (
+  none_there c.args.session.now.closed (ap is_some (sym c.closed.ensures) ∙ sym c.is_some.ensures ∙ c.if-is_some.false),
+  comes_all c.args.session.now c.messages.session c.take_message.new.session c.args.piece.now c.messages.rest.now c.args.replies.now.items c.messages.replies.items c.take_message.new.replies.items
+      c.messages.invariant.4 ((rw c.in_default.is at c.in_ok-count.ensures.handed) c.messages.invariant.3) alive,
+)

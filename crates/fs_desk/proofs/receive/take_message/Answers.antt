@@ -1,8 +1,9 @@
-use Rattle.std.proofs.Common.{Option, subst, sym, ◌∙◌}
+use Rattle.std.proofs.Common.{Option, refl, subst, sym, ◌∙◌}
 use Rattle.fs_attrs.specs.declared.update.Update.{Update}
 use Rattle.fs_speaker.specs.Side.{reply_at}
 use Rattle.fs_speaker.specs.Session.{Does, step_with}
 use Rattle.fs_desk.specs.Limit.{too_many}
+use Rattle.fs_desk.proofs.Coming.{comes_applied, comes_fed, comes_nothing, comes_shut}
 use Rattle.fs_desk.proofs.Pieces.{fed_none, fed_update, fed_ceased, fed_closed, not_memory}
 use Rattle.fs_desk.proofs.Replies.{replies_taken, replies_update, replies_ceased, replies_closed, replies_nothing, extends_fed, extends_then}
 use Rattle.fs_desk.proofs.TableChanges.{lost_to}
@@ -78,3 +79,29 @@ returns-then-not-is_open-clause-grows g c =
     extends_then c.args.replies.now.items c.feed.new.replies.items c.take_update.new.replies.items
     (extends_fed c.args.session.now.closed c.args.session.now c.feed.new.self _ c.args.replies.now.items c.feed.new.replies.items _ fed.ensures.again (λ h. (fed.ensures.exact h).1))
     (reply_at too_many, (c.in_ok-is_open-in-Ok-default-Some.ensures.taken.ceases c.if-not-is_open.true).2)
+
+pub returns-in-Ok-default-None-clause-handed : goal.returns-in-Ok-default-None-clause-handed
+returns-in-Ok-default-None-clause-handed g c = λ h.
+    let fed = c.in-Ok-default-None in (
+      fed.ensures.closed,
+      comes_fed c.args.session.now c.feed.new.self c.args.piece.now fed.count fed.field-0-1 c.args.replies.now.items c.feed.new.replies.items fed.ensures.same.0 fed.ensures.same.1
+          (step_with c.args.session.now c.args.piece.now) refl (fed.ensures.exact h).0 (fed.ensures.exact h).1,
+    )
+
+pub returns-else-not-is_open-clause-handed : goal.returns-else-not-is_open-clause-handed
+returns-else-not-is_open-clause-handed g c = λ h.
+    let fed = c.in-Ok-default-Some in
+    comes_applied c.args.peer c.args.session.now c.feed.new.self c.take_update.new.session c.args.table.now.held c.take_update.new.table.held c.args.piece.now c.args.replies.now.items c.feed.new.replies.items
+    c.take_update.new.replies.items fed.count fed.update _ c.if-not-is_open.false c.in_ok-is_open-in-Ok-default-Some.ensures.taken fed.ensures.closed
+    (comes_fed c.args.session.now c.feed.new.self c.args.piece.now fed.count fed.field-0-1 c.args.replies.now.items c.feed.new.replies.items fed.ensures.same.0 fed.ensures.same.1
+    (step_with c.args.session.now c.args.piece.now) refl (fed.ensures.exact h).0 (fed.ensures.exact h).1)
+
+pub returns-then-not-is_open-clause-handed : goal.returns-then-not-is_open-clause-handed
+returns-then-not-is_open-clause-handed g c = λ h alive.
+    comes_shut c.take_update.new.session too_many (c.in_ok-is_open-in-Ok-default-Some.ensures.taken.ceases c.if-not-is_open.true).0 alive
+
+pub returns-in_ok-close-in-Err-clause-handed : goal.returns-in_ok-close-in-Err-clause-handed
+returns-in_ok-close-in-Err-clause-handed g c = λ h alive. comes_shut c.feed.new.self c.in-Err.why c.in-Err.ensures.closed alive
+
+pub returns-then-is_empty-clause-handed : goal.returns-then-is_empty-clause-handed
+returns-then-is_empty-clause-handed g c = λ h. comes_nothing c.args.session.now c.args.piece.now c.args.replies.now.items (sym c.is_empty.ensures ∙ c.if-is_empty.true)

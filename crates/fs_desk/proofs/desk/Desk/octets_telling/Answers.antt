@@ -3,6 +3,7 @@ use Rattle.fs_speaker.specs.Session.{Live}
 use Rattle.std.proofs.Common.{ap, ℕ, sym, subst, ◌∙◌}
 use Rattle.fs_rules.specs.Table.{Held}
 use Rattle.fs_desk.specs.Receive.{TakesPiece, RepliesPiece}
+use Rattle.fs_desk.proofs.Handed.{desk_handed, desk_unhanded}
 use Rattle.fs_desk.proofs.Played.{desk_fed, desk_skipped, desk_replied, desk_silent, desk_of}
 use Rattle.fs_desk.proofs.desk.Desk.octets_telling.Goals as goal
 
@@ -30,3 +31,15 @@ pub returns-in_default-clause-replied : goal.returns-in_default-clause-replied
 returns-in_default-clause-replied c = λ config items played.
     desk_silent config items c.args.peer c.args.piece.now c.args.replies.now.items c.self.inside.config.now c.self.inside.table.held c.self.inside.sessions.entries c.args.self.now (sym c.self.view_is)
     (sym c.in_default.ensures.value) played
+
+pub returns-clause-handed : goal.returns-clause-handed
+returns-clause-handed c =
+    desk_handed c.args.peer c.args.piece.now c.args.replies.now.items c.receive.new.replies.items c.in-Some.session.now c.receive.new.session c.self.inside.config.now c.self.inside.table.held c.receive.new.table.held
+    c.self.inside.sessions.entries _ c.args.self.now (sym c.self.view_is) (sym c.in-Some.ensures.value)
+    (subst (λ (held : Held). TakesPiece c.args.peer c.in-Some.session.now c.receive.new.session held c.receive.new.table.held c.args.piece.now) c.watch.ensures.held c.in_ok-receive.ensures.taken)
+    c.in_ok-receive.ensures.handed (c.get_mut.follows.holds c.receive.new.session).0
+
+pub returns-in_default-clause-handed : goal.returns-in_default-clause-handed
+returns-in_default-clause-handed c =
+    desk_unhanded c.args.peer c.args.piece.now c.args.replies.now.items c.self.inside.config.now c.self.inside.table.held c.watch.new.self.held c.self.inside.sessions.entries _ c.args.self.now (sym c.self.view_is)
+    (sym c.in_default.ensures.value)

@@ -1,5 +1,6 @@
-use Rattle.std.proofs.Common.{Result, Ok, Err, OnErr, sym}
-use Rattle.fs_desk.proofs.Played.{desk_up, desk_stays}
+use Rattle.std.proofs.Common.{Result, Ok, Err, OnErr, ap, sym, ◌∙◌}
+use Rattle.fs_desk.specs.Desk.{Desked}
+use Rattle.fs_desk.proofs.Played.{desk_begun, desk_up, desk_stays}
 use Rattle.fs_desk.proofs.desk.Desk.up_telling.Goals as goal
 
 on_err : {T E P : Type 0} (result : Result T E) → P → OnErr result P
@@ -18,3 +19,8 @@ returns-in_err-insert-clause-lost c =
     (λ config items played.
     desk_stays config _ c.self.inside.config.now c.self.inside.table.held c.self.inside.sessions.entries c.insert.new.self.entries c.lost_telling-changed.new.self
     (sym c.self.view_is) c.in_err-insert.ensures.err (c.lost_telling-changed.ensures.played config items played))
+
+pub returns-clause-begun : goal.returns-clause-begun
+returns-clause-begun c =
+    desk_begun c.args.peer c.in_ok-session.session c.self.inside.config.now c.args.self.now.config c.self.inside.sessions.entries c.insert.new.self.entries
+    (ap (λ (d : Desked). d.config) c.self.view_is ∙ c.lost_telling-changed.ensures.config) c.in_ok-session.ensures c.in_ok-insert.ensures.entries

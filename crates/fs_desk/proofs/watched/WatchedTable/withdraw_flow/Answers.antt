@@ -1,4 +1,4 @@
-use Rattle.std.proofs.Common.{not, sym, ◌∙◌, ap, subst}
+use Rattle.std.proofs.Common.{sym, ◌∙◌, ap, subst}
 use Rattle.fs_base.proofs.Bools.{or_false}
 use Rattle.fs_rules.specs.Table.{AdmitsSame}
 use Rattle.fs_desk.specs.Watched.{Watched}

@@ -1,0 +1,98 @@
+-- What a piece makes of the session that a desk keeps of a peer.
+use Rattle.std.proofs.Common.{◌≡◌, ◌==◌, ℕ, List, [], ◌∷◌, ◌++◌, Option, Some, None, ap, sym, ◌∙◌, subst, append-nil}
+use Rattle.std.specs.Ordering.{nat_cmp}
+use Rattle.std.specs.Map.{set_value}
+use Rattle.std.specs.BTreeMap.{is_at}
+use Rattle.fs_base.specs.Config.{peer_of}
+use Rattle.fs_base.specs.declared.config.Config.{Config}
+use Rattle.fs_base.specs.declared.config.Peer.{Peer}
+use Rattle.fs_message.specs.Deframer.{pending}
+use Rattle.fs_rules.specs.Table.{Held}
+use Rattle.fs_speaker.specs.declared.state.Closed.{Closed}
+use Rattle.fs_speaker.specs.declared.times.Times.{Times}
+use Rattle.fs_speaker.specs.Handed.{Handed, Point, handed, hand, runs_by}
+use Rattle.fs_speaker.specs.Line.{waits}
+use Rattle.fs_speaker.specs.Session.{Live, step_of}
+use Rattle.fs_speaker.specs.Side.{receiver}
+use Rattle.fs_speaker.specs.Times.{at_moment}
+use Rattle.fs_speaker.proofs.Handing.{runs_waits}
+use Rattle.fs_tape.specs.Tape.{Item, received}
+use Rattle.fs_desk.specs.Desk.{Desked, HandsPeer, IsHanded, PeerIs, Played, session_at}
+use Rattle.fs_desk.specs.Life.{life}
+use Rattle.fs_desk.specs.Receive.{Comes, IsFed, PieceComes, TakesPiece, comes_to, point_of}
+use Rattle.fs_desk.proofs.Coming.{at_greatest}
+use Rattle.fs_desk.proofs.Played.{desk_fed, desk_of, session_value}
+use Rattle.fs_desk.proofs.Updates.{chosen, itself}
+
+-- in the octets that wait of an open session no message stands whole
+abbrev Waits : Live → Type 0
+Waits session = step_of session.config session.peer session.phase (pending session.framing) ≡ waits
+
+open_waits : (config : Config) (items : List Item) (n : ℕ) (session : Live) (desk : Desked) → session_at n desk.sessions ≡ Some session → session.closed ≡ None → Played config items desk → Waits session
+open_waits config items n session desk there alive p =
+    by (peer_of n config.peers) (life n items) (subst (λ (x : Option Live). PeerIs config (peer_of n config.peers) (life n items) x n desk.held) there (p.each n))
+  where
+    by : (q : Option Peer) (l : Option (List ℕ)) → PeerIs config q l (Some session) n desk.held → Waits session
+    by None None k = absurd k
+    by (Some peer) None k = absurd k
+    by None (Some octets) k = absurd k
+    by (Some peer) (Some octets) k =
+        let fed = subst (λ (c : Option Closed). IsFed config peer octets session c k.updates) alive k.fed in
+        ap (λ (c : Config). step_of c session.peer session.phase (pending session.framing)) fed.0.config_is
+        ∙ ap (λ (q : Peer). step_of config q session.phase (pending session.framing)) fed.0.peer_is
+        ∙ fed.0.waiting
+
+-- an open session with no octets that follow stands there
+stands_there : (session : Live) → session.closed ≡ None → Waits session → comes_to session [] ≡ handed (point_of session) [] []
+stands_there session alive waiting =
+    ap (runs_by (receiver session.config session.peer) session.phase session.times) (append-nil (pending session.framing))
+    ∙ runs_waits (receiver session.config session.peer) session.phase session.times (pending session.framing) waiting
+    ∙ ap (λ (c : Option Closed). let p : Point = record { waiting = pending session.framing; phase = session.phase; times = session.times; closed = c } in handed p [] []) (sym alive)
+
+-- what is handed to it at the greatest of its moments
+handed_there : (session : Live) (piece : List ℕ) → session.closed ≡ None
+    → hand (receiver session.config session.peer) session.times.greatest (point_of session) piece ≡ comes_to session piece
+handed_there session piece alive =
+    ap (λ (c : Option Closed). elim c [
+      | Some why ↦ handed (point_of session) [] []
+      | None ↦ runs_by (receiver session.config session.peer) session.phase (at_moment session.times.greatest session.times) (pending session.framing ++ piece)
+    ]) alive
+    ∙ ap (λ (t : Times). runs_by (receiver session.config session.peer) session.phase t (pending session.framing ++ piece)) (at_greatest session.times)
+
+is_handed : (old new : Live) (piece replies replies' : List ℕ) → old.closed ≡ None → Comes old piece new [] replies replies' → new.closed ≡ None → Waits new → IsHanded old new piece replies replies'
+is_handed old new piece replies replies' before comes after waiting =
+    let there : comes_to new [] ≡ handed (point_of new) [] [] = stands_there new after waiting in
+    let made = handed_there old piece before in
+    record {
+      alive = before;
+      point_is = sym (ap (λ (m : Handed). m.point) made ∙ comes.point_is ∙ ap (λ (m : Handed). m.point) there);
+      grows = comes.grows
+          ∙ ap (λ (z : List ℕ). replies ++ z) (sym (append-nil comes.more) ∙ ap (λ (m : Handed). comes.more ++ m.text) (sym there) ∙ sym comes.text ∙ sym (ap (λ (m : Handed). m.text) made));
+    }
+
+one_session : (found session : Live) (o : Option Live) → o ≡ Some found → o ≡ Some session → found ≡ session
+one_session found session o e f = ap (λ (x : Option Live). elim x [ None ↦ found | Some l ↦ l ]) (sym e ∙ f)
+
+pub desk_handed : (n : ℕ) (piece replies replies' : List ℕ) (session session' : Live) (own : Config) (table table' : Held) (sessions sessions' : List (ℕ × Live)) (old : Desked)
+    → old ≡ desk_of own table sessions → session_at n sessions ≡ Some session → TakesPiece n session session' table table' piece → PieceComes session session' piece replies replies'
+    → sessions' ≡ set_value (is_at (nat_cmp n)) sessions session' → HandsPeer n old (desk_of own table' sessions') piece replies replies'
+desk_handed n piece replies replies' session session' own table table' sessions sessions' old e there takes comes s config items found found' p here here' alive =
+    let first : found ≡ session = one_session found session (session_at n sessions) (ap (λ (d : Desked). session_at n d.sessions) (sym e) ∙ here) there in
+    let now_there : session_at n sessions' ≡ Some session' = session_value n n session session' sessions sessions' there s ∙ chosen (n == n) _ _ (itself n) in
+    let last : found' ≡ session' = one_session found' session' (session_at n sessions') here' now_there in
+    let after : session'.closed ≡ None = ap (λ (l : Live). l.closed) (sym last) ∙ alive in
+    let both = comes after in
+    let whole : Played config (items ++ received n piece ∷ []) (desk_of own table' sessions') =
+    desk_fed config items n piece session session' own table table' sessions sessions' old e there takes s p in
+    subst (λ (l : Live). IsHanded l found' piece replies replies') (sym first)
+    (subst (λ (l : Live). IsHanded session l piece replies replies') (sym last)
+    (is_handed session session' piece replies replies' both.0 both.1 after (open_waits config (items ++ received n piece ∷ []) n session' (desk_of own table' sessions') now_there after whole)))
+
+-- a peer that is down has no session
+pub desk_unhanded : (n : ℕ) (piece replies : List ℕ) (own : Config) (table table' : Held) (sessions sessions' : List (ℕ × Live)) (old : Desked) → old ≡ desk_of own table sessions → session_at n sessions ≡ None
+    → HandsPeer n old (desk_of own table' sessions') piece replies replies
+desk_unhanded n piece replies own table table' sessions sessions' old e none config items found found' p here here' alive =
+    absurd (never (sym (ap (λ (d : Desked). session_at n d.sessions) (sym e) ∙ here) ∙ none))
+  where
+    never : Some found ≡ None → ⊥
+    never h = cc

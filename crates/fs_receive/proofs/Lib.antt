@@ -1,0 +1,10 @@
+mod Walking
+mod Receiving
+mod Listened
+mod Answering
+mod Ahead
+mod Settling
+mod Sending
+mod Meeting
+mod Paired
+mod Lasting

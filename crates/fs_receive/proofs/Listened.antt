@@ -1,0 +1,138 @@
+-- How what a receiving end hears and says over a wire follows from how it stands.
+use Rattle.std.proofs.Common.{◌≡◌, ◌<◌, ◌≤◌, ℕ, List, [], Bool, true, false, Option, Some, None, refl, ap, sym, ◌∙◌, subst}
+use Rattle.fs_base.specs.Config.{peer_of}
+use Rattle.fs_base.specs.Wire.{WireEnds}
+use Rattle.fs_base.specs.declared.config.Config.{Config}
+use Rattle.fs_base.specs.declared.config.Peer.{Peer}
+use Rattle.fs_speaker.specs.Announcer.{is_established}
+use Rattle.fs_speaker.specs.Session.{Last, closed, still}
+use Rattle.fs_speaker.specs.State.{standing_at}
+use Rattle.fs_speaker.specs.declared.state.Closed.{Closed}
+use Rattle.fs_speaker.specs.declared.state.Standing.{Standing}
+use Rattle.fs_speaker.specs.declared.state.Standing.TheVariants.{Down, Up, Ended}
+use Rattle.fs_speaker.specs.declared.transition.Phase.{Phase}
+use Rattle.fs_desk.specs.Desk.{Desked, standing_at_desk}
+use Rattle.fs_desk.specs.Limit.{bounded_session}
+use Rattle.fs_desk.proofs.Standing.{desk_stands}
+use Rattle.fs_ends.specs.declared.tell.Ending.{Ending}
+use Rattle.fs_ends.specs.declared.tell.Ending.TheVariants.{Done, Closed as WasClosed, Ended as EndedEarly, AtLimit}
+use Rattle.fs_talk.specs.Listening.{EndsSo as StopsSo, HeardOut, HearsOut}
+use Rattle.fs_talk.specs.Turn.{Pieces, Stance, octets_in}
+use Rattle.fs_talk.specs.declared.listening.Heard.{Heard}
+use Rattle.fs_talk.specs.declared.listening.Heard.TheVariants.{All, Over, Ready, AtLimit as MetIt}
+use Rattle.fs_talk.proofs.Telling.{told_as}
+use Rattle.fs_receive.specs.Hearer.{HasClosed, IsHearing, Receives, bare, is_ended, tape_of}
+use Rattle.fs_receive.specs.Listen.{EndsSo, IsReceiving, Listens, ListensOver, ListensSo, MeetsLimit, is_settled}
+use Rattle.fs_receive.proofs.Receiving.{closed_of, ended_there, hearing_of, life_tape, stands_open}
+
+-- what the octets of an open session come to
+still_there : (last : Last) (phase : Phase) → standing_at last ≡ Up phase.state → (found : Phase) × ((last ≡ still found) × (found.state ≡ phase.state))
+still_there (still found) phase e = (found, (refl, ap (λ (at : Standing). elim at [ Up state ↦ state | Down ↦ found.state | Ended why ↦ found.state ]) e))
+still_there (closed why) phase e = absurd cc
+
+module _ (desk : Desked) (peer : ℕ) (whose : Peer) (heard : Pieces) (said : List ℕ) (h : IsHearing desk peer whose heard said) where
+  stands_so : standing_at (bounded_session desk.config peer (octets_in heard)).1 ≡ Up h.session.phase.state
+  stands_so =
+      sym (ap (λ (o : Option (List ℕ)). elim o [ None ↦ Down | Some octets ↦ standing_at (bounded_session desk.config peer octets).1 ]) (life_tape peer (octets_in heard)))
+      ∙ sym (desk_stands desk.config (tape_of peer (octets_in heard)) desk peer h.played)
+      ∙ stands_open desk peer h.session h.session_is h.alive
+
+  found_phase : (found : Phase) × (((bounded_session desk.config peer (octets_in heard)).1 ≡ still found) × (found.state ≡ h.session.phase.state))
+  found_phase = still_there (bounded_session desk.config peer (octets_in heard)).1 h.session.phase stands_so
+
+  pub receiving : IsReceiving desk peer whose heard said
+  receiving = record { played = h.played; phase = found_phase.0; found = found_phase.1.0; said_is = h.said_is }
+
+  pub settled_so : (b : Bool) → is_settled (standing_at_desk desk peer) ≡ b → is_established receiving.phase.state ≡ b
+  unfolding receiving found_phase
+  settled_so b e =
+      ap is_established found_phase.1.1 ∙ sym (ap is_settled (stands_open desk peer h.session h.session_is h.alive)) ∙ e
+
+module _ (desk : Desked) (peer count limit : ℕ) (heard : Pieces) (said left : List ℕ) (r : Receives desk peer count heard said) where
+  pub ends_so : (b : Bool) → is_settled (standing_at_desk desk peer) ≡ b → is_ended (standing_at_desk desk peer) ≡ false → count < limit → left ≡ []
+      → EndsSo b desk peer r.whose limit heard said left
+  ends_so b e alive within none =
+      let h : IsHearing desk peer r.whose heard said = hearing_of desk peer r.whose heard said alive r.stands in
+      record {
+        receives = receiving desk peer r.whose heard said h;
+        settled = settled_so desk peer r.whose heard said h b e;
+        within = subst (λ (n : ℕ). n < limit) r.counted within;
+        none = none;
+      }
+
+  pub meets_so : is_ended (standing_at_desk desk peer) ≡ false → limit ≤ count → MeetsLimit desk peer r.whose limit heard said
+  meets_so alive met = record {
+    receives = receiving desk peer r.whose heard said (hearing_of desk peer r.whose heard said alive r.stands);
+    met = subst (λ (n : ℕ). limit ≤ n) r.counted met;
+  }
+
+  pub closes_so : (why : Closed) → standing_at_desk desk peer ≡ Ended why → HasClosed desk.config peer r.whose heard said why
+  closes_so why e = closed_of desk peer r.whose heard said why e r.stands
+
+-- the clause, from how the end stands
+module _ (first last : Desked) (peer peer' first_count count limit : ℕ) (same : peer' ≡ peer) (own : bare last ≡ bare first) (start : Receives first peer first_count [] []) (t0 t1 : Option WireEnds) (answers answers' : Option (List ℕ)) where
+  abbrev s0 : Stance
+  s0 = λ heard said. Receives first peer first_count heard said
+
+  abbrev s1 : Stance
+  s1 = λ heard said. Receives last peer' count heard said
+
+  config_is : last.config ≡ first.config
+  config_is = ap (λ (d : Desked). d.config) own
+
+  listens_so : (ending : Ending) (heard : Heard) (over ready : Bool) (hears : HearsOut heard s0 s1 over ready count 0 limit t0 t1 answers answers')
+      → ((pieces : Pieces) (said left : List ℕ) (r : Receives last peer count pieces said) → StopsSo heard over ready count limit left → ListensSo ending last peer r.whose limit pieces said left)
+      → ListensOver ending first.config last peer limit t0 t1 answers answers'
+  listens_so ending heard over ready hears ends = record {
+    given = hears.given;
+    grew = hears.grew;
+    told = told_as (HeardOut heard s0 s1 over ready count 0 limit hears.given) (Listens ending first.config last peer limit hears.given) one t0 t1 hears.told;
+  }
+    where
+      one : (a b : WireEnds) → HeardOut heard s0 s1 over ready count 0 limit hears.given a b → Listens ending first.config last peer limit hears.given a b
+      one a b l =
+          let r : Receives last peer count l.listened.heard l.listened.said =
+          subst (λ (n : ℕ). Receives last n count l.listened.heard l.listened.said) same (l.listened.part.stands [] [] start) in
+          record {
+            whose = r.whose;
+            whose_is = ap (λ (c : Config). peer_of peer c.peers) (sym config_is) ∙ r.whose_is;
+            config_is = config_is;
+            heard = l.listened.heard;
+            said = l.listened.said;
+            read = l.listened.part.read;
+            wrote = l.listened.part.wrote;
+            asked = l.listened.asked;
+            ends = ends l.listened.heard l.listened.said b.first.left r l.ends;
+          }
+
+  pub over_so : (ending : Ending) (over ready : Bool) → HearsOut Over s0 s1 over ready count 0 limit t0 t1 answers answers' → over ≡ is_ended (standing_at_desk last peer)
+      → ((why : Closed) → standing_at_desk last peer ≡ Ended why → ending ≡ WasClosed why) → ListensOver ending first.config last peer limit t0 t1 answers answers'
+  over_so ending over ready hears o is =
+      listens_so ending Over over ready hears
+      (λ pieces said left r e.
+      let found = ended_there (standing_at_desk last peer) (sym o ∙ e) in
+      subst (λ (x : Ending). ListensSo x last peer r.whose limit pieces said left) (sym (is found.0 found.1)) (closes_so last peer count limit pieces said left r found.0 found.1))
+
+  pub limit_so : (over ready : Bool) → HearsOut MetIt s0 s1 over ready count 0 limit t0 t1 answers answers' → over ≡ is_ended (standing_at_desk last peer)
+      → ListensOver AtLimit first.config last peer limit t0 t1 answers answers'
+  limit_so over ready hears o = listens_so AtLimit MetIt over ready hears (λ pieces said left r e. meets_so last peer count limit pieces said left r (sym o ∙ e.0) e.1)
+
+  pub all_so : (ending : Ending) (over ready : Bool) → HearsOut All s0 s1 over ready count 0 limit t0 t1 answers answers' → over ≡ is_ended (standing_at_desk last peer)
+      → (is_settled (standing_at_desk last peer) ≡ true → ending ≡ Done) → (is_settled (standing_at_desk last peer) ≡ false → ending ≡ EndedEarly)
+      → ListensOver ending first.config last peer limit t0 t1 answers answers'
+  all_so ending over ready hears o up down =
+      listens_so ending All over ready hears (λ pieces said left r e. by pieces said left r e (is_settled (standing_at_desk last peer)) refl)
+    where
+      by : (pieces : Pieces) (said left : List ℕ) (r : Receives last peer count pieces said) → StopsSo All over ready count limit left → (b : Bool) → is_settled (standing_at_desk last peer) ≡ b
+          → ListensSo ending last peer r.whose limit pieces said left
+      by pieces said left r e true s =
+          subst (λ (x : Ending). ListensSo x last peer r.whose limit pieces said left) (sym (up s)) (ends_so last peer count limit pieces said left r true s (sym o ∙ e.0) e.1.0 e.1.1.1)
+      by pieces said left r e false s =
+          subst (λ (x : Ending). ListensSo x last peer r.whose limit pieces said left) (sym (down s)) (ends_so last peer count limit pieces said left r false s (sym o ∙ e.0) e.1.0 e.1.1.1)
+
+  -- no receiving end is ready
+  pub never_ready : (ending : Ending) (over : Bool) → HearsOut Ready s0 s1 over false count 0 limit t0 t1 answers answers' → ListensOver ending first.config last peer limit t0 t1 answers answers'
+  never_ready ending over hears = listens_so ending Ready over false hears (λ pieces said left r e. absurd (no e.1.1))
+    where
+      no : false ≡ true → ⊥
+      no e = cc

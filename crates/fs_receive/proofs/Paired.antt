@@ -1,0 +1,393 @@
+-- How what both ends come to over a wire follows from how they stand.
+use Rattle.std.proofs.Common.{◌≡◌, ◌⊎◌, inl, inr, ◌≤◌, ℕ, zero, suc, ◌+◌, ◌-◌, ◌||◌, List, [], ◌∷◌, ◌++◌, length, take, map, Bool, true, false, if◌then◌else◌, Option, Some, None, refl, ap, sym, ◌∙◌, subst, arith, append-nil}
+use Rattle.std.specs.Option.{is_some}
+use Rattle.fs_base.specs.Config.{peer_of}
+use Rattle.fs_base.specs.Wire.{WireEnds}
+use Rattle.fs_base.specs.declared.config.Config.{Config}
+use Rattle.fs_base.specs.declared.config.Peer.{Peer}
+use Rattle.fs_attrs.specs.declared.update.Update.{Update}
+use Rattle.fs_speaker.specs.Announcer.{Announcing, is_established, machine_in, open_sent}
+use Rattle.fs_speaker.specs.Line.{Lined}
+use Rattle.fs_speaker.specs.Sending.{needs_of, text_sent, update_sent}
+use Rattle.fs_speaker.specs.Session.{Last, at_start, closed, session_from, still}
+use Rattle.fs_speaker.specs.Side.{announcer, reply_to}
+use Rattle.fs_speaker.specs.Transition.{Machine, phase}
+use Rattle.fs_speaker.specs.declared.sending.Sending.{Sending}
+use Rattle.fs_speaker.specs.declared.sending.Sent.{Sent}
+use Rattle.fs_speaker.specs.declared.state.Closed.{Closed}
+use Rattle.fs_speaker.specs.declared.state.Standing.TheVariants.{Ended}
+use Rattle.fs_speaker.specs.declared.state.State.{State}
+use Rattle.fs_speaker.specs.declared.state.State.TheVariants.{WaitOpen, Established, Closed as IsClosed}
+use Rattle.fs_speaker.specs.declared.transition.Phase.{Phase}
+use Rattle.fs_desk.specs.Desk.{Desked, standing_at_desk}
+use Rattle.fs_desk.specs.Limit.{bounded, bounded_from, bounded_session, first_over, too_many}
+use Rattle.fs_ends.specs.Tell.{begins_with}
+use Rattle.fs_ends.specs.Teller.{ahead_of, before_all, opening_of}
+use Rattle.fs_ends.specs.declared.tell.Ending.{Ending}
+use Rattle.fs_ends.specs.declared.tell.Ending.TheVariants.{Done, Closed as WasClosed, Ended as EndedEarly, AtLimit}
+use Rattle.fs_talk.specs.Joined.{AreJoined, Exchanges, ExchangedOut, Heard, StopsSo, ended, of_first, of_second}
+use Rattle.fs_talk.specs.Turn.{Pieces, Stance, octets_in}
+use Rattle.fs_talk.specs.declared.joined.Talk.{Talk}
+use Rattle.fs_talk.specs.declared.joined.Talk.TheVariants.{Done as AllSaid, FirstOver, SecondOver, AtLimit as MetIt, Broken}
+use Rattle.fs_talk.proofs.Telling.{told_as}
+use Rattle.fs_receive.specs.Hearer.{HasClosed, Receives, bare, is_ended, walked}
+use Rattle.fs_receive.specs.Listen.{IsReceiving}
+use Rattle.fs_receive.specs.Pair.{Arrives, CanArrive, EndsEarly, Pairs, PairsOver, PairsSo, SaysFront, told_by}
+use Rattle.fs_receive.specs.Sender.{Speaks, SpeaksUpTo, TookOpen, is_settled, rules_in, text_in, woven}
+use Rattle.fs_receive.specs.Walk.{walk}
+use Rattle.fs_receive.proofs.Answering.{awaits_open}
+use Rattle.fs_receive.proofs.Listened.{receiving}
+use Rattle.fs_receive.proofs.Meeting.{all_arrive, answers, meets}
+use Rattle.fs_receive.proofs.Receiving.{closed_of, ended_there, hearing_of}
+use Rattle.fs_receive.proofs.Sending.{Past, past_of}
+
+-- before its first octet
+speaks_none : (config : Config) (whose : Peer) (sending : Sending) → Speaks (begins_with config whose sending) false [] []
+speaks_none config whose sending = record {
+  started_is = refl;
+  at = record { closed_is = refl; open_is = λ e. record { waiting_is = refl; phase_is = refl; times_is = refl; waits_is = refl } };
+  four = false;
+  parts = [];
+  rules_are = refl;
+  ending = [];
+  said_is = refl;
+  unended = λ e. refl;
+  began = λ e. (refl, (refl, (refl, refl)));
+  unstarted = λ e. (refl, refl);
+}
+
+pub speaks_start : (end : Announcing) (started : Bool) (count : ℕ) (config : Config) (whose : Peer) (sending : Sending) → end ≡ begins_with config whose sending → started ≡ false → count ≡ 0
+    → SpeaksUpTo end started count [] []
+speaks_start end started count config whose sending e s k =
+    subst (λ (n : Announcing). SpeaksUpTo n started count [] []) (sym e)
+    (subst (λ (b : Bool). SpeaksUpTo (begins_with config whose sending) b count [] []) (sym s)
+    (subst (λ (m : ℕ). SpeaksUpTo (begins_with config whose sending) false m [] []) (sym k) (speaks_none config whose sending, omega arith)))
+
+not_some : {A : Type 0} (o : Option A) → is_some o ≡ false → o ≡ None
+not_some None e = refl
+not_some (Some a) e = absurd cc
+
+some_there : {A : Type 0} (o : Option A) → is_some o ≡ true → (a : A) × (o ≡ Some a)
+some_there None e = absurd cc
+some_there (Some a) e = (a, refl)
+
+never : true ≡ false → ⊥
+never e = cc
+
+take_none : (n : ℕ) → take {A = Sent} n [] ≡ []
+take_none zero = refl
+take_none (suc n) = refl
+
+none_over : (n : ℕ) → suc n ≤ 0 → ⊥
+none_over n l = omega (arith, l)
+
+take_enough : (n : ℕ) (rules : List Sent) → length rules ≤ n → take n rules ≡ rules
+take_enough n [] l = take_none n
+take_enough zero (sent ∷ rules) l = absurd (none_over (length rules) l)
+take_enough (suc n) (sent ∷ rules) l = ap (λ (r : List Sent). sent ∷ r) (take_enough n rules (omega (arith, l)))
+
+-- a session that the limit doesn't close is the one without
+bounded_still : (most : Option ℕ) (session : List Update × Last) (found : Phase) → (bounded most session).1 ≡ still found → bounded most session ≡ session
+bounded_still most session found e = by (first_over most session.0) refl
+  where
+    chosen : Option (List Update) → List Update × Last
+    chosen o = elim o [ None ↦ session | Some front ↦ (front, closed too_many) ]
+
+    by : (o : Option (List Update)) → first_over most session.0 ≡ o → bounded most session ≡ session
+    by None f = ap chosen f
+    by (Some front) f = absurd (no (sym (ap (λ (x : Option (List Update)). (chosen x).1) f) ∙ e))
+      where
+        no : closed too_many ≡ still found → ⊥
+        no h = cc
+
+unawaited : (state : State) → is_established state ≡ true → awaits_open state ≡ false
+unawaited state h = by state h
+  where
+    by : (state : State) → is_established state ≡ true → awaits_open state ≡ false
+    by Established h = refl
+    by _ h = absurd cc
+
+open_settled : (line : Lined) (b : Bool) → line.closed ≡ None → is_settled line ≡ b → is_established line.phase.state ≡ b
+open_settled line b e s = sym (ap (λ (c : Option Closed). is_some c || is_established (elim c [ Some w ↦ IsClosed | None ↦ line.phase.state ])) e) ∙ s
+
+unsettled : (line : Lined) → is_settled line ≡ false → line.closed ≡ None
+unsettled line s = by line.closed refl
+  where
+    by : (c : Option Closed) → line.closed ≡ c → line.closed ≡ None
+    by None e = e
+    by (Some why) e = absurd (never (sym (ap (λ (c : Option Closed). is_some c || is_established (elim c [ Some w ↦ IsClosed | None ↦ line.phase.state ])) e) ∙ s))
+
+abbrev unsaid : Bool → ℕ
+unsaid started = if started then 0 else 1
+
+sub_none : (a b c : ℕ) → a + (b - c) ≡ 0 → (a ≡ 0) × (b ≤ c)
+sub_none a b c z = (omega (arith, z), omega (arith, z))
+
+module _ (first last : Desked) (peer peer' first_count count limit : ℕ) (same : peer' ≡ peer) (own : bare last ≡ bare first) (start : Receives first peer first_count [] [])
+    (a b : Announcing) (begun started : Bool) (heard_before heard_up : ℕ) (keeps : before_all b ≡ before_all a)
+    (config : Config) (whose : Peer) (sending : Sending) (config_first : first.config ≡ config) (whose_is : peer_of peer config.peers ≡ Some whose)
+    (begins : SpeaksUpTo a begun heard_before [] []) (a_is : a ≡ begins_with config whose sending)
+    (t0 t1 : Option WireEnds) (moments moments' : Option (List ℕ)) where
+  abbrev s0 : Stance
+  s0 = λ heard said. Receives first peer first_count heard said
+
+  abbrev s1 : Stance
+  s1 = λ heard said. Receives last peer' count heard said
+
+  abbrev a0 : Stance
+  a0 = λ heard said. SpeaksUpTo a begun heard_before heard said
+
+  abbrev a1 : Stance
+  a1 = λ heard said. SpeaksUpTo b started heard_up heard said
+
+  config_is : last.config ≡ config
+  config_is = ap (λ (d : Desked). d.config) own ∙ config_first
+
+  b_config : b.config ≡ config
+  b_config = ap (λ (n : Announcing). n.config) keeps ∙ ap (λ (n : Announcing). n.config) a_is
+
+  b_peer : b.peer ≡ whose
+  b_peer = ap (λ (n : Announcing). n.peer) keeps ∙ ap (λ (n : Announcing). n.peer) a_is
+
+  b_sending : b.sending ≡ sending
+  b_sending = ap (λ (n : Announcing). n.sending) keeps ∙ ap (λ (n : Announcing). n.sending) a_is
+
+  machine_is : machine_in b ≡ announcer config (needs_of sending.rules)
+  machine_is = ap (λ (c : Config). announcer c (needs_of b.sending.rules)) b_config ∙ ap (λ (s : Sending). announcer config (needs_of s.rules)) b_sending
+
+  text_of : (four : Bool) (parts : List (Option Sent)) → woven (text_in b four) parts ≡ woven (text_sent config whose four sending) parts
+  text_of four parts =
+      ap (λ (c : Config). woven (text_sent c b.peer four b.sending) parts) b_config
+      ∙ ap (λ (p : Peer). woven (text_sent config p four b.sending) parts) b_peer
+      ∙ ap (λ (x : Sending). woven (text_sent config whose four x) parts) b_sending
+
+  opening_is : opening_of b ≡ (if b.started then open_sent config whose sending else [])
+  opening_is =
+      ap (λ (c : Config). if b.started then open_sent c b.peer b.sending else []) b_config
+      ∙ ap (λ (p : Peer). if b.started then open_sent config p b.sending else []) b_peer
+      ∙ ap (λ (x : Sending). if b.started then open_sent config whose x else []) b_sending
+
+  front_of : (heard : Pieces) (announced : List ℕ) → Speaks b started heard announced → SaysFront config whose sending announced
+  front_of heard announced s = record {
+    started = b.started;
+    four = s.four;
+    parts = s.parts;
+    appended = b.appended;
+    rules_are = s.rules_are ∙ ap (λ (x : Sending). take b.appended x.rules) b_sending;
+    ending = s.ending;
+    said_is = s.said_is ∙ ap (λ (z : List ℕ). opening_of b ++ (z ++ s.ending)) (text_of s.four s.parts)
+        ∙ ap (λ (z : List ℕ). z ++ (woven (text_sent config whose s.four sending) s.parts ++ s.ending)) opening_is;
+  }
+
+  -- what is known where no more is heard
+  record Known (events : List Heard) (announced replied : List ℕ) (now : WireEnds) : Type 0 where
+    hears : Receives last peer count (of_first events) replied
+    speaks : SpeaksUpTo b started heard_up (of_second events) announced
+    read_first : announced ≡ octets_in (of_first events) ++ now.first.left
+    read_second : replied ≡ octets_in (of_second events) ++ now.second.left
+
+  pairs_so : (ending : Ending) (talk : Talk) (over_first over_second ready : Bool) (ahead : ℕ)
+      → (x : Exchanges talk s0 s1 a0 a1 (ended over_first over_second ready heard_up ahead) limit t0 t1 moments moments')
+      → ((events : List Heard) (announced replied : List ℕ) (now : WireEnds) → Known events announced replied now
+      → StopsSo talk over_first over_second ready (length (octets_in (of_first events))) heard_up limit ahead now
+      → PairsSo ending config whose sending last peer limit events announced replied now)
+      → PairsOver ending config whose sending last peer limit t0 t1 moments moments'
+  pairs_so ending talk over_first over_second ready ahead x ends = record {
+    given = x.given;
+    grew = x.grew;
+    told = told_as
+        (λ b n. AreJoined b → ExchangedOut talk s0 s1 a0 a1 (ended over_first over_second ready heard_up ahead) limit x.given b n)
+        (λ b n. AreJoined b → Pairs ending config whose sending last peer limit x.given b n)
+        (λ before now f j. one before now (f j)) t0 t1 x.told;
+  }
+    where
+      one : (before now : WireEnds) → ExchangedOut talk s0 s1 a0 a1 (ended over_first over_second ready heard_up ahead) limit x.given before now
+          → Pairs ending config whose sending last peer limit x.given before now
+      one before now o =
+          let e = o.exchanged in
+          record {
+            config_is = config_is;
+            events = o.events;
+            announced = e.announced;
+            replied = e.replied;
+            heard_first = e.one.read;
+            heard_second = e.other.read;
+            wrote_first = e.one.wrote;
+            wrote_second = e.other.wrote;
+            asked = o.asked;
+            front = front_of (of_second o.events) e.announced (e.other.stands [] [] begins).0;
+            ends = ends o.events e.announced e.replied now (record {
+              hears = subst (λ (n : ℕ). Receives last n count (of_first o.events) e.replied) same (e.one.stands [] [] start);
+              speaks = e.other.stands [] [] begins;
+              read_first = e.one.read;
+              read_second = e.other.read;
+            }) o.stops;
+          }
+
+  module _ (events : List Heard) (announced replied : List ℕ) (now : WireEnds) (k : Known events announced replied now) where
+    abbrev r : Receives last peer count (of_first events) replied
+    r = k.hears
+
+    abbrev s : Speaks b started (of_second events) announced
+    s = k.speaks.0
+
+    whose_same : r.whose ≡ whose
+    whose_same =
+        ap (λ (o : Option Peer). elim o [ None ↦ whose | Some p ↦ p ])
+        (sym r.whose_is ∙ ap (λ (c : Config). peer_of peer c.peers) config_is ∙ whose_is)
+
+    closes_first : (why : Closed) → standing_at_desk last peer ≡ Ended why → HasClosed config peer whose (of_first events) replied why
+    closes_first why e =
+        subst (λ (p : Peer). HasClosed config peer p (of_first events) replied why) whose_same
+        (subst (λ (c : Config). HasClosed c peer r.whose (of_first events) replied why) config_is (closed_of last peer r.whose (of_first events) replied why e r.stands))
+
+    closes_second : (why : Closed) → b.line.closed ≡ Some why → (told_by config sending (of_second events)).point.closed ≡ Some why
+    closes_second why e = sym (ap (λ (m : Machine). (walk m (of_second events)).point.closed) machine_is) ∙ sym s.at.closed_is ∙ e
+
+    receives_so : is_ended (standing_at_desk last peer) ≡ false → IsReceiving last peer whose (of_first events) replied
+    receives_so alive =
+        subst (λ (p : Peer). IsReceiving last peer p (of_first events) replied) whose_same
+        (receiving last peer r.whose (of_first events) replied (hearing_of last peer r.whose (of_first events) replied alive r.stands))
+
+    ends_early : is_settled b.line ≡ false → now.first.left ≡ [] → now.second.left ≡ [] → EndsEarly config sending (of_second events) now
+    ends_early e none other =
+        let open_b : b.line.closed ≡ None = unsettled b.line e in
+        record {
+          none_first = none;
+          none_second = other;
+          down =
+              sym (ap (λ (m : Machine). is_established (walk m (of_second events)).point.phase.state) machine_is)
+              ∙ sym (ap (λ (p : Phase). is_established p.state) (s.at.open_is (sym s.at.closed_is ∙ open_b)).phase_is)
+              ∙ open_settled b.line false open_b e;
+        }
+
+    module _ (alive : is_ended (standing_at_desk last peer) ≡ false) (open_b : b.line.closed ≡ None) (up : is_settled b.line ≡ true) (none : now.first.left ≡ []) (all : ahead_of b started ≡ 0) where
+      got : IsReceiving last peer whose (of_first events) replied
+      got = receives_so alive
+
+      left : unsaid started + (length b.sending.rules - b.appended) ≡ 0
+      left = sym (ap (λ (c : Option Closed). if is_some c then 0 else unsaid started + (length b.sending.rules - b.appended)) open_b) ∙ all
+
+      none_left : (unsaid started ≡ 0) × (length b.sending.rules ≤ b.appended)
+      none_left = sub_none (unsaid started) (length b.sending.rules) b.appended left
+
+      has_begun : b.started ≡ true
+      has_begun = s.started_is ∙ by started none_left.0
+        where
+          by : (g : Bool) → unsaid g ≡ 0 → g ≡ true
+          by true h = refl
+          by false h = absurd cc
+
+      past : Past b s.four (of_second events) s.parts
+      past = past_of b.line.phase.state b s.four (of_second events) s.parts (unawaited b.line.phase.state (open_settled b.line true open_b up)) (s.began open_b)
+
+      open_is : opening_of b ≡ open_sent config whose sending
+      open_is = opening_is ∙ ap (λ (g : Bool). if g then open_sent config whose sending else []) has_begun
+
+      said_so : announced ≡ open_sent config whose sending ++ woven (text_sent config whose s.four sending) (None ∷ past.0.0)
+      said_so =
+          s.said_is
+          ∙ ap (λ (z : List ℕ). opening_of b ++ (woven (text_in b s.four) s.parts ++ z)) (s.unended open_b)
+          ∙ ap (λ (z : List ℕ). opening_of b ++ z) (append-nil (woven (text_in b s.four) s.parts) ∙ text_of s.four s.parts)
+          ∙ ap (λ (z : List ℕ). z ++ woven (text_sent config whose s.four sending) s.parts) open_is
+          ∙ ap (λ (z : List (Option Sent)). open_sent config whose sending ++ woven (text_sent config whose s.four sending) z) past.0.1
+
+      rules_so : rules_in past.0.0 ≡ sending.rules
+      rules_so = sym (ap rules_in past.0.1) ∙ s.rules_are ∙ take_enough b.appended b.sending.rules none_left.1 ∙ ap (λ (x : Sending). x.rules) b_sending
+
+      all_heard : announced ≡ octets_in (of_first events)
+      all_heard = k.read_first ∙ ap (λ (z : List ℕ). octets_in (of_first events) ++ z) none ∙ append-nil (octets_in (of_first events))
+
+      open_walk : (walked config whose (of_first events)).point.closed ≡ None
+      open_walk =
+          let h = hearing_of last peer r.whose (of_first events) replied alive r.stands in
+          sym (ap (λ (p : Peer). (walked config p (of_first events)).point.closed) whose_same)
+          ∙ sym (ap (λ (c : Config). (walked c r.whose (of_first events)).point.closed) config_is)
+          ∙ sym (ap (λ p. p.closed) h.point_is) ∙ h.alive
+
+      reply_is : replied ≡ (walked config whose (of_first events)).text
+      reply_is = got.said_is ∙ ap (λ (c : Config). (walked c whose (of_first events)).text) config_is
+
+      four_so : CanArrive config whose sending → s.four ≡ true
+      four_so can =
+          meets config whose sending s.four (octets_in (of_second events)) now.second.left replied can (subst (λ (c : Config). TookOpen c s.four (octets_in (of_second events))) b_config past.1.1) k.read_second
+          (subst (λ (z : List ℕ). (z ≡ []) ⊎ ((more : List ℕ) × (z ≡ reply_to config WaitOpen ++ more))) (sym reply_is) (answers config whose (of_first events) open_walk))
+
+      updates_so : CanArrive config whose sending
+          → bounded_session config peer announced ≡ (map (update_sent config whose sending) sending.rules, still (phase Established true config.hold_time))
+      updates_so can =
+          let whole : bounded_session config peer announced ≡ bounded_from config whose announced =
+          ap (λ (o : Option Peer). elim o as (λ _. List Update × Last) [ None ↦ ([], still at_start) | Some p ↦ bounded_from config p announced ]) whose_is in
+          let found : (bounded_from config whose announced).1 ≡ still got.phase =
+          sym (ap (λ (x : List Update × Last). x.1) whole) ∙ ap (λ (z : List ℕ). (bounded_session config peer z).1) all_heard
+          ∙ sym (ap (λ (c : Config). (bounded_session c peer (octets_in (of_first events))).1) config_is) ∙ got.found in
+          whole
+          ∙ bounded_still whose.max_routes (session_from config whose at_start announced) got.phase found
+          ∙ ap (session_from config whose at_start) (said_so ∙ ap (λ (f : Bool). open_sent config whose sending ++ woven (text_sent config whose f sending) (None ∷ past.0.0)) (four_so can))
+          ∙ all_arrive config whose sending past.0.0 can rules_so
+
+      arrives : Arrives config whose sending last peer (of_first events) announced replied
+      arrives = record {
+        receives = got;
+        all_is = all_heard;
+        four = s.four;
+        parts = past.0.0;
+        rules_are = rules_so;
+        said_is = said_so;
+        four_is = four_so;
+        updates = updates_so;
+      }
+
+  -- each way in which it ends
+  pub done_so : (ending : Ending) (over_first over_second ready : Bool) (ahead : ℕ)
+      → Exchanges AllSaid s0 s1 a0 a1 (ended over_first over_second ready heard_up ahead) limit t0 t1 moments moments'
+      → over_first ≡ is_ended (standing_at_desk last peer) → over_second ≡ is_some b.line.closed → ready ≡ is_settled b.line → ahead ≡ ahead_of b started
+      → ending ≡ (if is_settled b.line then Done else EndedEarly) → PairsOver ending config whose sending last peer limit t0 t1 moments moments'
+  done_so ending over_first over_second ready ahead x o p g n e =
+      pairs_so ending AllSaid over_first over_second ready ahead x (λ events announced replied now k st. by events announced replied now k st (is_settled b.line) refl)
+    where
+      by : (events : List Heard) (announced replied : List ℕ) (now : WireEnds) (k : Known events announced replied now)
+          → StopsSo AllSaid over_first over_second ready (length (octets_in (of_first events))) heard_up limit ahead now
+          → (up : Bool) → is_settled b.line ≡ up → PairsSo ending config whose sending last peer limit events announced replied now
+      by events announced replied now k st true u =
+          subst (λ (x : Ending). PairsSo x config whose sending last peer limit events announced replied now) (sym (e ∙ ap (λ (z : Bool). if z then Done else EndedEarly) u))
+          (arrives events announced replied now k (sym o ∙ st.0.0) (not_some b.line.closed (sym p ∙ st.0.1)) u st.1.1.0 (sym n ∙ st.1.1.1.1 (g ∙ u)))
+      by events announced replied now k st false u =
+          subst (λ (x : Ending). PairsSo x config whose sending last peer limit events announced replied now) (sym (e ∙ ap (λ (z : Bool). if z then Done else EndedEarly) u))
+          (ends_early events announced replied now k u st.1.1.0 (st.1.1.1.0 (g ∙ u)))
+
+  pub first_so : (ending : Ending) (over_first over_second ready : Bool) (ahead : ℕ)
+      → Exchanges FirstOver s0 s1 a0 a1 (ended over_first over_second ready heard_up ahead) limit t0 t1 moments moments'
+      → over_first ≡ is_ended (standing_at_desk last peer) → ((why : Closed) → standing_at_desk last peer ≡ Ended why → ending ≡ WasClosed why)
+      → PairsOver ending config whose sending last peer limit t0 t1 moments moments'
+  first_so ending over_first over_second ready ahead x o is =
+      pairs_so ending FirstOver over_first over_second ready ahead x
+      (λ events announced replied now k st.
+      let found = ended_there (standing_at_desk last peer) (sym o ∙ st) in
+      subst (λ (x : Ending). PairsSo x config whose sending last peer limit events announced replied now) (sym (is found.0 found.1))
+      (inl (closes_first events announced replied now k found.0 found.1)))
+
+  pub second_so : (ending : Ending) (over_first over_second ready : Bool) (ahead : ℕ)
+      → Exchanges SecondOver s0 s1 a0 a1 (ended over_first over_second ready heard_up ahead) limit t0 t1 moments moments'
+      → over_second ≡ is_some b.line.closed → ((why : Closed) → b.line.closed ≡ Some why → ending ≡ WasClosed why)
+      → PairsOver ending config whose sending last peer limit t0 t1 moments moments'
+  second_so ending over_first over_second ready ahead x p is =
+      pairs_so ending SecondOver over_first over_second ready ahead x
+      (λ events announced replied now k st.
+      let found = some_there b.line.closed (sym p ∙ st.1) in
+      subst (λ (x : Ending). PairsSo x config whose sending last peer limit events announced replied now) (sym (is found.0 found.1))
+      (inr (closes_second events announced replied now k found.0 found.1)))
+
+  pub limit_so : (over_first over_second ready : Bool) (ahead : ℕ) → Exchanges MetIt s0 s1 a0 a1 (ended over_first over_second ready heard_up ahead) limit t0 t1 moments moments'
+      → PairsOver AtLimit config whose sending last peer limit t0 t1 moments moments'
+  limit_so over_first over_second ready ahead x =
+      pairs_so AtLimit MetIt over_first over_second ready ahead x (λ events announced replied now k st. by events announced replied now k st.1.1)
+    where
+      by : (events : List Heard) (announced replied : List ℕ) (now : WireEnds) → Known events announced replied now → (limit ≤ length (octets_in (of_first events))) ⊎ (limit ≤ heard_up)
+          → (limit ≤ length (octets_in (of_first events))) ⊎ (limit ≤ length (octets_in (of_second events)))
+      by events announced replied now k (inl l) = inl l
+      by events announced replied now k (inr l) = inr (let m = k.speaks.1 in omega (arith, l, m))
+
+  pub never_broken : (ending : Ending) (over_first over_second ready : Bool) (ahead : ℕ) → Exchanges Broken s0 s1 a0 a1 (ended over_first over_second ready heard_up ahead) limit t0 t1 moments moments'
+      → PairsOver ending config whose sending last peer limit t0 t1 moments moments'
+  never_broken ending over_first over_second ready ahead x = pairs_so ending Broken over_first over_second ready ahead x (λ events announced replied now k st. absurd st)

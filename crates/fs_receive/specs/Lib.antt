@@ -1,0 +1,6 @@
+pub mod Walk
+pub mod Hearer
+pub mod Listen
+pub mod Sender
+pub mod Pair
+pub mod Laws

@@ -1,0 +1,82 @@
+-- The announcing end of a session over a wire, by the pieces that it heard and what it said.
+use Rattle.std.specs.Prelude.{◌≡◌, ◌||◌, ◌≤◌, ℕ, List, [], ◌∷◌, ◌++◌, length, take, flat_map, Bool, true, false, Option, Some, None, Ok}
+use Rattle.std.specs.Option.{is_some}
+use Rattle.fs_base.specs.declared.config.Config.{Config}
+use Rattle.fs_message.specs.Open.{open_of}
+use Rattle.fs_message.specs.Stream.{Message, first_message}
+use Rattle.fs_message.specs.Write.{message_text}
+use Rattle.fs_message.specs.declared.open_.Open.{Open}
+use Rattle.fs_joint.specs.End.{StandsAt}
+use Rattle.fs_speaker.specs.Announcer.{Announcing, is_established, machine_in, with_line}
+use Rattle.fs_speaker.specs.Line.{Lined, state_in}
+use Rattle.fs_speaker.specs.Sending.{text_sent}
+use Rattle.fs_speaker.specs.declared.sending.Sent.{Sent}
+use Rattle.fs_speaker.specs.declared.state.State.{State}
+use Rattle.fs_speaker.specs.declared.state.State.TheVariants.{WaitOpen}
+use Rattle.fs_ends.specs.Teller.{opening_of}
+use Rattle.fs_talk.specs.Turn.{Pieces, octets_in}
+use Rattle.fs_receive.specs.Walk.{walk}
+
+-- KEEPALIVEs, and between them the UPDATEs of rules
+abbrev pub part_text : (Sent → List ℕ) → Option Sent → List ℕ
+part_text text None = message_text 4 []
+part_text text (Some sent) = text sent
+
+abbrev pub woven : (Sent → List ℕ) → List (Option Sent) → List ℕ
+woven text parts = flat_map (part_text text) parts
+
+abbrev pub rule_in : Option Sent → List Sent
+rule_in None = []
+rule_in (Some sent) = sent ∷ []
+
+-- the rules among them, in their order
+abbrev pub rules_in : List (Option Sent) → List Sent
+rules_in parts = flat_map rule_in parts
+
+abbrev pub text_in : Announcing → Bool → Sent → List ℕ
+text_in end four sent = text_sent end.config end.peer four end.sending sent
+
+-- The first of the octets is an OPEN that was read, and it says whether AS numbers have four octets.
+pub record TookOpen (config : Config) (four : Bool) (octets : List ℕ) : Type 0 where
+  pub message : Message
+  pub behind : List ℕ
+  pub first : first_message octets ≡ Some (message, behind)
+  pub kind_is : message.kind ≡ 1
+  pub found : Open
+  pub read : open_of config.local_as message.body ≡ Ok found
+  pub four_is : four ≡ found.four
+
+-- Before the OPEN nothing but its own OPEN was said; behind it first the KEEPALIVE that answers it.
+abbrev pub Began : State → Announcing → (four : Bool) → (heard : Pieces) → List (Option Sent) → Type 0
+Began WaitOpen end four heard parts =
+    (parts ≡ []) × ((end.appended ≡ 0) × ((end.line.phase.hold ≡ 0)
+    × ((walk (machine_in end) heard).point.waiting ≡ octets_in heard)))
+Began state end four heard parts =
+    ((more : List (Option Sent)) × (parts ≡ None ∷ more))
+    × ((four ≡ end.line.phase.four) × TookOpen end.config four (octets_in heard))
+
+-- What it said: its OPEN, KEEPALIVEs and the UPDATEs of the first rules in their order, each once; and where its hold
+-- time has expired, a NOTIFICATION.
+pub record Speaks (end : Announcing) (started : Bool) (heard : Pieces) (said : List ℕ) : Type 0 where
+  pub started_is : end.started ≡ started
+  pub at : StandsAt (machine_in end) end.line (walk (machine_in end) heard).point
+  pub four : Bool
+  pub parts : List (Option Sent)
+  pub rules_are : rules_in parts ≡ take end.appended end.sending.rules
+  pub ending : List ℕ
+  pub said_is : said ≡ opening_of end ++ (woven (text_in end four) parts ++ ending)
+  pub unended : end.line.closed ≡ None → ending ≡ []
+  pub began : end.line.closed ≡ None → Began end.line.phase.state end four heard parts
+  pub unstarted : started ≡ false → (parts ≡ []) × (ending ≡ [])
+
+-- and no more octets were counted than heard
+abbrev pub SpeaksUpTo : Announcing → Bool → ℕ → Pieces → List ℕ → Type 0
+SpeaksUpTo end started count heard said = Speaks end started heard said × (count ≤ length (octets_in heard))
+
+-- it is established, or has closed
+abbrev pub is_settled : Lined → Bool
+is_settled line = is_some line.closed || is_established (state_in line)
+
+-- only what it keeps of the other's octets changes, and one that is settled stays so
+abbrev pub KeepsSettled : Announcing → Announcing → Type 0
+KeepsSettled old new = (new ≡ with_line old new.line) × (is_settled old.line ≡ true → is_settled new.line ≡ true)
