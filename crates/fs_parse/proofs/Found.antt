@@ -24,7 +24,7 @@ use Rattle.fs_parse.specs.Reading.{Reads}
 use Rattle.fs_parse.proofs.Words.{ip4_runs, one_run, run_decimal, run_octets, two_runs}
 
 -- a list of eight
-record IsEight (a : List ℕ) : Type 0 where
+pub record IsEight (a : List ℕ) : Type 0 where
   pub a0 : ℕ
   pub a1 : ℕ
   pub a2 : ℕ
@@ -35,7 +35,7 @@ record IsEight (a : List ℕ) : Type 0 where
   pub a7 : ℕ
   pub is : a ≡ a0 ∷ a1 ∷ a2 ∷ a3 ∷ a4 ∷ a5 ∷ a6 ∷ a7 ∷ []
 
-eight : (a : List ℕ) → length a ≡ 8 → IsEight a
+pub eight : (a : List ℕ) → length a ≡ 8 → IsEight a
 eight [] h = absurd (omega arith)
 eight (a ∷ []) h = absurd (omega arith)
 eight (a ∷ b ∷ []) h = absurd (omega arith)
@@ -87,7 +87,7 @@ none_some : {A : Type 0} {x : List ℕ} → None ≡ Some x → A
 none_some e = absurd cc
 
 -- what holds of each type in a list holds of one that is found there
-each : {S : Type 0} (f : S → List ℕ) (x : List ℕ) (rows : List (ℕ × S)) (k : ℕ) (P : ℕ → Type 0) → AllByRecursion (λ row. P row.0) rows
+pub each : {S : Type 0} (f : S → List ℕ) (x : List ℕ) (rows : List (ℕ × S)) (k : ℕ) (P : ℕ → Type 0) → AllByRecursion (λ row. P row.0) rows
     → option_map f (option_map (λ r. r.1) (find (λ r. r.0 == k) rows)) ≡ Some x → P k
 each f x [] k P all e = none_some e
 each {S} f x (row ∷ rows) k P all e = by (each f x rows k P all.1) (row.0 == k) refl e
@@ -97,7 +97,7 @@ each {S} f x (row ∷ rows) k P all e = by (each f x rows k P all.1) (row.0 == k
     by there true is e = subst P (eqb-true row.0 k is) all.0
     by there false is e = there e
 
-abbrev name_at : ℕ → List ℕ
+abbrev pub name_at : ℕ → List ℕ
 name_at k =
     if k == 0x8006 then codes "bytes"
     else if k == 0x800c then codes "packets"
@@ -115,7 +115,7 @@ target_at a k =
 abbrev text_at : List ℕ → ℕ → List ℕ
 text_at a k = option_map_or target_text (target_at a k) (if (k == 0x8006) || (k == 0x800c) then rate_text a else decimal (slice_index a 7))
 
-abbrev normal_at : List ℕ → ℕ → Option (List ℕ)
+abbrev pub normal_at : List ℕ → ℕ → Option (List ℕ)
 normal_at a k = option_map (λ bits. cleared bits a) (significant_of k)
 
 four : (l : List ℕ) → length l ≡ 4 → take 4 l ≡ l
@@ -137,7 +137,7 @@ rate_found k a parts result len octets kind p gives =
     (run_octets _ _ (big_octets 4 (big_number 4 (drop 4 a)))))
     ∙ ap Some (ap (λ (j : ℕ). short_octets j (big_number 2 (drop 2 a)) (big_number 4 (drop 4 a))) (sym kind) ∙ short_whole a len octets)
 
-abbrev masked : ℕ → List ℕ → List ℕ
+abbrev pub masked : ℕ → List ℕ → List ℕ
 masked bits a = take 2 a ++ (0 ∷ 0 ∷ 0 ∷ 0 ∷ 0 ∷ bit_and (slice_index a 7) bits ∷ [])
 
 zero_cells : (bits a b c d e f g i : ℕ) → masked bits (a ∷ b ∷ c ∷ d ∷ e ∷ f ∷ g ∷ i ∷ []) ≡ a ∷ b ∷ c ∷ d ∷ e ∷ f ∷ g ∷ i ∷ []
@@ -202,7 +202,7 @@ pub record Readings (name : List ℕ) (parts : List Part) (result : Option (List
   pub ip4 : name ≡ codes "redirect" → (rest : List Part) → parts ≡ form_parts (codes "ip4") rest → Gives (2 ^ 32) (2 ^ 16) ip4_parts (long_octets 0x8108) rest result
   pub as4 : name ≡ codes "redirect" → (rest : List Part) → parts ≡ form_parts (codes "as4") rest → Gives (2 ^ 32) (2 ^ 16) pair_parts (long_octets 0x8208) rest result
 
-some_is : {x y : List ℕ} → Some x ≡ Some y → x ≡ y
+pub some_is : {x y : List ℕ} → Some x ≡ Some y → x ≡ y
 some_is e = cc
 
 pub found : (name a : List ℕ) (parts : List Part) (result : Option (List ℕ)) → IsNamed name a → parts ≡ parts_of (action_text a) → Readings name parts result → result ≡ Some a
@@ -249,4 +249,5 @@ reads_of name word octets (Err error) only h = tt
 reads_of name word octets (Ok None) only h = λ action is told.
     let same : action ≡ octets = sym (some_is (only action is told)) in
     h (subst (IsNamed name) same is) (told ∙ ap action_text same)
-reads_of name word octets (Ok (Some action)) only h = h
+reads_of name word octets (Ok (Some action)) only h =
+    (h.0, h.1, λ other is told. sym (some_is (only other is told)) ∙ some_is (only action h.0 h.1))

@@ -1,9 +1,16 @@
 pub mod Runs
 pub mod Numerals
 pub mod Words
+pub mod Prefixed
 pub mod Found
 pub mod Cuts
 pub mod Made
 pub mod Pairs
 pub mod Wide
 pub mod Listed
+pub mod Spaceless
+pub mod Greatest
+pub mod Led
+pub mod Acted
+pub mod Stepped
+pub mod Wholly

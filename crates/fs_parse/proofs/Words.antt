@@ -9,7 +9,8 @@ use Rattle.fs_base.specs.Language.{IsOctets}
 use Rattle.fs_base.proofs.Octets.{octets_head, octets_tail}
 use Rattle.fs_parse.specs.Pieces.{Part, Run, Mark, is_plain, parts_of, with_octet}
 use Rattle.fs_parse.specs.ActionParts.{ip4_parts}
-use Rattle.fs_words.specs.Prefixes.{address_text}
+use Rattle.fs_parse.specs.PrefixParts.{v4_parts}
+use Rattle.fs_words.specs.Prefixes.{address_text, v4_text}
 use Rattle.fs_parse.proofs.Runs.{run_first}
 use Rattle.fs_parse.proofs.Numerals.{plain_digits}
 
@@ -38,7 +39,7 @@ digit_plain (suc (suc (suc (suc (suc (suc (suc (suc (suc (suc (suc (suc (suc (su
 digit_plain (suc (suc (suc (suc (suc (suc (suc (suc (suc (suc (suc (suc (suc (suc (suc zero))))))))))))))) h = refl
 digit_plain (suc (suc (suc (suc (suc (suc (suc (suc (suc (suc (suc (suc (suc (suc (suc (suc n)))))))))))))))) h = absurd (omega arith)
 
-plain_octets : (xs : List ℕ) → IsOctets xs → AllByRecursion (λ o. is_plain o ≡ true) (encode_lower xs)
+pub plain_octets : (xs : List ℕ) → IsOctets xs → AllByRecursion (λ o. is_plain o ≡ true) (encode_lower xs)
 unfolding encode_with
 plain_octets [] h = tt
 plain_octets (x ∷ xs) h =
@@ -64,22 +65,32 @@ two_runs first last a b = run_mark first last 58 a refl ∙ ap (λ (l : List Par
 small_octet : (n k : ℕ) → n / k % 256 < 2 ^ 64
 small_octet n k = let h : n / k % 256 < 256 = mod-lt (n / k) (omega arith) in omega arith
 
-dotted : (a b c d n : List ℕ) → IsRun a → IsRun b → IsRun c → IsRun d → IsRun n
-    → parts_of ((a ++ 46 ∷ (b ++ 46 ∷ (c ++ 46 ∷ d))) ++ 58 ∷ n) ≡ Run a ∷ Mark 46 ∷ Run b ∷ Mark 46 ∷ Run c ∷ Mark 46 ∷ Run d ∷ Mark 58 ∷ Run n ∷ []
-dotted a b c d n p q r s t =
-    let third : (c ++ 46 ∷ d) ++ 58 ∷ n ≡ c ++ 46 ∷ (d ++ 58 ∷ n) = append_assoc c (46 ∷ d) (58 ∷ n) in
-    let second : (b ++ 46 ∷ (c ++ 46 ∷ d)) ++ 58 ∷ n ≡ b ++ 46 ∷ (c ++ 46 ∷ (d ++ 58 ∷ n)) =
-    append_assoc b (46 ∷ (c ++ 46 ∷ d)) (58 ∷ n) ∙ ap (λ (l : List ℕ). b ++ 46 ∷ l) third in
-    let first : (a ++ 46 ∷ (b ++ 46 ∷ (c ++ 46 ∷ d))) ++ 58 ∷ n ≡ a ++ 46 ∷ (b ++ 46 ∷ (c ++ 46 ∷ (d ++ 58 ∷ n))) =
-    append_assoc a (46 ∷ (b ++ 46 ∷ (c ++ 46 ∷ d))) (58 ∷ n) ∙ ap (λ (l : List ℕ). a ++ 46 ∷ l) second in
-    ap parts_of first ∙ run_mark a (b ++ 46 ∷ (c ++ 46 ∷ (d ++ 58 ∷ n))) 46 p refl
-    ∙ ap (λ (l : List Part). Run a ∷ Mark 46 ∷ l) (run_mark b (c ++ 46 ∷ (d ++ 58 ∷ n)) 46 q refl)
-    ∙ ap (λ (l : List Part). Run a ∷ Mark 46 ∷ Run b ∷ Mark 46 ∷ l) (run_mark c (d ++ 58 ∷ n) 46 r refl)
-    ∙ ap (λ (l : List Part). Run a ∷ Mark 46 ∷ Run b ∷ Mark 46 ∷ Run c ∷ Mark 46 ∷ l) (run_mark d n 58 s refl)
-    ∙ ap (λ (l : List Part). Run a ∷ Mark 46 ∷ Run b ∷ Mark 46 ∷ Run c ∷ Mark 46 ∷ Run d ∷ Mark 58 ∷ l) (one_run n t)
+dotted : (a b c d n : List ℕ) (mark : ℕ) → is_plain mark ≡ false → IsRun a → IsRun b → IsRun c → IsRun d → IsRun n
+    → parts_of ((a ++ 46 ∷ (b ++ 46 ∷ (c ++ 46 ∷ d))) ++ mark ∷ n) ≡ Run a ∷ Mark 46 ∷ Run b ∷ Mark 46 ∷ Run c ∷ Mark 46 ∷ Run d ∷ Mark mark ∷ Run n ∷ []
+dotted a b c d n mark is p q r s t =
+    let third : (c ++ 46 ∷ d) ++ mark ∷ n ≡ c ++ 46 ∷ (d ++ mark ∷ n) = append_assoc c (46 ∷ d) (mark ∷ n) in
+    let second : (b ++ 46 ∷ (c ++ 46 ∷ d)) ++ mark ∷ n ≡ b ++ 46 ∷ (c ++ 46 ∷ (d ++ mark ∷ n)) =
+    append_assoc b (46 ∷ (c ++ 46 ∷ d)) (mark ∷ n) ∙ ap (λ (l : List ℕ). b ++ 46 ∷ l) third in
+    let first : (a ++ 46 ∷ (b ++ 46 ∷ (c ++ 46 ∷ d))) ++ mark ∷ n ≡ a ++ 46 ∷ (b ++ 46 ∷ (c ++ 46 ∷ (d ++ mark ∷ n))) =
+    append_assoc a (46 ∷ (b ++ 46 ∷ (c ++ 46 ∷ d))) (mark ∷ n) ∙ ap (λ (l : List ℕ). a ++ 46 ∷ l) second in
+    ap parts_of first ∙ run_mark a (b ++ 46 ∷ (c ++ 46 ∷ (d ++ mark ∷ n))) 46 p refl
+    ∙ ap (λ (l : List Part). Run a ∷ Mark 46 ∷ l) (run_mark b (c ++ 46 ∷ (d ++ mark ∷ n)) 46 q refl)
+    ∙ ap (λ (l : List Part). Run a ∷ Mark 46 ∷ Run b ∷ Mark 46 ∷ l) (run_mark c (d ++ mark ∷ n) 46 r refl)
+    ∙ ap (λ (l : List Part). Run a ∷ Mark 46 ∷ Run b ∷ Mark 46 ∷ Run c ∷ Mark 46 ∷ l) (run_mark d n mark s is)
+    ∙ ap (λ (l : List Part). Run a ∷ Mark 46 ∷ Run b ∷ Mark 46 ∷ Run c ∷ Mark 46 ∷ Run d ∷ Mark mark ∷ l) (one_run n t)
 
-pub ip4_runs : (address number : ℕ) → number < 2 ^ 64 → parts_of (address_text address ++ (codes ":" ++ decimal number)) ≡ ip4_parts address number
-ip4_runs address number small =
-    dotted (decimal (address / 16777216 % 256)) (decimal (address / 65536 % 256)) (decimal (address / 256 % 256)) (decimal (address % 256)) (decimal number)
+-- an address, a mark and a number
+address_runs : (address number mark : ℕ) → is_plain mark ≡ false → number < 2 ^ 64
+    → parts_of (address_text address ++ mark ∷ decimal number)
+    ≡ Run (decimal (address / 2 ^ 24 % 256)) ∷ Mark 46 ∷ Run (decimal (address / 2 ^ 16 % 256)) ∷ Mark 46
+    ∷ Run (decimal (address / 2 ^ 8 % 256)) ∷ Mark 46 ∷ Run (decimal (address % 256)) ∷ Mark mark ∷ Run (decimal number) ∷ []
+address_runs address number mark is small =
+    dotted (decimal (address / 16777216 % 256)) (decimal (address / 65536 % 256)) (decimal (address / 256 % 256)) (decimal (address % 256)) (decimal number) mark is
     (run_decimal (address / 16777216 % 256) (small_octet address 16777216)) (run_decimal (address / 65536 % 256) (small_octet address 65536))
     (run_decimal (address / 256 % 256) (small_octet address 256)) (run_decimal (address % 256) (let h : address % 256 < 256 = mod-lt address (omega arith) in omega arith)) (run_decimal number small)
+
+pub ip4_runs : (address number : ℕ) → number < 2 ^ 64 → parts_of (address_text address ++ (codes ":" ++ decimal number)) ≡ ip4_parts address number
+ip4_runs address number small = address_runs address number 58 refl small
+
+pub v4_runs : (len bits : ℕ) → len < 2 ^ 64 → parts_of (v4_text len bits) ≡ v4_parts len bits
+v4_runs len bits small = address_runs bits len 47 refl small

@@ -1,10 +1,12 @@
 -- A component by its name and its word.
 use Rattle.std.specs.Prelude.{◌≡◌, ℕ, List, Option, Some, None}
+use Rattle.std.specs.Option.{option_map}
 use Rattle.fs_base.specs.declared.prefix.Family.{Family}
+use Rattle.fs_base.specs.declared.prefix.Family.TheVariants.{V4, V6}
 use Rattle.fs_nlri.specs.declared.component.Component.{Component}
 use Rattle.fs_nlri.specs.Component.{part_of}
 use Rattle.fs_nlri.specs.Forms.{form_of}
-use Rattle.fs_nlri.specs.Parts.{Part}
+use Rattle.fs_nlri.specs.Parts.{Body, Part, part}
 use Rattle.fs_nlri.specs.Rule.{IsNormalAt}
 use Rattle.fs_words.specs.Values.{component_name, value_text}
 
@@ -12,12 +14,6 @@ use Rattle.fs_words.specs.Values.{component_name, value_text}
 pub record IsPart (family : Family) (name : List ℕ) (part : Part) : Type 0 where
   pub normal : IsNormalAt (form_of family part.kind) part.body
   pub named : component_name part.kind ≡ name
-
-abbrev pub IsComponent : Family → List ℕ → Component → Type 0
-IsComponent family name component = IsPart family name (part_of component)
-
-abbrev pub component_text : Component → List ℕ
-component_text component = value_text (part_of component)
 
 -- whether this is the name and this the word
 abbrev pub Matched : (name word : List ℕ) → Part → Option Component → Type 0
@@ -27,4 +23,24 @@ Matched name word part (Some own) = (part_of own ≡ part) × (component_name pa
 -- the same, and whether the component is the family's and in normal form
 abbrev pub Compared : Family → (name word : List ℕ) → Part → Option Component → Type 0
 Compared family name word part None = IsPart family name part → word ≡ value_text part → ⊥
-Compared family name word part (Some own) = IsComponent family name own × (word ≡ component_text own)
+Compared family name word part (Some own) = IsPart family name (part_of own) × (word ≡ value_text (part_of own))
+
+-- what is read loosely: of the word of a component of this type, the component
+abbrev pub Loosely : Family → (kind : ℕ) → (word : List ℕ) → Option Component → Type 0
+Loosely family kind word read =
+    (own : Part) → own.kind ≡ kind → IsNormalAt (form_of family own.kind) own.body → word ≡ value_text own → option_map part_of read ≡ Some own
+
+-- the types are those from 1 up to this one (RFC 8955 section 4.2.2, RFC 8956 section 3)
+abbrev pub last_type : Family → ℕ
+last_type V4 = 12
+last_type V6 = 13
+
+-- all components of this name have this type, and there is one
+pub record HasType (family : Family) (name : List ℕ) (kind : ℕ) : Type 0 where
+  pub body : Body
+  pub named : IsPart family name (part kind body)
+  pub only : (own : Part) → IsPart family name own → own.kind ≡ kind
+
+abbrev pub IsTypeNamed : Family → (name : List ℕ) → Option ℕ → Type 0
+IsTypeNamed family name None = (own : Part) → IsPart family name own → ⊥
+IsTypeNamed family name (Some kind) = HasType family name kind

@@ -5,3 +5,7 @@ pub mod ActionWord
 pub mod ActionParts
 pub mod ListWord
 pub mod Components
+pub mod PrefixParts
+pub mod Text
+pub mod Steps
+pub mod Progress

@@ -12,7 +12,7 @@ ghost use Rattle.fs_parse.specs.Pieces.{Mark, Part, Run, parts_of};
 ghost use Rattle.fs_parse.specs.Reading.{Reads};
 ghost use Rattle.fs_parse.specs.Shown.{shown};
 
-use crate::figures::{loose_decimal, loose_figure};
+use crate::figures::{loose_address, loose_decimal, loose_figure};
 use crate::parts::{Piece, parts_of};
 use byteorder::{BigEndian, ByteOrder};
 use fs_actions::Action;
@@ -119,33 +119,6 @@ fn loose_as4(parts: &[Piece<'_>]) -> Option<[u8; 8]>
                 _ => None,
             }
         }
-        _ => None,
-    }
-}
-
-/// An octet in decimal.
-fn loose_octet(word: &[u8]) -> Option<u8>
-    ensures { (n : ℕ) → n < 256 → word.now ≡ decimal n → result ≡ Some n }
-{
-    match loose_decimal(word) {
-        Some(number) => u8::try_from(number).ok(),
-        None => None,
-    }
-}
-
-/// The address of four octets in decimal.
-pub(crate) fn loose_address(a: &[u8], b: &[u8], c: &[u8], d: &[u8]) -> Option<u32>
-    ensures { (n : ℕ) → n < 2 ^ 32
-        → a.now ≡ decimal (n / 2 ^ 24 % 256) → b.now ≡ decimal (n / 2 ^ 16 % 256)
-        → c.now ≡ decimal (n / 2 ^ 8 % 256) → d.now ≡ decimal (n % 256) → result ≡ Some n }
-{
-    match (
-        loose_octet(a),
-        loose_octet(b),
-        loose_octet(c),
-        loose_octet(d),
-    ) {
-        (Some(a), Some(b), Some(c), Some(d)) => Some(u32::from_be_bytes([a, b, c, d])),
         _ => None,
     }
 }
@@ -275,7 +248,7 @@ fn compared(
     }
 }
 
-/// The action of this name whose word this is; None where no action has them.
+/// The one action of this name whose word this is; None where no action has them.
 pub fn read_action(alloc: Global, name: &str, word: &str) -> Result<Option<Action>, Memory>
     ensures { IfOk result (Reads (IsNamed name.now) action_text word.now) }
 {

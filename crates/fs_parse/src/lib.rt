@@ -1,15 +1,21 @@
-//! The words of actions in rule texts, read: each action has one name and one word, and what is read is the action of
-//! these.
+//! The words of rule texts, read: each component and each action has one name and one word, and what is read is the
+//! component or the action of these.
 //!
-//! A reader cuts the word into parts, makes a value of them loosely, prints it, and compares: so it takes nothing but the
-//! one word of a value.
+//! A reader cuts the word into parts, makes a value of them loosely, prints it, and compares: so it takes nothing but
+//! the one word of a value.
 #![tactic(auto)]
 
 mod actions;
+mod fault;
 mod figures;
 mod lists;
 mod parts;
+mod prefixes;
+mod steps;
+mod text;
 mod values;
 
 pub use actions::read_action;
-pub use values::read_list;
+pub use fault::TextFault;
+pub use text::read;
+pub use values::{component_type, read_component};

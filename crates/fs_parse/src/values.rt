@@ -1,29 +1,34 @@
 //! The words of components, read (RFC 8955 section 4.2.2, RFC 8956 section 3).
 
-ghost use Rattle.std.specs.Prelude.{◌≡◌, ◌<◌, ◌≤◌, ℕ, List, Some, IfOk, codes};
+ghost use Rattle.std.specs.Prelude.{◌≡◌, ◌<◌, ◌≤◌, ℕ, List, Some, IfOk};
 ghost use Rattle.std.specs.Option.{option_map};
 ghost use Rattle.fs_ops.specs.declared.kind.Kind.TheVariants.{Numeric, Bitmask};
 ghost use Rattle.fs_ops.specs.OperatorList.{IsNormal};
-ghost use Rattle.fs_nlri.specs.Component.{part_of};
+ghost use Rattle.fs_nlri.specs.Component.{body_of, part_of};
 ghost use Rattle.fs_nlri.specs.Parts.{ListBody, part};
 ghost use Rattle.fs_nlri.specs.Sound.{IsSoundBody};
 ghost use Rattle.fs_words.specs.Operators.{list_text};
 ghost use Rattle.fs_words.specs.Values.{component_name, list_kind, value_text};
-ghost use Rattle.fs_parse.specs.Components.{Compared, IsComponent, Matched, component_text};
+ghost use Rattle.fs_parse.specs.Components.{Compared, IsPart, IsTypeNamed, Loosely, Matched, last_type};
 ghost use Rattle.fs_parse.specs.Reading.{Reads};
 
 use crate::lists::loose_pairs;
+use crate::parts::parts_of;
+use crate::prefixes::loose_prefix;
 use fs_base::{Family, Memory};
-use fs_nlri::Component;
+use fs_nlri::{Component, PrefixForm};
 use fs_ops::{Kind, MaskList, NumList};
 use fs_words::{component_name, print_value};
 use std::alloc::Global;
 
-/// The type whose list has this name.
+/// The type that has this name.
 fn loose_kind(name: &str) -> u8
-    ensures { (kind : ℕ) → 2 < kind → kind ≤ 13 → component_name kind ≡ name.now → result ≡ kind }
+    ensures some { 1 ≤ result }
+    ensures value { (kind : ℕ) → 1 ≤ kind → kind ≤ 13 → component_name kind ≡ name.now → result ≡ kind }
 {
     match name {
+        "dst" => 1,
+        "src" => 2,
         "proto" => 3,
         "port" => 4,
         "dport" => 5,
@@ -35,6 +40,28 @@ fn loose_kind(name: &str) -> u8
         "dscp" => 11,
         "frag" => 12,
         _ => 13,
+    }
+}
+
+/// The greatest type that the family has.
+fn last_type(family: Family) -> u8
+    ensures { result ≡ last_type family }
+{
+    match family {
+        Family::V4 => 12,
+        Family::V6 => 13,
+    }
+}
+
+/// The type of the family's components that have this name; None where none has it.
+pub fn component_type(family: Family, name: &str) -> Option<u8>
+    ensures { IsTypeNamed family name.now result }
+{
+    let kind = loose_kind(name);
+    if kind <= last_type(family) && component_name(kind) == name {
+        Some(kind)
+    } else {
+        None
     }
 }
 
@@ -123,6 +150,53 @@ fn loose_list(alloc: Global, kind: u8, word: &str) -> Result<Option<Component>, 
     }
 }
 
+/// The component of this type with a prefix.
+fn of_prefix(kind: u8, form: PrefixForm) -> Component
+    requires low { 1 ≤ kind }
+    requires high { kind ≤ 2 }
+    ensures { part_of result ≡ part kind (body_of form) }
+{
+    match kind {
+        1 => Component::Destination(form),
+        _ => Component::Source(form),
+    }
+}
+
+/// The component of this type whose prefix has this word.
+fn loose_prefixed(
+    alloc: Global,
+    family: Family,
+    kind: u8,
+    word: &str,
+) -> Result<Option<Component>, Memory>
+    requires low { 1 ≤ kind }
+    requires high { kind ≤ 2 }
+    ensures { IfOk result (Loosely family kind word.now) }
+{
+    let parts = parts_of(alloc, word.as_bytes())?;
+    match loose_prefix(family, &parts) {
+        Some(form) => Ok(Some(of_prefix(kind, form))),
+        None => Ok(None),
+    }
+}
+
+/// The component of this type that has this word.
+fn loose_value(
+    alloc: Global,
+    family: Family,
+    kind: u8,
+    word: &str,
+) -> Result<Option<Component>, Memory>
+    requires { 1 ≤ kind }
+    ensures { IfOk result (Loosely family kind word.now) }
+{
+    if kind <= 2 {
+        loose_prefixed(alloc, family, kind, word)
+    } else {
+        loose_list(alloc, kind, word)
+    }
+}
+
 /// The component, if this is its name and its word.
 fn matched(
     alloc: Global,
@@ -158,17 +232,17 @@ fn compared(
     }
 }
 
-/// The component of this name whose word this is, where the name is no prefix's; None where the family has none.
-pub fn read_list(
+/// The one component of this name whose word this is; None where the family has none.
+pub fn read_component(
     alloc: Global,
     family: Family,
     name: &str,
     word: &str,
 ) -> Result<Option<Component>, Memory>
-    ensures { (name.now ≡ codes "dst" → ⊥) → (name.now ≡ codes "src" → ⊥)
-        → IfOk result (Reads (IsComponent family name.now) component_text word.now) }
+    ensures { IfOk result (λ read.
+        Reads (IsPart family name.now) value_text word.now (option_map part_of read)) }
 {
-    match loose_list(alloc, loose_kind(name), word)? {
+    match loose_value(alloc, family, loose_kind(name), word)? {
         Some(component) => compared(alloc, family, name, word, component),
         None => Ok(None),
     }
