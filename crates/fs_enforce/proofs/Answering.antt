@@ -7,16 +7,13 @@ use Rattle.fs_records.specs.Records.{End, done, limited, bad}
 use Rattle.fs_base.proofs.Grew.{Grew-refl, Grew-trans, part_whole, part_none, part_more}
 use Rattle.fs_line.specs.Output.{Goes}
 use Rattle.fs_line.proofs.Outputs.{goes_flush, goes_flush_part}
-use Rattle.fs_pcap.specs.declared.link.Link.{Link}
-use Rattle.fs_records.specs.Opening.{Opens}
-use Rattle.fs_pcap.specs.Capture.{Captured, CaptureState, Recorded, capture_of, coming, heading_of, packets_to_come, recorded}
-use Rattle.fs_pcap.specs.declared.header.Heading.{Heading}
-use Rattle.fs_pcap.specs.declared.fault.CaptureReason.{CaptureReason}
+use Rattle.fs_capture.specs.Capture.{Begins, Captured, CaptureState, Recorded, capture_of, captured_in, coming, recorded}
+use Rattle.fs_capture.specs.declared.fault.CaptureReason.{CaptureReason}
 use Rattle.fs_records.specs.declared.fault.Fault.{Fault}
 use Rattle.fs_records.specs.declared.fault.Fault.TheVariants.{Read, Limit, Bad}
 use Rattle.fs_rules.specs.Table.{Held}
 use Rattle.fs_stages.proofs.Stages.{answers_for, answers_memory, answers_outside, no_octets, rose_earlier, rose_later, take_nothing}
-use Rattle.fs_enforce.specs.Judge.{refused_by, capture_stage, status_at, Partly, Breaks, verdict_of, rules_by, lines_from, lines_of}
+use Rattle.fs_enforce.specs.Judge.{refused_by, capture_stage, status_at, Partly, Breaks, verdict_of, rules_by, lines_from}
 use Rattle.fs_stages.specs.Load.{Names}
 use Rattle.fs_stages.specs.Refusal.{Verdict, answered, Answers, Stage, Found, and_then, or_stop, status_of, HasReason}
 use Rattle.fs_stages.specs.declared.refusal.Refusal.{Refusal}
@@ -34,27 +31,21 @@ answers_stopped held stage failed a refusal (inr (inr h)) = answers_outside (ver
 pub found_capture : (limit : ℕ) (holds : Names) (name octets : List ℕ) → holds name ≡ Some octets → capture_stage limit holds name ≡ Found (capture_of limit octets)
 found_capture limit holds name octets h = ap (λ (c : Option (List ℕ)). and_then (or_stop Outside c) (λ z. Found (capture_of limit z))) h
 
-abbrev pub opens_to : (limit : ℕ) (octets : List ℕ) → Result Heading (End CaptureReason) → Recorded
-opens_to limit octets o = elim o [
-  | Ok heading ↦ recorded heading.link (packets_to_come heading limit 24 0 (drop 24 octets))
-  | Err end ↦ record { link = None; packets = []; end = end }
-]
-
--- a capture whose header has a fault
+-- a capture that can't be opened
 answers_ended : (held : ℕ → Held) (limit : ℕ) (holds : Names) (name octets : List ℕ) (failed : Type 0) (a : Option (List ℕ)) (end : End CaptureReason) (refusal : Refusal)
-    → holds name ≡ Some octets → heading_of limit octets ≡ Err end → status_of refusal ≡ status_at end
+    → holds name ≡ Some octets → captured_in limit octets ≡ ([], end) → status_of refusal ≡ status_at end
     → Answers (verdict_of held (capture_stage limit holds name)) failed a a (status_of refusal)
 answers_ended held limit holds name octets failed a end refusal h o e =
     subst (λ (s : Stage Recorded). Answers (verdict_of held s) failed a a (status_of refusal))
-    (sym (found_capture limit holds name octets h ∙ ap (λ (r : Result Heading (End CaptureReason)). Found (opens_to limit octets r)) o))
+    (sym (found_capture limit holds name octets h ∙ ap (λ (r : List Captured × End CaptureReason). Found (recorded r)) o))
     (record { status_is = inl e; part = part_none a a [] (Grew-refl a); whole = λ six one. Grew-refl a })
 
-pub answers_fault : {T : Type 0} (held : ℕ → Held) (limit : ℕ) (holds : Names) (name octets left : List ℕ) (failed : Type 0) (a : Option (List ℕ)) (heading : T → Heading) (fault : Fault CaptureReason)
-    → holds name ≡ Some octets → Opens heading (heading_of limit octets) (drop 24 octets) left (Err fault) → (fault ≡ Read → failed)
+pub answers_fault : {T : Type 0} (held : ℕ → Held) (limit : ℕ) (holds : Names) (name octets : List ℕ) (failed : Type 0) (a : Option (List ℕ)) (coming : T → List Captured × End CaptureReason) (fault : Fault CaptureReason)
+    → holds name ≡ Some octets → Begins (captured_in limit octets) coming (Err fault) → (fault ≡ Read → failed)
     → Answers (verdict_of held (capture_stage limit holds name)) failed a a (status_of (refused_by fault))
-answers_fault held limit holds name octets left failed a heading Read h o f = answers_outside (verdict_of held (capture_stage limit holds name)) failed a Outside refl (f refl)
-answers_fault held limit holds name octets left failed a heading Limit h o f = answers_ended held limit holds name octets failed a limited (refused_by Limit) h o refl
-answers_fault held limit holds name octets left failed a heading (Bad reason place) h o f = answers_ended held limit holds name octets failed a (bad reason place) (refused_by (Bad reason place)) h o refl
+answers_fault held limit holds name octets failed a coming Read h o f = answers_outside (verdict_of held (capture_stage limit holds name)) failed a Outside refl (f refl)
+answers_fault held limit holds name octets failed a coming Limit h o f = answers_ended held limit holds name octets failed a limited (refused_by Limit) h o refl
+answers_fault held limit holds name octets failed a coming (Bad reason place) h o f = answers_ended held limit holds name octets failed a (bad reason place) (refused_by (Bad reason place)) h o refl
 
 -- a front, and then nothing
 part_nothing : (a b c : Option (List ℕ)) (xs : List ℕ) → GrewPart a b xs → GrewPart b c no_octets → GrewPart a c xs
@@ -101,43 +92,33 @@ answers_flushed end before mid now pending text failed (Err refusal) (inr h) gre
     text_broken end text failed before now refusal h.0 h.1.0 (partly_flushed before mid now pending text h.1.1 (part_whole mid now pending grew))
 
 -- under these routes, of a capture's packets and its end
-abbrev under : (ℕ → Held) → Option Link → List Captured × End CaptureReason → Verdict
-under held link found = record { status = status_at found.1; text = lines_of (rules_by held) link found.0 }
-
--- of an opened capture
-opened_verdict : (held : ℕ → Held) (limit : ℕ) (holds : Names) (name octets left : List ℕ) (heading : Heading) (link : Link)
-    → holds name ≡ Some octets → (heading_of limit octets ≡ Ok heading) × (left ≡ drop 24 octets) → link ≡ heading.link
-    → verdict_of held (capture_stage limit holds name)
-    ≡ record { status = status_at (packets_to_come heading limit 24 0 left).1; text = lines_from 0 (rules_by held) link (packets_to_come heading limit 24 0 left).0 }
-opened_verdict held limit holds name octets left heading link h o l =
-    ap (verdict_of held) (found_capture limit holds name octets h ∙ ap (λ (r : Result Heading (End CaptureReason)). Found (opens_to limit octets r)) o.0)
-    ∙ ap (λ (z : List ℕ). verdict_of held (Found (recorded heading.link (packets_to_come heading limit 24 0 z)))) (sym o.1)
-    ∙ ap (λ (k : Link). under held (Some k) (packets_to_come heading limit 24 0 left)) (sym l)
+abbrev under : (ℕ → Held) → List Captured × End CaptureReason → Verdict
+under held found = record { status = status_at found.1; text = lines_from 0 (rules_by held) found.0 }
 
 -- A capture that was opened in a slot of the files.
 
--- its header has a fault
-pub answers_unopened : {T : Type 0} (held : ℕ → Held) (limit : ℕ) (holds : Names) (name : List ℕ) (before after : ℕ → List ℕ) (slot counted : ℕ) (failed : Type 0) (a : Option (List ℕ)) (heading : T → Heading) (fault : Fault CaptureReason)
-    → slot ≡ 2 → holds name ≡ Some (before 2) → counted ≡ limit → Opens heading (heading_of counted (before slot)) (drop 24 (before slot)) (after slot) (Err fault) → (fault ≡ Read → failed)
+-- its front has a fault
+pub answers_unopened : {T : Type 0} (held : ℕ → Held) (limit : ℕ) (holds : Names) (name : List ℕ) (before : ℕ → List ℕ) (slot counted : ℕ) (failed : Type 0) (a : Option (List ℕ)) (coming : T → List Captured × End CaptureReason) (fault : Fault CaptureReason)
+    → slot ≡ 2 → holds name ≡ Some (before 2) → counted ≡ limit → Begins (captured_in counted (before slot)) coming (Err fault) → (fault ≡ Read → failed)
     → Answers (verdict_of held (capture_stage limit holds name)) failed a a (status_of (refused_by fault))
-answers_unopened held limit holds name before after slot counted failed a heading fault two h l o f =
-    answers_fault held limit holds name (before slot) (after slot) failed a heading fault
-    (h ∙ ap (λ (n : ℕ). Some (before n)) (sym two)) (subst (λ (n : ℕ). Opens heading (heading_of n (before slot)) (drop 24 (before slot)) (after slot) (Err fault)) l o) f
+answers_unopened held limit holds name before slot counted failed a coming fault two h l o f =
+    answers_fault held limit holds name (before slot) failed a coming fault
+    (h ∙ ap (λ (n : ℕ). Some (before n)) (sym two)) (subst (λ (n : ℕ). Begins (captured_in n (before slot)) coming (Err fault)) l o) f
 
 pub answers_early : (held : ℕ → Held) (stage : Stage Recorded) (failed : Type 0) (a : Option (List ℕ)) {T : Type 0} (r : Result T Refusal) → IsErrAnd r (λ e. e ≡ Memory) → Answers (verdict_of held stage) failed a a (answered r)
 answers_early held stage failed a (Ok t) h = absurd h
 answers_early held stage failed a (Err e) h = answers_memory (verdict_of held stage) failed a e h
 
 -- what it is to answer and write
-pub read_verdict : (held : ℕ → Held) (limit : ℕ) (holds : Names) (name : List ℕ) (before after : ℕ → List ℕ) (slot counted : ℕ) (capture : CaptureState) (link : Link)
-    → slot ≡ 2 → holds name ≡ Some (before 2) → counted ≡ limit → (heading_of counted (before slot) ≡ Ok capture.heading) × (after slot ≡ drop 24 (before slot))
-    → capture.slot ≡ slot → capture.limit ≡ counted → capture.place ≡ 24 → capture.moment ≡ 0 → link ≡ capture.heading.link
+pub read_verdict : (held : ℕ → Held) (limit : ℕ) (holds : Names) (name : List ℕ) (before after : ℕ → List ℕ) (slot counted : ℕ) (capture : CaptureState)
+    → slot ≡ 2 → holds name ≡ Some (before 2) → counted ≡ limit → captured_in counted (before slot) ≡ coming capture (after slot) → capture.slot ≡ slot
     → verdict_of held (capture_stage limit holds name)
-    ≡ record { status = status_at (coming capture (after capture.slot)).1; text = lines_from 0 (rules_by held) link (coming capture (after capture.slot)).0 }
-read_verdict held limit holds name before after slot counted capture link two h l o s c p m known =
-    opened_verdict held limit holds name (before slot) (after slot) capture.heading link (h ∙ ap (λ (n : ℕ). Some (before n)) (sym two))
-    (subst (λ (n : ℕ). heading_of n (before slot) ≡ Ok capture.heading) l o.0, o.1) known
-    ∙ (λ i. under held (Some link) (packets_to_come capture.heading (sym (c ∙ l) i) (sym p i) (sym m i) (after (sym s i))))
+    ≡ record { status = status_at (coming capture (after capture.slot)).1; text = lines_from 0 (rules_by held) (coming capture (after capture.slot)).0 }
+read_verdict held limit holds name before after slot counted capture two h l o s =
+    ap (verdict_of held) (found_capture limit holds name (before slot) (h ∙ ap (λ (n : ℕ). Some (before n)) (sym two)))
+    ∙ ap (λ (n : ℕ). under held (captured_in n (before slot))) (sym l)
+    ∙ ap (under held) o
+    ∙ ap (λ (n : ℕ). under held (coming capture (after n))) (sym s)
 
 -- What judging the packets did and what writing out did, as the answer of the whole.
 

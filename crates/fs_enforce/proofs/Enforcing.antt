@@ -3,8 +3,8 @@ use Rattle.std.proofs.Common.{◌≡◌, ◌⊎◌, inl, inr, ◌∙◌, ℕ, Li
 use Rattle.fs_base.specs.Sink.{Grew}
 use Rattle.fs_base.proofs.Grew.{Grew-refl}
 use Rattle.fs_records.specs.Records.{End, done, limited, bad}
-use Rattle.fs_pcap.specs.Capture.{Recorded, capture_of}
-use Rattle.fs_pcap.specs.declared.fault.CaptureReason.{CaptureReason}
+use Rattle.fs_capture.specs.Capture.{Recorded, capture_of}
+use Rattle.fs_capture.specs.declared.fault.CaptureReason.{CaptureReason}
 use Rattle.fs_base.specs.declared.config.Config.{Config}
 use Rattle.fs_rules.specs.Table.{Held}
 use Rattle.fs_tape.specs.Tape.{Timed}

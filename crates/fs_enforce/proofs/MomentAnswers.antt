@@ -9,14 +9,11 @@ use Rattle.fs_base.specs.declared.config.Config.{Config}
 use Rattle.fs_base.proofs.Grew.{Grew-refl, part_whole, part_none}
 use Rattle.fs_records.specs.Records.{End, limited, bad}
 use Rattle.fs_base.specs.Outside.{Rose}
-use Rattle.fs_records.specs.Opening.{Opens}
 use Rattle.fs_records.specs.declared.fault.Fault.{Fault}
 use Rattle.fs_records.specs.declared.fault.Fault.TheVariants.{Read, Limit, Bad}
 use Rattle.fs_line.proofs.Outputs.{goes_flush, goes_flush_part}
-use Rattle.fs_pcap.specs.Capture.{Captured, CaptureState, Recorded, heading_of, packets_to_come, recorded}
-use Rattle.fs_pcap.specs.declared.header.Heading.{Heading}
-use Rattle.fs_pcap.specs.declared.fault.CaptureReason.{CaptureReason}
-use Rattle.fs_pcap.specs.declared.link.Link.{Link}
+use Rattle.fs_capture.specs.Capture.{Begins, Captured, CaptureState, Recorded, captured_in, coming, recorded}
+use Rattle.fs_capture.specs.declared.fault.CaptureReason.{CaptureReason}
 use Rattle.fs_rules.specs.Table.{Held}
 use Rattle.fs_tape.specs.Tape.{Timed}
 use Rattle.fs_tape.specs.declared.magic.Version.TheVariants.{One}
@@ -29,18 +26,14 @@ use Rattle.fs_stages.specs.Load.{Names}
 use Rattle.fs_stages.specs.Player.{IsUnplayed}
 use Rattle.fs_stages.proofs.LookingAhead.{rose_on}
 use Rattle.fs_stages.proofs.Stages.{answers_for, rose_earlier, rose_later}
-use Rattle.fs_enforce.specs.Judge.{always, capture_stage, lines_of, refused_by, rules_by, status_at, verdict_of}
+use Rattle.fs_enforce.specs.Judge.{always, capture_stage, lines_from, refused_by, rules_by, status_at, verdict_of}
 use Rattle.fs_enforce.specs.Moments.{AnswersAt, BreaksBehind, CameTo, EndsBefore, HoldAt, IsCaptureOpened, JudgesSo, came_lines, packets_of, verdict_at}
-use Rattle.fs_enforce.proofs.Answering.{found_capture, opens_to, partly_flushed}
+use Rattle.fs_enforce.proofs.Answering.{found_capture, partly_flushed}
 
 -- of no packets there are no lines
 
-none_lines : (held : ℕ → Held) (link : Option Link) → lines_of (rules_by held) link [] ≡ []
-none_lines held None = refl
-none_lines held (Some link) = refl
-
 none_text : (held : ℕ → Held) (stage : Stage Recorded) → (verdict_at held [] stage).text ≡ []
-none_text held (Found capture) = none_lines held capture.link
+none_text held (Found capture) = refl
 none_text held (Stopped refusal) = refl
 
 take_none : (packets : List Captured) → take 0 packets ≡ []
@@ -138,28 +131,28 @@ at_for config items stage failed failed' before now answer a f = record {
 all_of : (packets : List Captured) → take (length packets) packets ≡ packets
 all_of packets = grind (arith, common_steps)
 
-whole_lines : (config : Config) (items : List Timed) (link : Link) (found : List Captured × End CaptureReason) (failed : Type 0) (before now : Option (List ℕ)) (answer : ℕ) (came : CameTo config items found.0)
-    → (answer ≡ status_at found.1) ⊎ (answer ≡ 6) → (answer ≢ 6 → came.rest ≡ []) → Grew before now (came_lines link came)
-    → AnswersAt config items (Found (recorded link found)) failed before now answer
-whole_lines config items link found failed before now answer came status rest grew = record {
+whole_lines : (config : Config) (items : List Timed) (found : List Captured × End CaptureReason) (failed : Type 0) (before now : Option (List ℕ)) (answer : ℕ) (came : CameTo config items found.0)
+    → (answer ≡ status_at found.1) ⊎ (answer ≡ 6) → (answer ≢ 6 → came.rest ≡ []) → Grew before now (came_lines came)
+    → AnswersAt config items (Found (recorded found)) failed before now answer
+whole_lines config items found failed before now answer came status rest grew = record {
   came = came;
   answers = record {
     status_is = by status;
-    part = part_whole before now (came_lines link came) grew;
+    part = part_whole before now (came_lines came) grew;
     whole = λ six one. grew;
   };
   all = λ six one. rest six;
-  wanting = λ six. (length came.judged, subst (λ (packets : List Captured). Grew before now (lines_of (rules_by came.held) (Some link) packets)) (sym (all_of came.judged)) grew);
+  wanting = λ six. (length came.judged, subst (λ (packets : List Captured). Grew before now (lines_from 0 (rules_by came.held) packets)) (sym (all_of came.judged)) grew);
 }
   where
     by : (answer ≡ status_at found.1) ⊎ (answer ≡ 6) → (answer ≡ status_at found.1) ⊎ (answer ≡ 6) ⊎ ((answer ≡ 1) × failed)
     by (inl h) = inl h
     by (inr h) = inr (inl h)
 
-part_lines : (config : Config) (items : List Timed) (link : Link) (found : List Captured × End CaptureReason) (failed : Type 0) (before now : Option (List ℕ)) (refusal : Refusal) (came : CameTo config items found.0)
-    → refusal ≡ Outside → failed → GrewPart before now (came_lines link came)
-    → AnswersAt config items (Found (recorded link found)) failed before now (status_of refusal)
-part_lines config items link found failed before now refusal came e f part = record {
+part_lines : (config : Config) (items : List Timed) (found : List Captured × End CaptureReason) (failed : Type 0) (before now : Option (List ℕ)) (refusal : Refusal) (came : CameTo config items found.0)
+    → refusal ≡ Outside → failed → GrewPart before now (came_lines came)
+    → AnswersAt config items (Found (recorded found)) failed before now (status_of refusal)
+part_lines config items found failed before now refusal came e f part = record {
   came = came;
   answers = record {
     status_is = inr (inr (ap status_of e, f));
@@ -170,46 +163,46 @@ part_lines config items link found failed before now refusal came e f part = rec
   wanting = λ six. let wrong : 1 ≡ 6 = sym (ap status_of e) ∙ six in absurd cc;
 }
 
-flushed : {T : Type 0} (config : Config) (items : List Timed) (link : Link) (found : List Captured × End CaptureReason) (before mid now : Option (List ℕ)) (pending : List ℕ) (failed other : Type 0) (result : Result T Refusal)
-    → JudgesSo config items link found before mid [] pending failed result → Grew mid now pending → (failed → other)
-    → AnswersAt config items (Found (recorded link found)) other before now (answered result)
-flushed config items link found before mid now pending failed other (Ok value) w grew f =
-    whole_lines config items link found other before now 0 w.0 (inl (sym (ap status_at w.2))) (λ six. w.1) (goes_flush now w.3 grew)
-flushed config items link found before mid now pending failed other (Err refusal) w grew f = by w.1
+flushed : {T : Type 0} (config : Config) (items : List Timed) (found : List Captured × End CaptureReason) (before mid now : Option (List ℕ)) (pending : List ℕ) (failed other : Type 0) (result : Result T Refusal)
+    → JudgesSo config items found before mid [] pending failed result → Grew mid now pending → (failed → other)
+    → AnswersAt config items (Found (recorded found)) other before now (answered result)
+flushed config items found before mid now pending failed other (Ok value) w grew f =
+    whole_lines config items found other before now 0 w.0 (inl (sym (ap status_at w.2))) (λ six. w.1) (goes_flush now w.3 grew)
+flushed config items found before mid now pending failed other (Err refusal) w grew f = by w.1
   where
-    by : BreaksBehind found.1 link w.0 before mid [] pending failed refusal → AnswersAt config items (Found (recorded link found)) other before now (status_of refusal)
-    by (inl h) = whole_lines config items link found other before now (status_of refusal) w.0 (inl (sym h.0)) (λ six. h.1) (goes_flush now h.2 grew)
-    by (inr (inl h)) = whole_lines config items link found other before now (status_of refusal) w.0 (inr (ap status_of h.0)) (λ six. absurd (six (ap status_of h.0))) (goes_flush now h.1 grew)
-    by (inr (inr h)) = part_lines config items link found other before now refusal w.0 h.0 (f h.1) (partly_flushed before mid now pending (came_lines link w.0) h.2 (part_whole mid now pending grew))
+    by : BreaksBehind found.1 w.0 before mid [] pending failed refusal → AnswersAt config items (Found (recorded found)) other before now (status_of refusal)
+    by (inl h) = whole_lines config items found other before now (status_of refusal) w.0 (inl (sym h.0)) (λ six. h.1) (goes_flush now h.2 grew)
+    by (inr (inl h)) = whole_lines config items found other before now (status_of refusal) w.0 (inr (ap status_of h.0)) (λ six. absurd (six (ap status_of h.0))) (goes_flush now h.1 grew)
+    by (inr (inr h)) = part_lines config items found other before now refusal w.0 h.0 (f h.1) (partly_flushed before mid now pending (came_lines w.0) h.2 (part_whole mid now pending grew))
 
-unflushed : {T : Type 0} (config : Config) (items : List Timed) (link : Link) (found : List Captured × End CaptureReason) (before mid now : Option (List ℕ)) (pending : List ℕ) (failed other : Type 0) (result : Result T Refusal) (refusal : Refusal)
-    → JudgesSo config items link found before mid [] pending failed result → GrewPart mid now pending → other → refusal ≡ Outside
-    → AnswersAt config items (Found (recorded link found)) other before now (status_of refusal)
-unflushed config items link found before mid now pending failed other (Ok value) refusal w part o e =
-    part_lines config items link found other before now refusal w.0 e o (goes_flush_part now w.3 part)
-unflushed config items link found before mid now pending failed other (Err cause) refusal w part o e = by w.1
+unflushed : {T : Type 0} (config : Config) (items : List Timed) (found : List Captured × End CaptureReason) (before mid now : Option (List ℕ)) (pending : List ℕ) (failed other : Type 0) (result : Result T Refusal) (refusal : Refusal)
+    → JudgesSo config items found before mid [] pending failed result → GrewPart mid now pending → other → refusal ≡ Outside
+    → AnswersAt config items (Found (recorded found)) other before now (status_of refusal)
+unflushed config items found before mid now pending failed other (Ok value) refusal w part o e =
+    part_lines config items found other before now refusal w.0 e o (goes_flush_part now w.3 part)
+unflushed config items found before mid now pending failed other (Err cause) refusal w part o e = by w.1
   where
-    by : BreaksBehind found.1 link w.0 before mid [] pending failed cause → AnswersAt config items (Found (recorded link found)) other before now (status_of refusal)
-    by (inl h) = part_lines config items link found other before now refusal w.0 e o (goes_flush_part now h.2 part)
-    by (inr (inl h)) = part_lines config items link found other before now refusal w.0 e o (goes_flush_part now h.1 part)
-    by (inr (inr h)) = part_lines config items link found other before now refusal w.0 e o (partly_flushed before mid now pending (came_lines link w.0) h.2 part)
+    by : BreaksBehind found.1 w.0 before mid [] pending failed cause → AnswersAt config items (Found (recorded found)) other before now (status_of refusal)
+    by (inl h) = part_lines config items found other before now refusal w.0 e o (goes_flush_part now h.2 part)
+    by (inr (inl h)) = part_lines config items found other before now refusal w.0 e o (goes_flush_part now h.1 part)
+    by (inr (inr h)) = part_lines config items found other before now refusal w.0 e o (partly_flushed before mid now pending (came_lines w.0) h.2 part)
 
-pub moments_flushed : {T : Type 0} (config : Config) (items : List Timed) (link : Link) (stage : Stage Recorded) (found : List Captured × End CaptureReason) (before mid now : Option (List ℕ)) (first pending : List ℕ) (failed other : Type 0) (result : Result T Refusal)
-    → stage ≡ Found (recorded link found) → first ≡ [] → JudgesSo config items link found before mid first pending failed result → Grew mid now pending → (failed → other)
+pub moments_flushed : {T : Type 0} (config : Config) (items : List Timed) (stage : Stage Recorded) (found : List Captured × End CaptureReason) (before mid now : Option (List ℕ)) (first pending : List ℕ) (failed other : Type 0) (result : Result T Refusal)
+    → stage ≡ Found (recorded found) → first ≡ [] → JudgesSo config items found before mid first pending failed result → Grew mid now pending → (failed → other)
     → AnswersAt config items stage other before now (answered result)
-moments_flushed config items link stage found before mid now first pending failed other result s e w grew f =
+moments_flushed config items stage found before mid now first pending failed other result s e w grew f =
     subst (λ (st : Stage Recorded). AnswersAt config items st other before now (answered result)) (sym s)
-    (flushed config items link found before mid now pending failed other result
-    (subst (λ (p : List ℕ). JudgesSo config items link found before mid p pending failed result) e w) grew f)
+    (flushed config items found before mid now pending failed other result
+    (subst (λ (p : List ℕ). JudgesSo config items found before mid p pending failed result) e w) grew f)
 
-pub moments_unflushed : {T U : Type 0} (config : Config) (items : List Timed) (link : Link) (stage : Stage Recorded) (found : List Captured × End CaptureReason) (before mid now : Option (List ℕ)) (first pending : List ℕ) (failed other : Type 0) (result : Result T Refusal) (answer : Result U Refusal)
-    → stage ≡ Found (recorded link found) → first ≡ [] → JudgesSo config items link found before mid first pending failed result → GrewPart mid now pending → other
+pub moments_unflushed : {T U : Type 0} (config : Config) (items : List Timed) (stage : Stage Recorded) (found : List Captured × End CaptureReason) (before mid now : Option (List ℕ)) (first pending : List ℕ) (failed other : Type 0) (result : Result T Refusal) (answer : Result U Refusal)
+    → stage ≡ Found (recorded found) → first ≡ [] → JudgesSo config items found before mid first pending failed result → GrewPart mid now pending → other
     → IsErrAnd answer (λ e. e ≡ Outside) → AnswersAt config items stage other before now (answered answer)
-moments_unflushed config items link stage found before mid now first pending failed other result (Ok value) s e w part o h = absurd h
-moments_unflushed config items link stage found before mid now first pending failed other result (Err refusal) s e w part o h =
+moments_unflushed config items stage found before mid now first pending failed other result (Ok value) s e w part o h = absurd h
+moments_unflushed config items stage found before mid now first pending failed other result (Err refusal) s e w part o h =
     subst (λ (st : Stage Recorded). AnswersAt config items st other before now (status_of refusal)) (sym s)
-    (unflushed config items link found before mid now pending failed other result refusal
-    (subst (λ (p : List ℕ). JudgesSo config items link found before mid p pending failed result) e w) part o h)
+    (unflushed config items found before mid now pending failed other result refusal
+    (subst (λ (p : List ℕ). JudgesSo config items found before mid p pending failed result) e w) part o h)
 
 -- the capture was opened, or why it wasn't
 
@@ -218,45 +211,42 @@ stop_before stage failed refusal (inl h) = inl (ap packets_of h, λ held. ap (λ
 stop_before stage failed refusal (inr h) = inr h
 
 ends_so : (stage : Stage Recorded) (end : End CaptureReason) (failed : Type 0) (refusal : Refusal)
-    → stage ≡ Found (record { link = None; packets = []; end = end }) → status_at end ≡ status_of refusal → EndsBefore stage failed refusal
+    → stage ≡ Found (record { packets = []; end = end }) → status_at end ≡ status_of refusal → EndsBefore stage failed refusal
 ends_so stage end failed refusal e s =
     inl (ap packets_of e, λ held. ap (λ (x : Stage Recorded). (verdict_at held [] x).status) e ∙ s)
 
-pub head_before : {T : Type 0} (limit : ℕ) (holds : Names) (name : List ℕ) (before after : ℕ → List ℕ) (slot counted : ℕ) (failed : Type 0) (heading : T → Heading) (fault : Fault CaptureReason)
-    → slot ≡ 2 → holds name ≡ Some (before 2) → counted ≡ limit → Opens heading (heading_of counted (before slot)) (drop 24 (before slot)) (after slot) (Err fault) → (fault ≡ Read → failed)
+pub head_before : {T : Type 0} (limit : ℕ) (holds : Names) (name : List ℕ) (before : ℕ → List ℕ) (slot counted : ℕ) (failed : Type 0) (coming : T → List Captured × End CaptureReason) (fault : Fault CaptureReason)
+    → slot ≡ 2 → holds name ≡ Some (before 2) → counted ≡ limit → Begins (captured_in counted (before slot)) coming (Err fault) → (fault ≡ Read → failed)
     → EndsBefore (capture_stage limit holds name) failed (refused_by fault)
-head_before limit holds name before after slot counted failed heading Read two h l o f = inr (inr (refl, f refl))
-head_before limit holds name before after slot counted failed heading Limit two h l o f =
+head_before limit holds name before slot counted failed coming Read two h l o f = inr (inr (refl, f refl))
+head_before limit holds name before slot counted failed coming Limit two h l o f =
     ends_so (capture_stage limit holds name) limited failed (refused_by Limit)
     (found_capture limit holds name (before slot) (h ∙ ap (λ (n : ℕ). Some (before n)) (sym two))
-    ∙ ap (λ (r : Result Heading (End CaptureReason)). Found (opens_to limit (before slot) r)) (subst (λ (n : ℕ). heading_of n (before slot) ≡ Err limited) l o)) refl
-head_before limit holds name before after slot counted failed heading (Bad reason place) two h l o f =
+    ∙ ap (λ (r : List Captured × End CaptureReason). Found (recorded r)) (subst (λ (n : ℕ). captured_in n (before slot) ≡ ([], limited)) l o)) refl
+head_before limit holds name before slot counted failed coming (Bad reason place) two h l o f =
     ends_so (capture_stage limit holds name) (bad reason place) failed (refused_by (Bad reason place))
     (found_capture limit holds name (before slot) (h ∙ ap (λ (n : ℕ). Some (before n)) (sym two))
-    ∙ ap (λ (r : Result Heading (End CaptureReason)). Found (opens_to limit (before slot) r)) (subst (λ (n : ℕ). heading_of n (before slot) ≡ Err (bad reason place)) l o)) refl
+    ∙ ap (λ (r : List Captured × End CaptureReason). Found (recorded r)) (subst (λ (n : ℕ). captured_in n (before slot) ≡ ([], bad reason place)) l o)) refl
 
 pub capture_opened : (limit : ℕ) (holds : Names) (name : List ℕ) (before after : ℕ → List ℕ) (slot counted : ℕ) (capture : CaptureState)
-    → slot ≡ 2 → holds name ≡ Some (before 2) → counted ≡ limit → (heading_of counted (before slot) ≡ Ok capture.heading) × (after slot ≡ drop 24 (before slot))
-    → capture.limit ≡ counted → capture.place ≡ 24 → capture.moment ≡ 0 → IsCaptureOpened limit holds name (after 2) capture
-capture_opened limit holds name before after slot counted capture two h l o c p m =
-    let here : holds name ≡ Some (before slot) = h ∙ ap (λ (n : ℕ). Some (before n)) (sym two) in
-    let heads : heading_of limit (before slot) ≡ Ok capture.heading = subst (λ (n : ℕ). heading_of n (before slot) ≡ Ok capture.heading) l o.0 in
-    let left : after 2 ≡ drop 24 (before slot) = sym (ap after two) ∙ o.1 in
-    found_capture limit holds name (before slot) here
-    ∙ ap (λ (r : Result Heading (End CaptureReason)). Found (opens_to limit (before slot) r)) heads
-    ∙ (λ i. Found (recorded capture.heading.link (packets_to_come capture.heading (sym (c ∙ l) i) (sym p i) (sym m i) (sym left i))))
+    → slot ≡ 2 → holds name ≡ Some (before 2) → counted ≡ limit → captured_in counted (before slot) ≡ coming capture (after slot)
+    → IsCaptureOpened limit holds name (after 2) capture
+capture_opened limit holds name before after slot counted capture two h l o =
+    found_capture limit holds name (before slot) (h ∙ ap (λ (n : ℕ). Some (before n)) (sym two))
+    ∙ ap (λ (n : ℕ). Found (recorded (captured_in n (before slot)))) (sym l)
+    ∙ ap (λ (r : List Captured × End CaptureReason). Found (recorded r)) o
+    ∙ ap (λ (n : ℕ). Found (recorded (coming capture (after n)))) two
 
 -- the tape that was opened again couldn't be played
 pub unplayed_before : (stage : Stage Recorded) (before mid after : ℕ) (refusal : Refusal) → before ≤ mid → IsUnplayed (Rose mid after) refusal → EndsBefore stage (Rose before after) refusal
 unplayed_before stage before mid after refusal l h = inr (rose_on before mid after refusal l h)
 
--- the same configuration, link and packets
-pub judges_as : {T : Type 0} (config config' : Config) (items : List Timed) (link link' : Link) (found found' : List Captured × End CaptureReason) (before mid : Option (List ℕ)) (first pending : List ℕ) (failed : Type 0) (result : Result T Refusal)
-    → config' ≡ config → link' ≡ link → found' ≡ found → JudgesSo config' items link' found' before mid first pending failed result → JudgesSo config items link found before mid first pending failed result
-judges_as config config' items link link' found found' before mid first pending failed result a b c j =
-    subst (λ (x : Config). JudgesSo x items link found before mid first pending failed result) a
-    (subst (λ (x : Link). JudgesSo config' items x found before mid first pending failed result) b
-    (subst (λ (x : List Captured × End CaptureReason). JudgesSo config' items link' x before mid first pending failed result) c j))
+-- the same configuration and packets
+pub judges_as : {T : Type 0} (config config' : Config) (items : List Timed) (found found' : List Captured × End CaptureReason) (before mid : Option (List ℕ)) (first pending : List ℕ) (failed : Type 0) (result : Result T Refusal)
+    → config' ≡ config → found' ≡ found → JudgesSo config' items found' before mid first pending failed result → JudgesSo config items found before mid first pending failed result
+judges_as config config' items found found' before mid first pending failed result a b j =
+    subst (λ (x : Config). JudgesSo x items found before mid first pending failed result) a
+    (subst (λ (x : List Captured × End CaptureReason). JudgesSo config' items x before mid first pending failed result) b j)
 
 -- a count that rose in a part rose in the whole
 pub rose_wider : (f f1 f2 s s1 s2 : ℕ) → f ≤ f1 → s1 ≤ s2 → Rose f1 f2 ⊎ Rose s s1 → Rose f f2 ⊎ Rose s s2

@@ -3,7 +3,7 @@ use Rattle.std.specs.Prelude.{ℕ, List, ◌≡◌, ◌⊎◌, ◌<◌, Option, 
 use Rattle.fs_records.specs.Records.{done}
 use Rattle.fs_base.specs.declared.config.Config.{Config}
 use Rattle.fs_tape.specs.Tape.{Timed, tape_of}
-use Rattle.fs_pcap.specs.Capture.{Recorded, capture_of}
+use Rattle.fs_capture.specs.Capture.{Recorded, capture_of}
 use Rattle.fs_stages.specs.Refusal.{Stage, Found, Stopped, and_then, status_of, EndsEarly}
 use Rattle.fs_stages.specs.Load.{Names}
 use Rattle.fs_base.specs.Happened.{Happened, FilesFailed, SinkFailed, Wrote}

@@ -7,13 +7,14 @@ use Rattle.fs_packet.specs.Fields.{Viewed, unread_number}
 use Rattle.fs_packet.specs.Reading.{view_of}
 use Rattle.fs_pcap.specs.declared.link.Link.{Link}
 use Rattle.fs_packet.specs.declared.fields.Unread.{Unread}
-use Rattle.fs_pcap.specs.Capture.{Captured, Recorded, capture_of, packet_from}
+use Rattle.fs_packet.specs.declared.fields.Unread.TheVariants.{Foreign}
+use Rattle.fs_capture.specs.Capture.{Captured, Recorded, capture_of, packet_from}
 use Rattle.fs_rules.specs.Table.{admitted, Held}
 use Rattle.fs_rules.specs.Lent.{Listed, listed, shown_admitted}
 use Rattle.fs_rules.specs.declared.lent.Admitted.{Admitted}
 use Rattle.fs_rules.specs.Walk.{walk_of}
 use Rattle.fs_records.specs.Records.{End, done, limited, bad}
-use Rattle.fs_pcap.specs.declared.fault.CaptureReason.{CaptureReason}
+use Rattle.fs_capture.specs.declared.fault.CaptureReason.{CaptureReason}
 use Rattle.fs_stages.specs.Refusal.{Verdict, Stage, Found, Stopped, and_then, or_stop, status_of}
 use Rattle.fs_stages.specs.declared.refusal.Refusal.TheVariants.{Outside, Capture as CaptureRefusal, Limit as AtLimit}
 use Rattle.fs_stages.specs.Load.{Names}
@@ -21,7 +22,7 @@ use Rattle.fs_base.specs.Happened.{Happened, FilesFailed, SinkFailed}
 use Rattle.fs_line.specs.Output.{Goes, Stops}
 use Rattle.fs_stages.specs.declared.refusal.Refusal.{Refusal}
 use Rattle.fs_base.specs.Parts.{with_part}
-use Rattle.fs_pcap.specs.declared.capture.Caught.{Caught}
+use Rattle.fs_capture.specs.declared.caught.Caught.{Caught}
 use Rattle.fs_records.specs.declared.fault.Fault.{Fault}
 use Rattle.fs_records.specs.declared.fault.Fault.TheVariants.{Read, Limit, Bad}
 
@@ -46,8 +47,13 @@ abbrev pub text_by : ℕ → AdmittedRules → Result Viewed Unread → List ℕ
 text_by number rules (Ok view) = line_of number (walk_of view (rules_for view.family rules))
 text_by number rules (Err unread) = unread_line_of number (unread_number unread)
 
-abbrev pub packet_text : ℕ → AdmittedRules → Link → List ℕ → List ℕ
-packet_text number rules link octets = text_by number rules (view_of link octets)
+-- what a packet shows, or why it isn't read: so of one whose link type isn't known
+abbrev pub seen_of : Option Link → List ℕ → Result Viewed Unread
+seen_of None octets = Err Foreign
+seen_of (Some link) octets = view_of link octets
+
+abbrev pub packet_text : ℕ → AdmittedRules → Option Link → List ℕ → List ℕ
+packet_text number rules link octets = text_by number rules (seen_of link octets)
 
 -- the admitted rules at each moment, of the routes that are held then
 abbrev pub rules_by : (ℕ → Held) → ℕ → AdmittedRules
@@ -58,19 +64,14 @@ abbrev pub always : Held → ℕ → Held
 always held moment = held
 
 -- the lines of these packets, of which the first has the number behind this one: each by the rules at its moment
-abbrev pub lines_from : ℕ → (ℕ → AdmittedRules) → Link → List Captured → List ℕ
-lines_from number rules link [] = []
-lines_from number rules link (packet ∷ packets) =
-    packet_text (number + 1) (rules packet.moment) link packet.octets ++ lines_from (number + 1) rules link packets
-
--- a capture whose header has a fault has no packets
-abbrev pub lines_of : (ℕ → AdmittedRules) → Option Link → List Captured → List ℕ
-lines_of rules None packets = []
-lines_of rules (Some link) packets = lines_from 0 rules link packets
+abbrev pub lines_from : ℕ → (ℕ → AdmittedRules) → List Captured → List ℕ
+lines_from number rules [] = []
+lines_from number rules (packet ∷ packets) =
+    packet_text (number + 1) (rules packet.moment) packet.link packet.octets ++ lines_from (number + 1) rules packets
 
 -- all lines of a capture, under the routes held at each moment
 abbrev pub output_of : (ℕ → Held) → Recorded → List ℕ
-output_of held capture = lines_of (rules_by held) capture.link capture.packets
+output_of held capture = lines_from 0 (rules_by held) capture.packets
 
 -- a capture's packets are judged up to its end, whatever that is
 abbrev pub capture_stage : ℕ → Names → List ℕ → Stage Recorded
@@ -121,7 +122,6 @@ Breaks end before now pending pending_now text failed refusal =
 
 -- what packets are judged by, and the text of lines that is pending
 pub record JudgingState : Type 0 where
-  pub link : Link
   pub rules : AdmittedRules
   pub pending : List ℕ
 
@@ -129,6 +129,6 @@ pub record JudgingState : Type 0 where
 abbrev pub JudgesAll : {T : Type 0} → (old : JudgingState) → (coming : List Captured × End CaptureReason) → Happened → (pending : List ℕ) → Result T Refusal → Type 0
 JudgesAll old coming call pending result =
     MatchResult result
-    (λ _. (coming.1 ≡ done) × Goes call.before.written call.now.written old.pending pending (lines_from 0 (λ moment. old.rules) old.link coming.0))
-    (Breaks coming.1 call.before.written call.now.written old.pending pending (lines_from 0 (λ moment. old.rules) old.link coming.0)
+    (λ _. (coming.1 ≡ done) × Goes call.before.written call.now.written old.pending pending (lines_from 0 (λ moment. old.rules) coming.0))
+    (Breaks coming.1 call.before.written call.now.written old.pending pending (lines_from 0 (λ moment. old.rules) coming.0)
     (FilesFailed call ⊎ SinkFailed call))

@@ -5,9 +5,8 @@ use Rattle.fs_base.specs.Happened.{Happened, FilesFailed, SinkFailed}
 use Rattle.fs_base.specs.Sink.{Grew}
 use Rattle.fs_base.specs.declared.config.Config.{Config}
 use Rattle.fs_records.specs.Records.{End, done}
-use Rattle.fs_pcap.specs.Capture.{Captured, CaptureState, Recorded, coming, recorded}
-use Rattle.fs_pcap.specs.declared.fault.CaptureReason.{CaptureReason}
-use Rattle.fs_pcap.specs.declared.link.Link.{Link}
+use Rattle.fs_capture.specs.Capture.{Captured, CaptureState, Recorded, coming, recorded}
+use Rattle.fs_capture.specs.declared.fault.CaptureReason.{CaptureReason}
 use Rattle.fs_rules.specs.Table.{Held}
 use Rattle.fs_tape.specs.Tape.{Timed}
 use Rattle.fs_desk.specs.Laws.{LeaveSame}
@@ -18,7 +17,7 @@ use Rattle.fs_stages.specs.Load.{Names}
 use Rattle.fs_stages.specs.Refusal.{Answers, Stage, Found, Stopped, Verdict, status_of, verdict_with}
 use Rattle.fs_stages.specs.declared.refusal.Refusal.{Refusal}
 use Rattle.fs_stages.specs.declared.refusal.Refusal.TheVariants.{Outside, Memory}
-use Rattle.fs_enforce.specs.Judge.{Partly, capture_stage, lines_from, lines_of, rules_by, status_at}
+use Rattle.fs_enforce.specs.Judge.{Partly, capture_stage, lines_from, rules_by, status_at}
 
 -- At the moment of each of these packets the items up to that moment leave these routes held.
 abbrev pub HoldAt : Config → List Timed → (ℕ → Held) → List Captured → Type 0
@@ -39,32 +38,32 @@ pub record CameTo (config : Config) (items : List Timed) (packets : List Capture
   pub leaves : HoldAt config items held judged
 
 -- the lines of the packets that judging came to
-abbrev pub came_lines : {config : Config} {items : List Timed} {packets : List Captured} → Link → CameTo config items packets → List ℕ
-came_lines link came = lines_from 0 (rules_by came.held) link came.judged
+abbrev pub came_lines : {config : Config} {items : List Timed} {packets : List Captured} → CameTo config items packets → List ℕ
+came_lines came = lines_from 0 (rules_by came.held) came.judged
 
 -- Why judging ended early: the capture ends so, behind all its packets; or memory was wanting, behind the lines of those
 -- that it came to; or a call on the outside failed, and a front of these lines went on.
 abbrev pub BreaksBehind : {config : Config} {items : List Timed} {packets : List Captured}
-    → End CaptureReason → Link → CameTo config items packets → (before now : Option (List ℕ)) → (pending pending_now : List ℕ) → Type 0 → Refusal → Type 0
-BreaksBehind end link came before now pending pending_now failed refusal =
-    ((status_at end ≡ status_of refusal) × (came.rest ≡ []) × Goes before now pending pending_now (came_lines link came))
-    ⊎ ((refusal ≡ Memory) × Goes before now pending pending_now (came_lines link came))
-    ⊎ ((refusal ≡ Outside) × failed × Partly before now pending pending_now (came_lines link came))
+    → End CaptureReason → CameTo config items packets → (before now : Option (List ℕ)) → (pending pending_now : List ℕ) → Type 0 → Refusal → Type 0
+BreaksBehind end came before now pending pending_now failed refusal =
+    ((status_at end ≡ status_of refusal) × (came.rest ≡ []) × Goes before now pending pending_now (came_lines came))
+    ⊎ ((refusal ≡ Memory) × Goes before now pending pending_now (came_lines came))
+    ⊎ ((refusal ≡ Outside) × failed × Partly before now pending pending_now (came_lines came))
 
-abbrev pub BreaksOff : Config → List Timed → Link → List Captured × End CaptureReason → (before now : Option (List ℕ)) → (pending pending_now : List ℕ) → Type 0 → Refusal → Type 0
-BreaksOff config items link coming before now pending pending_now failed refusal =
-    (came : CameTo config items coming.0) × BreaksBehind coming.1 link came before now pending pending_now failed refusal
+abbrev pub BreaksOff : Config → List Timed → List Captured × End CaptureReason → (before now : Option (List ℕ)) → (pending pending_now : List ℕ) → Type 0 → Refusal → Type 0
+BreaksOff config items coming before now pending pending_now failed refusal =
+    (came : CameTo config items coming.0) × BreaksBehind coming.1 came before now pending pending_now failed refusal
 
-abbrev pub JudgesSo : {T : Type 0} → Config → List Timed → Link → List Captured × End CaptureReason → (before now : Option (List ℕ)) → (pending pending_now : List ℕ) → Type 0 → Result T Refusal → Type 0
-JudgesSo config items link coming before now pending pending_now failed result =
+abbrev pub JudgesSo : {T : Type 0} → Config → List Timed → List Captured × End CaptureReason → (before now : Option (List ℕ)) → (pending pending_now : List ℕ) → Type 0 → Result T Refusal → Type 0
+JudgesSo config items coming before now pending pending_now failed result =
     MatchResult result
-    (λ _. (came : CameTo config items coming.0) × (came.rest ≡ []) × (coming.1 ≡ done) × Goes before now pending pending_now (came_lines link came))
-    (BreaksOff config items link coming before now pending pending_now failed)
+    (λ _. (came : CameTo config items coming.0) × (came.rest ≡ []) × (coming.1 ≡ done) × Goes before now pending pending_now (came_lines came))
+    (BreaksOff config items coming before now pending pending_now failed)
 
 -- The packets to come were all judged, up to the capture's end; or judging broke off.
-abbrev pub JudgesMoments : {T : Type 0} → Config → List Timed → Link → List Captured × End CaptureReason → Happened → (pending pending_now : List ℕ) → Result T Refusal → Type 0
-JudgesMoments config items link coming call pending pending_now result =
-    JudgesSo config items link coming call.before.written call.now.written pending pending_now (FilesFailed call ⊎ SinkFailed call) result
+abbrev pub JudgesMoments : {T : Type 0} → Config → List Timed → List Captured × End CaptureReason → Happened → (pending pending_now : List ℕ) → Result T Refusal → Type 0
+JudgesMoments config items coming call pending pending_now result =
+    JudgesSo config items coming call.before.written call.now.written pending pending_now (FilesFailed call ⊎ SinkFailed call) result
 
 abbrev pub packets_of : Stage Recorded → List Captured
 packets_of (Found capture) = capture.packets
@@ -72,7 +71,7 @@ packets_of (Stopped refusal) = []
 
 -- of a capture of which judging came to these packets
 abbrev pub verdict_at : (ℕ → Held) → List Captured → Stage Recorded → Verdict
-verdict_at held judged (Found capture) = verdict_with (status_at capture.end) (lines_of (rules_by held) capture.link judged)
+verdict_at held judged (Found capture) = verdict_with (status_at capture.end) (lines_from 0 (rules_by held) judged)
 verdict_at held judged (Stopped refusal) = verdict_with (status_of refusal) []
 
 -- The packets of a capture were judged under the routes that the tape holds at their moments. All of them were, but for
@@ -87,7 +86,7 @@ pub record AnswersAt (config : Config) (items : List Timed) (stage : Stage Recor
 -- a capture was opened of which this is to come
 abbrev pub IsCaptureOpened : ℕ → Names → List ℕ → List ℕ → CaptureState → Type 0
 IsCaptureOpened limit holds name left capture =
-    capture_stage limit holds name ≡ Found (recorded capture.heading.link (coming capture left))
+    capture_stage limit holds name ≡ Found (recorded (coming capture left))
 
 -- no packet was judged: the capture has none, and ends so; or memory was wanting, or a call on the outside failed
 abbrev pub EndsBefore : Stage Recorded → Type 0 → Refusal → Type 0

@@ -6,17 +6,18 @@ ghost use Rattle.fs_base.specs.Files.{OnlySlot};
 ghost use Rattle.fs_base.specs.Happened.{happened};
 ghost use Rattle.fs_base.specs.Outside.{HasCause, Rose};
 ghost use Rattle.fs_base.specs.Sink.{Grew, GrewPart};
-ghost use Rattle.fs_pcap.specs.Capture.{coming};
+ghost use Rattle.fs_capture.specs.Capture.{coming};
 ghost use Rattle.fs_pcap.specs.Head.{longest_record};
-ghost use Rattle.fs_enforce.specs.Judge.{admitted_rules, always, capture_stage, Ceases, JudgesAll, packet_text, refused_by, verdict_of, Yields};
+ghost use Rattle.fs_enforce.specs.Judge.{admitted_rules, always, capture_stage, Ceases, JudgesAll, packet_text, refused_by, seen_of, verdict_of, Yields};
 ghost use Rattle.fs_stages.specs.Refusal.{Answers, IsAtPacket, IsLate, answered};
 ghost use Rattle.fs_line.specs.Output.{Sends};
 
 use crate::matcher::Matcher;
 use fs_base::{Counted, Failed, Files, Memory, Sink};
+use fs_capture::{Capture, CaptureFault, Caught};
 use fs_line::{Output, write_unread_line};
-use fs_packet::view;
-use fs_pcap::{Capture, CaptureFault, Caught, LONGEST_RECORD, Link};
+use fs_packet::{Unread, View, view};
+use fs_pcap::{LONGEST_RECORD, Link};
 use fs_rules::Table;
 use fs_stages::{CAPTURE_SLOT, Refusal, open};
 use std::alloc::Global;
@@ -26,9 +27,9 @@ use std::marker::Model;
 ///
 /// # Errors
 ///
-/// `Outside` where the file isn't there, or the files or the sink failed; `Capture` where the capture has a fault, behind
-/// the lines of the packets before it; `Limit` where it has at least `limit` octets without a fault; `Memory` where the
-/// machine refused memory.
+/// `Outside` where the file isn't there, or the files or the sink failed; `Capture` where the capture has a fault,
+/// behind the lines of the packets before it; `Limit` where it has at least `limit` octets without a fault; `Memory`
+/// where the machine refused memory.
 pub fn judge<F: Files, S: Sink>(
     alloc: Global,
     files: &mut F,
@@ -55,7 +56,7 @@ pub fn judge<F: Files, S: Sink>(
         Ok(capture) => capture,
         Err(fault) => return Err(refusal_of(fault)),
     };
-    let mut judging = Judging::new(alloc, table, capture.link())?;
+    let mut judging = Judging::new(alloc, table)?;
     let mut buffer = vec![in alloc; 0u8; LONGEST_RECORD]?;
     let judged = judge_packets(files, &mut capture, &mut judging, &mut buffer, sink);
     judging.flush(sink)?;
@@ -89,7 +90,7 @@ fn judge_packets<F: Files, S: Sink>(
     'packets: while let Some(caught) = next_packet(files, capture, buffer)? {
         number += 1;
         let octets = &buffer[..caught.taken];
-        judging.judge_packet(octets, number, sink)?;
+        judging.judge_packet(caught.link, octets, number, sink)?;
     }
     Ok(())
 }
@@ -107,12 +108,13 @@ pub(crate) fn next_packet<F: Files>(
     ensures holds { IsTrue F.tells → F.holds files.new ≡ F.holds files.old }
     ensures slot { capture.new.slot ≡ capture.old.slot }
     ensures limit { capture.new.limit ≡ capture.old.limit }
-    ensures heading { capture.new.heading ≡ capture.old.heading }
     ensures times { IfOk result (λ found. IfSome found (λ caught.
         (capture.new.moment ≡ caught.moment) × (capture.old.moment ≤ capture.new.moment))) }
     ensures open { IfOk result (λ found. IfSome found (λ _. capture.new.end ≡ None)) }
     ensures grows { IfOk result (λ found. IfSome found (λ caught.
-        (capture.old.place < capture.new.place) × (capture.new.place ≤ capture.new.limit) × (caught.taken ≤ longest_record))) }
+        (capture.old.place < capture.new.place)
+        × (capture.new.place ≤ capture.new.limit)
+        × (caught.taken ≤ longest_record))) }
 
     ensures gives { IsTrue F.tells
         → MatchResult result
@@ -140,11 +142,21 @@ pub(crate) fn refusal_of(fault: CaptureFault) -> Refusal
     }
 }
 
-/// What judging packets takes beside them: their kind of link, the admitted rules of each family, and the output of
-/// lines. All memory of it is taken before the first packet.
+/// The view of a packet behind this link type, or why it isn't read: so where the link type isn't known.
+#[inline(always)]
+pub(crate) fn read_packet(link: Option<Link>, octets: &[u8]) -> Result<View<'_>, Unread>
+    ensures { result ≡ seen_of link octets.now }
+{
+    match link {
+        Some(link) => view(link, octets),
+        None => Err(Unread::Foreign),
+    }
+}
+
+/// What judging packets takes beside them: the admitted rules of each family, and the output of lines. All memory of it
+/// is taken before the first packet.
 #[derive(Drop)]
 struct Judging<'t> {
-    link: Link,
     matcher: Matcher<'t>,
     output: Output,
 }
@@ -154,16 +166,14 @@ impl<'t> Model for Judging<'t> {
 
     ghost Value = { JudgingState };
 
-    ghost view = { λ a. record { link = a.link; rules = a.matcher; pending = a.output } };
+    ghost view = { λ a. record { rules = a.matcher; pending = a.output } };
 }
 
 impl<'t> Judging<'t> {
-    fn new(alloc: Global, table: &'t Table<'_>, link: Link) -> Result<Judging<'t>, Memory>
-        ensures { IfOk result (λ judging.
-            judging ≡ record { link = link; rules = admitted_rules table.now; pending = [] }) }
+    fn new(alloc: Global, table: &'t Table<'_>) -> Result<Judging<'t>, Memory>
+        ensures { IfOk result (λ judging. judging ≡ record { rules = admitted_rules table.now; pending = [] }) }
     {
         Ok(Judging {
-            link,
             matcher: Matcher::new(alloc, table)?,
             output: Output::new(alloc)?,
         })
@@ -172,15 +182,16 @@ impl<'t> Judging<'t> {
     /// Writes the line of a record, whose number counts from 1.
     fn judge_packet<S: Sink>(
         &mut self,
+        link: Option<Link>,
         octets: &[u8],
         number: u64,
         sink: &mut S,
     ) -> Result<(), Failed>
         ensures same { self.new ≡ record self.old { pending = self.new.pending } }
         ensures sends { Sends S.Sink sink.old sink.new self.old.pending self.new.pending
-            (packet_text number self.old.rules self.old.link octets.now) result }
+            (packet_text number self.old.rules link octets.now) result }
     {
-        match view(self.link, octets) {
+        match read_packet(link, octets) {
             Ok(view) => self.matcher.judge(&view, number, &mut self.output, sink),
             Err(unread) => write_unread_line(&mut self.output, sink, number, unread.number()),
         }

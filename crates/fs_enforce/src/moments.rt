@@ -6,7 +6,7 @@ ghost use Rattle.fs_base.specs.Happened.{happened};
 ghost use Rattle.fs_base.specs.Outside.{HasCause, Rose};
 ghost use Rattle.fs_desk.specs.Leaves.{Leaves};
 ghost use Rattle.fs_line.specs.Output.{Goes};
-ghost use Rattle.fs_pcap.specs.Capture.{coming};
+ghost use Rattle.fs_capture.specs.Capture.{coming};
 ghost use Rattle.fs_pcap.specs.Head.{longest_record};
 ghost use Rattle.fs_stages.specs.Play.{HasVersion, tape_stage, until};
 ghost use Rattle.fs_stages.specs.Player.{IsUnplayed, Stands};
@@ -17,24 +17,24 @@ ghost use Rattle.fs_enforce.specs.Judge.{AdmittedRules, admitted_rules, capture_
 ghost use Rattle.fs_enforce.specs.Kept.{BreaksLine, IsSound, StandsFor};
 ghost use Rattle.fs_enforce.specs.Moments.{AnswersAt, EndsBefore, IsCaptureOpened, JudgesMoments};
 
-use crate::judge::{next_packet, refusal_of};
+use crate::judge::{next_packet, read_packet, refusal_of};
 use crate::kept::KeptRules;
 use crate::names::InputNames;
 use fs_base::{Config, Counted, Files, Memory, Sink};
+use fs_capture::Capture;
 use fs_desk::same_routes;
 use fs_line::{Output, write_unread_line};
-use fs_packet::view;
-use fs_pcap::{Capture, LONGEST_RECORD, Link};
+use fs_pcap::{LONGEST_RECORD, Link};
 use fs_stages::{CAPTURE_SLOT, Player, Refusal, open};
 use std::alloc::Global;
 
-/// Writes a line for each packet of the capture, by the rules that the tape admits at the packet's moment. All lines are
-/// handed to the sink before it returns.
+/// Writes a line for each packet of the capture, by the rules that the tape admits at the packet's moment. All lines
+/// are handed to the sink before it returns.
 ///
 /// # Errors
 ///
-/// As of [`judge`](crate::judge::judge); what ends the tape that is opened again, behind the lines of the packets before
-/// it; and so `Memory`, where the machine refused memory.
+/// As of [`judge`](crate::judge::judge); what ends the tape that is opened again, behind the lines of the packets
+/// before it; and so `Memory`, where the machine refused memory.
 pub(crate) fn judge_moments<F: Files, S: Sink>(
     alloc: Global,
     files: &mut F,
@@ -60,13 +60,13 @@ pub(crate) fn judge_moments<F: Files, S: Sink>(
     let mut capture = open_capture(files, names.capture, limit)?;
     let mut buffer = vec![in alloc; 0u8; LONGEST_RECORD]?;
     let player = Player::begin(alloc, files, config, names.tape, limit)?;
-    let mut following = Following::new(alloc, player, capture.link())?;
+    let mut following = Following::new(alloc, player)?;
     let judged = judge_packets(files, &mut capture, &mut following, &mut buffer, sink);
     following.output.flush(sink)?;
     judged
 }
 
-/// Opens the capture, up to its first record.
+/// Opens the capture, up to its first packet.
 fn open_capture<F: Files>(files: &mut F, name: &str, limit: u64) -> Result<Capture, Refusal>
     ensures later { F.faults files.old ≤ F.faults files.new }
     ensures late { answered result ≢ 3 }
@@ -112,7 +112,7 @@ fn judge_packets<F: Files, S: Sink>(
     ensures judged { IsTrue F.tells
         → (items : List Timed)
         → Stands items capture.old.moment following.old.player (F.left files.old 1)
-        → JudgesMoments following.old.player.desk.config items following.old.link
+        → JudgesMoments following.old.player.desk.config items
         (coming capture.old (F.left files.old 2))
         (happened F.Files S.Sink files.old files.new sink.old sink.new)
         following.old.output following.new.output result }
@@ -122,7 +122,7 @@ fn judge_packets<F: Files, S: Sink>(
     'packets: while let Some(caught) = next_packet(files, capture, buffer)? {
         number += 1;
         following.follow(files, caught.moment)?;
-        following.judge_packet(&buffer[..caught.taken], number, sink)?;
+        following.judge_packet(caught.link, &buffer[..caught.taken], number, sink)?;
     }
     Ok(())
 }
@@ -131,16 +131,15 @@ fn judge_packets<F: Files, S: Sink>(
 #[derive(Drop)]
 struct Following<'a> {
     alloc: Global,
-    link: Link,
     player: Player<'a>,
     rules: KeptRules,
     output: Output,
 }
 
 impl<'a> Following<'a> {
-    fn new(alloc: Global, player: Player<'a>, link: Link) -> Result<Following<'a>, Memory>
+    fn new(alloc: Global, player: Player<'a>) -> Result<Following<'a>, Memory>
         ensures same { IfOk result (λ following.
-            (following.link ≡ link) × (following.player ≡ player.entry) × (following.output ≡ [])) }
+            (following.player ≡ player.entry) × (following.output ≡ [])) }
         ensures stands { IfOk result (λ following. StandsFor (admitted_rules player.entry.desk.held)
             following.rules.compiled following.rules.v4.items following.rules.v6.items) }
     {
@@ -148,7 +147,6 @@ impl<'a> Following<'a> {
         let output = Output::new(alloc)?;
         Ok(Following {
             alloc,
-            link,
             player,
             rules,
             output,
@@ -160,7 +158,7 @@ impl<'a> Following<'a> {
         requires { StandsFor (admitted_rules self.old.player.desk.held) self.old.rules.compiled
             self.old.rules.v4.items self.old.rules.v6.items }
         ensures later { F.faults files.old ≤ F.faults files.new }
-        ensures same { (self.new.link ≡ self.old.link) × (self.new.output ≡ self.old.output) }
+        ensures same { self.new.output ≡ self.old.output }
         ensures slot { self.new.player.tape.slot ≡ self.old.player.tape.slot }
         ensures config { self.new.player.desk.config ≡ self.old.player.desk.config }
         ensures late { answered result ≢ 3 }
@@ -185,23 +183,24 @@ impl<'a> Following<'a> {
     /// Writes the line of a record, whose number counts from 1.
     fn judge_packet<S: Sink>(
         &mut self,
+        link: Option<Link>,
         octets: &[u8],
         number: u64,
         sink: &mut S,
     ) -> Result<(), Refusal>
         requires { IsSound self.old.rules.compiled self.old.rules.v4.items self.old.rules.v6.items }
-        ensures same { (self.new.link ≡ self.old.link) × (self.new.player ≡ self.old.player) × (self.new.rules ≡ self.old.rules) }
+        ensures same { (self.new.player ≡ self.old.player) × (self.new.rules ≡ self.old.rules) }
         ensures later { S.faults sink.old ≤ S.faults sink.new }
         ensures late { answered result ≢ 3 }
         ensures writes { (rules : AdmittedRules)
             → StandsFor rules self.old.rules.compiled self.old.rules.v4.items self.old.rules.v6.items
             → MatchResult result
             (λ _. Goes (S.written sink.old) (S.written sink.new) self.old.output self.new.output
-            (packet_text number rules self.old.link octets.now))
+            (packet_text number rules link octets.now))
             (BreaksLine S.Sink sink.old sink.new self.old.output self.new.output
-            (packet_text number rules self.old.link octets.now)) }
+            (packet_text number rules link octets.now)) }
     {
-        match view(self.link, octets) {
+        match read_packet(link, octets) {
             Ok(view) => self.rules.judge(&view, number, &mut self.output, sink),
             Err(unread) => match write_unread_line(
                 &mut self.output,

@@ -1,4 +1,5 @@
 pub mod LookingAhead
 pub mod Playing
 pub mod Stages
+pub mod Sendable
 pub mod Texts

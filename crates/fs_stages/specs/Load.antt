@@ -1,7 +1,9 @@
--- What the files tell, and the stage of the configuration.
+-- What the files tell, and the stages of the configuration and the rules file.
 use Rattle.std.specs.Prelude.{ℕ, List, Option, nat_le, length, if◌then◌else◌}
 use Rattle.fs_base.specs.declared.config.Config.{Config}
 use Rattle.fs_conf.specs.Config.{config_of}
+use Rattle.fs_conf.specs.Rules.{rules_of}
+use Rattle.fs_speaker.specs.declared.sending.Sending.{Sending}
 use Rattle.fs_stages.specs.declared.refusal.Refusal.TheVariants.{Outside, Config as Refused, Limit}
 use Rattle.fs_stages.specs.Refusal.{Stage, Found, Stopped, and_then, or_stop}
 
@@ -17,3 +19,14 @@ fetch limit holds name =
 -- the configuration file is accepted
 abbrev pub config_stage : ℕ → Names → List ℕ → Stage Config
 config_stage limit holds name = and_then (fetch limit holds name) (λ octets. or_stop Refused (config_of octets))
+
+-- the rules file is accepted beside this configuration
+abbrev pub rules_stage : Config → ℕ → Names → List ℕ → Stage Sending
+rules_stage config limit holds name = and_then (fetch limit holds name) (λ octets. or_stop Refused (rules_of config octets))
+
+-- the configuration is accepted, and the rules file beside it
+abbrev pub sending_stage : ℕ → Names → (config rules : List ℕ) → Stage (Config × Sending)
+sending_stage limit holds config rules =
+    and_then (config_stage limit holds config) (λ accepted.
+    and_then (rules_stage accepted limit holds rules) (λ sending.
+    Found (accepted, sending)))

@@ -2,7 +2,7 @@
 -- needs, or ends the run with a refusal.
 use Rattle.std.specs.Prelude.{ℕ, Option, Some, None, Result, MatchResult, ◌≡◌, ◌⊎◌, ◌≢◌, List, [], Ok, Err}
 use Rattle.fs_stages.specs.declared.refusal.Refusal.{Refusal}
-use Rattle.fs_stages.specs.declared.refusal.Refusal.TheVariants.{Outside, Config, Tape, Capture, Memory, Limit}
+use Rattle.fs_stages.specs.declared.refusal.Refusal.TheVariants.{Outside, Config, Tape, Capture, Dump, Memory, Limit, Session}
 use Rattle.fs_base.specs.Sink.{Grew, GrewPart}
 
 pub data Stage (A : Type 0) : Type 0 where
@@ -24,8 +24,10 @@ status_of Outside = 1
 status_of Config = 3
 status_of (Tape reason place) = 4
 status_of Capture = 5
+status_of Dump = 10
 status_of Memory = 6
 status_of Limit = 7
+status_of Session = 8
 
 -- why a refusal is answered: the stage ends so, or memory was wanting, or a call on the outside failed
 abbrev pub HasReason : {A : Type 0} → Stage A → Type 0 → Refusal → Type 0

@@ -1,5 +1,5 @@
-//! The stages that commands are made of: files opened, the configuration read, a tape played into a desk, a text written;
-//! and why a run ends before its job is done.
+//! The stages that commands are made of: files opened, the configuration and the rules file read, a tape played into a
+//! desk, a text written; and why a run ends before its job is done.
 #![tactic(auto)]
 
 mod load;
@@ -9,7 +9,7 @@ mod refusal;
 pub mod status;
 mod writing;
 
-pub use load::{CAPTURE_SLOT, CONFIG_SLOT, TAPE_SLOT, load_config, open};
+pub use load::{CAPTURE_SLOT, CONFIG_SLOT, RULES_SLOT, TAPE_SLOT, load_config, load_rules, open};
 pub use play::{WholeTape, play_tape, play_whole};
 pub use player::Player;
 pub use refusal::Refusal;

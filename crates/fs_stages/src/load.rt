@@ -1,15 +1,18 @@
-//! Opening files, and reading the configuration.
+//! Opening files, and reading the configuration and the rules file.
 
-ghost use Rattle.std.specs.Prelude.{◌≡◌, ◌≤◌, IfErr, IsTrue, Some, MatchResult};
+ghost use Rattle.std.specs.Prelude.{◌≡◌, ◌≤◌, IfErr, IfOk, IsTrue, Some, MatchResult};
 ghost use Rattle.fs_base.specs.Files.{OnlySlot};
 ghost use Rattle.fs_base.specs.Outside.{Rose};
+ghost use Rattle.fs_speaker.specs.Announcer.{CanSend};
+ghost use Rattle.fs_speaker.specs.Sending.{sender_of};
 ghost use Rattle.fs_stages.specs.Refusal.{IsLate, HasReason, Reaches, or_stop};
 ghost use Rattle.fs_stages.specs.declared.refusal.Refusal.TheVariants.{Outside};
-ghost use Rattle.fs_stages.specs.Load.{config_stage};
+ghost use Rattle.fs_stages.specs.Load.{config_stage, fetch, rules_stage};
 
 use crate::refusal::Refusal;
 use fs_base::{Config, Failed, Files, ReadStop, Whole};
 use fs_conf::ConfFault;
+use fs_speaker::Sending;
 use std::alloc::Global;
 
 /// The slot that the configuration is read from.
@@ -17,6 +20,9 @@ pub const CONFIG_SLOT: u8 = 0;
 
 /// The slot that the tape is read from.
 pub const TAPE_SLOT: u8 = 1;
+
+/// The slot that the rules file is read from.
+pub const RULES_SLOT: u8 = 1;
 
 /// The slot that the capture is read from.
 pub const CAPTURE_SLOT: u8 = 2;
@@ -44,6 +50,38 @@ pub fn open<F: Files>(files: &mut F, slot: u8, name: &str) -> Result<(), Refusal
     }
 }
 
+/// Reads the whole file `name` through `slot`.
+///
+/// # Errors
+///
+/// `Outside` where the file isn't there or the files failed, `Limit` where it has at least `limit` octets, `Memory`
+/// where the machine refused memory.
+fn load<F: Files>(
+    alloc: Global,
+    files: &mut F,
+    slot: u8,
+    name: &str,
+    limit: u64,
+) -> Result<Vec<u8>, Refusal>
+    requires { slot ≤ 2 }
+    ensures later { F.faults files.old ≤ F.faults files.new }
+    ensures holds { IsTrue F.tells → F.holds files.new ≡ F.holds files.old }
+
+    ensures reaches { IsTrue F.tells
+        → Reaches (λ octets. octets.items)
+        (fetch limit (F.holds files.old) name.now)
+        (Rose (F.faults files.old) (F.faults files.new))
+        result }
+{
+    open(files, slot, name)?;
+    match fs_base::read_whole(alloc, files, slot, limit) {
+        Ok(Whole::Content(octets)) => Ok(octets),
+        Ok(Whole::AtLimit) => Err(Refusal::Limit),
+        Err(ReadStop::Failed) => Err(Refusal::Outside),
+        Err(ReadStop::Memory) => Err(Refusal::Memory),
+    }
+}
+
 /// Reads the configuration.
 ///
 /// # Errors
@@ -65,15 +103,39 @@ pub fn load_config<F: Files>(
         (Rose (F.faults files.old) (F.faults files.new))
         result }
 {
-    open(files, CONFIG_SLOT, name)?;
-    let octets = match fs_base::read_whole(alloc, files, CONFIG_SLOT, limit) {
-        Ok(Whole::Content(octets)) => octets,
-        Ok(Whole::AtLimit) => return Err(Refusal::Limit),
-        Err(ReadStop::Failed) => return Err(Refusal::Outside),
-        Err(ReadStop::Memory) => return Err(Refusal::Memory),
-    };
+    let octets = load(alloc, files, CONFIG_SLOT, name, limit)?;
     match fs_conf::read_config(alloc, &octets) {
         Ok(config) => Ok(config),
+        Err(ConfFault::Refused) => Err(Refusal::Config),
+        Err(ConfFault::Memory) => Err(Refusal::Memory),
+    }
+}
+
+/// Reads the rules file, which is judged beside the configuration.
+///
+/// # Errors
+///
+/// As of [`load_config`].
+pub fn load_rules<F: Files>(
+    alloc: Global,
+    files: &mut F,
+    config: &Config,
+    name: &str,
+    limit: u64,
+) -> Result<Sending, Refusal>
+    ensures later { F.faults files.old ≤ F.faults files.new }
+    ensures holds { IsTrue F.tells → F.holds files.new ≡ F.holds files.old }
+    ensures sendable { IfOk result (CanSend config.now (sender_of config.now.peers)) }
+
+    ensures reaches { IsTrue F.tells
+        → Reaches (λ sending. sending)
+        (rules_stage config.now limit (F.holds files.old) name.now)
+        (Rose (F.faults files.old) (F.faults files.new))
+        result }
+{
+    let octets = load(alloc, files, RULES_SLOT, name, limit)?;
+    match fs_conf::read_rules(alloc, &octets, config) {
+        Ok(sending) => Ok(sending),
         Err(ConfFault::Refused) => Err(Refusal::Config),
         Err(ConfFault::Memory) => Err(Refusal::Memory),
     }

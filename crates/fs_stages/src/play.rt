@@ -127,7 +127,8 @@ fn play_items<F: Files>(
 
     ensures played { IsTrue F.tells
         → MatchResult result
-        (λ _. PlaysOn config.now tape.old.version (coming config.now tape.old (F.left files.old tape.old.slot)) desk.old desk.new)
+        (λ _. PlaysOn config.now tape.old.version (coming config.now tape.old (F.left files.old tape.old.slot))
+        desk.old desk.new)
         (HasReason (played_to (coming config.now tape.old (F.left files.old tape.old.slot)))
         (Rose (F.faults files.old) (F.faults files.new))) }
 {
@@ -175,7 +176,8 @@ pub(crate) fn next_item<F: Files>(
     ensures limit { tape.new.limit ≡ tape.old.limit }
     ensures version { tape.new.version ≡ tape.old.version }
     ensures late { answered result ≢ 3 }
-    ensures timed { IfOk result (λ found. IfSome found (λ _. IsTimed tape.old.version tape.old.moment tape.new.moment)) }
+    ensures timed { IfOk result (λ found.
+        IfSome found (λ _. IsTimed tape.old.version tape.old.moment tape.new.moment)) }
     ensures known { IfOk result (λ found. IfSome found (IsItem config.now)) }
     ensures open { IfOk result (λ found. IfSome found (λ _. tape.new.end ≡ None)) }
     ensures grows { IfOk result (λ found. IfSome found (λ _.

@@ -12,16 +12,20 @@ use std::alloc::AllocError;
 pub enum Refusal {
     /// A call on the outside failed, or a file that the words name isn't there.
     Outside,
-    /// The configuration isn't accepted.
+    /// The configuration or the rules file isn't accepted.
     Config,
     /// The tape has a fault, at this place in it.
     Tape { reason: TapeReason, place: u64 },
     /// The capture has a fault.
     Capture,
+    /// The dump has a fault.
+    Dump,
     /// The machine refused memory.
     Memory,
-    /// An input has at least as many octets as the limit allows.
+    /// An input, or what an end of a wire gave, has at least as many octets as the limit allows.
     Limit,
+    /// A session closed, or its octets ended before it was established.
+    Session,
 }
 
 impl Refusal {
@@ -36,8 +40,10 @@ impl Refusal {
             Refusal::Config => status::CONFIG,
             Refusal::Tape { .. } => status::TAPE,
             Refusal::Capture => status::CAPTURE,
+            Refusal::Dump => status::DUMP,
             Refusal::Memory => status::MEMORY,
             Refusal::Limit => status::LIMIT,
+            Refusal::Session => status::SESSION,
         }
     }
 }

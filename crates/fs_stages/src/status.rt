@@ -9,7 +9,7 @@ pub const OUTSIDE: u8 = 1;
 /// The words ask for no command.
 pub const NO_COMMAND: u8 = 2;
 
-/// The configuration isn't accepted.
+/// The configuration or the rules file isn't accepted.
 pub const CONFIG: u8 = 3;
 
 /// The tape has a fault.
@@ -21,8 +21,14 @@ pub const CAPTURE: u8 = 5;
 /// The machine refused memory.
 pub const MEMORY: u8 = 6;
 
-/// An input has at least as many octets as the limit allows.
+/// An input, or what an end of a wire gave, has at least as many octets as the limit allows.
 pub const LIMIT: u8 = 7;
+
+/// The session of a command that speaks over a wire closed, or ended before it was established.
+pub const SESSION: u8 = 8;
 
 /// The word of `check` is no NLRI of the family.
 pub const NLRI: u8 = 9;
+
+/// The dump has a fault.
+pub const DUMP: u8 = 10;

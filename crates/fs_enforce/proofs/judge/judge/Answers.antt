@@ -1,6 +1,6 @@
 use Rattle.std.proofs.Common.{◌⊎◌, inl, refl, subst, sym, le_trans}
 use Rattle.fs_base.specs.Outside.{Rose}
-use Rattle.fs_pcap.specs.Capture.{CaptureState, coming}
+use Rattle.fs_capture.specs.Capture.{CaptureState, coming}
 use Rattle.fs_enforce.specs.Judge.{capture_stage, JudgesAll, JudgingState, verdict_of, always, rules_by, lines_from}
 use Rattle.fs_base.specs.Happened.{happened}
 use Rattle.fs_stages.specs.Refusal.{Answers, status_of}
@@ -15,8 +15,8 @@ returns-in_err-open-clause-late g c = late_err c.from_residual.result c.in_err-o
 pub returns-in-Err-clause-answers : goal.returns-in-Err-clause-answers
 returns-in-Err-clause-answers g c = λ told.
     subst (λ (r : Refusal). Answers (verdict_of (always c.args.table.now) (capture_stage c.args.limit (g.F.Files.holds c.args.files.now) c.args.name.now)) (Rose (g.F.Files.faults c.args.files.now) (g.F.Files.faults c.begin.new.files) ⊎ Rose (g.S.Sink.faults c.args.sink.now) (g.S.Sink.faults c.args.sink.now)) (g.S.Sink.written c.args.sink.now) (g.S.Sink.written c.args.sink.now) (status_of r)) (sym c.refusal_of.ensures.result)
-    (answers_unopened {T = CaptureState} (always c.args.table.now) c.args.limit (g.F.Files.holds c.args.files.now) c.args.name.now (g.F.Files.left c.open.new.files) (g.F.Files.left c.begin.new.files) c.new.result.slot c.new.result.limit _ _ (λ capture. capture.heading) c.in-Err.fault
-    c.new.ensures.slot (c.in_ok-open.ensures.opened told) c.new.ensures.limit (c.in-Err.ensures.opens told)
+    (answers_unopened {T = CaptureState} (always c.args.table.now) c.args.limit (g.F.Files.holds c.args.files.now) c.args.name.now (g.F.Files.left c.open.new.files) c.new.result.slot c.new.result.limit _ _ (λ (capture : CaptureState). coming capture (g.F.Files.left c.begin.new.files c.new.result.slot)) c.in-Err.fault
+    c.new.ensures.slot (c.in_ok-open.ensures.opened told) c.new.ensures.limit (c.in-Err.ensures.begins told)
     (λ e. inl (rose_earlier _ _ _ c.in_ok-open.ensures.later (c.begin.ensures.read (err_of _ _ _ c.in-Err.is e)))))
 
 pub returns-in_err-judging-clause-answers : goal.returns-in_err-judging-clause-answers
@@ -32,12 +32,12 @@ pub returns-in_err-flush-clause-answers : goal.returns-in_err-flush-clause-answe
 returns-in_err-flush-clause-answers g c = λ told.
     judge_unflushed (always c.args.table.now) (capture_stage c.args.limit (g.F.Files.holds c.args.files.now) c.args.name.now)
     (coming c.in-Ok.capture (g.F.Files.left c.begin.new.files c.in-Ok.capture.slot)).1
-    (lines_from 0 (rules_by (always c.args.table.now)) c.link.result (coming c.in-Ok.capture (g.F.Files.left c.begin.new.files c.in-Ok.capture.slot)).0)
+    (lines_from 0 (rules_by (always c.args.table.now)) (coming c.in-Ok.capture (g.F.Files.left c.begin.new.files c.in-Ok.capture.slot)).0)
     _ _ (g.S.Sink.written c.args.sink.now) (g.S.Sink.written c.judge_packets-judged.new.sink) (g.S.Sink.written c.flush.new.sink)
     (g.F.Files.faults c.args.files.now) (g.F.Files.faults c.begin.new.files) (g.F.Files.faults c.judge_packets-judged.new.files)
     (g.S.Sink.faults c.args.sink.now) (g.S.Sink.faults c.judge_packets-judged.new.sink) (g.S.Sink.faults c.flush.new.sink) c.judge_packets-judged.result c.from_residual-in_err-flush.result
-    (read_verdict (always c.args.table.now) c.args.limit (g.F.Files.holds c.args.files.now) c.args.name.now (g.F.Files.left c.open.new.files) (g.F.Files.left c.begin.new.files) c.new.result.slot c.new.result.limit c.in-Ok.capture c.link.result
-    c.new.ensures.slot (c.in_ok-open.ensures.opened told) c.new.ensures.limit (c.in-Ok.ensures.opens told) c.in-Ok.ensures.slot c.in-Ok.ensures.limit c.in-Ok.ensures.place c.in-Ok.ensures.moment c.link.ensures)
+    (read_verdict (always c.args.table.now) c.args.limit (g.F.Files.holds c.args.files.now) c.args.name.now (g.F.Files.left c.open.new.files) (g.F.Files.left c.begin.new.files) c.new.result.slot c.new.result.limit c.in-Ok.capture
+    c.new.ensures.slot (c.in_ok-open.ensures.opened told) c.new.ensures.limit (c.in-Ok.ensures.begins told) c.in-Ok.ensures.slot)
     refl
     (subst (λ (j : JudgingState). JudgesAll j (coming c.in-Ok.capture (g.F.Files.left c.begin.new.files c.in-Ok.capture.slot))
     (happened g.F.Files g.S.Sink c.begin.new.files c.judge_packets-judged.new.files c.args.sink.now c.judge_packets-judged.new.sink)
@@ -49,12 +49,12 @@ pub returns-clause-answers : goal.returns-clause-answers
 returns-clause-answers g c = λ told.
     judge_flushed (always c.args.table.now) (capture_stage c.args.limit (g.F.Files.holds c.args.files.now) c.args.name.now)
     (coming c.in-Ok.capture (g.F.Files.left c.begin.new.files c.in-Ok.capture.slot)).1
-    (lines_from 0 (rules_by (always c.args.table.now)) c.link.result (coming c.in-Ok.capture (g.F.Files.left c.begin.new.files c.in-Ok.capture.slot)).0)
+    (lines_from 0 (rules_by (always c.args.table.now)) (coming c.in-Ok.capture (g.F.Files.left c.begin.new.files c.in-Ok.capture.slot)).0)
     _ _ (g.S.Sink.written c.args.sink.now) (g.S.Sink.written c.judge_packets-judged.new.sink) (g.S.Sink.written c.flush.new.sink)
     (g.F.Files.faults c.args.files.now) (g.F.Files.faults c.begin.new.files) (g.F.Files.faults c.judge_packets-judged.new.files)
     (g.S.Sink.faults c.args.sink.now) (g.S.Sink.faults c.judge_packets-judged.new.sink) (g.S.Sink.faults c.flush.new.sink) c.judge_packets-judged.result
-    (read_verdict (always c.args.table.now) c.args.limit (g.F.Files.holds c.args.files.now) c.args.name.now (g.F.Files.left c.open.new.files) (g.F.Files.left c.begin.new.files) c.new.result.slot c.new.result.limit c.in-Ok.capture c.link.result
-    c.new.ensures.slot (c.in_ok-open.ensures.opened told) c.new.ensures.limit (c.in-Ok.ensures.opens told) c.in-Ok.ensures.slot c.in-Ok.ensures.limit c.in-Ok.ensures.place c.in-Ok.ensures.moment c.link.ensures)
+    (read_verdict (always c.args.table.now) c.args.limit (g.F.Files.holds c.args.files.now) c.args.name.now (g.F.Files.left c.open.new.files) (g.F.Files.left c.begin.new.files) c.new.result.slot c.new.result.limit c.in-Ok.capture
+    c.new.ensures.slot (c.in_ok-open.ensures.opened told) c.new.ensures.limit (c.in-Ok.ensures.begins told) c.in-Ok.ensures.slot)
     refl
     (subst (λ (j : JudgingState). JudgesAll j (coming c.in-Ok.capture (g.F.Files.left c.begin.new.files c.in-Ok.capture.slot))
     (happened g.F.Files g.S.Sink c.begin.new.files c.judge_packets-judged.new.files c.args.sink.now c.judge_packets-judged.new.sink)

@@ -1,6 +1,6 @@
 use Rattle.std.proofs.Common.{◌≡◌, ◌⊎◌, inl, inr, ◌∙◌, refl, ap, sym, subst, le_trans}
 use Rattle.fs_base.specs.Outside.{Rose}
-use Rattle.fs_pcap.specs.Capture.{coming}
+use Rattle.fs_capture.specs.Capture.{coming}
 use Rattle.fs_tape.specs.declared.magic.Version.TheVariants.{Two}
 use Rattle.fs_stages.specs.Load.{Names}
 use Rattle.fs_stages.specs.Play.{HasVersion, tape_stage}
@@ -57,22 +57,22 @@ returns-in_err-flush-clause-judges g c = λ told items e v.
     let stands = c.in_ok-player.ensures.begun told items
     (subst (λ (names : Names). tape_stage c.args.config.now c.args.limit names c.args.names.now.tape.now ≡ Found items) (sym holds) e)
     (subst (λ (names : Names). HasVersion c.args.limit names c.args.names.now.tape.now Two) (sym holds) v) in
-    moments_unflushed c.args.config.now items c.in_ok-capture.capture.heading.link (capture_stage c.args.limit (g.F.Files.holds c.args.files.now) c.args.names.now.capture.now)
+    moments_unflushed c.args.config.now items (capture_stage c.args.limit (g.F.Files.holds c.args.files.now) c.args.names.now.capture.now)
     (coming c.in_ok-capture.capture (g.F.Files.left c.open_capture.new.files 2))
     (g.S.Sink.written c.args.sink.now) (g.S.Sink.written c.judge_packets-judged.new.sink) (g.S.Sink.written c.flush.new.sink) c.in_ok-following.following.output c.judge_packets-judged.new.following.output
     (Rose (g.F.Files.faults c.begin.new.files) (g.F.Files.faults c.judge_packets-judged.new.files) ⊎ Rose (g.S.Sink.faults c.args.sink.now) (g.S.Sink.faults c.judge_packets-judged.new.sink))
     (Rose (g.F.Files.faults c.args.files.now) (g.F.Files.faults c.judge_packets-judged.new.files) ⊎ Rose (g.S.Sink.faults c.args.sink.now) (g.S.Sink.faults c.flush.new.sink))
     c.judge_packets-judged.result c.from_residual-in_err-flush.result
-    (c.in_ok-capture.ensures.opened told) c.in_ok-following.ensures.same.2
-    (judges_as c.args.config.now c.in_ok-following.following.player.desk.config items c.in_ok-capture.capture.heading.link c.in_ok-following.following.link
+    (c.in_ok-capture.ensures.opened told) c.in_ok-following.ensures.same.1
+    (judges_as c.args.config.now c.in_ok-following.following.player.desk.config items
     (coming c.in_ok-capture.capture (g.F.Files.left c.open_capture.new.files 2)) (coming c.in_ok-capture.capture (g.F.Files.left c.begin.new.files 2))
     (g.S.Sink.written c.args.sink.now) (g.S.Sink.written c.judge_packets-judged.new.sink) c.in_ok-following.following.output c.judge_packets-judged.new.following.output
     (Rose (g.F.Files.faults c.begin.new.files) (g.F.Files.faults c.judge_packets-judged.new.files) ⊎ Rose (g.S.Sink.faults c.args.sink.now) (g.S.Sink.faults c.judge_packets-judged.new.sink))
     c.judge_packets-judged.result
-    (ap (λ (p : PlayerState). p.desk.config) c.in_ok-following.ensures.same.1 ∙ c.in_ok-player.ensures.config) (c.in_ok-following.ensures.same.0 ∙ c.link.ensures)
+    (ap (λ (p : PlayerState). p.desk.config) c.in_ok-following.ensures.same.0 ∙ c.in_ok-player.ensures.config)
     (ap (coming c.in_ok-capture.capture) ((c.in_ok-player.ensures.others told).others 2 (λ same. absurd cc)))
     (c.judge_packets-judged.ensures.judged told items
-    (stands_as items 0 c.in_ok-capture.capture.moment c.in_ok-player.player c.in_ok-following.following.player (g.F.Files.left c.begin.new.files) 1 c.in_ok-capture.ensures.moment c.in_ok-following.ensures.same.1 refl stands)))
+    (stands_as items 0 c.in_ok-capture.capture.moment c.in_ok-player.player c.in_ok-following.following.player (g.F.Files.left c.begin.new.files) 1 c.in_ok-capture.ensures.moment c.in_ok-following.ensures.same.0 refl stands)))
     c.in_err-flush.ensures.err
     (inr (rose_earlier _ _ _ c.judge_packets-judged.ensures.sink_later c.in_err-flush.ensures.cause.failed))
     c.from_residual-in_err-flush.ensures.1
@@ -83,21 +83,21 @@ returns-clause-judges g c = λ told items e v.
     let stands = c.in_ok-player.ensures.begun told items
     (subst (λ (names : Names). tape_stage c.args.config.now c.args.limit names c.args.names.now.tape.now ≡ Found items) (sym holds) e)
     (subst (λ (names : Names). HasVersion c.args.limit names c.args.names.now.tape.now Two) (sym holds) v) in
-    moments_flushed c.args.config.now items c.in_ok-capture.capture.heading.link (capture_stage c.args.limit (g.F.Files.holds c.args.files.now) c.args.names.now.capture.now)
+    moments_flushed c.args.config.now items (capture_stage c.args.limit (g.F.Files.holds c.args.files.now) c.args.names.now.capture.now)
     (coming c.in_ok-capture.capture (g.F.Files.left c.open_capture.new.files 2))
     (g.S.Sink.written c.args.sink.now) (g.S.Sink.written c.judge_packets-judged.new.sink) (g.S.Sink.written c.flush.new.sink) c.in_ok-following.following.output c.judge_packets-judged.new.following.output
     (Rose (g.F.Files.faults c.begin.new.files) (g.F.Files.faults c.judge_packets-judged.new.files) ⊎ Rose (g.S.Sink.faults c.args.sink.now) (g.S.Sink.faults c.judge_packets-judged.new.sink))
     (Rose (g.F.Files.faults c.args.files.now) (g.F.Files.faults c.judge_packets-judged.new.files) ⊎ Rose (g.S.Sink.faults c.args.sink.now) (g.S.Sink.faults c.flush.new.sink))
     c.judge_packets-judged.result
-    (c.in_ok-capture.ensures.opened told) c.in_ok-following.ensures.same.2
-    (judges_as c.args.config.now c.in_ok-following.following.player.desk.config items c.in_ok-capture.capture.heading.link c.in_ok-following.following.link
+    (c.in_ok-capture.ensures.opened told) c.in_ok-following.ensures.same.1
+    (judges_as c.args.config.now c.in_ok-following.following.player.desk.config items
     (coming c.in_ok-capture.capture (g.F.Files.left c.open_capture.new.files 2)) (coming c.in_ok-capture.capture (g.F.Files.left c.begin.new.files 2))
     (g.S.Sink.written c.args.sink.now) (g.S.Sink.written c.judge_packets-judged.new.sink) c.in_ok-following.following.output c.judge_packets-judged.new.following.output
     (Rose (g.F.Files.faults c.begin.new.files) (g.F.Files.faults c.judge_packets-judged.new.files) ⊎ Rose (g.S.Sink.faults c.args.sink.now) (g.S.Sink.faults c.judge_packets-judged.new.sink))
     c.judge_packets-judged.result
-    (ap (λ (p : PlayerState). p.desk.config) c.in_ok-following.ensures.same.1 ∙ c.in_ok-player.ensures.config) (c.in_ok-following.ensures.same.0 ∙ c.link.ensures)
+    (ap (λ (p : PlayerState). p.desk.config) c.in_ok-following.ensures.same.0 ∙ c.in_ok-player.ensures.config)
     (ap (coming c.in_ok-capture.capture) ((c.in_ok-player.ensures.others told).others 2 (λ same. absurd cc)))
     (c.judge_packets-judged.ensures.judged told items
-    (stands_as items 0 c.in_ok-capture.capture.moment c.in_ok-player.player c.in_ok-following.following.player (g.F.Files.left c.begin.new.files) 1 c.in_ok-capture.ensures.moment c.in_ok-following.ensures.same.1 refl stands)))
+    (stands_as items 0 c.in_ok-capture.capture.moment c.in_ok-player.player c.in_ok-following.following.player (g.F.Files.left c.begin.new.files) 1 c.in_ok-capture.ensures.moment c.in_ok-following.ensures.same.0 refl stands)))
     c.in_ok-flush.ensures.ok
     (rose_wider _ _ _ _ _ _ (le_trans c.in_ok-capture.ensures.later c.in_ok-player.ensures.later) c.in_ok-flush.ensures.cause.later)

@@ -1,5 +1,5 @@
 use Rattle.std.proofs.Common.{◌≡◌, ◌≤◌, ◌-◌, length, List, IsTrue, None}
-use Rattle.fs_pcap.specs.Capture.{coming}
+use Rattle.fs_capture.specs.Capture.{coming}
 use Rattle.fs_pcap.specs.Head.{longest_record}
 use Rattle.fs_tape.specs.Tape.{Timed}
 use Rattle.fs_stages.specs.Player.{Stands}
@@ -16,7 +16,6 @@ invariant-packets g l = record {
   limit : l.capture.limit ≡ l.fn.capture.limit;
   within : l.capture.place ≤ l.capture.limit;
   number : l.number ≤ l.capture.place;
-  link : l.following.link ≡ l.fn.following.link;
   tape : l.following.player.tape.slot ≡ 1;
   config : l.following.player.desk.config ≡ l.fn.following.player.desk.config;
   stands : StandsFor (admitted_rules l.following.player.desk.held) l.following.rules.compiled l.following.rules.v4.items l.following.rules.v6.items;
@@ -24,7 +23,7 @@ invariant-packets g l = record {
   sink_later : g.S.Sink.faults l.fn.sink ≤ g.S.Sink.faults l.sink;
   judging : IsTrue g.F.Files.tells → (items : List Timed) → Stands items l.fn.capture.moment l.fn.following.player (g.F.Files.left l.fn.files 1)
       → Stands items l.capture.moment l.following.player (g.F.Files.left l.files 1)
-      × Followed l.fn.following.player.desk.config items l.fn.following.link (coming l.fn.capture (g.F.Files.left l.fn.files 2)) (coming l.capture (g.F.Files.left l.files 2))
+      × Followed l.fn.following.player.desk.config items (coming l.fn.capture (g.F.Files.left l.fn.files 2)) (coming l.capture (g.F.Files.left l.files 2))
       (g.S.Sink.written l.fn.sink) (g.S.Sink.written l.sink) l.fn.following.output l.following.output l.number;
 }
 

@@ -5,4 +5,4 @@ use Rattle.fs_enforce.proofs.judge.Judging.judge_packet.Goals as goal
 
 pub returns-in-Ok-clause-sends : goal.returns-in-Ok-clause-sends
 returns-in-Ok-clause-sends g c = rw (← c.self.view_is)
-    (sends_as (packet_line c.args.number c.self.inside.matcher c.self.inside.link c.args.octets.now c.in-Ok.view (sym c.view.ensures ∙ c.in-Ok.is)) c.judge.ensures.sends)
+    (sends_as (packet_line c.args.number c.self.inside.matcher c.args.link c.args.octets.now c.in-Ok.view (sym c.read_packet.ensures ∙ c.in-Ok.is)) c.judge.ensures.sends)
