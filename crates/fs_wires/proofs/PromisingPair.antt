@@ -1,0 +1,110 @@
+-- What the clauses of a run of `pair` say follows from what it does.
+use Rattle.std.proofs.Common.{◌≡◌, ◌≢◌, ◌⊎◌, inl, inr, ◌∙◌, ℕ, List, Option, refl, sym, subst}
+use Rattle.fs_base.specs.Happened.{Happened, FilesFailed, SinkFailed, WireFailed}
+use Rattle.fs_base.specs.Sink.{Grew}
+use Rattle.fs_base.specs.declared.config.Config.{Config}
+use Rattle.fs_speaker.specs.declared.sending.Sending.{Sending}
+use Rattle.fs_ends.specs.declared.tell.Ending.{Ending}
+use Rattle.fs_ends.specs.declared.tell.Ending.TheVariants.{Done, Closed as HasClosed, Ended, AtLimit}
+use Rattle.fs_stages.specs.Load.{Names, sending_stage}
+use Rattle.fs_stages.specs.Refusal.{EndsEarly, Stage, Stopped, status_of}
+use Rattle.fs_stages.specs.declared.refusal.Refusal.{Refusal}
+use Rattle.fs_wires.specs.Conversation.{Conversation}
+use Rattle.fs_wires.specs.Listed.{verdict_by}
+use Rattle.fs_wires.specs.Pairing.{Joined, Joins, JoinsSo, Paired}
+use Rattle.fs_wires.specs.Promised.{BreaksSo, Carried, HasJoinedStatus, HasPairStatus, PairPromises}
+use Rattle.fs_wires.proofs.Promising.{files_stop, never_session, never_zero}
+
+-- the status
+
+abbrev Caused : Type 0 → ℕ → ℕ → Type 0
+Caused failed status answer = (answer ≡ status) ⊎ (answer ≡ 6) ⊎ ((answer ≡ 1) × failed)
+
+pub pair_status : (limit : ℕ) (holds : Names) (config rules : List ℕ) (failed : Type 0) (before now : Option (List ℕ)) (talk : Conversation) (answer : ℕ)
+    → JoinsSo limit holds config rules failed before now talk answer
+    → HasPairStatus limit holds config rules talk answer ⊎ (answer ≡ 6) ⊎ ((answer ≡ 1) × failed)
+pair_status limit holds config rules failed before now talk answer (inl early) = at early.reason
+  where
+    at : ((refusal : Refusal) × (sending_stage limit holds config rules ≡ Stopped refusal) × (answer ≡ status_of refusal)) ⊎ (answer ≡ 6) ⊎ ((answer ≡ 1) × failed)
+        → HasPairStatus limit holds config rules talk answer ⊎ (answer ≡ 6) ⊎ ((answer ≡ 1) × failed)
+    at (inl h) = inl (subst (λ (s : Stage (Config × Sending)). HasJoinedStatus limit s talk answer) (sym h.1) h.2)
+    at (inr h) = inr h
+pair_status limit holds config rules failed before now talk answer (inr p) = at p.answers.status_is
+  where
+    at : Caused failed (verdict_by p.ending p.text).status answer → HasPairStatus limit holds config rules talk answer ⊎ (answer ≡ 6) ⊎ ((answer ≡ 1) × failed)
+    at (inl h) = inl (subst (λ (s : Stage (Config × Sending)). HasJoinedStatus limit s talk answer) (sym p.found) (p.ending, p.text, (p.speaks, h)))
+    at (inr h) = inr h
+
+-- what is promised
+
+-- the one ending that answers 0
+only_done : (ending : Ending) (text : List ℕ) → (verdict_by ending text).status ≡ 0 → ending ≡ Done
+only_done Done text e = refl
+only_done (HasClosed why) text e = absurd cc
+only_done Ended text e = absurd cc
+only_done AtLimit text e = absurd cc
+
+module _ (limit : ℕ) (holds : Names) (config rules : List ℕ) (call : Happened) (talk : Conversation) (answer : ℕ) where
+  abbrev failed : Type 0
+  failed = FilesFailed call ⊎ (SinkFailed call ⊎ WireFailed call)
+
+  abbrev Early : Type 0
+  Early = EndsEarly (sending_stage limit holds config rules) failed call.before.written call.now.written answer
+
+  abbrev Ends : Type 0
+  Ends = Paired limit holds config rules failed call.before.written call.now.written talk answer
+
+  -- a run that ended early
+  early_not : (wanted : ℕ) → answer ≡ wanted → wanted ≢ 6 → wanted ≢ 1 → ((refusal : Refusal) → sending_stage limit holds config rules ≡ Stopped refusal → status_of refusal ≡ wanted → ⊥) → Early → ⊥
+  early_not wanted is six one none early = at early.reason
+    where
+      at : ((refusal : Refusal) × (sending_stage limit holds config rules ≡ Stopped refusal) × (answer ≡ status_of refusal)) ⊎ (answer ≡ 6) ⊎ ((answer ≡ 1) × failed) → ⊥
+      at (inl h) = none h.0 h.1 (sym h.2 ∙ is)
+      at (inr (inl h)) = six (sym is ∙ h)
+      at (inr (inr h)) = one (sym is ∙ h.0)
+
+  -- an answered end
+  status_at : (p : Ends) → answer ≢ 6 → answer ≢ 1 → answer ≡ (verdict_by p.ending p.text).status
+  status_at p six one = at p.answers.status_is
+    where
+      at : Caused failed (verdict_by p.ending p.text).status answer → answer ≡ (verdict_by p.ending p.text).status
+      at (inl h) = h
+      at (inr (inl h)) = absurd (six h)
+      at (inr (inr h)) = absurd (one h.0)
+
+  differs : (one other : ℕ) → one ≢ other → answer ≡ one → answer ≢ other
+  differs one other d e h = d (sym e ∙ h)
+
+  carried_so : JoinsSo limit holds config rules failed call.before.written call.now.written talk answer → answer ≡ 0 → Carried limit holds config rules call talk
+  carried_so (inl early) zero = absurd (early_not 0 zero (λ e. absurd cc) (λ e. absurd cc) (λ refusal h e. never_zero refusal e) early)
+  carried_so (inr p) zero =
+      let six : answer ≢ 6 = differs 0 6 (λ e. absurd cc) zero in
+      let one : answer ≢ 1 = differs 0 1 (λ e. absurd cc) zero in
+      let done : p.ending ≡ Done = only_done p.ending p.text (sym (status_at p six one) ∙ zero) in
+      record {
+        accepted = p.accepted;
+        sending = p.sending;
+        found = p.found;
+        text = p.text;
+        speaks = subst (λ (e : Ending). Joined e p.accepted p.sending limit p.text talk) done p.speaks;
+        wrote = subst (λ (e : Ending). Grew call.before.written call.now.written (verdict_by e p.text).text) done (p.answers.whole six one);
+      }
+
+  breaks_so : JoinsSo limit holds config rules failed call.before.written call.now.written talk answer → answer ≡ 8 → BreaksSo limit holds config rules call talk answer
+  breaks_so (inl early) eight = absurd (early_not 8 eight (λ e. absurd cc) (λ e. absurd cc) (λ refusal h e. never_session refusal (files_stop limit holds config rules refusal h) e) early)
+  breaks_so (inr p) eight =
+      let six : answer ≢ 6 = differs 8 6 (λ e. absurd cc) eight in
+      let one : answer ≢ 1 = differs 8 1 (λ e. absurd cc) eight in
+      record {
+        accepted = p.accepted;
+        sending = p.sending;
+        found = p.found;
+        ending = p.ending;
+        text = p.text;
+        speaks = p.speaks;
+        status_is = status_at p six one;
+        wrote = p.answers.whole six one;
+      }
+
+  pub pair_promises : Joins limit holds config rules call talk answer → PairPromises limit holds config rules call talk answer
+  pair_promises j = record { carried = carried_so j; session = breaks_so j }

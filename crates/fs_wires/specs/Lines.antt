@@ -1,0 +1,27 @@
+-- The lines of the commands that speak over a wire.
+use Rattle.std.specs.Prelude.{ℕ, List, [], ◌++◌, codes, decimal}
+use Rattle.fs_speaker.specs.declared.state.Closed.{Closed}
+use Rattle.fs_speaker.specs.declared.state.Closed.TheVariants.{Fault, Notified, NoFamily, Memory}
+
+-- a word and the codes of a NOTIFICATION (RFC 4271 section 4.5)
+abbrev pub codes_text : List ℕ → ℕ → ℕ → List ℕ
+codes_text word code subcode = word ++ (decimal code ++ (codes "/" ++ decimal subcode))
+
+-- How a session closed: by a fault, by the other end's NOTIFICATION, or since the other end's OPEN lacks the family of a
+-- rule. No octets close it for want of memory.
+abbrev pub closing_text : Closed → List ℕ
+closing_text (Fault code subcode) = codes_text [] code subcode
+closing_text (Notified code subcode) = codes_text (codes "notified ") code subcode
+closing_text NoFamily = codes "family"
+closing_text Memory = []
+
+abbrev pub closing_line : Closed → List ℕ
+closing_line why = codes "session " ++ (closing_text why ++ codes "\n")
+
+-- the octets ended before the session was established
+abbrev pub ended_line : List ℕ
+ended_line = codes "session ended\n"
+
+-- so many rules were announced
+abbrev pub sent_line : ℕ → List ℕ
+sent_line count = codes "sent " ++ (decimal count ++ codes "\n")
