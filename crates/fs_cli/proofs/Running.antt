@@ -1,42 +1,57 @@
 -- What the clauses of a run say follows from what it does.
-use Rattle.std.proofs.Common.{◌≡◌, ◌≢◌, ◌⊎◌, ◌++◌, append-nil, inl, inr, ◌<◌, ◌∙◌, ◌^◌, ◌-◌, ◌↔◌, ℕ, List, Option, Some, None, Result, IsTrue, refl, ap, sym, subst, arith, true, false, Bool, if◌then◌else◌, length, nat_le}
+use Rattle.std.proofs.Common.{◌≡◌, ◌≢◌, ◌⊎◌, ◌++◌, append-nil, inl, inr, ◌<◌, ◌∙◌, ◌↔◌, ℕ, List, Option, Some, None, Result, IsTrue, refl, ap, sym, subst, arith, true, false, Bool, if◌then◌else◌, length, nat_le}
 use Rattle.std.proofs.lemmas.Bool.Decides.{nat_tests}
-use Rattle.fs_base.specs.Happened.{Happened, happened, FilesFailed, SinkFailed, FilesStood, SinkStood}
+use Rattle.fs_base.specs.Happened.{Happened, happened, with_wire, FilesFailed, SinkFailed, WireFailed, FilesStood, SinkStood, WireStood, Stood}
 use Rattle.fs_base.specs.Outside.{Rose}
 use Rattle.fs_base.specs.Sink.{Grew}
 use Rattle.fs_base.specs.declared.outside.files.Files as files
 use Rattle.fs_base.specs.declared.outside.sink.Sink as sink
+use Rattle.fs_base.specs.declared.outside.wire.Wire as wire
+use Rattle.fs_base.specs.declared.outside.clock.Clock as clock
 use Rattle.fs_base.proofs.Grew.{Grew-refl}
 use Rattle.fs_records.specs.Records.{End, done, limited, bad}
 use Rattle.fs_base.specs.declared.config.Config.{Config}
-use Rattle.fs_base.specs.declared.prefix.Family.{Family}
 use Rattle.fs_conf.specs.Config.{config_of}
-use Rattle.fs_pcap.specs.Capture.{Captured, Recorded, capture_of}
-use Rattle.fs_pcap.specs.declared.fault.CaptureReason.{CaptureReason}
+use Rattle.fs_capture.specs.Capture.{Captured, Recorded, capture_of}
+use Rattle.fs_capture.specs.declared.fault.CaptureReason.{CaptureReason}
 use Rattle.fs_rules.specs.Table.{Held}
 use Rattle.fs_tape.specs.Tape.{Timed, tape_of}
+use Rattle.fs_tape.specs.Laws.{tape_text}
 use Rattle.fs_tape.specs.declared.fault.TapeReason.{TapeReason}
-use Rattle.fs_cli.specs.Program.{ChecksSo, Does, Runs, HasNoMoments, HasStatus, HasCauses, Completes, Promises, world}
+use Rattle.fs_wires.specs.Announcing.{Announces}
+use Rattle.fs_wires.specs.Conversation.{Conversation, conversation}
+use Rattle.fs_wires.specs.Pairing.{Joins}
+use Rattle.fs_wires.specs.Promised.{AnnouncePromises, PairPromises}
+use Rattle.fs_wires.proofs.Promising.{announce_promises, announce_status}
+use Rattle.fs_wires.specs.Listening.{ListensTo}
+use Rattle.fs_wires.specs.PromisedHearing.{ListenPromises}
+use Rattle.fs_wires.proofs.PromisingHearing.{listen_promises, listen_status}
+use Rattle.fs_wires.proofs.PromisingPair.{pair_promises, pair_status}
+use Rattle.fs_cli.specs.Program.{ChecksSo, Does, Runs, HasNoMoments, HasStatus, HasCauses, Completes, Promises, world, FailedOver, OutsideFailed, WireServed, World, AreTold, FilesKept, SinkKept, WireKept, ClockKept, names_in, happened_in, talk_in, speaks}
 use Rattle.fs_enforce.specs.Command.{Enforces, EnforcesSo, Enforced, Inputs, inputs, inputs_stage, status_for}
 use Rattle.fs_generate.specs.Command.{Generates, GeneratesSo, Generated}
 use Rattle.fs_stages.specs.Load.{Names, fetch, config_stage}
-use Rattle.fs_cli.specs.Command.{Form, Enforce, Surveys, Check, Gen, form_of}
+use Rattle.fs_cli.specs.Command.{Form, Enforce, Surveys, Converts, Check, Gen, form_of, Announce, Listen, Pair}
+use Rattle.fs_mrt.specs.declared.fault.DumpReason.{DumpReason}
+use Rattle.fs_convert.specs.Command.{Converts as ConvertsDump, Converted, ConvertsSo, convert_status, dump_stage, status_for as status_by, status_at as dump_status, verdict_of}
+use Rattle.fs_convert.specs.Making.{remade}
 use Rattle.fs_cli.specs.Survey.{Text, Lists, ListsSo, Listed, listed_status, text_for}
+use Rattle.fs_cli.specs.declared.command.Subject.{Subject}
 use Rattle.fs_cli.specs.declared.survey.Survey.{Survey}
 use Rattle.fs_tape.specs.declared.magic.Version.TheVariants.{Two}
 use Rattle.fs_stages.specs.Play.{HasVersion, played_to, tape_stage, accepted_stage}
-use Rattle.fs_enforce.specs.Judge.{capture_stage, lines_of, output_of, rules_by, status_at}
+use Rattle.fs_enforce.specs.Judge.{capture_stage, lines_from, output_of, rules_by, status_at}
 use Rattle.fs_enforce.specs.Moments.{AnswersAt, HoldAt, verdict_at}
-use Rattle.fs_stages.specs.Refusal.{answered, Stage, Found, Stopped, and_then, or_stop, status_of}
+use Rattle.fs_stages.specs.Refusal.{Answers, answered, Stage, Found, Stopped, and_then, or_stop, status_of}
 use Rattle.fs_stages.specs.declared.refusal.Refusal.{Refusal}
-use Rattle.fs_stages.specs.declared.refusal.Refusal.TheVariants.{Outside, Config as Refused, Tape, Capture, Memory, Limit}
+use Rattle.fs_stages.specs.declared.refusal.Refusal.TheVariants.{Outside, Config as Refused, Tape, Capture, Dump, Memory, Limit, Session}
 
 -- the words
 
-pub runs_words : (tells : Bool) (limit : ℕ) (holds : Names) (form : Option Form) (call : Happened) (answer : ℕ)
-    → Runs tells limit holds form call answer → (answer ≡ 2) ↔ (form ≡ None)
-runs_words tells limit holds None call answer r = (λ e. refl, λ e. r.0)
-runs_words tells limit holds (Some form) call answer r = (λ e. absurd (r.0 e), λ e. absurd cc)
+pub runs_words : (tells : Bool) (limit : ℕ) (holds : Names) (form : Option Form) (call : Happened) (talk : Conversation) (answer : ℕ)
+    → Runs tells limit holds form call talk answer → (answer ≡ 2) ↔ (form ≡ None)
+runs_words tells limit holds None call talk answer r = (λ e. refl, λ e. r.0)
+runs_words tells limit holds (Some form) call talk answer r = (λ e. absurd (r.0 e), λ e. absurd cc)
 
 -- the status
 
@@ -71,13 +86,13 @@ enforce_status limit holds config tape capture failed before now answer (inr jud
     at (inl h) = inl (h ∙ sym stage)
     at (inr h) = inr h
 
-check_status : (limit : ℕ) (holds : Names) (family : Family) (word : List ℕ) (files sink : Type 0) (before now : Option (List ℕ)) (answer : ℕ)
-    → ChecksSo family word sink before now answer
-    → HasStatus limit holds (Check family word) answer ⊎ (answer ≡ 6) ⊎ ((answer ≡ 1) × (files ⊎ sink))
-check_status limit holds family word files sink before now answer (inl none) = inr (inl none.0)
-check_status limit holds family word files sink before now answer (inr says) = at says.answers.status_is
+check_status : (limit : ℕ) (holds : Names) (subject : Subject) (word : List ℕ) (files sink : Type 0) (before now : Option (List ℕ)) (talk : Conversation) (answer : ℕ)
+    → ChecksSo subject word sink before now answer
+    → HasStatus limit holds (Check subject word) talk answer ⊎ (answer ≡ 6) ⊎ ((answer ≡ 1) × (files ⊎ sink))
+check_status limit holds subject word files sink before now talk answer (inl none) = inr (inl none.0)
+check_status limit holds subject word files sink before now talk answer (inr says) = at says.answers.status_is
   where
-    at : Caused sink (if says.accepted then 0 else 9) answer → HasStatus limit holds (Check family word) answer ⊎ (answer ≡ 6) ⊎ ((answer ≡ 1) × (files ⊎ sink))
+    at : Caused sink (if says.accepted then 0 else 9) answer → HasStatus limit holds (Check subject word) talk answer ⊎ (answer ≡ 6) ⊎ ((answer ≡ 1) × (files ⊎ sink))
     at (inl h) = inl (says.accepted, says.text, says.reports, h)
     at (inr (inl h)) = inr (inl h)
     at (inr (inr h)) = inr (inr (h.0, inr h.1))
@@ -96,6 +111,20 @@ survey_status survey limit holds config tape failed before now answer (inr (inr 
     at (inl h) = inl (h ∙ sym (ap listed_status shows.found))
     at (inr h) = inr h
 
+dump_caused : (limit : ℕ) (holds : Names) (config dump : List ℕ) (failed : Type 0) (before now : Option (List ℕ)) (answer : ℕ)
+    → ConvertsSo limit holds config dump failed before now answer → Caused failed (convert_status limit holds config dump) answer
+dump_caused limit holds config dump failed before now answer (inl early) = at early.reason
+  where
+    at : ((refusal : Refusal) × (config_stage limit holds config ≡ Stopped refusal) × (answer ≡ status_of refusal)) ⊎ (answer ≡ 6) ⊎ ((answer ≡ 1) × failed)
+        → Caused failed (convert_status limit holds config dump) answer
+    at (inl h) = inl (h.2 ∙ sym (ap (status_by limit (dump_stage holds dump)) h.1))
+    at (inr h) = inr h
+dump_caused limit holds config dump failed before now answer (inr makes) = at makes.answers.status_is
+  where
+    at : Caused failed (verdict_of makes.accepted limit (dump_stage holds dump)).status answer → Caused failed (convert_status limit holds config dump) answer
+    at (inl h) = inl (h ∙ sym (ap (status_by limit (dump_stage holds dump)) makes.found))
+    at (inr h) = inr h
+
 gen_status : (count : ℕ) (files sink : Type 0) (before now : Option (List ℕ)) (answer : ℕ)
     → GeneratesSo count sink before now answer → (answer ≡ 0) ⊎ (answer ≡ 6) ⊎ ((answer ≡ 1) × (files ⊎ sink))
 gen_status count files sink before now answer (inl none) = inr (inl none.0)
@@ -106,32 +135,47 @@ gen_status count files sink before now answer (inr counts) = at counts.answers.s
     at (inr (inl h)) = inr (inl h)
     at (inr (inr h)) = inr (inr (h.0, inr h.1))
 
-pub runs_causes : (tells : Bool) (limit : ℕ) (holds : Names) (form : Option Form) (call : Happened) (answer : ℕ)
-    → IsTrue tells → Runs tells limit holds form call answer → HasCauses limit holds form call answer
-runs_causes tells limit holds None call answer told r = tt
-runs_causes tells limit holds (Some (Enforce config tape capture)) call answer told r =
+pub runs_causes : (tells : Bool) (limit : ℕ) (holds : Names) (form : Option Form) (call : Happened) (talk : Conversation) (answer : ℕ)
+    → IsTrue tells → Runs tells limit holds form call talk answer → HasCauses limit holds form call talk answer
+runs_causes tells limit holds None call talk answer told r = tt
+runs_causes tells limit holds (Some (Enforce config tape capture)) call talk answer told r =
     enforce_status limit holds config tape capture (FilesFailed call ⊎ SinkFailed call) call.before.written call.now.written answer (r.1 told)
-runs_causes tells limit holds (Some (Surveys survey config tape)) call answer told r =
+runs_causes tells limit holds (Some (Surveys survey config tape)) call talk answer told r =
     survey_status (text_for survey) limit holds config tape (FilesFailed call ⊎ SinkFailed call) call.before.written call.now.written answer (r.1 told)
-runs_causes tells limit holds (Some (Check family word)) call answer told r =
-    check_status limit holds family word (FilesFailed call) (SinkFailed call) call.before.written call.now.written answer r.1
-runs_causes tells limit holds (Some (Gen count)) call answer told r =
+runs_causes tells limit holds (Some (Converts config dump)) call talk answer told r =
+    dump_caused limit holds config dump (FilesFailed call ⊎ SinkFailed call) call.before.written call.now.written answer (r.1 told)
+runs_causes tells limit holds (Some (Check subject word)) call talk answer told r =
+    check_status limit holds subject word (FilesFailed call) (SinkFailed call) call.before.written call.now.written talk answer r.1
+runs_causes tells limit holds (Some (Gen count)) call talk answer told r =
     gen_status count (FilesFailed call) (SinkFailed call) call.before.written call.now.written answer r.1
+runs_causes tells limit holds (Some (Announce config rules address)) call talk answer told r =
+    announce_status limit holds config rules (FilesFailed call ⊎ (SinkFailed call ⊎ WireFailed call)) call.before.written call.now.written talk answer (r.1 told)
+runs_causes tells limit holds (Some (Listen config address)) call talk answer told r =
+    listen_status limit holds config (FilesFailed call ⊎ (SinkFailed call ⊎ WireFailed call)) call.before.written call.now.written talk answer (r.1 told)
+runs_causes tells limit holds (Some (Pair config rules)) call talk answer told r =
+    pair_status limit holds config rules (FilesFailed call ⊎ (SinkFailed call ⊎ WireFailed call)) call.before.written call.now.written talk answer (r.1 told)
 
 -- completeness
 
-not_rose : (before now : ℕ) → now ≡ before → before < 2 ^ 64 - 1 → Rose before now → ⊥
-not_rose before now e l r = omega (arith, e, l, r)
+not_rose : (before now : ℕ) → Stood before now → Rose before now → ⊥
+not_rose before now s r = omega (arith, s.stands, s.below, r)
 
-pub causes_complete : (limit : ℕ) (holds : Names) (form : Option Form) (call : Happened) (answer : ℕ)
-    → FilesStood call → SinkStood call → HasCauses limit holds form call answer → Completes limit holds form answer
-causes_complete limit holds None call answer f s h = tt
-causes_complete limit holds (Some form) call answer f s (inl h) = inl h
-causes_complete limit holds (Some form) call answer f s (inr (inl h)) = inr h
-causes_complete limit holds (Some form) call answer f s (inr (inr (one, inl r))) =
-    absurd (not_rose call.before.file_faults call.now.file_faults f.stands f.below r)
-causes_complete limit holds (Some form) call answer f s (inr (inr (one, inr r))) =
-    absurd (not_rose call.before.sink_faults call.now.sink_faults s.stands s.below r)
+none_failed : (form : Form) (call : Happened) → FilesStood call → SinkStood call → (IsTrue (speaks form) → WireStood call) → OutsideFailed form call → ⊥
+none_failed form call f s w failed = by (speaks form) refl failed
+  where
+    by : (b : Bool) → speaks form ≡ b → FailedOver b call → ⊥
+    by true e (inl r) = not_rose call.before.file_faults call.now.file_faults f r
+    by true e (inr (inl r)) = not_rose call.before.sink_faults call.now.sink_faults s r
+    by true e (inr (inr r)) = not_rose call.before.wire_faults call.now.wire_faults (w e) r
+    by false e (inl r) = not_rose call.before.file_faults call.now.file_faults f r
+    by false e (inr r) = not_rose call.before.sink_faults call.now.sink_faults s r
+
+pub causes_complete : (limit : ℕ) (holds : Names) (form : Option Form) (call : Happened) (talk : Conversation) (answer : ℕ)
+    → FilesStood call → SinkStood call → WireServed form call → HasCauses limit holds form call talk answer → Completes limit holds form talk answer
+causes_complete limit holds None call talk answer f s w h = tt
+causes_complete limit holds (Some form) call talk answer f s w (inl h) = inl h
+causes_complete limit holds (Some form) call talk answer f s w (inr (inl h)) = inr h
+causes_complete limit holds (Some form) call talk answer f s w (inr (inr h)) = absurd (none_failed form call f s w h.1)
 
 -- the headline
 
@@ -141,8 +185,10 @@ never_zero Outside e = absurd cc
 never_zero Refused e = absurd cc
 never_zero (Tape reason place) e = absurd cc
 never_zero Capture e = absurd cc
+never_zero Dump e = absurd cc
 never_zero Memory e = absurd cc
 never_zero Limit e = absurd cc
+never_zero Session e = absurd cc
 
 -- where stages are passed, each gave its value
 then_found : {A B : Type 0} (stage : Stage A) (next : A → Stage B) (b : B) → and_then stage next ≡ Found b → (a : A) × (stage ≡ Found a) × (next a ≡ Found b)
@@ -236,7 +282,7 @@ enforced_well limit holds config tape capture failed call answer (inr judged) ze
           refl,
           ended_well (capture_of limit octets).end (sym e ∙ zero),
           subst (HoldAt judged.accepted judged.items a.came.held) all a.came.leaves,
-          subst (λ (packets : List Captured). Grew call.before.written call.now.written (lines_of (rules_by a.came.held) (capture_of limit octets).link packets)) all (a.answers.whole six one),
+          subst (λ (packets : List Captured). Grew call.before.written call.now.written (lines_from 0 (rules_by a.came.held) packets)) all (a.answers.whole six one),
         )
 
     whole : answer ≡ (verdict_at judged.judged.came.held judged.judged.came.judged (capture_stage limit holds capture)).status → Enforced limit holds config tape capture call
@@ -265,12 +311,12 @@ enforced_well limit holds config tape capture failed call answer (inr judged) ze
     at (inr (inl h)) = absurd cc
     at (inr (inr h)) = let bad : answer ≡ 1 = h.0 in absurd cc
 
-pub runs_headline : (tells : Bool) (limit : ℕ) (holds : Names) (form : Option Form) (call : Happened) (answer : ℕ)
-    → IsTrue tells → Runs tells limit holds form call answer → answer ≡ 0
+pub runs_headline : (tells : Bool) (limit : ℕ) (holds : Names) (form : Option Form) (call : Happened) (talk : Conversation) (answer : ℕ)
+    → IsTrue tells → Runs tells limit holds form call talk answer → answer ≡ 0
     → (config tape capture : List ℕ) → form ≡ Some (Enforce config tape capture) → Enforced limit holds config tape capture call
-runs_headline tells limit holds form call answer told r zero config tape capture e =
+runs_headline tells limit holds form call talk answer told r zero config tape capture e =
     enforced_well limit holds config tape capture (FilesFailed call ⊎ SinkFailed call) call answer
-    ((subst (λ (f : Option Form). Runs tells limit holds f call answer) e r).1 told) zero
+    ((subst (λ (f : Option Form). Runs tells limit holds f call talk answer) e r).1 told) zero
 
 -- the listing
 
@@ -310,12 +356,75 @@ listed_well survey limit holds config tape failed call answer (inr (inr shows)) 
     one : answer ≢ 1
     one = λ e. absurd cc
 
-pub runs_listed : (tells : Bool) (limit : ℕ) (holds : Names) (form : Option Form) (call : Happened) (answer : ℕ)
-    → IsTrue tells → Runs tells limit holds form call answer → answer ≡ 0
+pub runs_listed : (tells : Bool) (limit : ℕ) (holds : Names) (form : Option Form) (call : Happened) (talk : Conversation) (answer : ℕ)
+    → IsTrue tells → Runs tells limit holds form call talk answer → answer ≡ 0
     → (survey : Survey) (config tape : List ℕ) → form ≡ Some (Surveys survey config tape) → Listed (text_for survey) limit holds config tape call
-runs_listed tells limit holds form call answer told r zero survey config tape e =
+runs_listed tells limit holds form call talk answer told r zero survey config tape e =
     listed_well (text_for survey) limit holds config tape (FilesFailed call ⊎ SinkFailed call) call answer
-    ((subst (λ (f : Option Form). Runs tells limit holds f call answer) e r).1 told) zero
+    ((subst (λ (f : Option Form). Runs tells limit holds f call talk answer) e r).1 told) zero
+
+-- a dump
+
+dump_done : (end : End DumpReason) → dump_status end ≡ 0 → end ≡ done
+dump_done done e = refl
+dump_done limited e = absurd cc
+dump_done (bad reason place) e = absurd cc
+
+converted_well : (limit : ℕ) (holds : Names) (config dump : List ℕ) (failed : Type 0) (call : Happened) (answer : ℕ)
+    → ConvertsSo limit holds config dump failed call.before.written call.now.written answer → answer ≡ 0 → Converted limit holds config dump call
+converted_well limit holds config dump failed call answer (inl early) zero = absurd (at early.reason)
+  where
+    at : ((refusal : Refusal) × (config_stage limit holds config ≡ Stopped refusal) × (answer ≡ status_of refusal)) ⊎ (answer ≡ 6) ⊎ ((answer ≡ 1) × failed) → ⊥
+    at (inl h) = never_zero h.0 (sym h.2 ∙ zero)
+    at (inr (inl h)) = absurd cc
+    at (inr (inr h)) = let one : answer ≡ 1 = h.0 in absurd cc
+converted_well limit holds config dump failed call answer (inr makes) zero = at makes.answers.status_is
+  where
+    six : answer ≢ 6
+    six = λ e. absurd cc
+
+    one : answer ≢ 1
+    one = λ e. absurd cc
+
+    by : (content : Option (List ℕ)) → Answers (verdict_of makes.accepted limit (or_stop Outside content)) failed call.before.written call.now.written answer
+        → answer ≡ (verdict_of makes.accepted limit (or_stop Outside content)).status
+        → (octets : List ℕ) × (content ≡ Some octets) × (remade makes.accepted limit octets ≡ ((remade makes.accepted limit octets).0, done))
+        × Grew call.before.written call.now.written (tape_text Two (remade makes.accepted limit octets).0)
+    by None a e = absurd cc
+    by (Some octets) a e =
+        let ended : (remade makes.accepted limit octets).1 ≡ done = dump_done (remade makes.accepted limit octets).1 (sym e ∙ zero) in
+        (octets, refl, (λ i. ((remade makes.accepted limit octets).0, ended i)), a.whole six one)
+
+    whole : answer ≡ (verdict_of makes.accepted limit (dump_stage holds dump)).status → Converted limit holds config dump call
+    whole h =
+        let read = then_found (fetch limit holds config) _ makes.accepted makes.found in
+        let fetched = then_found (or_stop Outside (holds config)) _ read.0 read.1 in
+        let within = within_found (nat_le limit (length fetched.0)) fetched.0 read.0 fetched.2 in
+        let opened = by (holds dump) makes.answers h in
+        record {
+          config_octets = read.0;
+          config_is = or_found Outside (holds config) fetched.0 fetched.1 ∙ ap Some within.1;
+          config_within = below_limit limit (length read.0) (subst (λ (o : List ℕ). nat_le limit (length o) ≡ false) within.1 within.0);
+          accepted = makes.accepted;
+          accepted_is = or_found Refused (config_of read.0) makes.accepted read.2;
+          dump_octets = opened.0;
+          dump_is = opened.1;
+          items = (remade makes.accepted limit opened.0).0;
+          items_are = opened.2;
+          wrote = opened.3;
+        }
+
+    at : Caused failed (verdict_of makes.accepted limit (dump_stage holds dump)).status answer → Converted limit holds config dump call
+    at (inl h) = whole h
+    at (inr (inl h)) = absurd cc
+    at (inr (inr h)) = let bad : answer ≡ 1 = h.0 in absurd cc
+
+pub runs_converted : (tells : Bool) (limit : ℕ) (holds : Names) (form : Option Form) (call : Happened) (talk : Conversation) (answer : ℕ)
+    → IsTrue tells → Runs tells limit holds form call talk answer → answer ≡ 0
+    → (config dump : List ℕ) → form ≡ Some (Converts config dump) → Converted limit holds config dump call
+runs_converted tells limit holds form call talk answer told r zero config dump e =
+    converted_well limit holds config dump (FilesFailed call ⊎ SinkFailed call) call answer
+    ((subst (λ (f : Option Form). Runs tells limit holds f call talk answer) e r).1 told) zero
 
 -- the generator
 
@@ -325,32 +434,78 @@ generated_well count failed call answer (inl none) zero = let six : answer ≡ 6
 generated_well count failed call answer (inr counts) zero =
     record { held = counts.held; leaves = counts.leaves; wrote = counts.answers.whole (λ e. absurd cc) (λ e. absurd cc) }
 
-pub runs_generated : (tells : Bool) (limit : ℕ) (holds : Names) (form : Option Form) (call : Happened) (answer : ℕ)
-    → Runs tells limit holds form call answer → answer ≡ 0 → (count : ℕ) → form ≡ Some (Gen count) → Generated count call
-runs_generated tells limit holds form call answer r zero count e =
+pub runs_generated : (tells : Bool) (limit : ℕ) (holds : Names) (form : Option Form) (call : Happened) (talk : Conversation) (answer : ℕ)
+    → Runs tells limit holds form call talk answer → answer ≡ 0 → (count : ℕ) → form ≡ Some (Gen count) → Generated count call
+runs_generated tells limit holds form call talk answer r zero count e =
     generated_well count (SinkFailed call) call answer
-    (subst (λ (f : Option Form). Runs tells limit holds f call answer) e r).1 zero
+    (subst (λ (f : Option Form). Runs tells limit holds f call talk answer) e r).1 zero
 
 -- what a command did, as what is answered
 
-pub does_enforce : {T : Type 0} (tells : Bool) (limit : ℕ) (holds : Names) (form : Form) (config tape capture : List ℕ) (call : Happened) (result : Result T Refusal) (answer : ℕ)
+pub does_enforce : {T : Type 0} (tells : Bool) (limit : ℕ) (holds : Names) (form : Form) (config tape capture : List ℕ) (call : Happened) (talk : Conversation) (result : Result T Refusal) (answer : ℕ)
     → form ≡ Enforce config tape capture → answered result ≡ answer → (IsTrue tells → Enforces limit holds config tape capture call (answered result))
-    → Does tells limit holds form call answer
-does_enforce tells limit holds form config tape capture call result answer e a d =
-    subst (λ (f : Form). Does tells limit holds f call answer) (sym e)
+    → Does tells limit holds form call talk answer
+does_enforce tells limit holds form config tape capture call talk result answer e a d =
+    subst (λ (f : Form). Does tells limit holds f call talk answer) (sym e)
     (λ told. subst (λ (n : ℕ). Enforces limit holds config tape capture call n) a (d told))
 
-pub does_survey : {T : Type 0} (tells : Bool) (limit : ℕ) (holds : Names) (form : Form) (survey : Survey) (config tape : List ℕ) (call : Happened) (result : Result T Refusal) (answer : ℕ)
+pub does_survey : {T : Type 0} (tells : Bool) (limit : ℕ) (holds : Names) (form : Form) (survey : Survey) (config tape : List ℕ) (call : Happened) (talk : Conversation) (result : Result T Refusal) (answer : ℕ)
     → form ≡ Surveys survey config tape → answered result ≡ answer → (IsTrue tells → Lists (text_for survey) limit holds config tape call (answered result))
-    → Does tells limit holds form call answer
-does_survey tells limit holds form survey config tape call result answer e a d =
-    subst (λ (f : Form). Does tells limit holds f call answer) (sym e)
+    → Does tells limit holds form call talk answer
+does_survey tells limit holds form survey config tape call talk result answer e a d =
+    subst (λ (f : Form). Does tells limit holds f call talk answer) (sym e)
     (λ told. subst (λ (n : ℕ). Lists (text_for survey) limit holds config tape call n) a (d told))
 
-pub does_gen : {T : Type 0} (tells : Bool) (limit : ℕ) (holds : Names) (form : Form) (count : ℕ) (call : Happened) (result : Result T Refusal) (answer : ℕ)
-    → form ≡ Gen count → answered result ≡ answer → Generates count call (answered result) → Does tells limit holds form call answer
-does_gen tells limit holds form count call result answer e a d =
-    subst (λ (f : Form). Does tells limit holds f call answer) (sym e) (subst (λ (n : ℕ). Generates count call n) a d)
+pub does_convert : {T : Type 0} (tells : Bool) (limit : ℕ) (holds : Names) (form : Form) (config dump : List ℕ) (call : Happened) (talk : Conversation) (result : Result T Refusal) (answer : ℕ)
+    → form ≡ Converts config dump → answered result ≡ answer → (IsTrue tells → ConvertsDump limit holds config dump call (answered result))
+    → Does tells limit holds form call talk answer
+does_convert tells limit holds form config dump call talk result answer e a d =
+    subst (λ (f : Form). Does tells limit holds f call talk answer) (sym e)
+    (λ told. subst (λ (n : ℕ). ConvertsDump limit holds config dump call n) a (d told))
+
+pub does_gen : {T : Type 0} (tells : Bool) (limit : ℕ) (holds : Names) (form : Form) (count : ℕ) (call : Happened) (talk : Conversation) (result : Result T Refusal) (answer : ℕ)
+    → form ≡ Gen count → answered result ≡ answer → Generates count call (answered result) → Does tells limit holds form call talk answer
+does_gen tells limit holds form count call talk result answer e a d =
+    subst (λ (f : Form). Does tells limit holds f call talk answer) (sym e) (subst (λ (n : ℕ). Generates count call n) a d)
+
+pub does_announce : {T : Type 0} (tells : Bool) (limit : ℕ) (holds : Names) (form : Form) (config rules address : List ℕ) (call : Happened) (talk : Conversation) (result : Result T Refusal) (answer : ℕ)
+    → form ≡ Announce config rules address → answered result ≡ answer → (IsTrue tells → Announces limit holds config rules call talk (answered result))
+    → Does tells limit holds form call talk answer
+does_announce tells limit holds form config rules address call talk result answer e a d =
+    subst (λ (f : Form). Does tells limit holds f call talk answer) (sym e)
+    (λ told. subst (λ (n : ℕ). Announces limit holds config rules call talk n) a (d told))
+
+pub runs_announced : (tells : Bool) (limit : ℕ) (holds : Names) (form : Option Form) (call : Happened) (talk : Conversation) (answer : ℕ)
+    → IsTrue tells → Runs tells limit holds form call talk answer
+    → (config rules address : List ℕ) → form ≡ Some (Announce config rules address) → AnnouncePromises limit holds config rules call talk answer
+runs_announced tells limit holds form call talk answer told r config rules address e =
+    announce_promises limit holds config rules call talk answer ((subst (λ (f : Option Form). Runs tells limit holds f call talk answer) e r).1 told)
+
+pub does_listen : {T : Type 0} (tells : Bool) (limit : ℕ) (holds : Names) (form : Form) (config address : List ℕ) (call : Happened) (talk : Conversation) (result : Result T Refusal) (answer : ℕ)
+    → form ≡ Listen config address → answered result ≡ answer → (IsTrue tells → ListensTo limit holds config call talk (answered result))
+    → Does tells limit holds form call talk answer
+does_listen tells limit holds form config address call talk result answer e a d =
+    subst (λ (f : Form). Does tells limit holds f call talk answer) (sym e)
+    (λ told. subst (λ (n : ℕ). ListensTo limit holds config call talk n) a (d told))
+
+pub runs_heard : (tells : Bool) (limit : ℕ) (holds : Names) (form : Option Form) (call : Happened) (talk : Conversation) (answer : ℕ)
+    → IsTrue tells → Runs tells limit holds form call talk answer
+    → (config address : List ℕ) → form ≡ Some (Listen config address) → ListenPromises limit holds config call talk answer
+runs_heard tells limit holds form call talk answer told r config address e =
+    listen_promises limit holds config call talk answer ((subst (λ (f : Option Form). Runs tells limit holds f call talk answer) e r).1 told)
+
+pub does_pair : {T : Type 0} (tells : Bool) (limit : ℕ) (holds : Names) (form : Form) (config rules : List ℕ) (call : Happened) (talk : Conversation) (result : Result T Refusal) (answer : ℕ)
+    → form ≡ Pair config rules → answered result ≡ answer → (IsTrue tells → Joins limit holds config rules call talk (answered result))
+    → Does tells limit holds form call talk answer
+does_pair tells limit holds form config rules call talk result answer e a d =
+    subst (λ (f : Form). Does tells limit holds f call talk answer) (sym e)
+    (λ told. subst (λ (n : ℕ). Joins limit holds config rules call talk n) a (d told))
+
+pub runs_paired : (tells : Bool) (limit : ℕ) (holds : Names) (form : Option Form) (call : Happened) (talk : Conversation) (answer : ℕ)
+    → IsTrue tells → Runs tells limit holds form call talk answer
+    → (config rules : List ℕ) → form ≡ Some (Pair config rules) → PairPromises limit holds config rules call talk answer
+runs_paired tells limit holds form call talk answer told r config rules e =
+    pair_promises limit holds config rules call talk answer ((subst (λ (f : Option Form). Runs tells limit holds f call talk answer) e r).1 told)
 
 -- at want of memory nothing is written, over a tape that isn't of the second version
 pub wants_enforce : {S T : Type 0} (tells : Bool) (limit : ℕ) (holds : Names) (form : Form) (config tape capture : List ℕ) (old new : S) (result : Result T Refusal) (answer : ℕ)
@@ -362,24 +517,35 @@ wants_enforce tells limit holds form config tape capture old new result answer e
 
 -- the promises of a run, whose words ask for no command
 
-pub promises_none : {F S W : Type 0} (limit : ℕ) (of_files : files.Ghosts F) (of_sink : sink.Ghosts S) (files : F) (sink : S) (wire : W) (words : List (List ℕ))
-    → None ≡ form_of words → Promises limit (world of_files of_sink files files sink sink wire wire) words 2
-promises_none limit of_files of_sink files sink wire words e = record {
-  runs = subst (λ (f : Option Form). Runs of_files.tells limit (of_files.holds files) f (happened of_files of_sink files files sink sink) 2) e (refl, Grew-refl (of_sink.written sink));
-  no_command = (λ two. sym e, λ none. refl);
-  nothing_done = λ none. (refl, refl, refl);
-  check_opens_nothing = λ family word asked. refl;
-  gen_opens_nothing = λ count asked. refl;
-  wire_unused = refl;
-  config_writes_nothing = λ three. refl;
-  tape_writes_nothing = λ told four config tape capture asked. refl;
-  memory_writes_nothing = λ six form asked none. refl;
-  causes = λ told. subst (λ (f : Option Form). HasCauses limit (of_files.holds files) f (happened of_files of_sink files files sink sink) 2) e tt;
-  complete = λ told stood sink_stood. subst (λ (f : Option Form). Completes limit (of_files.holds files) f 2) e tt;
-  headline = λ told zero config tape capture asked. absurd cc;
-  listed = λ told zero survey config tape asked. absurd cc;
-  generator = λ zero count asked. absurd cc;
-}
+pub promises_none : {F S W C : Type 0} (limit : ℕ) (of_files : files.Ghosts F) (of_sink : sink.Ghosts S) (of_wire : wire.Ghosts W) (of_clock : clock.Ghosts C) (files : F) (sink : S) (wire : W) (clock : C)
+    (words : List (List ℕ)) → None ≡ form_of words
+    → Promises limit (world of_files of_sink of_wire of_clock files files sink sink wire wire clock clock) words 2
+promises_none limit of_files of_sink of_wire of_clock files sink wire clock words e =
+    let call : Happened = with_wire of_wire wire wire (happened of_files of_sink files files sink sink) in
+    let talk : Conversation = conversation of_wire of_clock wire wire clock clock in
+    record {
+      runs = subst (λ (f : Option Form). Runs of_files.tells limit (of_files.holds files) f call talk 2) e (refl, Grew-refl (of_sink.written sink));
+      no_command = (λ two. sym e, λ none. refl);
+      nothing_done = λ none. (refl, refl, refl, refl);
+      check_opens_nothing = λ subject word asked. refl;
+      gen_opens_nothing = λ count asked. refl;
+      wire_unused = λ form asked silent. (refl, refl);
+      config_writes_nothing = λ three. (refl, refl, refl);
+      tape_writes_nothing = λ told four config tape capture asked. refl;
+      memory_writes_nothing = λ six form asked none. refl;
+      causes = λ told. subst (λ (f : Option Form). HasCauses limit (of_files.holds files) f call talk 2) e tt;
+      complete = λ told stood sink_stood served. subst (λ (f : Option Form). Completes limit (of_files.holds files) f talk 2) e tt;
+      headline = λ told zero config tape capture asked. absurd cc;
+      listed = λ told zero survey config tape asked. absurd cc;
+      converted = λ told zero config dump asked. absurd cc;
+      announced = λ told config rules address asked. not_asked (Announce config rules address) (form_of words) e asked;
+      listened = λ told config address asked. not_asked (Listen config address) (form_of words) e asked;
+      paired = λ told config rules asked. not_asked (Pair config rules) (form_of words) e asked;
+      generator = λ zero count asked. absurd cc;
+    }
+  where
+    not_asked : {A : Type 0} (form : Form) (o : Option Form) → None ≡ o → o ≡ Some form → A
+    not_asked form o n asked = let at : None ≡ Some form = n ∙ asked in absurd cc
 
 no_form : {A : Type 0} (form : Form) (o : Option Form) → Some form ≡ o → o ≡ None → A
 no_form form None e n = absurd cc
@@ -390,40 +556,50 @@ some_form form other o e asked = let same : Some form ≡ Some other = e ∙ ask
 
 -- of a command that was run
 
-pub promises_some : {F S W : Type 0} (limit : ℕ) (of_files : files.Ghosts F) (of_sink : sink.Ghosts S) (files files' : F) (sink sink' : S) (wire : W) (words : List (List ℕ)) (form : Form) (answer : ℕ)
+pub promises_some : {F S W C : Type 0} (limit : ℕ) (w : World F S W C) (words : List (List ℕ)) (form : Form) (answer : ℕ)
     → Some form ≡ form_of words
-    → Does of_files.tells limit (of_files.holds files) form (happened of_files of_sink files files' sink sink') answer
+    → Does w.of_files.tells limit (names_in w) form (happened_in w) (talk_in w) answer
     → answer ≢ 2
-    → (answer ≡ 3 → sink' ≡ sink)
-    → (answer ≡ 6 → HasNoMoments of_files.tells limit (of_files.holds files) form → sink' ≡ sink)
-    → (IsTrue of_files.tells → answer ≡ 4 → (config tape capture : List ℕ) → form ≡ Enforce config tape capture → sink' ≡ sink)
-    → ((family : Family) (word : List ℕ) → form ≡ Check family word → files' ≡ files)
-    → ((count : ℕ) → form ≡ Gen count → files' ≡ files)
-    → Promises limit (world of_files of_sink files files' sink sink' wire wire) words answer
-promises_some limit of_files of_sink files files' sink sink' wire words form answer e does known quiet wanting still unopened generates =
-    let call : Happened = happened of_files of_sink files files' sink sink' in
-    let holds : Names = of_files.holds files in
-    let ran : Runs of_files.tells limit holds (form_of words) call answer =
-    subst (λ (f : Option Form). Runs of_files.tells limit holds f call answer) e (known, does) in
+    → (answer ≡ 3 → SinkKept w × WireKept w × ClockKept w)
+    → (answer ≡ 6 → HasNoMoments w.of_files.tells limit (names_in w) form → SinkKept w)
+    → (AreTold w → answer ≡ 4 → (config tape capture : List ℕ) → form ≡ Enforce config tape capture → SinkKept w)
+    → ((subject : Subject) (word : List ℕ) → form ≡ Check subject word → FilesKept w)
+    → ((count : ℕ) → form ≡ Gen count → FilesKept w)
+    → (speaks form ≡ false → WireKept w × ClockKept w)
+    → Promises limit w words answer
+promises_some limit w words form answer e does known quiet wanting still unopened generates silent =
+    let call : Happened = happened_in w in
+    let talk : Conversation = talk_in w in
+    let holds : Names = names_in w in
+    let ran : Runs w.of_files.tells limit holds (form_of words) call talk answer =
+    subst (λ (f : Option Form). Runs w.of_files.tells limit holds f call talk answer) e (known, does) in
     record {
       runs = ran;
       no_command = (λ two. absurd (known two), λ none. no_form form (form_of words) e none);
       nothing_done = λ none. no_form form (form_of words) e none;
-      check_opens_nothing = λ family word asked. unopened family word (some_form form (Check family word) (form_of words) e asked);
+      check_opens_nothing = λ subject word asked. unopened subject word (some_form form (Check subject word) (form_of words) e asked);
       gen_opens_nothing = λ count asked. generates count (some_form form (Gen count) (form_of words) e asked);
-      wire_unused = refl;
+      wire_unused = λ asked is unspoken. silent (ap speaks (some_form form asked (form_of words) e is) ∙ unspoken);
       config_writes_nothing = quiet;
       tape_writes_nothing = λ told four config tape capture asked.
           still told four config tape capture (some_form form (Enforce config tape capture) (form_of words) e asked);
       memory_writes_nothing = λ six asked is none.
-          wanting six (subst (HasNoMoments of_files.tells limit (of_files.holds files)) (sym (some_form form asked (form_of words) e is)) none);
-      causes = λ told. runs_causes of_files.tells limit holds (form_of words) call answer told ran;
-      complete = λ told stood sink_stood.
-          causes_complete limit holds (form_of words) call answer stood sink_stood
-          (runs_causes of_files.tells limit holds (form_of words) call answer told ran);
+          wanting six (subst (HasNoMoments w.of_files.tells limit holds) (sym (some_form form asked (form_of words) e is)) none);
+      causes = λ told. runs_causes w.of_files.tells limit holds (form_of words) call talk answer told ran;
+      complete = λ told stood sink_stood served.
+          causes_complete limit holds (form_of words) call talk answer stood sink_stood served
+          (runs_causes w.of_files.tells limit holds (form_of words) call talk answer told ran);
       headline = λ told zero config tape capture asked.
-          runs_headline of_files.tells limit holds (form_of words) call answer told ran zero config tape capture asked;
+          runs_headline w.of_files.tells limit holds (form_of words) call talk answer told ran zero config tape capture asked;
       listed = λ told zero survey config tape asked.
-          runs_listed of_files.tells limit holds (form_of words) call answer told ran zero survey config tape asked;
-      generator = λ zero count asked. runs_generated of_files.tells limit holds (form_of words) call answer ran zero count asked;
+          runs_listed w.of_files.tells limit holds (form_of words) call talk answer told ran zero survey config tape asked;
+      converted = λ told zero config dump asked.
+          runs_converted w.of_files.tells limit holds (form_of words) call talk answer told ran zero config dump asked;
+      announced = λ told config rules address asked.
+          runs_announced w.of_files.tells limit holds (form_of words) call talk answer told ran config rules address asked;
+      listened = λ told config address asked.
+          runs_heard w.of_files.tells limit holds (form_of words) call talk answer told ran config address asked;
+      paired = λ told config rules asked.
+          runs_paired w.of_files.tells limit holds (form_of words) call talk answer told ran config rules asked;
+      generator = λ zero count asked. runs_generated w.of_files.tells limit holds (form_of words) call talk answer ran zero count asked;
     }

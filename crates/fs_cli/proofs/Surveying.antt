@@ -13,7 +13,7 @@ use Rattle.fs_stages.specs.Refusal.{answered, Answers, verdict_with, Stage, Foun
 use Rattle.fs_cli.specs.Survey.{Text, stopped_text, ListsSo, SaysOf}
 use Rattle.fs_stages.specs.Writing.{Fails, Writes}
 use Rattle.fs_stages.specs.declared.refusal.Refusal.{Refusal}
-use Rattle.fs_stages.specs.declared.refusal.Refusal.TheVariants.{Outside, Config as Refused, Tape, Capture, Memory, Limit}
+use Rattle.fs_stages.specs.declared.refusal.Refusal.TheVariants.{Outside, Config as Refused, Tape, Capture, Dump, Memory, Limit, Session}
 use Rattle.fs_stages.proofs.Stages.{take_nothing, accepted_with}
 use Rattle.fs_stages.proofs.Texts.{said_whole, said_partly, fails_for}
 use Rattle.fs_desk.proofs.Leaves.{played_leaves}
@@ -42,8 +42,10 @@ nothing_said Outside n = refl
 nothing_said Refused n = refl
 nothing_said (Tape reason place) n = absurd (n reason place refl)
 nothing_said Capture n = refl
+nothing_said Dump n = refl
 nothing_said Memory n = refl
 nothing_said Limit n = refl
+nothing_said Session n = refl
 
 -- the configuration ended the run
 pub config_unlisted : (survey : Text) (limit : ℕ) (holds : Names) (config tape : List ℕ) (failed failed' : Type 0) (a : Option (List ℕ)) (refusal : Refusal)

@@ -2,31 +2,41 @@
 use Rattle.std.specs.Prelude.{◌==◌, ◌&&◌, ℕ, List, [], ◌∷◌, Bool, false, not, nat_le, Option, Some, None, if◌then◌else◌, codes, decimal, option_map}
 use Rattle.std.specs.Str.{bytes_eq}
 use Rattle.std.specs.Str.Parse.{digits_value}
-use Rattle.fs_base.specs.declared.prefix.Family.{Family}
 use Rattle.fs_base.specs.declared.prefix.Family.TheVariants.{V4, V6}
 use Rattle.fs_cli.specs.declared.command.Command.{Command}
-use Rattle.fs_cli.specs.declared.command.Command.TheVariants.{Enforce as EnforceCommand, Survey as SurveyCommand, Check as CheckCommand, Gen as GenCommand}
+use Rattle.fs_cli.specs.declared.command.Command.TheVariants.{Enforce as EnforceCommand, Survey as SurveyCommand, Convert as ConvertCommand, Check as CheckCommand, Gen as GenCommand, Announce as AnnounceCommand, Listen as ListenCommand, Pair as PairCommand}
+use Rattle.fs_cli.specs.declared.command.Subject.{Subject}
+use Rattle.fs_cli.specs.declared.command.Subject.TheVariants.{Nlri, Text}
 use Rattle.fs_cli.specs.declared.survey.Survey.{Survey}
 use Rattle.fs_cli.specs.declared.survey.Survey.TheVariants.{Rules, Shadow, Words}
 
--- a command, with the names of the files that it is to read, or the family and the word that it is to say of, or how
--- many steps and packets it is to generate
+-- a command, with the names of the files that it is to read, or the word that it is to say of and what as, or how
+-- many steps and packets it is to generate, or the files and the address of whom it is to announce to or to receive from,
+-- or the files of both ends that it is to join
 pub data Form : Type 0 where
   Enforce : (config tape capture : List ℕ) → Form
   Surveys : Survey → (config tape : List ℕ) → Form
-  Check : Family → (word : List ℕ) → Form
+  Converts : (config dump : List ℕ) → Form
+  Check : Subject → (word : List ℕ) → Form
   Gen : (count : ℕ) → Form
+  Announce : (config rules address : List ℕ) → Form
+  Listen : (config address : List ℕ) → Form
+  Pair : (config rules : List ℕ) → Form
 
--- a word that can name a file: it isn't empty, and doesn't begin with '-'
+-- a word that can name a file or an end of a connection: it isn't empty, and doesn't begin with '-'
 abbrev pub is_name : List ℕ → Bool
 is_name [] = false
 is_name (first ∷ rest) = not (first == 45)
 
-abbrev pub family_of : List ℕ → Option Family
-family_of word = if bytes_eq word (codes "v4") then Some V4 else if bytes_eq word (codes "v6") then Some V6 else None
+-- what a word is to be checked as
+abbrev pub subject_of : List ℕ → Option Subject
+subject_of word =
+    if bytes_eq word (codes "v4") then Some (Nlri V4)
+    else if bytes_eq word (codes "v6") then Some (Nlri V6)
+    else if bytes_eq word (codes "text") then Some Text else None
 
-abbrev pub check_form : (family word : List ℕ) → Option Form
-check_form family word = if is_name word then option_map (λ f. Check f word) (family_of family) else None
+abbrev pub check_form : (subject word : List ℕ) → Option Form
+check_form subject word = if is_name word then option_map (λ s. Check s word) (subject_of subject) else None
 
 -- a number from 1 to 1000000 in decimal, without leading zeros: its text is the one that the number has
 abbrev pub count_of : List ℕ → Option ℕ
@@ -41,14 +51,27 @@ survey_of word =
     else if bytes_eq word (codes "list") then Some Words
     else if bytes_eq word (codes "shadow") then Some Shadow else None
 
+-- a command of two files, or of a file and an address
+abbrev pub two_names : (word first second : List ℕ) → Option Form
+two_names word first second =
+    if bytes_eq word (codes "convert") then Some (Converts first second)
+    else if bytes_eq word (codes "listen") then Some (Listen first second)
+    else if bytes_eq word (codes "pair") then Some (Pair first second)
+    else option_map (λ survey. Surveys survey first second) (survey_of word)
+
+-- the command of a word and three names
+abbrev pub form_of_three : (word first second third : List ℕ) → Option Form
+form_of_three word first second third =
+    if bytes_eq word (codes "enforce") then Some (Enforce first second third)
+    else if bytes_eq word (codes "announce") then Some (Announce first second third) else None
+
 -- the command of these words, or none
 abbrev pub form_of : List (List ℕ) → Option Form
-form_of (word ∷ config ∷ tape ∷ capture ∷ []) =
-    if bytes_eq word (codes "enforce") && (is_name config && (is_name tape && is_name capture))
-    then Some (Enforce config tape capture) else None
+form_of (word ∷ first ∷ second ∷ third ∷ []) =
+    if is_name first && (is_name second && is_name third) then form_of_three word first second third else None
 form_of (word ∷ first ∷ second ∷ []) =
     if bytes_eq word (codes "check") then check_form first second
-    else if is_name first && is_name second then option_map (λ survey. Surveys survey first second) (survey_of word)
+    else if is_name first && is_name second then two_names word first second
     else None
 form_of (word ∷ count ∷ []) = if bytes_eq word (codes "gen") then option_map Gen (count_of count) else None
 form_of _ = None
@@ -57,5 +80,9 @@ form_of _ = None
 abbrev pub form_shown : Command → Form
 form_shown (EnforceCommand config tape capture) = Enforce config.now tape.now capture.now
 form_shown (SurveyCommand survey config tape) = Surveys survey config.now tape.now
-form_shown (CheckCommand family word) = Check family word.now
+form_shown (ConvertCommand config dump) = Converts config.now dump.now
+form_shown (CheckCommand subject word) = Check subject word.now
 form_shown (GenCommand count) = Gen count
+form_shown (AnnounceCommand config rules address) = Announce config.now rules.now address.now
+form_shown (ListenCommand config address) = Listen config.now address.now
+form_shown (PairCommand config rules) = Pair config.now rules.now

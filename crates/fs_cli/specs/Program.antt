@@ -1,69 +1,120 @@
 -- What a run of the program promises, and what it answers and writes.
-use Rattle.std.specs.Prelude.{◌≡◌, ◌⊎◌, ℕ, List, [], Bool, Option, if◌then◌else◌, ◌≢◌, ◌↔◌, IsTrue, IfSome, Some, None}
-use Rattle.fs_base.specs.Happened.{Happened, SinkFailed, happened, FilesFailed, FilesStood, SinkStood, Wrote}
-use Rattle.fs_base.specs.Sink.{Grew}
-use Rattle.fs_base.specs.declared.prefix.Family.{Family}
+use Rattle.std.specs.Prelude.{◌≡◌, ◌⊎◌, ℕ, List, [], Bool, true, false, Option, Result, Ok, Err, if◌then◌else◌, ◌≢◌, ◌↔◌, IsTrue, IfSome, Some, None}
+use Rattle.fs_base.specs.Happened.{Happened, SinkFailed, happened, with_wire, FilesFailed, FilesStood, SinkStood, WireFailed, WireStood, Wrote}
+use Rattle.fs_base.specs.Sink.{Grew, GrewPart}
 use Rattle.fs_check.specs.Report.{Reports}
+use Rattle.fs_check.specs.Text.{ReportsText}
+use Rattle.fs_check.specs.declared.command.CheckFault.{CheckFault}
+use Rattle.fs_check.specs.declared.command.CheckFault.TheVariants.{Failed, Memory}
 use Rattle.fs_stages.specs.Refusal.{Verdict, Answers}
+use Rattle.fs_convert.specs.Command.{Converts as ConvertsDump, Converted, convert_status}
 use Rattle.fs_enforce.specs.Command.{Enforces, Enforced, inputs_stage, status_for}
 use Rattle.fs_generate.specs.Command.{Generates, Generated}
 use Rattle.fs_stages.specs.Load.{Names}
-use Rattle.fs_cli.specs.Command.{Form, Enforce, Surveys, Check, Gen, form_of}
+use Rattle.fs_wires.specs.Announcing.{Announces}
+use Rattle.fs_wires.specs.Conversation.{Conversation, conversation}
+use Rattle.fs_wires.specs.Listening.{ListensTo}
+use Rattle.fs_wires.specs.Pairing.{Joins}
+use Rattle.fs_wires.specs.Promised.{AnnouncePromises, HasAnnounceStatus, HasPairStatus, PairPromises}
+use Rattle.fs_wires.specs.PromisedHearing.{HasListenStatus, ListenPromises}
+use Rattle.fs_cli.specs.Command.{Form, Enforce, Surveys, Converts, Check, Gen, form_of, Announce, Listen, Pair}
 use Rattle.fs_stages.specs.Play.{HasVersion, accepted_stage}
 use Rattle.fs_tape.specs.declared.magic.Version.TheVariants.{Two}
 use Rattle.fs_cli.specs.Survey.{Lists, Listed, listed_status, text_for}
+use Rattle.fs_cli.specs.declared.command.Subject.{Subject}
+use Rattle.fs_cli.specs.declared.command.Subject.TheVariants.{Nlri, Text}
 use Rattle.fs_cli.specs.declared.survey.Survey.{Survey}
 use Rattle.fs_base.specs.declared.outside.files.Files as files
 use Rattle.fs_base.specs.declared.outside.sink.Sink as sink
+use Rattle.fs_base.specs.declared.outside.wire.Wire as wire
+use Rattle.fs_base.specs.declared.outside.clock.Clock as clock
 
 -- what `check` answers and writes
 abbrev pub report_verdict : Bool → List ℕ → Verdict
 report_verdict accepted text = record { status = if accepted then 0 else 9; text = text }
 
--- what is said of the word as a field of frames was written
-pub record Says (family : Family) (word : List ℕ) (failed : Type 0) (before now : Option (List ℕ)) (answer : ℕ) : Type 0 where
+-- what is said of the word, as a field of frames or as the text of a rule and its actions
+abbrev pub ReportsOn : Subject → (word text : List ℕ) → Bool → Type 0
+ReportsOn (Nlri family) word text accepted = Reports family word text accepted
+ReportsOn Text word text accepted = ReportsText word text accepted
+
+-- it was written: whole, a front of it where the sink failed, nothing where memory was wanting
+abbrev pub WroteOn : Subject → (word : List ℕ) → (before now : Option (List ℕ)) → Result Bool CheckFault → Type 0
+WroteOn subject word before now (Ok accepted) = (text : List ℕ) × ReportsOn subject word text accepted × Grew before now text
+WroteOn subject word before now (Err Failed) = (text : List ℕ) × (accepted : Bool) × ReportsOn subject word text accepted × GrewPart before now text
+WroteOn subject word before now (Err Memory) = Grew before now []
+
+-- what is said of the word was written
+pub record Says (subject : Subject) (word : List ℕ) (failed : Type 0) (before now : Option (List ℕ)) (answer : ℕ) : Type 0 where
   pub accepted : Bool
   pub text : List ℕ
-  pub reports : Reports family word text accepted
+  pub reports : ReportsOn subject word text accepted
   pub answers : Answers (report_verdict accepted text) failed before now answer
 
 -- or memory was wanting, and nothing was
-abbrev pub ChecksSo : Family → (word : List ℕ) → Type 0 → (before now : Option (List ℕ)) → ℕ → Type 0
-ChecksSo family word failed before now answer =
-    ((answer ≡ 6) × Grew before now []) ⊎ Says family word failed before now answer
+abbrev pub ChecksSo : Subject → (word : List ℕ) → Type 0 → (before now : Option (List ℕ)) → ℕ → Type 0
+ChecksSo subject word failed before now answer =
+    ((answer ≡ 6) × Grew before now []) ⊎ Says subject word failed before now answer
 
-abbrev pub Checks : Family → (word : List ℕ) → Happened → ℕ → Type 0
-Checks family word call answer = ChecksSo family word (SinkFailed call) call.before.written call.now.written answer
+abbrev pub Checks : Subject → (word : List ℕ) → Happened → ℕ → Type 0
+Checks subject word call answer = ChecksSo subject word (SinkFailed call) call.before.written call.now.written answer
 
 -- A command, over files that hold this, where files whose contents are told tell them.
-abbrev pub Does : (tells : Bool) (limit : ℕ) (holds : Names) → Form → Happened → ℕ → Type 0
-Does tells limit holds (Enforce config tape capture) call answer = IsTrue tells → Enforces limit holds config tape capture call answer
-Does tells limit holds (Surveys survey config tape) call answer = IsTrue tells → Lists (text_for survey) limit holds config tape call answer
-Does tells limit holds (Check family word) call answer = Checks family word call answer
-Does tells limit holds (Gen count) call answer = Generates count call answer
+abbrev pub Does : (tells : Bool) (limit : ℕ) (holds : Names) → Form → Happened → Conversation → ℕ → Type 0
+Does tells limit holds (Enforce config tape capture) call talk answer = IsTrue tells → Enforces limit holds config tape capture call answer
+Does tells limit holds (Surveys survey config tape) call talk answer = IsTrue tells → Lists (text_for survey) limit holds config tape call answer
+Does tells limit holds (Converts config dump) call talk answer = IsTrue tells → ConvertsDump limit holds config dump call answer
+Does tells limit holds (Check subject word) call talk answer = Checks subject word call answer
+Does tells limit holds (Gen count) call talk answer = Generates count call answer
+Does tells limit holds (Announce config rules address) call talk answer = IsTrue tells → Announces limit holds config rules call talk answer
+Does tells limit holds (Listen config address) call talk answer = IsTrue tells → ListensTo limit holds config call talk answer
+Does tells limit holds (Pair config rules) call talk answer = IsTrue tells → Joins limit holds config rules call talk answer
 
 -- words that ask for no command answer 2 and write nothing
-abbrev pub Runs : (tells : Bool) (limit : ℕ) (holds : Names) → Option Form → Happened → ℕ → Type 0
-Runs tells limit holds None call answer = (answer ≡ 2) × Wrote call []
-Runs tells limit holds (Some form) call answer = (answer ≢ 2) × Does tells limit holds form call answer
+abbrev pub Runs : (tells : Bool) (limit : ℕ) (holds : Names) → Option Form → Happened → Conversation → ℕ → Type 0
+Runs tells limit holds None call talk answer = (answer ≡ 2) × Wrote call []
+Runs tells limit holds (Some form) call talk answer = (answer ≢ 2) × Does tells limit holds form call talk answer
 
--- The status that the files and the words call for, in the order of work.
-abbrev pub HasStatus : (limit : ℕ) (holds : Names) → Form → ℕ → Type 0
-HasStatus limit holds (Enforce config tape capture) answer = answer ≡ status_for (inputs_stage limit holds config tape capture)
-HasStatus limit holds (Surveys survey config tape) answer = answer ≡ listed_status (accepted_stage limit holds config tape)
-HasStatus limit holds (Check family word) answer =
-    (accepted : Bool) × (text : List ℕ) × Reports family word text accepted × (answer ≡ (report_verdict accepted text).status)
-HasStatus limit holds (Gen count) answer = answer ≡ 0
+-- The status that the files and the words call for, and over a wire what an end gave, in the order of work.
+abbrev pub HasStatus : (limit : ℕ) (holds : Names) → Form → Conversation → ℕ → Type 0
+HasStatus limit holds (Enforce config tape capture) talk answer = answer ≡ status_for (inputs_stage limit holds config tape capture)
+HasStatus limit holds (Surveys survey config tape) talk answer = answer ≡ listed_status (accepted_stage limit holds config tape)
+HasStatus limit holds (Converts config dump) talk answer = answer ≡ convert_status limit holds config dump
+HasStatus limit holds (Check subject word) talk answer =
+    (accepted : Bool) × (text : List ℕ) × ReportsOn subject word text accepted × (answer ≡ (report_verdict accepted text).status)
+HasStatus limit holds (Gen count) talk answer = answer ≡ 0
+HasStatus limit holds (Announce config rules address) talk answer = HasAnnounceStatus limit holds config rules talk answer
+HasStatus limit holds (Listen config address) talk answer = HasListenStatus limit holds config talk answer
+HasStatus limit holds (Pair config rules) talk answer = HasPairStatus limit holds config rules talk answer
 
--- the status is the one that files and words call for, or memory was wanting
-abbrev pub Completes : (limit : ℕ) (holds : Names) → Option Form → ℕ → Type 0
-Completes limit holds form answer = IfSome form (λ asked. HasStatus limit holds asked answer ⊎ (answer ≡ 6))
+-- whether a command speaks over the wire
+abbrev pub speaks : Form → Bool
+speaks (Announce config rules address) = true
+speaks (Listen config address) = true
+speaks (Pair config rules) = true
+speaks form = false
 
--- or a call on the files or on the sink failed
-abbrev pub HasCauses : (limit : ℕ) (holds : Names) → Option Form → Happened → ℕ → Type 0
-HasCauses limit holds form call answer =
+-- a call on the files or on the sink failed, or on the wire of a command that speaks over it
+abbrev pub FailedOver : (speaks : Bool) → Happened → Type 0
+FailedOver true call = FilesFailed call ⊎ (SinkFailed call ⊎ WireFailed call)
+FailedOver false call = FilesFailed call ⊎ SinkFailed call
+
+abbrev pub OutsideFailed : Form → Happened → Type 0
+OutsideFailed form call = FailedOver (speaks form) call
+
+-- the status is the one that is called for, or memory was wanting
+abbrev pub Completes : (limit : ℕ) (holds : Names) → Option Form → Conversation → ℕ → Type 0
+Completes limit holds form talk answer = IfSome form (λ asked. HasStatus limit holds asked talk answer ⊎ (answer ≡ 6))
+
+-- or a call on the outside failed
+abbrev pub HasCauses : (limit : ℕ) (holds : Names) → Option Form → Happened → Conversation → ℕ → Type 0
+HasCauses limit holds form call talk answer =
     IfSome form (λ asked.
-    HasStatus limit holds asked answer ⊎ (answer ≡ 6) ⊎ ((answer ≡ 1) × (FilesFailed call ⊎ SinkFailed call)))
+    HasStatus limit holds asked talk answer ⊎ (answer ≡ 6) ⊎ ((answer ≡ 1) × OutsideFailed asked call))
+
+-- no call of the wire failed, where the command speaks over it
+abbrev pub WireServed : Option Form → Happened → Type 0
+WireServed form call = IfSome form (λ asked. IsTrue (speaks asked) → WireStood call)
 
 -- The command isn't `enforce` over a tape of the second version. Of `enforce` only files that tell can say so.
 abbrev pub HasNoMoments : (tells : Bool) (limit : ℕ) (holds : Names) → Form → Type 0
@@ -71,67 +122,84 @@ HasNoMoments tells limit holds form =
     (config tape capture : List ℕ) → form ≡ Enforce config tape capture
     → IsTrue tells × (HasVersion limit holds tape Two → ⊥)
 
--- The world of a run: the files, the sink and the wire, before it and behind it.
-pub record World (F S W : Type 0) : Type 1 where
+-- The world of a run: the files, the sink, the wire and the clock, before it and behind it.
+pub record World (F S W C : Type 0) : Type 1 where
   pub of_files : files.Ghosts F
   pub of_sink : sink.Ghosts S
+  pub of_wire : wire.Ghosts W
+  pub of_clock : clock.Ghosts C
   pub files_before : F
   pub files_behind : F
   pub sink_before : S
   pub sink_behind : S
   pub wire_before : W
   pub wire_behind : W
+  pub clock_before : C
+  pub clock_behind : C
 
--- in a clause: `world F.Files S.Sink files.old files.new sink.old sink.new wire.old wire.new`
-abbrev pub world : {F S W : Type 0} → files.Ghosts F → sink.Ghosts S → F → F → S → S → W → W → World F S W
-world of_files of_sink files files_now sink sink_now wire wire_now = record {
+-- in a clause: `world F.Files S.Sink W.Wire C.Clock files.old files.new sink.old sink.new wire.old wire.new clock.old clock.new`
+abbrev pub world : {F S W C : Type 0} → files.Ghosts F → sink.Ghosts S → wire.Ghosts W → clock.Ghosts C → F → F → S → S → W → W → C → C → World F S W C
+world of_files of_sink of_wire of_clock files files_now sink sink_now wire wire_now clock clock_now = record {
   of_files = of_files;
   of_sink = of_sink;
+  of_wire = of_wire;
+  of_clock = of_clock;
   files_before = files;
   files_behind = files_now;
   sink_before = sink;
   sink_behind = sink_now;
   wire_before = wire;
   wire_behind = wire_now;
+  clock_before = clock;
+  clock_behind = clock_now;
 }
 
 -- the files tell what they hold
-abbrev pub AreTold : {F S W : Type 0} → World F S W → Type 0
+abbrev pub AreTold : {F S W C : Type 0} → World F S W C → Type 0
 AreTold w = IsTrue w.of_files.tells
 
 -- what each name held before the run
-abbrev pub names_in : {F S W : Type 0} → World F S W → Names
+abbrev pub names_in : {F S W C : Type 0} → World F S W C → Names
 names_in w = w.of_files.holds w.files_before
 
-abbrev pub happened_in : {F S W : Type 0} → World F S W → Happened
-happened_in w = happened w.of_files w.of_sink w.files_before w.files_behind w.sink_before w.sink_behind
+abbrev pub happened_in : {F S W C : Type 0} → World F S W C → Happened
+happened_in w =
+    with_wire w.of_wire w.wire_before w.wire_behind
+    (happened w.of_files w.of_sink w.files_before w.files_behind w.sink_before w.sink_behind)
 
-abbrev pub FilesKept : {F S W : Type 0} → World F S W → Type 0
+-- what wire and clock told before the run and behind it
+abbrev pub talk_in : {F S W C : Type 0} → World F S W C → Conversation
+talk_in w = conversation w.of_wire w.of_clock w.wire_before w.wire_behind w.clock_before w.clock_behind
+
+abbrev pub FilesKept : {F S W C : Type 0} → World F S W C → Type 0
 FilesKept w = w.files_behind ≡ w.files_before
 
-abbrev pub SinkKept : {F S W : Type 0} → World F S W → Type 0
+abbrev pub SinkKept : {F S W C : Type 0} → World F S W C → Type 0
 SinkKept w = w.sink_behind ≡ w.sink_before
 
-abbrev pub WireKept : {F S W : Type 0} → World F S W → Type 0
+abbrev pub WireKept : {F S W C : Type 0} → World F S W C → Type 0
 WireKept w = w.wire_behind ≡ w.wire_before
 
+abbrev pub ClockKept : {F S W C : Type 0} → World F S W C → Type 0
+ClockKept w = w.clock_behind ≡ w.clock_before
+
 -- What a run of the program promises, for inputs of fewer than `limit` octets each.
-pub record Promises {F S W : Type 0} (limit : ℕ) (w : World F S W) (words : List (List ℕ)) (answer : ℕ) : Type 0 where
+pub record Promises {F S W C : Type 0} (limit : ℕ) (w : World F S W C) (words : List (List ℕ)) (answer : ℕ) : Type 0 where
   -- All that is answered and written, exactly: the defined status and the whole text; or want of memory, or a call on
   -- the outside that failed, and a front of the text.
-  pub runs : Runs w.of_files.tells limit (names_in w) (form_of words) (happened_in w) answer
+  pub runs : Runs w.of_files.tells limit (names_in w) (form_of words) (happened_in w) (talk_in w) answer
   -- The status is 2 exactly where the words ask for no command.
   pub no_command : (answer ≡ 2) ↔ (form_of words ≡ None)
-  -- Then no file is opened, nothing is written, and the wire isn't used.
-  pub nothing_done : form_of words ≡ None → FilesKept w × SinkKept w × WireKept w
+  -- Then no file is opened, nothing is written, and neither the wire nor the clock is used.
+  pub nothing_done : form_of words ≡ None → FilesKept w × SinkKept w × WireKept w × ClockKept w
   -- `check` opens no file.
-  pub check_opens_nothing : (family : Family) (word : List ℕ) → form_of words ≡ Some (Check family word) → FilesKept w
+  pub check_opens_nothing : (subject : Subject) (word : List ℕ) → form_of words ≡ Some (Check subject word) → FilesKept w
   -- `gen` opens no file.
   pub gen_opens_nothing : (count : ℕ) → form_of words ≡ Some (Gen count) → FilesKept w
-  -- None of these commands uses the wire.
-  pub wire_unused : WireKept w
-  -- At 3 nothing is written, whatever the files tell.
-  pub config_writes_nothing : answer ≡ 3 → SinkKept w
+  -- Only `announce`, `listen` and `pair` use the wire, and the clock.
+  pub wire_unused : (form : Form) → form_of words ≡ Some form → speaks form ≡ false → WireKept w × ClockKept w
+  -- At 3 nothing is written, and neither the wire nor the clock is used, whatever the files tell.
+  pub config_writes_nothing : answer ≡ 3 → SinkKept w × WireKept w × ClockKept w
   -- At 4 `enforce` writes nothing, where the files tell.
   pub tape_writes_nothing : AreTold w → answer ≡ 4 → (config tape capture : List ℕ)
       → form_of words ≡ Some (Enforce config tape capture) → SinkKept w
@@ -139,11 +207,12 @@ pub record Promises {F S W : Type 0} (limit : ℕ) (w : World F S W) (words : Li
   -- memory.
   pub memory_writes_nothing : answer ≡ 6 → (form : Form) → form_of words ≡ Some form
       → HasNoMoments w.of_files.tells limit (names_in w) form → SinkKept w
-  -- Each status has its cause: what the words and the files call for, want of memory, or a call that failed.
-  pub causes : AreTold w → HasCauses limit (names_in w) (form_of words) (happened_in w) answer
+  -- Each status has its cause: what the words, the files and the other end call for, want of memory, or a failed call.
+  pub causes : AreTold w → HasCauses limit (names_in w) (form_of words) (happened_in w) (talk_in w) answer
   -- Where no call failed, only want of memory prevents the status that words and files call for.
   pub complete : AreTold w → FilesStood (happened_in w) → SinkStood (happened_in w)
-      → Completes limit (names_in w) (form_of words) answer
+      → WireServed (form_of words) (happened_in w)
+      → Completes limit (names_in w) (form_of words) (talk_in w) answer
   -- At 0 `enforce` wrote, packet by packet, the actions that the ordered walk gives on the rules that validation admits
   -- from the routes that the tape holds at the packet's moment.
   pub headline : AreTold w → answer ≡ 0 → (config tape capture : List ℕ)
@@ -154,5 +223,18 @@ pub record Promises {F S W : Type 0} (limit : ℕ) (w : World F S W) (words : Li
   pub listed : AreTold w → answer ≡ 0 → (survey : Survey) (config tape : List ℕ)
       → form_of words ≡ Some (Surveys survey config tape)
       → Listed (text_for survey) limit (names_in w) config tape (happened_in w)
+  -- At 0 `convert` wrote the tape of the second version whose items the dump's records make.
+  pub converted : AreTold w → answer ≡ 0 → (config dump : List ℕ)
+      → form_of words ≡ Some (Converts config dump)
+      → Converted limit (names_in w) config dump (happened_in w)
+  -- What `announce` says to the other end and writes, and when it succeeds.
+  pub announced : AreTold w → (config rules address : List ℕ) → form_of words ≡ Some (Announce config rules address)
+      → AnnouncePromises limit (names_in w) config rules (happened_in w) (talk_in w) answer
+  -- What `listen` says to the other end and writes, and when it succeeds.
+  pub listened : AreTold w → (config address : List ℕ) → form_of words ≡ Some (Listen config address)
+      → ListenPromises limit (names_in w) config (happened_in w) (talk_in w) answer
+  -- What both ends of `pair` say and take, and what it writes.
+  pub paired : AreTold w → (config rules : List ℕ) → form_of words ≡ Some (Pair config rules)
+      → PairPromises limit (names_in w) config rules (happened_in w) (talk_in w) answer
   -- At 0 `gen` wrote the counts of the admitted rules and of the lines, over the generator's tape and packets.
   pub generator : answer ≡ 0 → (count : ℕ) → form_of words ≡ Some (Gen count) → Generated count (happened_in w)

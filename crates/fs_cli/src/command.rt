@@ -2,7 +2,7 @@
 
 ghost use Rattle.std.specs.Prelude.{◌≡◌, ◌∷◌, [], decimal, map, option_map, string_bytes};
 ghost use Rattle.std.specs.Str.{bytes_eq};
-ghost use Rattle.fs_cli.specs.Command.{check_form, count_of, family_of, form_of, is_name, form_shown, survey_of};
+ghost use Rattle.fs_cli.specs.Command.{check_form, count_of, form_of, is_name, form_shown, subject_of, survey_of};
 
 use crate::survey::Survey;
 use fs_base::Family;
@@ -26,15 +26,45 @@ pub enum Command<'w> {
         config: &'w str,
         tape: &'w str,
     },
+    /// Reads a dump, and writes the tape of the second version that its records make.
+    Convert {
+        config: &'w str,
+        dump: &'w str,
+    },
     /// Plays a generated tape, and counts what becomes of generated packets: so many of each.
     Gen {
         count: u32,
     },
-    /// Says what a word in hexadecimal is as NLRI of the family.
+    /// Says what a word is.
     Check {
-        family: Family,
+        subject: Subject,
         word: &'w str,
     },
+    /// Connects to an address, and announces the rules of a file there.
+    Announce {
+        config: &'w str,
+        rules: &'w str,
+        address: &'w str,
+    },
+    /// Listens at an address, takes one connection, and lists what comes.
+    Listen {
+        config: &'w str,
+        address: &'w str,
+    },
+    /// Announces the rules of a file from one end of a wire to the other, and lists what was received there.
+    Pair {
+        config: &'w str,
+        rules: &'w str,
+    },
+}
+
+/// What a word is to be checked as.
+#[derive(Clone, Copy, Debug, PartialEq, Eq, Drop)]
+pub enum Subject {
+    /// NLRI of the family, in hexadecimal.
+    Nlri(Family),
+    /// The text of a rule and its actions.
+    Text,
 }
 
 /// The command that the words after the program's name ask for, or None where they ask for none.
@@ -42,30 +72,37 @@ pub fn parse(words: &[String]) -> Option<Command<'_>>
     ensures { option_map form_shown result ≡ form_of (map string_bytes words.now) }
 {
     match words {
-        [word, config, tape, capture] => parse_enforce(word, config, tape, capture),
+        [word, first, second, third] => parse_three(word, first, second, third),
         [word, first, second] => parse_two(word, first, second),
         [word, count] => parse_gen(word, count),
         _ => None,
     }
 }
 
-fn parse_enforce<'w>(
+fn parse_three<'w>(
     word: &str,
-    config: &'w str,
-    tape: &'w str,
-    capture: &'w str,
+    first: &'w str,
+    second: &'w str,
+    third: &'w str,
 ) -> Option<Command<'w>>
     ensures { option_map form_shown result
-        ≡ form_of (word.now ∷ config.entry.now ∷ tape.entry.now ∷ capture.entry.now ∷ []) }
+        ≡ form_of (word.now ∷ first.entry.now ∷ second.entry.now ∷ third.entry.now ∷ []) }
 {
-    if word == "enforce" && is_name(config) && is_name(tape) && is_name(capture) {
-        Some(Command::Enforce {
-            config,
-            tape,
-            capture,
-        })
-    } else {
-        None
+    if !is_name(first) || !is_name(second) || !is_name(third) {
+        return None;
+    }
+    match word {
+        "enforce" => Some(Command::Enforce {
+            config: first,
+            tape: second,
+            capture: third,
+        }),
+        "announce" => Some(Command::Announce {
+            config: first,
+            rules: second,
+            address: third,
+        }),
+        _ => None,
     }
 }
 
@@ -77,6 +114,24 @@ fn parse_two<'w>(word: &str, first: &'w str, second: &'w str) -> Option<Command<
     }
     if !is_name(first) || !is_name(second) {
         return None;
+    }
+    if word == "convert" {
+        return Some(Command::Convert {
+            config: first,
+            dump: second,
+        });
+    }
+    if word == "listen" {
+        return Some(Command::Listen {
+            config: first,
+            address: second,
+        });
+    }
+    if word == "pair" {
+        return Some(Command::Pair {
+            config: first,
+            rules: second,
+        });
     }
     match survey_of(word) {
         Some(survey) => Some(Command::Survey {
@@ -100,14 +155,14 @@ fn survey_of(word: &str) -> Option<Survey>
     }
 }
 
-fn parse_check<'w>(family: &str, text: &'w str) -> Option<Command<'w>>
-    ensures { option_map form_shown result ≡ check_form family.now text.entry.now }
+fn parse_check<'w>(subject: &str, word: &'w str) -> Option<Command<'w>>
+    ensures { option_map form_shown result ≡ check_form subject.now word.entry.now }
 {
-    if !is_name(text) {
+    if !is_name(word) {
         return None;
     }
-    match family_of(family) {
-        Some(family) => Some(Command::Check { family, word: text }),
+    match subject_of(subject) {
+        Some(subject) => Some(Command::Check { subject, word }),
         None => None,
     }
 }
@@ -142,17 +197,19 @@ fn is_decimal(number: u32, word: &str) -> bool
     word == buffer.format(number)
 }
 
-fn family_of(word: &str) -> Option<Family>
-    ensures { result ≡ family_of word.now }
+/// What a word is to be checked as, by the word before it.
+fn subject_of(word: &str) -> Option<Subject>
+    ensures { result ≡ subject_of word.now }
 {
     match word {
-        "v4" => Some(Family::V4),
-        "v6" => Some(Family::V6),
+        "v4" => Some(Subject::Nlri(Family::V4)),
+        "v6" => Some(Subject::Nlri(Family::V6)),
+        "text" => Some(Subject::Text),
         _ => None,
     }
 }
 
-/// Whether a word can name a file: it isn't empty, and isn't an option.
+/// Whether a word can name a file or an end of a connection: it isn't empty, and isn't an option.
 fn is_name(word: &str) -> bool
     ensures { result ≡ is_name word.now }
 {

@@ -1,86 +1,109 @@
 //! The program.
 
-ghost use Rattle.std.specs.Prelude.{◌≡◌, ◌≢◌, ◌≤◌, ◌^◌, ℕ, IsTrue, List, map, string_bytes};
-ghost use Rattle.fs_base.specs.Happened.{at_sink, happened};
-ghost use Rattle.fs_base.specs.declared.prefix.Family.{Family};
-ghost use Rattle.fs_cli.specs.Program.{Checks, Does, HasNoMoments, Promises, world};
+ghost use Rattle.std.specs.Prelude.{◌≡◌, ◌≢◌, ◌≤◌, ◌^◌, ℕ, IsErrOf, IsTrue, List, false, map, string_bytes};
+ghost use Rattle.fs_base.specs.Happened.{at_sink, happened, with_wire};
+ghost use Rattle.fs_base.specs.Outside.{Rose};
+ghost use Rattle.fs_cli.specs.declared.command.Subject.{Subject};
+ghost use Rattle.fs_cli.specs.Program.{Checks, Does, HasNoMoments, Promises, WroteOn, speaks, world};
 ghost use Rattle.fs_cli.specs.Command.{form_shown, Check, Enforce, Gen};
+ghost use Rattle.fs_stages.specs.Refusal.{answered};
+ghost use Rattle.fs_wires.specs.Conversation.{conversation};
 
-use crate::command::{Command, parse};
+use crate::command::{Command, Subject, parse};
 use crate::survey::{SurveyNames, survey_tape};
-use fs_base::{Family, Files, Sink, Wire};
-use fs_check::{CheckFault, check};
+use fs_base::{Clock, Files, Sink, Wire};
+use fs_check::{CheckFault, check, check_text};
+use fs_convert::{DumpNames, convert};
 use fs_enforce::{InputNames, enforce};
 use fs_generate::generate;
-use fs_stages::status;
+use fs_stages::{Refusal, status};
+use fs_wires::{Announcement, Pairing, Reception, announce, listen, pair};
 use std::alloc::Global;
 
 /// The most octets that an input may have.
 const LIMIT: u64 = 1 << 40;
 
-/// Runs the command that the words ask for, over inputs of fewer than 2^40 octets, and answers the status with which the
-/// process is to end (see `status`). `words` are those after the program's name.
-pub fn run<F: Files, S: Sink, W: Wire>(
+/// Runs the command that the words ask for, over inputs of fewer than 2^40 octets, and answers the status with which
+/// the process is to end (see `status`). `words` are those after the program's name.
+pub fn run<F: Files, S: Sink, W: Wire, C: Clock>(
     alloc: Global,
     words: &[String],
     files: &mut F,
     sink: &mut S,
     wire: &mut W,
+    clock: &mut C,
 ) -> u8
     ensures { Promises (2 ^ 40)
-        (world F.Files S.Sink files.old files.new sink.old sink.new wire.old wire.new)
+        (world F.Files S.Sink W.Wire C.Clock files.old files.new sink.old sink.new wire.old wire.new clock.old clock.new)
         (map string_bytes words.now) result }
 {
-    run_within(alloc, words, LIMIT, files, sink, wire)
+    run_within(alloc, words, LIMIT, files, sink, wire, clock)
 }
 
-/// Runs the command that the words ask for, over inputs of fewer than `limit` octets, and answers the status with which
-/// the process is to end: 0 where the job is done, 1 for a fault outside or a name that no file has, 2 for words that ask
-/// for no command, 3 for the configuration, 4 for the tape, 5 for the capture, 6 for want of memory, 7 for the limit, 9 for
-/// NLRI that isn't accepted.
-pub fn run_within<F: Files, S: Sink, W: Wire>(
+/// Runs the command that the words ask for, over inputs of fewer than `limit` octets, and answers the status with
+/// which the process is to end: 0 where the job is done, 1 for a fault outside or a name that no file has, 2 for words
+/// that ask for no command, 3 for the configuration or the rules file, 4 for the tape, 5 for the capture, 6 for want of
+/// memory, 7 for the limit, 8 for a session, 9 for NLRI or a text that isn't
+/// accepted, 10 for the dump.
+pub fn run_within<F: Files, S: Sink, W: Wire, C: Clock>(
     alloc: Global,
     words: &[String],
     limit: u64,
     files: &mut F,
     sink: &mut S,
-    _wire: &mut W,
+    wire: &mut W,
+    clock: &mut C,
 ) -> u8
     requires { 1 ≤ limit }
     ensures { Promises limit
-        (world F.Files S.Sink files.old files.new sink.old sink.new _wire.old _wire.new)
+        (world F.Files S.Sink W.Wire C.Clock files.old files.new sink.old sink.new wire.old wire.new clock.old clock.new)
         (map string_bytes words.now) result }
 {
     match parse(words) {
         None => status::NO_COMMAND,
-        Some(command) => perform(alloc, command, limit, files, sink),
+        Some(command) => perform(alloc, Job { command, limit }, files, sink, wire, clock),
     }
 }
 
-/// Runs the command, and answers the status. None of these commands is handed the wire.
-fn perform<F: Files, S: Sink>(
-    alloc: Global,
-    command: Command<'_>,
+/// A command, and the most octets, plus one, that an input of it may have.
+#[derive(Clone, Copy, Drop)]
+struct Job<'w> {
+    command: Command<'w>,
     limit: u64,
+}
+
+/// Runs the command, and answers the status.
+fn perform<F: Files, S: Sink, W: Wire, C: Clock>(
+    alloc: Global,
+    job: Job<'_>,
     files: &mut F,
     sink: &mut S,
+    wire: &mut W,
+    clock: &mut C,
 ) -> u8
-    ensures does { Does F.tells limit (F.holds files.old) (form_shown command.entry)
-        (happened F.Files S.Sink files.old files.new sink.old sink.new) result }
+    requires { 1 ≤ job.limit }
+    ensures does { Does F.tells job.entry.limit (F.holds files.old) (form_shown job.entry.command)
+        (with_wire W.Wire wire.old wire.new (happened F.Files S.Sink files.old files.new sink.old sink.new))
+        (conversation W.Wire C.Clock wire.old wire.new clock.old clock.new) result }
     ensures known { result ≢ 2 }
-    ensures quiet { result ≡ 3 → sink.new ≡ sink.old }
-    ensures wanting { result ≡ 6 → HasNoMoments F.tells limit (F.holds files.old) (form_shown command.entry) → sink.new ≡ sink.old }
+    ensures quiet { result ≡ 3 → (sink.new ≡ sink.old) × ((wire.new ≡ wire.old) × (clock.new ≡ clock.old)) }
+    ensures wanting { result ≡ 6
+        → HasNoMoments F.tells job.entry.limit (F.holds files.old) (form_shown job.entry.command)
+        → sink.new ≡ sink.old }
     ensures still { IsTrue F.tells
         → result ≡ 4
         → (config tape capture : List ℕ)
-        → form_shown command.entry ≡ Enforce config tape capture
+        → form_shown job.entry.command ≡ Enforce config tape capture
         → sink.new ≡ sink.old }
-    ensures unopened { (family : Family)
+    ensures unopened { (subject : Subject)
         → (word : List ℕ)
-        → form_shown command.entry ≡ Check family word
+        → form_shown job.entry.command ≡ Check subject word
         → files.new ≡ files.old }
-    ensures generates { (count : ℕ) → form_shown command.entry ≡ Gen count → files.new ≡ files.old }
+    ensures generates { (count : ℕ) → form_shown job.entry.command ≡ Gen count → files.new ≡ files.old }
+    ensures unspoken { speaks (form_shown job.entry.command) ≡ false
+        → (wire.new ≡ wire.old) × (clock.new ≡ clock.old) }
 {
+    let Job { command, limit } = job;
     match command {
         Command::Enforce {
             config,
@@ -92,10 +115,7 @@ fn perform<F: Files, S: Sink>(
                 tape,
                 capture,
             };
-            match enforce(alloc, files, sink, &names, limit) {
-                Ok(()) => status::DONE,
-                Err(refusal) => refusal.status(),
-            }
+            answer_of(enforce(alloc, files, sink, &names, limit))
         }
         Command::Survey {
             survey,
@@ -103,26 +123,82 @@ fn perform<F: Files, S: Sink>(
             tape,
         } => {
             let names = SurveyNames { config, tape };
-            match survey_tape(alloc, files, sink, survey, &names, limit) {
-                Ok(()) => status::DONE,
-                Err(refusal) => refusal.status(),
-            }
+            answer_of(survey_tape(alloc, files, sink, survey, &names, limit))
         }
-        Command::Check { family, word } => run_check(alloc, sink, family, word),
-        Command::Gen { count } => match generate(alloc, sink, count) {
-            Ok(()) => status::DONE,
-            Err(refusal) => refusal.status(),
-        },
+        Command::Convert { config, dump } => {
+            let names = DumpNames { config, dump };
+            answer_of(convert(alloc, files, sink, &names, limit))
+        }
+        Command::Check { subject, word } => run_check(alloc, sink, subject, word),
+        Command::Gen { count } => answer_of(generate(alloc, sink, count)),
+        Command::Announce {
+            config,
+            rules,
+            address,
+        } => {
+            let order = Announcement {
+                config,
+                rules,
+                address,
+                limit,
+            };
+            answer_of(announce(alloc, files, sink, wire, clock, &order))
+        }
+        Command::Listen { config, address } => {
+            let order = Reception {
+                config,
+                address,
+                limit,
+            };
+            answer_of(listen(alloc, files, sink, wire, clock, &order))
+        }
+        Command::Pair { config, rules } => {
+            let order = Pairing {
+                config,
+                rules,
+                limit,
+            };
+            answer_of(pair(alloc, files, sink, wire, clock, &order))
+        }
     }
 }
 
-/// Says of the word what it is as NLRI of the family.
-fn run_check<S: Sink>(alloc: Global, sink: &mut S, family: Family, word: &str) -> u8
-    ensures checks { Checks family word.now (at_sink S.Sink sink.old sink.new) result }
+/// The status of a command that is done or was refused.
+fn answer_of(done: Result<(), Refusal>) -> u8
+    ensures answered { result ≡ answered done }
+    ensures known { result ≢ 2 }
+{
+    match done {
+        Ok(()) => status::DONE,
+        Err(refusal) => refusal.status(),
+    }
+}
+
+/// Writes what is said of the word, and answers whether it is accepted.
+fn say<S: Sink>(
+    alloc: Global,
+    sink: &mut S,
+    subject: Subject,
+    word: &str,
+) -> Result<bool, CheckFault>
+    ensures written { WroteOn subject word.now (S.written sink.old) (S.written sink.new) result }
+    ensures later { S.faults sink.old ≤ S.faults sink.new }
+    ensures failed { IsErrOf result CheckFault.Failed → Rose (S.faults sink.old) (S.faults sink.new) }
+    ensures unwritten { IsErrOf result CheckFault.Memory → sink.new ≡ sink.old }
+{
+    match subject {
+        Subject::Nlri(family) => check(alloc, sink, family, word),
+        Subject::Text => check_text(alloc, sink, word),
+    }
+}
+
+/// Says of the word what it is.
+fn run_check<S: Sink>(alloc: Global, sink: &mut S, subject: Subject, word: &str) -> u8
+    ensures checks { Checks subject word.now (at_sink S.Sink sink.old sink.new) result }
     ensures known { (result ≢ 2) × (result ≢ 3) × (result ≢ 4) }
     ensures quiet { result ≡ 6 → sink.new ≡ sink.old }
 {
-    match check(alloc, sink, family, word) {
+    match say(alloc, sink, subject, word) {
         Ok(true) => status::DONE,
         Ok(false) => status::NLRI,
         Err(CheckFault::Failed) => status::OUTSIDE,

@@ -2,7 +2,7 @@
 #![tactic(auto)]
 
 use fs_cli::status;
-use fs_outside::{RealFiles, RealOut, RealWire};
+use fs_outside::{RealClock, RealFiles, RealOut, RealWire};
 use std::env;
 use std::io::ErrorKind;
 use std::process::ExitCode;
@@ -22,5 +22,6 @@ fn main(rt: HostRuntime) -> ExitCode {
     let mut files = RealFiles::new(alloc, &rt);
     let mut out = RealOut::new(rt.stdout());
     let mut wire = RealWire::new(&rt);
-    ExitCode::from(fs_cli::run(alloc, &words, &mut files, &mut out, &mut wire))
+    let mut clock = RealClock::new(&rt);
+    ExitCode::from(fs_cli::run(alloc, &words, &mut files, &mut out, &mut wire, &mut clock))
 }
