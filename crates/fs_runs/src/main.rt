@@ -12,6 +12,7 @@ mod outcome;
 mod runner;
 mod shape;
 mod tape;
+mod wire;
 
 use case_files::CaseFiles;
 use fs_cases::Fault;

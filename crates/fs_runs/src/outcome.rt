@@ -3,8 +3,9 @@
 ghost use Rattle.std.specs.Prelude.{◌≤◌};
 
 use crate::named::NamedOctets;
+use crate::wire::WireTerms;
 use fs_cases::Fault;
-use fs_outside::{CalmWire, MemFiles, MemSink};
+use fs_outside::{MemFiles, MemSink};
 use std::alloc::Global;
 
 /// What a run is given beside its files.
@@ -15,6 +16,7 @@ pub struct Terms {
     pub room: usize,
     pub failing_files: Vec<u64>,
     pub failing_writes: Vec<u64>,
+    pub wire: WireTerms,
 }
 
 impl Terms {
@@ -26,6 +28,7 @@ impl Terms {
             room: ROOM,
             failing_files: Vec::new(alloc),
             failing_writes: Vec::new(alloc),
+            wire: WireTerms::new(alloc),
         }
     }
 
@@ -33,8 +36,15 @@ impl Terms {
     pub fn reset(&mut self) {
         self.limit = AMPLE;
         self.room = ROOM;
+        self.wire.reset();
+        self.fail_none();
+    }
+
+    /// No call fails.
+    pub fn fail_none(&mut self) {
         self.failing_files.clear();
         self.failing_writes.clear();
+        self.wire.failing.clear();
     }
 }
 
@@ -44,11 +54,13 @@ const AMPLE: u64 = 1 << 40;
 /// More than any run writes.
 const ROOM: usize = 200_000;
 
-/// How a run ended: its status, and what it wrote.
+/// How a run ended: its status, what it wrote, and in hexadecimal what it wrote through each end of the wire.
 #[derive(Drop)]
 pub struct Outcome {
     pub status: u8,
-    pub text: String,
+    pub written: Vec<u8>,
+    pub first: String,
+    pub second: String,
 }
 
 /// The files that the words name.
@@ -70,9 +82,23 @@ pub fn ended(alloc: Global, named: &NamedOctets, terms: &Terms) -> Result<Outcom
     let mut files = files_of(alloc, named, terms)?;
     let failing = Vec::from_slice(alloc, &terms.failing_writes)?;
     let mut sink = MemSink::new(alloc, terms.room, failing).map_err(|_| Fault::Memory)?;
-    let mut wire = CalmWire::new(alloc, 0).map_err(|_| Fault::Memory)?;
+    let mut wire = terms.wire.wire(alloc)?;
+    let mut clock = terms.wire.clock(alloc)?;
     let limit = terms.limit.max(1);
-    let status = fs_cli::run_within(alloc, &terms.words, limit, &mut files, &mut sink, &mut wire);
-    let text = String::from_utf8(Vec::from_slice(alloc, sink.text())?).map_err(|_| Fault::NoText)?;
-    Ok(Outcome { status, text })
+    let status = fs_cli::run_within(
+        alloc,
+        &terms.words,
+        limit,
+        &mut files,
+        &mut sink,
+        &mut wire,
+        &mut clock,
+    );
+    let written = Vec::from_slice(alloc, sink.text())?;
+    Ok(Outcome {
+        status,
+        written,
+        first: hex::encode(alloc, wire.written(0))?,
+        second: hex::encode(alloc, wire.written(1))?,
+    })
 }

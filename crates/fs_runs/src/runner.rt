@@ -16,6 +16,7 @@ const CALLS: u64 = 1000;
 enum Called {
     Files,
     Output,
+    Wire,
 }
 
 /// Files, what the next run is given, and what it must write.
@@ -25,7 +26,9 @@ pub struct Runner {
     named: NamedOctets,
     terms: Terms,
     case: String,
-    expected: String,
+    expected: Vec<u8>,
+    first_said: Option<String>,
+    second_said: Option<String>,
 }
 
 impl Runner {
@@ -35,7 +38,9 @@ impl Runner {
             named: NamedOctets::new(alloc),
             terms: Terms::new(alloc),
             case: String::new(alloc),
-            expected: String::new(alloc),
+            expected: Vec::new(alloc),
+            first_said: None,
+            second_said: None,
         }
     }
 
@@ -81,10 +86,16 @@ impl Runner {
         match word {
             "case" => self.begin_case(rest),
             "out" => self.expect(rest),
+            "octets" => self.expect_octets(rest),
             "words" => self.take_words(rest),
-            "limit" | "room" | "fail_file" | "fail_write" => self.set(word, rest),
+            "word" => self.take_word(rest),
+            "limit" | "room" | "fail_file" | "fail_write" | "fail_wire" | "moment" | "narrow" =>
+                self.set(word, rest),
+            "gives" => self.give(rest),
+            "said" => self.expect_said(rest),
             "ends" | "stops" => self.end_case(rt, tally, word, rest),
             "calls" => self.count_calls(rt, tally, rest),
+            "wire_calls" => self.count_wire_calls(rt, tally, rest),
             "file" => self.named.begin(rest),
             "let" => self.define(rest),
             "put" => self.put(rest),
@@ -104,9 +115,15 @@ impl Runner {
         }
         let spelled = self.named.spelled(text)?;
         let octets = fs_cases::text(self.alloc, spelled.as_str())?;
-        let line = String::from_utf8(octets).map_err(|_| Fault::NoText)?;
-        self.expected.push_str(line.as_str())?;
-        self.expected.push_str("\n")?;
+        self.expected.extend_from_slice(&octets)?;
+        self.expected.push(b'\n')?;
+        Ok(())
+    }
+
+    /// These octets are written.
+    fn expect_octets(&mut self, field: &str) -> Result<(), Fault> {
+        let octets = self.named.octets(field)?;
+        self.expected.extend_from_slice(&octets)?;
         Ok(())
     }
 
@@ -122,12 +139,44 @@ impl Runner {
         Ok(())
     }
 
+    /// One word more, spaces and all.
+    fn take_word(&mut self, word: &str) -> Result<(), Fault> {
+        let word = self.named.spelled(word)?;
+        self.terms.words.push(word)?;
+        Ok(())
+    }
+
     fn set(&mut self, word: &str, digits: &str) -> Result<(), Fault> {
         match word {
             "limit" => self.terms.limit = number(digits)?,
             "room" => self.terms.room = count(digits)?,
             "fail_file" => self.terms.failing_files.push(number(digits)?)?,
+            "fail_wire" => self.terms.wire.failing.push(number(digits)?)?,
+            "moment" => self.terms.wire.moments.push(number(digits)?)?,
+            "narrow" => self.terms.wire.most = count(digits)?,
             _ => self.terms.failing_writes.push(number(digits)?)?,
+        }
+        Ok(())
+    }
+
+    /// What an end of the wire gives: the end and the octets.
+    fn give(&mut self, rest: &str) -> Result<(), Fault> {
+        let (end, field) = word_of(rest)?;
+        let octets = self.named.octets(field)?;
+        self.terms.wire.give(octet(end)?, octets)
+    }
+
+    /// What is written through an end of the wire: the end and the octets.
+    fn expect_said(&mut self, rest: &str) -> Result<(), Fault> {
+        let (end, field) = match rest.split_once(' ') {
+            Some((end, field)) => (end, field),
+            None => (rest, ""),
+        };
+        let digits = hex::encode(self.alloc, &self.named.octets(field)?)?;
+        match octet(end)? {
+            0 => self.first_said = Some(digits),
+            1 => self.second_said = Some(digits),
+            _ => return Err(Fault::TooLarge),
         }
         Ok(())
     }
@@ -204,8 +253,8 @@ impl Runner {
         status: &str,
     ) -> Result<(), Fault> {
         let outcome = self.outcome()?;
-        let whole = self.expected.as_str();
-        let written = outcome.text.as_str();
+        let whole = self.expected.as_slice();
+        let written = outcome.written.as_slice();
         let is_front = word == "stops" && whole.starts_with(written);
         let expected = shown(self.alloc, octet(status)?, whole)?;
         let came = shown(
@@ -214,9 +263,43 @@ impl Runner {
             if is_front { whole } else { written },
         )?;
         tally.compare(rt, self.case.as_str(), expected.as_str(), came.as_str())?;
-        self.expected.clear();
-        self.terms.reset();
+        self.compare_said(rt, tally, &outcome)?;
+        self.begin_next();
         Ok(())
+    }
+
+    /// Compares what was written through the ends of the wire, where that is said.
+    fn compare_said<R: Print>(
+        &self,
+        rt: &R,
+        tally: &mut Tally,
+        outcome: &Outcome,
+    ) -> Result<(), Fault> {
+        if let Some(said) = &self.first_said {
+            tally.compare(
+                rt,
+                self.case.as_str(),
+                said.as_str(),
+                outcome.first.as_str(),
+            )?;
+        }
+        if let Some(said) = &self.second_said {
+            tally.compare(
+                rt,
+                self.case.as_str(),
+                said.as_str(),
+                outcome.second.as_str(),
+            )?;
+        }
+        Ok(())
+    }
+
+    /// The next run has the same words, and the rest as at first.
+    fn begin_next(&mut self) {
+        self.expected.clear();
+        self.first_said = None;
+        self.second_said = None;
+        self.terms.reset();
     }
 
     /// Lets each call of the files fail in turn until no call is left, and then each of the output.
@@ -232,8 +315,22 @@ impl Runner {
         let (files, output) = word_of(counts)?;
         let expected = format!(in self.alloc; "Some({files}) Some({output})")?;
         tally.compare(rt, self.case.as_str(), expected.as_str(), came.as_str())?;
-        self.expected.clear();
-        self.terms.reset();
+        self.begin_next();
+        Ok(())
+    }
+
+    /// Lets each call of the wire fail in turn until no call is left.
+    fn count_wire_calls<R: Print>(
+        &mut self,
+        rt: &R,
+        tally: &mut Tally,
+        count: &str,
+    ) -> Result<(), Fault> {
+        let calls = self.calls(Called::Wire)?;
+        let came = format!(in self.alloc; "{calls:?}")?;
+        let expected = format!(in self.alloc; "Some({count})")?;
+        tally.compare(rt, self.case.as_str(), expected.as_str(), came.as_str())?;
+        self.begin_next();
         Ok(())
     }
 
@@ -241,14 +338,15 @@ impl Runner {
     /// and behind the last it ends with 0 and has written all. None where a run ends otherwise.
     fn calls(&mut self, called: Called) -> Result<Option<u64>, Fault> {
         for call in 0..CALLS {
-            self.terms.reset();
+            self.terms.fail_none();
             match called {
                 Called::Files => self.terms.failing_files.push(call)?,
                 Called::Output => self.terms.failing_writes.push(call)?,
+                Called::Wire => self.terms.wire.failing.push(call)?,
             }
             let outcome = self.outcome()?;
-            let whole = self.expected.as_str();
-            let written = outcome.text.as_str();
+            let whole = self.expected.as_slice();
+            let written = outcome.written.as_slice();
             if outcome.status == 0 && written == whole {
                 return Ok(Some(call));
             }
@@ -260,7 +358,11 @@ impl Runner {
     }
 }
 
-/// A status and a text as one.
-fn shown(alloc: Global, status: u8, text: &str) -> Result<String, Fault> {
+/// A status and what was written as one: a text as it is, other octets in hexadecimal.
+fn shown(alloc: Global, status: u8, written: &[u8]) -> Result<String, Fault> {
+    let text = match String::from_utf8(Vec::from_slice(alloc, written)?) {
+        Ok(text) => text,
+        Err(_) => hex::encode(alloc, written)?,
+    };
     Ok(format!(in alloc; "{status}\n{text}")?)
 }
