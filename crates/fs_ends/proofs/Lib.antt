@@ -1,4 +1,5 @@
 pub mod OpenSteps
 pub mod Moments
+pub mod Ahead
 mod Telling
 mod Announced

@@ -179,6 +179,8 @@ impl<'a> Speaker for Teller<'a> {
 
     ghost ahead = { λ t. ahead_of t.announcer t.started };
 
+    ghost begun = { λ t. t.started };
+
     ghost own = { λ t. record { announcer = before_all t.announcer; started = false; count = 0 } };
 
     fn hear(&mut self, moment: u64, piece: &[u8], out: &mut Vec<u8>) -> Result<(), Memory> {

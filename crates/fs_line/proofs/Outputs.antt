@@ -1,10 +1,11 @@
 -- How what became of a text follows from what became of its parts.
-use Rattle.std.proofs.Common.{◌≡◌, ℕ, ◌+◌, ◌<◌, List, [], ◌∷◌, ◌++◌, length, take, drop, get_or, Option, Result, Ok, Err, OnOk, OnErr, IsErrAnd, ◌≤◌, arith, sym, ◌∙◌, ap, subst, append_assoc, append-nil}
+use Rattle.std.proofs.Common.{◌≡◌, ◌⊎◌, inl, inr, ℕ, ◌+◌, ◌<◌, List, [], ◌∷◌, ◌++◌, length, take, drop, get_or, Option, Result, Ok, Err, OnOk, OnErr, IsErrAnd, ◌≤◌, arith, sym, ◌∙◌, ap, subst, append_assoc, append-nil}
+use Rattle.std.proofs.lemmas.Grind.{common_steps}
 use Rattle.std.proofs.lemmas.List.{take_more, take-append-drop}
 use Rattle.fs_base.specs.Outside.{HasCause, Rose}
 use Rattle.fs_base.specs.Sink.{Grew, GrewPart}
 use Rattle.fs_base.proofs.Grew.{Grew-refl, Grew-trans, part_more, part_then}
-use Rattle.fs_line.specs.Output.{Goes, Stops, Sent}
+use Rattle.fs_line.specs.Output.{Goes, Partly, Stops, Sent}
 
 -- a text has gone on so far
 pub record SentSo (faults faults_now : ℕ) (before now : Option (List ℕ)) (pending pending_now text : List ℕ) : Type 0 where
@@ -73,6 +74,25 @@ goes_flush {a} {b} {p} {q} {xs} c first flushed =
 pub goes_flush_part : {a b : Option (List ℕ)} {p q xs : List ℕ} (c : Option (List ℕ)) → Goes a b p q xs → GrewPart b c q → GrewPart a c (p ++ xs)
 goes_flush_part {a} {b} {p} {q} {xs} c first part =
     let P : List ℕ → Type 0 = λ text. GrewPart a c text in subst P (sym first.whole) (part_then a b c first.flushed q first.grew part)
+
+abbrev no_octets : List ℕ
+no_octets = []
+
+take_nothing : (n : ℕ) → take n no_octets ≡ []
+take_nothing n = grind (arith, common_steps)
+
+-- a front, and then nothing
+part_nothing : (a b c : Option (List ℕ)) (xs : List ℕ) → GrewPart a b xs → GrewPart b c no_octets → GrewPart a c xs
+part_nothing a b c xs part more =
+    let grew : Grew b c [] = subst (λ (l : List ℕ). Grew b c l) (take_nothing more.0) more.1 in
+    (part.0, subst (λ (l : List ℕ). Grew a c l) (append-nil (take part.0 xs)) (Grew-trans a b c (take part.0 xs) [] part.1 grew))
+
+-- a text that went on in part, and then a front of what was pending was written out
+pub partly_flushed : (before mid now : Option (List ℕ)) (pending text : List ℕ) → Partly before mid [] pending text → GrewPart mid now pending → GrewPart before now text
+partly_flushed before mid now pending text (inl p) grew =
+    subst (λ (l : List ℕ). GrewPart before now l) (sym p.parts) (part_more before now p.front p.rest (goes_flush_part now p.goes grew))
+partly_flushed before mid now pending text (inr h) grew =
+    part_nothing before mid now text h.part (subst (λ (l : List ℕ). GrewPart mid now l) h.empty grew)
 
 -- a fault while what is pending is written out
 pub flush_failed : {T U E F : Type 0} {f g : ℕ} {a b : Option (List ℕ)} {p q : List ℕ} {error : E} (xs : List ℕ) (R : F → Type 0) (result : Result U F)

@@ -1,5 +1,5 @@
 -- How text reaches a sink through a buffer that keeps octets back.
-use Rattle.std.specs.Prelude.{◌≡◌, ◌≤◌, ℕ, List, [], ◌++◌, Option, Result, OnOk, OnErr}
+use Rattle.std.specs.Prelude.{◌≡◌, ◌≤◌, ◌⊎◌, ℕ, List, [], ◌++◌, Option, Result, OnOk, OnErr}
 use Rattle.fs_base.specs.Outside.{Rose}
 use Rattle.fs_base.specs.Sink.{Grew, GrewPart}
 use Rattle.fs_base.specs.declared.outside.sink.Sink as sink
@@ -14,6 +14,17 @@ pub record Goes (before now : Option (List ℕ)) (pending pending_now text : Lis
 pub record Stops (before now : Option (List ℕ)) (pending pending_now text : List ℕ) : Type 0 where
   pub part : GrewPart before now (pending ++ text)
   pub empty : pending_now ≡ []
+
+-- a front of the text went on
+pub record GoesPart (before now : Option (List ℕ)) (pending pending_now text : List ℕ) : Type 0 where
+  pub front : List ℕ
+  pub rest : List ℕ
+  pub parts : text ≡ front ++ rest
+  pub goes : Goes before now pending pending_now front
+
+-- a call on the outside failed: on the files, and a front of the text went on; or on the sink, and nothing is pending
+abbrev pub Partly : (before now : Option (List ℕ)) (pending pending_now text : List ℕ) → Type 0
+Partly before now pending pending_now text = GoesPart before now pending pending_now text ⊎ Stops before now pending pending_now text
 
 -- The text has gone on, or the sink failed within it, as its count of faults tells.
 pub record Sent {T E : Type 0} (faults faults_now : ℕ) (before now : Option (List ℕ)) (pending pending_now text : List ℕ) (result : Result T E) : Type 0 where

@@ -1,5 +1,6 @@
 use Rattle.std.proofs.Common.{rules, refl}
-use Rattle.fs_ends.proofs.Telling.{begins_fewer, begins_from, begins_least, begun, starts_own}
+use Rattle.fs_ends.proofs.Ahead.{begins_fewer, begins_least, starts_own}
+use Rattle.fs_ends.proofs.Telling.{begins_from, begun}
 use Rattle.fs_ends.proofs.teller.Teller.begin.Goals as goal
 
 pub returns-then-self-clause-begins : goal.returns-then-self-clause-begins

@@ -1,6 +1,7 @@
 use Rattle.std.proofs.Common.{rules, Bool, subst}
 use Rattle.fs_speaker.specs.Announcer.{SaysText, next_text}
-use Rattle.fs_ends.proofs.Telling.{if_if, if_on, says_all, says_next, says_pieces}
+use Rattle.fs_ends.proofs.Ahead.{if_if, if_on, says_all}
+use Rattle.fs_ends.proofs.Telling.{says_next, says_pieces}
 use Rattle.fs_ends.proofs.teller.TellerSpeaker.next.Goals as goal
 
 pub returns-clause-says : goal.returns-clause-says
