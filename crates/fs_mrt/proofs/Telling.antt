@@ -1,7 +1,7 @@
 -- What the records of a dump tell.
 use Rattle.std.proofs.Common.{◌≡◌, ℕ, suc, zero, List, [], ◌∷◌, ◌++◌, Option, Some, None, Bool, true, false, ◌<◌, ◌≤◌, ◌+◌, ◌-◌, ◌*◌, ◌^◌, ◌==◌, ◌&&◌, max, min, length, take, drop, refl, ap, sym, subst, ◌∙◌, arith, length-append, append_assoc, ◌⊎◌, inl, inr}
 use Rattle.std.specs.Prelude.{if◌then◌else◌, nat_le, IsSome, find, ⊤}
-use Rattle.std.proofs.lemmas.List.{length-drop, length-take}
+use Rattle.std.proofs.lemmas.List.{length-take}
 use Rattle.std.proofs.lemmas.Bool.{cases_lt}
 use Rattle.std.proofs.lemmas.Bool.Decides.{nat_tests}
 use Rattle.byteorder.specs.Endian.{big_number}
@@ -9,18 +9,16 @@ use Rattle.fs_base.specs.Config.{peer_of}
 use Rattle.fs_base.specs.Language.{IsOctets}
 use Rattle.fs_base.specs.Parts.{window, with_part}
 use Rattle.fs_base.specs.declared.config.Address.{Address}
-use Rattle.fs_base.specs.declared.config.Config.{Config}
 use Rattle.fs_base.specs.declared.config.Peer.{Peer}
 use Rattle.fs_base.proofs.Digits.{big_below}
 use Rattle.fs_base.proofs.Octets.{octets_append, octets_drop, octets_take}
 use Rattle.fs_records.specs.Parts.{At, at, parts_from, parts_within, to_come}
-use Rattle.fs_scan.specs.Coming.{Placed, first_part, part_of, parts_to_come, placed}
+use Rattle.fs_scan.specs.Coming.{Placed, first_part, part_of, placed, all_told}
 use Rattle.fs_scan.specs.Reads.{whole}
 use Rattle.fs_scan.specs.Scan.{Scan, Scanner, and, and_then, behind, fails, field, gives, got, needs, partial, skips, wrong}
-use Rattle.fs_mrt.specs.Dump.{heard_of}
 use Rattle.fs_mrt.specs.Laws.{AreHeard, HeardFits, IsHeard, IsSaid}
 use Rattle.fs_mrt.specs.Peers.{is_same, lesser, lowest, number_at}
-use Rattle.fs_mrt.specs.Record.{Said, Spoken, addressed_in, body_in, change, ends_in, ends_size, family_in, front_behind, front_in, head_of, headed_in, heard_in, message, message_behind, message_in, moment_behind, record_behind, record_in, said_at, said_in, spoken, states_behind, states_in, time_of}
+use Rattle.fs_mrt.specs.Record.{Spoken, body_in, change, ends_in, ends_size, family_in, front_behind, front_in, head_of, heard_in, message, message_behind, message_in, moment_behind, record_behind, record_in, said_at, said_in, spoken, states_behind, states_in, time_of}
 use Rattle.fs_mrt.specs.Shape.{address_of, address_size, family_of, front_size, states_size}
 use Rattle.fs_mrt.specs.declared.fault.DumpReason.{DumpReason}
 use Rattle.fs_mrt.specs.declared.fault.DumpReason.TheVariants.{Family as WrongFamily, Length, Message as WrongMessage}
@@ -253,7 +251,7 @@ Standing = At (Placed ℕ)
 
 abbrev EachFrom : List Peer → ℕ → Standing → Type 0
 EachFrom peers n now = now.state.now < 2 ^ 64 → IsOctets now.octets
-    → AreHeard peers now.state.now (heard_of (parts_within (first_part (record_in peers)) n now).0)
+    → AreHeard peers now.state.now (all_told (parts_within (first_part (record_in peers)) n now).0)
 
 abbrev rest_of : List Peer → ℕ → Standing → Option (Option Spoken × Standing) → List (Option Spoken) × Standing
 rest_of peers n now found =
@@ -264,22 +262,22 @@ rest_of peers n now found =
 
 all_by : (peers : List Peer) (n : ℕ) (now : Standing) → ((next : Standing) → EachFrom peers n next) → now.state.now < 2 ^ 64 → IsOctets now.octets
     → (scan : Scan (Option Spoken × ℕ) DumpReason) → record_in peers now.state.now now.state.place now.octets ≡ scan
-    → AreHeard peers now.state.now (heard_of (rest_of peers n now (part_of now scan)).0)
+    → AreHeard peers now.state.now (all_told (rest_of peers n now (part_of now scan)).0)
 all_by peers n now going small are (wrong reason spot) e = tt
 all_by peers n now going small are partial e = tt
 all_by peers n now going small are (got found count) e =
     by found.0 found.1 (record_tells peers now.state.now small now.state.place now.octets found count are e)
   where
     by : (heard : Option Spoken) (moment : ℕ) → Behind peers now.state.now (heard, moment)
-        → AreHeard peers now.state.now (heard_of (with_part heard (parts_within (first_part (record_in peers)) n
+        → AreHeard peers now.state.now (all_told (with_part heard (parts_within (first_part (record_in peers)) n
         (at (placed moment (now.state.place + count)) (drop count now.octets)))).0)
     by None moment b =
-        subst (λ (m : ℕ). AreHeard peers m (heard_of (parts_within (first_part (record_in peers)) n (at (placed moment (now.state.place + count)) (drop count now.octets))).0))
+        subst (λ (m : ℕ). AreHeard peers m (all_told (parts_within (first_part (record_in peers)) n (at (placed moment (now.state.place + count)) (drop count now.octets))).0))
         b.moment_is
         (going (at (placed moment (now.state.place + count)) (drop count now.octets)) (subst (λ (m : ℕ). m < 2 ^ 64) (sym b.moment_is) small) (octets_drop count now.octets are))
     by (Some heard) moment b = (
       b.heard,
-      subst (λ (m : ℕ). AreHeard peers m (heard_of (parts_within (first_part (record_in peers)) n (at (placed moment (now.state.place + count)) (drop count now.octets))).0))
+      subst (λ (m : ℕ). AreHeard peers m (all_told (parts_within (first_part (record_in peers)) n (at (placed moment (now.state.place + count)) (drop count now.octets))).0))
           b.moment_is
           (going (at (placed moment (now.state.place + count)) (drop count now.octets)) (subst (λ (m : ℕ). m < 2 ^ 64) (sym b.moment_is) b.heard.room) (octets_drop count now.octets are)),
     )

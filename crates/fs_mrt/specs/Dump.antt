@@ -1,11 +1,11 @@
 -- An MRT dump: records, one behind the other. Those of configured peers are heard.
-use Rattle.std.specs.Prelude.{ℕ, List, [], ◌∷◌, Option, Some, None, Result, Ok, Err, ◌≡◌, ◌≤◌, ◌<◌, take, ⊤}
+use Rattle.std.specs.Prelude.{ℕ, List, Option, Some, None, Result, Ok, Err, ◌≡◌, ◌≤◌, ◌<◌, take, ⊤}
 use Rattle.fs_base.specs.declared.config.Config.{Config}
 use Rattle.fs_base.specs.declared.config.Peer.{Peer}
 use Rattle.fs_records.specs.Records.{End}
 use Rattle.fs_records.specs.declared.fault.Ended.{Ended}
 use Rattle.fs_records.specs.declared.fault.Fault.{Fault}
-use Rattle.fs_scan.specs.Coming.{parts_to_come}
+use Rattle.fs_scan.specs.Coming.{told_to_come}
 use Rattle.fs_mrt.specs.Record.{Said, Spoken, change, message, record_in, spoken}
 use Rattle.fs_mrt.specs.declared.fault.DumpReason.{DumpReason}
 use Rattle.fs_mrt.specs.declared.fault.DumpReason.TheVariants.{Cut}
@@ -13,18 +13,9 @@ use Rattle.fs_mrt.specs.declared.heard.Heard.{Heard}
 use Rattle.fs_mrt.specs.declared.heard.What.{What}
 use Rattle.fs_mrt.specs.declared.heard.What.TheVariants.{Message, Change}
 
--- those that tell something of a configured peer
-abbrev pub heard_of : List (Option Spoken) → List Spoken
-heard_of [] = []
-heard_of (None ∷ records) = heard_of records
-heard_of (Some heard ∷ records) = heard ∷ heard_of records
-
-abbrev pub only_heard : List (Option Spoken) × End DumpReason → List Spoken × End DumpReason
-only_heard found = (heard_of found.0, found.1)
-
 -- what is still to be heard behind so many octets and a record of this moment, and how the dump ends
 abbrev pub heard_to_come : List Peer → (limit taken moment : ℕ) → List ℕ → List Spoken × End DumpReason
-heard_to_come peers limit taken moment left = only_heard (parts_to_come (record_in peers) Cut limit taken moment left)
+heard_to_come peers limit taken moment left = told_to_come (record_in peers) Cut limit taken moment left
 
 -- What is heard in a dump of this content, and how it ends. Only its first `limit` octets are judged.
 abbrev pub dump_of : Config → ℕ → List ℕ → List Spoken × End DumpReason
@@ -74,3 +65,8 @@ abbrev pub Times : (old new : ℕ) → Result (Option Heard) (Fault DumpReason) 
 Times old new (Ok (Some heard)) = (new ≡ heard.moment) × (old ≤ new)
 Times old new (Ok None) = new ≡ old
 Times old new (Err fault) = new ≡ old
+
+-- The moment of what was heard becomes the dump's; it doesn't lie before the last one. A message isn't too long.
+abbrev pub Moves : (old new : ℕ) → Option Heard → Type 0
+Moves old new None = new ≡ old
+Moves old new (Some heard) = (new ≡ heard.moment) × (old ≤ new) × IsWithin heard.what

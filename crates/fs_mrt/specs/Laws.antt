@@ -1,5 +1,5 @@
 -- What is known of all that is heard in a dump.
-use Rattle.std.specs.Prelude.{ℕ, List, [], ◌∷◌, IsSome, ◌≡◌, ◌≤◌, ◌<◌, ◌^◌, length, ⊤}
+use Rattle.std.specs.Prelude.{ℕ, List, [], ◌∷◌, IsSome, ◌≤◌, ◌<◌, ◌^◌, length, ⊤}
 use Rattle.fs_base.specs.Config.{peer_of}
 use Rattle.fs_base.specs.Language.{IsOctets}
 use Rattle.fs_base.specs.declared.config.Config.{Config}

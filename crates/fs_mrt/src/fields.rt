@@ -1,6 +1,6 @@
 //! Taking the fields of a body.
 ghost use Rattle.std.specs.Prelude.{◌≡◌, ◌≤◌, ◌+◌, [], IfOk, IsTrue, length, take, drop};
-ghost use Rattle.fs_scan.specs.Reads.{Reads, whole};
+ghost use Rattle.fs_scan.specs.Reads.{Scans, whole};
 ghost use Rattle.fs_scan.specs.Scan.{field};
 ghost use Rattle.fs_mrt.specs.Record.{message_in, states_in, said_in};
 ghost use Rattle.fs_mrt.specs.Dump.{IsWithin, said_from};
@@ -26,8 +26,7 @@ pub(crate) fn take_part<F: Files>(
     ensures room { length into.new ≡ length into.old }
     ensures front { take from into.new ≡ take from into.old }
     ensures taken { IfOk result (λ _. counted.new.taken ≡ counted.old.taken + size) }
-    ensures reads { Reads F.tells (F.faults files.old) (F.faults files.new) (F.left files.old) (F.left files.new)
-        (F.holds files.old) (F.holds files.new) (field size whole) Cut counted.old counted.new
+    ensures reads { Scans F.Files files.old files.new (field size whole) Cut counted.old counted.new
         (λ _. take size (drop from into.new)) result }
 {
     take_octets(
@@ -52,8 +51,7 @@ pub(crate) fn take_message<F: Files>(
     ensures room { length into.new ≡ length into.old }
     ensures within { IfOk result IsWithin }
     ensures grows { IfOk result (λ _. counted.old.taken ≤ counted.new.taken) }
-    ensures reads { Reads F.tells (F.faults files.old) (F.faults files.new) (F.left files.old) (F.left files.new)
-        (F.holds files.old) (F.holds files.new) (message_in size) Cut counted.old counted.new
+    ensures reads { Scans F.Files files.old files.new (message_in size) Cut counted.old counted.new
         (λ what. said_from what into.new) result }
 {
     let place = counted.taken;
@@ -90,8 +88,7 @@ pub(crate) fn take_states<F: Files>(
     ensures room { length into.new ≡ length into.old }
     ensures within { IfOk result IsWithin }
     ensures grows { IfOk result (λ _. counted.old.taken ≤ counted.new.taken) }
-    ensures reads { Reads F.tells (F.faults files.old) (F.faults files.new) (F.left files.old) (F.left files.new)
-        (F.holds files.old) (F.holds files.new) (states_in size) Cut counted.old counted.new
+    ensures reads { Scans F.Files files.old files.new (states_in size) Cut counted.old counted.new
         (λ what. said_from what into.new) result }
 {
     if let Err(fault) = take_part(0, 4, counted, files, into) {
@@ -121,8 +118,7 @@ pub(crate) fn take_said<F: Files>(
     ensures room { length into.new ≡ length into.old }
     ensures within { IfOk result IsWithin }
     ensures grows { IfOk result (λ _. counted.old.taken ≤ counted.new.taken) }
-    ensures reads { Reads F.tells (F.faults files.old) (F.faults files.new) (F.left files.old) (F.left files.new)
-        (F.holds files.old) (F.holds files.new) (said_in change size) Cut counted.old counted.new
+    ensures reads { Scans F.Files files.old files.new (said_in change size) Cut counted.old counted.new
         (λ what. said_from what into.new) result }
 {
     if change {

@@ -8,6 +8,7 @@ mod heard;
 mod laws;
 mod peers;
 mod record;
+mod records;
 mod shape;
 
 pub use dump::Dump;

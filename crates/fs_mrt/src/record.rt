@@ -2,7 +2,7 @@
 ghost use Rattle.std.specs.Prelude.{◌≡◌, ◌≤◌, ◌<◌, ◌+◌, ◌*◌, ◌-◌, [], ℕ, IfOk, IfSome, length, max};
 ghost use Rattle.std.specs.Option.{option_map};
 ghost use Rattle.byteorder.specs.Endian.{big_number};
-ghost use Rattle.fs_scan.specs.Reads.{Reads};
+ghost use Rattle.fs_scan.specs.Reads.{Scans};
 ghost use Rattle.fs_scan.specs.Scan.{field};
 ghost use Rattle.fs_mrt.specs.Dump.{IsWithin, spoken_from};
 ghost use Rattle.fs_mrt.specs.Record.{addressed_in, body_in, ends_size, family_in, front_in, heard_in, time_of};
@@ -76,9 +76,8 @@ fn take_front<F: Files>(
     ensures room { IfOk result (λ front. ends_size shape front.family + states_size shape ≤ head.size) }
     ensures most { IfOk result (λ _. head.size ≤ 65536) }
     ensures grows { IfOk result (λ _. counted.old.taken ≤ counted.new.taken) }
-    ensures reads { Reads F.tells (F.faults files.old) (F.faults files.new) (F.left files.old) (F.left files.new)
-        (F.holds files.old) (F.holds files.new) (front_in head.spot head.seconds head.size shape) Cut
-        counted.old counted.new (λ front. front) result }
+    ensures reads { Scans F.Files files.old files.new (front_in head.spot head.seconds head.size shape) Cut counted.old
+        counted.new (λ front. front) result }
 {
     let size = head.size as usize;
     let first = shape.front_size();
@@ -119,8 +118,7 @@ fn take_address<F: Files>(
     requires none { counted.old.back ≡ [] }
     ensures none { counted.new.back ≡ [] }
     ensures grows { IfOk result (λ _. counted.old.taken ≤ counted.new.taken) }
-    ensures reads { Reads F.tells (F.faults files.old) (F.faults files.new) (F.left files.old) (F.left files.new)
-        (F.holds files.old) (F.holds files.new) (field (2 * address_size family) (address_of family)) Cut
+    ensures reads { Scans F.Files files.old files.new (field (2 * address_size family) (address_of family)) Cut
         counted.old counted.new (λ address. address) result }
 {
     let mut octets = [0u8; 32];
@@ -147,9 +145,8 @@ fn take_heard<F: Files>(
     ensures moment { IfOk result (λ found. IfSome found (λ heard. heard.moment ≡ rest.moment)) }
     ensures within { IfOk result (λ found. IfSome found (λ heard. IsWithin heard.what)) }
     ensures grows { IfOk result (λ _. counted.old.taken ≤ counted.new.taken) }
-    ensures reads { Reads F.tells (F.faults files.old) (F.faults files.new) (F.left files.old) (F.left files.new)
-        (F.holds files.old) (F.holds files.new) (heard_in rest.moment rest.size rest.shape peer) Cut
-        counted.old counted.new (option_map (λ heard. spoken_from heard into.new)) result }
+    ensures reads { Scans F.Files files.old files.new (heard_in rest.moment rest.size rest.shape peer) Cut counted.old
+        counted.new (option_map (λ heard. spoken_from heard into.new)) result }
 {
     let Some(peer) = peer else {
         return match skip_octets(DumpReason::Cut, rest.size as u64, counted, files, into) {
@@ -184,10 +181,9 @@ pub(crate) fn take_body<F: Files>(
     ensures moment { IfOk result (λ found. IfSome found (λ heard. moment ≤ heard.moment)) }
     ensures within { IfOk result (λ found. IfSome found (λ heard. IsWithin heard.what)) }
     ensures grows { IfOk result (λ _. counted.old.taken ≤ counted.new.taken) }
-    ensures reads { Reads F.tells (F.faults files.old) (F.faults files.new) (F.left files.old) (F.left files.new)
-        (F.holds files.old) (F.holds files.new)
-        (body_in peers.now moment head.spot head.seconds head.size head.shape) Cut
-        counted.old counted.new (option_map (λ heard. spoken_from heard into.new)) result }
+    ensures reads { Scans F.Files files.old files.new
+        (body_in peers.now moment head.spot head.seconds head.size head.shape) Cut counted.old counted.new
+        (option_map (λ heard. spoken_from heard into.new)) result }
 {
     let Some(shape) = head.shape else {
         return match skip_octets(DumpReason::Cut, head.size as u64, counted, files, into) {
@@ -226,9 +222,8 @@ fn take_ends<F: Files>(
     ensures moment { IfOk result (λ found. IfSome found (λ heard. heard.moment ≡ rest.moment)) }
     ensures within { IfOk result (λ found. IfSome found (λ heard. IsWithin heard.what)) }
     ensures grows { IfOk result (λ _. counted.old.taken ≤ counted.new.taken) }
-    ensures reads { Reads F.tells (F.faults files.old) (F.faults files.new) (F.left files.old) (F.left files.new)
-        (F.holds files.old) (F.holds files.new) (addressed_in peers.now rest.moment rest.size rest.shape family) Cut
-        counted.old counted.new (option_map (λ heard. spoken_from heard into.new)) result }
+    ensures reads { Scans F.Files files.old files.new (addressed_in peers.now rest.moment rest.size rest.shape family)
+        Cut counted.old counted.new (option_map (λ heard. spoken_from heard into.new)) result }
 {
     match take_address(family, counted, files) {
         Ok(address) => take_heard(rest, number_at(peers, address), counted, files, into),

@@ -9,7 +9,7 @@ use Rattle.fs_pcap.specs.Order.{number}
 use Rattle.fs_pcap.specs.declared.order.Endian.{Endian}
 use Rattle.fs_scan.specs.Reads.{Reads}
 use Rattle.fs_scan.specs.Scan.{and, gives}
-use Rattle.fs_scan.proofs.Lifting.{reads_as, reads_ends, reads_gives, reads_then}
+use Rattle.fs_scan.proofs.Lifting.{gives_for, reads_as, reads_ends, reads_then}
 use Rattle.fs_pcapng.specs.Block.{Packet, Stands, behind_packet, body_in, described_in, enhanced_in, kind_behind, opened, plain_in, section_in, simple_in, with_interface}
 use Rattle.fs_records.specs.declared.fault.Fault.{Fault}
 use Rattle.fs_pcapng.specs.Pcapng.{seen_from}
@@ -20,13 +20,6 @@ use Rattle.fs_pcapng.specs.declared.fault.NgReason.TheVariants.{Cut, TooMany}
 use Rattle.fs_pcapng.specs.declared.fields.Frame.{Frame}
 use Rattle.fs_pcapng.proofs.Parts.{needs_true}
 use Rattle.fs_pcapng.specs.declared.section.Interface.{Interface}
-
--- what an answer tells of a value that takes no octets
-pub gives_for : {T A : Type 0} {told : Bool} {faults : ℕ} {left : ℕ → List ℕ} {holds : List ℕ → Option (List ℕ)} {now : Counted}
-    (value : A) (tells : T → A) (answer : T) → value ≡ tells answer
-    → Reads told faults faults left left holds holds (gives value) Cut now now tells (Ok answer)
-gives_for {now = now} value tells answer e =
-    reads_as (gives value) (λ octets. ap (λ v. gives v now.taken octets) (sym e)) (reads_gives tells answer)
 
 -- a section header, or a block that is none
 pub header_kind : (now : Stands) (start : ℕ) (kind : List ℕ) → big_number 4 kind ≡ 0x0a0d0d0a → (place : ℕ) (octets : List ℕ)

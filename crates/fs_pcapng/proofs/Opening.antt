@@ -7,17 +7,18 @@ use Rattle.fs_base.specs.declared.counted.Counted.{Counted}
 use Rattle.fs_records.specs.Records.{End, bad, done, limited}
 use Rattle.fs_records.specs.declared.fault.Fault.{Fault}
 use Rattle.fs_records.specs.declared.fault.Fault.TheVariants.{Read, Limit, Bad}
+use Rattle.fs_scan.specs.Coming.{only_told}
 use Rattle.fs_scan.specs.Reads.{Fails, HasMore, Reads, ahead, end_of, ends_by, whole}
 use Rattle.fs_scan.specs.Scan.{Scanner, and, and_then, field, gives, got, partial}
-use Rattle.fs_scan.proofs.Lifting.{reads_as, reads_ends, reads_then}
+use Rattle.fs_scan.proofs.Lifting.{gives_for, reads_as, reads_ends, reads_then}
 use Rattle.byteorder.specs.Endian.{big_number}
 use Rattle.fs_pcap.specs.declared.order.Endian.{Endian}
-use Rattle.fs_pcapng.proofs.Bodies.{gives_for, header_kind}
+use Rattle.fs_pcapng.proofs.Bodies.{header_kind}
 use Rattle.fs_scan.proofs.Advancing.{part_advances}
 use Rattle.fs_scan.proofs.Again.{nothing_ahead}
 use Rattle.fs_scan.proofs.Coming.{end_comes}
 use Rattle.fs_pcapng.specs.Block.{Packet, Stands, block_in, kind_behind, opened, section_in}
-use Rattle.fs_pcapng.specs.Pcapng.{Begins, nothing, only_packets, packets_to_come, pcapng_of}
+use Rattle.fs_pcapng.specs.Pcapng.{Begins, nothing, packets_to_come, pcapng_of}
 use Rattle.fs_pcapng.specs.declared.fault.NgReason.{NgReason}
 use Rattle.fs_pcapng.specs.declared.fault.NgReason.TheVariants.{Cut}
 use Rattle.fs_pcapng.proofs.Takes.{block_takes}
@@ -60,7 +61,7 @@ module _ (limit : ℕ) (content : List ℕ) where
   opens_ends end h = by (length (window limit 0 content) == 0) refl (at_limit limit 0 content) refl
     where
       later : HasMore limit 0 content → packets_to_come limit 0 nothing content ≡ ([], end)
-      later more = ap only_packets (end_comes block_in Cut limit 0 nothing content end more h)
+      later more = ap only_told (end_comes block_in Cut limit 0 nothing content end more h)
 
       by : (none : Bool) → (length (window limit 0 content) == 0) ≡ none → (reached : Bool) → at_limit limit 0 content ≡ reached
           → pcapng_of limit content ≡ ([], end)
@@ -94,7 +95,7 @@ module _ {told : Bool} {faults faults' : ℕ} (left left' : ℕ → List ℕ) {h
       ap (λ l. pcapng_of old.limit l) (sym (here old left))
       ∙ judged old.limit content (subst (λ n. 0 < length (window old.limit n content)) start some)
       ∙ ap (λ n. packets_to_come old.limit n nothing content) (sym start)
-      ∙ ap only_packets (part_advances block_in block_takes Cut nothing tells_so h)
+      ∙ ap only_told (part_advances block_in block_takes Cut nothing tells_so h)
       ∙ ap (λ l. packets_to_come new.limit new.taken now l) behind
 
   -- the first block could not be read

@@ -1,7 +1,8 @@
--- A block of a pcapng capture, as a chain of fields: type and total length, of four octets each, the body, and the total
--- length again. A section header tells the order of the octets in the numbers behind it. (The draft 'PCAP Next Generation
--- (pcapng) Capture File Format', draft-ietf-opsawg-pcapng: its sections 'General Block Structure', 'Section Header Block',
--- 'Interface Description Block', 'Enhanced Packet Block' and 'Simple Packet Block'. Blocks of other types are skipped.)
+-- A block of a pcapng capture, as a chain of fields: type and total length, of four octets each, the body, and the
+-- total length again. A section header tells the order of the octets in the numbers behind it. (The draft 'PCAP Next
+-- Generation (pcapng) Capture File Format', draft-ietf-opsawg-pcapng: its sections 'General Block Structure', 'Section
+-- Header Block', 'Interface Description Block', 'Enhanced Packet Block' and 'Simple Packet Block'. Blocks of other types
+-- are skipped.)
 use Rattle.std.specs.Prelude.{ℕ, List, [], ◌∷◌, ◌++◌, Option, Some, None, Bool, ◌+◌, ◌-◌, ◌*◌, ◌%◌, ◌==◌, ◌&&◌, length, drop, max, min, nat_le, nat_lt, slice_get, if◌then◌else◌}
 use Rattle.byteorder.specs.Endian.{big_number}
 use Rattle.fs_pcap.specs.Head.{longest_record}

@@ -1,6 +1,6 @@
--- The options of an interface: code and length, of two octets each, and a value that is padded to four octets (the pcapng
--- draft's section 'Options'). The one that is read, of code 9, tells the unit of times ('if_tsresol' in its section
--- 'Interface Description Block').
+-- The options of an interface: code and length, of two octets each, and a value that is padded to four octets (the
+-- pcapng draft's section 'Options'). The one that is read, of code 9, tells the unit of times ('if_tsresol' in its
+-- section 'Interface Description Block').
 use Rattle.std.specs.Prelude.{ℕ, suc, zero, List, ◌+◌, ◌-◌, ◌*◌, ◌/◌, ◌==◌, ◌&&◌, drop, nat_le, slice_index, if◌then◌else◌}
 use Rattle.fs_pcap.specs.Order.{number}
 use Rattle.fs_pcap.specs.declared.order.Endian.{Endian}

@@ -1,6 +1,6 @@
 -- A pcapng capture: blocks, the first of which is a section header. Those with packets give them (the pcapng draft's
 -- sections 'Block Types' and 'Logical Block Hierarchy').
-use Rattle.std.specs.Prelude.{ℕ, List, [], ◌∷◌, Option, Some, None, Result, Ok, Err, ◌≡◌, ◌≤◌, ◌<◌, ◌==◌, ◌&&◌, not, if◌then◌else◌, length, take, ⊤}
+use Rattle.std.specs.Prelude.{ℕ, List, [], Option, Some, None, Result, Ok, Err, ◌≡◌, ◌≤◌, ◌<◌, ◌==◌, ◌&&◌, not, if◌then◌else◌, length, take, ⊤}
 use Rattle.fs_base.specs.Parts.{at_limit, window}
 use Rattle.fs_pcap.specs.Head.{longest_record}
 use Rattle.fs_pcap.specs.declared.link.Link.{Link}
@@ -8,24 +8,16 @@ use Rattle.fs_records.specs.Records.{End, bad, limited}
 use Rattle.fs_records.specs.declared.fault.Ended.{Ended}
 use Rattle.fs_records.specs.declared.fault.Fault.{Fault}
 use Rattle.fs_records.specs.declared.fault.Fault.TheVariants.{Read, Limit, Bad}
-use Rattle.fs_scan.specs.Coming.{parts_to_come}
+use Rattle.fs_scan.specs.Coming.{told_to_come}
 use Rattle.fs_pcapng.specs.Block.{Packet, Stands, block_in}
 use Rattle.fs_pcapng.specs.declared.caught.NgCaught.{NgCaught}
 use Rattle.fs_pcapng.specs.declared.caught.Seen.{Seen}
 use Rattle.fs_pcapng.specs.declared.fault.NgReason.{NgReason}
 use Rattle.fs_pcapng.specs.declared.fault.NgReason.TheVariants.{Cut}
 
-abbrev pub packets_of : List (Option Packet) → List Packet
-packets_of [] = []
-packets_of (None ∷ blocks) = packets_of blocks
-packets_of (Some found ∷ blocks) = found ∷ packets_of blocks
-
-abbrev pub only_packets : List (Option Packet) × End NgReason → List Packet × End NgReason
-only_packets found = (packets_of found.0, found.1)
-
 -- the packets that are still to come, where a capture stands so and so many octets of it were taken, and how it ends
 abbrev pub packets_to_come : (limit taken : ℕ) → Stands → List ℕ → List Packet × End NgReason
-packets_to_come limit taken now left = only_packets (parts_to_come block_in Cut limit taken now left)
+packets_to_come limit taken now left = told_to_come block_in Cut limit taken now left
 
 -- before the first section header
 abbrev pub nothing : Stands
@@ -70,6 +62,12 @@ Grows old new limit (Err fault) = ⊤
 
 abbrev pub seen_from : List ℕ → Seen → Packet
 seen_from into seen = packet_from seen.link seen.caught into
+
+-- A block never lowers the moment; a packet's is the capture's then. A packet isn't too long.
+abbrev pub Moves : (old new : Stands) → Option Seen → Type 0
+Moves old new None = old.moment ≤ new.moment
+Moves old new (Some seen) =
+    (old.moment ≤ new.moment) × (seen.caught.moment ≡ new.moment) × (seen.caught.taken ≤ longest_record)
 
 -- An opened capture is still to give all packets. A fault is what ends it before them.
 abbrev pub Begins : {T : Type 0} → List Packet × End NgReason → (T → List Packet × End NgReason) → Result T (Fault NgReason) → Type 0

@@ -2,7 +2,7 @@
 ghost use Rattle.std.specs.Prelude.{◌≡◌, ◌≤◌, ◌<◌, ◌+◌, [], IfOk, IfSome, length};
 ghost use Rattle.std.specs.Option.{option_map};
 ghost use Rattle.fs_pcap.specs.Head.{longest_record};
-ghost use Rattle.fs_scan.specs.Reads.{Reads};
+ghost use Rattle.fs_scan.specs.Reads.{Scans};
 ghost use Rattle.fs_pcapng.specs.Block.{body_in, kind_behind, kind_of, least_of, plain_in};
 ghost use Rattle.fs_pcapng.specs.Pcapng.{seen_from};
 ghost use Rattle.fs_pcapng.specs.declared.fault.NgReason.TheVariants.{Cut};
@@ -77,9 +77,8 @@ pub(crate) fn take_block<F: Files>(
     ensures size { IfOk result (λ found. IfSome found (λ seen. seen.caught.taken ≤ longest_record)) }
     ensures moment { IfOk result (λ found. IfSome found (λ seen. seen.caught.moment ≡ section.new.moment)) }
     ensures rises { section.old.moment ≤ section.new.moment }
-    ensures reads { Reads F.tells (F.faults files.old) (F.faults files.new) (F.left files.old) (F.left files.new)
-        (F.holds files.old) (F.holds files.new) (kind_behind section.old start kind.now) Cut counted.old counted.new
-        (λ found. (option_map (seen_from into.new) found, section.new)) result }
+    ensures reads { Scans F.Files files.old files.new (kind_behind section.old start kind.now) Cut counted.old
+        counted.new (λ found. (option_map (seen_from into.new) found, section.new)) result }
 {
     if BigEndian::read_u32(kind) == SECTION_HEADER {
         return match take_header(start, counted, files) {
@@ -112,8 +111,7 @@ fn take_plain<F: Files>(
     ensures size { IfOk result (λ found. IfSome found (λ seen. seen.caught.taken ≤ longest_record)) }
     ensures moment { IfOk result (λ found. IfSome found (λ seen. seen.caught.moment ≡ section.new.moment)) }
     ensures rises { section.old.moment ≤ section.new.moment }
-    ensures reads { Reads F.tells (F.faults files.old) (F.faults files.new) (F.left files.old) (F.left files.new)
-        (F.holds files.old) (F.holds files.new) (plain_in start section.old section.old.order kind.now) Cut
+    ensures reads { Scans F.Files files.old files.new (plain_in start section.old section.old.order kind.now) Cut
         counted.old counted.new (λ found. (option_map (seen_from into.new) found, section.new)) result }
 {
     let Some(order) = section.order() else {
@@ -160,8 +158,7 @@ fn take_body<F: Files>(
     ensures size { IfOk result (λ found. IfSome found (λ seen. seen.caught.taken ≤ longest_record)) }
     ensures moment { IfOk result (λ found. IfSome found (λ seen. seen.caught.moment ≡ section.new.moment)) }
     ensures rises { section.old.moment ≤ section.new.moment }
-    ensures reads { Reads F.tells (F.faults files.old) (F.faults files.new) (F.left files.old) (F.left files.new)
-        (F.holds files.old) (F.holds files.new) (body_in frame section.old kind) Cut counted.old counted.new
+    ensures reads { Scans F.Files files.old files.new (body_in frame section.old kind) Cut counted.old counted.new
         (λ found. (option_map (seen_from into.new) found, section.new)) result }
 {
     match kind {

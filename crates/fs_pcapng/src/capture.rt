@@ -1,6 +1,5 @@
 //! A capture, read packet by packet.
-ghost use Rattle.std.specs.Prelude.{◌≡◌, ◌≤◌, ◌<◌, ◌+◌, ◌++◌, [], None, IsSome, IsTrue, IfOk, IfSome, length};
-ghost use Rattle.std.specs.Option.{option_map};
+ghost use Rattle.std.specs.Prelude.{◌≡◌, ◌≤◌, ◌+◌, ◌++◌, [], None, IsSome, IsTrue, IfOk, IfSome, length};
 ghost use Rattle.std.specs.Result.{IsErrOf};
 ghost use Rattle.fs_base.specs.Files.{OnlySlot};
 ghost use Rattle.fs_base.specs.Outside.{Rose};
@@ -8,23 +7,22 @@ ghost use Rattle.fs_base.specs.Parts.{with_part};
 ghost use Rattle.fs_pcap.specs.Head.{longest_record};
 ghost use Rattle.fs_records.specs.Reading.{Advances, answer_of, ended_after};
 ghost use Rattle.fs_records.specs.declared.fault.Fault.TheVariants.{Read};
-ghost use Rattle.fs_scan.specs.Coming.{parts_to_come};
-ghost use Rattle.fs_scan.specs.Reads.{Reads, Starts, ahead, whole};
+ghost use Rattle.fs_scan.specs.Reads.{ScansAgain, whole};
 ghost use Rattle.fs_scan.specs.Scan.{field};
 ghost use Rattle.fs_pcapng.specs.Block.{block_in};
-ghost use Rattle.fs_pcapng.specs.Pcapng.{Begins, Grows, nothing, packet_from, packets_to_come, pcapng_of, seen_from};
+ghost use Rattle.fs_pcapng.specs.Pcapng.{Begins, Grows, nothing, packet_from, pcapng_of};
 ghost use Rattle.fs_pcapng.specs.declared.fault.NgReason.TheVariants.{Cut};
 
-use crate::block::{SECTION_HEADER, take_block};
-use crate::caught::{NgCaught, Seen};
+use crate::block::SECTION_HEADER;
+use crate::caught::NgCaught;
 use crate::fault::{NgFault, NgReason};
 use crate::header::take_header;
 use crate::section::Section;
 use byteorder::{BigEndian, ByteOrder};
 use fs_base::{Counted, Files};
 use fs_pcap::Link;
-use fs_records::{Ended, answer};
-use fs_scan::{take_again, take_first};
+use fs_records::Ended;
+use fs_scan::{next_part, take_again};
 use std::marker::Model;
 
 /// A capture that is read from a slot.
@@ -139,22 +137,21 @@ impl Ng {
             result }
         ensures others { OnlySlot F.tells F.left F.holds self.old.slot files.old files.new }
     {
-        if let Some(ended) = self.end {
-            return answer(ended);
-        }
-        match next_seen(&mut self.section, &mut self.counted, files, into) {
+        let found = next_part(
+            &(),
+            &mut self.section,
+            &mut self.counted,
+            &mut self.end,
+            files,
+            into,
+        );
+        match found {
             Ok(Some(seen)) => {
                 self.link = seen.link;
                 Ok(Some(seen.caught))
             }
-            Ok(None) => {
-                self.end = Some(Ended::Done);
-                Ok(None)
-            }
-            Err(fault) => {
-                self.end = Some(Ended::Stopped(fault));
-                Err(fault)
-            }
+            Ok(None) => Ok(None),
+            Err(fault) => Err(fault),
         }
     }
 }
@@ -170,9 +167,7 @@ fn take_opening<F: Files>(
     requires few { length counted.old.back ≤ 4 }
     ensures none { IfOk result (λ _. counted.new.back ≡ []) }
     ensures moment { IfOk result (λ _. section.new.moment ≡ 0) }
-    ensures reads { Reads F.tells (F.faults files.old) (F.faults files.new)
-        (ahead counted.old (F.left files.old)) (ahead counted.new (F.left files.new))
-        (F.holds files.old) (F.holds files.new) (block_in nothing) Cut counted.old counted.new
+    ensures reads { ScansAgain F.Files files.old files.new (block_in nothing) Cut counted.old counted.new
         (λ _. (None, section.new)) result }
 {
     let mut kind = [0u8; 4];
@@ -201,109 +196,8 @@ fn take_kind<F: Files>(counted: &mut Counted, files: &mut F, kind: &mut [u8]) ->
     ensures none { IfOk result (λ _. counted.new.back ≡ []) }
     ensures room { length kind.new ≡ 4 }
     ensures taken { IfOk result (λ _. counted.new.taken ≡ counted.old.taken + 4) }
-    ensures reads { Reads F.tells (F.faults files.old) (F.faults files.new)
-        (ahead counted.old (F.left files.old)) (ahead counted.new (F.left files.new))
-        (F.holds files.old) (F.holds files.new) (field 4 whole) Cut counted.old counted.new
-        (λ _. kind.new) result }
+    ensures reads { ScansAgain F.Files files.old files.new (field 4 whole) Cut counted.old counted.new (λ _. kind.new)
+        result }
 {
     take_again(NgReason::Cut, counted, files, kind)
-}
-
-/// Reads blocks up to one that gives a packet.
-fn next_seen<F: Files>(
-    section: &mut Section,
-    counted: &mut Counted,
-    files: &mut F,
-    into: &mut [u8],
-) -> Result<Option<Seen>, NgFault>
-    requires room { longest_record ≤ length into.old }
-    requires none { counted.old.back ≡ [] }
-    ensures none { counted.new.back ≡ [] }
-    ensures room { length into.new ≡ length into.old }
-    ensures later { F.faults files.old ≤ F.faults files.new }
-    ensures read { IsErrOf result Read → Rose (F.faults files.old) (F.faults files.new) }
-    ensures slot { counted.new.slot ≡ counted.old.slot }
-    ensures limit { counted.new.limit ≡ counted.old.limit }
-    ensures grows { IfOk result (λ found. IfSome found (λ seen. counted.old.taken < counted.new.taken)) }
-    ensures size { IfOk result (λ found. IfSome found (λ seen. seen.caught.taken ≤ longest_record)) }
-    ensures moment { IfOk result (λ found. IfSome found (λ seen. seen.caught.moment ≡ section.new.moment)) }
-    ensures rises { section.old.moment ≤ section.new.moment }
-
-    ensures advances { IsTrue F.tells
-        → Advances
-        (packets_to_come counted.old.limit counted.old.taken section.old (F.left files.old counted.old.slot))
-        (λ seen. with_part
-        (seen_from into.new seen)
-        (packets_to_come counted.new.limit counted.new.taken section.new (F.left files.new counted.old.slot)))
-        result }
-    ensures others { OnlySlot F.tells F.left F.holds counted.old.slot files.old files.new }
-{
-    'blocks: loop {
-        match advance(section, counted, files, into) {
-            Ok(Some(Some(seen))) => return Ok(Some(seen)),
-            Ok(Some(None)) => {}
-            Ok(None) => return Ok(None),
-            Err(fault) => return Err(fault),
-        }
-    }
-}
-
-/// Reads one block: the packet that it gives, if any. `None`: the capture ended before it.
-fn advance<F: Files>(
-    section: &mut Section,
-    counted: &mut Counted,
-    files: &mut F,
-    into: &mut [u8],
-) -> Result<Option<Option<Seen>>, NgFault>
-    requires room { longest_record ≤ length into.old }
-    requires none { counted.old.back ≡ [] }
-    ensures none { counted.new.back ≡ [] }
-    ensures room { length into.new ≡ length into.old }
-    ensures later { F.faults files.old ≤ F.faults files.new }
-    ensures read { IsErrOf result Read → Rose (F.faults files.old) (F.faults files.new) }
-    ensures slot { counted.new.slot ≡ counted.old.slot }
-    ensures limit { counted.new.limit ≡ counted.old.limit }
-    ensures grows { IfOk result (λ found. IfSome found (λ told. counted.old.taken < counted.new.taken)) }
-    ensures size { IfOk result (λ found.
-        IfSome found (λ told. IfSome told (λ seen. seen.caught.taken ≤ longest_record))) }
-    ensures moment { IfOk result (λ found.
-        IfSome found (λ told. IfSome told (λ seen. seen.caught.moment ≡ section.new.moment))) }
-    ensures rises { section.old.moment ≤ section.new.moment }
-
-    ensures advances { IsTrue F.tells
-        → Advances
-        (parts_to_come block_in Cut counted.old.limit counted.old.taken section.old (F.left files.old counted.old.slot))
-        (λ told. with_part
-        (option_map (seen_from into.new) told)
-        (parts_to_come block_in Cut counted.new.limit counted.new.taken section.new
-        (F.left files.new counted.new.slot)))
-        result }
-    ensures others { OnlySlot F.tells F.left F.holds counted.old.slot files.old files.new }
-{
-    let mut kind = [0u8; 4];
-    match begin_block(counted, files, &mut kind) {
-        Ok(true) => match take_block(counted.taken - 4, &kind, section, counted, files, into) {
-            Ok(found) => Ok(Some(found)),
-            Err(fault) => Err(fault),
-        },
-        Ok(false) => Ok(None),
-        Err(fault) => Err(fault),
-    }
-}
-
-/// Takes the type of a block. `false`: the capture ended before it.
-fn begin_block<F: Files>(
-    counted: &mut Counted,
-    files: &mut F,
-    kind: &mut [u8],
-) -> Result<bool, NgFault>
-    requires room { length kind.old ≡ 4 }
-    requires none { counted.old.back ≡ [] }
-    ensures none { counted.new.back ≡ [] }
-    ensures room { length kind.new ≡ 4 }
-    ensures taken { IfOk result (λ found. IsTrue found → counted.new.taken ≡ counted.old.taken + 4) }
-    ensures starts { Starts F.tells (F.faults files.old) (F.faults files.new) (F.left files.old) (F.left files.new)
-        (F.holds files.old) (F.holds files.new) 4 Cut counted.old counted.new kind.new result }
-{
-    take_first(NgReason::Cut, counted, files, kind)
 }

@@ -1,7 +1,7 @@
 //! Taking the fields of blocks.
 ghost use Rattle.std.specs.Prelude.{◌≡◌, ◌≤◌, ◌+◌, [], IfOk, length, take, drop};
 ghost use Rattle.fs_pcap.specs.Order.{number};
-ghost use Rattle.fs_scan.specs.Reads.{Reads, whole};
+ghost use Rattle.fs_scan.specs.Reads.{Scans, whole};
 ghost use Rattle.fs_scan.specs.Scan.{field, skips};
 ghost use Rattle.fs_pcapng.specs.Block.{close_in, end_in};
 ghost use Rattle.fs_pcapng.specs.declared.fault.NgReason.TheVariants.{Cut};
@@ -54,8 +54,7 @@ pub(crate) fn take_front<F: Files>(
     ensures none { counted.new.back ≡ [] }
     ensures room { length into.new ≡ length into.old }
     ensures taken { IfOk result (λ _. counted.new.taken ≡ counted.old.taken + size) }
-    ensures reads { Reads F.tells (F.faults files.old) (F.faults files.new) (F.left files.old) (F.left files.new)
-        (F.holds files.old) (F.holds files.new) (field size whole) Cut counted.old counted.new
+    ensures reads { Scans F.Files files.old files.new (field size whole) Cut counted.old counted.new
         (λ _. take size into.new) result }
 {
     take_octets(NgReason::Cut, counted, files, &mut into[..size])
@@ -70,8 +69,8 @@ pub(crate) fn take_short<F: Files>(
     requires none { counted.old.back ≡ [] }
     ensures none { counted.new.back ≡ [] }
     ensures taken { IfOk result (λ _. counted.new.taken ≡ counted.old.taken + 2) }
-    ensures reads { Reads F.tells (F.faults files.old) (F.faults files.new) (F.left files.old) (F.left files.new)
-        (F.holds files.old) (F.holds files.new) (field 2 (number order 2)) Cut counted.old counted.new (λ n. n) result }
+    ensures reads { Scans F.Files files.old files.new (field 2 (number order 2)) Cut counted.old counted.new (λ n. n)
+        result }
 {
     let mut octets = [0u8; 2];
     if let Err(fault) = take_front(2, counted, files, &mut octets) {
@@ -89,8 +88,8 @@ pub(crate) fn take_number<F: Files>(
     requires none { counted.old.back ≡ [] }
     ensures none { counted.new.back ≡ [] }
     ensures taken { IfOk result (λ _. counted.new.taken ≡ counted.old.taken + 4) }
-    ensures reads { Reads F.tells (F.faults files.old) (F.faults files.new) (F.left files.old) (F.left files.new)
-        (F.holds files.old) (F.holds files.new) (field 4 (number order 4)) Cut counted.old counted.new (λ n. n) result }
+    ensures reads { Scans F.Files files.old files.new (field 4 (number order 4)) Cut counted.old counted.new (λ n. n)
+        result }
 {
     let mut octets = [0u8; 4];
     if let Err(fault) = take_front(4, counted, files, &mut octets) {
@@ -109,8 +108,8 @@ pub(crate) fn close_block<F: Files>(
     requires place { counted.old.taken + 4 ≡ frame.start + frame.total }
     ensures none { counted.new.back ≡ [] }
     ensures taken { IfOk result (λ _. counted.new.taken ≡ frame.start + frame.total) }
-    ensures reads { Reads F.tells (F.faults files.old) (F.faults files.new) (F.left files.old) (F.left files.new)
-        (F.holds files.old) (F.holds files.new) (close_in frame) Cut counted.old counted.new (λ _. frame.total) result }
+    ensures reads { Scans F.Files files.old files.new (close_in frame) Cut counted.old counted.new (λ _. frame.total)
+        result }
 {
     let place = counted.taken;
     match take_number(frame.order, counted, files) {
@@ -132,8 +131,7 @@ pub(crate) fn skip<F: Files>(size: u64, counted: &mut Counted, files: &mut F) ->
     requires none { counted.old.back ≡ [] }
     ensures none { counted.new.back ≡ [] }
     ensures taken { IfOk result (λ _. counted.new.taken ≡ counted.old.taken + size) }
-    ensures reads { Reads F.tells (F.faults files.old) (F.faults files.new) (F.left files.old) (F.left files.new)
-        (F.holds files.old) (F.holds files.new) (skips size) Cut counted.old counted.new (λ _. size) result }
+    ensures reads { Scans F.Files files.old files.new (skips size) Cut counted.old counted.new (λ _. size) result }
 {
     let mut octets = [0u8; 64];
     skip_octets(NgReason::Cut, size, counted, files, &mut octets)
@@ -150,9 +148,8 @@ pub(crate) fn end_block<F: Files>(
     requires place { counted.old.taken + size + 4 ≡ frame.start + frame.total }
     ensures none { counted.new.back ≡ [] }
     ensures taken { IfOk result (λ _. counted.new.taken ≡ frame.start + frame.total) }
-    ensures reads { Reads F.tells (F.faults files.old) (F.faults files.new) (F.left files.old) (F.left files.new)
-        (F.holds files.old) (F.holds files.new) (end_in frame size) Cut counted.old counted.new
-        (λ _. frame.total) result }
+    ensures reads { Scans F.Files files.old files.new (end_in frame size) Cut counted.old counted.new (λ _. frame.total)
+        result }
 {
     if let Err(fault) = skip(size, counted, files) {
         return Err(fault);

@@ -1,6 +1,6 @@
 //! Section headers.
 ghost use Rattle.std.specs.Prelude.{◌≡◌, ◌≤◌, ◌<◌, ◌+◌, ◌-◌, ◌%◌, [], IfOk, length};
-ghost use Rattle.fs_scan.specs.Reads.{Reads};
+ghost use Rattle.fs_scan.specs.Reads.{Scans};
 ghost use Rattle.fs_pcapng.specs.Block.{allows, order_of, section_in, version_in};
 ghost use Rattle.fs_pcapng.specs.declared.fault.NgReason.TheVariants.{Cut};
 
@@ -37,8 +37,8 @@ pub(crate) fn take_header<F: Files>(
     requires place { counted.old.taken ≡ start + 4 }
     ensures none { counted.new.back ≡ [] }
     ensures grows { IfOk result (λ _. start < counted.new.taken) }
-    ensures reads { Reads F.tells (F.faults files.old) (F.faults files.new) (F.left files.old) (F.left files.new)
-        (F.holds files.old) (F.holds files.new) (section_in start) Cut counted.old counted.new (λ order. order) result }
+    ensures reads { Scans F.Files files.old files.new (section_in start) Cut counted.old counted.new (λ order. order)
+        result }
 {
     let mut octets = [0u8; 4];
     if let Err(fault) = take_front(4, counted, files, &mut octets) {
@@ -83,8 +83,8 @@ fn take_version<F: Files>(
     requires long { 28 ≤ frame.total }
     ensures none { counted.new.back ≡ [] }
     ensures grows { IfOk result (λ _. frame.start < counted.new.taken) }
-    ensures reads { Reads F.tells (F.faults files.old) (F.faults files.new) (F.left files.old) (F.left files.new)
-        (F.holds files.old) (F.holds files.new) (version_in frame) Cut counted.old counted.new (λ order. order) result }
+    ensures reads { Scans F.Files files.old files.new (version_in frame) Cut counted.old counted.new (λ order. order)
+        result }
 {
     let place = counted.taken;
     match take_short(frame.order, counted, files) {

@@ -2,6 +2,7 @@
 #![tactic(auto)]
 
 mod block;
+mod blocks;
 mod capture;
 mod caught;
 mod fault;

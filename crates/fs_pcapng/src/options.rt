@@ -1,7 +1,7 @@
 //! The options of an interface.
 ghost use Rattle.std.specs.Prelude.{◌≡◌, ◌≤◌, ◌<◌, ◌+◌, ◌-◌, ◌/◌, ◌*◌, [], IfOk, length};
 ghost use Rattle.fs_pcap.specs.Head.{longest_record};
-ghost use Rattle.fs_scan.specs.Reads.{Reads};
+ghost use Rattle.fs_scan.specs.Reads.{Scans};
 ghost use Rattle.fs_pcapng.specs.Options.{option_in, options_in, padded, unit_in, value_in, walk};
 ghost use Rattle.fs_pcapng.specs.declared.fault.NgReason.TheVariants.{Cut};
 
@@ -35,8 +35,7 @@ pub(crate) fn read_options<F: Files>(
     requires none { counted.old.back ≡ [] }
     ensures none { counted.new.back ≡ [] }
     ensures taken { IfOk result (λ _. counted.new.taken ≡ counted.old.taken + size) }
-    ensures reads { Reads F.tells (F.faults files.old) (F.faults files.new) (F.left files.old) (F.left files.new)
-        (F.holds files.old) (F.holds files.new) (options_in order size (walk size 6)) Cut counted.old counted.new
+    ensures reads { Scans F.Files files.old files.new (options_in order size (walk size 6)) Cut counted.old counted.new
         (λ unit. unit) result }
 {
     let mut now = Walk {
@@ -63,9 +62,8 @@ fn take_option<F: Files>(
     ensures none { counted.new.back ≡ [] }
     ensures less { IfOk result (λ later. later.left < now.left) }
     ensures taken { IfOk result (λ later. counted.new.taken + later.left ≡ counted.old.taken + now.left) }
-    ensures reads { Reads F.tells (F.faults files.old) (F.faults files.new) (F.left files.old) (F.left files.new)
-        (F.holds files.old) (F.holds files.new) (option_in order now) Cut counted.old counted.new
-        (λ later. later) result }
+    ensures reads { Scans F.Files files.old files.new (option_in order now) Cut counted.old counted.new (λ later. later)
+        result }
 {
     let place = counted.taken;
     let mut head = [0u8; 4];
@@ -96,8 +94,7 @@ fn take_value<F: Files>(
     ensures none { counted.new.back ≡ [] }
     ensures less { IfOk result (λ later. later.left < now.left) }
     ensures taken { IfOk result (λ later. counted.new.taken + later.left + 4 ≡ counted.old.taken + now.left) }
-    ensures reads { Reads F.tells (F.faults files.old) (F.faults files.new) (F.left files.old) (F.left files.new)
-        (F.holds files.old) (F.holds files.new) (value_in now code size) Cut counted.old counted.new
+    ensures reads { Scans F.Files files.old files.new (value_in now code size) Cut counted.old counted.new
         (λ later. later) result }
 {
     if code == 9 && size == 1 {
@@ -120,8 +117,8 @@ fn take_unit<F: Files>(now: Walk, counted: &mut Counted, files: &mut F) -> Resul
     ensures none { counted.new.back ≡ [] }
     ensures less { IfOk result (λ later. later.left < now.left) }
     ensures taken { IfOk result (λ later. counted.new.taken + later.left + 4 ≡ counted.old.taken + now.left) }
-    ensures reads { Reads F.tells (F.faults files.old) (F.faults files.new) (F.left files.old) (F.left files.new)
-        (F.holds files.old) (F.holds files.new) (unit_in now) Cut counted.old counted.new (λ later. later) result }
+    ensures reads { Scans F.Files files.old files.new (unit_in now) Cut counted.old counted.new (λ later. later)
+        result }
 {
     let mut octets = [0u8; 4];
     if let Err(fault) = take_front(4, counted, files, &mut octets) {

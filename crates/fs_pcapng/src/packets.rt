@@ -3,7 +3,7 @@ ghost use Rattle.std.specs.Prelude.{◌≡◌, ◌≤◌, ◌<◌, ◌+◌, ◌-
 ghost use Rattle.fs_pcap.specs.Head.{longest_record};
 ghost use Rattle.fs_pcap.specs.Link.{link_of};
 ghost use Rattle.fs_scan.specs.Judging.{scan_of};
-ghost use Rattle.fs_scan.specs.Reads.{Reads};
+ghost use Rattle.fs_scan.specs.Reads.{Scans};
 ghost use Rattle.fs_pcapng.specs.Block.{cut_to, described_in, enhanced_in, octets_in, simple_in};
 ghost use Rattle.fs_pcapng.specs.Packets.{Suits, told_by, told_in};
 ghost use Rattle.fs_pcapng.specs.Pcapng.{seen_from};
@@ -43,8 +43,7 @@ pub(crate) fn take_described<F: Files>(
     requires long { 20 ≤ frame.total }
     ensures none { counted.new.back ≡ [] }
     ensures grows { IfOk result (λ _. frame.start < counted.new.taken) }
-    ensures reads { Reads F.tells (F.faults files.old) (F.faults files.new) (F.left files.old) (F.left files.new)
-        (F.holds files.old) (F.holds files.new) (described_in frame) Cut counted.old counted.new
+    ensures reads { Scans F.Files files.old files.new (described_in frame) Cut counted.old counted.new
         (λ interface. interface) result }
 {
     let mut head = [0u8; 8];
@@ -83,8 +82,7 @@ fn take_captured<F: Files>(
     ensures none { counted.new.back ≡ [] }
     ensures room { length into.new ≡ length into.old }
     ensures taken { IfOk result (λ _. counted.new.taken ≡ frame.start + frame.total) }
-    ensures reads { Reads F.tells (F.faults files.old) (F.faults files.new) (F.left files.old) (F.left files.new)
-        (F.holds files.old) (F.holds files.new) (octets_in frame fixed captured) Cut counted.old counted.new
+    ensures reads { Scans F.Files files.old files.new (octets_in frame fixed captured) Cut counted.old counted.new
         (λ _. take captured into.new) result }
 {
     let rest = (frame.total - fixed - captured) as usize;
@@ -121,8 +119,7 @@ fn take_pieces<F: Files>(
     ensures none { counted.new.back ≡ [] }
     ensures room { length into.new ≡ length into.old }
     ensures taken { IfOk result (λ _. counted.new.taken ≡ frame.start + frame.total) }
-    ensures reads { Reads F.tells (F.faults files.old) (F.faults files.new) (F.left files.old) (F.left files.new)
-        (F.holds files.old) (F.holds files.new) (octets_in frame fixed captured) Cut counted.old counted.new
+    ensures reads { Scans F.Files files.old files.new (octets_in frame fixed captured) Cut counted.old counted.new
         (λ _. take captured into.new) result }
 {
     if let Err(fault) = take_front(captured as usize, counted, files, into) {
@@ -233,8 +230,7 @@ fn take_told<F: Files>(
     ensures size { IfOk result (λ told. told.captured ≤ longest_record) }
     ensures long { IfOk result (λ told. 32 + told.captured ≤ frame.total) }
     ensures rises { IfOk result (λ told. section.now.moment ≤ told.moment) }
-    ensures reads { Reads F.tells (F.faults files.old) (F.faults files.new) (F.left files.old) (F.left files.new)
-        (F.holds files.old) (F.holds files.new) (told_in frame section.now) Cut counted.old counted.new
+    ensures reads { Scans F.Files files.old files.new (told_in frame section.now) Cut counted.old counted.new
         (λ told. told) result }
 {
     let mut octets = [0u8; 20];
@@ -261,8 +257,7 @@ pub(crate) fn take_enhanced<F: Files>(
     ensures grows { IfOk result (λ _. frame.start < counted.new.taken) }
     ensures size { IfOk result (λ seen. seen.caught.taken ≤ longest_record) }
     ensures rises { IfOk result (λ seen. section.now.moment ≤ seen.caught.moment) }
-    ensures reads { Reads F.tells (F.faults files.old) (F.faults files.new) (F.left files.old) (F.left files.new)
-        (F.holds files.old) (F.holds files.new) (enhanced_in frame section.now) Cut counted.old counted.new
+    ensures reads { Scans F.Files files.old files.new (enhanced_in frame section.now) Cut counted.old counted.new
         (seen_from into.new) result }
 {
     let told = match take_told(frame, section, counted, files) {
@@ -302,8 +297,7 @@ pub(crate) fn take_simple<F: Files>(
     ensures grows { IfOk result (λ _. frame.start < counted.new.taken) }
     ensures size { IfOk result (λ seen. seen.caught.taken ≤ longest_record) }
     ensures rises { IfOk result (λ seen. section.now.moment ≤ seen.caught.moment) }
-    ensures reads { Reads F.tells (F.faults files.old) (F.faults files.new) (F.left files.old) (F.left files.new)
-        (F.holds files.old) (F.holds files.new) (simple_in frame section.now) Cut counted.old counted.new
+    ensures reads { Scans F.Files files.old files.new (simple_in frame section.now) Cut counted.old counted.new
         (seen_from into.new) result }
 {
     let Some(interface) = section.interface(0) else {

@@ -1,17 +1,17 @@
 -- Calls that read the next part of an input.
-use Rattle.std.proofs.Common.{◌≡◌, ◌⊎◌, inl, inr, ℕ, List, [], Bool, true, false, Option, Some, None, Result, Ok, Err, IsTrue, ◌<◌, ◌≤◌, ◌≢◌, length, refl, ap, sym, ◌∙◌, subst, arith}
-use Rattle.std.specs.Prelude.{⊤}
+use Rattle.std.proofs.Common.{◌≡◌, inr, ℕ, List, [], Bool, true, Option, Result, Ok, Err, IsTrue, ◌<◌, ◌≤◌, ◌≢◌, ◌+◌, ◌-◌, length, refl, ap, sym, ◌∙◌, subst, arith}
 use Rattle.fs_base.specs.Parts.{at_limit, window, with_part}
 use Rattle.fs_base.specs.declared.counted.Counted.{Counted}
 use Rattle.fs_records.specs.Reading.{Advances}
 use Rattle.fs_records.specs.Records.{End, bad, done, limited}
 use Rattle.fs_records.specs.declared.fault.Fault.{Fault}
 use Rattle.fs_records.specs.declared.fault.Fault.TheVariants.{Read, Limit, Bad}
-use Rattle.fs_scan.specs.Coming.{Chain, Takes, parts_to_come}
-use Rattle.fs_scan.specs.Reads.{Fails, HasMore, IsOver, Reads, Starts, Took, end_of, ends_by, whole}
+use Rattle.fs_scan.specs.Coming.{Chain, Takes, part_in, parts_to_come}
+use Rattle.fs_scan.specs.Reads.{Fails, HasMore, IsOver, Reads, Starts, end_of, ends_by, whole}
 use Rattle.fs_scan.specs.Scan.{Scanner, and, field}
 use Rattle.fs_scan.proofs.Coming.{done_comes, end_comes, field_takes, part_comes}
 use Rattle.fs_scan.proofs.Joining.{fails_first}
+use Rattle.fs_scan.proofs.Lifting.{reads_as, reads_then, starts_reads}
 
 module _ {S P R : Type 0} (chain : Chain S P R) (takes : (state : S) → Takes 1 (chain state)) (cut : R) where
   -- the part that was read comes first
@@ -74,3 +74,16 @@ some_taken {R} {left = left} {old = old} {size = size} tells_so some h =
     let held = field_takes {R = R} size whole old.taken (window old.limit old.taken (left old.slot)) _ took.count took.is in
     let a : size ≤ took.count = held.0 in
     omega (arith, a, took.within, some)
+
+-- the first octets of a part were taken, and then what stands behind them was read
+pub part_reads : {S P T R : Type 0} {cut : R} {told : Bool} {faults mid late : ℕ} {left left' left'' : ℕ → List ℕ}
+    {holds holds' holds'' : List ℕ → Option (List ℕ)} {old now new : Counted} {front : List ℕ} {tells : T → P × S} {result : Result T (Fault R)}
+    (first : ℕ) (behind : S → ℕ → List ℕ → Scanner (P × S) R) (state : S) → now.taken ≡ old.taken + first
+    → Starts told faults mid left left' holds holds' first cut old now front (Ok true)
+    → Reads told mid late left' left'' holds' holds'' (behind state (now.taken - first) front) cut now new tells result
+    → Reads told faults late left left'' holds holds'' (part_in first behind state) cut old new tells result
+part_reads {old = old} {now = now} {front = front} {tells = tells} first behind state taken starts h =
+    let spot : now.taken - first ≡ old.taken = omega (arith, taken) in
+    reads_as (part_in first behind state) (λ octets. refl)
+    (reads_then (behind state old.taken) tells (starts_reads starts)
+    (reads_as (behind state old.taken front) (λ octets. ap (λ n. behind state n front now.taken octets) spot) h))

@@ -1,5 +1,5 @@
 -- Octets that are skipped and a field behind them, taken together.
-use Rattle.std.proofs.Common.{◌≡◌, ℕ, List, Bool, true, false, ◌≤◌, ◌<◌, ◌+◌, ◌-◌, inl, inr, length, take, drop, refl, ap, sym, ◌∙◌, subst, arith}
+use Rattle.std.proofs.Common.{◌≡◌, ℕ, List, Bool, true, false, ◌≤◌, ◌<◌, ◌+◌, inl, inr, length, take, drop, refl, ap, sym, ◌∙◌, subst, arith}
 use Rattle.std.specs.Prelude.{if◌then◌else◌, nat_le}
 use Rattle.std.proofs.lemmas.List.{drop-drop, drop-take, length-drop}
 use Rattle.std.proofs.lemmas.Bool.{cases_lt}

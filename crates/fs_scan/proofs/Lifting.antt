@@ -1,5 +1,5 @@
 -- Calls that read fields one behind the other read the chain.
-use Rattle.std.proofs.Common.{◌≡◌, ℕ, List, Bool, true, false, Option, Some, Result, Ok, Err, IsTrue, ◌≢◌, ◌≤◌, ◌+◌, ◌==◌, length, take, refl, ap, sym, ◌∙◌, subst, arith, le_trans}
+use Rattle.std.proofs.Common.{◌≡◌, ℕ, List, Bool, true, false, Option, Result, Ok, Err, ◌≤◌, length, take, refl, ap, sym, ◌∙◌, subst, arith, le_trans}
 use Rattle.std.specs.Prelude.{IfErr, if◌then◌else◌, nat_le}
 use Rattle.fs_base.specs.Outside.{Rose}
 use Rattle.fs_base.specs.Parts.{at_limit, window}
@@ -128,6 +128,13 @@ reads_as {one = one} {cut = cut} {tells = tells} {left = left} {left' = left'} {
   same = h.same;
 }
 
+-- what an answer tells of a value that takes no octets
+pub gives_for : {T A R : Type 0} {cut : R} {told : Bool} {faults : ℕ} {left : ℕ → List ℕ} {holds : List ℕ → Option (List ℕ)} {now : Counted}
+    (value : A) (tells : T → A) (answer : T) → value ≡ tells answer
+    → Reads told faults faults left left holds holds (gives value) cut now now tells (Ok answer)
+gives_for {now = now} value tells answer e =
+    reads_as (gives value) (λ octets. ap (λ v. gives v now.taken octets) (sym e)) (reads_gives tells answer)
+
 -- the octets of a field, read as a value
 field_as : {A R : Type 0} (size : ℕ) (read : List ℕ → A) (limit taken taken' : ℕ) (left left' into : List ℕ) (value : A) → read into ≡ value
     → Took (field {A = List ℕ} {R = R} size whole taken (window limit taken left)) (length (window limit taken left)) taken taken' left left' into
@@ -207,3 +214,15 @@ starts_reads h = record {
   others = h.others;
   same = h.same;
 }
+
+-- the same, where the fault of the format, the size and the answer are known by equations
+pub starts_as : {R : Type 0} {cut other : R} {told : Bool} {faults faults' : ℕ} {left left' : ℕ → List ℕ}
+    {holds holds' : List ℕ → Option (List ℕ)} {old new : Counted} {into : List ℕ} {result result' : Result Bool (Fault R)} (size : ℕ)
+    → cut ≡ other → length into ≡ size → result ≡ result'
+    → Starts told faults faults' left left' holds holds' (length into) cut old new into result
+    → Starts told faults faults' left left' holds holds' size other old new into result'
+starts_as {cut = cut} {other = other} {told = told} {faults = faults} {faults' = faults'} {left = left} {left' = left'} {holds = holds}
+    {holds' = holds'} {old = old} {new = new} {into = into} {result = result} {result' = result'} size same sized answered h =
+    subst (λ r. Starts told faults faults' left left' holds holds' size other old new into r) answered
+    (subst (λ n. Starts told faults faults' left left' holds holds' n other old new into result) sized
+    (subst (λ c. Starts told faults faults' left left' holds holds' (length into) c old new into result) same h))

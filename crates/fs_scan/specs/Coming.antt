@@ -1,9 +1,9 @@
 -- The parts of an input that are read by a chain of fields each, where what a part says depends on those before it.
-use Rattle.std.specs.Prelude.{ℕ, List, Option, Some, None, Bool, ◌≡◌, ◌≤◌, ◌+◌, ◌==◌, ◌&&◌, not, length, drop, if◌then◌else◌, unwrap_or}
+use Rattle.std.specs.Prelude.{ℕ, List, [], ◌∷◌, Option, Some, None, Bool, ◌≡◌, ◌≤◌, ◌+◌, ◌==◌, ◌&&◌, not, length, drop, if◌then◌else◌, unwrap_or}
 use Rattle.fs_records.specs.Parts.{At, Reader, at, to_come}
 use Rattle.fs_records.specs.Records.{End, done}
-use Rattle.fs_scan.specs.Reads.{end_of}
-use Rattle.fs_scan.specs.Scan.{Scan, Scanner, got, partial, wrong}
+use Rattle.fs_scan.specs.Reads.{end_of, whole}
+use Rattle.fs_scan.specs.Scan.{Scan, Scanner, and, field, got, partial, wrong}
 
 -- a state, and the place in the input
 pub record Placed (S : Type 0) : Type 0 where
@@ -35,6 +35,23 @@ stop chain cut limit place now =
 -- the parts that are still to come in a state, where so many octets were taken, and how the input ends
 abbrev pub parts_to_come : {S P R : Type 0} → Chain S P R → R → (limit taken : ℕ) → S → List ℕ → List P × End R
 parts_to_come chain cut limit taken now left = to_come (first_part chain) (stop chain cut) limit taken (at (placed now taken) left)
+
+-- a part that begins with so many octets, and goes on as these tell
+abbrev pub part_in : {S P R : Type 0} → ℕ → (S → ℕ → List ℕ → Scanner (P × S) R) → Chain S P R
+part_in first behind now place = and (field first whole) (behind now place) place
+
+-- of the parts those that tell something
+abbrev pub all_told : {P : Type 0} → List (Option P) → List P
+all_told [] = []
+all_told (None ∷ parts) = all_told parts
+all_told (Some told ∷ parts) = told ∷ all_told parts
+
+abbrev pub only_told : {P R : Type 0} → List (Option P) × End R → List P × End R
+only_told found = (all_told found.0, found.1)
+
+-- what is still to be told in a state, where so many octets were taken, and how the input ends
+abbrev pub told_to_come : {S P R : Type 0} → Chain S (Option P) R → R → (limit taken : ℕ) → S → List ℕ → List P × End R
+told_to_come chain cut limit taken now left = only_told (parts_to_come chain cut limit taken now left)
 
 -- a value takes at least so many of the octets
 abbrev pub Takes : {A R : Type 0} → ℕ → Scanner A R → Type 0

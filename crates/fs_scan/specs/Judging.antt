@@ -1,6 +1,6 @@
 -- Fields whose octets were taken together are judged one by one: what is said of them is what the chain of these fields
 -- says, told the octets in hand.
-use Rattle.std.specs.Prelude.{ℕ, Result, Ok, Err, ◌+◌, ◌==◌, if◌then◌else◌}
+use Rattle.std.specs.Prelude.{ℕ, Result, Ok, Err}
 use Rattle.fs_records.specs.Reading.{short_fault}
 use Rattle.fs_records.specs.declared.fault.Fault.{Fault}
 use Rattle.fs_records.specs.declared.fault.Fault.TheVariants.{Bad}

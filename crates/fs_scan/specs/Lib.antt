@@ -2,3 +2,4 @@ pub mod Scan
 pub mod Reads
 pub mod Judging
 pub mod Coming
+pub mod Reading

@@ -3,6 +3,7 @@ use Rattle.std.specs.Prelude.{ℕ, List, ◌++◌, Option, Some, None, Result, O
 use Rattle.fs_base.specs.Outside.{Rose}
 use Rattle.fs_base.specs.Parts.{at_limit, window}
 use Rattle.fs_base.specs.declared.counted.Counted.{Counted}
+use Rattle.fs_base.specs.declared.outside.files.Files as files
 use Rattle.fs_records.specs.Records.{End, bad, limited}
 use Rattle.fs_records.specs.declared.fault.Fault.{Fault}
 use Rattle.fs_records.specs.declared.fault.Fault.TheVariants.{Read, Limit, Bad}
@@ -40,8 +41,8 @@ Scanned scanner cut limit taken taken' left left' tells (Ok answer) =
     Took (scanner taken (window limit taken left)) (length (window limit taken left)) taken taken' left left' (tells answer)
 Scanned scanner cut limit taken taken' left left' tells (Err fault) = Fails (ends_by scanner cut limit taken left) fault
 
--- The files that tell their octets give those of the slot as the chain says, and nothing else changes. Their faults never
--- fall, and rose where `Read` is answered.
+-- The files that tell their octets give those of the slot as the chain says, and nothing else changes. Their faults
+-- never fall, and rose where `Read` is answered.
 module _ {T A R : Type 0} (told : Bool) (faults faults' : ℕ) (left left' : ℕ → List ℕ)
     (holds holds' : List ℕ → Option (List ℕ)) where
   pub record Reads (scanner : Scanner A R) (cut : R) (old new : Counted) (tells : T → A) (result : Result T (Fault R)) : Type 0 where
@@ -58,6 +59,21 @@ module _ {T A R : Type 0} (told : Bool) (faults faults' : ℕ) (left left' : ℕ
 -- what is left of an input, where octets of it were put back
 abbrev pub ahead : Counted → (ℕ → List ℕ) → ℕ → List ℕ
 ahead counted left slot = if slot == counted.slot then counted.back ++ left slot else left slot
+
+-- so of files before and behind a call; in a clause: `Scans F.Files files.old files.new ..`
+abbrev pub Scans : {F T A R : Type 0} → files.Ghosts F → (old new : F) → Scanner A R → R → (before now : Counted)
+    → (T → A) → Result T (Fault R) → Type 0
+Scans of_files old new scanner cut before now tells result =
+    Reads of_files.tells (of_files.faults old) (of_files.faults new) (of_files.left old) (of_files.left new)
+    (of_files.holds old) (of_files.holds new) scanner cut before now tells result
+
+-- and where octets of the input were put back
+abbrev pub ScansAgain : {F T A R : Type 0} → files.Ghosts F → (old new : F) → Scanner A R → R → (before now : Counted)
+    → (T → A) → Result T (Fault R) → Type 0
+ScansAgain of_files old new scanner cut before now tells result =
+    Reads of_files.tells (of_files.faults old) (of_files.faults new)
+    (ahead before (of_files.left old)) (ahead now (of_files.left new))
+    (of_files.holds old) (of_files.holds new) scanner cut before now tells result
 
 -- the input ended below the limit, and nothing of it is left
 pub record IsOver (limit taken : ℕ) (left : List ℕ) : Type 0 where
@@ -92,3 +108,10 @@ module _ {R : Type 0} (told : Bool) (faults faults' : ℕ) (left left' : ℕ →
         → Started size cut old.limit old.taken new.taken (left old.slot) (left' old.slot) into result
     pub others : IsTrue told → (other : ℕ) → other ≢ old.slot → left' other ≡ left other
     pub same : IsTrue told → holds' ≡ holds
+
+-- so of files before and behind a call; in a clause: `StartsIn F.Files files.old files.new ..`
+abbrev pub StartsIn : {F R : Type 0} → files.Ghosts F → (old new : F) → (size : ℕ) → R → (before now : Counted)
+    → (into : List ℕ) → Result Bool (Fault R) → Type 0
+StartsIn of_files old new size cut before now into result =
+    Starts of_files.tells (of_files.faults old) (of_files.faults new) (of_files.left old) (of_files.left new)
+    (of_files.holds old) (of_files.holds new) size cut before now into result

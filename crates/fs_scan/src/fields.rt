@@ -1,6 +1,6 @@
 //! Taking and skipping the octets of fields.
 ghost use Rattle.std.specs.Prelude.{◌≡◌, ◌≤◌, ◌+◌, ◌<◌, ◌==◌, ◌&&◌, [], IfOk, IsTrue, length, not};
-ghost use Rattle.fs_scan.specs.Reads.{Reads, Starts, ahead};
+ghost use Rattle.fs_scan.specs.Reads.{Scans, ScansAgain, StartsIn};
 ghost use Rattle.fs_scan.specs.Scan.{field, skips};
 
 use fs_base::{Counted, Files, fill};
@@ -21,9 +21,8 @@ pub fn take_octets<F: Files, R: Copy + Drop>(
     requires none { counted.old.back ≡ [] }
     ensures none { counted.new.back ≡ [] }
     ensures taken { IfOk result (λ _. counted.new.taken ≡ counted.old.taken + length into.new) }
-    ensures reads { Reads F.tells (F.faults files.old) (F.faults files.new) (F.left files.old) (F.left files.new)
-        (F.holds files.old) (F.holds files.new) (field (length into.new) (λ octets. octets)) cut counted.old counted.new
-        (λ _. into.new) result }
+    ensures reads { Scans F.Files files.old files.new (field (length into.new) (λ octets. octets)) cut counted.old
+        counted.new (λ _. into.new) result }
 {
     let Ok(count) = fill(counted, files, into) else {
         return Err(Fault::Read);
@@ -51,8 +50,8 @@ pub fn take_first<F: Files, R: Copy + Drop>(
     ensures none { counted.new.back ≡ [] }
     ensures taken { IfOk result (λ found.
         IsTrue found → counted.new.taken ≡ counted.old.taken + length into.new) }
-    ensures starts { Starts F.tells (F.faults files.old) (F.faults files.new) (F.left files.old) (F.left files.new)
-        (F.holds files.old) (F.holds files.new) (length into.new) cut counted.old counted.new into.new result }
+    ensures starts { StartsIn F.Files files.old files.new (length into.new) cut counted.old counted.new into.new
+        result }
 {
     let Ok(count) = fill(counted, files, into) else {
         return Err(Fault::Read);
@@ -87,10 +86,8 @@ pub fn take_again<F: Files, R: Copy + Drop>(
     requires few { length counted.old.back ≤ length into.old }
     ensures none { IfOk result (λ _. counted.new.back ≡ []) }
     ensures taken { IfOk result (λ _. counted.new.taken ≡ counted.old.taken + length into.new) }
-    ensures reads { Reads F.tells (F.faults files.old) (F.faults files.new)
-        (ahead counted.old (F.left files.old)) (ahead counted.new (F.left files.new))
-        (F.holds files.old) (F.holds files.new) (field (length into.new) (λ octets. octets)) cut counted.old counted.new
-        (λ _. into.new) result }
+    ensures reads { ScansAgain F.Files files.old files.new (field (length into.new) (λ octets. octets)) cut counted.old
+        counted.new (λ _. into.new) result }
 {
     let Ok(count) = fill(counted, files, into) else {
         return Err(Fault::Read);
@@ -117,8 +114,7 @@ pub fn skip_octets<F: Files, R: Copy + Drop>(
     requires none { counted.old.back ≡ [] }
     ensures none { counted.new.back ≡ [] }
     ensures taken { IfOk result (λ _. counted.new.taken ≡ counted.old.taken + size) }
-    ensures reads { Reads F.tells (F.faults files.old) (F.faults files.new) (F.left files.old) (F.left files.new)
-        (F.holds files.old) (F.holds files.new) (skips size) cut counted.old counted.new (λ _. size) result }
+    ensures reads { Scans F.Files files.old files.new (skips size) cut counted.old counted.new (λ _. size) result }
 {
     let mut left = size;
     'pieces: while left > 0 {

@@ -3,6 +3,10 @@
 
 mod fields;
 mod judging;
+mod parts;
+mod reading;
 
 pub use fields::{skip_octets, take_again, take_first, take_octets};
 pub use judging::{Judged, settle};
+pub use parts::{MOST_FIRST, Parts};
+pub use reading::next_part;

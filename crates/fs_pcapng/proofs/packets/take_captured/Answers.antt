@@ -1,10 +1,9 @@
 use Rattle.std.proofs.Common.{rules, ◌≡◌, ◌≢◌, ◌+◌, ◌-◌, ◌==◌, true, false, take, drop, ap, sym, ◌∙◌, arith}
 use Rattle.fs_pcap.specs.Order.{number}
-use Rattle.fs_scan.proofs.Lifting.{reads_as, reads_fails, reads_then}
+use Rattle.fs_scan.proofs.Lifting.{gives_for, reads_as, reads_fails, reads_then}
 use Rattle.fs_scan.specs.Scan.{gives}
 use Rattle.fs_pcapng.specs.Block.{octets_in}
 use Rattle.fs_pcapng.specs.declared.fault.NgReason.TheVariants.{Length}
-use Rattle.fs_pcapng.proofs.Bodies.{gives_for}
 use Rattle.fs_pcapng.proofs.Merged.{closing, first_of, is_equal, is_other, last_four, merged}
 use Rattle.fs_pcapng.proofs.Parts.{needs_false, needs_true}
 use Rattle.fs_pcapng.proofs.packets.take_captured.Goals as goal

@@ -2,10 +2,10 @@ use Rattle.std.proofs.Common.{◌≡◌, take, drop, length, ap, sym, ◌∙◌,
 use Rattle.std.proofs.lemmas.List.{take_all}
 use Rattle.fs_pcap.specs.Order.{number}
 use Rattle.fs_scan.specs.Scan.{and, gives}
-use Rattle.fs_scan.proofs.Lifting.{reads_ends, reads_then}
+use Rattle.fs_scan.proofs.Lifting.{gives_for, reads_ends, reads_then}
 use Rattle.fs_pcapng.specs.Block.{close_in, described_behind}
 use Rattle.fs_pcapng.specs.declared.section.Interface.{Interface}
-use Rattle.fs_pcapng.proofs.Bodies.{gives_for, interface_of}
+use Rattle.fs_pcapng.proofs.Bodies.{interface_of}
 use Rattle.fs_pcapng.proofs.Fitting.{behind_all}
 use Rattle.fs_pcapng.proofs.packets.take_described.Goals as goal
 

@@ -1,11 +1,10 @@
 use Rattle.std.proofs.Common.{◌≡◌, ◌≤◌, ◌+◌, Some, take, ap, sym, subst, ◌∙◌, arith}
 use Rattle.std.specs.Prelude.{slice_get}
 use Rattle.fs_scan.specs.Scan.{and, gives}
-use Rattle.fs_scan.proofs.Lifting.{reads_as, reads_ends, reads_then}
+use Rattle.fs_scan.proofs.Lifting.{gives_for, reads_as, reads_ends, reads_then}
 use Rattle.fs_pcapng.specs.Block.{cut_to, octets_in, packet, simple_behind, simple_by, simple_in}
 use Rattle.fs_pcapng.specs.Options.{padded}
 use Rattle.fs_pcapng.specs.Pcapng.{seen_from}
-use Rattle.fs_pcapng.proofs.Bodies.{gives_for}
 use Rattle.fs_pcapng.proofs.Fitting.{fits}
 use Rattle.fs_pcapng.proofs.packets.take_simple.Goals as goal
 

@@ -1,4 +1,4 @@
-use Rattle.std.proofs.Common.{rules, arith, ◌≡◌, ◌≤◌, length}
+use Rattle.std.proofs.Common.{rules, arith, ◌≤◌, length}
 use Rattle.fs_scan.proofs.Again.{again_others, again_took}
 use Rattle.fs_scan.proofs.fields.take_again.Goals as goal
 

@@ -1,4 +1,4 @@
-use Rattle.std.proofs.Common.{rules, arith, ◌≡◌, ◌<◌, ◌≤◌, ◌∙◌, length, sym}
+use Rattle.std.proofs.Common.{rules, arith, ◌<◌, ◌≤◌, ◌∙◌, length, sym}
 use Rattle.fs_base.proofs.Filled.{fills_straight}
 use Rattle.fs_scan.proofs.Short.{field_fails, more_is, over_is, short_reads}
 use Rattle.fs_scan.proofs.Taking.{field_took}

@@ -1,0 +1,125 @@
+//! The records of a dump, as its parts.
+ghost use Rattle.std.specs.Prelude.{◌≡◌, ◌≤◌, length};
+ghost use Rattle.byteorder.specs.Endian.{big_number};
+ghost use Rattle.fs_mrt.specs.Record.{head_of};
+
+use crate::fault::{DumpFault, DumpReason};
+use crate::heard::Heard;
+use crate::record::{Head, take_body};
+use crate::shape::shape_of;
+use byteorder::{BigEndian, ByteOrder};
+use fs_base::{Config, Counted, Files};
+use fs_scan::Parts;
+use std::marker::Model;
+
+/// The octets of a record's head.
+const HEAD_SIZE: usize = 12;
+
+/// Where the records of a dump stand: the moment of the last one of a configured peer, 0 before the first.
+#[derive(Drop)]
+pub(crate) struct Records {
+    moment: u64,
+}
+
+impl Model for Records {
+    ghost use Rattle.std.specs.Prelude.{ℕ};
+
+    ghost Value = { ℕ };
+
+    ghost view = { λ records. records.moment };
+}
+
+impl Records {
+    /// Before the first record.
+    pub(crate) fn start() -> Records
+        ensures { result ≡ 0 }
+    {
+        Records { moment: 0 }
+    }
+}
+
+impl Parts for Records {
+    ghost use Rattle.std.specs.Prelude.{Some, None};
+    ghost use Rattle.std.proofs.Common.{rules, refl};
+    ghost use Rattle.fs_mrt.specs.Dump.{Moves, spoken_from};
+    ghost use Rattle.fs_mrt.specs.Record.{Spoken, record_behind};
+    ghost use Rattle.fs_mrt.specs.declared.fault.DumpReason.TheVariants.{Cut};
+
+    type Given = Config;
+
+    type Told = Heard;
+
+    type Reason = DumpReason;
+
+    ghost Part = { Spoken };
+
+    ghost first = { 12 };
+
+    ghost behind = { λ config. record_behind config.peers };
+
+    ghost cut = { Cut };
+
+    ghost part_of = { λ into heard. spoken_from heard into };
+
+    ghost most = { 65536 };
+
+    ghost Moves = { Moves };
+
+    fn first_size(&self, _config: &Config) -> usize {
+        HEAD_SIZE
+    }
+
+    fn cut(&self) -> DumpReason {
+        DumpReason::Cut
+    }
+
+    fn take_behind<F: Files>(
+        &mut self,
+        config: &Config,
+        octets: &[u8],
+        counted: &mut Counted,
+        files: &mut F,
+        into: &mut [u8],
+    ) -> Result<Option<Heard>, DumpFault> {
+        let head = read_head(counted.taken - 4, octets);
+        match take_body(
+            config.peers.as_slice(),
+            self.moment,
+            head,
+            counted,
+            files,
+            into,
+        ) {
+            Ok(Some(heard)) => {
+                self.moment = heard.moment;
+                Ok(Some(heard))
+            }
+            Ok(None) => Ok(None),
+            Err(fault) => Err(fault),
+        }
+    }
+
+    ghost stays = { λ moment. refl };
+
+    ghost joins = { λ first middle last told.
+        elim told as (λ told. Moves first middle None → Moves middle last told → Moves first last told) [
+          | None ↦ Prim.search rules
+          | Some heard ↦ Prim.search rules
+        ] };
+}
+
+/// What the octets of a head say whose length stands at this place.
+fn read_head(spot: u64, octets: &[u8]) -> Head
+    requires { 12 ≤ length octets.now }
+    ensures { result ≡ head_of spot octets.now }
+{
+    Head {
+        spot,
+        seconds: BigEndian::read_u32(octets),
+        size: BigEndian::read_u32(&octets[8..]),
+        shape: shape_of(
+            BigEndian::read_u16(&octets[4..]),
+            BigEndian::read_u16(&octets[6..]),
+        ),
+    }
+}
