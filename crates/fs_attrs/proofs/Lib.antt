@@ -1,9 +1,10 @@
 mod PartLists
-mod RulesRead
+pub mod RulesRead
 mod FieldOutcome
 mod PartSizes
 mod AttributeScans
 mod TextsReadBack
 mod PathReadBack
 mod WrittenAttributes
-mod UpdateReadBack
+pub mod UpdateReadBack
+pub mod RuleOctets

@@ -7,3 +7,4 @@ mod Fitting
 pub mod Arriving
 pub mod Handing
 pub mod Joining
+pub mod Returning

@@ -1,9 +1,12 @@
 -- That steps, one after the other, make the session of all octets, at either end; and that what an announcing end says
 -- is, at the receiving end, its updates.
-use Rattle.std.specs.Prelude.{◌≡◌, ◌≢◌, ℕ, ◌^◌, ◌<◌, true, List, [], ◌++◌, flat_map, map, Option, None, Ok}
+use Rattle.std.specs.Prelude.{◌≡◌, ◌≢◌, ℕ, ◌^◌, ◌<◌, ◌≤◌, true, List, [], ◌++◌, flat_map, length, map, Option, None, Ok}
 use Rattle.std.specs.List.{AllByRecursion}
+use Rattle.fs_base.specs.Language.{IsOctets}
 use Rattle.fs_base.specs.declared.config.Config.{Config}
 use Rattle.fs_base.specs.declared.config.Peer.{Peer}
+use Rattle.fs_nlri.specs.Rule.{IsRule}
+use Rattle.fs_actions.specs.Actions.{IsActions}
 use Rattle.fs_message.specs.Write.{message_text}
 use Rattle.fs_attrs.specs.declared.update.Update.{Update}
 use Rattle.fs_attrs.specs.Update.{update_of}
@@ -45,6 +48,23 @@ pub record ComesBack (config : Config) (peer : Peer) (sending : Sending) (sent :
   pub short : is_short (terms_of config peer true) sending.as_path sent ≡ true
   pub read : update_of (terms_of config peer true) (body_by (terms_of config peer true) sending.as_path sent)
       ≡ Ok (update_sent config peer sending sent)
+
+-- AS numbers that one AS_SEQUENCE holds.
+pub record AreSendable (numbers : List ℕ) : Type 0 where
+  pub few : length numbers ≤ 255
+  pub each : AllByRecursion (λ asn. asn < 2 ^ 32) numbers
+
+-- A rule and its actions, as octets say them.
+pub record IsSent (sent : Sent) : Type 0 where
+  pub rule : IsRule sent.rule
+  pub actions : IsActions sent.actions
+  pub octets : AllByRecursion IsOctets sent.actions
+
+-- The UPDATE of each such rule that fits a message is read so.
+abbrev pub RulesComeBack : Type 0
+RulesComeBack =
+    (config : Config) (peer : Peer) (sending : Sending) → AreSendable sending.as_path → (sent : Sent) → IsSent sent
+    → is_short (terms_of config peer true) sending.as_path sent ≡ true → ComesBack config peer sending sent
 
 -- All that an announcing end says: its OPEN, the KEEPALIVE that answers ours, and the UPDATEs of its rules.
 abbrev pub said_by : Config → Peer → Sending → List ℕ

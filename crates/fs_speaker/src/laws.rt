@@ -1,6 +1,6 @@
 //! Laws of the definitions.
 
-ghost use Rattle.fs_speaker.specs.Laws.{TakesFirst, StopsLast, WaitsThere, RulesArrive, HandsOn, HandsLast, HandsNothing, HandsUpdates, HandsReplies, HandsBoth, HandsBothReplies, FrontsFirst};
+ghost use Rattle.fs_speaker.specs.Laws.{TakesFirst, StopsLast, WaitsThere, RulesArrive, RulesComeBack, HandsOn, HandsLast, HandsNothing, HandsUpdates, HandsReplies, HandsBoth, HandsBothReplies, FrontsFirst};
 
 /// The steps that either end of a session takes, one after the other, make the session of all octets, however these
 /// were cut: a step that takes a message is the session's first, whatever follows; one that closes is its last; and
@@ -12,10 +12,15 @@ pub fn steps_make_the_session()
 {}
 
 /// What an announcing end says is, at the receiving end, exactly its rules' updates in their order, and both are
-/// then Established. Each UPDATE is to be read as the update of its rule, as what `write_update` of `fs_attrs`
-/// writes is.
+/// then Established. Each UPDATE is to be read as the update of its rule, as `rules_come_back` says.
 pub fn rules_arrive()
     ensures { RulesArrive }
+{}
+
+/// The UPDATE of a rule, as octets say rules, is read as the update that announces it, where it fits the 4096 octets
+/// of a message and its path has at most 255 AS numbers of four octets.
+pub fn rules_come_back()
+    ensures { RulesComeBack }
 {}
 
 /// What an end comes to that is handed octets at a moment is made by the same steps, one after the other; and

@@ -12,7 +12,9 @@ mod times;
 mod transition;
 
 pub use announcer::Announcer;
-pub use laws::{pieces_join, rules_arrive, steps_make_the_session, steps_make_what_is_handed};
+pub use laws::{
+    pieces_join, rules_arrive, rules_come_back, steps_make_the_session, steps_make_what_is_handed,
+};
 pub use sending::{Sending, Sent, SentList, sender};
 pub use session::Session;
 pub use state::{Closed, Standing, State};
