@@ -76,9 +76,9 @@ fn append_text_fault(fault: TextFault, text: &mut Vec<u8>) -> Result<(), Memory>
     }
 }
 
-/// What is said of a word that is to be the text of a rule and its actions: `1`, the canonical octets of the rule, `actions`
-/// and the octets of their communities, or `-` where there are none; else the first word with which no text goes on, or
-/// that the rule's value is too long.
+/// What is said of a word that is to be the text of a rule and its actions: `1`, the canonical octets of the rule,
+/// `actions` and the octets of their communities, or `-` where there are none; else the first word with which no text
+/// goes on, or that the rule's value is too long.
 pub fn report_on_text(alloc: Global, word: &str) -> Result<Report, Memory>
     ensures { IfOk result (λ report. ReportsText word.now report.text.items report.accepted) }
 {
@@ -102,8 +102,8 @@ pub fn report_on_text(alloc: Global, word: &str) -> Result<Report, Memory>
     }
 }
 
-/// Writes what is said of a word that is to be the text of a rule and its actions, and answers whether it is one. Where the
-/// sink fails a front of the line is written; where memory is wanting nothing is.
+/// Writes what is said of a word that is to be the text of a rule and its actions, and answers whether it is one. Where
+/// the sink fails a front of the line is written; where memory is wanting nothing is.
 pub fn check_text<S: Sink>(alloc: Global, sink: &mut S, word: &str) -> Result<bool, CheckFault>
     ensures written { WroteText word.now (S.written sink.old) (S.written sink.new) result }
     ensures later { S.faults sink.old ≤ S.faults sink.new }

@@ -66,7 +66,7 @@ abbrev second_of : List ℕ → ℕ
 second_of word = slice_index word 1
 
 -- no component is named so
-no_then : (kind : ℕ) → component_name kind ≡ codes "then" → ⊥
+pub no_then : (kind : ℕ) → component_name kind ≡ codes "then" → ⊥
 no_then kind =
     chosen NoThen (kind == 1) _ _ (λ e. let same : 100 ≡ 116 = ap first_of e in absurd (omega (arith, same)))
     (chosen NoThen (kind == 2) _ _ (λ e. let same : 115 ≡ 116 = ap first_of e in absurd (omega (arith, same)))

@@ -72,7 +72,7 @@ no_actions = record { rising = record { each = tt; rising = none_rising }; octet
 abbrev second_of : List ℕ → ℕ
 second_of word = slice_index word 1
 
-one_family : (f family : Family) → family_word family ≡ family_word f → f ≡ family
+pub one_family : (f family : Family) → family_word family ≡ family_word f → f ≡ family
 one_family V4 V4 e = refl
 one_family V4 V6 e = let same : 54 ≡ 52 = ap second_of e in absurd (omega (arith, same))
 one_family V6 V4 e = let same : 52 ≡ 54 = ap second_of e in absurd (omega (arith, same))

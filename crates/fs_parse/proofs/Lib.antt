@@ -14,3 +14,5 @@ pub mod Led
 pub mod Acted
 pub mod Stepped
 pub mod Wholly
+pub mod OneList
+pub mod OnePair

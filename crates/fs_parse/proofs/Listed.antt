@@ -39,7 +39,7 @@ sound None body is = absurd is
 sound (Some form) body is = sound_form form body is
 
 -- a list of a type
-record IsListed (kind : ℕ) (body : Body) : Type 0 where
+pub record IsListed (kind : ℕ) (body : Body) : Type 0 where
   pub pairs : List (ℕ × ℕ)
   pub body_is : body ≡ ListBody pairs
   pub normal : IsNormal (list_kind kind) pairs
@@ -58,7 +58,7 @@ listed_at kind k widths kept (ListBody pairs) same low high is = record {
   high = high;
 }
 
-listed : (family : Family) (kind : ℕ) (body : Body) → IsNormalAt (form_of family kind) body → (kind ≡ 1 → ⊥) → (kind ≡ 2 → ⊥) → IsListed kind body
+pub listed : (family : Family) (kind : ℕ) (body : Body) → IsNormalAt (form_of family kind) body → (kind ≡ 1 → ⊥) → (kind ≡ 2 → ⊥) → IsListed kind body
 listed family zero body is no_first no_second = absurd is
 listed family (suc zero) body is no_first no_second = absurd (no_first refl)
 listed family (suc (suc zero)) body is no_first no_second = absurd (no_second refl)
@@ -123,13 +123,13 @@ pub lists_loosely : {E : Type 0} (family : Family) (kind : ℕ) (word : List ℕ
 lists_loosely family kind word (Ok read) above loose = listed_loosely family kind word read above loose
 lists_loosely family kind word (Err error) above loose = tt
 
-prefix_normal : (family : Family) (kind : ℕ) (body : Body) → kind ≤ 2 → IsNormalAt (form_of family kind) body → IsNormalBody (prefix_form family) body
+pub prefix_normal : (family : Family) (kind : ℕ) (body : Body) → kind ≤ 2 → IsNormalAt (form_of family kind) body → IsNormalBody (prefix_form family) body
 prefix_normal family zero body high is = absurd is
 prefix_normal family (suc zero) body high is = is
 prefix_normal family (suc (suc zero)) body high is = is
 prefix_normal family (suc (suc (suc kind))) body high is = absurd (omega (arith, high))
 
-prefix_text : (family : Family) (kind : ℕ) (body : Body) → IsNormalBody (prefix_form family) body → body_text kind body ≡ body_text 1 body
+pub prefix_text : (family : Family) (kind : ℕ) (body : Body) → IsNormalBody (prefix_form family) body → body_text kind body ≡ body_text 1 body
 prefix_text V4 kind (V4Body f len bits) is = refl
 prefix_text V4 kind (V6Body len offset pattern) is = refl
 prefix_text V4 kind (ListBody pairs) is = absurd is
@@ -154,11 +154,11 @@ pub none_body : {A : Type 0} {x : Body} → None ≡ Some x → A
 none_body e = absurd cc
 
 -- the types of the family
-low_type : (family : Family) (kind : ℕ) (body : Body) → IsNormalAt (form_of family kind) body → 1 ≤ kind
+pub low_type : (family : Family) (kind : ℕ) (body : Body) → IsNormalAt (form_of family kind) body → 1 ≤ kind
 low_type family zero body is = absurd is
 low_type family (suc kind) body is = omega arith
 
-at_most : (family : Family) (kind : ℕ) (body : Body) → IsNormalAt (form_of family kind) body → kind ≤ 13
+pub at_most : (family : Family) (kind : ℕ) (body : Body) → IsNormalAt (form_of family kind) body → kind ≤ 13
 at_most family zero body is = omega arith
 at_most family (suc zero) body is = omega arith
 at_most family (suc (suc zero)) body is = omega arith

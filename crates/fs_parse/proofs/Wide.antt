@@ -28,10 +28,10 @@ octets_back width n octets rest small is =
     big_from-take 0 width width (octets ++ rest) (omega arith)
     ∙ ap (λ (l : List ℕ). big_number width (l ++ rest)) is ∙ big_number-reads_back width n rest small
 
-octets_len : (width n : ℕ) → length (octets_text width n) ≡ 2 * width
+pub octets_len : (width n : ℕ) → length (octets_text width n) ≡ 2 * width
 octets_len width n = length-encode_with lower_digits (big_bytes width n) ∙ ap (λ (k : ℕ). 2 * k) (length-bytes_high_first width n)
 
-code_back : (code : ℕ) → code < 4 → code_at (2 * 2 ^ code) ≡ code
+pub code_back : (code : ℕ) → code < 4 → code_at (2 * 2 ^ code) ≡ code
 code_back zero small = refl
 code_back (suc zero) small = refl
 code_back (suc (suc zero)) small = refl

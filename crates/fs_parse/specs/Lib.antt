@@ -9,3 +9,4 @@ pub mod PrefixParts
 pub mod Text
 pub mod Steps
 pub mod Progress
+pub mod Laws

@@ -6,8 +6,8 @@ use std::alloc::{AllocError, AllocFailed};
 /// Why a text is none of a rule and its actions.
 #[derive(Clone, Copy, Debug, PartialEq, Eq, Drop)]
 pub enum TextFault {
-    /// The words up to this one, counted from 0, begin no text, whatever the length of the rule's value, and those before
-    /// it begin one. The count of all words where they all begin a text and are none.
+    /// The words up to this one, counted from 0, begin no text, whatever the length of the rule's value, and those
+    /// before it begin one. The count of all words where they all begin a text and are none.
     Bad { word: usize },
     /// The text of a rule in all but that its value has more than the 4095 octets of a frame (RFC 8955 section 4.1).
     TooLong,

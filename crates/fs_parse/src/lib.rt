@@ -8,6 +8,7 @@
 mod actions;
 mod fault;
 mod figures;
+mod laws;
 mod lists;
 mod parts;
 mod prefixes;
@@ -17,5 +18,6 @@ mod values;
 
 pub use actions::read_action;
 pub use fault::TextFault;
+pub use laws::each_text_has_one_pair;
 pub use text::read;
 pub use values::{component_type, read_component};

@@ -148,8 +148,8 @@ fn read_words(alloc: Global, words: &[&str]) -> Result<(Rule, Actions), TextFaul
 /// # Errors
 ///
 /// `Bad` with the first word with which no text goes on, counted from 0, whatever the length of the rule's value, or
-/// with the count of words where all of them begin a text; `TooLong` where the text is one in all but that the value has
-/// more than 4095 octets; `Memory`.
+/// with the count of words where all of them begin a text; `TooLong` where the text is one in all but that the value
+/// has more than 4095 octets; `Memory`.
 pub fn read(alloc: Global, text: &str) -> Result<(Rule, Actions), TextFault>
     ensures found { IfOk result (λ read.
         IsRule read.0 × AreActions read.1 × (text.now ≡ text_of read.0 read.1)) }

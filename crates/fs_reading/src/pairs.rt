@@ -1,4 +1,5 @@
-//! Drawn rules of all types and forms, and drawn actions of all types (RFC 8955 sections 4.2 and 7, RFC 8956 section 3).
+//! Drawn rules of all types and forms, and drawn actions of all types (RFC 8955 sections 4.2 and 7, RFC 8956 section
+//! 3).
 
 ghost use Rattle.std.specs.Prelude.{◌≤◌, ◌<◌};
 

@@ -11,8 +11,8 @@ use fs_text::print;
 use std::alloc::Global;
 use std::fmt::Write;
 
-/// Counts of the pairs that were drawn, of those that were read back from their texts, and of the texts with a fault and
-/// those whose fault was told.
+/// Counts of the pairs that were drawn, of those that were read back from their texts, and of the texts with a fault
+/// and those whose fault was told.
 #[derive(Clone, Copy, Drop)]
 pub struct Count {
     pub drawn: u64,
