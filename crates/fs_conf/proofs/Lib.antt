@@ -4,3 +4,10 @@ pub mod ColonText
 mod Items
 mod Single
 mod OneRule
+pub mod Found
+pub mod Accepted
+mod Sought
+mod CanonicalFrame
+mod ListedActions
+mod TextSought
+pub mod Announced

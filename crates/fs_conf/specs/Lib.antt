@@ -2,5 +2,8 @@ pub mod Address
 pub mod Fields
 pub mod Document
 pub mod Config
+pub mod Worded
 pub mod Sent
+pub mod WordedLaw
 pub mod Rules
+pub mod Laws

@@ -1,5 +1,5 @@
--- A rule of the rules file: a table with these keys and no others.
-use Rattle.std.specs.Prelude.{ℕ, ◌&&◌, Bool, if◌then◌else◌, List, [], ◌∷◌, codes, Option, Some, None, option_and_then, is_some, Result, Ok, Err}
+-- A rule of the rules file: a table with the keys of its octets, or with the one key of its text, and no others.
+use Rattle.std.specs.Prelude.{ℕ, ◌*◌, ◌&&◌, Bool, if◌then◌else◌, List, [], ◌∷◌, ◌++◌, codes, filter_map, find, length, Option, Some, None, option_and_then, is_some, Result, Ok, Err}
 use Rattle.std.specs.List.{list_all}
 use Rattle.std.specs.Str.{bytes_eq}
 use Rattle.hex.specs.Hex.{decode_of}
@@ -13,6 +13,7 @@ use Rattle.fs_attrs.specs.Rules.{rules_of}
 use Rattle.fs_speaker.specs.declared.sending.Sent.{Sent}
 use Rattle.fs_conf.specs.Config.{written}
 use Rattle.fs_conf.specs.Fields.{keys_among}
+use Rattle.fs_conf.specs.Worded.{has_text, octet_lists, with_each}
 
 infixl 10 ◌>>=◌
 abbrev ◌>>=◌ : {A B : Type 0} → Option A → (A → Option B) → Option B
@@ -57,7 +58,7 @@ abbrev pub actions_in : Option Data → Option (List (List ℕ))
 actions_in None = Some []
 actions_in (Some value) = as_str value >>= actions_written
 
--- a rule is a table with these three keys and no others
+-- the keys of a rule's octets
 abbrev pub rule_keys : List (List ℕ)
 rule_keys = codes "family" ∷ codes "nlri" ∷ codes "actions" ∷ []
 
@@ -68,8 +69,32 @@ sent_of_members members = do
   actions ← actions_in (get_member (codes "actions") members)
   Some (record { rule = rule; actions = actions })
 
+-- The rules of a family, from all frames of at most 4097 octets: two that say a length, and the 4095 that they can say.
+abbrev pub rules_among : Family → List Ruled
+rules_among family = filter_map (rule_of family) (octet_lists 4097)
+
+-- the actions of at most so many octets
+abbrev pub actions_among : ℕ → List (List (List ℕ))
+actions_among most = filter_map listed_actions (octet_lists most)
+
+-- rules of either family, each with the actions of at most so many octets
+abbrev pub sents_among : ℕ → List Sent
+sents_among most = with_each (actions_among most) (rules_among V4 ++ rules_among V6)
+
+-- The rule and the actions whose text it is; each action has eight octets, and a word of its own in the text.
+unfoldable pub sent_of_text : List ℕ → Option Sent
+sent_of_text text = find (has_text text) (sents_among (8 * length text))
+
+-- the key of a rule's text
+abbrev pub text_keys : List (List ℕ)
+text_keys = codes "text" ∷ []
+
+-- a rule is a table with keys of the first kind alone, or with that of the second alone
 abbrev pub sent_of_table : Members → Option Sent
-sent_of_table members = if keys_among rule_keys members then sent_of_members members else None
+sent_of_table members =
+    if keys_among rule_keys members then sent_of_members members
+    else if keys_among text_keys members then written sent_of_text (get_member (codes "text") members)
+    else None
 
 abbrev pub sent_of_data : Data → Option Sent
 sent_of_data value = as_table value >>= sent_of_table

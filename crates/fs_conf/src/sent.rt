@@ -6,10 +6,11 @@ ghost use Rattle.toml.specs.Data.{get_member};
 ghost use Rattle.toml.specs.View.{view, table_view};
 ghost use Rattle.fs_actions.specs.Actions.{communities};
 ghost use Rattle.fs_conf.specs.Config.{written};
-ghost use Rattle.fs_conf.specs.Sent.{family_of, octets_of, rule_of, rule_written, are_listed, listed_actions, actions_written, actions_in, sent_of_members, sent_of_data};
+ghost use Rattle.fs_conf.specs.Sent.{family_of, octets_of, rule_of, rule_written, are_listed, listed_actions, actions_written, actions_in, sent_of_members, sent_of_data, sent_of_text};
 
 use crate::config::ConfFault;
 use crate::fields::{has_only, text_at, value_at};
+use crate::worded::sent_of_text;
 use fs_actions::{Action, ActionFault, Actions, from_communities};
 use fs_attrs::rules_are_the_outcome;
 use fs_base::Family;
@@ -139,7 +140,7 @@ fn actions_at(alloc: Global, table: &Table, key: &str) -> Result<Actions, ConfFa
     }
 }
 
-/// The rule whose keys these are.
+/// The rule whose octets stand at these keys.
 fn sent_in(alloc: Global, table: &Table) -> Result<Sent, ConfFault>
     ensures ok { IfOk result (λ sent. sent_of_members (table_view table.now) ≡ Some sent) }
     ensures refused { IsErrOf result ConfFault.Refused → sent_of_members (table_view table.now) ≡ None }
@@ -151,8 +152,21 @@ fn sent_in(alloc: Global, table: &Table) -> Result<Sent, ConfFault>
     })
 }
 
-/// The rule of one item of `[[rule]]`: `family` (`v4` or `v6`), `nlri` (exactly one frame in hexadecimal) and `actions`
-/// (extended communities in hexadecimal, each of them an action; none where the key is missing).
+/// The rule whose text stands at this key.
+fn worded_at(alloc: Global, table: &Table, key: &str) -> Result<Sent, ConfFault>
+    ensures ok { IfOk result (λ sent. written sent_of_text (get_member key.now (table_view table.now)) ≡ Some sent) }
+    ensures refused { IsErrOf result ConfFault.Refused
+        → written sent_of_text (get_member key.now (table_view table.now)) ≡ None }
+{
+    let Some(text) = text_at(table, key) else {
+        return Err(ConfFault::Refused);
+    };
+    sent_of_text(alloc, text)
+}
+
+/// The rule of one item of `[[rule]]`: either `family` (`v4` or `v6`), `nlri` (exactly one frame in hexadecimal) and
+/// `actions` (extended communities in hexadecimal, each of them an action; none where the key is missing), or `text`
+/// alone (the rule and its actions in words).
 pub(crate) fn read_sent(alloc: Global, value: &Value) -> Result<Sent, ConfFault>
     ensures ok { IfOk result (λ sent. sent_of_data (view value.now) ≡ Some sent) }
     ensures refused { IsErrOf result ConfFault.Refused → sent_of_data (view value.now) ≡ None }
@@ -162,6 +176,9 @@ pub(crate) fn read_sent(alloc: Global, value: &Value) -> Result<Sent, ConfFault>
     };
     if has_only(table, &["family", "nlri", "actions"]) {
         return sent_in(alloc, table);
+    }
+    if has_only(table, &["text"]) {
+        return worded_at(alloc, table, "text");
     }
     Err(ConfFault::Refused)
 }
