@@ -12,6 +12,7 @@ use crate::watched::WatchedTable;
 use fs_actions::Actions;
 use fs_attrs::{PrefixList, Routes, RuleList, Update};
 use fs_base::{Memory, Path, Prefix, Steps};
+use fs_nlri::Rule;
 use fs_order::Ranked;
 use std::sync::ledger::Ledger;
 
@@ -42,7 +43,7 @@ pub fn apply<L: Ledger>(
         return Ok(());
     };
     give_prefixes(table, peer, &classic_in, &path, steps)?;
-    give_routes(table, peer, reach, &path, &actions, steps)
+    give_routes(table, peer, reach, path, actions, steps)
 }
 
 /// The path of the routes that an update gives. It gives none where its routes are to be treated as withdrawn.
@@ -89,17 +90,17 @@ fn give_routes<L: Ledger>(
     table: &mut WatchedTable<'_>,
     peer: u16,
     routes: Option<Routes>,
-    path: &Path,
-    actions: &Actions,
+    path: Path,
+    actions: Actions,
     steps: &mut Steps<L>,
 ) -> Result<(), Memory>
     ensures changes { OnOk result
-        (Announces peer (unicast_in routes) (flows_in routes) path.now actions.now table.old.held table.new.held) }
+        (Announces peer (unicast_in routes) (flows_in routes) path actions table.old.held table.new.held) }
     ensures prefixes { OnOk result (AllByRecursion IsPrefix (unicast_in routes)) }
     ensures told { OnOk result (Tells table.old table.new) }
 {
     match routes {
-        Some(Routes::Unicast(_, prefixes)) => give_prefixes(table, peer, &prefixes, path, steps),
+        Some(Routes::Unicast(_, prefixes)) => give_prefixes(table, peer, &prefixes, &path, steps),
         Some(Routes::Flow(_, rules)) => give_rules(table, peer, rules, path, actions, steps),
         None => Ok(()),
     }
@@ -177,19 +178,42 @@ fn withdraw_rules<L: Ledger>(
     }
 }
 
+/// Gives the peer the rules. The last one takes the path and the actions themselves: for one rule nothing is copied.
 fn give_rules<L: Ledger>(
     table: &mut WatchedTable<'_>,
     peer: u16,
     rules: RuleList,
+    path: Path,
+    actions: Actions,
+    steps: &mut Steps<L>,
+) -> Result<(), Memory>
+    ensures changes { OnOk result
+        (Changes peer same (rules_given rules path actions) table.old.held table.new.held) }
+    ensures told { OnOk result (Tells table.old table.new) }
+{
+    let mut front = rules.into_vec();
+    let last = front.pop();
+    give_copies(table, peer, front, &path, &actions, steps)?;
+    match last {
+        Some(rule) => table.put_flow(peer, rule, path, actions, steps),
+        None => Ok(()),
+    }
+}
+
+/// Gives the peer the rules, each with copies of the path and of the actions.
+fn give_copies<L: Ledger>(
+    table: &mut WatchedTable<'_>,
+    peer: u16,
+    rules: Vec<Rule>,
     path: &Path,
     actions: &Actions,
     steps: &mut Steps<L>,
 ) -> Result<(), Memory>
     ensures changes { OnOk result
-        (Changes peer same (rules_given rules path.now actions.now) table.old.held table.new.held) }
+        (Changes peer same (rules_given rules.items path.now actions.now) table.old.held table.new.held) }
     ensures told { OnOk result (Tells table.old table.new) }
 {
-    for rule in rules.into_vec() {
+    for rule in rules {
         table.put_flow(peer, rule, path.copy()?, actions.copy()?, steps)?;
     }
     Ok(())

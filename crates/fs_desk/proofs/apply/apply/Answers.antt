@@ -1,13 +1,8 @@
-use Rattle.std.proofs.Common.{Result, Ok, Err, OnOk}
 use Rattle.fs_attrs.specs.Update.{unicast_in, flows_in}
 use Rattle.fs_desk.specs.Apply.{rules_given}
-use Rattle.fs_desk.proofs.ChangesJoined.{path_back, path_there, told_back, told_given, given_join}
+use Rattle.fs_desk.proofs.ChangesJoined.{on_ok, path_back, path_there, told_back, told_given, given_join}
 use Rattle.fs_desk.proofs.Telling.{tells_then}
 use Rattle.fs_desk.proofs.apply.apply.Goals as goal
-
-on_ok : {T E P Q : Type 0} (result : Result T E) → (P → Q) → OnOk result P → OnOk result Q
-on_ok (Ok t) f p = f p
-on_ok (Err e) f p = p
 
 pub returns-in_default-clause-applied : goal.returns-in_default-clause-applied
 returns-in_default-clause-applied g c =

@@ -1,6 +1,6 @@
 use Rattle.fs_desk.specs.Apply.{Changes, same, rules_given}
 use Rattle.fs_desk.specs.Watched.{Tells}
-use Rattle.fs_desk.proofs.apply.give_rules.Given as goal
+use Rattle.fs_desk.proofs.apply.give_copies.Given as goal
 
 abbrev pub invariant-loop-rule : goal.invariant-loop-rule
 invariant-loop-rule g l = record { changes : Changes l.peer same (rules_given l.yielded l.path l.actions) l.fn.table.held l.table.held; told : Tells l.fn.table l.table }
