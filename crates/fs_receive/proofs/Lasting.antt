@@ -191,7 +191,7 @@ expires_far hold now h =
     by false false true e = absurd cc
     by false false false e = absurd cc
 
-positive : (n : ℕ) → n ≢ 0 → 0 < 1000 * n
+pub positive : (n : ℕ) → n ≢ 0 → 0 < 1000 * n
 positive zero h = absurd (h refl)
 positive (suc n) h = omega arith
 

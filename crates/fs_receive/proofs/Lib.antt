@@ -2,9 +2,14 @@ mod Walking
 mod Receiving
 mod Listened
 mod Answering
-mod Ahead
 mod Settling
 mod Sending
+mod Holding
+mod Replying
 mod Meeting
-mod Paired
 mod Lasting
+mod Staying
+mod Timely
+mod Limits
+mod Unhindered
+mod Paired

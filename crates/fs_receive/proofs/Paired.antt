@@ -1,5 +1,5 @@
 -- How what both ends come to over a wire follows from how they stand.
-use Rattle.std.proofs.Common.{◌≡◌, ◌⊎◌, inl, inr, ◌≤◌, ℕ, zero, suc, ◌+◌, ◌-◌, ◌||◌, List, [], ◌∷◌, ◌++◌, length, take, map, Bool, true, false, if◌then◌else◌, Option, Some, None, refl, ap, sym, ◌∙◌, subst, arith, append-nil}
+use Rattle.std.proofs.Common.{◌≡◌, ◌⊎◌, inl, inr, ◌≤◌, ℕ, zero, suc, ◌+◌, ◌-◌, ◌||◌, List, [], ◌∷◌, ◌++◌, length, take, map, Bool, true, false, if◌then◌else◌, Option, Some, None, refl, ap, sym, ◌∙◌, subst, arith, append-nil, length-append, ◌<◌}
 use Rattle.std.specs.Option.{is_some}
 use Rattle.fs_base.specs.Config.{peer_of}
 use Rattle.fs_base.specs.Wire.{WireEnds}
@@ -17,29 +17,34 @@ use Rattle.fs_speaker.specs.declared.sending.Sent.{Sent}
 use Rattle.fs_speaker.specs.declared.state.Closed.{Closed}
 use Rattle.fs_speaker.specs.declared.state.Standing.TheVariants.{Ended}
 use Rattle.fs_speaker.specs.declared.state.State.{State}
-use Rattle.fs_speaker.specs.declared.state.State.TheVariants.{WaitOpen, Established, Closed as IsClosed}
+use Rattle.fs_speaker.specs.declared.state.State.TheVariants.{WaitOpen, WaitKeep, Established, Closed as IsClosed}
 use Rattle.fs_speaker.specs.declared.transition.Phase.{Phase}
+use Rattle.fs_message.specs.Stream.{first_message}
 use Rattle.fs_desk.specs.Desk.{Desked, standing_at_desk}
 use Rattle.fs_desk.specs.Limit.{bounded, bounded_from, bounded_session, first_over, too_many}
 use Rattle.fs_ends.specs.Tell.{begins_with}
-use Rattle.fs_ends.specs.Teller.{ahead_of, before_all, opening_of}
+use Rattle.fs_ends.specs.Teller.{ahead_of, before_all, keepalives, opening_of}
 use Rattle.fs_ends.specs.declared.tell.Ending.{Ending}
 use Rattle.fs_ends.specs.declared.tell.Ending.TheVariants.{Done, Closed as WasClosed, Ended as EndedEarly, AtLimit}
-use Rattle.fs_talk.specs.Joined.{AreJoined, Exchanges, ExchangedOut, Heard, StopsSo, ended, of_first, of_second}
+use Rattle.fs_talk.specs.Joined.{AreJoined, Ended as EndedSo, Exchanges, ExchangedOut, Heard, SaidAll, StopsSo, ended, moments_of, of_first, of_second}
 use Rattle.fs_talk.specs.Turn.{Pieces, Stance, octets_in}
 use Rattle.fs_talk.specs.declared.joined.Talk.{Talk}
 use Rattle.fs_talk.specs.declared.joined.Talk.TheVariants.{Done as AllSaid, FirstOver, SecondOver, AtLimit as MetIt, Broken}
 use Rattle.fs_talk.proofs.Telling.{told_as}
 use Rattle.fs_receive.specs.Hearer.{HasClosed, Receives, bare, is_ended, walked}
 use Rattle.fs_receive.specs.Listen.{IsReceiving}
-use Rattle.fs_receive.specs.Pair.{Arrives, CanArrive, EndsEarly, Pairs, PairsOver, PairsSo, SaysFront, told_by}
-use Rattle.fs_receive.specs.Sender.{Speaks, SpeaksUpTo, TookOpen, is_settled, rules_in, text_in, woven}
+use Rattle.fs_receive.specs.Pair.{Arrives, CanArrive, EndsEarly, IsUnhindered, Pairs, PairsOver, PairsSo, SaysFront, told_by}
+use Rattle.fs_receive.specs.Sender.{Began, Speaks, SpeaksUpTo, TookOpen, is_settled, rules_in, text_in, woven}
 use Rattle.fs_receive.specs.Walk.{walk}
 use Rattle.fs_receive.proofs.Answering.{awaits_open}
 use Rattle.fs_receive.proofs.Listened.{receiving}
-use Rattle.fs_receive.proofs.Meeting.{all_arrive, answers, meets}
+use Rattle.fs_receive.proofs.Meeting.{all_arrive, answers, meets, open_first, own_message}
 use Rattle.fs_receive.proofs.Receiving.{closed_of, ended_there, hearing_of}
 use Rattle.fs_receive.proofs.Sending.{Past, past_of}
+use Rattle.fs_receive.proofs.Replying.{replies}
+use Rattle.fs_receive.proofs.Staying.{teller_stays, teller_up}
+use Rattle.fs_receive.proofs.Timely.{timely_first, timely_second}
+use Rattle.fs_receive.proofs.Unhindered.{Fronts, never_first, unread}
 
 -- before its first octet
 speaks_none : (config : Config) (whose : Peer) (sending : Sending) → Speaks (begins_with config whose sending) false [] []
@@ -73,6 +78,9 @@ some_there (Some a) e = (a, refl)
 
 never : true ≡ false → ⊥
 never e = cc
+
+none_some : {A : Type 0} (a : A) → None ≡ Some a → ⊥
+none_some a e = cc
 
 take_none : (n : ℕ) → take {A = Sent} n [] ≡ []
 take_none zero = refl
@@ -123,6 +131,12 @@ unsaid started = if started then 0 else 1
 sub_none : (a b c : ℕ) → a + (b - c) ≡ 0 → (a ≡ 0) × (b ≤ c)
 sub_none a b c z = (omega (arith, z), omega (arith, z))
 
+-- an end that heard as many octets as the limit heard a front of what the other said
+reaches_never : (heard left said : List ℕ) (limit : ℕ) → said ≡ heard ++ left → length said < limit → limit ≤ length heard → ⊥
+reaches_never heard left said limit e l m =
+    let all : length said ≡ length heard + length left = ap length e ∙ length-append heard left in
+    omega (arith, all, l, m)
+
 module _ (first last : Desked) (peer peer' first_count count limit : ℕ) (same : peer' ≡ peer) (own : bare last ≡ bare first) (start : Receives first peer first_count [] [])
     (a b : Announcing) (begun started : Bool) (heard_before heard_up : ℕ) (keeps : before_all b ≡ before_all a)
     (config : Config) (whose : Peer) (sending : Sending) (config_first : first.config ≡ config) (whose_is : peer_of peer config.peers ≡ Some whose)
@@ -167,6 +181,9 @@ module _ (first last : Desked) (peer peer' first_count count limit : ℕ) (same 
       ∙ ap (λ (p : Peer). if b.started then open_sent config p b.sending else []) b_peer
       ∙ ap (λ (x : Sending). if b.started then open_sent config whose x else []) b_sending
 
+  open_is : b.started ≡ true → opening_of b ≡ open_sent config whose sending
+  open_is go = opening_is ∙ ap (λ (g : Bool). if g then open_sent config whose sending else []) go
+
   front_of : (heard : Pieces) (announced : List ℕ) → Speaks b started heard announced → SaysFront config whose sending announced
   front_of heard announced s = record {
     started = b.started;
@@ -179,32 +196,49 @@ module _ (first last : Desked) (peer peer' first_count count limit : ℕ) (same 
         ∙ ap (λ (z : List ℕ). z ++ (woven (text_sent config whose s.four sending) s.parts ++ s.ending)) opening_is;
   }
 
-  -- what is known where no more is heard
+  -- both ends as they are where no more is heard
+  abbrev end : EndedSo
+  end = ended (is_ended (standing_at_desk last peer')) (is_some b.line.closed) (is_settled b.line) started heard_up (ahead_of b started)
+
+  at_peer : is_ended (standing_at_desk last peer) ≡ is_ended (standing_at_desk last peer')
+  at_peer = ap (λ (n : ℕ). is_ended (standing_at_desk last n)) (sym same)
+
+  -- what is known then
   record Known (events : List Heard) (announced replied : List ℕ) (now : WireEnds) : Type 0 where
     hears : Receives last peer count (of_first events) replied
     speaks : SpeaksUpTo b started heard_up (of_second events) announced
     read_first : announced ≡ octets_in (of_first events) ++ now.first.left
     read_second : replied ≡ octets_in (of_second events) ++ now.second.left
 
-  pairs_so : (ending : Ending) (talk : Talk) (over_first over_second ready : Bool) (ahead : ℕ)
-      → (x : Exchanges talk s0 s1 a0 a1 (ended over_first over_second ready heard_up ahead) limit t0 t1 moments moments')
+  -- how it ended, and that all arrived where nothing hindered it
+  abbrev EndsSo : Ending → List Heard → (announced replied : List ℕ) → WireEnds → Type 0
+  EndsSo ending events announced replied now =
+      PairsSo ending config whose sending last peer limit events announced replied now
+      × (IsUnhindered config whose sending limit (moments_of events) announced replied → ending ≡ Done)
+
+  pairs_so : (ending : Ending) (talk : Talk) → (x : Exchanges talk s0 s1 a0 a1 end limit t0 t1 moments moments')
       → ((events : List Heard) (announced replied : List ℕ) (now : WireEnds) → Known events announced replied now
-      → StopsSo talk over_first over_second ready (length (octets_in (of_first events))) heard_up limit ahead now
-      → PairsSo ending config whose sending last peer limit events announced replied now)
+      → StopsSo talk end (length (octets_in (of_first events))) limit now → EndsSo ending events announced replied now)
       → PairsOver ending config whose sending last peer limit t0 t1 moments moments'
-  pairs_so ending talk over_first over_second ready ahead x ends = record {
+  pairs_so ending talk x ends = record {
     given = x.given;
     grew = x.grew;
     told = told_as
-        (λ b n. AreJoined b → ExchangedOut talk s0 s1 a0 a1 (ended over_first over_second ready heard_up ahead) limit x.given b n)
+        (λ b n. AreJoined b → ExchangedOut talk s0 s1 a0 a1 end limit x.given b n)
         (λ b n. AreJoined b → Pairs ending config whose sending last peer limit x.given b n)
         (λ before now f j. one before now (f j)) t0 t1 x.told;
   }
     where
-      one : (before now : WireEnds) → ExchangedOut talk s0 s1 a0 a1 (ended over_first over_second ready heard_up ahead) limit x.given before now
+      one : (before now : WireEnds) → ExchangedOut talk s0 s1 a0 a1 end limit x.given before now
           → Pairs ending config whose sending last peer limit x.given before now
       one before now o =
           let e = o.exchanged in
+          let made : EndsSo ending o.events e.announced e.replied now = ends o.events e.announced e.replied now (record {
+            hears = subst (λ (n : ℕ). Receives last n count (of_first o.events) e.replied) same (e.one.stands [] [] start);
+            speaks = e.other.stands [] [] begins;
+            read_first = e.one.read;
+            read_second = e.other.read;
+          }) o.stops in
           record {
             config_is = config_is;
             events = o.events;
@@ -216,12 +250,8 @@ module _ (first last : Desked) (peer peer' first_count count limit : ℕ) (same 
             wrote_second = e.other.wrote;
             asked = o.asked;
             front = front_of (of_second o.events) e.announced (e.other.stands [] [] begins).0;
-            ends = ends o.events e.announced e.replied now (record {
-              hears = subst (λ (n : ℕ). Receives last n count (of_first o.events) e.replied) same (e.one.stands [] [] start);
-              speaks = e.other.stands [] [] begins;
-              read_first = e.one.read;
-              read_second = e.other.read;
-            }) o.stops;
+            arrives = λ u. made.1 (subst (λ (ms : List ℕ). IsUnhindered config whose sending limit ms e.announced e.replied) (sym o.asked) u);
+            ends = made.0;
           }
 
   module _ (events : List Heard) (announced replied : List ℕ) (now : WireEnds) (k : Known events announced replied now) where
@@ -261,42 +291,83 @@ module _ (first last : Desked) (peer peer' first_count count limit : ℕ) (same 
               ∙ open_settled b.line false open_b e;
         }
 
-    module _ (alive : is_ended (standing_at_desk last peer) ≡ false) (open_b : b.line.closed ≡ None) (up : is_settled b.line ≡ true) (none : now.first.left ≡ []) (all : ahead_of b started ≡ 0) where
+    all_heard : now.first.left ≡ [] → announced ≡ octets_in (of_first events)
+    all_heard none = k.read_first ∙ ap (λ (z : List ℕ). octets_in (of_first events) ++ z) none ∙ append-nil (octets_in (of_first events))
+
+    -- what the announcing end said past its OPEN
+    said_past : b.line.closed ≡ None → b.started ≡ true → (p : Past b s.four (of_second events) s.parts)
+        → announced ≡ open_sent config whose sending ++ woven (text_sent config whose s.four sending) (None ∷ p.0.0)
+    said_past open_b go p =
+        s.said_is
+        ∙ ap (λ (z : List ℕ). opening_of b ++ (woven (text_in b s.four) s.parts ++ z)) (s.unended open_b)
+        ∙ ap (λ (z : List ℕ). opening_of b ++ z) (append-nil (woven (text_in b s.four) s.parts) ∙ text_of s.four s.parts)
+        ∙ ap (λ (z : List ℕ). z ++ woven (text_sent config whose s.four sending) s.parts) (open_is go)
+        ∙ ap (λ (z : List (Option Sent)). open_sent config whose sending ++ woven (text_sent config whose s.four sending) z) p.0.1
+
+    rules_past : (p : Past b s.four (of_second events) s.parts) → rules_in p.0.0 ≡ take b.appended sending.rules
+    rules_past p = sym (ap rules_in p.0.1) ∙ s.rules_are ∙ ap (λ (x : Sending). take b.appended x.rules) b_sending
+
+    -- while it is open it said a front of all
+    fronts : b.line.closed ≡ None → Fronts config whose sending announced (octets_in (of_second events))
+    fronts open_b = by b.line.phase.state (s.began open_b)
+      where
+        opening : List ℕ
+        opening = open_sent config whose sending
+
+        answer : List ℕ
+        answer = woven (text_sent config whose s.four sending) (None ∷ [])
+
+        only : s.parts ≡ [] → announced ≡ opening_of b
+        only none =
+            s.said_is
+            ∙ ap (λ (z : List ℕ). opening_of b ++ (woven (text_in b s.four) s.parts ++ z)) (s.unended open_b)
+            ∙ ap (λ (z : List (Option Sent)). opening_of b ++ (woven (text_in b s.four) z ++ [])) none
+            ∙ append-nil (opening_of b)
+
+        begun_so : (behind : List ℕ) → announced ++ behind ≡ opening ++ answer → Fronts config whose sending announced (octets_in (of_second events))
+        begun_so behind e = record { behind = behind; four = s.four; parts = []; appended = 0; rules_are = refl; whole = e; took = inl refl }
+
+        unanswered : s.parts ≡ [] → (g : Bool) → b.started ≡ g → Fronts config whose sending announced (octets_in (of_second events))
+        unanswered none true g = begun_so answer (ap (λ (z : List ℕ). z ++ answer) (only none ∙ open_is g))
+        unanswered none false g =
+            begun_so (opening ++ answer) (ap (λ (z : List ℕ). z ++ (opening ++ answer)) (only none ∙ opening_is ∙ ap (λ (x : Bool). if x then opening else []) g))
+
+        no_parts : (more : List (Option Sent)) → None ∷ more ≡ [] → ⊥
+        no_parts more e = cc
+
+        went : (p : Past b s.four (of_second events) s.parts) → (g : Bool) → b.started ≡ g → Fronts config whose sending announced (octets_in (of_second events))
+        went p true g = record {
+          behind = [];
+          four = s.four;
+          parts = p.0.0;
+          appended = b.appended;
+          rules_are = rules_past p;
+          whole = append-nil announced ∙ said_past open_b g p;
+          took = inr (subst (λ (c : Config). TookOpen c s.four (octets_in (of_second events))) b_config p.1.1);
+        }
+        went p false g = absurd (no_parts p.0.0 (sym p.0.1 ∙ (s.unstarted (sym s.started_is ∙ g)).0))
+
+        by : (state : State) → Began state b s.four (of_second events) s.parts → Fronts config whose sending announced (octets_in (of_second events))
+        by WaitOpen p = unanswered p.0 b.started refl
+        by WaitKeep p = went p b.started refl
+        by Established p = went p b.started refl
+        by IsClosed p = went p b.started refl
+
+    -- what nothing hinders
+    module _ (u : IsUnhindered config whose sending limit (moments_of events) announced replied) where
+      limit_never : (limit ≤ length (octets_in (of_first events))) ⊎ (limit ≤ length (octets_in (of_second events))) → ⊥
+      limit_never (inl l) = reaches_never (octets_in (of_first events)) now.first.left announced limit k.read_first u.announced_within l
+      limit_never (inr l) = reaches_never (octets_in (of_second events)) now.second.left replied limit k.read_second u.replied_within l
+
+      first_never : b.line.closed ≡ None → (why : Closed) → standing_at_desk last peer ≡ Ended why → ⊥
+      first_never open_b why e =
+          never_first config whose sending u.can peer whose_is (of_first events) replied why (closes_first why e) now.first.left announced (octets_in (of_second events)) k.read_first
+          (fronts open_b) (timely_first config events u.timely) now.second.left k.read_second u.may_hold
+
+    -- the receiving end is open
+    module _ (alive : is_ended (standing_at_desk last peer) ≡ false) where
       got : IsReceiving last peer whose (of_first events) replied
       got = receives_so alive
-
-      left : unsaid started + (length b.sending.rules - b.appended) ≡ 0
-      left = sym (ap (λ (c : Option Closed). if is_some c then 0 else unsaid started + (length b.sending.rules - b.appended)) open_b) ∙ all
-
-      none_left : (unsaid started ≡ 0) × (length b.sending.rules ≤ b.appended)
-      none_left = sub_none (unsaid started) (length b.sending.rules) b.appended left
-
-      has_begun : b.started ≡ true
-      has_begun = s.started_is ∙ by started none_left.0
-        where
-          by : (g : Bool) → unsaid g ≡ 0 → g ≡ true
-          by true h = refl
-          by false h = absurd cc
-
-      past : Past b s.four (of_second events) s.parts
-      past = past_of b.line.phase.state b s.four (of_second events) s.parts (unawaited b.line.phase.state (open_settled b.line true open_b up)) (s.began open_b)
-
-      open_is : opening_of b ≡ open_sent config whose sending
-      open_is = opening_is ∙ ap (λ (g : Bool). if g then open_sent config whose sending else []) has_begun
-
-      said_so : announced ≡ open_sent config whose sending ++ woven (text_sent config whose s.four sending) (None ∷ past.0.0)
-      said_so =
-          s.said_is
-          ∙ ap (λ (z : List ℕ). opening_of b ++ (woven (text_in b s.four) s.parts ++ z)) (s.unended open_b)
-          ∙ ap (λ (z : List ℕ). opening_of b ++ z) (append-nil (woven (text_in b s.four) s.parts) ∙ text_of s.four s.parts)
-          ∙ ap (λ (z : List ℕ). z ++ woven (text_sent config whose s.four sending) s.parts) open_is
-          ∙ ap (λ (z : List (Option Sent)). open_sent config whose sending ++ woven (text_sent config whose s.four sending) z) past.0.1
-
-      rules_so : rules_in past.0.0 ≡ sending.rules
-      rules_so = sym (ap rules_in past.0.1) ∙ s.rules_are ∙ take_enough b.appended b.sending.rules none_left.1 ∙ ap (λ (x : Sending). x.rules) b_sending
-
-      all_heard : announced ≡ octets_in (of_first events)
-      all_heard = k.read_first ∙ ap (λ (z : List ℕ). octets_in (of_first events) ++ z) none ∙ append-nil (octets_in (of_first events))
 
       open_walk : (walked config whose (of_first events)).point.closed ≡ None
       open_walk =
@@ -308,86 +379,146 @@ module _ (first last : Desked) (peer peer' first_count count limit : ℕ) (same 
       reply_is : replied ≡ (walked config whose (of_first events)).text
       reply_is = got.said_is ∙ ap (λ (c : Config). (walked c whose (of_first events)).text) config_is
 
-      four_so : CanArrive config whose sending → s.four ≡ true
-      four_so can =
-          meets config whose sending s.four (octets_in (of_second events)) now.second.left replied can (subst (λ (c : Config). TookOpen c s.four (octets_in (of_second events))) b_config past.1.1) k.read_second
-          (subst (λ (z : List ℕ). (z ≡ []) ⊎ ((more : List ℕ) × (z ≡ reply_to config WaitOpen ++ more))) (sym reply_is) (answers config whose (of_first events) open_walk))
+      replies_form : (replied ≡ []) ⊎ ((n : ℕ) × (replied ≡ reply_to config WaitOpen ++ keepalives n))
+      replies_form =
+          subst (λ (z : List ℕ). (z ≡ []) ⊎ ((n : ℕ) × (z ≡ reply_to config WaitOpen ++ keepalives n))) (sym reply_is) (replies config whose (of_first events) open_walk)
 
-      updates_so : CanArrive config whose sending
-          → bounded_session config peer announced ≡ (map (update_sent config whose sending) sending.rules, still (phase Established true config.hold_time))
-      updates_so can =
-          let whole : bounded_session config peer announced ≡ bounded_from config whose announced =
-          ap (λ (o : Option Peer). elim o as (λ _. List Update × Last) [ None ↦ ([], still at_start) | Some p ↦ bounded_from config p announced ]) whose_is in
-          let found : (bounded_from config whose announced).1 ≡ still got.phase =
-          sym (ap (λ (x : List Update × Last). x.1) whole) ∙ ap (λ (z : List ℕ). (bounded_session config peer z).1) all_heard
-          ∙ sym (ap (λ (c : Config). (bounded_session c peer (octets_in (of_first events))).1) config_is) ∙ got.found in
-          whole
-          ∙ bounded_still whose.max_routes (session_from config whose at_start announced) got.phase found
-          ∙ ap (session_from config whose at_start) (said_so ∙ ap (λ (f : Bool). open_sent config whose sending ++ woven (text_sent config whose f sending) (None ∷ past.0.0)) (four_so can))
-          ∙ all_arrive config whose sending past.0.0 can rules_so
+      second_never : IsUnhindered config whose sending limit (moments_of events) announced replied → (why : Closed) → b.line.closed ≡ Some why → ⊥
+      second_never u why e =
+          none_some why
+          (sym (teller_stays config whose sending (of_second events) now.second.left replied u.can (sym k.read_second) replies_form (timely_second config events u.timely)) ∙ closes_second why e)
 
-      arrives : Arrives config whose sending last peer (of_first events) announced replied
-      arrives = record {
-        receives = got;
-        all_is = all_heard;
-        four = s.four;
-        parts = past.0.0;
-        rules_are = rules_so;
-        said_is = said_so;
-        four_is = four_so;
-        updates = updates_so;
-      }
+      -- the announcing end has said its OPEN, and nothing is in flight
+      unsettled_never : IsUnhindered config whose sending limit (moments_of events) announced replied → is_settled b.line ≡ false → started ≡ true → now.first.left ≡ [] → now.second.left ≡ [] → ⊥
+      unsettled_never u down go none_first none_second =
+          let early : EndsEarly config sending (of_second events) now = ends_early down none_first none_second in
+          by replies_form early.down
+        where
+          heard_all : replied ≡ octets_in (of_second events)
+          heard_all = k.read_second ∙ ap (λ (z : List ℕ). octets_in (of_second events) ++ z) none_second ∙ append-nil (octets_in (of_second events))
+
+          rest : List ℕ
+          rest = woven (text_in b s.four) s.parts ++ s.ending
+
+          announced_is : octets_in (of_first events) ≡ open_sent config whose sending ++ rest
+          announced_is = sym (all_heard none_first) ∙ s.said_is ∙ ap (λ (z : List ℕ). z ++ rest) (open_is (s.started_is ∙ go))
+
+          has_replied : replied ≡ [] → ⊥
+          has_replied none =
+              none_some (own_message config whose sending, rest)
+              (sym (unread config whose sending u.can (of_first events) [] rest open_walk (sym reply_is ∙ none) (append-nil (octets_in (of_first events)) ∙ announced_is)).0
+              ∙ ap first_message announced_is ∙ open_first config whose sending rest)
+
+          by : (replied ≡ []) ⊎ ((n : ℕ) × (replied ≡ reply_to config WaitOpen ++ keepalives n)) → is_established (told_by config sending (of_second events)).point.phase.state ≡ false → ⊥
+          by (inl silent) is_down = has_replied silent
+          by (inr m) is_down =
+              never
+              (sym (teller_up config whose sending (of_second events) m.0 u.can (sym heard_all ∙ m.1)
+              (teller_stays config whose sending (of_second events) now.second.left replied u.can (sym k.read_second) replies_form (timely_second config events u.timely))) ∙ is_down)
+
+      module _ (open_b : b.line.closed ≡ None) (up : is_settled b.line ≡ true) (none : now.first.left ≡ []) (all : ahead_of b started ≡ 0) where
+        left : unsaid started + (length b.sending.rules - b.appended) ≡ 0
+        left = sym (ap (λ (c : Option Closed). if is_some c then 0 else unsaid started + (length b.sending.rules - b.appended)) open_b) ∙ all
+
+        none_left : (unsaid started ≡ 0) × (length b.sending.rules ≤ b.appended)
+        none_left = sub_none (unsaid started) (length b.sending.rules) b.appended left
+
+        has_begun : b.started ≡ true
+        has_begun = s.started_is ∙ by started none_left.0
+          where
+            by : (g : Bool) → unsaid g ≡ 0 → g ≡ true
+            by true h = refl
+            by false h = absurd cc
+
+        past : Past b s.four (of_second events) s.parts
+        past = past_of b.line.phase.state b s.four (of_second events) s.parts (unawaited b.line.phase.state (open_settled b.line true open_b up)) (s.began open_b)
+
+        said_so : announced ≡ open_sent config whose sending ++ woven (text_sent config whose s.four sending) (None ∷ past.0.0)
+        said_so = said_past open_b has_begun past
+
+        rules_so : rules_in past.0.0 ≡ sending.rules
+        rules_so = rules_past past ∙ take_enough b.appended sending.rules (subst (λ (x : Sending). length x.rules ≤ b.appended) b_sending none_left.1)
+
+        four_so : CanArrive config whose sending → s.four ≡ true
+        four_so can =
+            meets config whose sending s.four (octets_in (of_second events)) now.second.left replied can (subst (λ (c : Config). TookOpen c s.four (octets_in (of_second events))) b_config past.1.1) k.read_second
+            (subst (λ (z : List ℕ). (z ≡ []) ⊎ ((more : List ℕ) × (z ≡ reply_to config WaitOpen ++ more))) (sym reply_is) (answers config whose (of_first events) open_walk))
+
+        updates_so : CanArrive config whose sending
+            → bounded_session config peer announced ≡ (map (update_sent config whose sending) sending.rules, still (phase Established true config.hold_time))
+        updates_so can =
+            let whole : bounded_session config peer announced ≡ bounded_from config whose announced =
+            ap (λ (o : Option Peer). elim o as (λ _. List Update × Last) [ None ↦ ([], still at_start) | Some p ↦ bounded_from config p announced ]) whose_is in
+            let found : (bounded_from config whose announced).1 ≡ still got.phase =
+            sym (ap (λ (x : List Update × Last). x.1) whole) ∙ ap (λ (z : List ℕ). (bounded_session config peer z).1) (all_heard none)
+            ∙ sym (ap (λ (c : Config). (bounded_session c peer (octets_in (of_first events))).1) config_is) ∙ got.found in
+            whole
+            ∙ bounded_still whose.max_routes (session_from config whose at_start announced) got.phase found
+            ∙ ap (session_from config whose at_start) (said_so ∙ ap (λ (f : Bool). open_sent config whose sending ++ woven (text_sent config whose f sending) (None ∷ past.0.0)) (four_so can))
+            ∙ all_arrive config whose sending past.0.0 can rules_so
+
+        arrives : Arrives config whose sending last peer (of_first events) announced replied
+        arrives = record {
+          receives = got;
+          all_is = all_heard none;
+          four = s.four;
+          parts = past.0.0;
+          rules_are = rules_so;
+          said_is = said_so;
+          four_is = four_so;
+          updates = updates_so;
+        }
 
   -- each way in which it ends
-  pub done_so : (ending : Ending) (over_first over_second ready : Bool) (ahead : ℕ)
-      → Exchanges AllSaid s0 s1 a0 a1 (ended over_first over_second ready heard_up ahead) limit t0 t1 moments moments'
-      → over_first ≡ is_ended (standing_at_desk last peer) → over_second ≡ is_some b.line.closed → ready ≡ is_settled b.line → ahead ≡ ahead_of b started
-      → ending ≡ (if is_settled b.line then Done else EndedEarly) → PairsOver ending config whose sending last peer limit t0 t1 moments moments'
-  done_so ending over_first over_second ready ahead x o p g n e =
-      pairs_so ending AllSaid over_first over_second ready ahead x (λ events announced replied now k st. by events announced replied now k st (is_settled b.line) refl)
+  pub done_so : (ending : Ending) → Exchanges AllSaid s0 s1 a0 a1 end limit t0 t1 moments moments' → ending ≡ (if is_settled b.line then Done else EndedEarly)
+      → PairsOver ending config whose sending last peer limit t0 t1 moments moments'
+  done_so ending x e = pairs_so ending AllSaid x (λ events announced replied now k st. by events announced replied now k st (is_settled b.line) refl)
     where
       by : (events : List Heard) (announced replied : List ℕ) (now : WireEnds) (k : Known events announced replied now)
-          → StopsSo AllSaid over_first over_second ready (length (octets_in (of_first events))) heard_up limit ahead now
-          → (up : Bool) → is_settled b.line ≡ up → PairsSo ending config whose sending last peer limit events announced replied now
-      by events announced replied now k st true u =
-          subst (λ (x : Ending). PairsSo x config whose sending last peer limit events announced replied now) (sym (e ∙ ap (λ (z : Bool). if z then Done else EndedEarly) u))
-          (arrives events announced replied now k (sym o ∙ st.0.0) (not_some b.line.closed (sym p ∙ st.0.1)) u st.1.1.0 (sym n ∙ st.1.1.1.1 (g ∙ u)))
-      by events announced replied now k st false u =
-          subst (λ (x : Ending). PairsSo x config whose sending last peer limit events announced replied now) (sym (e ∙ ap (λ (z : Bool). if z then Done else EndedEarly) u))
-          (ends_early events announced replied now k u st.1.1.0 (st.1.1.1.0 (g ∙ u)))
+          → SaidAll end (length (octets_in (of_first events))) limit now
+          → (up : Bool) → is_settled b.line ≡ up → EndsSo ending events announced replied now
+      by events announced replied now k st true up =
+          let is : ending ≡ Done = e ∙ ap (λ (z : Bool). if z then Done else EndedEarly) up in (
+            subst (λ (x : Ending). PairsSo x config whose sending last peer limit events announced replied now) (sym is)
+                (arrives events announced replied now k (at_peer ∙ st.open_first) (not_some b.line.closed st.open_second) up st.heard_first (st.all up)),
+            λ u. is,
+          )
+      by events announced replied now k st false down = (
+        subst (λ (x : Ending). PairsSo x config whose sending last peer limit events announced replied now) (sym (e ∙ ap (λ (z : Bool). if z then Done else EndedEarly) down))
+            (ends_early events announced replied now k down st.heard_first (st.heard_second down)),
+        λ u. absurd (unsettled_never events announced replied now k (at_peer ∙ st.open_first) u down st.begun st.heard_first (st.heard_second down)),
+      )
 
-  pub first_so : (ending : Ending) (over_first over_second ready : Bool) (ahead : ℕ)
-      → Exchanges FirstOver s0 s1 a0 a1 (ended over_first over_second ready heard_up ahead) limit t0 t1 moments moments'
-      → over_first ≡ is_ended (standing_at_desk last peer) → ((why : Closed) → standing_at_desk last peer ≡ Ended why → ending ≡ WasClosed why)
-      → PairsOver ending config whose sending last peer limit t0 t1 moments moments'
-  first_so ending over_first over_second ready ahead x o is =
-      pairs_so ending FirstOver over_first over_second ready ahead x
+  pub first_so : (ending : Ending) → Exchanges FirstOver s0 s1 a0 a1 end limit t0 t1 moments moments'
+      → ((why : Closed) → standing_at_desk last peer ≡ Ended why → ending ≡ WasClosed why) → PairsOver ending config whose sending last peer limit t0 t1 moments moments'
+  first_so ending x is =
+      pairs_so ending FirstOver x
       (λ events announced replied now k st.
-      let found = ended_there (standing_at_desk last peer) (sym o ∙ st) in
-      subst (λ (x : Ending). PairsSo x config whose sending last peer limit events announced replied now) (sym (is found.0 found.1))
-      (inl (closes_first events announced replied now k found.0 found.1)))
+      let found = ended_there (standing_at_desk last peer) (at_peer ∙ st.0) in (
+        subst (λ (x : Ending). PairsSo x config whose sending last peer limit events announced replied now) (sym (is found.0 found.1))
+            (inl (closes_first events announced replied now k found.0 found.1)),
+        λ u. absurd (first_never events announced replied now k u (not_some b.line.closed st.1) found.0 found.1),
+      ))
 
-  pub second_so : (ending : Ending) (over_first over_second ready : Bool) (ahead : ℕ)
-      → Exchanges SecondOver s0 s1 a0 a1 (ended over_first over_second ready heard_up ahead) limit t0 t1 moments moments'
-      → over_second ≡ is_some b.line.closed → ((why : Closed) → b.line.closed ≡ Some why → ending ≡ WasClosed why)
-      → PairsOver ending config whose sending last peer limit t0 t1 moments moments'
-  second_so ending over_first over_second ready ahead x p is =
-      pairs_so ending SecondOver over_first over_second ready ahead x
+  pub second_so : (ending : Ending) → Exchanges SecondOver s0 s1 a0 a1 end limit t0 t1 moments moments'
+      → ((why : Closed) → b.line.closed ≡ Some why → ending ≡ WasClosed why) → PairsOver ending config whose sending last peer limit t0 t1 moments moments'
+  second_so ending x is =
+      pairs_so ending SecondOver x
       (λ events announced replied now k st.
-      let found = some_there b.line.closed (sym p ∙ st.1) in
-      subst (λ (x : Ending). PairsSo x config whose sending last peer limit events announced replied now) (sym (is found.0 found.1))
-      (inr (closes_second events announced replied now k found.0 found.1)))
+      let found = some_there b.line.closed st.1 in (
+        subst (λ (x : Ending). PairsSo x config whose sending last peer limit events announced replied now) (sym (is found.0 found.1))
+            (inr (closes_second events announced replied now k found.0 found.1)),
+        λ u. absurd (second_never events announced replied now k (at_peer ∙ st.0) u found.0 found.1),
+      ))
 
-  pub limit_so : (over_first over_second ready : Bool) (ahead : ℕ) → Exchanges MetIt s0 s1 a0 a1 (ended over_first over_second ready heard_up ahead) limit t0 t1 moments moments'
-      → PairsOver AtLimit config whose sending last peer limit t0 t1 moments moments'
-  limit_so over_first over_second ready ahead x =
-      pairs_so AtLimit MetIt over_first over_second ready ahead x (λ events announced replied now k st. by events announced replied now k st.1.1)
+  pub limit_so : Exchanges MetIt s0 s1 a0 a1 end limit t0 t1 moments moments' → PairsOver AtLimit config whose sending last peer limit t0 t1 moments moments'
+  limit_so x = pairs_so AtLimit MetIt x (λ events announced replied now k st.
+      let met = by events announced replied now k st.1.1 in (met, λ u. absurd (limit_never events announced replied now k u met)))
     where
       by : (events : List Heard) (announced replied : List ℕ) (now : WireEnds) → Known events announced replied now → (limit ≤ length (octets_in (of_first events))) ⊎ (limit ≤ heard_up)
           → (limit ≤ length (octets_in (of_first events))) ⊎ (limit ≤ length (octets_in (of_second events)))
       by events announced replied now k (inl l) = inl l
       by events announced replied now k (inr l) = inr (let m = k.speaks.1 in omega (arith, l, m))
 
-  pub never_broken : (ending : Ending) (over_first over_second ready : Bool) (ahead : ℕ) → Exchanges Broken s0 s1 a0 a1 (ended over_first over_second ready heard_up ahead) limit t0 t1 moments moments'
-      → PairsOver ending config whose sending last peer limit t0 t1 moments moments'
-  never_broken ending over_first over_second ready ahead x = pairs_so ending Broken over_first over_second ready ahead x (λ events announced replied now k st. absurd st)
+  pub never_broken : (ending : Ending) → Exchanges Broken s0 s1 a0 a1 end limit t0 t1 moments moments' → PairsOver ending config whose sending last peer limit t0 t1 moments moments'
+  never_broken ending x = pairs_so ending Broken x (λ events announced replied now k st. absurd st)

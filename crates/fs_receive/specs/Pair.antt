@@ -1,5 +1,5 @@
 -- What both ends of a session come to that are joined over a wire.
-use Rattle.std.specs.Prelude.{◌≡◌, ◌≢◌, ◌⊎◌, ℕ, ◌^◌, ◌≤◌, ◌<◌, List, [], ◌∷◌, ◌++◌, length, map, take, if◌then◌else◌, Bool, true, false, Option, Some, None}
+use Rattle.std.specs.Prelude.{◌≡◌, ◌≢◌, ◌⊎◌, ⊤, ℕ, ◌+◌, ◌*◌, ◌^◌, ◌≤◌, ◌<◌, List, [], ◌∷◌, ◌++◌, length, map, take, if◌then◌else◌, Bool, true, false, Option, Some, None}
 use Rattle.std.specs.List.{AllByRecursion}
 use Rattle.fs_base.specs.Sink.{Grew}
 use Rattle.fs_base.specs.Wire.{Told, WireEnds}
@@ -41,6 +41,27 @@ pub record CanArrive (config : Config) (peer : Peer) (sending : Sending) : Type 
   pub id : sending.id < 2 ^ 32
   pub named : 0 < sending.id
   pub read : AllByRecursion (ComesBack config peer sending) sending.rules
+
+-- Of these moments none lies so far behind another that a hold time could have passed between them.
+abbrev pub IsTimely : Config → List ℕ → Type 0
+IsTimely config moments =
+    (config.hold_time ≡ 0)
+    ⊎ ((first : ℕ) × AllByRecursion (λ moment. (first ≤ moment) × (moment < first + 1000 * config.hold_time)) moments)
+
+-- a peer with this limit of routes may hold so many
+abbrev pub MayHold : Option ℕ → ℕ → Type 0
+MayHold None count = ⊤
+MayHold (Some most) count = count ≤ most
+
+-- Nothing hinders the rules: they can arrive, the peer may hold as many, no hold time can have passed, and each end
+-- said fewer octets than the limit.
+pub record IsUnhindered (config : Config) (whose : Peer) (sending : Sending) (limit : ℕ)
+    (moments announced replied : List ℕ) : Type 0 where
+  pub can : CanArrive config whose sending
+  pub may_hold : MayHold whose.max_routes (length sending.rules)
+  pub timely : IsTimely config moments
+  pub announced_within : length announced < limit
+  pub replied_within : length replied < limit
 
 -- what the announcing end comes to that hears these pieces
 abbrev pub told_by : Config → Sending → Pieces → Handed
@@ -94,7 +115,8 @@ pub record SaysFront (config : Config) (whose : Peer) (sending : Sending) (annou
       ++ (woven (text_sent config whose four sending) parts ++ ending)
 
 -- Each end heard, in pieces at these moments, of what the other said all but what is in flight, and what it said was
--- written through it. The desk has the configuration that it began with.
+-- written through it. The desk has the configuration that it began with. Where nothing hinders the rules, all of them
+-- arrive.
 pub record Pairs (ending : Ending) (config : Config) (whose : Peer) (sending : Sending) (desk : Desked) (peer limit : ℕ)
     (given : List ℕ) (before now : WireEnds) : Type 0 where
   pub config_is : desk.config ≡ config
@@ -107,6 +129,7 @@ pub record Pairs (ending : Ending) (config : Config) (whose : Peer) (sending : S
   pub wrote_second : now.second.written ≡ before.second.written ++ announced
   pub asked : moments_of events ≡ given
   pub front : SaysFront config whose sending announced
+  pub arrives : IsUnhindered config whose sending limit given announced replied → ending ≡ Done
   pub ends : PairsSo ending config whose sending desk peer limit events announced replied now
 
 pub record PairsOver (ending : Ending) (config : Config) (whose : Peer) (sending : Sending) (desk : Desked)

@@ -60,6 +60,7 @@ impl<'a> Hearer<'a> {
 }
 
 impl<'a> Speaker for Hearer<'a> {
+    ghost use Rattle.std.specs.Prelude.{true};
     ghost use Rattle.fs_desk.specs.Desk.{standing_at_desk};
     ghost use Rattle.fs_receive.specs.Hearer.{bare};
 
@@ -72,6 +73,8 @@ impl<'a> Speaker for Hearer<'a> {
     ghost count = { λ h. h.count };
 
     ghost ahead = { λ h. 0 };
+
+    ghost begun = { λ h. true };
 
     ghost own = { λ h. record { desk = bare h.desk; peer = h.peer; count = 0 } };
 

@@ -22,7 +22,8 @@ use fs_speaker::Closed;
 use fs_talk::{Room, Speaker, Talk, TalkFault, exchange};
 
 /// Joins the receiving end at end 0 of the wire and the announcing one at end 1, which are open and joined: by turns
-/// each hears what the other said, and the announcing end says its rules once it is established.
+/// each hears what the other said, and the announcing end says its rules once it is established. Where nothing hinders
+/// the rules (no hold time that passes, no limit that is met), all of them arrive and the answer is `Done`.
 ///
 /// # Errors
 ///

@@ -167,6 +167,8 @@ impl<'a> Speaker for Sender<'a> {
 
     ghost ahead = { λ s. ahead_of s.announcer s.started };
 
+    ghost begun = { λ s. s.started };
+
     ghost own = { λ s. record { announcer = before_all s.announcer; started = false; count = 0 } };
 
     fn hear(&mut self, moment: u64, piece: &[u8], out: &mut Vec<u8>) -> Result<(), Memory> {

@@ -233,7 +233,7 @@ abbrev pub Counts : Talk → Ended → (limit : ℕ) → Flow → Type 0
 Counts talk end limit flow =
     (events : List Heard) (now : WireEnds) → flow.to_first ≡ length now.first.left → flow.to_second ≡ length now.second.left
     → flow.first_read ≡ length (octets_in (of_first events))
-    → StopsSo talk end.over_first end.over_second end.ready (length (octets_in (of_first events))) end.count limit end.ahead now
+    → StopsSo talk end (length (octets_in (of_first events))) limit now
 
 pub talked : (talk : Talk) (r r' a a' : Stance) (end : Ended) (limit : ℕ) (flow : Flow) (before now : Option WireEnds) (answers answers' : Option (List ℕ))
     → Talking r r' a a' flow before now answers answers' → Counts talk end limit flow → Exchanges talk r r' a a' end limit before now answers answers'
@@ -288,15 +288,18 @@ no_octets (octet ∷ octets) h = absurd (omega (arith, h))
 -- the second end said no more
 pub talked_done : (r r1 a a1 a2 : Stance) (end : Ended) (limit : ℕ) (flow : Flow) (before now later : Option WireEnds) (answers asked : Option (List ℕ))
     → Talking r r1 a a1 flow before now answers asked → Told (Speech a1 a2 1 0) now later → end.over_first ≡ false → end.over_second ≡ false → flow.first_read < limit
-    → end.count < limit → flow.to_first ≡ 0 → (end.ready ≡ false → flow.to_second ≡ 0) → (IsTrue end.ready → end.ahead ≡ 0)
+    → end.count < limit → flow.to_first ≡ 0 → IsTrue end.begun → (end.ready ≡ false → flow.to_second ≡ 0) → (IsTrue end.ready → end.ahead ≡ 0)
     → Exchanges Done r r1 a a2 end limit before later answers asked
-talked_done r r1 a a1 a2 end limit flow before now later answers asked t speech one other within counted none rest all =
+talked_done r r1 a a1 a2 end limit flow before now later answers asked t speech one other within counted none begun rest all =
     talked Done r r1 a a2 end limit (second_said 0 flow) before later answers asked
     (talking_said r r1 a a1 a2 flow (second_said 0 flow) 0 before now later answers asked t refl speech)
-    (λ events ends first second read. (
-      (one, other),
-      (
-        (subst (λ (n : ℕ). n < limit) read within, counted),
-        (no_octets ends.first.left (omega (arith, first, none)), ((λ waits. no_octets ends.second.left (omega (arith, second, rest waits))), all)),
-      ),
-    ))
+    (λ events ends first second read. record {
+      open_first = one;
+      open_second = other;
+      within_first = subst (λ (n : ℕ). n < limit) read within;
+      within_second = counted;
+      heard_first = no_octets ends.first.left (omega (arith, first, none));
+      begun = begun;
+      heard_second = λ waits. no_octets ends.second.left (omega (arith, second, rest waits));
+      all = all;
+    })

@@ -45,39 +45,55 @@ pub record Exchanged (first first' second second' : Stance) (events : List Heard
   pub one : Side first first' (of_first events) replied announced before.first now.first
   pub other : Side second second' (of_second events) announced replied before.second now.second
 
--- Why no more is heard: the first end has closed, or the second; one of them heard so many octets as the limit; or the
--- second says no more, and the first heard all that it said. Where the second isn't ready, it heard all that the first
--- said. Octets in flight always arrive.
-abbrev pub StopsSo : Talk → (over_first over_second ready : Bool) → (one other limit ahead : ℕ) → WireEnds → Type 0
-StopsSo FirstOver over_first over_second ready one other limit ahead now = over_first ≡ true
-StopsSo SecondOver over_first over_second ready one other limit ahead now = (over_first ≡ false) × (over_second ≡ true)
-StopsSo AtLimit over_first over_second ready one other limit ahead now =
-    (over_first ≡ false) × ((over_second ≡ false) × ((limit ≤ one) ⊎ (limit ≤ other)))
-StopsSo Done over_first over_second ready one other limit ahead now =
-    ((over_first ≡ false) × (over_second ≡ false)) × (((one < limit) × (other < limit)) × ((now.first.left ≡ [])
-    × ((ready ≡ false → now.second.left ≡ []) × (IsTrue ready → ahead ≡ 0))))
-StopsSo Broken over_first over_second ready one other limit ahead now = ⊥
-
 -- The ends as they are when no more is heard: of the first whether it has closed, and of the second also whether it is
--- ready, how many octets it heard up to there, and how many messages it has still to say.
+-- ready, whether it has said what comes before anything that it hears, how many octets it heard up to where it was
+-- ready, and how many messages it has still to say.
 pub record Ended : Type 0 where
   pub over_first : Bool
   pub over_second : Bool
   pub ready : Bool
+  pub begun : Bool
   pub count : ℕ
   pub ahead : ℕ
 
-abbrev pub ended : (over_first over_second ready : Bool) → (count ahead : ℕ) → Ended
-ended over_first over_second ready count ahead =
-    record { over_first = over_first; over_second = over_second; ready = ready; count = count; ahead = ahead }
+abbrev pub ended : (over_first over_second ready begun : Bool) → (count ahead : ℕ) → Ended
+ended over_first over_second ready begun count ahead = record {
+  over_first = over_first;
+  over_second = over_second;
+  ready = ready;
+  begun = begun;
+  count = count;
+  ahead = ahead;
+}
+
+-- The second end says no more, and the first heard all that it said. Where the second isn't ready, it heard all that
+-- the first said; where it is, it has said all.
+pub record SaidAll (end : Ended) (one limit : ℕ) (now : WireEnds) : Type 0 where
+  pub open_first : end.over_first ≡ false
+  pub open_second : end.over_second ≡ false
+  pub within_first : one < limit
+  pub within_second : end.count < limit
+  pub heard_first : now.first.left ≡ []
+  pub begun : IsTrue end.begun
+  pub heard_second : end.ready ≡ false → now.second.left ≡ []
+  pub all : IsTrue end.ready → end.ahead ≡ 0
+
+-- Why no more is heard: one end has closed, and the other hasn't; one of them heard so many octets as the limit; or
+-- nothing more is said. Octets in flight always arrive.
+abbrev pub StopsSo : Talk → Ended → (one limit : ℕ) → WireEnds → Type 0
+StopsSo FirstOver end one limit now = (end.over_first ≡ true) × (end.over_second ≡ false)
+StopsSo SecondOver end one limit now = (end.over_first ≡ false) × (end.over_second ≡ true)
+StopsSo AtLimit end one limit now =
+    (end.over_first ≡ false) × ((end.over_second ≡ false) × ((limit ≤ one) ⊎ (limit ≤ end.count)))
+StopsSo Done end one limit now = SaidAll end one limit now
+StopsSo Broken end one limit now = ⊥
 
 pub record ExchangedOut (talk : Talk) (first first' second second' : Stance) (end : Ended) (limit : ℕ) (given : List ℕ) (before now : WireEnds)
     : Type 0 where
   pub events : List Heard
   pub exchanged : Exchanged first first' second second' events before now
   pub asked : moments_of events ≡ given
-  pub stops :
-      StopsSo talk end.over_first end.over_second end.ready (length (octets_in (of_first events))) end.count limit end.ahead now
+  pub stops : StopsSo talk end (length (octets_in (of_first events))) limit now
 
 -- so between joined ends, and the clock answered these moments
 pub record Exchanges

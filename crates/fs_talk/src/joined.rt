@@ -121,7 +121,13 @@ pub fn exchange<W: Wire, C: Clock, R: Speaker, A: Speaker>(
         (R.stands first.new)
         (A.stands second.old)
         (A.stands second.new)
-        (ended (R.over first.new) (A.over second.new) (A.ready second.new) (A.count second.new) (A.ahead second.new))
+        (ended
+        (R.over first.new)
+        (A.over second.new)
+        (A.ready second.new)
+        (A.begun second.new)
+        (A.count second.new)
+        (A.ahead second.new))
         limit
         (W.tells wire.old)
         (W.tells wire.new)

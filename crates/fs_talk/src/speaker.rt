@@ -22,6 +22,9 @@ pub trait Speaker {
     /// At most so many messages it has still to say unasked.
     ghost ahead: { Self → ℕ };
 
+    /// Whether it has said what it says before it hears anything.
+    ghost begun: { Self → Bool };
+
     /// The end without what it heard and said: whose it is, and what it is to say. That stays.
     ghost own: { Self → Self };
 
@@ -49,6 +52,7 @@ pub trait Speaker {
         ensures fewer { IfOk result (λ had. IsTrue had → ahead self.new < ahead self.old) }
         ensures silent { IfOk result (λ had. had ≡ false → out.new.items ≡ out.old.items) }
         ensures all { IfOk result (λ had. had ≡ false → IsTrue (ready self.old) → ahead self.new ≡ 0) }
+        ensures begun { IfOk result (λ had. had ≡ false → over self.old ≡ false → IsTrue (begun self.new)) }
         ensures over { OnOk result (over self.new ≡ over self.old) }
         ensures ready { OnOk result (ready self.new ≡ ready self.old) }
         ensures count { OnOk result (count self.new ≡ count self.old) }

@@ -121,6 +121,7 @@ pub fn speak<W: Wire, S: Speaker>(
         (W.tells wire.new)) }
     ensures fewer { IfOk result (λ said. IsSome said → S.ahead speaker.new < S.ahead speaker.old) }
     ensures all { IfOk result (λ said. said ≡ None → IsTrue (S.ready speaker.old) → S.ahead speaker.new ≡ 0) }
+    ensures begun { IfOk result (λ said. said ≡ None → S.over speaker.old ≡ false → IsTrue (S.begun speaker.new)) }
     ensures over { OnOk result (S.over speaker.new ≡ S.over speaker.old) }
     ensures ready { OnOk result (S.ready speaker.new ≡ S.ready speaker.old) }
     ensures count { OnOk result (S.count speaker.new ≡ S.count speaker.old) }

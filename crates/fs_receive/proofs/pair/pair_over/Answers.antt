@@ -1,10 +1,6 @@
 use Rattle.std.proofs.Common.{◌≡◌, ℕ, Bool, if◌then◌else◌, refl, ap, sym, ◌∙◌}
 use Rattle.fs_ends.specs.declared.tell.Ending.TheVariants.{Done, Ended}
-use Rattle.std.specs.Option.{is_some}
 use Rattle.fs_desk.specs.Desk.{standing_at_desk}
-use Rattle.fs_ends.specs.Teller.{ahead_of}
-use Rattle.fs_receive.specs.Hearer.{is_ended}
-use Rattle.fs_receive.specs.Sender.{is_settled}
 use Rattle.fs_receive.specs.declared.hearer.Hearer.{Hearer}
 use Rattle.fs_receive.specs.declared.sender.Sender.{Sender}
 use Rattle.fs_receive.proofs.Paired.{done_so, first_so, limit_so, never_broken, second_so, speaks_start}
@@ -22,7 +18,7 @@ returns-then-is_ready-clause-pairs g c config whose sending d w e s =
     before.announcer after.announcer before.started after.started before.count after.count (ap (λ (s : Sender). s.announcer) kept.1) config whose sending d w
     (speaks_start before.announcer before.started before.count config whose sending e s c.requires.unheard) e
     (g.W.Wire.tells c.args.wire.now) (g.W.Wire.tells c.exchange.new.wire) (g.C.Clock.answers c.args.clock.now) (g.C.Clock.answers c.exchange.new.clock)
-    _ (is_ended (standing_at_desk last.desk last.peer)) (is_some after.announcer.line.closed) (is_settled after.announcer.line) (ahead_of after.announcer after.started) (rw c.in-Done.is at c.in_ok-exchange.ensures.talked) (ap (λ (n : ℕ). is_ended (standing_at_desk last.desk n)) same) refl refl refl (sym (ap (λ (z : Bool). if z then Done else Ended) (sym c.is_ready.ensures ∙ c.if-is_ready.true)))
+    _ (rw c.in-Done.is at c.in_ok-exchange.ensures.talked) (sym (ap (λ (z : Bool). if z then Done else Ended) (sym c.is_ready.ensures ∙ c.if-is_ready.true)))
 
 pub returns-else-is_ready-clause-pairs : goal.returns-else-is_ready-clause-pairs
 returns-else-is_ready-clause-pairs g c config whose sending d w e s =
@@ -36,7 +32,7 @@ returns-else-is_ready-clause-pairs g c config whose sending d w e s =
     before.announcer after.announcer before.started after.started before.count after.count (ap (λ (s : Sender). s.announcer) kept.1) config whose sending d w
     (speaks_start before.announcer before.started before.count config whose sending e s c.requires.unheard) e
     (g.W.Wire.tells c.args.wire.now) (g.W.Wire.tells c.exchange.new.wire) (g.C.Clock.answers c.args.clock.now) (g.C.Clock.answers c.exchange.new.clock)
-    _ (is_ended (standing_at_desk last.desk last.peer)) (is_some after.announcer.line.closed) (is_settled after.announcer.line) (ahead_of after.announcer after.started) (rw c.in-Done.is at c.in_ok-exchange.ensures.talked) (ap (λ (n : ℕ). is_ended (standing_at_desk last.desk n)) same) refl refl refl (sym (ap (λ (z : Bool). if z then Done else Ended) (sym c.is_ready.ensures ∙ c.if-is_ready.false)))
+    _ (rw c.in-Done.is at c.in_ok-exchange.ensures.talked) (sym (ap (λ (z : Bool). if z then Done else Ended) (sym c.is_ready.ensures ∙ c.if-is_ready.false)))
 
 pub returns-in-FirstOver-clause-pairs : goal.returns-in-FirstOver-clause-pairs
 returns-in-FirstOver-clause-pairs g c config whose sending d w e s =
@@ -50,7 +46,7 @@ returns-in-FirstOver-clause-pairs g c config whose sending d w e s =
     before.announcer after.announcer before.started after.started before.count after.count (ap (λ (s : Sender). s.announcer) kept.1) config whose sending d w
     (speaks_start before.announcer before.started before.count config whose sending e s c.requires.unheard) e
     (g.W.Wire.tells c.args.wire.now) (g.W.Wire.tells c.exchange.new.wire) (g.C.Clock.answers c.args.clock.now) (g.C.Clock.answers c.exchange.new.clock)
-    c.closing_of.result (is_ended (standing_at_desk last.desk last.peer)) (is_some after.announcer.line.closed) (is_settled after.announcer.line) (ahead_of after.announcer after.started) (rw c.in-FirstOver.is at c.in_ok-exchange.ensures.talked) (ap (λ (n : ℕ). is_ended (standing_at_desk last.desk n)) same)
+    c.closing_of.result (rw c.in-FirstOver.is at c.in_ok-exchange.ensures.talked)
     (λ why x. c.closing_of.ensures why (c.standing.ensures ∙ ap (λ (n : ℕ). standing_at_desk last.desk n) same ∙ x))
 
 pub returns-in-SecondOver-clause-pairs : goal.returns-in-SecondOver-clause-pairs
@@ -65,7 +61,7 @@ returns-in-SecondOver-clause-pairs g c config whose sending d w e s =
     before.announcer after.announcer before.started after.started before.count after.count (ap (λ (s : Sender). s.announcer) kept.1) config whose sending d w
     (speaks_start before.announcer before.started before.count config whose sending e s c.requires.unheard) e
     (g.W.Wire.tells c.args.wire.now) (g.W.Wire.tells c.exchange.new.wire) (g.C.Clock.answers c.args.clock.now) (g.C.Clock.answers c.exchange.new.clock)
-    c.closed_as.result (is_ended (standing_at_desk last.desk last.peer)) (is_some after.announcer.line.closed) (is_settled after.announcer.line) (ahead_of after.announcer after.started) (rw c.in-SecondOver.is at c.in_ok-exchange.ensures.talked) refl (λ why x. c.closed_as.ensures why (c.closed.ensures ∙ x))
+    c.closed_as.result (rw c.in-SecondOver.is at c.in_ok-exchange.ensures.talked) (λ why x. c.closed_as.ensures why (c.closed.ensures ∙ x))
 
 pub returns-in-AtLimit-clause-pairs : goal.returns-in-AtLimit-clause-pairs
 returns-in-AtLimit-clause-pairs g c config whose sending d w e s =
@@ -79,7 +75,7 @@ returns-in-AtLimit-clause-pairs g c config whose sending d w e s =
     before.announcer after.announcer before.started after.started before.count after.count (ap (λ (s : Sender). s.announcer) kept.1) config whose sending d w
     (speaks_start before.announcer before.started before.count config whose sending e s c.requires.unheard) e
     (g.W.Wire.tells c.args.wire.now) (g.W.Wire.tells c.exchange.new.wire) (g.C.Clock.answers c.args.clock.now) (g.C.Clock.answers c.exchange.new.clock)
-    (is_ended (standing_at_desk last.desk last.peer)) (is_some after.announcer.line.closed) (is_settled after.announcer.line) (ahead_of after.announcer after.started) (rw c.in-AtLimit.is at c.in_ok-exchange.ensures.talked)
+    (rw c.in-AtLimit.is at c.in_ok-exchange.ensures.talked)
 
 pub returns-in-Broken-clause-pairs : goal.returns-in-Broken-clause-pairs
 returns-in-Broken-clause-pairs g c config whose sending d w e s =
@@ -93,4 +89,4 @@ returns-in-Broken-clause-pairs g c config whose sending d w e s =
     before.announcer after.announcer before.started after.started before.count after.count (ap (λ (s : Sender). s.announcer) kept.1) config whose sending d w
     (speaks_start before.announcer before.started before.count config whose sending e s c.requires.unheard) e
     (g.W.Wire.tells c.args.wire.now) (g.W.Wire.tells c.exchange.new.wire) (g.C.Clock.answers c.args.clock.now) (g.C.Clock.answers c.exchange.new.clock)
-    _ (is_ended (standing_at_desk last.desk last.peer)) (is_some after.announcer.line.closed) (is_settled after.announcer.line) (ahead_of after.announcer after.started) (rw c.in-Broken.is at c.in_ok-exchange.ensures.talked)
+    _ (rw c.in-Broken.is at c.in_ok-exchange.ensures.talked)

@@ -1,5 +1,5 @@
 use Rattle.std.proofs.Common.{rules}
-use Rattle.fs_receive.proofs.Ahead.{starts_ahead, starts_ok}
+use Rattle.fs_ends.proofs.Ahead.{starts_ahead, starts_ok}
 use Rattle.fs_receive.proofs.sender.start.Goals as goal
 
 pub returns-in-Ok-clause-open : goal.returns-in-Ok-clause-open

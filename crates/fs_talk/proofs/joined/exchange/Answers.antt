@@ -58,7 +58,7 @@ loop-flow-preserved g c = record {
 pub returns-then-is_over-clause-talked : goal.returns-then-is_over-clause-talked
 returns-then-is_over-clause-talked g c =
     talked _ _ _ _ _ _ _ _ _ _ _ _ (talking_first _ _ _ _ _ _ _ _ _ _ _ _ _ _ _ _ c.loop-flow.invariant.talking c.in_ok-flow.ensures c.in_ok-turn.ensures.turn c.in_ok-turn.ensures.moment)
-    (λ events now first second read. search rules)
+    (λ events now first second read. (search rules, c.loop-flow.invariant.open_second))
 
 pub returns-then-limit-flow-clause-talked : goal.returns-then-limit-flow-clause-talked
 returns-then-limit-flow-clause-talked g c =
@@ -87,6 +87,7 @@ pub returns-in_default-clause-talked : goal.returns-in_default-clause-talked
 returns-in_default-clause-talked g c =
     talked_done _ _ _ _ _ _ _ _ _ _ _ _ _ c.loop-flow.invariant.talking (rw c.in_default.is at c.in_ok-said.ensures.spoke) c.loop-flow.invariant.open_first
     (c.in_ok-said.ensures.over ∙ c.loop-flow.invariant.open_second) c.loop-flow.invariant.within_first (search rules) (omega (arith, c.if-flow-gt0.false))
+    (c.in_ok-said.ensures.begun c.in_default.is c.loop-flow.invariant.open_second)
     (λ waits.
     let read : g.A.Speaker.count c.loop-flow.second ≡ c.loop-flow.flow.second_read = c.loop-flow.invariant.counted (sym c.in_ok-said.ensures.ready ∙ waits) in
     elim c.else-flow-gt0-2.branch [

@@ -1,5 +1,5 @@
 use Rattle.std.proofs.Common.{rules}
-use Rattle.fs_receive.proofs.Ahead.{begins_fewer, begins_least, starts_own}
+use Rattle.fs_ends.proofs.Ahead.{begins_fewer, begins_least, starts_own}
 use Rattle.fs_receive.proofs.Sending.{begins_from, says_same}
 use Rattle.fs_receive.proofs.sender.Sender.begin.Goals as goal
 

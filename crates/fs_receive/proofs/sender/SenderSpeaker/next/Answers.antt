@@ -1,6 +1,6 @@
 use Rattle.std.proofs.Common.{rules, Bool, refl, subst}
 use Rattle.fs_speaker.specs.Announcer.{SaysText, next_text}
-use Rattle.fs_receive.proofs.Ahead.{if_if, if_on, says_all}
+use Rattle.fs_ends.proofs.Ahead.{if_if, if_on, says_all}
 use Rattle.fs_receive.proofs.Sending.{counts_says, says_next, says_same}
 use Rattle.fs_receive.proofs.Settling.{settled_up}
 use Rattle.fs_receive.proofs.sender.SenderSpeaker.next.Goals as goal
