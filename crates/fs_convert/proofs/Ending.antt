@@ -6,7 +6,7 @@ use Rattle.fs_base.specs.Sink.{Grew, GrewPart}
 use Rattle.fs_base.specs.declared.config.Config.{Config}
 use Rattle.fs_base.proofs.Grew.{Grew-refl, Grew-trans, part_whole, part_none, part_more}
 use Rattle.fs_line.specs.Output.{Goes}
-use Rattle.fs_line.proofs.Outputs.{goes_flush, goes_flush_part}
+use Rattle.fs_line.proofs.Outputs.{goes_flush, goes_flush_part, partly_flushed}
 use Rattle.fs_mrt.specs.Dump.{DumpState, IsBegun, coming, heard_to_come}
 use Rattle.fs_mrt.specs.declared.fault.DumpReason.{DumpReason}
 use Rattle.fs_records.specs.Records.{End, done}
@@ -14,12 +14,12 @@ use Rattle.fs_stages.specs.Load.{Names, config_stage}
 use Rattle.fs_stages.specs.Refusal.{Answers, Found, HasReason, IsAtPacket, Stage, Verdict, answered, or_stop, status_of, verdict_with}
 use Rattle.fs_stages.specs.declared.refusal.Refusal.{Refusal}
 use Rattle.fs_stages.specs.declared.refusal.Refusal.TheVariants.{Outside, Memory}
-use Rattle.fs_stages.proofs.Stages.{answers_for, answers_memory, answers_outside, ends_early, no_octets, rose_earlier, rose_later, take_nothing}
+use Rattle.fs_stages.proofs.Stages.{answers_for, answers_memory, answers_outside, ends_early, rose_earlier, rose_later}
 use Rattle.fs_tape.specs.Laws.{tape_text}
 use Rattle.fs_tape.specs.declared.magic.Version.TheVariants.{Two}
 use Rattle.fs_convert.specs.Lives.{Life, lives_of, no_lives}
 use Rattle.fs_convert.specs.Making.{items_from}
-use Rattle.fs_convert.specs.Command.{Breaks, ConvertsSo, Partly, dump_stage, status_at, verdict_of}
+use Rattle.fs_convert.specs.Command.{Breaks, ConvertsSo, dump_stage, status_at, verdict_of}
 
 -- before the dump is read
 
@@ -69,22 +69,10 @@ read_verdict config accepted limit names name left dump lives same h b down =
     lives_are : lives_of lives ≡ no_lives
     lives_are i peer = down peer i
 
--- a front, and then nothing
-part_nothing : (a b c : Option (List ℕ)) (xs : List ℕ) → GrewPart a b xs → GrewPart b c no_octets → GrewPart a c xs
-part_nothing a b c xs part more =
-    let grew : Grew b c [] = subst (λ (l : List ℕ). Grew b c l) (take_nothing more.0) more.1 in
-    (part.0, subst (λ (l : List ℕ). Grew a c l) (append-nil (take part.0 xs)) (Grew-trans a b c (take part.0 xs) [] part.1 grew))
-
 -- What converting did, before what is pending is written out: the whole text went on, or converting broke off.
 abbrev Went : (end : End DumpReason) (before mid : Option (List ℕ)) (first pending text : List ℕ) (failed : Type 0) → {T : Type 0} → Result T Refusal → Type 0
 Went end before mid first pending text failed result =
     MatchResult result (λ _. (end ≡ done) × Goes before mid first pending text) (Breaks end before mid first pending text failed)
-
-partly_flushed : (before mid now : Option (List ℕ)) (pending text : List ℕ) → Partly before mid [] pending text → GrewPart mid now pending → GrewPart before now text
-partly_flushed before mid now pending text (inl p) grew =
-    subst (λ (l : List ℕ). GrewPart before now l) (sym p.parts) (part_more before now p.front p.rest (goes_flush_part now p.goes grew))
-partly_flushed before mid now pending text (inr h) grew =
-    part_nothing before mid now text h.part (subst (λ (l : List ℕ). GrewPart mid now l) h.empty grew)
 
 text_whole : (end : End DumpReason) (text : List ℕ) (failed : Type 0) (before now : Option (List ℕ)) (answer : ℕ)
     → answer ≡ status_at end → Grew before now text → Answers (verdict_with (status_at end) text) failed before now answer

@@ -10,8 +10,10 @@ use Rattle.fs_base.specs.Language.{IsOctets}
 use Rattle.fs_base.specs.declared.config.Config.{Config}
 use Rattle.fs_base.specs.declared.config.Peer.{Peer}
 use Rattle.fs_base.proofs.Digits.{big_octets}
-use Rattle.fs_base.proofs.Lists.{each_append}
+use Rattle.fs_base.proofs.Lists.{each_append, each_weaker}
 use Rattle.fs_base.proofs.Octets.{octets_append, octets_cons, octets_nil}
+use Rattle.fs_conf.specs.Laws.{HasPeerNumbers}
+use Rattle.fs_conf.proofs.Accepted.{accepts_numbers}
 use Rattle.fs_message.specs.Write.{as_field, message_text}
 use Rattle.fs_mrt.specs.Dump.{dump_of}
 use Rattle.fs_mrt.specs.Laws.{AreHeard, IsHeard, IsSaid}
@@ -24,7 +26,7 @@ use Rattle.fs_tape.specs.Tape.{Item, Timed, came_up, received, stands, timed, wa
 use Rattle.fs_tape.specs.declared.magic.Version.TheVariants.{Two}
 use Rattle.fs_tape.proofs.ReadsBack.{reads_back}
 use Rattle.fs_convert.specs.Greeting.{greeting, made_open, parameters}
-use Rattle.fs_convert.specs.Laws.{AreNumbered, ReadsBackConverted}
+use Rattle.fs_convert.specs.Laws.{GivesBack, ReadsBackConverted}
 use Rattle.fs_convert.specs.Lives.{Life, Lives, has_width, no_lives, with_life}
 use Rattle.fs_convert.specs.Making.{asn_of, ended, is_established, is_taken, items_from, made, made_by, opening, remade, timed_at}
 
@@ -116,6 +118,9 @@ made_good config peer wide (change old new) life numbered said =
 
 -- a configured peer's number is small
 
+abbrev AreNumbered : Config → Type 0
+AreNumbered config = AllByRecursion (λ (peer : Peer). peer.number < 65536) config.peers
+
 number_by : (peer : Peer) (n : ℕ) (same : Bool) (rest : Option Peer) → (peer.number == n) ≡ same → peer.number < 65536 → (IsSome rest → n < 65536)
     → IsSome (if same then Some peer else rest) → n < 65536
 number_by peer n true rest e small later known = let is : peer.number ≡ n = grind (arith, nat_tests) in let s = small in omega arith
@@ -180,8 +185,8 @@ magic_octets =
     (octets_cons 80 (69 ∷ 50 ∷ 10 ∷ []) (omega arith) (octets_cons 69 (50 ∷ 10 ∷ []) (omega arith)
     (octets_cons 50 (10 ∷ []) (omega arith) (octets_cons 10 [] (omega arith) octets_nil)))))))
 
-pub reads_back_converted : ReadsBackConverted
-reads_back_converted config limit tape_limit content are small =
+gives_back : (config : Config) (limit tape_limit : ℕ) (content : List ℕ) → IsOctets content → AreNumbered config → GivesBack config tape_limit (remade config limit content).0
+gives_back config limit tape_limit content are small =
     let heard = heard_fits config limit content are in
     let items = (remade config limit content).0 in
     let law = reads_back config tape_limit (tape_text Two items) items
@@ -190,3 +195,8 @@ reads_back_converted config limit tape_limit content are small =
       λ given. (law.0 given).1.below,
       λ below. law.1 (Two, record { spelled = refl; fit = made_fit config 0 no_lives (dump_of config limit content).0 small heard; below = below }),
     )
+
+pub reads_back_converted : ReadsBackConverted
+reads_back_converted text config limit tape_limit content accepted are =
+    gives_back config limit tape_limit content are
+    (each_weaker HasPeerNumbers (λ (peer : Peer). peer.number < 65536) (λ peer numbers. numbers.number) config.peers (accepts_numbers text config accepted).peers)

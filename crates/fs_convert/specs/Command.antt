@@ -1,13 +1,14 @@
 -- What `convert` is given, and what it answers and writes (the order of work: configuration, dump).
 use Rattle.std.specs.Prelude.{ℕ, List, [], ◌≡◌, ◌⊎◌, ◌<◌, ◌++◌, Option, Some, None, Result, MatchResult, length}
 use Rattle.fs_base.specs.Happened.{Happened, FilesFailed, SinkFailed, Wrote}
+use Rattle.fs_base.specs.Language.{IsOctets}
 use Rattle.fs_base.specs.Parts.{with_part}
 use Rattle.fs_base.specs.declared.config.Config.{Config}
 use Rattle.fs_conf.specs.Config.{config_of}
 use Rattle.fs_records.specs.Records.{End, done, limited, bad}
 use Rattle.fs_records.specs.declared.fault.Fault.{Fault}
 use Rattle.fs_records.specs.declared.fault.Fault.TheVariants.{Read, Limit, Bad}
-use Rattle.fs_line.specs.Output.{Goes, Stops}
+use Rattle.fs_line.specs.Output.{Goes, Partly}
 use Rattle.fs_mrt.specs.Dump.{spoken_from}
 use Rattle.fs_mrt.specs.Record.{Spoken}
 use Rattle.fs_mrt.specs.declared.fault.DumpReason.{DumpReason}
@@ -19,6 +20,7 @@ use Rattle.fs_stages.specs.declared.refusal.Refusal.TheVariants.{Outside, Dump a
 use Rattle.fs_tape.specs.Laws.{tape_text}
 use Rattle.fs_tape.specs.Tape.{Timed}
 use Rattle.fs_tape.specs.declared.magic.Version.TheVariants.{Two}
+use Rattle.fs_convert.specs.Laws.{GivesBack}
 use Rattle.fs_convert.specs.Lives.{lives_of}
 use Rattle.fs_convert.specs.Making.{MakingState, items_from, remade}
 
@@ -62,7 +64,8 @@ abbrev pub convert_status : ℕ → Names → (config dump : List ℕ) → ℕ
 convert_status limit holds config dump = status_for limit (dump_stage holds dump) (config_stage limit holds config)
 
 -- Of the files that these names hold, both without a fault and within the limit, the tape of the second version was
--- written whose items the dump's records make.
+-- written whose items the dump's records make. Whoever reads it for this configuration is given exactly these items,
+-- where it lies below the reader's limit.
 pub record Converted (limit : ℕ) (holds : Names) (config dump : List ℕ) (call : Happened) : Type 0 where
   pub config_octets : List ℕ
   pub config_is : holds config ≡ Some config_octets
@@ -74,6 +77,7 @@ pub record Converted (limit : ℕ) (holds : Names) (config dump : List ℕ) (cal
   pub items : List Timed
   pub items_are : remade accepted limit dump_octets ≡ (items, done)
   pub wrote : Wrote call (tape_text Two items)
+  pub read_back : (tape_limit : ℕ) → IsOctets dump_octets → GivesBack accepted tape_limit items
 
 -- the refusal for a fault of a dump
 abbrev pub refused_by : Fault DumpReason → Refusal
@@ -94,17 +98,6 @@ Yields before now into None = before ≡ ([], done)
 -- no record is to come, for such a fault; or a call on the outside failed
 abbrev pub Ceases : List Spoken × End DumpReason → Type 0 → Refusal → Type 0
 Ceases before failed refusal = ((before.0 ≡ []) × (status_at before.1 ≡ status_of refusal)) ⊎ ((refusal ≡ Outside) × failed)
-
--- a front of the text went on
-pub record GoesPart (before now : Option (List ℕ)) (pending pending_now text : List ℕ) : Type 0 where
-  pub front : List ℕ
-  pub rest : List ℕ
-  pub parts : text ≡ front ++ rest
-  pub goes : Goes before now pending pending_now front
-
--- a call on the outside failed: on the files, and a front of the text went on; or on the sink, and nothing is pending
-abbrev pub Partly : (before now : Option (List ℕ)) (pending pending_now text : List ℕ) → Type 0
-Partly before now pending pending_now text = GoesPart before now pending pending_now text ⊎ Stops before now pending pending_now text
 
 -- why converting ends early: the dump ends so, behind all that its records make, or a call on the outside failed
 abbrev pub Breaks : End DumpReason → (before now : Option (List ℕ)) (pending pending_now text : List ℕ) → Type 0 → Refusal → Type 0

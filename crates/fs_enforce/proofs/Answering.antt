@@ -6,14 +6,14 @@ use Rattle.fs_base.specs.Sink.{Grew, GrewPart}
 use Rattle.fs_records.specs.Records.{End, done, limited, bad}
 use Rattle.fs_base.proofs.Grew.{Grew-refl, Grew-trans, part_whole, part_none, part_more}
 use Rattle.fs_line.specs.Output.{Goes}
-use Rattle.fs_line.proofs.Outputs.{goes_flush, goes_flush_part}
+use Rattle.fs_line.proofs.Outputs.{goes_flush, goes_flush_part, partly_flushed}
 use Rattle.fs_capture.specs.Capture.{Begins, Captured, CaptureState, Recorded, capture_of, captured_in, coming, recorded}
 use Rattle.fs_capture.specs.declared.fault.CaptureReason.{CaptureReason}
 use Rattle.fs_records.specs.declared.fault.Fault.{Fault}
 use Rattle.fs_records.specs.declared.fault.Fault.TheVariants.{Read, Limit, Bad}
 use Rattle.fs_rules.specs.Table.{Held}
-use Rattle.fs_stages.proofs.Stages.{answers_for, answers_memory, answers_outside, no_octets, rose_earlier, rose_later, take_nothing}
-use Rattle.fs_enforce.specs.Judge.{refused_by, capture_stage, status_at, Partly, Breaks, verdict_of, rules_by, lines_from}
+use Rattle.fs_stages.proofs.Stages.{answers_for, answers_memory, answers_outside, rose_earlier, rose_later}
+use Rattle.fs_enforce.specs.Judge.{refused_by, capture_stage, status_at, Breaks, verdict_of, rules_by, lines_from}
 use Rattle.fs_stages.specs.Load.{Names}
 use Rattle.fs_stages.specs.Refusal.{Verdict, answered, Answers, Stage, Found, and_then, or_stop, status_of, HasReason}
 use Rattle.fs_stages.specs.declared.refusal.Refusal.{Refusal}
@@ -47,22 +47,10 @@ answers_fault held limit holds name octets failed a coming Read h o f = answers_
 answers_fault held limit holds name octets failed a coming Limit h o f = answers_ended held limit holds name octets failed a limited (refused_by Limit) h o refl
 answers_fault held limit holds name octets failed a coming (Bad reason place) h o f = answers_ended held limit holds name octets failed a (bad reason place) (refused_by (Bad reason place)) h o refl
 
--- a front, and then nothing
-part_nothing : (a b c : Option (List ℕ)) (xs : List ℕ) → GrewPart a b xs → GrewPart b c no_octets → GrewPart a c xs
-part_nothing a b c xs part more =
-    let grew : Grew b c [] = subst (λ (l : List ℕ). Grew b c l) (take_nothing more.0) more.1 in
-    (part.0, subst (λ (l : List ℕ). Grew a c l) (append-nil (take part.0 xs)) (Grew-trans a b c (take part.0 xs) [] part.1 grew))
-
 -- What judging the packets did, before what is pending is written out: the whole text went on, or judging broke off.
 abbrev pub Went : (end : End CaptureReason) (before mid : Option (List ℕ)) (pending text : List ℕ) (failed : Type 0) → {T : Type 0} → Result T Refusal → Type 0
 Went end before mid pending text failed result =
     MatchResult result (λ _. (end ≡ done) × Goes before mid [] pending text) (Breaks end before mid [] pending text failed)
-
-pub partly_flushed : (before mid now : Option (List ℕ)) (pending text : List ℕ) → Partly before mid [] pending text → GrewPart mid now pending → GrewPart before now text
-partly_flushed before mid now pending text (inl p) grew =
-    subst (λ (l : List ℕ). GrewPart before now l) (sym p.parts) (part_more before now p.front p.rest (goes_flush_part now p.goes grew))
-partly_flushed before mid now pending text (inr h) grew =
-    part_nothing before mid now text h.part (subst (λ (l : List ℕ). GrewPart mid now l) h.empty grew)
 
 text_whole : (end : End CaptureReason) (text : List ℕ) (failed : Type 0) (before now : Option (List ℕ)) (answer : ℕ)
     → answer ≡ status_at end → Grew before now text → Answers (record { status = status_at end; text = text }) failed before now answer

@@ -11,7 +11,7 @@ use Rattle.fs_records.specs.Records.{End, limited, bad}
 use Rattle.fs_base.specs.Outside.{Rose}
 use Rattle.fs_records.specs.declared.fault.Fault.{Fault}
 use Rattle.fs_records.specs.declared.fault.Fault.TheVariants.{Read, Limit, Bad}
-use Rattle.fs_line.proofs.Outputs.{goes_flush, goes_flush_part}
+use Rattle.fs_line.proofs.Outputs.{partly_flushed, goes_flush, goes_flush_part}
 use Rattle.fs_capture.specs.Capture.{Begins, Captured, CaptureState, Recorded, captured_in, coming, recorded}
 use Rattle.fs_capture.specs.declared.fault.CaptureReason.{CaptureReason}
 use Rattle.fs_rules.specs.Table.{Held}
@@ -28,7 +28,7 @@ use Rattle.fs_stages.proofs.LookingAhead.{rose_on}
 use Rattle.fs_stages.proofs.Stages.{answers_for, rose_earlier, rose_later}
 use Rattle.fs_enforce.specs.Judge.{always, capture_stage, lines_from, refused_by, rules_by, status_at, verdict_of}
 use Rattle.fs_enforce.specs.Moments.{AnswersAt, BreaksBehind, CameTo, EndsBefore, HoldAt, IsCaptureOpened, JudgesSo, came_lines, packets_of, verdict_at}
-use Rattle.fs_enforce.proofs.Answering.{found_capture, partly_flushed}
+use Rattle.fs_enforce.proofs.Answering.{found_capture}
 
 -- of no packets there are no lines
 

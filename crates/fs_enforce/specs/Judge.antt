@@ -19,7 +19,7 @@ use Rattle.fs_stages.specs.Refusal.{Verdict, Stage, Found, Stopped, and_then, or
 use Rattle.fs_stages.specs.declared.refusal.Refusal.TheVariants.{Outside, Capture as CaptureRefusal, Limit as AtLimit}
 use Rattle.fs_stages.specs.Load.{Names}
 use Rattle.fs_base.specs.Happened.{Happened, FilesFailed, SinkFailed}
-use Rattle.fs_line.specs.Output.{Goes, Stops}
+use Rattle.fs_line.specs.Output.{Goes, Partly}
 use Rattle.fs_stages.specs.declared.refusal.Refusal.{Refusal}
 use Rattle.fs_base.specs.Parts.{with_part}
 use Rattle.fs_capture.specs.declared.caught.Caught.{Caught}
@@ -102,17 +102,6 @@ Yields before now into None = before ≡ ([], done)
 -- no packet is to come, for such a fault; or a call on the outside failed
 abbrev pub Ceases : List Captured × End CaptureReason → Type 0 → Refusal → Type 0
 Ceases before failed refusal = ((before.0 ≡ []) × (status_at before.1 ≡ status_of refusal)) ⊎ ((refusal ≡ Outside) × failed)
-
--- a front of the text went on
-pub record GoesPart (before now : Option (List ℕ)) (pending pending_now text : List ℕ) : Type 0 where
-  pub front : List ℕ
-  pub rest : List ℕ
-  pub parts : text ≡ front ++ rest
-  pub goes : Goes before now pending pending_now front
-
--- a call on the outside failed: on the files, and a front of the text went on; or on the sink, and nothing is pending
-abbrev pub Partly : (before now : Option (List ℕ)) (pending pending_now text : List ℕ) → Type 0
-Partly before now pending pending_now text = GoesPart before now pending pending_now text ⊎ Stops before now pending pending_now text
 
 -- why judging ends early: the capture ends so, behind all its lines, or a call on the outside failed
 abbrev pub Breaks : End CaptureReason → (before now : Option (List ℕ)) (pending pending_now text : List ℕ) → Type 0 → Refusal → Type 0

@@ -11,13 +11,13 @@ use Rattle.fs_rules.specs.Table.{Held}
 use Rattle.fs_tape.specs.Tape.{Timed}
 use Rattle.fs_desk.specs.Laws.{LeaveSame}
 use Rattle.fs_desk.specs.Leaves.{Leaves}
-use Rattle.fs_line.specs.Output.{Goes}
+use Rattle.fs_line.specs.Output.{Goes, Partly}
 use Rattle.fs_stages.specs.Play.{until}
 use Rattle.fs_stages.specs.Load.{Names}
 use Rattle.fs_stages.specs.Refusal.{Answers, Stage, Found, Stopped, Verdict, status_of, verdict_with}
 use Rattle.fs_stages.specs.declared.refusal.Refusal.{Refusal}
 use Rattle.fs_stages.specs.declared.refusal.Refusal.TheVariants.{Outside, Memory}
-use Rattle.fs_enforce.specs.Judge.{Partly, capture_stage, lines_from, rules_by, status_at}
+use Rattle.fs_enforce.specs.Judge.{capture_stage, lines_from, rules_by, status_at}
 
 -- At the moment of each of these packets the items up to that moment leave these routes held.
 abbrev pub HoldAt : Config → List Timed → (ℕ → Held) → List Captured → Type 0
