@@ -35,6 +35,7 @@ use Rattle.fs_cli.specs.Command.{Form, Enforce, Surveys, Converts, Check, Gen, f
 use Rattle.fs_mrt.specs.declared.fault.DumpReason.{DumpReason}
 use Rattle.fs_convert.specs.Command.{Converts as ConvertsDump, Converted, ConvertsSo, convert_status, dump_stage, status_for as status_by, status_at as dump_status, verdict_of}
 use Rattle.fs_convert.specs.Making.{remade}
+use Rattle.fs_convert.proofs.Fitting.{reads_back_converted}
 use Rattle.fs_cli.specs.Survey.{Text, Lists, ListsSo, Listed, listed_status, text_for}
 use Rattle.fs_cli.specs.declared.command.Subject.{Subject}
 use Rattle.fs_cli.specs.declared.survey.Survey.{Survey}
@@ -401,17 +402,19 @@ converted_well limit holds config dump failed call answer (inr makes) zero = at 
         let fetched = then_found (or_stop Outside (holds config)) _ read.0 read.1 in
         let within = within_found (nat_le limit (length fetched.0)) fetched.0 read.0 fetched.2 in
         let opened = by (holds dump) makes.answers h in
+        let accepted_is = or_found Refused (config_of read.0) makes.accepted read.2 in
         record {
           config_octets = read.0;
           config_is = or_found Outside (holds config) fetched.0 fetched.1 ∙ ap Some within.1;
           config_within = below_limit limit (length read.0) (subst (λ (o : List ℕ). nat_le limit (length o) ≡ false) within.1 within.0);
           accepted = makes.accepted;
-          accepted_is = or_found Refused (config_of read.0) makes.accepted read.2;
+          accepted_is = accepted_is;
           dump_octets = opened.0;
           dump_is = opened.1;
           items = (remade makes.accepted limit opened.0).0;
           items_are = opened.2;
           wrote = opened.3;
+          read_back = λ tape_limit are. reads_back_converted read.0 makes.accepted limit tape_limit opened.0 accepted_is are;
         }
 
     at : Caused failed (verdict_of makes.accepted limit (dump_stage holds dump)).status answer → Converted limit holds config dump call

@@ -233,7 +233,7 @@ pub record Promises {F S W C : Type 0} (limit : ℕ) (w : World F S W C) (words 
   -- What `listen` says to the other end and writes, and when it succeeds.
   pub listened : AreTold w → (config address : List ℕ) → form_of words ≡ Some (Listen config address)
       → ListenPromises limit (names_in w) config (happened_in w) (talk_in w) answer
-  -- What both ends of `pair` say and take, and what it writes.
+  -- What both ends of `pair` say and take, what it writes, and when it succeeds.
   pub paired : AreTold w → (config rules : List ℕ) → form_of words ≡ Some (Pair config rules)
       → PairPromises limit (names_in w) config rules (happened_in w) (talk_in w) answer
   -- At 0 `gen` wrote the counts of the admitted rules and of the lines, over the generator's tape and packets.

@@ -34,7 +34,8 @@ pub fn run<F: Files, S: Sink, W: Wire, C: Clock>(
     clock: &mut C,
 ) -> u8
     ensures { Promises (2 ^ 40)
-        (world F.Files S.Sink W.Wire C.Clock files.old files.new sink.old sink.new wire.old wire.new clock.old clock.new)
+        (world F.Files S.Sink W.Wire C.Clock
+        files.old files.new sink.old sink.new wire.old wire.new clock.old clock.new)
         (map string_bytes words.now) result }
 {
     run_within(alloc, words, LIMIT, files, sink, wire, clock)
@@ -56,7 +57,8 @@ pub fn run_within<F: Files, S: Sink, W: Wire, C: Clock>(
 ) -> u8
     requires { 1 ≤ limit }
     ensures { Promises limit
-        (world F.Files S.Sink W.Wire C.Clock files.old files.new sink.old sink.new wire.old wire.new clock.old clock.new)
+        (world F.Files S.Sink W.Wire C.Clock
+        files.old files.new sink.old sink.new wire.old wire.new clock.old clock.new)
         (map string_bytes words.now) result }
 {
     match parse(words) {

@@ -134,6 +134,7 @@ met ending config peer sending desk limit given text lists a b c d f =
         wrote_second = p.wrote_second ∙ ap (λ (e : WireEnds). e.second.written ++ p.announced) d;
         asked = p.asked;
         front = p.front;
+        arrives = p.arrives;
         ends = p.ends;
       };
       lists = lists_for config peer sending desk limit given text ending b c p lists;

@@ -6,3 +6,5 @@ pub mod PromisingHearing
 pub mod Telling
 pub mod FromPairing
 pub mod PromisingPair
+pub mod Arrivable
+pub mod Accepted

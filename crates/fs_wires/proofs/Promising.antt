@@ -188,7 +188,7 @@ module _ (limit : ℕ) (holds : Names) (config rules : List ℕ) (call : Happene
 
 -- another end that establishes the session
 
-same_found : {A : Type 0} {x y : A} → Found x ≡ Found y → x ≡ y
+pub same_found : {A : Type 0} {x y : A} → Found x ≡ Found y → x ≡ y
 same_found e = cc
 
 never_both : (why : Closed) (phase : Phase) (behind : List ℕ) → ◌≡◌ {A = Last × List ℕ} (closed why, []) (still phase, behind) → ⊥
@@ -257,7 +257,7 @@ module _ (limit : ℕ) (holds : Names) (config rules : List ℕ) (call : Happene
       (subst (λ (c : Config). Speaks ending c speaks.peer s.sending limit speaks.given s.ends s.ends_now) (sym config_is)
       (subst (λ (m : Sending). Speaks ending accepted speaks.peer m limit speaks.given s.ends s.ends_now) (sym sending_is) here))
 
-  none_failed : FilesStood call → SinkStood call → WireStood call → FilesFailed call ⊎ (SinkFailed call ⊎ WireFailed call) → ⊥
+  pub none_failed : FilesStood call → SinkStood call → WireStood call → FilesFailed call ⊎ (SinkFailed call ⊎ WireFailed call) → ⊥
   none_failed f s w (inl r) = not_rose call.before.file_faults call.now.file_faults f r
   none_failed f s w (inr (inl r)) = not_rose call.before.sink_faults call.now.sink_faults s r
   none_failed f s w (inr (inr r)) = not_rose call.before.wire_faults call.now.wire_faults w r

@@ -1,19 +1,23 @@
 -- What the clauses of a run of `pair` say follows from what it does.
-use Rattle.std.proofs.Common.{◌≡◌, ◌≢◌, ◌⊎◌, inl, inr, ◌∙◌, ℕ, List, Option, refl, sym, subst}
-use Rattle.fs_base.specs.Happened.{Happened, FilesFailed, SinkFailed, WireFailed}
+use Rattle.std.proofs.Common.{◌≡◌, ◌≢◌, ◌⊎◌, inl, inr, ◌∙◌, ℕ, ◌+◌, ◌<◌, List, ◌++◌, length, Option, Some, refl, ap, sym, subst, arith, length-append}
+use Rattle.fs_base.specs.Happened.{Happened, FilesFailed, FilesStood, SinkFailed, SinkStood, WireFailed, WireStood}
 use Rattle.fs_base.specs.Sink.{Grew}
+use Rattle.fs_base.specs.Wire.{Told, WireEnds}
 use Rattle.fs_base.specs.declared.config.Config.{Config}
+use Rattle.fs_base.specs.declared.config.Peer.{Peer}
 use Rattle.fs_speaker.specs.declared.sending.Sending.{Sending}
 use Rattle.fs_ends.specs.declared.tell.Ending.{Ending}
 use Rattle.fs_ends.specs.declared.tell.Ending.TheVariants.{Done, Closed as HasClosed, Ended, AtLimit}
+use Rattle.fs_receive.specs.Pair.{MayHold}
 use Rattle.fs_stages.specs.Load.{Names, sending_stage}
-use Rattle.fs_stages.specs.Refusal.{EndsEarly, Stage, Stopped, status_of}
+use Rattle.fs_stages.specs.Refusal.{EndsEarly, Found, Stage, Stopped, status_of}
 use Rattle.fs_stages.specs.declared.refusal.Refusal.{Refusal}
 use Rattle.fs_wires.specs.Conversation.{Conversation}
 use Rattle.fs_wires.specs.Listed.{verdict_by}
-use Rattle.fs_wires.specs.Pairing.{Joined, Joins, JoinsSo, Paired}
-use Rattle.fs_wires.specs.Promised.{BreaksSo, Carried, HasJoinedStatus, HasPairStatus, PairPromises}
-use Rattle.fs_wires.proofs.Promising.{files_stop, never_session, never_zero}
+use Rattle.fs_wires.specs.Pairing.{Joined, Joins, JoinsSo, Meets, Paired}
+use Rattle.fs_wires.specs.Promised.{BreaksSo, CanBeCarried, Carried, HasJoinedStatus, HasPairStatus, PairPromises}
+use Rattle.fs_wires.proofs.Accepted.{arrivable}
+use Rattle.fs_wires.proofs.Promising.{files_stop, never_session, never_zero, none_failed, same_found}
 
 -- the status
 
@@ -43,6 +47,30 @@ only_done Done text e = refl
 only_done (HasClosed why) text e = absurd cc
 only_done Ended text e = absurd cc
 only_done AtLimit text e = absurd cc
+
+-- so many more octets were written
+written_within : (before now said : List ℕ) (limit : ℕ) → now ≡ before ++ said → length now < length before + limit → length said < limit
+written_within before now said limit e l =
+    let all : length now ≡ length before + length said = ap length e ∙ length-append before said in
+    omega (arith, all, l)
+
+same_peer : (peer other : Peer) → Some peer ≡ Some other → peer ≡ other
+same_peer peer other e = cc
+
+-- where nothing hinders the rules, all of them arrive
+module _ (limit : ℕ) (holds : Names) (config rules : List ℕ) (talk : Conversation) (s : CanBeCarried limit holds config rules talk) where
+  carried_done : (ending : Ending) (text : List ℕ) → Joined ending s.accepted s.sending limit text talk → ending ≡ Done
+  carried_done ending text j =
+      let here : Meets ending s.accepted j.peer s.sending j.desk limit j.given text s.ends s.ends_now =
+      subst (λ (o : Option WireEnds). Told (Meets ending s.accepted j.peer s.sending j.desk limit j.given text) (Some s.ends) o) s.told_now
+      (subst (λ (o : Option WireEnds). Told (Meets ending s.accepted j.peer s.sending j.desk limit j.given text) o talk.ends_now) s.told j.told) in
+      here.pairs.arrives (record {
+        can = arrivable limit holds config rules s.accepted s.sending j.peer s.found j.peer_is s.named;
+        may_hold = subst (λ (p : Peer). MayHold p.max_routes (length s.sending.rules)) (same_peer s.peer j.peer (sym s.peer_is ∙ j.peer_is)) s.may_hold;
+        timely = s.timely j.given j.grew;
+        announced_within = written_within s.ends.second.written s.ends_now.second.written here.pairs.announced limit here.pairs.wrote_second s.announced_within;
+        replied_within = written_within s.ends.first.written s.ends_now.first.written here.pairs.replied limit here.pairs.wrote_first s.replied_within;
+      })
 
 module _ (limit : ℕ) (holds : Names) (config rules : List ℕ) (call : Happened) (talk : Conversation) (answer : ℕ) where
   abbrev failed : Type 0
@@ -81,12 +109,14 @@ module _ (limit : ℕ) (holds : Names) (config rules : List ℕ) (call : Happene
       let six : answer ≢ 6 = differs 0 6 (λ e. absurd cc) zero in
       let one : answer ≢ 1 = differs 0 1 (λ e. absurd cc) zero in
       let done : p.ending ≡ Done = only_done p.ending p.text (sym (status_at p six one) ∙ zero) in
+      let speaks : Joined Done p.accepted p.sending limit p.text talk = subst (λ (e : Ending). Joined e p.accepted p.sending limit p.text talk) done p.speaks in
       record {
         accepted = p.accepted;
         sending = p.sending;
         found = p.found;
         text = p.text;
-        speaks = subst (λ (e : Ending). Joined e p.accepted p.sending limit p.text talk) done p.speaks;
+        speaks = speaks;
+        can = λ named. arrivable limit holds config rules p.accepted p.sending speaks.peer p.found speaks.peer_is named;
         wrote = subst (λ (e : Ending). Grew call.before.written call.now.written (verdict_by e p.text).text) done (p.answers.whole six one);
       }
 
@@ -106,5 +136,35 @@ module _ (limit : ℕ) (holds : Names) (config rules : List ℕ) (call : Happene
         wrote = p.answers.whole six one;
       }
 
+  -- where nothing hinders the rules
+  served_done : (s : CanBeCarried limit holds config rules talk) (accepted : Config) (sending : Sending) (ending : Ending) (text : List ℕ)
+      → sending_stage limit holds config rules ≡ Found (accepted, sending) → Joined ending accepted sending limit text talk → ending ≡ Done
+  served_done s accepted sending ending text found speaks =
+      carried_done limit holds config rules talk s ending text
+      (subst (λ (c : Config). Joined ending c s.sending limit text talk) (sym (ap (λ (p : Config × Sending). p.0) same))
+      (subst (λ (m : Sending). Joined ending accepted m limit text talk) (sym (ap (λ (p : Config × Sending). p.1) same)) speaks))
+    where
+      same : ◌≡◌ {A = Config × Sending} (s.accepted, s.sending) (accepted, sending)
+      same = same_found (sym s.found ∙ found)
+
+  served_so : JoinsSo limit holds config rules failed call.before.written call.now.written talk answer
+      → CanBeCarried limit holds config rules talk → FilesStood call → SinkStood call → WireStood call → (answer ≡ 0) ⊎ (answer ≡ 6)
+  served_so (inl early) s f k w = at early.reason
+    where
+      never : (refusal : Refusal) → ◌≡◌ {A = Stage (Config × Sending)} (Found (s.accepted, s.sending)) (Stopped refusal) → ⊥
+      never refusal e = absurd cc
+
+      at : ((refusal : Refusal) × (sending_stage limit holds config rules ≡ Stopped refusal) × (answer ≡ status_of refusal)) ⊎ (answer ≡ 6) ⊎ ((answer ≡ 1) × failed)
+          → (answer ≡ 0) ⊎ (answer ≡ 6)
+      at (inl h) = absurd (never h.0 (sym s.found ∙ h.1))
+      at (inr (inl h)) = inr h
+      at (inr (inr h)) = absurd (none_failed limit holds config rules call talk answer f k w h.1)
+  served_so (inr p) s f k w = at p.answers.status_is
+    where
+      at : Caused failed (verdict_by p.ending p.text).status answer → (answer ≡ 0) ⊎ (answer ≡ 6)
+      at (inl h) = inl (h ∙ ap (λ (e : Ending). (verdict_by e p.text).status) (served_done s p.accepted p.sending p.ending p.text p.found p.speaks))
+      at (inr (inl h)) = inr h
+      at (inr (inr h)) = absurd (none_failed limit holds config rules call talk answer f k w h.1)
+
   pub pair_promises : Joins limit holds config rules call talk answer → PairPromises limit holds config rules call talk answer
-  pair_promises j = record { carried = carried_so j; session = breaks_so j }
+  pair_promises j = record { carried = carried_so j; session = breaks_so j; served = served_so j }

@@ -6,3 +6,4 @@ pub mod Listening
 pub mod Promised
 pub mod PromisedHearing
 pub mod Pairing
+pub mod Laws

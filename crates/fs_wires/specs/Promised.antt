@@ -1,19 +1,21 @@
 -- What runs of `announce` and `pair` promise.
-use Rattle.std.specs.Prelude.{◌≡◌, ◌⊎◌, ◌<◌, ℕ, List, true, length, Some}
+use Rattle.std.specs.Prelude.{◌≡◌, ◌⊎◌, ◌+◌, ◌<◌, ℕ, List, true, length, Some}
 use Rattle.fs_base.specs.Happened.{Happened, FilesStood, SinkStood, WireStood, Wrote}
 use Rattle.fs_base.specs.Sink.{Grew}
 use Rattle.fs_base.specs.Wire.{WireEnds}
 use Rattle.fs_base.specs.declared.config.Config.{Config}
+use Rattle.fs_base.specs.declared.config.Peer.{Peer}
 use Rattle.fs_speaker.specs.declared.sending.Sending.{Sending}
 use Rattle.fs_speaker.specs.declared.transition.Phase.{Phase}
 use Rattle.fs_speaker.specs.Announcer.{is_established}
-use Rattle.fs_speaker.specs.Sending.{needs_of}
+use Rattle.fs_speaker.specs.Sending.{needs_of, sender_of}
 use Rattle.fs_speaker.specs.Session.{at_start, still}
 use Rattle.fs_speaker.specs.Side.{announcer}
 use Rattle.fs_ends.specs.declared.tell.Ending.{Ending}
 use Rattle.fs_ends.specs.declared.tell.Ending.TheVariants.{Done}
 use Rattle.fs_ends.specs.Opening.{opened_by}
 use Rattle.fs_ends.specs.Teller.{HasExpired}
+use Rattle.fs_receive.specs.Pair.{CanArrive, IsTimely, MayHold}
 use Rattle.fs_stages.specs.Load.{Names, sending_stage}
 use Rattle.fs_stages.specs.Refusal.{Found, Stage, Stopped, status_of}
 use Rattle.fs_wires.specs.Announcing.{Connected, verdict_of}
@@ -93,15 +95,34 @@ abbrev pub HasPairStatus : (limit : ℕ) (holds : Names) → (config rules : Lis
 HasPairStatus limit holds config rules talk answer =
     HasJoinedStatus limit (sending_stage limit holds config rules) talk answer
 
--- The rules of the file were announced by the one end and received by the other: the OPEN, KEEPALIVEs, and an UPDATE for
--- each rule, in the file's order and nothing else, and the other end took exactly their updates. What these leave held
--- was listed.
+-- The files are accepted, and name an identifier other than 0.0.0.0; the peer may hold as many routes as there are
+-- rules; each end said fewer octets than the limit; and no hold time can have passed between the clock's answers.
+pub record CanBeCarried (limit : ℕ) (holds : Names) (config rules : List ℕ) (talk : Conversation) : Type 0 where
+  pub accepted : Config
+  pub sending : Sending
+  pub found : sending_stage limit holds config rules ≡ Found (accepted, sending)
+  pub named : 0 < sending.id
+  pub peer : Peer
+  pub peer_is : sender_of accepted.peers ≡ Some peer
+  pub may_hold : MayHold peer.max_routes (length sending.rules)
+  pub ends : WireEnds
+  pub ends_now : WireEnds
+  pub told : talk.ends ≡ Some ends
+  pub told_now : talk.ends_now ≡ Some ends_now
+  pub replied_within : length ends_now.first.written < length ends.first.written + limit
+  pub announced_within : length ends_now.second.written < length ends.second.written + limit
+  pub timely : (given : List ℕ) → Grew talk.answers talk.answers_now given → IsTimely accepted given
+
+-- The rules of the file were announced by the one end and received by the other: the OPEN, KEEPALIVEs, and an UPDATE
+-- for each rule, in the file's order and nothing else. Where the identifier isn't 0.0.0.0, the other end took exactly
+-- their updates. What these leave held was listed.
 pub record Carried (limit : ℕ) (holds : Names) (config rules : List ℕ) (call : Happened) (talk : Conversation) : Type 0 where
   pub accepted : Config
   pub sending : Sending
   pub found : sending_stage limit holds config rules ≡ Found (accepted, sending)
   pub text : List ℕ
   pub speaks : Joined Done accepted sending limit text talk
+  pub can : 0 < sending.id → CanArrive accepted speaks.peer sending
   pub wrote : Wrote call text
 
 -- The session ended so that this is answered, and its line alone was written. A front of that was announced, whatever
@@ -122,3 +143,7 @@ pub record PairPromises (limit : ℕ) (holds : Names) (config rules : List ℕ) 
   -- At 8 an end's octets closed its session, or ended before it was established, or a hold time expired, and the line of
   -- that was written.
   pub session : answer ≡ 8 → BreaksSo limit holds config rules call talk answer
+  -- Where no call failed and nothing hinders the rules, only want of memory prevents 0.
+  pub served : CanBeCarried limit holds config rules talk
+      → FilesStood call → SinkStood call → WireStood call
+      → (answer ≡ 0) ⊎ (answer ≡ 6)

@@ -2,6 +2,7 @@
 #![tactic(auto)]
 
 mod announcing;
+mod laws;
 mod lines;
 mod listed;
 mod listening;
@@ -9,5 +10,6 @@ mod pairing;
 mod tell;
 
 pub use announcing::{Announcement, announce};
+pub use laws::accepted_rules_arrive;
 pub use listening::{Reception, listen};
 pub use pairing::{Pairing, pair};
