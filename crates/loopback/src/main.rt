@@ -1,0 +1,27 @@
+//! The program once more, as a stored run of `pair`: both ends of a session over TCP on 127.0.0.1.
+#![tactic(auto)]
+
+use fs_cli::status;
+use fs_outside::{RealClock, RealFiles, RealOut, RealWire};
+use std::env;
+use std::io::ErrorKind;
+use std::process::ExitCode;
+
+fn main(rt: HostRuntime) -> ExitCode {
+    let alloc = rt.alloc();
+    let words = match env::args(&rt) {
+        Ok(words) => words.skip(1).collect::<Vec<String>>(alloc),
+        Err(error) if error.kind() == ErrorKind::OutOfMemory => return ExitCode::from(
+            status::MEMORY,
+        ),
+        Err(_) => return ExitCode::from(status::NO_COMMAND),
+    };
+    let Ok(words) = words else {
+        return ExitCode::from(status::MEMORY);
+    };
+    let mut files = RealFiles::new(alloc, &rt);
+    let mut out = RealOut::new(rt.stdout());
+    let mut wire = RealWire::new(&rt);
+    let mut clock = RealClock::new(&rt);
+    ExitCode::from(fs_cli::run(alloc, &words, &mut files, &mut out, &mut wire, &mut clock))
+}
