@@ -5,10 +5,10 @@ use fs_outside::{MemClock, MemWire};
 use std::alloc::Global;
 
 /// More than any run writes through an end.
-const ROOM: usize = 16_384;
+const ROOM: usize = 1 << 20;
 
-/// What the ends of the wire give, what the clock answers, how many octets a call of the wire moves at most, and which of
-/// its calls fail.
+/// What the ends of the wire give, what the clock answers, how many octets a call of the wire moves at most, and which
+/// of its calls fail.
 #[derive(Drop)]
 pub struct WireTerms {
     pub first: Vec<u8>,
