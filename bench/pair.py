@@ -1,11 +1,12 @@
 #!/usr/bin/env python3
 """Times `pair` over the host's loopback on rules files of growing size, and measures the memory that it takes.
 
-    bench/pair.py PROGRAM [--rules N,N,..] [--runs N]
+    bench/pair.py PROGRAM [--rules N,N,..] [--runs N] [--memory FS_RUNS]
 
 Each rule is TCP to one destination of /24 and one port, with a rate of no bytes. Reported are the rules a second from
 the rules file to the listing, the same without the seconds that a file of no rules takes, and the most memory that was
-resident.
+resident. With the built program `fs_runs` the same is run over a wire in memory too, as a case whose listing is
+compared; its ends have room for about ten thousand rules.
 """
 
 import argparse
@@ -18,10 +19,14 @@ from enforce import CONFIG
 HEAD = "id = \"198.51.100.1\"\nas_path = [65001]\n"
 
 
-def rule(number):
+def nlri_of(number):
     prefix = bytes([1, 24, 10 + number // 65536 % 2, number // 256 % 256, number % 256])
     nlri = prefix + bytes.fromhex("038106") + bytes.fromhex("048119")
-    return f"[[rule]]\nfamily = \"v4\"\nnlri = \"{bytes([len(nlri)]).hex()}{nlri.hex()}\"\nactions = \"8006fde900000000\"\n"
+    return bytes([len(nlri)]).hex() + nlri.hex()
+
+
+def rule(number):
+    return f"[[rule]]\nfamily = \"v4\"\nnlri = \"{nlri_of(number)}\"\nactions = \"8006fde900000000\"\n"
 
 
 def best_of(program, folder, rules, runs):
@@ -34,11 +39,37 @@ def best_of(program, folder, rules, runs):
     return min(seconds for seconds, _ in times), max(kilobytes for _, kilobytes in times)
 
 
+def case_of(rules):
+    """A case of `fs_runs`: the files, the words, and what is to be listed, since no route makes a rule valid."""
+    parts = [f"room {200 + 80 * rules}", "file config.toml"] + [f"  line {line}" for line in CONFIG.split("\n") if line]
+    parts += ["file rules.toml"] + [f"  line {line}" for line in HEAD.split("\n") if line]
+    for number in range(rules):
+        parts += [f"  line {line}" for line in rule(number).split("\n") if line]
+    parts += ["words pair config.toml rules.toml", "case rules over a wire in memory", "  out peer 1 established"]
+    parts += [f"  out v4 invalid {nlri_of(number)} peer 1 Originator" for number in range(rules)]
+    return "\n".join(parts + ["  ends 0", ""])
+
+
+def in_memory(program, folder, rules, runs):
+    (folder / "case").write_text(case_of(rules))
+    times = [run([program, str(folder / "case")], str(folder / "told")) for _ in range(runs)]
+    if "1 cases, 0 differ" not in (folder / "told").read_text():
+        raise SystemExit((folder / "told").read_text()[:400])
+    return min(seconds for seconds, _ in times), max(kilobytes for _, kilobytes in times)
+
+
+def tell(kind, rules, seconds, base, most):
+    net = max(seconds - base, 1e-9)
+    pace = f"{rules / seconds:9.0f} rules/s  {rules / net:9.0f} net"
+    print(f"{kind} {rules:8} rules  {seconds:7.3f} s  {pace}  {most} kB resident")
+
+
 def main():
     parser = argparse.ArgumentParser()
     parser.add_argument("program")
     parser.add_argument("--rules", default="1000,10000")
     parser.add_argument("--runs", type=int, default=3)
+    parser.add_argument("--memory", help="the built program fs_runs")
     options = parser.parse_args()
     with tempfile.TemporaryDirectory() as name:
         folder = pathlib.Path(name)
@@ -46,8 +77,11 @@ def main():
         base, _ = best_of(options.program, folder, 0, options.runs)
         for rules in map(int, options.rules.split(",")):
             seconds, most = best_of(options.program, folder, rules, options.runs)
-            net = max(seconds - base, 1e-9)
-            print(f"{rules:8} rules  {seconds:7.3f} s  {rules / seconds:9.0f} rules/s  {rules / net:9.0f} net  {most} kB resident")
+            tell("loopback", rules, seconds, base, most)
+            if options.memory:
+                start, _ = in_memory(options.memory, folder, 0, options.runs)
+                seconds, most = in_memory(options.memory, folder, rules, options.runs)
+                tell("memory  ", rules, seconds, start, most)
 
 
 if __name__ == "__main__":

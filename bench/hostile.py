@@ -1,0 +1,223 @@
+#!/usr/bin/env python3
+"""Times octets that are made to cost much, each shape at two sizes, and reports how its time grows.
+
+    bench/hostile.py PROGRAM [--runs N] [--scale F] [--only NAME]
+
+For each shape the processor seconds (user and system) of the program over an input of n and of 2n, less those over none,
+the least of some runs; and their ratio. Where the time is linear in the octets the ratio is about 2.
+"""
+
+import argparse
+import os
+import pathlib
+import struct
+import subprocess
+import sys
+import tempfile
+
+from enforce import CONFIG, OPEN, PATH, draws, message, packet, record
+
+ATTRIBUTES = PATH + bytes.fromhex("400304c6336401")
+MAGIC = b"FSTAPE1\n"
+DROP = bytes.fromhex("c01008 8006fde900000000")
+EMPTY_CAPTURE = struct.pack("<IHHIIII", 0xA1B2C3D4, 2, 4, 0, 0, 262144, 101)
+
+
+def up(peer):
+    return record(1, peer) + record(2, peer, message(1, OPEN) + message(4, b""))
+
+
+def lost(peer):
+    return record(3, peer)
+
+
+def update(withdrawn, attributes, announced, peer=1):
+    body = struct.pack(">H", len(withdrawn)) + withdrawn + struct.pack(">H", len(attributes)) + attributes + announced
+    return record(2, peer, message(2, body))
+
+
+def announce(prefix, peer=1):
+    return update(b"", ATTRIBUTES, prefix, peer)
+
+
+def frame(value):
+    """A rule's value with its length before it (RFC 8955, section 4.1)."""
+    size = bytes([len(value)]) if len(value) < 240 else struct.pack(">H", 0xF000 + len(value))
+    return size + value
+
+
+def attribute(kind, value):
+    return b"\x90" + bytes([kind]) + struct.pack(">H", len(value)) + value
+
+
+def flow(value, peer=1):
+    reach = bytes.fromhex("0001 85 00 00") + frame(value)
+    return update(b"", attribute(14, reach) + PATH + DROP, b"", peer)
+
+
+def host(number):
+    """A prefix of 32 bits under 10.0.0.0/8."""
+    return bytes([32, 10, number // 65536 % 256, number // 256 % 256, number % 256])
+
+
+def port(number):
+    """The pair of one destination port."""
+    return b"\x05\x91" + struct.pack(">H", number % 65536)
+
+
+def drawn_order(count):
+    """The numbers below count, in an order that is the same in each run."""
+    drawn = draws()
+    return [number for _, number in sorted((next(drawn), number) for number in range(count))]
+
+
+def peers(count):
+    text = CONFIG.split("[[peer]]", 1)[0] + "allow_no_destination = true\n"
+    for number in range(1, count + 1):
+        address = f"198.51.{number // 256}.{number % 256}"
+        text += f'[[peer]]\nnumber = {number}\naddress = "{address}"\nas = 65001\n'
+    return text
+
+
+def nested(count):
+    """Rules for nested destinations, 16 deep, each under a route of its own."""
+    parts = [up(1)]
+    for number in range(count):
+        length = 17 + number % 16
+        bits = (number // 16 % 131072) << 15 | 1
+        octets = struct.pack(">I", bits >> (32 - length) << (32 - length))[: (length + 7) // 8]
+        parts += [announce(bytes([length]) + octets), flow(b"\x01" + bytes([length]) + octets)]
+    return b"".join(parts), EMPTY_CAPTURE
+
+
+def given_again(count):
+    """A wide route that is given again and again, beside as many rules under it."""
+    parts = [up(1)] + [flow(bytes([1]) + host(number)) for number in range(count)]
+    parts += [announce(bytes([8, 10]))] * count
+    return b"".join(parts), EMPTY_CAPTURE
+
+
+def one_destination(count):
+    parts = [up(1), announce(bytes([24, 192, 0, 2]))]
+    parts += [flow(bytes([1, 24, 192, 0, 2]) + port(number) + b"\x06\x91" + struct.pack(">H", number // 65536))
+              for number in drawn_order(count)]
+    return b"".join(parts), EMPTY_CAPTURE
+
+
+def no_destination(count):
+    parts = [up(1)]
+    parts += [flow(port(number) + b"\x06\x91" + struct.pack(">H", number // 65536)) for number in drawn_order(count)]
+    return b"".join(parts), EMPTY_CAPTURE
+
+
+def and_group(count):
+    """One rule of one group, which packets fulfil up to its last pair."""
+    pairs = b"".join(bytes([0x46, number % 200]) for number in range(count - 1))
+    value = bytes([1, 24, 192, 0, 2]) + b"\x05" + b"\x06\xff" + pairs[2:] + bytes([0xC1, 7])
+    octets = packet(bytes([192, 0, 2, 1]), 250)
+    capture = [EMPTY_CAPTURE] + [struct.pack("<IIII", 0, 0, len(octets), len(octets)) + octets] * 2000
+    return b"".join([up(1), announce(bytes([24, 192, 0, 2])), flow(value)]), b"".join(capture)
+
+
+def header_chains(count):
+    """IPv6 packets of chains of destination options."""
+    chain = b"\x3c\x00" + bytes(6)
+    octets = b"\x60\x00\x00\x00" + struct.pack(">H", min(8 * count + 8, 65535)) + b"\x3c\x40" + bytes(32)
+    octets += chain * (count - 1) + b"\x11\x00" + bytes(6) + bytes(8)
+    one = struct.pack("<IIII", 0, 0, len(octets), len(octets)) + octets
+    capture = struct.pack("<IHHIIII", 0xA1B2C3D4, 2, 4, 0, 0, 262144, 229) + one * 400
+    return b"".join([up(1), flow(b"\x03\x81\x06")]), capture
+
+
+def never_held(count):
+    """Rules that are withdrawn and were never announced, beside some that are held."""
+    parts = [up(1)] + [flow(port(number)) for number in range(1000)]
+    frames = b""
+    for number in range(count):
+        frames += frame(bytes([1]) + host(number) + port(number))
+        if len(frames) > 3900 or number == count - 1:
+            parts.append(update(b"", attribute(15, bytes.fromhex("0001 85") + frames), b""))
+            frames = b""
+    return b"".join(parts), EMPTY_CAPTURE
+
+
+def up_and_lost(count):
+    """A peer that comes up and is lost in turn, beside as many rules of another."""
+    parts = [up(1)] + [flow(bytes([1]) + host(number)) for number in range(count)]
+    parts += [up(2) + lost(2)] * count
+    return b"".join(parts), EMPTY_CAPTURE
+
+
+def down_and_lost(count):
+    """A peer that is down is lost again and again, beside as many rules of another."""
+    parts = [up(1)] + [flow(bytes([1]) + host(number)) for number in range(count)]
+    parts += [lost(2)] * count
+    return b"".join(parts), EMPTY_CAPTURE
+
+
+def equal_rules(count):
+    """The same hundred rules of many peers, all of which are then lost."""
+    parts = []
+    for peer in range(1, count + 1):
+        parts.append(up(peer))
+        parts += [flow(port(number), peer) for number in range(100)]
+    parts += [lost(peer) for peer in range(1, count + 1)]
+    return b"".join(parts), EMPTY_CAPTURE
+
+
+SHAPES = [
+    ("nested prefixes", nested, 20000),
+    ("a wide route given again", given_again, 3000),
+    ("one destination", one_destination, 30000),
+    ("no destination", no_destination, 30000),
+    ("pairs in one group", and_group, 1000),
+    ("headers in a chain", header_chains, 4000),
+    ("withdrawn, never held", never_held, 50000),
+    ("a peer up and lost", up_and_lost, 5000),
+    ("a peer down, lost again", down_and_lost, 5000),
+    ("peers with equal rules", equal_rules, 512),
+]
+
+
+def seconds_of(program, folder, made, runs):
+    tape, capture = made
+    (folder / "tape").write_bytes(MAGIC + tape)
+    (folder / "capture").write_bytes(capture)
+    words = [str(folder / name) for name in ("config", "tape", "capture")]
+    best = None
+    for _ in range(runs):
+        child = subprocess.Popen([program, "enforce", *words], stdout=subprocess.DEVNULL)
+        _, status, usage = os.wait4(child.pid, 0)
+        child.returncode = os.waitstatus_to_exitcode(status)
+        if child.returncode != 0:
+            sys.exit(f"enforce ended with status {child.returncode}")
+        seconds = usage.ru_utime + usage.ru_stime
+        best = seconds if best is None else min(best, seconds)
+    return best
+
+
+def main():
+    parser = argparse.ArgumentParser(description=__doc__.split("\n", 1)[0])
+    parser.add_argument("program", type=pathlib.Path)
+    parser.add_argument("--runs", type=int, default=3)
+    parser.add_argument("--scale", type=float, default=1.0)
+    parser.add_argument("--only", default="")
+    options = parser.parse_args()
+    program = str(options.program.resolve())
+    with tempfile.TemporaryDirectory() as name:
+        folder = pathlib.Path(name)
+        (folder / "config").write_text(peers(1024))
+        without = seconds_of(program, folder, (b"", EMPTY_CAPTURE), options.runs)
+        for shape, make, size in SHAPES:
+            if options.only not in shape:
+                continue
+            size = max(int(size * options.scale), 2) if shape not in ("pairs in one group", "headers in a chain",
+                                                                     "peers with equal rules") else size
+            one, two = (
+                max(seconds_of(program, folder, make(count), options.runs) - without, 1e-4) for count in (size, 2 * size)
+            )
+            print(f"{shape}: {one:.3f} s at {size}, {two:.3f} s at {2 * size}, ratio {two / one:.2f}", flush=True)
+
+
+if __name__ == "__main__":
+    main()

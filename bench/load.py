@@ -1,0 +1,103 @@
+#!/usr/bin/env python3
+"""Times the load of flow rules and of unicast routes, and reports routes per second and octets of memory for each.
+
+    bench/load.py PROGRAM [--sizes N,N,..] [--group N,N,..] [--changes N] [--runs N]
+
+A tape holds the routes of one peer, one in each UPDATE. What is reported is the user and system time and the peak of
+memory of `enforce` over an empty capture, less those with a tape without these routes: for unicast routes;
+for rules to a destination each, beside a unicast route for each destination; for rules to one destination, and rules
+without a destination, that come in no order; and for unicast routes that come and go beside the rules.
+"""
+
+import argparse
+import os
+import pathlib
+import subprocess
+import sys
+import tempfile
+
+from changes import EMPTY_CAPTURE, START, announce, changes_of, flow, slash24, with_rules
+from enforce import CONFIG
+
+PORTS = 65536
+ODD = 40503  # multiplied by it, the ports come once each and in no order
+
+
+def with_prefixes(routes):
+    return b"".join(START + [announce(slash24(number)) for number in range(routes)])
+
+
+def port_of(number):
+    """A destination port of that number, as a component of NLRI."""
+    return b"\x05\x91" + (number * ODD % PORTS).to_bytes(2, "big")
+
+
+def to_one(rules):
+    parts = START + [announce(slash24(0))]
+    parts += [flow(b"\x09\x01" + slash24(0) + port_of(number)) for number in range(rules)]
+    return b"".join(parts)
+
+
+def to_none(rules):
+    return b"".join(START + [flow(b"\x04" + port_of(number)) for number in range(rules)])
+
+
+def spent(program, folder, tape, runs):
+    """The least seconds of some runs, and the peak of memory in octets."""
+    (folder / "tape").write_bytes(tape)
+    words = [program, "enforce", *(str(folder / name) for name in ("config", "tape", "capture"))]
+    seconds, peak = [], 0
+    for _ in range(runs):
+        child = subprocess.Popen(words, stdout=subprocess.DEVNULL)
+        _, status, used = os.wait4(child.pid, 0)
+        child.returncode = os.waitstatus_to_exitcode(status)
+        if child.returncode != 0:
+            sys.exit(f"enforce ended with status {child.returncode}")
+        seconds.append(used.ru_utime + used.ru_stime)
+        peak = max(peak, used.ru_maxrss * 1024)
+    return min(seconds), peak
+
+
+def report(name, count, with_them, without):
+    seconds = max(with_them[0] - without[0], 1e-9)
+    octets = (with_them[1] - without[1]) / count
+    print(f"{name} {count}: {count / seconds:,.0f} per second, {octets:,.0f} octets each", flush=True)
+
+
+def main():
+    parser = argparse.ArgumentParser(description=__doc__.split("\n", 1)[0])
+    parser.add_argument("program", type=pathlib.Path)
+    parser.add_argument("--sizes", default="10000,100000")
+    parser.add_argument("--group", default="15000,30000,60000")
+    parser.add_argument("--changes", type=int, default=20000)
+    parser.add_argument("--runs", type=int, default=3)
+    options = parser.parse_args()
+    program = str(options.program.resolve())
+    sizes = [int(size) for size in options.sizes.split(",")]
+    groups = [int(size) for size in options.group.split(",")]
+    if max(groups) > PORTS:
+        parser.error(f"a group has at most {PORTS} rules")
+    with tempfile.TemporaryDirectory() as made:
+        folder = pathlib.Path(made)
+        (folder / "config").write_text(CONFIG)
+        (folder / "capture").write_bytes(EMPTY_CAPTURE)
+
+        def measure(tape):
+            return spent(program, folder, tape, options.runs)
+
+        nothing = measure(b"".join(START))
+        for size in sizes:
+            routes = measure(with_prefixes(size))
+            report("unicast routes", size, routes, nothing)
+            rules = measure(with_rules(size))
+            report("rules to a destination each", size, rules, routes)
+            changed = measure(with_rules(size) + changes_of(options.changes))
+            seconds = max(changed[0] - rules[0], 1e-9)
+            print(f"beside these: {options.changes / seconds:,.0f} unicast changes per second", flush=True)
+        for size in groups:
+            report("rules to one destination", size, measure(to_one(size)), nothing)
+            report("rules without a destination", size, measure(to_none(size)), nothing)
+
+
+if __name__ == "__main__":
+    main()

@@ -1,0 +1,191 @@
+#!/usr/bin/env python3
+"""Lists every public call of the libraries with the clauses of its contract, the edits that the prover must refuse in its
+body, and the comparing programs in whose text a call of that name stands. Prints the tables of docs/CLAIMS.md; the text around them
+is kept there by hand. Usage: tools/claims.py > tables, or tools/claims.py --check docs/CLAIMS.md
+"""
+
+import os
+import re
+import sys
+
+ROOT = os.path.dirname(os.path.dirname(os.path.abspath(__file__)))
+PROGRAMS = ["fs_codecs", "fs_inputs", "fs_tables", "fs_matching", "fs_reading", "desks"]
+BEGIN = "<!-- tables by tools/claims.py -->"
+
+
+def crates():
+    """The crates from the bottom up."""
+    with open(os.path.join(ROOT, "crates.txt")) as lines:
+        for line in lines:
+            line = line.split("#")[0].strip()
+            if line:
+                yield line.split(":")[0].split()[0]
+
+
+def read(*parts):
+    with open(os.path.join(ROOT, *parts)) as text:
+        return text.read()
+
+
+def sources(crate):
+    folder = os.path.join(ROOT, "crates", crate, "src")
+    for place, _, names in sorted(os.walk(folder)):
+        for name in sorted(names):
+            if name.endswith(".rt"):
+                path = os.path.relpath(os.path.join(place, name), os.path.join(ROOT, "crates", crate))
+                yield path
+
+
+def exported(crate):
+    """The names that the crate's root gives to others."""
+    root = read("crates", crate, "src", "lib.rt")
+    names = set()
+    for group in re.findall(r"^pub use ([^;]*);", root, re.M):
+        names.update(re.findall(r"\b([A-Za-z_][A-Za-z_0-9]*)\b", group))
+    return names
+
+
+FN = re.compile(r"^( *)(?:pub\([a-z]+\) )?(pub )?(?:const )?fn ([a-z_0-9]+)")
+IMPL = re.compile(r"^impl(?:<[^>]*>)? (?:([A-Z]\w*)(?:<.*>)? for )?([A-Z]\w*)")
+TRAIT = re.compile(r"^pub trait ([A-Z]\w*)")
+CLAUSE = re.compile(r"^ *(requires|ensures)(?: ([a-z_]+))? \{")
+
+
+def functions(text):
+    """Each function: its owner, its trait, whether it is public, its name, its lines, its clauses."""
+    owner = trait = None
+    found = []
+    current = None
+    for number, line in enumerate(text.split("\n")):
+        if IMPL.match(line):
+            trait, owner = IMPL.match(line).groups()
+        elif TRAIT.match(line):
+            owner, trait = TRAIT.match(line).group(1), "trait"
+        elif line.startswith("}") and not line.startswith("})"):
+            if current is None or current["indent"]:
+                owner = trait = None
+        match = FN.match(line)
+        if match:
+            indent, public, name = match.groups()
+            inner = bool(indent)
+            if current:
+                current["last"] = number - 1
+            current = {
+                "owner": owner if inner else None, "trait": trait if inner else None, "public": bool(public),
+                "name": name, "first": number, "last": number, "clauses": [], "indent": inner,
+            }
+            found.append(current)
+        if current:
+            current["last"] = number
+            match = CLAUSE.match(line)
+            if match:
+                kind, label = match.groups()
+                if kind == "ensures":
+                    current["clauses"].append(label or "result")
+    return found
+
+
+def edits(crate):
+    """Where each edit's first change stands: source file, line, name."""
+    folder = os.path.join(ROOT, "crates", crate, "must-fail")
+    if not os.path.isdir(folder):
+        return
+    for name in sorted(os.listdir(folder)):
+        text = read("crates", crate, "must-fail", name)
+        path = re.search(r"^file: (\S+)", text, re.M).group(1)
+        old = re.search(r"^old: (.*)$", text, re.M).group(1)
+        try:
+            line = read("crates", crate, path).split(old)[0].count("\n")
+        except FileNotFoundError:
+            line = -1
+        yield path, line, name[: -len(".edit")]
+
+
+def uses():
+    """The libraries that each crate names."""
+    named = {}
+    for line in read("crates.txt").split("\n"):
+        line = line.split("#")[0].strip()
+        if line:
+            name, libraries = line.split(":")
+            named[name.split()[0]] = libraries.split()
+    return named
+
+
+def calls_in_programs():
+    """The text of each comparing program, by name."""
+    texts = {}
+    for program in PROGRAMS:
+        texts[program] = "\n".join(read("crates", program, path) for path in sources(program))
+    return texts
+
+
+def is_called(crate, owner, name, text):
+    """Whether the program's text calls it: a method by a dot or by its type's name, a function by its name."""
+    if owner is None:
+        return re.search(rf"(?<![.:\w]){name}\(", text) is not None
+    return re.search(rf"\b{owner}::{name}\b", text) is not None or (
+        name not in ("new", "read", "of", "begin", "copy", "take") and re.search(rf"\.{name}\(", text) is not None)
+
+
+def tables():
+    programs = calls_in_programs()
+    named = uses()
+    out = []
+    total = 0
+    for crate in crates():
+        if crate in PROGRAMS or not os.path.exists(os.path.join(ROOT, "crates", crate, "src", "lib.rt")):
+            continue
+        names = exported(crate)
+        rows = []
+        for path in sources(crate):
+            text = read("crates", crate, path)
+            all_functions = functions(text)
+            placed = [(line, name) for where, line, name in edits(crate) if where == path]
+            for function in all_functions:
+                owner, trait = function["owner"], function["trait"]
+                if trait == "trait":
+                    shown, public = f"{owner}::{function['name']}", owner in names
+                elif owner:
+                    shown = f"{owner}::{function['name']}"
+                    public = owner in names and (function["public"] or trait in ("Speaker", "Files", "Sink", "Wire", "Clock"))
+                else:
+                    shown, public = function["name"], function["public"] and function["name"] in names
+                if not public:
+                    continue
+                inside = [name for line, name in placed if function["first"] <= line <= function["last"]]
+                seen = [f"`{p}`" for p in PROGRAMS
+                        if crate in named[p] and is_called(crate, owner, function["name"], programs[p])]
+                clauses = ", ".join(f"`{c}`" for c in dict.fromkeys(function["clauses"])) or "by its trait's" if trait else ", ".join(
+                    f"`{c}`" for c in dict.fromkeys(function["clauses"])) or "none"
+                rows.append((shown, path, clauses, ", ".join(f"`{n}`" for n in inside), ", ".join(seen)))
+        if not rows:
+            continue
+        total += len(rows)
+        out.append(f"### `{crate}`\n")
+        out.append("| call | clauses | edits in its body | called by |\n|---|---|---|---|")
+        for shown, path, clauses, inside, seen in rows:
+            out.append(f"| `{shown}` | {clauses} | {inside or '–'} | {seen or '`fs_runs`'} |")
+        out.append("")
+        rest = [name for where, line, name in edits(crate)]
+        listed = {n for row in rows for n in re.findall(r"`([a-z_0-9]+)`", row[3])}
+        hidden = [name for name in rest if name not in listed]
+        if hidden:
+            out.append("In functions below these calls: " + ", ".join(f"`{n}`" for n in hidden) + ".\n")
+    return total, "\n".join(out)
+
+
+def main():
+    total, text = tables()
+    if len(sys.argv) == 3 and sys.argv[1] == "--check":
+        with open(sys.argv[2]) as page:
+            kept = page.read().split(BEGIN)[1]
+        if kept.strip() != text.strip():
+            sys.exit("docs/CLAIMS.md isn't what tools/claims.py prints")
+        print(f"{total} calls, as they stand in the sources")
+        return
+    print(text)
+
+
+if __name__ == "__main__":
+    main()
