@@ -23,7 +23,7 @@ joined_more actions index d old new l e =
     ∙ append_assoc old (concat (take index actions)) (get_or actions index d)
     ∙ ap (λ (more : List ℕ). old ++ more) (sym (concat-push (take index actions) (get_or actions index d)) ∙ ap concat (sym (take_more actions index d l)))
 
-each_length : (xs : List (List ℕ)) → AllByRecursion IsAction xs → length (concat xs) ≡ 8 * length xs
+pub each_length : (xs : List (List ℕ)) → AllByRecursion IsAction xs → length (concat xs) ≡ 8 * length xs
 each_length [] h = refl
 each_length (x ∷ xs) h = simp length-append (omega (arith, h.0.eight, each_length xs h.1))
 
@@ -34,7 +34,7 @@ chunks_joined (x ∷ xs) h =
     let back : drop 8 (x ++ concat xs) ≡ concat xs = rw (← h.0.eight) (drop-append_seam x (concat xs)) in
     rw (front, back, chunks_joined xs h.1) refl
 
-communities_joined : (xs : List (List ℕ)) → AllByRecursion IsAction xs → communities (concat xs) ≡ xs
+pub communities_joined : (xs : List (List ℕ)) → AllByRecursion IsAction xs → communities (concat xs) ≡ xs
 communities_joined xs h =
     let count : length (concat xs) / 8 ≡ length xs = omega (arith, each_length xs h) in
     rw count (chunks_joined xs h)

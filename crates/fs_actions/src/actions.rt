@@ -206,6 +206,7 @@ pub fn from_communities(alloc: Global, octets: &[u8]) -> Result<Actions, ActionF
         };
         insert(&mut list, action)?;
     }
+    list.shrink_to_fit();
     Ok(Actions { list })
 }
 

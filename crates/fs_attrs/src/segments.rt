@@ -26,6 +26,8 @@ pub(crate) fn read_segments(alloc: Global, four: bool, octets: &[u8]) -> Result<
     let mut rest = octets;
     while let Some((segment, behind)) = next_segment(four, rest) {
         let numbers = read_numbers(alloc, four, segment.numbers)?;
+        // most paths have one segment
+        segments.reserve_exact(1)?;
         segments.push(Segment {
             form: segment.form,
             numbers,
@@ -39,7 +41,7 @@ pub(crate) fn read_segments(alloc: Global, four: bool, octets: &[u8]) -> Result<
 fn read_numbers(alloc: Global, four: bool, octets: &[u8]) -> Result<Numbers, Memory>
     ensures { IfOk result (λ numbers. numbers ≡ numbers_of four octets.now) }
 {
-    let mut numbers = Vec::new(alloc);
+    let mut numbers = Vec::with_capacity(alloc, octets.len() / octets_of_as(four))?;
     let mut rest = octets;
     while let Some((number, behind)) = next_as(four, rest) {
         numbers.push(number)?;

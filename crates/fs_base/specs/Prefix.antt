@@ -53,19 +53,19 @@ prefix_total = then_total (on_total (λ p. afi_of p.family) nat_cmp_total) (then
 
 -- two numbers and two lengths are the same where the order cannot tell them apart
 same_numbers : (x y a b m n : ℕ) → 0 < x → 0 < y → (m ≡ n → x ≡ y)
-    → ((a == b) && (m == n)) ≡ is_eq (ordering_then (nat_cmp (a + x - 1) (b + y - 1)) (nat_cmp n m))
+    → ((m == n) && (a == b)) ≡ is_eq (ordering_then (nat_cmp (a + x - 1) (b + y - 1)) (nat_cmp n m))
 same_numbers x y a b m n h k e = grind (arith, nat_tests)
 
-same_within : (w a b m n : ℕ) → ((a == b) && (m == n)) ≡ is_eq (ordering_then (nat_cmp (a + 2 ^ (w - m) - 1) (b + 2 ^ (w - n) - 1)) (nat_cmp n m))
+same_within : (w a b m n : ℕ) → ((m == n) && (a == b)) ≡ is_eq (ordering_then (nat_cmp (a + 2 ^ (w - m) - 1) (b + 2 ^ (w - n) - 1)) (nat_cmp n m))
 same_within w a b m n = same_numbers (2 ^ (w - m)) (2 ^ (w - n)) a b m n (pow_pos (w - m)) (pow_pos (w - n)) (λ e. ap (λ k. 2 ^ (w - k)) e)
 
 same_parts : (f g : Family) (a b m n : ℕ)
-    → (sameb the_type f g && ((a == b) && (m == n))) ≡ is_eq (ordering_then (nat_cmp (afi_of f) (afi_of g)) (ordering_then (nat_cmp (a + 2 ^ (width_of f - m) - 1) (b + 2 ^ (width_of g - n) - 1)) (nat_cmp n m)))
+    → (sameb the_type f g && ((m == n) && (a == b))) ≡ is_eq (ordering_then (nat_cmp (afi_of f) (afi_of g)) (ordering_then (nat_cmp (a + 2 ^ (width_of f - m) - 1) (b + 2 ^ (width_of g - n) - 1)) (nat_cmp n m)))
 same_parts V4 V4 a b m n = same_within 32 a b m n
 same_parts V4 V6 a b m n = refl
 same_parts V6 V4 a b m n = refl
 same_parts V6 V6 a b m n = same_within 128 a b m n
 
 -- the order calls two prefixes equal exactly where `==` does
-pub prefix_matches_eq : (p q : Prefix) → (sameb the_type p.family q.family && ((p.bits == q.bits) && (p.length == q.length))) ≡ is_eq (prefix_cmp p q)
+pub prefix_matches_eq : (p q : Prefix) → (sameb the_type p.family q.family && ((p.length == q.length) && (p.bits == q.bits))) ≡ is_eq (prefix_cmp p q)
 prefix_matches_eq p q = same_parts p.family q.family p.bits q.bits p.length q.length

@@ -145,10 +145,10 @@ fn copy_segments(alloc: Global, segments: &[Segment]) -> Result<Vec<Segment>, Me
 /// section 8) in host order. `external` tells whether the route came from an external peer.
 #[derive(Drop)]
 pub struct Path {
-    pub origin: u8,
     pub segments: Segments,
     pub local_pref: u32,
     pub originator: Option<u32>,
+    pub origin: u8,
     pub external: bool,
 }
 

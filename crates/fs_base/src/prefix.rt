@@ -42,8 +42,8 @@ impl Family {
 #[derive(Clone, Copy, Debug, PartialEq, Eq)]
 pub struct Prefix {
     pub family: Family,
-    pub bits: u128,
     pub length: u8,
+    pub bits: u128,
     pub ghost short: { length ≤ width_of family },
     pub ghost clear: { bits ≡ cleared (width_of family) length bits },
 }

@@ -1,6 +1,6 @@
 -- Which numbers a list holds of, in either of the forms in which they are kept.
-use Rattle.std.specs.Prelude.{◌≡◌, ℕ, ◌^◌, ◌<◌, Bool, ◌&&◌, nat_lt, List, Option, None}
-use Rattle.fs_ops.specs.Evaluation.{compares, holds}
+use Rattle.std.specs.Prelude.{◌≡◌, ◌==◌, ℕ, ◌^◌, ◌<◌, Bool, not, ◌&&◌, nat_lt, List, Option, None}
+use Rattle.fs_ops.specs.Evaluation.{compares, has_bit, holds}
 use Rattle.fs_compile.specs.declared.numbers.Numbers.{Numbers}
 use Rattle.fs_compile.specs.declared.numbers.Numbers.TheVariants.{Ranges, Pairs}
 use Rattle.fs_compile.specs.Spans.{contains, field_range}
@@ -19,3 +19,11 @@ numbers_range (Pairs pairs) = None
 
 abbrev pub AreNumbersOf : List (ℕ × ℕ) → Numbers → Type 0
 AreNumbersOf pairs numbers = (n : ℕ) → n < 2 ^ 64 → has numbers n ≡ holds (compares n) pairs
+
+-- the operator says that a number is equal to its value, and no more
+abbrev pub is_equality : ℕ → Bool
+is_equality operator = not (has_bit operator 4) && (not (has_bit operator 2) && has_bit operator 1)
+
+-- the list holds of one number alone
+abbrev pub IsOnlyNumber : List (ℕ × ℕ) → ℕ → Type 0
+IsOnlyNumber pairs number = (n : ℕ) → holds (compares n) pairs ≡ (n == number)

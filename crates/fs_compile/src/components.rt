@@ -1,13 +1,15 @@
 //! The tests of a rule's components.
 
-ghost use Rattle.std.specs.Prelude.{◌≡◌, IfOk};
+ghost use Rattle.std.specs.Prelude.{◌≡◌, IfOk, IfSome};
 ghost use Rattle.fs_base.specs.Prefix.{last_address};
 ghost use Rattle.fs_nlri.specs.Component.{body_of, part_of};
 ghost use Rattle.fs_nlri.specs.Parts.{V4Body, V6Body, part};
 ghost use Rattle.fs_nlri.specs.Sound.{IsSoundBody};
 ghost use Rattle.fs_compile.specs.Ranges.{range};
+ghost use Rattle.fs_compile.specs.Numbers.{IsOnlyNumber, is_equality};
 ghost use Rattle.fs_compile.specs.Tests.{IsFieldTest, IsPatternOf, IsTestOf};
 
+use crate::facts::ABSENT;
 use crate::numbers::Numbers;
 use crate::pattern::Pattern;
 use crate::ranges::Range;
@@ -93,6 +95,36 @@ fn pattern_of(length: u8, offset: u8, pattern: u128) -> Pattern
 
 /// The test of a list by the field of the type: a range, where the numbers are one.
 fn field_test(alloc: Global, field: u8, list: &NumList) -> Result<Test, Memory>
+    ensures { IfOk result (IsFieldTest field list.now) }
+{
+    match only_number(list.pairs()) {
+        Some(number) => Ok(Test::Within(Range {
+            field,
+            low: number,
+            high: number,
+        })),
+        None => numbers_test(alloc, field, list),
+    }
+}
+
+/// The number that the list compares with, where it says nothing but that a field is this number.
+fn only_number(pairs: &[(u8, u64)]) -> Option<u32>
+    ensures { IfSome result (IsOnlyNumber pairs.now) }
+{
+    match pairs {
+        [(operator, value)] if is_equality(*operator) && *value < ABSENT => Some(*value as u32),
+        _ => None,
+    }
+}
+
+/// Whether the operator says that a number is equal to its value, and no more (RFC 8955 section 4.2.1.1).
+fn is_equality(operator: u8) -> bool
+    ensures { result ≡ is_equality operator }
+{
+    operator & 4 == 0 && operator & 2 == 0 && operator & 1 != 0
+}
+
+fn numbers_test(alloc: Global, field: u8, list: &NumList) -> Result<Test, Memory>
     ensures { IfOk result (IsFieldTest field list.now) }
 {
     let numbers = Numbers::of(alloc, list)?;

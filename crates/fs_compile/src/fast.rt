@@ -97,6 +97,7 @@ fn tests_of(alloc: Global, components: &[Component]) -> Result<(Ranges, Vec<Test
         let test = test_of(alloc, component)?;
         used = place(&mut ranges, used, &mut tests, test)?;
     }
+    tests.shrink_to_fit();
     Ok((ranges, tests))
 }
 

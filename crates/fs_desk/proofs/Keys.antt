@@ -1,5 +1,5 @@
 -- The keys of unicast and flow routes as tests.
-use Rattle.std.proofs.Common.{◌≡◌, ◌==◌, ℕ, Bool, ◌&&◌, refl, ap, sym, ◌∙◌, arith}
+use Rattle.std.proofs.Common.{◌≡◌, ◌==◌, ℕ, Bool, true, false, ◌&&◌, refl, ap, ap₂, sym, ◌∙◌, arith}
 use Rattle.std.proofs.lemmas.Bool.Decides.{nat_tests}
 use Rattle.std.specs.Ordering.{nat_cmp, is_eq}
 use Rattle.std.specs.Cmp.{IsTotalOrder, then_total, on_total, nat_cmp_total, tied_then}
@@ -34,11 +34,17 @@ family_same V4 V6 = refl
 family_same V6 V4 = refl
 family_same V6 V6 = refl
 
+and_swapped : (a b : Bool) → (a && b) ≡ (b && a)
+and_swapped false false = refl
+and_swapped false true = refl
+and_swapped true false = refl
+and_swapped true true = refl
+
 -- two prefixes are one by their order exactly where they show the same
 pub prefix_same : (p q : Prefix) → is_eq (prefix_cmp p q) ≡ is_prefix p (shown q)
 prefix_same p q =
     sym (prefix_matches_eq p q)
-    ∙ ap (λ (b : Bool). b && ((p.bits == q.bits) && (p.length == q.length))) (family_same p.family q.family)
+    ∙ ap₂ (λ (a b : Bool). a && b) (family_same p.family q.family) (and_swapped (p.length == q.length) (p.bits == q.bits))
 
 -- a place is a prefix and a peer
 pub place_same : (a b : Place) → is_eq (place_cmp a b) ≡ (is_prefix a.prefix (shown b.prefix) && (a.peer == b.peer))

@@ -68,14 +68,40 @@ impl Component {
     pub fn kind(&self) -> u8
         ensures { result ≡ (part_of self.now).kind }
     {
-        self.split().0
+        match self {
+            Component::Destination(_) => 1,
+            Component::Source(_) => 2,
+            Component::Protocol(_) => 3,
+            Component::Port(_) => 4,
+            Component::DestinationPort(_) => 5,
+            Component::SourcePort(_) => 6,
+            Component::IcmpType(_) => 7,
+            Component::IcmpCode(_) => 8,
+            Component::TcpFlags(_) => 9,
+            Component::PacketLength(_) => 10,
+            Component::Dscp(_) => 11,
+            Component::Fragment(_) => 12,
+            Component::FlowLabel(_) => 13,
+        }
     }
 
     /// What stands behind the type.
     pub fn content(&self) -> Content<'_>
         ensures { content_body result ≡ (part_of self.now).body }
     {
-        self.split().1
+        match self {
+            Component::Destination(form) | Component::Source(form) => Content::Prefix(*form),
+            Component::Protocol(list)
+            | Component::Port(list)
+            | Component::DestinationPort(list)
+            | Component::SourcePort(list)
+            | Component::IcmpType(list)
+            | Component::IcmpCode(list)
+            | Component::PacketLength(list)
+            | Component::Dscp(list)
+            | Component::FlowLabel(list) => Content::Numbers(list),
+            Component::TcpFlags(list) | Component::Fragment(list) => Content::Masks(list),
+        }
     }
 
     /// The prefix of a component of type 1, or None where its offset isn't 0; None of any other type.
@@ -90,27 +116,6 @@ impl Component {
             Content::Prefix(form) => form.prefix(),
             Content::Numbers(_) => None,
             Content::Masks(_) => None,
-        }
-    }
-
-    fn split(&self) -> (u8, Content<'_>)
-        ensures kind { result.0 ≡ (part_of self.now).kind }
-        ensures body { content_body result.1 ≡ (part_of self.now).body }
-    {
-        match self {
-            Component::Destination(form) => (1, Content::Prefix(*form)),
-            Component::Source(form) => (2, Content::Prefix(*form)),
-            Component::Protocol(list) => (3, Content::Numbers(list)),
-            Component::Port(list) => (4, Content::Numbers(list)),
-            Component::DestinationPort(list) => (5, Content::Numbers(list)),
-            Component::SourcePort(list) => (6, Content::Numbers(list)),
-            Component::IcmpType(list) => (7, Content::Numbers(list)),
-            Component::IcmpCode(list) => (8, Content::Numbers(list)),
-            Component::TcpFlags(list) => (9, Content::Masks(list)),
-            Component::PacketLength(list) => (10, Content::Numbers(list)),
-            Component::Dscp(list) => (11, Content::Numbers(list)),
-            Component::Fragment(list) => (12, Content::Masks(list)),
-            Component::FlowLabel(list) => (13, Content::Numbers(list)),
         }
     }
 }

@@ -143,5 +143,6 @@ pub(crate) fn read_components(
             Err(fault) => return Err(after(fault, place + 1)),
         }
     }
+    components.shrink_to_fit();
     Ok(components)
 }

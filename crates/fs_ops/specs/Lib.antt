@@ -2,3 +2,4 @@ pub mod Evaluation
 pub mod Fault
 pub mod Operator
 pub mod OperatorList
+pub mod Pairs

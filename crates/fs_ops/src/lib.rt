@@ -9,6 +9,7 @@ mod making;
 mod mask_list;
 mod num_list;
 mod operator;
+mod pairs;
 mod reading;
 mod size;
 mod values;

@@ -8,7 +8,8 @@ ghost use Rattle.fs_ops.specs.Evaluation.{holds, masks};
 
 use crate::fault::OpsFault;
 use crate::kind::Kind;
-use crate::{evaluation, making, reading, size, values, writing};
+use crate::pairs::Pairs;
+use crate::{evaluation, making, reading, size, writing};
 use fs_base::Memory;
 use std::alloc::Global;
 use std::marker::Model;
@@ -17,7 +18,7 @@ use std::marker::Model;
 /// are clear. It is never empty.
 #[derive(Drop)]
 pub struct MaskList {
-    list: Vec<(u8, u64)>,
+    list: Pairs,
 }
 
 impl Model for MaskList {
@@ -27,9 +28,9 @@ impl Model for MaskList {
 
     ghost Value = { List (ℕ × ℕ) };
 
-    ghost view = { λ a. a.list.items };
+    ghost view = { λ a. a.list };
 
-    ghost invariant = { λ a. IsNormal Bitmask a.list.items };
+    ghost invariant = { λ a. IsNormal Bitmask a.list };
 }
 
 impl MaskList {
@@ -45,7 +46,8 @@ impl MaskList {
         ensures found { IfOk result (λ read. Spells Bitmask widths.now (take read.1 octets.now) read.0) }
         ensures fault { IfErr result (IsFault widths.now octets.now) }
     {
-        let (list, taken) = reading::read(alloc, Kind::Bitmask, octets, widths)?;
+        let (pairs, taken) = reading::read(alloc, Kind::Bitmask, octets, widths)?;
+        let list = Pairs::new(pairs);
         Ok((MaskList { list }, taken))
     }
 
@@ -57,7 +59,9 @@ impl MaskList {
         if !making::is_normal(Kind::Bitmask, &pairs) {
             return None;
         }
-        Some(MaskList { list: pairs })
+        Some(MaskList {
+            list: Pairs::new(pairs),
+        })
     }
 
     /// The operator octets, each with its value.
@@ -73,7 +77,7 @@ impl MaskList {
         ensures value { result ≡ length (canonical self.now) }
         ensures small { result < 2 ^ 63 }
     {
-        size::encoded_len(&self.list)
+        size::encoded_len(self.list.as_slice())
     }
 
     /// Appends the list's octets; after want of memory `out` is as it was.
@@ -81,21 +85,21 @@ impl MaskList {
         ensures ok { OnOk result (out.new.items ≡ out.old.items ++ canonical self.now) }
         ensures err { OnErr result (out.new.items ≡ out.old.items) }
     {
-        writing::write(&self.list, out)
+        writing::write(self.list.as_slice(), out)
     }
 
     /// Whether the list holds of the number: it is an OR of groups, each an AND of its pairs.
     pub fn eval(&self, datum: u64) -> bool
         ensures { result ≡ holds (masks datum) self.now }
     {
-        evaluation::eval(&self.list, Kind::Bitmask, datum)
+        evaluation::eval(self.list.as_slice(), Kind::Bitmask, datum)
     }
 
     /// Clears the other bits of each value.
     pub fn keep_bits(&mut self, bits: u64)
         ensures { self.new ≡ map (λ pair. (pair.0, bit_and pair.1 bits)) self.old }
     {
-        values::keep_bits(&mut self.list, bits);
+        self.list.keep_bits(bits);
     }
 
     /// An equal list.
@@ -103,7 +107,7 @@ impl MaskList {
         ensures { IfOk result (λ list. list ≡ self.now) }
     {
         Ok(MaskList {
-            list: self.list.clone()?,
+            list: self.list.copy()?,
         })
     }
 }

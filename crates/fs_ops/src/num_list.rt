@@ -8,7 +8,8 @@ ghost use Rattle.fs_ops.specs.Evaluation.{holds, compares};
 
 use crate::fault::OpsFault;
 use crate::kind::Kind;
-use crate::{evaluation, making, reading, size, values, writing};
+use crate::pairs::Pairs;
+use crate::{evaluation, making, reading, size, writing};
 use fs_base::Memory;
 use std::alloc::Global;
 use std::marker::Model;
@@ -17,7 +18,7 @@ use std::marker::Model;
 /// are clear. It is never empty.
 #[derive(Drop)]
 pub struct NumList {
-    list: Vec<(u8, u64)>,
+    list: Pairs,
 }
 
 impl Model for NumList {
@@ -27,9 +28,9 @@ impl Model for NumList {
 
     ghost Value = { List (ℕ × ℕ) };
 
-    ghost view = { λ a. a.list.items };
+    ghost view = { λ a. a.list };
 
-    ghost invariant = { λ a. IsNormal Numeric a.list.items };
+    ghost invariant = { λ a. IsNormal Numeric a.list };
 }
 
 impl NumList {
@@ -55,7 +56,8 @@ impl NumList {
         ensures found { IfOk result (λ read. Spells Numeric widths.now (take read.1 octets.now) read.0) }
         ensures fault { IfErr result (IsFault widths.now octets.now) }
     {
-        let (list, taken) = reading::read(alloc, Kind::Numeric, octets, widths)?;
+        let (pairs, taken) = reading::read(alloc, Kind::Numeric, octets, widths)?;
+        let list = Pairs::new(pairs);
         Ok((NumList { list }, taken))
     }
 
@@ -67,7 +69,9 @@ impl NumList {
         if !making::is_normal(Kind::Numeric, &pairs) {
             return None;
         }
-        Some(NumList { list: pairs })
+        Some(NumList {
+            list: Pairs::new(pairs),
+        })
     }
 
     /// The operator octets, each with its value.
@@ -83,7 +87,7 @@ impl NumList {
         ensures value { result ≡ length (canonical self.now) }
         ensures small { result < 2 ^ 63 }
     {
-        size::encoded_len(&self.list)
+        size::encoded_len(self.list.as_slice())
     }
 
     /// Appends the list's octets; after want of memory `out` is as it was.
@@ -91,21 +95,21 @@ impl NumList {
         ensures ok { OnOk result (out.new.items ≡ out.old.items ++ canonical self.now) }
         ensures err { OnErr result (out.new.items ≡ out.old.items) }
     {
-        writing::write(&self.list, out)
+        writing::write(self.list.as_slice(), out)
     }
 
     /// Whether the list holds of the number: it is an OR of groups, each an AND of its pairs.
     pub fn eval(&self, datum: u64) -> bool
         ensures { result ≡ holds (compares datum) self.now }
     {
-        evaluation::eval(&self.list, Kind::Numeric, datum)
+        evaluation::eval(self.list.as_slice(), Kind::Numeric, datum)
     }
 
     /// Clears the other bits of each value.
     pub fn keep_bits(&mut self, bits: u64)
         ensures { self.new ≡ map (λ pair. (pair.0, bit_and pair.1 bits)) self.old }
     {
-        values::keep_bits(&mut self.list, bits);
+        self.list.keep_bits(bits);
     }
 
     /// An equal list.
@@ -113,7 +117,7 @@ impl NumList {
         ensures { IfOk result (λ list. list ≡ self.now) }
     {
         Ok(NumList {
-            list: self.list.clone()?,
+            list: self.list.copy()?,
         })
     }
 }

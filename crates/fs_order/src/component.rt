@@ -2,7 +2,7 @@
 
 ghost use Rattle.std.specs.Prelude.{◌≡◌, ◌-◌};
 ghost use Rattle.fs_base.specs.declared.prefix.Family.TheVariants.{V6};
-ghost use Rattle.fs_base.specs.Prefix.{IsPrefixOf};
+ghost use Rattle.fs_base.specs.Prefix.{IsPrefixOf, prefix_cmp};
 ghost use Rattle.fs_nlri.specs.Component.{body_of, content_body, part_of};
 ghost use Rattle.fs_nlri.specs.Spelling.{IsRange};
 ghost use Rattle.fs_order.specs.Component.{body_cmp, part_cmp};
@@ -49,7 +49,7 @@ fn compare_prefix(a: PrefixForm, b: PrefixForm) -> Ordering
     ensures { result ≡ body_cmp (body_of a) (body_of b) }
 {
     match (a, b) {
-        (PrefixForm::V4(prefix), PrefixForm::V4(other)) => prefix.cmp(&other),
+        (PrefixForm::V4(prefix), PrefixForm::V4(other)) => compare_v4(prefix, other),
         (
             PrefixForm::V6 {
                 length,
@@ -72,6 +72,17 @@ fn compare_prefix(a: PrefixForm, b: PrefixForm) -> Ordering
         (PrefixForm::V4(_), PrefixForm::V6 { .. }) => Ordering::Less,
         (PrefixForm::V6 { .. }, PrefixForm::V4(_)) => Ordering::Greater,
     }
+}
+
+/// Most prefixes that are compared are equal, since rules of one destination stand together: that is seen without their
+/// last addresses.
+fn compare_v4(a: Prefix, b: Prefix) -> Ordering
+    ensures { result ≡ prefix_cmp a b }
+{
+    if a == b {
+        return Ordering::Equal;
+    }
+    a.cmp(&b)
 }
 
 /// The bits of a pattern as a prefix.

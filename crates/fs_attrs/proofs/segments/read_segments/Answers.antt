@@ -1,4 +1,4 @@
-use Rattle.std.proofs.Common.{ℕ, List, [], ◌∷◌, ◌++◌, sym, ap, ◌∙◌}
+use Rattle.std.proofs.Common.{ℕ, List, [], ◌∷◌, ◌++◌, sym, ap, ap₂, ◌∙◌}
 use Rattle.fs_base.specs.declared.path.Segment.{Segment}
 use Rattle.fs_base.specs.Parts.{parts_of}
 use Rattle.fs_attrs.specs.Segments.{first_segment, segment, lent_segment}
@@ -8,7 +8,7 @@ use Rattle.fs_attrs.proofs.segments.read_segments.Goals as goal
 
 pub loop-segment-preserved : goal.loop-segment-preserved
 loop-segment-preserved c =
-    let pushed = c.in_ok-push.ensures.items ∙ ap (λ (n : List ℕ). c.loop-segment.segments.items ++ segment c.in-Some.segment.form n ∷ []) c.in_ok-numbers.ensures in
+    let pushed = c.in_ok-push.ensures.items ∙ ap₂ (λ (s : List Segment) (n : List ℕ). s ++ segment c.in-Some.segment.form n ∷ []) c.reserve_exact.ensures.items c.in_ok-numbers.ensures in
     ap (λ (z : List Segment). behind z (parts_of (first_segment c.args.four) c.in-Some.behind.now)) pushed
     ∙ gathered_more (first_segment c.args.four) (segment_shrinks c.args.four) c.loop-segment.segments.items c.loop-segment.rest.now
     (lent_segment c.args.four c.in-Some.segment, c.in-Some.behind.now) (sym c.in-Some.ensures)

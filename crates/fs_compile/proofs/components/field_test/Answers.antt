@@ -1,10 +1,9 @@
-use Rattle.std.proofs.Common.{◌∙◌, sym}
-use Rattle.fs_compile.proofs.Fields.{one_of_test, within_test}
+use Rattle.std.proofs.Common.{◌^◌, subst, arith}
+use Rattle.fs_compile.specs.Numbers.{IsOnlyNumber}
+use Rattle.fs_compile.proofs.Fields.{number_test}
 use Rattle.fs_compile.proofs.components.field_test.Goals as goal
 
 pub returns-in-Some : goal.returns-in-Some
 returns-in-Some c =
-    within_test c.args.field c.args.list.now c.in_ok-numbers.numbers c.in-Some.low c.in-Some.high c.in_ok-numbers.ensures (sym c.range.ensures ∙ c.in-Some.is)
-
-pub returns-in-None : goal.returns-in-None
-returns-in-None c = one_of_test c.args.field c.args.list.now c.in_ok-numbers.numbers c.in_ok-numbers.ensures
+    number_test c.args.field c.args.list.now c.in-Some.number (omega arith)
+    (subst (λ pairs. IsOnlyNumber pairs c.in-Some.number) c.pairs.ensures.value c.in-Some.ensures)

@@ -14,4 +14,5 @@ loop-component-preserved c =
 
 pub returns : goal.returns
 returns c =
-    compiled_all c.args.components.now c.loop-component.component-index c.loop-component.used c.loop-component.ranges c.loop-component.tests.items (omega arith) c.loop-component.invariant
+    rw c.shrink_to_fit.ensures.items
+    (compiled_all c.args.components.now c.loop-component.component-index c.loop-component.used c.loop-component.ranges c.loop-component.tests.items (omega arith) c.loop-component.invariant)

@@ -25,4 +25,5 @@ returns-in-Err-clause-fault c =
 
 pub returns-clause-found : goal.returns-clause-found
 returns-clause-found c =
-    finished c.args.family c.args.octets.now c.loop-rest.rest.now c.loop-rest.last (parts_of c.loop-rest.components.items) c.loop-rest.invariant c.in_default.len_below
+    rw c.shrink_to_fit.ensures.items
+    (finished c.args.family c.args.octets.now c.loop-rest.rest.now c.loop-rest.last (parts_of c.loop-rest.components.items) c.loop-rest.invariant c.in_default.len_below)

@@ -6,4 +6,4 @@ use Rattle.fs_ops.proofs.num_list.NumList.encode.Goals as goal
 pub write-requires : goal.write-requires
 write-requires c =
     let fit = λ (pairs : List (ℕ × ℕ)). All (λ (pair : ℕ × ℕ). pair.1 < 256 ^ width_of pair.0) pairs in
-    subst fit (sym c.deref.ensures.value) (values_fit (meant_bits Numeric) c.self.inside.list.items c.self.invariant.normal)
+    subst fit (sym c.as_slice.ensures) (values_fit (meant_bits Numeric) c.self.inside.list c.self.invariant.normal)

@@ -1,0 +1,76 @@
+//! The pairs of a list, as they are kept.
+
+ghost use Rattle.std.specs.Prelude.{◌≡◌, map, bit_and, IfOk};
+
+use crate::values;
+use fs_base::Memory;
+use std::marker::Model;
+use std::slice;
+
+/// The pairs of a list. A list of one pair, as most are, holds it in itself and takes no memory.
+#[derive(Drop)]
+pub struct Pairs {
+    kept: Kept,
+}
+
+#[derive(Drop)]
+enum Kept {
+    One((u8, u64)),
+    Many(Vec<(u8, u64)>),
+}
+
+impl Model for Pairs {
+    ghost use Rattle.std.specs.Prelude.{ℕ, List};
+    ghost use Rattle.fs_ops.specs.Pairs.{kept_pairs};
+
+    ghost Value = { List (ℕ × ℕ) };
+
+    ghost view = { λ a. kept_pairs a.kept };
+}
+
+impl Pairs {
+    /// These pairs, with no room for more.
+    pub fn new(mut pairs: Vec<(u8, u64)>) -> Pairs
+        ensures { result ≡ pairs.items }
+    {
+        if let [pair] = pairs.as_slice() {
+            return Pairs {
+                kept: Kept::One(*pair),
+            };
+        }
+        pairs.shrink_to_fit();
+        Pairs {
+            kept: Kept::Many(pairs),
+        }
+    }
+
+    pub fn as_slice(&self) -> &[(u8, u64)]
+        ensures { result.now ≡ self.now }
+    {
+        match &self.kept {
+            Kept::One(pair) => slice::from_ref(pair),
+            Kept::Many(pairs) => pairs.as_slice(),
+        }
+    }
+
+    /// Clears the other bits of each value.
+    pub fn keep_bits(&mut self, bits: u64)
+        ensures { self.new ≡ map (λ pair. (pair.0, bit_and pair.1 bits)) self.old }
+    {
+        match &mut self.kept {
+            Kept::One((_, value)) => *value &= bits,
+            Kept::Many(pairs) => values::keep_bits(pairs, bits),
+        }
+    }
+
+    /// Equal pairs.
+    pub fn copy(&self) -> Result<Pairs, Memory>
+        ensures { IfOk result (λ pairs. pairs ≡ self.now) }
+    {
+        let kept = match &self.kept {
+            Kept::One(pair) => Kept::One(*pair),
+            Kept::Many(pairs) => Kept::Many(pairs.clone()?),
+        };
+        Ok(Pairs { kept })
+    }
+}
