@@ -95,6 +95,19 @@ find_both {X} test more (y ∷ ys) x h k = at (test y) (λ l. find_both test mor
   at true ih l = here (more y) (ap more (same y x l) ∙ k) ∙ l
   at false ih l = ih l
 
+-- the first that passes, where it passes a narrower test too
+pub find_narrower : {X : Type 0} (test narrow : X → Bool) → ((x : X) → narrow x ≡ true → test x ≡ true) → (xs : List X) (x : X) → find test xs ≡ Some x → narrow x ≡ true → find narrow xs ≡ Some x
+find_narrower test narrow f [] x h k = cc
+find_narrower {X} test narrow f (y ∷ ys) x h k = at (test y) (narrow y) (f y) refl (λ l. find_narrower test narrow f ys x l k) h where
+  same : (a b : X) → Some a ≡ Some b → a ≡ b
+  same a b e = cc
+
+  at : (b c : Bool) → (c ≡ true → b ≡ true) → narrow y ≡ c → (find test ys ≡ Some x → find narrow ys ≡ Some x) → cond b (Some y) (find test ys) ≡ Some x → cond c (Some y) (find narrow ys) ≡ Some x
+  at true true g e ih l = l
+  at true false g e ih l = absurd (true≢false (sym (ap narrow (same y x l) ∙ k) ∙ e))
+  at false true g e ih l = absurd (true≢false (sym (g refl)))
+  at false false g e ih l = ih l
+
 pub any_found : {X : Type 0} (test p : X → Bool) (xs : List X) (x : X) → find test xs ≡ Some x → p x ≡ true → list_any p xs ≡ true
 any_found test p [] x h k = cc
 any_found {X} test p (y ∷ ys) x h k = at (test y) (λ l. any_found test p ys x l k) h where

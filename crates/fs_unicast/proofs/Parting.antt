@@ -1,5 +1,5 @@
 -- Turns part the routes of other neighbouring ASes, after each change.
-use Rattle.std.proofs.Common.{ℕ, ◌≡◌, refl, sym, ap, subst, ◌∙◌, Bool, true, false, true≢false, ◌||◌, List, [], ◌∷◌, find, Option, Some, None, Ordering, Less, Equal, Greater, is_le, is_lt, arith}
+use Rattle.std.proofs.Common.{ℕ, ◌≡◌, refl, sym, ap, subst, ◌∙◌, Bool, true, false, true≢false, ◌||◌, List, [], ◌∷◌, find, Option, Some, None, Ordering, Less, Equal, Greater, is_eq, is_le, is_lt, cond, option_map, arith}
 use Rattle.std.specs.List.{AllByRecursion, list_any}
 use Rattle.std.specs.List.Sorted.{IsStrictlySortedBy}
 use Rattle.std.specs.Ordering.{match_ordering}
@@ -14,9 +14,9 @@ use Rattle.fs_base.specs.declared.path.Path.{Path}
 use Rattle.fs_unicast.specs.declared.unicast.Place.{Place}
 use Rattle.fs_unicast.specs.Neighbour.{neighbour}
 use Rattle.fs_unicast.specs.Unicast.{Route, place_cmp}
-use Rattle.fs_unicast.specs.Turns.{neighbour_of, is_same, lies_between, are_parted, IsPartedAfter, IsPartedBefore, IsParted, StaysParted, find_last}
+use Rattle.fs_unicast.specs.Turns.{neighbour_of, is_same, lies_between, are_parted, IsPartedAfter, IsPartedBefore, IsParted, StaysParted, PartsAt, IsPartedAt, is_alike, stands_at, find_last}
 use Rattle.fs_unicast.proofs.PlaceOrder.{place_total, below_upto, upto_below, upto_upto, lt_le, upto_itself, equal_upto, equal_back}
-use Rattle.fs_unicast.proofs.Finding.{found_each, found_passes, none_found, after_found, last_each, last_passes, no_last, before_last}
+use Rattle.fs_unicast.proofs.Finding.{found_each, found_passes, none_found, find_none, find_narrower, after_found, last_each, last_passes, no_last, before_last}
 
 pub same_is : (a b : Option ℕ) → is_same a b ≡ true → a ≡ b
 same_is None None h = refl
@@ -161,3 +161,82 @@ pub parted_next : (turns : List Place) (held : List Route) (z : Place) (asn : Op
 parted_next turns held z asn s sorted e h = each_weaker (λ r. is_lt (place_cmp z r.0) ≡ true → is_le (place_cmp s.0 r.0) ≡ true) (λ r. is_lt (place_cmp z r.0) ≡ true → is_same asn (neighbour_of r) ≡ false → are_parted turns z r.0 ≡ true)
     (λ r f below other. h z r.0 (and_both (is_lt (place_cmp z s.0)) (is_le (place_cmp s.0 r.0)) (found_passes (λ r. is_lt (place_cmp z r.0)) held s e) (f below))) held
     (after_found place_cmp (λ r. r.0) (λ r. is_lt (place_cmp z r.0)) (λ r. is_le (place_cmp s.0 r.0) ≡ true) held sorted s e (upto_itself s.0) (λ r less. ap is_le less))
+
+-- no turn is wanted at the place, or one stands there
+pub parted_fore : (turns : List Place) (held : List Route) (z : Place) (asn : Option ℕ) (o : Option Route) → IsStrictlySortedBy place_cmp (keys_of held) → find_last (λ r. is_lt (place_cmp r.0 z)) held ≡ o → IsParted turns held
+    → (is_alike asn o ≡ false → PartsAt turns z) → IsPartedBefore turns held z asn
+parted_fore turns held z asn None sorted e parted h = parted_first turns held z asn e
+parted_fore turns held z asn (Some p) sorted e parted h = at (is_same (neighbour_of p) asn) refl where
+  at : (b : Bool) → is_same (neighbour_of p) asn ≡ b → IsPartedBefore turns held z asn
+  at true k = parted_alike turns held z asn p sorted e parted k
+  at false k = parted_here turns held z asn (h k)
+
+-- no turn is wanted at the route after, or one stands there
+pub parted_aft : (turns : List Place) (held : List Route) (z : Place) (asn : Option ℕ) (o : Option Route) → IsStrictlySortedBy place_cmp (keys_of held) → find (λ r. is_lt (place_cmp z r.0)) held ≡ o → IsParted turns held
+    → IsPartedAt turns asn o → IsPartedAfter turns held z asn
+parted_aft turns held z asn None sorted e parted h = parted_last turns held z asn e
+parted_aft turns held z asn (Some s) sorted e parted h = at (is_same (neighbour_of s) asn) refl where
+  at : (b : Bool) → is_same (neighbour_of s) asn ≡ b → IsPartedAfter turns held z asn
+  at true k = parted_on turns held z asn s sorted e parted k
+  at false k = parted_next turns held z asn s sorted e (h k)
+
+is_equal : (o : Ordering) → is_eq o ≡ true → o ≡ Equal
+is_equal Less h = absurd (true≢false (sym h))
+is_equal Equal h = refl
+is_equal Greater h = absurd (true≢false (sym h))
+
+eq_le : (o : Ordering) → is_eq o ≡ true → is_le o ≡ true
+eq_le o h = ap is_le (is_equal o h)
+
+module _ (turns : List Place) (held : List Route) (z : Place) (asn : Option ℕ) (g : Route) (e : find (λ r. is_le (place_cmp z r.0)) held ≡ Some g) (same : place_cmp z g.0 ≡ Equal) (alike : is_same (neighbour_of g) asn ≡ true) (parted : IsParted turns held) where
+  alike_before : IsPartedBefore turns held z asn
+  alike_before = each_weaker (λ r. IsPartedAfter turns held r.0 (neighbour_of r)) (λ r. is_lt (place_cmp r.0 z) ≡ true → is_same (neighbour_of r) asn ≡ false → are_parted turns r.0 z ≡ true)
+      (λ r part below other. wider turns r.0 r.0 g.0 z (upto_itself r.0) (equal_back z g.0 same)
+      (found_each (λ s. is_le (place_cmp z s.0)) (λ s. is_lt (place_cmp r.0 s.0) ≡ true → is_same (neighbour_of r) (neighbour_of s) ≡ false → are_parted turns r.0 s.0 ≡ true) held g e part
+      (below_upto r.0 z g.0 below (equal_upto z g.0 same)) (subst (λ a. is_same (neighbour_of r) a ≡ false) (sym (same_is (neighbour_of g) asn alike)) other))) held parted
+
+  alike_after : IsPartedAfter turns held z asn
+  alike_after = each_weaker (λ s. is_lt (place_cmp g.0 s.0) ≡ true → is_same (neighbour_of g) (neighbour_of s) ≡ false → are_parted turns g.0 s.0 ≡ true) (λ s. is_lt (place_cmp z s.0) ≡ true → is_same asn (neighbour_of s) ≡ false → are_parted turns z s.0 ≡ true)
+      (λ s part below other. wider turns z g.0 s.0 s.0 (equal_upto z g.0 same) (upto_itself s.0)
+      (part (upto_below g.0 z s.0 (equal_back z g.0 same) below) (subst (λ a. is_same a (neighbour_of s) ≡ false) (sym (same_is (neighbour_of g) asn alike)) other))) held
+      (found_each (λ r. is_le (place_cmp z r.0)) (λ r. IsPartedAfter turns held r.0 (neighbour_of r)) held g e parted)
+
+-- a path comes in place of one of the same neighbouring AS
+pub parted_replaced : (turns : List Place) (held : List Route) (z : Place) (path : Path) (o : Option Route) → find (λ r. is_le (place_cmp z r.0)) held ≡ o → stands_at z o ≡ true → is_alike (neighbour path.segments) o ≡ true → IsParted turns held
+    → IsParted turns (insert_entry place_cmp held z path)
+parted_replaced turns held z path None e there alike parted = absurd (true≢false (sym there))
+parted_replaced turns held z path (Some g) e there alike parted = parted_put turns held z path parted
+    (alike_before turns held z (neighbour path.segments) g e (is_equal (place_cmp z g.0) there) alike parted) (alike_after turns held z (neighbour path.segments) g e (is_equal (place_cmp z g.0) there) alike parted)
+
+-- the first route from the place on is after it, if it doesn't stand there
+pub next_behind : (held : List Route) (z : Place) (o : Option Route) → find (λ r. is_le (place_cmp z r.0)) held ≡ o → stands_at z o ≡ false → o ≡ find (λ r. is_lt (place_cmp z r.0)) held
+next_behind held z None e apart = sym (find_none (λ r. is_lt (place_cmp z r.0)) held (each_weaker (λ r. is_le (place_cmp z r.0) ≡ false) (λ r. is_lt (place_cmp z r.0) ≡ false) (λ r. no_less (place_cmp z r.0)) held (none_found (λ r. is_le (place_cmp z r.0)) held e))) where
+  no_less : (o : Ordering) → is_le o ≡ false → is_lt o ≡ false
+  no_less Less h = h
+  no_less Equal h = refl
+  no_less Greater h = refl
+next_behind held z (Some s) e apart = sym (find_narrower (λ r. is_le (place_cmp z r.0)) (λ r. is_lt (place_cmp z r.0)) (λ r. lt_le (place_cmp z r.0)) held s e
+    (less (place_cmp z s.0) (found_passes (λ r. is_le (place_cmp z r.0)) held s e) apart)) where
+      less : (o : Ordering) → is_le o ≡ true → is_eq o ≡ false → is_lt o ≡ true
+      less Less h k = refl
+      less Equal h k = sym k
+      less Greater h k = h
+
+same_held : (held : List Route) (z : Place) (path : Path) (g : Route) → find (λ r. is_le (place_cmp z r.0)) held ≡ Some g → place_cmp z g.0 ≡ Equal → g.1 ≡ path → insert_entry place_cmp held z path ≡ held
+same_held [] z path g e same is = cc
+same_held (r ∷ held) z path g e same is = at (place_cmp z r.0) refl e (λ k. same_held held z path g k same is) where
+  one : (a b : Route) → Some a ≡ Some b → a ≡ b
+  one a b k = cc
+
+  at : (o : Ordering) → place_cmp z r.0 ≡ o → cond (is_le o) (Some r) (find (λ r. is_le (place_cmp z r.0)) held) ≡ Some g → (find (λ r. is_le (place_cmp z r.0)) held ≡ Some g → insert_entry place_cmp held z path ≡ held)
+      → match_ordering o ((z, path) ∷ r ∷ held) ((r.0, path) ∷ held) (r ∷ insert_entry place_cmp held z path) ≡ r ∷ held
+  at Less l k ih = absurd (true≢false (sym (ap is_lt l) ∙ ap (λ s. is_lt (place_cmp z s.0)) (one r g k) ∙ ap is_lt same))
+  at Equal l k ih = ap (λ p. (r.0, p) ∷ held) (sym is ∙ ap (λ s. s.1) (sym (one r g k)))
+  at Greater l k ih = ap (λ rs. r ∷ rs) (ih k)
+
+-- the path that a place has comes once more
+pub put_again : (held : List Route) (z : Place) (path : Path) (o : Option Route) → find (λ r. is_le (place_cmp z r.0)) held ≡ o → stands_at z o ≡ true → option_map (λ r. r.1) o ≡ Some path → insert_entry place_cmp held z path ≡ held
+put_again held z path None e there is = absurd (true≢false (sym there))
+put_again held z path (Some g) e there is = same_held held z path g e (is_equal (place_cmp z g.0) there) (one g.1 path is) where
+  one : (a b : Path) → Some a ≡ Some b → a ≡ b
+  one a b k = cc

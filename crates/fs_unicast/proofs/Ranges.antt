@@ -1,43 +1,99 @@
 -- The ranges of places that a look-up goes over.
-use Rattle.std.proofs.Common.{ℕ, ◌≡◌, ◌<◌, ◌≤◌, ◌^◌, refl, sym, ap, subst, ◌∙◌, Bool, true, false, not, ◌&&◌, ◌||◌, nat_le, ◌==◌, find, option_map, List, [], ◌∷◌, Some, None, filter, map, Option, Ordering, Less, Equal, Greater, is_eq, is_le, is_lt, nat_cmp, arith}
+use Rattle.std.proofs.Common.{ℕ, ◌≡◌, ◌<◌, ◌≤◌, ◌^◌, refl, sym, ap, subst, ◌∙◌, Bool, true, false, true≢false, cond, not, ◌&&◌, ◌||◌, nat_le, ◌==◌, find, option_map, List, [], ◌∷◌, Some, None, filter, map, fold, Option, Ordering, Less, Equal, Greater, is_eq, is_le, is_lt, nat_cmp, arith}
 use Rattle.std.specs.List.{AllByRecursion, list_any, list_all}
 use Rattle.std.specs.List.Sorted.{IsStrictlySortedBy}
 use Rattle.std.specs.Map.{keys_of}
 use Rattle.std.specs.Ordering.{ordering_then, ordering_reverse}
-use Rattle.std.specs.Cmp.{tied_itself, nat_cmp_total}
+use Rattle.std.specs.Cmp.{tied_itself, nat_cmp_total, alike_right}
 use Rattle.std.proofs.lemmas.Bool.Decides.{nat_tests}
 use Rattle.std.specs.BTreeMap.Range.{range_contains, entries_between}
 use Rattle.std.specs.declared.ops.Bound.TheVariants.{Included, Excluded, Unbounded}
 use Rattle.fs_base.proofs.Bools.{and_both, and_parts, or_implied, or_implies, same_tests}
 use Rattle.fs_base.specs.declared.prefix.Prefix.{Prefix}
 use Rattle.fs_base.specs.Prefix.{covers, prefix_cmp, prefix_total}
-use Rattle.fs_base.proofs.Lists.{filter_on, filter_none, filter_first, filter_empty, find_filter, find_on, IsLeast, each, each_weaker, each_all, all_each, any_each, any_on, any_weaker}
+use Rattle.fs_base.proofs.Lists.{filter_on, filter_none, filter_first, filter_empty, find_filter, find_on, IsLeast, each, each_weaker, each_of_map, each_all, all_each, any_each, any_on, any_weaker}
 use Rattle.fs_base.proofs.Nesting.{alike, alike_covers, covers_nested, covers_same_length}
 use Rattle.fs_base.specs.Search.{IsFirst, IsLongest}
+use Rattle.std.proofs.lemmas.Map.Keys.{sorted_head, sorted_tail}
+use Rattle.fs_base.specs.declared.path.Path.{Path}
 use Rattle.fs_unicast.specs.declared.unicast.Place.{Place}
-use Rattle.fs_unicast.specs.Unicast.{Route, place_cmp, HasSmallPeers}
+use Rattle.fs_unicast.specs.Unicast.{Route, place_cmp}
 use Rattle.fs_unicast.specs.Search.{is_same_prefix, is_strictly_under, is_other, others_under, best_at, best_match_of, is_longest, is_from, held_by, candidate, start_of}
 use Rattle.fs_unicast.specs.Turns.{is_within}
 use Rattle.fs_unicast.proofs.PlaceOrder.{below_not_upto}
-use Rattle.fs_unicast.specs.Preference.{best_of}
+use Rattle.fs_unicast.specs.Preference.{best_of, better}
 
 abbrev pub place : Prefix → ℕ → Place
 place p n = record { prefix = p; peer = n }
 
-at_tests : (o : Ordering) (n : ℕ) → n < 2 ^ 16 → (is_le (ordering_then o (nat_cmp 0 n)) && not (is_lt (ordering_then o (nat_cmp 65535 n)))) ≡ is_eq o
-at_tests Less n h = refl
-at_tests Equal n h = grind (arith, nat_tests)
-at_tests Greater n h = refl
+filter_within : {X : Type 0} (p q : X → Bool) → ((x : X) → p x ≡ true → q x ≡ true) → (xs : List X) → filter p (filter q xs) ≡ filter p xs
+filter_within p q h [] = refl
+filter_within {X} p q h (x ∷ xs) = at (q x) (p x) (h x) refl (filter_within p q h xs) where
+  at : (b c : Bool) → (c ≡ true → b ≡ true) → p x ≡ c → filter p (filter q xs) ≡ filter p xs → filter p (cond b (x ∷ filter q xs) (filter q xs)) ≡ cond c (x ∷ filter p xs) (filter p xs)
+  at true c g e ih = ap (λ d. cond d (x ∷ filter p (filter q xs)) (filter p (filter q xs))) e ∙ ap (λ ys. cond c (x ∷ ys) ys) ih
+  at false true g e ih = absurd (true≢false (sym (g refl)))
+  at false false g e ih = ih
 
--- the places of one prefix
-pub at_range : (p : Prefix) (held : List Route) → HasSmallPeers held
-    → filter (λ r. range_contains place_cmp (Included (place p 0)) (Included (place p 65535)) r.0) held ≡ filter (λ r. is_same_prefix p r.0.prefix) held
-at_range p held small = filter_on (λ r. range_contains place_cmp (Included (place p 0)) (Included (place p 65535)) r.0) (λ r. is_same_prefix p r.0.prefix) held
-    (each_weaker (λ r. r.0.peer < 2 ^ 16) (λ r. range_contains place_cmp (Included (place p 0)) (Included (place p 65535)) r.0 ≡ is_same_prefix p r.0.prefix) (λ r h. at_tests (prefix_cmp p r.0.prefix) r.0.peer h) held small)
+each_filter : {X : Type 0} (P : X → Type 0) (q : X → Bool) (xs : List X) → AllByRecursion P xs → AllByRecursion P (filter q xs)
+each_filter P q [] all = tt
+each_filter P q (x ∷ xs) all = at (q x) (each_filter P q xs all.1) where
+  at : (b : Bool) → AllByRecursion P (filter q xs) → AllByRecursion P (cond b (x ∷ filter q xs) (filter q xs))
+  at true ih = (all.0, ih)
+  at false ih = ih
 
-pub best_in_range : (p : Prefix) (held found : List Route) → HasSmallPeers held → found ≡ entries_between place_cmp (Included (place p 0)) (Included (place p 65535)) held
-    → best_of (map candidate found) ≡ best_at held p
-best_in_range p held found small e = ap (λ rs. best_of (map candidate rs)) (e ∙ at_range p held small)
+from_same : (o : Ordering) (n : ℕ) → is_eq o ≡ true → (is_le (ordering_then o (nat_cmp 0 n)) && true) ≡ true
+from_same Less n h = refl
+from_same Equal n h = grind (arith, nat_tests)
+from_same Greater n h = absurd (true≢false (sym h))
+
+-- the routes of one prefix are among those from it on
+pub best_starts : (p : Prefix) (held found : List Route) → found ≡ entries_between place_cmp (Included (place p 0)) Unbounded held
+    → best_of (map candidate (filter (λ r. is_same_prefix p r.0.prefix) found)) ≡ best_at held p
+best_starts p held found e = ap (λ rs. best_of (map candidate rs)) (ap (filter (λ r. is_same_prefix p r.0.prefix)) e
+    ∙ filter_within (λ r. is_same_prefix p r.0.prefix) (λ r. range_contains place_cmp (Included (place p 0)) Unbounded r.0) (λ r. from_same (prefix_cmp p r.0.prefix) r.0.peer) held)
+
+-- where a route's prefix is another, so is that of each later one
+abbrev pub IsFront : Prefix → List Route → Type 0
+IsFront p [] = Unit {0}
+IsFront p (r ∷ rs) = (is_same_prefix p r.0.prefix ≡ false → filter (λ s. is_same_prefix p s.0.prefix) rs ≡ []) × IsFront p rs
+
+later_prefix : (p : Prefix) (r s : Place) → range_contains place_cmp (Included (place p 0)) Unbounded r ≡ true → is_same_prefix p r.prefix ≡ false → place_cmp r s ≡ Less → is_same_prefix p s.prefix ≡ false
+later_prefix p r s h k l = ap is_eq (behind (prefix_cmp r.prefix s.prefix) refl l) where
+  less : (o : Ordering) → (is_le (ordering_then o (nat_cmp 0 r.peer)) && true) ≡ true → is_eq o ≡ false → o ≡ Less
+  less Less g e = refl
+  less Equal g e = absurd (true≢false e)
+  less Greater g e = absurd (true≢false (sym g))
+
+  below : prefix_cmp p r.prefix ≡ Less
+  below = less (prefix_cmp p r.prefix) h k
+
+  behind : (o : Ordering) → prefix_cmp r.prefix s.prefix ≡ o → ordering_then o (nat_cmp r.peer s.peer) ≡ Less → prefix_cmp p s.prefix ≡ Less
+  behind Less e g = prefix_total.trans p r.prefix s.prefix below e
+  behind Equal e g = sym (alike_right prefix_total r.prefix s.prefix p e) ∙ below
+  behind Greater e g = absurd (true≢false (sym (ap is_lt g)))
+
+pub front_range : (p : Prefix) (held : List Route) → IsStrictlySortedBy place_cmp (keys_of held) → IsFront p (entries_between place_cmp (Included (place p 0)) Unbounded held)
+front_range p [] sorted = tt
+front_range p (r ∷ held) sorted = at (range_contains place_cmp (Included (place p 0)) Unbounded r.0) refl (front_range p held (sorted_tail place_cmp r.0 (keys_of held) sorted)) where
+  among : Route → Bool
+  among s = range_contains place_cmp (Included (place p 0)) Unbounded s.0
+
+  at : (b : Bool) → among r ≡ b → IsFront p (filter among held) → IsFront p (cond b (r ∷ filter among held) (filter among held))
+  at true e ih = (
+    (λ k. filter_none (λ s. is_same_prefix p s.0.prefix) (filter among held) (each_filter (λ s. is_same_prefix p s.0.prefix ≡ false) among held
+        (each_weaker (λ s. place_cmp r.0 s.0 ≡ Less) (λ s. is_same_prefix p s.0.prefix ≡ false) (λ s l. later_prefix p r.0 s.0 e k l) held (each_of_map (λ s. s.0) (λ q. place_cmp r.0 q ≡ Less) held (sorted_head place_cmp r.0 (keys_of held) sorted))))),
+    ih,
+  )
+  at false e ih = ih
+
+-- the prefix ends at a route with another one
+pub best_ends : (p : Prefix) (best : Option (ℕ × Path)) (r : Route) (rs : List Route) → IsFront p (r ∷ rs) → is_same_prefix p r.0.prefix ≡ false → best ≡ fold better best (map candidate (filter (λ s. is_same_prefix p s.0.prefix) (r ∷ rs)))
+best_ends p best r rs front other = ap (λ ss. fold better best (map candidate ss)) (sym (ap (λ b. cond b (r ∷ filter (λ s. is_same_prefix p s.0.prefix) rs) (filter (λ s. is_same_prefix p s.0.prefix) rs)) other ∙ front.0 other))
+
+-- and goes on at one with this prefix
+pub best_goes_on : (p : Prefix) (best : Option (ℕ × Path)) (r : Route) (rs : List Route) → is_same_prefix p r.0.prefix ≡ true
+    → fold better (better best (candidate r)) (map candidate (filter (λ s. is_same_prefix p s.0.prefix) rs)) ≡ fold better best (map candidate (filter (λ s. is_same_prefix p s.0.prefix) (r ∷ rs)))
+best_goes_on p best r rs same = ap (λ ss. fold better best (map candidate ss)) (sym (ap (λ b. cond b (r ∷ filter (λ s. is_same_prefix p s.0.prefix) rs) (filter (λ s. is_same_prefix p s.0.prefix) rs)) same))
 
 under_tests : (a o : Ordering) (n : ℕ) → (is_le (ordering_then a (nat_cmp 0 n)) && not (is_le (ordering_then o (nat_cmp 0 n)))) ≡ ((is_le a && is_le (ordering_reverse o)) && not (is_eq o))
 under_tests Less Less n = refl
@@ -138,10 +194,6 @@ best_at_longest held d q h = ap (λ rs. best_of (map candidate rs)) (longest_at 
 -- where no route's prefix covers d there is no best match
 pub no_best : (held : List Route) (d : Prefix) → AllByRecursion (λ r. covers r.0.prefix d ≡ false) held → None ≡ best_match_of held d
 no_best held d h = ap (λ rs. best_of (map candidate rs)) (sym (filter_none (is_longest held d) held (each_weaker (λ r. covers r.0.prefix d ≡ false) (λ r. is_longest held d r ≡ false) (λ r k. ap (λ b. b && list_all (λ s. not (covers s.0.prefix d) || nat_le s.0.prefix.length r.0.prefix.length) held) k) held h)))
-
-pub best_between : (p : Prefix) (held found : List Route) (low high : Place) → low ≡ place p 0 → high ≡ place p 65535 → HasSmallPeers held → found ≡ entries_between place_cmp (Included low) (Included high) held
-    → best_of (map candidate found) ≡ best_at held p
-best_between p held found low high l h small e = best_in_range p held found small (e ∙ ap (λ q. entries_between place_cmp (Included q) (Included high) held) l ∙ ap (λ q. entries_between place_cmp (Included (place p 0)) (Included q) held) h)
 
 from_start : (from : Option Prefix) (q : Place) → range_contains place_cmp (start_of from) Unbounded q ≡ is_from from q.prefix
 from_start None q = refl

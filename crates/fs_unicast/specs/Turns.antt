@@ -38,6 +38,21 @@ is_inside low high t = is_lt (place_cmp low t) && is_lt (place_cmp t high)
 abbrev pub PartsAt : List Place → Place → Type 0
 PartsAt turns t = (x y : Place) → lies_between x y t ≡ true → are_parted turns x y ≡ true
 
+-- a route is there, and it stands at the place
+abbrev pub stands_at : Place → Option Route → Bool
+stands_at z None = false
+stands_at z (Some r) = is_eq (place_cmp z r.0)
+
+-- no route is there, or one whose path names this neighbouring AS
+abbrev pub is_alike : Option ℕ → Option Route → Bool
+is_alike asn None = true
+is_alike asn (Some r) = is_same (neighbour_of r) asn
+
+-- the places are parted at the route, if one is there whose neighbouring AS isn't this
+abbrev pub IsPartedAt : List Place → Option ℕ → Option Route → Type 0
+IsPartedAt turns asn None = Unit {0}
+IsPartedAt turns asn (Some r) = is_same (neighbour_of r) asn ≡ false → PartsAt turns r.0
+
 -- a turn lies between the place and each later route whose neighbouring AS isn't this
 abbrev pub IsPartedAfter : List Place → List Route → Place → Option ℕ → Type 0
 IsPartedAfter turns held x asn =

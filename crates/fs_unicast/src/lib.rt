@@ -8,6 +8,7 @@ mod neighbour;
 mod preference;
 mod routes;
 mod search;
+mod shared;
 mod turns;
 mod unicast;
 

@@ -1,6 +1,6 @@
 //! The routes in the order of their places, and the turns among them.
 
-ghost use Rattle.std.specs.Prelude.{◌≡◌, [], OnOk, OnErr, is_some, ◌&&◌};
+ghost use Rattle.std.specs.Prelude.{◌≡◌, [], OnOk, OnErr, IsTrue, is_some, ◌&&◌};
 ghost use Rattle.std.specs.BTreeMap.{insert_entry, is_at};
 ghost use Rattle.std.specs.List.{list_any};
 ghost use Rattle.std.specs.Map.{remove_entry, lookup};
@@ -9,6 +9,7 @@ ghost use Rattle.fs_unicast.specs.Unicast.{place_cmp};
 ghost use Rattle.fs_unicast.specs.Turns.{is_within};
 
 use crate::neighbour::neighbour;
+use crate::shared::{SharedPath, has_path, share_beside};
 use crate::turns;
 use crate::unicast::Place;
 use fs_base::{Memory, Path};
@@ -18,10 +19,11 @@ use std::marker::Model;
 
 /// The routes by their places. Between two routes of other neighbouring AS lies a turn, so a search for another
 /// neighbouring AS goes from turn to turn and not from route to route. A turn may stay where no route is left,
-/// so to take a route away takes no memory.
+/// so to take a route away takes no memory. Routes beside one another share an equal path.
 #[derive(Drop)]
 pub struct Routes {
-    paths: BTreeMap<Place, Path>,
+    alloc: Global,
+    paths: BTreeMap<Place, SharedPath>,
     turns: BTreeSet<Place>,
 }
 
@@ -44,13 +46,14 @@ impl Routes {
         ensures { result ≡ [] }
     {
         Routes {
+            alloc,
             paths: BTreeMap::new(alloc),
             turns: BTreeSet::new(alloc),
         }
     }
 
     /// The routes alone, for look-ups.
-    pub fn paths(&self) -> &BTreeMap<Place, Path>
+    pub fn paths(&self) -> &BTreeMap<Place, SharedPath>
         ensures { result.now.entries ≡ self.now }
     {
         &self.paths
@@ -61,21 +64,41 @@ impl Routes {
         ensures ok { OnOk result (self.new ≡ insert_entry place_cmp self.old place path) }
         ensures err { OnErr result (self.new ≡ self.old) }
     {
-        let kept = self.keep(place, path);
-        turns::tidy(&self.paths, &mut self.turns, &place);
-        kept
+        match self.keep(place, path) {
+            Ok(false) => Ok(()),
+            Ok(true) => {
+                turns::tidy(&self.paths, &mut self.turns, &place);
+                Ok(())
+            }
+            Err(refused) => {
+                turns::tidy(&self.paths, &mut self.turns, &place);
+                Err(refused)
+            }
+        }
     }
 
-    /// Keeps the path at the place, with turns beside it. Turns that were put before memory is refused stay.
-    fn keep(&mut self, place: Place, path: Path) -> Result<(), Memory>
+    /// Keeps the path at the place, with turns beside it, and tells whether one of those that stood there may be idle
+    /// now. Turns that were put before memory is refused stay.
+    fn keep(&mut self, place: Place, path: Path) -> Result<bool, Memory>
         ensures ok { OnOk result (self.new ≡ insert_entry place_cmp self.old place path) }
         ensures err { OnErr result (self.new ≡ self.old) }
     {
         let asn = neighbour(path.segments.as_slice());
-        turns::part_before(&self.paths, &mut self.turns, &place, asn)?;
-        turns::part_after(&self.paths, &mut self.turns, &place, asn)?;
-        self.paths.insert(place, path)?;
-        Ok(())
+        let next = turns::first_from(&self.paths, &place);
+        let taken = turns::stands_at(next, &place);
+        if taken && turns::is_alike(next, asn) {
+            self.paths
+                .insert(place, SharedPath::new(self.alloc, path)?)?;
+            return Ok(false);
+        }
+        let after = turns::first_behind(&self.paths, &place, next);
+        let before = turns::last_before(&self.paths, &place);
+        let parted = taken || !turns::are_alike(before, after);
+        let shared = share_beside(self.alloc, path, before, after)?;
+        turns::part_before(&mut self.turns, before, &place, asn)?;
+        turns::part_after(&mut self.turns, after, asn)?;
+        self.paths.insert(place, shared)?;
+        Ok(parted)
     }
 
     /// Takes the route at the place away, and tells whether there was one.
@@ -86,6 +109,14 @@ impl Routes {
         let held = self.paths.remove(place).is_some();
         turns::tidy(&self.paths, &mut self.turns, place);
         held
+    }
+
+    /// Whether the route at the place has this very path, so that to put it changes nothing.
+    pub fn holds(&self, place: &Place, path: &Path) -> bool
+        ensures { IsTrue result → insert_entry place_cmp self.now place.now path.now ≡ self.now }
+    {
+        let next = turns::first_from(&self.paths, place);
+        turns::stands_at(next, place) && has_path(next, path)
     }
 
     /// Whether a route from `low` on and before `high` has another neighbouring AS than `asn`; of None, whether

@@ -1,9 +1,9 @@
 //! Look-ups in the ordered map of routes.
 
-ghost use Rattle.std.specs.Prelude.{◌≡◌, ◌<◌, ◌^◌, option_map};
-ghost use Rattle.fs_unicast.specs.Search.{best_at, best_match_of, others_under, held_by, start_of};
+ghost use Rattle.std.specs.Prelude.{◌≡◌, option_map};
+ghost use Rattle.fs_unicast.specs.Search.{is_same_prefix, best_at, best_match_of, others_under, held_by, start_of};
 ghost use Rattle.fs_unicast.specs.Preference.{better, offered};
-ghost use Rattle.fs_unicast.specs.Unicast.{HasSmallPeers, place_cmp};
+ghost use Rattle.fs_unicast.specs.Unicast.{place_cmp};
 ghost use Rattle.std.specs.Option.{option_copied};
 ghost use Rattle.fs_base.specs.Search.{IsFirstFrom};
 ghost use Rattle.std.specs.List.Sorted.{IsStrictlySortedBy};
@@ -13,14 +13,14 @@ use crate::cover::{InOrder, longest_cover};
 use crate::key::PrefixKey;
 use crate::preference::Offer;
 use crate::routes::Routes;
+use crate::shared::SharedPath;
 use crate::unicast::Place;
-use fs_base::{Path, Prefix};
+use fs_base::Prefix;
 use std::collections::BTreeMap;
 use std::ops::Bound;
 
 /// The most preferred route at the prefix.
-pub fn best_at<'a>(routes: &'a BTreeMap<Place, Path>, prefix: &Prefix) -> Option<Offer<'a>>
-    requires { HasSmallPeers routes.now.entries }
+pub fn best_at<'a>(routes: &'a BTreeMap<Place, SharedPath>, prefix: &Prefix) -> Option<Offer<'a>>
     ensures { option_map offered result ≡ best_at routes.now.entries prefix.now }
 {
     let key = PrefixKey::of(prefix);
@@ -28,19 +28,24 @@ pub fn best_at<'a>(routes: &'a BTreeMap<Place, Path>, prefix: &Prefix) -> Option
         prefix: key,
         peer: 0,
     };
-    let high = Place {
-        prefix: key,
-        peer: u16::MAX,
-    };
     let mut best = None;
-    for (place, path) in routes.range(low..=high) {
+    for (place, path) in routes.range(low..) {
+        if !is_same_prefix(&key, &place.prefix) {
+            return best;
+        }
         let route = Offer {
             peer: place.peer,
-            path,
+            path: path.path(),
         };
         best = Some(better(best, route));
     }
     best
+}
+
+fn is_same_prefix(one: &PrefixKey, other: &PrefixKey) -> bool
+    ensures { result ≡ is_same_prefix one.now other.now }
+{
+    one.cmp(other).is_eq()
 }
 
 fn better<'a>(best: Option<Offer<'a>>, route: Offer<'a>) -> Offer<'a>
@@ -53,8 +58,7 @@ fn better<'a>(best: Option<Offer<'a>>, route: Offer<'a>) -> Offer<'a>
 }
 
 /// The most preferred route at the longest prefix that covers this one and has a route.
-pub fn best_match<'a>(routes: &'a BTreeMap<Place, Path>, prefix: &Prefix) -> Option<Offer<'a>>
-    requires { HasSmallPeers routes.now.entries }
+pub fn best_match<'a>(routes: &'a BTreeMap<Place, SharedPath>, prefix: &Prefix) -> Option<Offer<'a>>
     ensures { option_map offered result ≡ best_match_of routes.now.entries prefix.now }
 {
     match longest_cover(routes, prefix) {
@@ -63,7 +67,7 @@ pub fn best_match<'a>(routes: &'a BTreeMap<Place, Path>, prefix: &Prefix) -> Opt
     }
 }
 
-impl InOrder for BTreeMap<Place, Path> {
+impl InOrder for BTreeMap<Place, SharedPath> {
     ghost use Rattle.fs_unicast.specs.Unicast.{Route};
 
     ghost Item = { Route };
@@ -78,7 +82,7 @@ impl InOrder for BTreeMap<Place, Path> {
 }
 
 /// The first prefix in order, from `low` on, that has a route.
-fn first_from(routes: &BTreeMap<Place, Path>, low: &Prefix) -> Option<Prefix>
+fn first_from(routes: &BTreeMap<Place, SharedPath>, low: &Prefix) -> Option<Prefix>
     ensures { IsFirstFrom (λ r. r.0.prefix) routes.now.entries low.now result }
 {
     let low = Place {
@@ -107,7 +111,11 @@ pub fn others_under(routes: &Routes, prefix: &Prefix, local_as: u32, asn: Option
 }
 
 /// The first prefix in order, from `from` on or from the start, at which the peer holds a route.
-pub fn held_by(routes: &BTreeMap<Place, Path>, peer: u16, from: Option<&Prefix>) -> Option<Prefix>
+pub fn held_by(
+    routes: &BTreeMap<Place, SharedPath>,
+    peer: u16,
+    from: Option<&Prefix>,
+) -> Option<Prefix>
     ensures first { result ≡ held_by routes.now.entries peer (option_copied from.entry) }
     ensures ordered { IsStrictlySortedBy place_cmp (keys_of routes.now.entries) }
 {

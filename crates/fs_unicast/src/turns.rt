@@ -1,6 +1,6 @@
 //! The turns among the routes, and the routes beside a place.
 
-ghost use Rattle.std.specs.Prelude.{◌≡◌, true, OnOk, option_map, find, ◌&&◌};
+ghost use Rattle.std.specs.Prelude.{◌≡◌, true, false, OnOk, option_map, find, ◌&&◌};
 ghost use Rattle.std.specs.Option.{option_copied};
 ghost use Rattle.std.specs.Ordering.{is_le, is_lt};
 ghost use Rattle.std.specs.List.{list_any};
@@ -9,44 +9,74 @@ ghost use Rattle.std.specs.List.Sorted.{IsStrictlySortedBy};
 ghost use Rattle.fs_unicast.specs.Search.{is_other};
 ghost use Rattle.fs_unicast.specs.Neighbour.{neighbour};
 ghost use Rattle.fs_unicast.specs.Unicast.{place_cmp};
-ghost use Rattle.fs_unicast.specs.Turns.{entry_now, is_same, is_within, lies_between, are_parted, find_last, is_alone, is_needed, without_idle, tidied, IsParted, IsPartedBefore, IsPartedAfter, StaysParted, PartsAt, is_inside};
+ghost use Rattle.fs_unicast.specs.Turns.{entry_now, stands_at, is_alike, is_same, is_within, lies_between, are_parted, find_last, is_alone, is_needed, without_idle, tidied, IsParted, IsPartedAt, StaysParted, PartsAt, is_inside};
 
-use crate::neighbour::{neighbour, neighbour_as};
+use crate::neighbour::neighbour_as;
+use crate::shared::SharedPath;
 use crate::unicast::Place;
-use fs_base::{Memory, Path};
+use fs_base::Memory;
 use std::collections::{BTreeMap, BTreeSet};
 use std::ops::Bound;
 
-/// Puts a turn at the place where the route before it has another neighbouring AS than this.
-pub fn part_before(
-    paths: &BTreeMap<Place, Path>,
-    turns: &mut BTreeSet<Place>,
-    place: &Place,
-    asn: Option<u32>,
-) -> Result<(), Memory>
-    requires { IsParted turns.old.keys paths.now.entries }
-    ensures ok { OnOk result (IsPartedBefore turns.new.keys paths.now.entries place.now asn) }
-    ensures stays { StaysParted turns.old.keys turns.new.keys }
+/// Whether the route that is the first from the place on stands at the place itself.
+pub fn stands_at(next: Option<(&Place, &SharedPath)>, place: &Place) -> bool
+    ensures { result ≡ stands_at place.now (option_map entry_now next.entry) }
 {
-    match last_before(paths, place) {
-        Some((_, path)) if !has_neighbour(path, asn) => put_turn(turns, *place),
-        _ => Ok(()),
+    match next {
+        Some((at, _)) => place.cmp(at).is_eq(),
+        None => false,
     }
 }
 
-/// Puts a turn at the route after the place where it has another neighbouring AS than this.
-pub fn part_after(
-    paths: &BTreeMap<Place, Path>,
+/// Whether there is no route, or one whose path names this neighbouring AS.
+pub fn is_alike(route: Option<(&Place, &SharedPath)>, asn: Option<u32>) -> bool
+    ensures { result ≡ is_alike asn (option_map entry_now route.entry) }
+{
+    match route {
+        Some((_, held)) => has_neighbour(held, asn),
+        None => true,
+    }
+}
+
+/// Whether the paths of two routes name the same neighbouring AS, or one of the routes isn't there.
+pub fn are_alike(
+    before: Option<(&Place, &SharedPath)>,
+    after: Option<(&Place, &SharedPath)>,
+) -> bool {
+    match after {
+        Some((_, held)) => is_alike(before, held.neighbour()),
+        None => true,
+    }
+}
+
+/// Puts a turn at the place where the route before it has another neighbouring AS than this.
+pub fn part_before(
     turns: &mut BTreeSet<Place>,
+    before: Option<(&Place, &SharedPath)>,
     place: &Place,
     asn: Option<u32>,
 ) -> Result<(), Memory>
-    requires { IsParted turns.old.keys paths.now.entries }
-    ensures ok { OnOk result (IsPartedAfter turns.new.keys paths.now.entries place.now asn) }
+    ensures ok { OnOk result (is_alike asn (option_map entry_now before.entry) ≡ false → PartsAt turns.new.keys place.now) }
     ensures stays { StaysParted turns.old.keys turns.new.keys }
 {
-    match first_after(paths, place) {
-        Some((after, path)) if !has_neighbour(path, asn) => put_turn(turns, *after),
+    if is_alike(before, asn) {
+        Ok(())
+    } else {
+        put_turn(turns, *place)
+    }
+}
+
+/// Puts a turn at the route after a place where it has another neighbouring AS than this.
+pub fn part_after(
+    turns: &mut BTreeSet<Place>,
+    after: Option<(&Place, &SharedPath)>,
+    asn: Option<u32>,
+) -> Result<(), Memory>
+    ensures ok { OnOk result (IsPartedAt turns.new.keys asn (option_map entry_now after.entry)) }
+    ensures stays { StaysParted turns.old.keys turns.new.keys }
+{
+    match after {
+        Some((turn, path)) if !has_neighbour(path, asn) => put_turn(turns, *turn),
         _ => Ok(()),
     }
 }
@@ -54,7 +84,7 @@ pub fn part_after(
 /// Whether a route from `low` on and before `high` has another neighbouring AS than `asn`; of None, whether there
 /// is any route. After a route that has no other one the search goes on at the first turn behind it.
 pub fn others_within(
-    paths: &BTreeMap<Place, Path>,
+    paths: &BTreeMap<Place, SharedPath>,
     turns: &BTreeSet<Place>,
     low: Place,
     high: &Place,
@@ -77,12 +107,12 @@ pub fn others_within(
     false
 }
 
-fn is_other(path: &Path, local_as: u32, asn: Option<u32>) -> bool
+fn is_other(path: &SharedPath, local_as: u32, asn: Option<u32>) -> bool
     ensures { result ≡ is_other local_as asn path.now }
 {
     match asn {
         None => true,
-        Some(asn) => neighbour_as(path.segments.as_slice(), local_as) != asn,
+        Some(asn) => neighbour_as(path.path().segments.as_slice(), local_as) != asn,
     }
 }
 
@@ -96,14 +126,17 @@ fn put_turn(turns: &mut BTreeSet<Place>, turn: Place) -> Result<(), Memory>
 }
 
 /// Whether the path names this neighbouring AS.
-fn has_neighbour(path: &Path, asn: Option<u32>) -> bool
+fn has_neighbour(path: &SharedPath, asn: Option<u32>) -> bool
     ensures { result ≡ is_same (neighbour path.now.segments) asn }
 {
-    neighbour(path.segments.as_slice()) == asn
+    path.neighbour() == asn
 }
 
 /// The last route before the place.
-fn last_before<'a>(paths: &'a BTreeMap<Place, Path>, place: &Place) -> Option<(&'a Place, &'a Path)>
+pub fn last_before<'a>(
+    paths: &'a BTreeMap<Place, SharedPath>,
+    place: &Place,
+) -> Option<(&'a Place, &'a SharedPath)>
     ensures found { option_map entry_now result ≡ find_last (λ r. is_lt (place_cmp r.0 place.now)) paths.now.entries }
     ensures ordered { IsStrictlySortedBy place_cmp (keys_of paths.now.entries) }
 {
@@ -111,7 +144,10 @@ fn last_before<'a>(paths: &'a BTreeMap<Place, Path>, place: &Place) -> Option<(&
 }
 
 /// The first route after the place.
-fn first_after<'a>(paths: &'a BTreeMap<Place, Path>, place: &Place) -> Option<(&'a Place, &'a Path)>
+fn first_after<'a>(
+    paths: &'a BTreeMap<Place, SharedPath>,
+    place: &Place,
+) -> Option<(&'a Place, &'a SharedPath)>
     ensures found { option_map entry_now result ≡ find (λ r. is_lt (place_cmp place.now r.0)) paths.now.entries }
     ensures ordered { IsStrictlySortedBy place_cmp (keys_of paths.now.entries) }
 {
@@ -120,12 +156,28 @@ fn first_after<'a>(paths: &'a BTreeMap<Place, Path>, place: &Place) -> Option<(&
         .next()
 }
 
+/// The first route after the place, where `next` is the first one from the place on.
+pub fn first_behind<'a>(
+    paths: &'a BTreeMap<Place, SharedPath>,
+    place: &Place,
+    next: Option<(&'a Place, &'a SharedPath)>,
+) -> Option<(&'a Place, &'a SharedPath)>
+    requires { option_map entry_now next ≡ find (λ r. is_le (place_cmp place.now r.0)) paths.now.entries }
+    ensures { option_map entry_now result ≡ find (λ r. is_lt (place_cmp place.now r.0)) paths.now.entries }
+{
+    if stands_at(next, place) {
+        first_after(paths, place)
+    } else {
+        next
+    }
+}
+
 /// The first route from `low` on and before `high`.
 fn first_within<'a>(
-    paths: &'a BTreeMap<Place, Path>,
+    paths: &'a BTreeMap<Place, SharedPath>,
     low: &Place,
     high: &Place,
-) -> Option<(&'a Place, &'a Path)>
+) -> Option<(&'a Place, &'a SharedPath)>
     ensures found { option_map entry_now result ≡ find (λ r. is_within low.now high.now r.0) paths.now.entries }
     ensures ordered { IsStrictlySortedBy place_cmp (keys_of paths.now.entries) }
 {
@@ -138,7 +190,10 @@ fn first_within<'a>(
 }
 
 /// The first route from the place on.
-fn first_from<'a>(paths: &'a BTreeMap<Place, Path>, place: &Place) -> Option<(&'a Place, &'a Path)>
+pub fn first_from<'a>(
+    paths: &'a BTreeMap<Place, SharedPath>,
+    place: &Place,
+) -> Option<(&'a Place, &'a SharedPath)>
     ensures found { option_map entry_now result ≡ find (λ r. is_le (place_cmp place.now r.0)) paths.now.entries }
     ensures ordered { IsStrictlySortedBy place_cmp (keys_of paths.now.entries) }
 {
@@ -178,7 +233,7 @@ fn last_turn(turns: &BTreeSet<Place>, place: &Place) -> Option<Place>
 
 /// Takes the turns beside the place away that are idle: the last one up to it, and then the first one after it. To
 /// be called after a change at the place. Takes no memory.
-pub fn tidy(paths: &BTreeMap<Place, Path>, turns: &mut BTreeSet<Place>, place: &Place)
+pub fn tidy(paths: &BTreeMap<Place, SharedPath>, turns: &mut BTreeSet<Place>, place: &Place)
     requires { IsParted turns.old.keys paths.now.entries }
     ensures tidied { turns.new.keys ≡ tidied paths.now.entries turns.old.keys place.now }
     ensures parted { IsParted turns.new.keys paths.now.entries }
@@ -188,7 +243,7 @@ pub fn tidy(paths: &BTreeMap<Place, Path>, turns: &mut BTreeSet<Place>, place: &
 }
 
 /// Takes the turn away if it is idle.
-fn drop_idle(paths: &BTreeMap<Place, Path>, turns: &mut BTreeSet<Place>, turn: Option<Place>)
+fn drop_idle(paths: &BTreeMap<Place, SharedPath>, turns: &mut BTreeSet<Place>, turn: Option<Place>)
     requires { IsParted turns.old.keys paths.now.entries }
     ensures dropped { turns.new.keys ≡ without_idle paths.now.entries turns.old.keys turn }
     ensures parted { IsParted turns.new.keys paths.now.entries }
@@ -202,7 +257,7 @@ fn drop_idle(paths: &BTreeMap<Place, Path>, turns: &mut BTreeSet<Place>, turn: O
 }
 
 /// Whether two routes of other neighbouring AS are parted by this turn alone. If any are, the routes beside it are.
-fn is_needed(paths: &BTreeMap<Place, Path>, turns: &BTreeSet<Place>, turn: &Place) -> bool
+fn is_needed(paths: &BTreeMap<Place, SharedPath>, turns: &BTreeSet<Place>, turn: &Place) -> bool
     requires { IsParted turns.now.keys paths.now.entries }
     ensures { result ≡ is_needed turns.now.keys paths.now.entries turn.now }
 {
@@ -212,8 +267,7 @@ fn is_needed(paths: &BTreeMap<Place, Path>, turns: &BTreeSet<Place>, turn: &Plac
     let Some((after, next)) = first_from(paths, turn) else {
         return false;
     };
-    !has_neighbour(path, neighbour(next.segments.as_slice()))
-        && is_alone(turns, before, after, turn)
+    !has_neighbour(path, next.neighbour()) && is_alone(turns, before, after, turn)
 }
 
 /// Whether no other turn lies after `before` and up to `after`.

@@ -1,6 +1,6 @@
 //! The table of unicast routes.
 
-ghost use Rattle.std.specs.Prelude.{◌≡◌, [], OnOk, OnErr, is_some, option_map, length, ◌+◌};
+ghost use Rattle.std.specs.Prelude.{◌≡◌, [], OnOk, OnErr, IsTrue, is_some, option_map, length, ◌+◌};
 ghost use Rattle.std.specs.BTreeMap.{insert_entry, is_at};
 ghost use Rattle.std.specs.List.Sorted.{IsStrictlySortedBy};
 ghost use Rattle.std.specs.Map.{keys_of, remove_entry, lookup};
@@ -78,6 +78,17 @@ impl Unicast {
             peer,
         };
         self.routes.remove(&place)
+    }
+
+    /// Whether the peer holds a route with this very path at the prefix, so that to put it changes nothing.
+    pub fn holds(&self, peer: u16, prefix: &Prefix, path: &Path) -> bool
+        ensures { IsTrue result → put_path peer prefix.now path.now self.now ≡ self.now }
+    {
+        let place = Place {
+            prefix: PrefixKey::of(prefix),
+            peer,
+        };
+        self.routes.holds(&place, path)
     }
 
     /// How many routes there are. They are in the order of their places.

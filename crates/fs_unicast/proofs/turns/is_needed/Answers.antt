@@ -18,11 +18,11 @@ returns-then-not-has_neighbour c = c.is_alone.ensures
     ∙ ap (λ b. b && is_alone c.args.turns.now.keys c.in-Some.before.now c.in-Some-first_from.after.now c.args.turn.now) (sym (ap not is_had ∙ ap not c.if-not-has_neighbour.true))
     ∙ needed_beside c.args.turns.now.keys c.args.paths.now.entries c.args.turn.now (c.in-Some.before.now, c.in-Some.path.now) (c.in-Some-first_from.after.now, c.in-Some-first_from.next.now) c.last_before.ensures.ordered c.requires (sym c.in-Some.ensures.found) (sym c.in-Some-first_from.ensures.found) where
       is_had : is_same (neighbour c.in-Some.path.now.segments) (neighbour c.in-Some-first_from.next.now.segments) ≡ c.has_neighbour.result
-      is_had = ap (is_same (neighbour c.in-Some.path.now.segments)) (sym (c.neighbour.ensures ∙ ap neighbour c.as_slice.ensures)) ∙ sym c.has_neighbour.ensures
+      is_had = ap (is_same (neighbour c.in-Some.path.now.segments)) (sym c.neighbour.ensures) ∙ sym c.has_neighbour.ensures
 
 pub returns-else-not-has_neighbour : goal.returns-else-not-has_neighbour
 returns-else-not-has_neighbour c = ap not c.if-not-has_neighbour.false
     ∙ ap (λ b. b && is_alone c.args.turns.now.keys c.in-Some.before.now c.in-Some-first_from.after.now c.args.turn.now) (sym (ap not is_had ∙ ap not c.if-not-has_neighbour.false))
     ∙ needed_beside c.args.turns.now.keys c.args.paths.now.entries c.args.turn.now (c.in-Some.before.now, c.in-Some.path.now) (c.in-Some-first_from.after.now, c.in-Some-first_from.next.now) c.last_before.ensures.ordered c.requires (sym c.in-Some.ensures.found) (sym c.in-Some-first_from.ensures.found) where
       is_had : is_same (neighbour c.in-Some.path.now.segments) (neighbour c.in-Some-first_from.next.now.segments) ≡ c.has_neighbour.result
-      is_had = ap (is_same (neighbour c.in-Some.path.now.segments)) (sym (c.neighbour.ensures ∙ ap neighbour c.as_slice.ensures)) ∙ sym c.has_neighbour.ensures
+      is_had = ap (is_same (neighbour c.in-Some.path.now.segments)) (sym c.neighbour.ensures) ∙ sym c.has_neighbour.ensures

@@ -1,29 +1,43 @@
-use Rattle.std.proofs.Common.{◌≡◌, ◌∙◌, ap, subst}
+use Rattle.std.proofs.Common.{◌≡◌, ◌∙◌, sym, ap, subst, false, option_map}
+use Rattle.std.specs.BTreeMap.{insert_entry}
 use Rattle.fs_unicast.specs.Neighbour.{neighbour}
-use Rattle.fs_unicast.specs.Turns.{IsPartedBefore, IsPartedAfter}
-use Rattle.fs_unicast.proofs.Parting.{stays_all, stays_before, parted_put}
+use Rattle.fs_unicast.specs.Unicast.{place_cmp}
+use Rattle.fs_unicast.specs.Turns.{IsParted, IsPartedAt, PartsAt, entry_now, is_alike}
+use Rattle.fs_unicast.proofs.Parting.{stays_all, stays_before, parted_put, parted_replaced, parted_fore, parted_aft}
 use Rattle.fs_unicast.proofs.routes.Routes.keep.Goals as goal
 
-pub invariant_of-self : goal.invariant_of-self
-invariant_of-self c = stays_all c.self.inside.turns.keys c.part_before.new.turns.keys c.self.inside.paths.entries c.part_before.ensures.stays c.self.invariant
+pub invariant_of-self-then-is_alike : goal.invariant_of-self-then-is_alike
+invariant_of-self-then-is_alike c = subst (IsParted c.self.inside.turns.keys) (sym (c.in_ok-insert.ensures.entries ∙ ap (insert_entry place_cmp c.self.inside.paths.entries c.args.place) c.in_ok-new.ensures))
+    (parted_replaced c.self.inside.turns.keys c.self.inside.paths.entries c.args.place c.args.path (option_map entry_now c.first_from-next.result) (sym c.first_from-next.ensures.found) (sym c.stands_at-taken.ensures ∙ c.if-taken.true)
+    (ap (λ a. is_alike a (option_map entry_now c.first_from-next.result)) (sym (c.neighbour-asn.ensures ∙ ap neighbour c.as_slice.ensures)) ∙ sym c.is_alike.ensures ∙ c.if-is_alike.true) c.self.invariant)
 
-pub part_after-requires : goal.part_after-requires
-part_after-requires c = stays_all c.self.inside.turns.keys c.part_before.new.turns.keys c.self.inside.paths.entries c.part_before.ensures.stays c.self.invariant
+pub invariant_of-self-in_err-part_before : goal.invariant_of-self-in_err-part_before
+invariant_of-self-in_err-part_before c = stays_all c.self.inside.turns.keys c.part_before.new.turns.keys c.self.inside.paths.entries c.part_before.ensures.stays c.self.invariant
 
 pub invariant_of-self-in_err-part_after : goal.invariant_of-self-in_err-part_after
 invariant_of-self-in_err-part_after c = stays_all c.part_before.new.turns.keys c.part_after.new.turns.keys c.self.inside.paths.entries c.part_after.ensures.stays
     (stays_all c.self.inside.turns.keys c.part_before.new.turns.keys c.self.inside.paths.entries c.part_before.ensures.stays c.self.invariant)
 
-pub invariant_of-self-in_err-insert : goal.invariant_of-self-in_err-insert
-invariant_of-self-in_err-insert c = rw c.in_err-insert.ensures.err (stays_all c.part_before.new.turns.keys c.part_after.new.turns.keys c.self.inside.paths.entries c.part_after.ensures.stays
+pub invariant_of-self-in_err-insert-2 : goal.invariant_of-self-in_err-insert-2
+invariant_of-self-in_err-insert-2 c = rw c.in_err-insert-2.ensures.err (stays_all c.part_before.new.turns.keys c.part_after.new.turns.keys c.self.inside.paths.entries c.part_after.ensures.stays
     (stays_all c.self.inside.turns.keys c.part_before.new.turns.keys c.self.inside.paths.entries c.part_before.ensures.stays c.self.invariant))
 
 pub invariant_of-self-2 : goal.invariant_of-self-2
-invariant_of-self-2 c = rw c.in_ok-insert.ensures.entries (parted_put c.part_after.new.turns.keys c.self.inside.paths.entries c.args.place c.args.path
-    (stays_all c.part_before.new.turns.keys c.part_after.new.turns.keys c.self.inside.paths.entries c.part_after.ensures.stays
-    (stays_all c.self.inside.turns.keys c.part_before.new.turns.keys c.self.inside.paths.entries c.part_before.ensures.stays c.self.invariant))
+invariant_of-self-2 c = subst (IsParted c.part_after.new.turns.keys) (sym (c.in_ok-insert-2.ensures.entries ∙ ap (insert_entry place_cmp c.self.inside.paths.entries c.args.place) c.in_ok-shared.ensures))
+    (parted_put c.part_after.new.turns.keys c.self.inside.paths.entries c.args.place c.args.path parted_both
     (stays_before c.part_before.new.turns.keys c.part_after.new.turns.keys c.self.inside.paths.entries c.args.place (neighbour c.args.path.segments) c.part_after.ensures.stays
-    (subst (IsPartedBefore c.part_before.new.turns.keys c.self.inside.paths.entries c.args.place) asn_is c.in_ok-part_before.ensures.ok))
-    (subst (IsPartedAfter c.part_after.new.turns.keys c.self.inside.paths.entries c.args.place) asn_is c.in_ok-part_after.ensures.ok)) where
+    (parted_fore c.part_before.new.turns.keys c.self.inside.paths.entries c.args.place (neighbour c.args.path.segments) (option_map entry_now c.last_before-before.result) c.last_before-before.ensures.ordered (sym c.last_before-before.ensures.found) parted_one
+    (subst (λ a. is_alike a (option_map entry_now c.last_before-before.result) ≡ false → PartsAt c.part_before.new.turns.keys c.args.place) asn_is c.in_ok-part_before.ensures.ok)))
+    (parted_aft c.part_after.new.turns.keys c.self.inside.paths.entries c.args.place (neighbour c.args.path.segments) (option_map entry_now c.first_behind-after.result) c.last_before-before.ensures.ordered (sym c.first_behind-after.ensures) parted_both
+    (subst (λ a. IsPartedAt c.part_after.new.turns.keys a (option_map entry_now c.first_behind-after.result)) asn_is c.in_ok-part_after.ensures.ok))) where
       asn_is : c.neighbour-asn.result ≡ neighbour c.args.path.segments
       asn_is = c.neighbour-asn.ensures ∙ ap neighbour c.as_slice.ensures
+
+      parted_one : IsParted c.part_before.new.turns.keys c.self.inside.paths.entries
+      parted_one = stays_all c.self.inside.turns.keys c.part_before.new.turns.keys c.self.inside.paths.entries c.part_before.ensures.stays c.self.invariant
+
+      parted_both : IsParted c.part_after.new.turns.keys c.self.inside.paths.entries
+      parted_both = stays_all c.part_before.new.turns.keys c.part_after.new.turns.keys c.self.inside.paths.entries c.part_after.ensures.stays parted_one
+
+pub returns-clause-ok : goal.returns-clause-ok
+returns-clause-ok c = c.in_ok-insert-2.ensures.entries ∙ ap (insert_entry place_cmp c.self.inside.paths.entries c.args.place) c.in_ok-shared.ensures ∙ ap (λ rs. insert_entry place_cmp rs c.args.place c.args.path) c.self.view_is

@@ -1,0 +1,7 @@
+use Rattle.std.proofs.Common.{◌∙◌, sym, option_map}
+use Rattle.fs_unicast.specs.Turns.{entry_now}
+use Rattle.fs_unicast.proofs.Parting.{next_behind}
+use Rattle.fs_unicast.proofs.turns.first_behind.Goals as goal
+
+pub returns-else-stands_at : goal.returns-else-stands_at
+returns-else-stands_at c = next_behind c.args.paths.now.entries c.args.place.now (option_map entry_now c.args.next) (sym c.requires) (sym c.stands_at.ensures ∙ c.if-stands_at.false)
