@@ -1,3 +1,4 @@
 pub mod Originator
 pub mod Validity
+pub mod Basis
 pub mod Laws

@@ -40,12 +40,17 @@ has_best_leftmost route (Some best) = same_as (first_as route.path.segments) (fi
 abbrev pub has_leftmost : FlowRoute → Option (ℕ × Path) → Bool
 has_leftmost route best = not route.path.external || has_best_leftmost route best
 
+-- the first rule that a route breaks whose destination has this best match, and under which another neighbouring AS
+-- is or isn't
+abbrev pub judged : Config → FlowRoute → Option (ℕ × Path) → Bool → Validity
+judged config route best others =
+    if has_originator config route best then
+    (if others then MoreSpecific else (if has_leftmost route best then Valid else LeftAs)) else Originator
+
 -- the first rule that a route with this destination and this best match breaks
 abbrev pub validity_at : List Route → Config → FlowRoute → Prefix → Option (ℕ × Path) → Validity
 validity_at held config route destination best =
-    if has_originator config route best then
-    (if others_under held destination config.local_as (neighbour_of_best config best) then MoreSpecific else
-    (if has_leftmost route best then Valid else LeftAs)) else Originator
+    judged config route best (others_under held destination config.local_as (neighbour_of_best config best))
 
 -- rule a: without a destination the other rules are disregarded
 abbrev pub validity_without : Config → Validity

@@ -1,11 +1,13 @@
 //! The validation of flow specification routes against unicast routes (RFC 8955 section 6, RFC 9117 section 4).
 #![tactic(auto)]
 
+mod basis;
 mod laws;
 mod originator;
 mod route;
 mod validity;
 
+pub use basis::{Basis, basis_of, judged};
 pub use laws::agree;
 pub use route::{FlowRoute, destination};
 pub use validity::{Validity, valid};

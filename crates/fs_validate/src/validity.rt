@@ -76,7 +76,7 @@ fn valid_at(
 }
 
 /// Rule b: the best match has the same originator, or the route began in the local AS and that is allowed.
-fn has_originator(config: &Config, route: &FlowRoute, best: Option<Offer<'_>>) -> bool
+pub fn has_originator(config: &Config, route: &FlowRoute, best: Option<Offer<'_>>) -> bool
     ensures { result ≡ has_originator config.now route.now (option_map offered best.entry) }
 {
     if config.empty_path_valid && is_local(route.path.segments.as_slice()) {
@@ -92,7 +92,7 @@ fn has_originator(config: &Config, route: &FlowRoute, best: Option<Offer<'_>>) -
 }
 
 /// The neighbouring AS of the best match.
-fn neighbour_of(config: &Config, best: Option<Offer<'_>>) -> Option<u32>
+pub fn neighbour_of(config: &Config, best: Option<Offer<'_>>) -> Option<u32>
     ensures { result ≡ neighbour_of_best config.now (option_map offered best.entry) }
 {
     match best {
@@ -102,7 +102,7 @@ fn neighbour_of(config: &Config, best: Option<Offer<'_>>) -> Option<u32>
 }
 
 /// Rule d: of a route from an external peer the leftmost AS is that of the best match.
-fn has_leftmost(route: &FlowRoute, best: Option<Offer<'_>>) -> bool
+pub fn has_leftmost(route: &FlowRoute, best: Option<Offer<'_>>) -> bool
     ensures { result ≡ has_leftmost route.now (option_map offered best.entry) }
 {
     if !route.path.external {
