@@ -12,8 +12,9 @@ use Rattle.fs_base.proofs.SamePrefix.{same_from_cmp}
 use Rattle.fs_base.proofs.Lists.{each_weaker}
 use Rattle.fs_unicast.specs.Unicast.{Route}
 use Rattle.fs_validate.specs.Laws.{is_related}
+use Rattle.fs_validate.specs.Validity.{validity_to}
 use Rattle.fs_rules.specs.Kept.{Kept}
-use Rattle.fs_rules.specs.Group.{retested, mended, related_kept}
+use Rattle.fs_rules.specs.Group.{retested, retested_to, mended, related_kept}
 use Rattle.fs_rules.specs.Table.{has_related}
 use Rattle.fs_rules.proofs.Placing.{related-append}
 use Rattle.fs_rules.specs.Groups.{Entry, kept_in, IsTo, ArePlaced, AreInOrder}
@@ -28,7 +29,7 @@ module _ (unicast : List Route) (config : Config) where
 
   touched_on : (t u : Prefix → Bool) (es : List Entry) → AllByRecursion (Same t u) es → touches t es ≡ touches u es
   touched_on t u [] h = refl
-  touched_on t u (e ∷ es) h = ap₂ (λ x xs. x ∷ xs) (ap (λ b. cond b (e.0, map (retested unicast config) e.1) e) h.0) (touched_on t u es h.1)
+  touched_on t u (e ∷ es) h = ap₂ (λ x xs. x ∷ xs) (ap (λ b. cond b (e.0, map (retested_to unicast config e.0) e.1) e) h.0) (touched_on t u es h.1)
 
   size_on : (t u : Prefix → Bool) (es : List Entry) → AllByRecursion (Same t u) es → size t es ≡ size u es
   size_on t u [] h = refl
@@ -40,7 +41,7 @@ module _ (unicast : List Route) (config : Config) where
 
   touched_none : (t : Prefix → Bool) (es : List Entry) → AllByRecursion (λ e. t e.0 ≡ false) es → touches t es ≡ es
   touched_none t [] h = refl
-  touched_none t (e ∷ es) h = ap₂ (λ x xs. x ∷ xs) (ap (λ b. cond b (e.0, map (retested unicast config) e.1) e) h.0) (touched_none t es h.1)
+  touched_none t (e ∷ es) h = ap₂ (λ x xs. x ∷ xs) (ap (λ b. cond b (e.0, map (retested_to unicast config e.0) e.1) e) h.0) (touched_none t es h.1)
 
   -- where no key passes nothing is done
   pub mends_none : (t : Prefix → Bool) (es : List Entry) (steps : ℕ) → AllByRecursion (λ e. t e.0 ≡ false) es → Mends unicast config t es es steps steps
@@ -48,7 +49,7 @@ module _ (unicast : List Route) (config : Config) where
 
   key_stays : (t : Prefix → Bool) (e : Entry) → (touched unicast config t e).0 ≡ e.0
   key_stays t e = at (t e.0) where
-    at : (b : Bool) → (cond b (e.0, map (retested unicast config) e.1) e).0 ≡ e.0
+    at : (b : Bool) → (cond b (e.0, map (retested_to unicast config e.0) e.1) e).0 ≡ e.0
     at true = refl
     at false = refl
 
@@ -74,24 +75,24 @@ module _ (unicast : List Route) (config : Config) where
   -- one test after another, of which no key passes both
   again : (t u : Prefix → Bool) (e : Entry) → (t e.0 && u e.0) ≡ false → touched unicast config u (touched unicast config t e) ≡ touched unicast config (λ q. t q || u q) e
   again t u e h = at (t e.0) (u e.0) refl h where
-    at : (a b : Bool) → u e.0 ≡ b → (a && b) ≡ false → touched unicast config u (cond a (e.0, map (retested unicast config) e.1) e) ≡ cond (a || b) (e.0, map (retested unicast config) e.1) e
+    at : (a b : Bool) → u e.0 ≡ b → (a && b) ≡ false → touched unicast config u (cond a (e.0, map (retested_to unicast config e.0) e.1) e) ≡ cond (a || b) (e.0, map (retested_to unicast config e.0) e.1) e
     at true true f g = absurd (true≢false g)
-    at true false f g = ap (λ c. cond c (e.0, map (retested unicast config) (map (retested unicast config) e.1)) (e.0, map (retested unicast config) e.1)) f
-    at false b f g = ap (λ c. cond c (e.0, map (retested unicast config) e.1) e) f
+    at true false f g = ap (λ c. cond c (e.0, map (retested_to unicast config e.0) (map (retested_to unicast config e.0) e.1)) (e.0, map (retested_to unicast config e.0) e.1)) f
+    at false b f g = ap (λ c. cond c (e.0, map (retested_to unicast config e.0) e.1) e) f
 
   both_touched : (t u : Prefix → Bool) (es : List Entry) → AllByRecursion (λ e. (t e.0 && u e.0) ≡ false) es → touches u (touches t es) ≡ touches (λ q. t q || u q) es
   both_touched t u [] h = refl
   both_touched t u (e ∷ es) h = ap₂ (λ x xs. x ∷ xs) (again t u e h.0) (both_touched t u es h.1)
 
-  length-map : (ks : List Kept) → length (map (retested unicast config) ks) ≡ length ks
-  length-map [] = refl
-  length-map (k ∷ ks) = ap suc (length-map ks)
+  length-map : (destination : Prefix) (ks : List Kept) → length (map (retested_to unicast config destination) ks) ≡ length ks
+  length-map destination [] = refl
+  length-map destination (k ∷ ks) = ap suc (length-map destination ks)
 
   size_touched : (t u : Prefix → Bool) (es : List Entry) → size u (touches t es) ≡ size u es
   size_touched t u [] = refl
   size_touched t u (e ∷ es) = ap₂ (λ m n. m + n) (at (t e.0)) (size_touched t u es) where
-    at : (b : Bool) → cond (u (cond b (e.0, map (retested unicast config) e.1) e).0) (length (cond b (e.0, map (retested unicast config) e.1) e).1) 0 ≡ cond (u e.0) (length e.1) 0
-    at true = ap (λ n. cond (u e.0) n 0) (length-map e.1)
+    at : (b : Bool) → cond (u (cond b (e.0, map (retested_to unicast config e.0) e.1) e).0) (length (cond b (e.0, map (retested_to unicast config e.0) e.1) e).1) 0 ≡ cond (u e.0) (length e.1) 0
+    at true = ap (λ n. cond (u e.0) n 0) (length-map e.0 e.1)
     at false = refl
 
   size_both : (t u : Prefix → Bool) (es : List Entry) → AllByRecursion (λ e. (t e.0 && u e.0) ≡ false) es → size t es + size u es ≡ size (λ q. t q || u q) es
@@ -112,13 +113,13 @@ module _ (unicast : List Route) (config : Config) where
   }
 
   -- the group at one key
-  set_is : (p : Prefix) (es : List Entry) (group : List Kept) → AreInOrder es → lookup (is_at (prefix_cmp p)) es ≡ Some group → set_value (is_at (prefix_cmp p)) es (map (retested unicast config) group) ≡ touches (is_at (prefix_cmp p)) es
+  set_is : (p : Prefix) (es : List Entry) (group : List Kept) → AreInOrder es → lookup (is_at (prefix_cmp p)) es ≡ Some group → set_value (is_at (prefix_cmp p)) es (map (retested_to unicast config p) group) ≡ touches (is_at (prefix_cmp p)) es
   set_is p [] group ordered h = refl
   set_is p (e ∷ es) group ordered h = at (is_eq (prefix_cmp p e.0)) refl h (set_is p es group (sorted_tail prefix_cmp e.0 (keys_of es) ordered)) where
     at : (b : Bool) → is_eq (prefix_cmp p e.0) ≡ b → cond b (Some e.1) (lookup (is_at (prefix_cmp p)) es) ≡ Some group
-        → (lookup (is_at (prefix_cmp p)) es ≡ Some group → set_value (is_at (prefix_cmp p)) es (map (retested unicast config) group) ≡ touches (is_at (prefix_cmp p)) es)
-        → cond b ((e.0, map (retested unicast config) group) ∷ es) (e ∷ set_value (is_at (prefix_cmp p)) es (map (retested unicast config) group)) ≡ cond b (e.0, map (retested unicast config) e.1) e ∷ touches (is_at (prefix_cmp p)) es
-    at true t g ih = ap₂ (λ x xs. x ∷ xs) (ap (λ ks. (e.0, map (retested unicast config) ks)) (sym (inner g)))
+        → (lookup (is_at (prefix_cmp p)) es ≡ Some group → set_value (is_at (prefix_cmp p)) es (map (retested_to unicast config p) group) ≡ touches (is_at (prefix_cmp p)) es)
+        → cond b ((e.0, map (retested_to unicast config p) group) ∷ es) (e ∷ set_value (is_at (prefix_cmp p)) es (map (retested_to unicast config p) group)) ≡ cond b (e.0, map (retested_to unicast config e.0) e.1) e ∷ touches (is_at (prefix_cmp p)) es
+    at true t g ih = ap₂ (λ x xs. x ∷ xs) (ap₂ (λ q ks. (e.0, map (retested_to unicast config q) ks)) (same_from_cmp p e.0 t) (sym (inner g)))
         (sym (touched_none (is_at (prefix_cmp p)) es (each_key (λ q. is_eq (prefix_cmp p q) ≡ false) es (each_weaker (λ q. prefix_cmp e.0 q ≡ Less) (λ q. is_eq (prefix_cmp p q) ≡ false) (λ q less. ap (λ a. is_eq (prefix_cmp a q)) (same_from_cmp p e.0 t) ∙ ap is_eq less) (keys_of es) (sorted_head prefix_cmp e.0 (keys_of es) ordered))))) where
           inner : Some e.1 ≡ Some group → e.1 ≡ group
           inner m = cc
@@ -134,7 +135,7 @@ module _ (unicast : List Route) (config : Config) where
       inner m = cc
     at false g ih = let f : length group ≤ size (is_at (prefix_cmp p)) es = ih g in omega arith
 
-  pub mends_found : (p : Prefix) (old new : List Entry) (group changed : List Kept) (before after : ℕ) → AreInOrder old → lookup (is_at (prefix_cmp p)) old ≡ Some group → changed ≡ map (retested unicast config) group
+  pub mends_found : (p : Prefix) (old new : List Entry) (group changed : List Kept) (before after : ℕ) → AreInOrder old → lookup (is_at (prefix_cmp p)) old ≡ Some group → changed ≡ map (retested_to unicast config p) group
       → new ≡ set_value (is_at (prefix_cmp p)) old changed → before ≤ after → after ≤ before + length group → Mends unicast config (is_at (prefix_cmp p)) old new before after
   mends_found p old new group changed before after ordered h e s later steps = record {
     entries = s ∙ ap (set_value (is_at (prefix_cmp p)) old) e ∙ set_is p old group ordered h;
@@ -163,11 +164,15 @@ module _ (unicast : List Route) (config : Config) where
   map-append f [] ys = refl
   map-append f (x ∷ xs) ys = ap (λ zs. f x ∷ zs) (map-append f xs ys)
 
+  all_to : (destination : Prefix) (ks : List Kept) → AllByRecursion (IsTo (Some destination)) ks → map (retested_to unicast config destination) ks ≡ map (retested unicast config) ks
+  all_to destination [] to = refl
+  all_to destination (k ∷ ks) to = ap₂ (λ d xs. record { route = k.route; validity = validity_to unicast config k.route d } ∷ xs) (sym to.0) (all_to destination ks to.1)
+
   pub mended_in : (p : Prefix) (es : List Entry) (rest : List Kept) → ArePlaced es → AllByRecursion (IsTo None) rest → kept_in (touches (is_related p) es) rest ≡ map (mended p unicast config) (kept_in es rest)
   mended_in p [] rest placed bare = sym (mended_all p None false refl rest bare)
   mended_in p (e ∷ es) rest placed bare = ap₂ (λ xs ys. xs ++ ys) (group (is_related p e.0) refl ∙ sym (mended_all p (Some e.0) (is_related p e.0) refl e.1 placed.0)) (mended_in p es rest placed.1 bare) ∙ sym (map-append (mended p unicast config) e.1 (kept_in es rest)) where
-    group : (b : Bool) → is_related p e.0 ≡ b → (cond b (e.0, map (retested unicast config) e.1) e).1 ≡ cond b (map (retested unicast config) e.1) e.1
-    group true t = refl
+    group : (b : Bool) → is_related p e.0 ≡ b → (cond b (e.0, map (retested_to unicast config e.0) e.1) e).1 ≡ cond b (map (retested unicast config) e.1) e.1
+    group true t = all_to e.0 e.1 placed.0
     group false t = refl
 
   related_all : (p : Prefix) (destination : Option Prefix) (b : Bool) → has_related p destination ≡ b → (ks : List Kept) → AllByRecursion (IsTo destination) ks → related_kept p ks ≡ cond b (length ks) 0
@@ -185,11 +190,11 @@ module _ (unicast : List Route) (config : Config) where
   placed_touched : (t : Prefix → Bool) (es : List Entry) → ArePlaced es → ArePlaced (touches t es)
   placed_touched t [] h = tt
   placed_touched t (e ∷ es) h = (at (t e.0), placed_touched t es h.1) where
-    mapped : (ks : List Kept) → AllByRecursion (IsTo (Some e.0)) ks → AllByRecursion (IsTo (Some e.0)) (map (retested unicast config) ks)
+    mapped : (ks : List Kept) → AllByRecursion (IsTo (Some e.0)) ks → AllByRecursion (IsTo (Some e.0)) (map (retested_to unicast config e.0) ks)
     mapped [] g = tt
     mapped (k ∷ ks) g = (g.0, mapped ks g.1)
 
-    at : (b : Bool) → AllByRecursion (IsTo (Some (cond b (e.0, map (retested unicast config) e.1) e).0)) (cond b (e.0, map (retested unicast config) e.1) e).1
+    at : (b : Bool) → AllByRecursion (IsTo (Some (cond b (e.0, map (retested_to unicast config e.0) e.1) e).0)) (cond b (e.0, map (retested_to unicast config e.0) e.1) e).1
     at true = mapped e.1 h.0
     at false = h.0
 

@@ -1,5 +1,5 @@
 -- Where a key stands in the order, and that the routes of a rule stand next to each other.
-use Rattle.std.proofs.Common.{ℕ, zero, suc, ◌≡◌, ◌+◌, ◌<◌, ◌≤◌, refl, sym, ap, subst, ◌∙◌, Bool, true, false, true≢false, ◌&&◌, ◌||◌, List, [], ◌∷◌, length, get_or, drop, take, ◌-◌, length-drop, take_all, Ordering, Less, Equal, Greater, is_eq, nat_cmp, arith}
+use Rattle.std.proofs.Common.{ℕ, zero, suc, ◌≡◌, ◌+◌, ◌<◌, ◌≤◌, refl, sym, ap, subst, ◌∙◌, Bool, true, false, true≢false, ◌&&◌, ◌||◌, List, [], ◌∷◌, length, get_or, slice_get, drop, take, ◌-◌, length-drop, take_all, Ordering, Less, Equal, Greater, is_eq, nat_cmp, arith}
 use Rattle.std.specs.List.{AllByRecursion, AllWithin}
 use Rattle.std.specs.List.Sorted.{IsPartitionedBy}
 use Rattle.std.specs.Ordering.{match_ordering, ordering_then, ordering_reverse, is_gt}
@@ -13,7 +13,7 @@ use Rattle.fs_validate.specs.declared.route.FlowRoute.{FlowRoute}
 use Rattle.fs_unicast.specs.Preference.{preferred}
 use Rattle.fs_rules.specs.Kept.{Kept}
 use Rattle.fs_rules.specs.Table.{key_cmp, is_valid, same_rule, beats}
-use Rattle.fs_rules.specs.Group.{routes_of, AreSorted, place_in, is_beaten}
+use Rattle.fs_rules.specs.Group.{routes_of, AreSorted, place_in, is_beaten, is_before_rule}
 
 -- the order of keys
 abbrev pair_cmp : Ruled × ℕ → Ruled × ℕ → Ordering
@@ -58,6 +58,39 @@ place_from rule peer (x ∷ xs) (suc i) h front back = at (key_cmp rule peer x.r
   at Less e rest = absurd (true≢false (sym (front 0 x (omega arith) (omega arith)) ∙ ap is_gt e))
   at Equal e rest = absurd (true≢false (sym (front 0 x (omega arith) (omega arith)) ∙ ap is_gt e))
   at Greater e rest = omega arith
+
+-- a place behind the last that stands before the rule, and before the first that doesn't
+after_at : (rule : Ruled) (xs : List Kept) (i : ℕ) (d : Kept) → i < length xs → is_before_rule rule (slice_get xs i) ≡ is_after rule 0 (get_or xs i d)
+after_at rule [] i d h = absurd (omega arith)
+after_at rule (x ∷ xs) zero d h = refl
+after_at rule (x ∷ xs) (suc i) d h = after_at rule xs i d (omega arith)
+
+pub starts_at : (rule : Ruled) (xs : List Kept) (i : ℕ) → AreSorted (routes_of xs) → i < length xs → 0 < i → is_before_rule rule (slice_get xs (i - 1)) ≡ true → is_before_rule rule (slice_get xs i) ≡ false → i ≡ place_in rule 0 xs
+starts_at rule xs i sorted inside positive before behind = place_from rule 0 xs i (omega arith)
+    (λ j d low high. up j d high)
+    (λ j d low high. down j d low high)
+  where
+    parts : IsPartitionedBy (is_after rule 0) xs
+    parts = partitioned rule 0 xs sorted
+
+    up : (j : ℕ) (d : Kept) → j < i → is_after rule 0 (get_or xs j d) ≡ true
+    up j d high = parts j (i - 1) d (omega arith) (omega arith) (sym (after_at rule xs (i - 1) d (omega arith)) ∙ before)
+
+    down : (j : ℕ) (d : Kept) → i ≤ j → j < length xs → is_after rule 0 (get_or xs j d) ≡ false
+    down j d low high = at (is_after rule 0 (get_or xs j d)) refl where
+      at : (b : Bool) → is_after rule 0 (get_or xs j d) ≡ b → is_after rule 0 (get_or xs j d) ≡ false
+      at true e = absurd (true≢false (sym (parts i j d (omega arith) (omega arith) e) ∙ sym (after_at rule xs i d inside) ∙ behind))
+      at false e = e
+
+pub starts_first : (rule : Ruled) (xs : List Kept) (i : ℕ) → AreSorted (routes_of xs) → i ≡ 0 → i < length xs → is_before_rule rule (slice_get xs i) ≡ false → i ≡ place_in rule 0 xs
+starts_first rule xs i sorted none inside behind = none ∙ first xs (sym (ap (λ n. is_before_rule rule (slice_get xs n)) none) ∙ behind) where
+  first : (xs : List Kept) → is_before_rule rule (slice_get xs 0) ≡ false → 0 ≡ place_in rule 0 xs
+  first [] h = refl
+  first (x ∷ xs) h = at (key_cmp rule 0 x.route) refl where
+    at : (o : Ordering) → key_cmp rule 0 x.route ≡ o → 0 ≡ match_ordering o 0 0 (1 + place_in rule 0 xs)
+    at Less e = refl
+    at Equal e = refl
+    at Greater e = absurd (true≢false (sym (ap is_gt e) ∙ h))
 
 -- The routes of a rule.
 -- before the least key of a rule stands no route of it

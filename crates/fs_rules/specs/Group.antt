@@ -1,16 +1,17 @@
 -- Flow routes kept with their validities.
 use Rattle.std.specs.Prelude.{◌≡◌, ℕ, ◌+◌, ◌&&◌, not, Bool, true, false, Option, Some, None, List, [], ◌∷◌, map, filter, if◌then◌else◌}
 use Rattle.std.specs.List.{list_any, AllByRecursion}
-use Rattle.std.specs.Ordering.{match_ordering}
+use Rattle.std.specs.Ordering.{match_ordering, is_gt}
 use Rattle.std.specs.declared.cmp.Ordering.TheVariants.{Less}
 use Rattle.fs_base.specs.declared.config.Config.{Config}
+use Rattle.fs_base.specs.declared.path.Path.{Path}
 use Rattle.fs_base.specs.declared.prefix.Family.{Family}
 use Rattle.fs_base.specs.declared.prefix.Prefix.{Prefix}
 use Rattle.fs_nlri.specs.Parts.{Ruled}
 use Rattle.fs_unicast.specs.Preference.{preferred}
 use Rattle.fs_unicast.specs.Unicast.{Route}
 use Rattle.fs_nlri.specs.Rule.{destination_prefix}
-use Rattle.fs_validate.specs.Validity.{validity}
+use Rattle.fs_validate.specs.Validity.{judged, validity, validity_to}
 use Rattle.fs_validate.specs.declared.route.FlowRoute.{FlowRoute}
 use Rattle.fs_rules.specs.Kept.{Kept}
 use Rattle.fs_rules.specs.Table.{key_cmp, is_key, has_related, is_of_family, is_valid, beats}
@@ -52,6 +53,26 @@ is_related_kept prefix k = has_related prefix (destination_prefix k.route.rule)
 abbrev pub retested : List Route → Config → Kept → Kept
 retested unicast config k = record { route = k.route; validity = validity unicast config k.route }
 
+-- judged by what its destination's validities rest on: the best match, and whether others are under it
+abbrev pub rejudged : Config → Option (ℕ × Path) → Bool → Kept → Kept
+rejudged config best others k = record { route = k.route; validity = judged config k.route best others }
+
+abbrev pub IsJudged : Config → Option (ℕ × Path) → Bool → Kept → Type 0
+IsJudged config best others k = k.validity ≡ judged config k.route best others
+
+abbrev pub AreJudged : Config → Option (ℕ × Path) → Bool → List Kept → Type 0
+AreJudged config best others kept = AllByRecursion (IsJudged config best others) kept
+
+-- validated anew as a route to the destination
+abbrev pub retested_to : List Route → Config → Prefix → Kept → Kept
+retested_to unicast config destination k =
+    record { route = k.route; validity = validity_to unicast config k.route (Some destination) }
+
+-- each validity is that of its route to the destination
+abbrev pub AreRightTo : List Route → Config → Prefix → List Kept → Type 0
+AreRightTo unicast config destination kept =
+    AllByRecursion (λ k. k.validity ≡ validity_to unicast config k.route (Some destination)) kept
+
 -- where it is related to the prefix, the validity is that of the route
 abbrev pub IsRightAt : Prefix → List Route → Config → Kept → Type 0
 IsRightAt prefix unicast config k = is_related_kept prefix k ≡ true → IsRight unicast config k
@@ -86,6 +107,11 @@ is_beaten kept k = list_any (λ s. is_valid s.validity && beats s.route k.route)
 
 abbrev pub is_chosen : Family → List Kept → Kept → Bool
 is_chosen family kept k = is_of_family family k.route && (is_valid k.validity && not (is_beaten kept k))
+
+-- of what stands at a place, whether it stands before all routes of a rule
+abbrev pub is_before_rule : Ruled → Option Kept → Bool
+is_before_rule rule None = false
+is_before_rule rule (Some k) = is_gt (key_cmp rule 0 k.route)
 
 abbrev pub has_key_at : Ruled → ℕ → Option Kept → Bool
 has_key_at rule peer None = false

@@ -8,12 +8,12 @@ use Rattle.fs_base.specs.declared.prefix.Prefix.{Prefix}
 use Rattle.fs_base.specs.Prefix.{prefix_cmp}
 use Rattle.fs_unicast.specs.Unicast.{Route}
 use Rattle.fs_rules.specs.Kept.{Kept}
-use Rattle.fs_rules.specs.Group.{AreRight, retested}
+use Rattle.fs_rules.specs.Group.{AreRightTo, retested_to}
 use Rattle.fs_rules.specs.Groups.{Entry}
 
--- the groups whose destination passes are validated anew
+-- the groups whose destination passes are validated anew, as routes to it
 abbrev pub touched : List Route → Config → (Prefix → Bool) → Entry → Entry
-touched unicast config test e = if test e.0 then (e.0, map (retested unicast config) e.1) else e
+touched unicast config test e = if test e.0 then (e.0, map (retested_to unicast config e.0) e.1) else e
 
 -- how many routes have a destination that passes
 abbrev pub size : (Prefix → Bool) → List Entry → ℕ
@@ -29,7 +29,7 @@ module _ (unicast : List Route) (config : Config) where
   -- it is told that no validity changed exactly where each of these groups' routes had the right one
   abbrev pub Tells : (Prefix → Bool) → List Entry → Bool → Type 0
   Tells test old changed =
-      (changed ≡ false) ↔ AllByRecursion (λ e. test e.0 ≡ true → AreRight unicast config e.1) old
+      (changed ≡ false) ↔ AllByRecursion (λ e. test e.0 ≡ true → AreRightTo unicast config e.0 e.1) old
 
 abbrev pub GroupMap : Type 0
 GroupMap = BTreeMap Prefix (List Kept)

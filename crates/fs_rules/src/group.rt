@@ -5,15 +5,15 @@ ghost use Rattle.std.specs.List.{list_any};
 ghost use Rattle.std.specs.Option.{option_copied};
 ghost use Rattle.fs_rules.specs.Table.{is_key, key_cmp, is_of_family, is_valid, same_rule};
 ghost use Rattle.fs_unicast.specs.Preference.{offered, preferred};
-ghost use Rattle.std.specs.Prelude.{◌∷◌, ◌&&◌, ◌↔◌, false};
-ghost use Rattle.fs_rules.specs.Group.{put_kept, place_in, retested, is_beaten, is_chosen, has_key, has_key_at, AreSorted, AreRight, IsRight, routes_of, is_better};
+ghost use Rattle.std.specs.Prelude.{◌∷◌, ◌&&◌, ◌↔◌, true, false};
+ghost use Rattle.fs_rules.specs.Group.{put_kept, place_in, rejudged, retested_to, is_beaten, is_before_rule, is_chosen, has_key, has_key_at, AreSorted, IsJudged, AreJudged, AreRightTo, routes_of, is_better};
 
 use crate::kept::Kept;
-use fs_base::{Config, Family, Memory, Steps};
+use fs_base::{Config, Family, Memory, Prefix, Steps};
 use fs_nlri::Rule;
 use fs_order::compare;
 use fs_unicast::{Offer, Unicast};
-use fs_validate::{FlowRoute, Validity, valid};
+use fs_validate::{Basis, FlowRoute, Validity, basis_of, judged};
 use std::alloc::Global;
 use std::cmp::Ordering;
 use std::marker::Model;
@@ -91,37 +91,31 @@ fn take(kept: &mut Vec<Kept>, rule: &Rule, peer: u16) -> bool
 fn forget(kept: &mut Vec<Kept>, peer: u16)
     ensures { kept.new.items ≡ filter (λ k. not (k.route.peer == peer)) kept.old.items }
 {
-    kept.retain(|k| k.route().peer != peer);
+    kept.retain(|k| k.peer() != peer);
 }
 
-/// Validates a route anew, and tells whether its validity is another than before. At most one step.
-fn retest<L: Ledger>(k: &mut Kept, unicast: &Unicast, config: &Config, steps: &mut Steps<L>) -> bool
-    ensures retested { k.new ≡ retested unicast.now config.now k.old }
-    ensures told { (result ≡ false) ↔ IsRight unicast.now config.now k.old }
-    ensures later { steps.old ≤ steps.new }
-    ensures steps { steps.new ≤ steps.old + 1 }
+/// Validates a route anew whose destination has this basis, and tells whether its validity is another than before.
+fn retest(k: &mut Kept, config: &Config, basis: &Basis<'_>) -> bool
+    ensures retested { k.new ≡ rejudged config.now (option_map offered basis.now.best) basis.now.others k.old }
+    ensures told { (result ≡ false)
+        ↔ IsJudged config.now (option_map offered basis.now.best) basis.now.others k.old }
 {
     let before = k.validity();
-    let after = valid(unicast, config, k.route(), steps);
+    let after = judged(config, k.route(), basis);
     k.judge(after);
     after != before
 }
 
-/// Validates each route anew, and tells whether a validity is another than before.
-fn retest_each<L: Ledger>(
-    kept: &mut [Kept],
-    unicast: &Unicast,
-    config: &Config,
-    steps: &mut Steps<L>,
-) -> bool
-    ensures retested { kept.new ≡ map (retested unicast.now config.now) kept.old }
-    ensures told { (result ≡ false) ↔ AreRight unicast.now config.now kept.old }
-    ensures later { steps.old ≤ steps.new }
-    ensures steps { steps.new ≤ steps.old + length kept.old }
+/// Validates each route anew, whose destination has this basis, and tells whether a validity is another than before.
+fn retest_each(kept: &mut [Kept], config: &Config, basis: &Basis<'_>) -> bool
+    ensures retested { kept.new
+        ≡ map (rejudged config.now (option_map offered basis.now.best) basis.now.others) kept.old }
+    ensures told { (result ≡ false)
+        ↔ AreJudged config.now (option_map offered basis.now.best) basis.now.others kept.old }
 {
     let mut changed = false;
     for k in kept.iter_mut() {
-        changed |= retest(k, unicast, config, steps);
+        changed |= retest(k, config, basis);
     }
     changed
 }
@@ -154,12 +148,51 @@ fn seen(route: &FlowRoute) -> Offer<'_>
     }
 }
 
-/// Whether a valid route of the same rule is preferred. The routes of a rule stand next to each other.
-fn is_beaten(kept: &[Kept], k: &Kept) -> bool
+/// Whether the route at the place, if there is one, stands before the rule.
+fn is_before(kept: &[Kept], place: usize, rule: &Rule) -> bool
+    ensures { result ≡ is_before_rule rule.now (slice_get kept.now place) }
+{
+    match kept.get(place) {
+        Some(k) => compare_key(rule, 0, k.route()).is_gt(),
+        None => false,
+    }
+}
+
+/// Whether the routes before the place, at which there is one, are those that stand before the rule.
+fn is_start(kept: &[Kept], place: usize, rule: &Rule) -> bool
+    requires { AreSorted (routes_of kept.now) }
+    ensures start { result ≡ true → place ≡ place_in rule.now 0 kept.now }
+    ensures within { result ≡ true → place ≤ length kept.now }
+{
+    if kept.len() <= place || is_before(kept, place, rule) {
+        return false;
+    }
+    if place == 0 {
+        return true;
+    }
+    is_before(kept, place - 1, rule)
+}
+
+/// How many routes stand before those of the rule: mostly as many as before the place, which is tried first.
+fn start_of(kept: &[Kept], place: usize, rule: &Rule) -> usize
+    requires { AreSorted (routes_of kept.now) }
+    ensures start { result ≡ place_in rule.now 0 kept.now }
+    ensures within { result ≤ length kept.now }
+{
+    if is_start(kept, place, rule) {
+        place
+    } else {
+        place_of(kept, rule, 0)
+    }
+}
+
+/// Whether a valid route of the same rule is preferred. The routes of a rule stand next to each other, mostly from
+/// the place on.
+fn is_beaten(kept: &[Kept], place: usize, k: &Kept) -> bool
     requires { AreSorted (routes_of kept.now) }
     ensures { result ≡ is_beaten kept.now k.now }
 {
-    let start = place_of(kept, &k.route().rule, 0);
+    let start = start_of(kept, place, &k.route().rule);
     for s in &kept[start..] {
         if !is_same_rule(s, k) {
             return false;
@@ -171,12 +204,66 @@ fn is_beaten(kept: &[Kept], k: &Kept) -> bool
     false
 }
 
-/// Whether the route is that of an admitted rule of the family.
-pub(crate) fn is_chosen(family: Family, kept: &[Kept], k: &Kept) -> bool
-    requires { AreSorted (routes_of kept.now) }
+/// Whether a valid route of the same rule stands at the place that is preferred.
+fn beats_at(kept: &[Kept], place: usize, k: &Kept) -> bool
+    ensures { result ≡ true → is_beaten kept.now k.now ≡ true }
+{
+    match kept.get(place) {
+        Some(s) => is_same_rule(s, k) && is_better(s, k),
+        None => false,
+    }
+}
+
+/// The place of the most preferred valid route among those from the place on that stand next to each other with the
+/// same rule.
+fn leader_of(kept: &[Kept], place: usize) -> usize
+    requires { place < length kept.now }
+{
+    let mut leader = place;
+    for next in place..kept.len() {
+        if !is_same_rule(&kept[next], &kept[leader]) {
+            return leader;
+        }
+        if is_better(&kept[next], &kept[leader]) {
+            leader = next;
+        }
+    }
+    leader
+}
+
+/// Whether a valid route of the same rule is preferred to the one at the place. The rival, which is tried first, is
+/// the most preferred route of the run that was asked last: so a run is gone through at most three times, however
+/// many of its routes are asked.
+fn has_rival(kept: &[Kept], place: usize, k: &Kept, rival: &mut usize) -> bool
+    requires sorted { AreSorted (routes_of kept.now) }
+    requires inside { place < length kept.now }
+    ensures { result ≡ is_beaten kept.now k.now }
+{
+    if beats_at(kept, *rival, k) {
+        return true;
+    }
+    if is_beaten(kept, place, k) {
+        *rival = leader_of(kept, place);
+        return true;
+    }
+    *rival = place;
+    false
+}
+
+/// Whether the route at the place is that of an admitted rule of the family. The routes are asked in their order, with
+/// one rival for all, which is 0 at first.
+pub(crate) fn is_chosen(
+    family: Family,
+    kept: &[Kept],
+    place: usize,
+    k: &Kept,
+    rival: &mut usize,
+) -> bool
+    requires sorted { AreSorted (routes_of kept.now) }
+    requires inside { place < length kept.now }
     ensures { result ≡ is_chosen family kept.now k.now }
 {
-    is_of_family(family, k.route()) && stands(k.validity()) && !is_beaten(kept, k)
+    is_of_family(family, k.route()) && stands(k.validity()) && !has_rival(kept, place, k, rival)
 }
 
 pub(crate) fn is_of_family(family: Family, route: &FlowRoute) -> bool
@@ -253,18 +340,24 @@ impl Group {
         forget(&mut self.items, peer);
     }
 
-    /// Validates each route anew, and tells whether a validity is another than before. At most one step for each.
+    /// Validates each route anew, all to the destination, and tells whether a validity is another than before. The
+    /// unicast routes are looked up once. At most one step for each.
     pub(crate) fn retest<L: Ledger>(
         &mut self,
+        destination: &Prefix,
         unicast: &Unicast,
         config: &Config,
         steps: &mut Steps<L>,
     ) -> bool
-        ensures retested { self.new ≡ map (retested unicast.now config.now) self.old }
-        ensures told { (result ≡ false) ↔ AreRight unicast.now config.now self.old }
+        ensures retested { self.new ≡ map (retested_to unicast.now config.now destination.now) self.old }
+        ensures told { (result ≡ false) ↔ AreRightTo unicast.now config.now destination.now self.old }
         ensures later { steps.old ≤ steps.new }
         ensures steps { steps.new ≤ steps.old + length self.old }
     {
-        retest_each(&mut self.items, unicast, config, steps)
+        if self.items.is_empty() {
+            return false;
+        }
+        let basis = basis_of(unicast, config, destination, steps);
+        retest_each(&mut self.items, config, &basis)
     }
 }

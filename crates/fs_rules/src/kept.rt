@@ -11,19 +11,24 @@ use std::alloc::Global;
 use std::marker::Model;
 
 /// A flow route and its validity. The route stands in a block of its own, so that a group moves few octets to make a
-/// place among many routes.
+/// place among many routes. The peer stands beside it too, so that the routes of a peer are found without a look into
+/// each block.
 #[derive(Drop)]
 pub(crate) struct Kept {
     route: Box<FlowRoute>,
+    peer: u16,
     validity: Validity,
 }
 
 impl Model for Kept {
+    ghost use Rattle.std.specs.Prelude.{◌≡◌};
     ghost use Rattle.fs_rules.specs.Kept.{Kept};
 
     ghost Value = { Kept };
 
     ghost view = { λ a. record { route = a.route.value; validity = a.validity } };
+
+    ghost invariant = { λ a. a.peer ≡ a.route.value.peer };
 }
 
 /// The destination of a rule, as a key.
@@ -45,14 +50,26 @@ impl Kept {
     pub(crate) fn new(alloc: Global, route: FlowRoute, validity: Validity) -> Result<Kept, Memory>
         ensures { IfOk result (λ k. k ≡ record { route = route; validity = validity }) }
     {
+        let peer = route.peer;
         let route = Box::new(alloc, route)?;
-        Ok(Kept { route, validity })
+        Ok(Kept {
+            route,
+            peer,
+            validity,
+        })
     }
 
     pub(crate) fn route(&self) -> &FlowRoute
         ensures { result.now ≡ self.now.route }
     {
         self.route.as_ref()
+    }
+
+    /// The peer that gave the route.
+    pub(crate) fn peer(&self) -> u16
+        ensures { result ≡ self.now.route.peer }
+    {
+        self.peer
     }
 
     pub(crate) fn family(&self) -> Family

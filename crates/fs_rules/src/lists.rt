@@ -44,8 +44,10 @@ pub(crate) fn push_admitted<'a>(
     requires { AreSorted (routes_of kept.now) }
     ensures { OnOk result (AddsRules (listings family kept.now) list.old.items list.new.items) }
 {
-    for k in kept {
-        if is_chosen(family, kept, k) {
+    let mut rival = 0;
+    for place in 0..kept.len() {
+        let k = &kept[place];
+        if is_chosen(family, kept, place, k, &mut rival) {
             list.push(lend(k))?;
         }
     }
@@ -67,7 +69,14 @@ pub(crate) fn count_admitted(family: Family, kept: &[Kept]) -> usize
     requires { AreSorted (routes_of kept.now) }
     ensures { result ≡ length (chosen family kept.now) }
 {
-    kept.iter().filter(|k| is_chosen(family, kept, k)).count()
+    let mut count = 0;
+    let mut rival = 0;
+    for place in 0..kept.len() {
+        if is_chosen(family, kept, place, &kept[place], &mut rival) {
+            count += 1;
+        }
+    }
+    count
 }
 
 /// The admitted rule of that number.
@@ -76,8 +85,10 @@ pub(crate) fn admitted_at(family: Family, kept: &[Kept], n: usize) -> Option<Adm
     ensures { option_map shown_admitted result ≡ nth_listing family kept.now n }
 {
     let mut left = n;
-    for k in kept {
-        if is_chosen(family, kept, k) {
+    let mut rival = 0;
+    for place in 0..kept.len() {
+        let k = &kept[place];
+        if is_chosen(family, kept, place, k, &mut rival) {
             if left == 0 {
                 return Some(lend(k));
             }
@@ -117,8 +128,10 @@ pub(crate) fn next_match(
     ensures { result ≡ find (λ k. nat_le n k) (matching_from view.now first (routes_chosen family kept.now)) }
 {
     let mut number = first;
-    for k in kept {
-        if is_chosen(family, kept, k) {
+    let mut rival = 0;
+    for place in 0..kept.len() {
+        let k = &kept[place];
+        if is_chosen(family, kept, place, k, &mut rival) {
             if is_next(k, view, n, number) {
                 return Some(number);
             }

@@ -95,7 +95,7 @@ fn retest_group<L: Ledger>(
     ensures told { Tells unicast.now config.now (is_same_prefix destination.now) groups.old.entries result }
 {
     match groups.get_mut(destination) {
-        Some(group) => group.retest(unicast, config, steps),
+        Some(group) => group.retest(&destination.prefix(), unicast, config, steps),
         None => false,
     }
 }

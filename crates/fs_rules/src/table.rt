@@ -125,8 +125,11 @@ impl<'a> Table<'a> {
         ensures later { steps.old ≤ steps.new }
         ensures steps { steps.new ≤ steps.old + related_count prefix self.old.flows }
     {
-        self.counts.reserve(peer)?;
         let held = self.unicast.len();
+        if self.flows.has_destinations() && self.unicast.holds(peer, &prefix, &path) {
+            return Ok(false);
+        }
+        self.counts.reserve(peer)?;
         self.unicast.put(peer, prefix, path)?;
         self.counts.raise(peer, held < self.unicast.len());
         Ok(self.flows.mend(&prefix, &self.unicast, self.config, steps))

@@ -2,5 +2,5 @@ use Rattle.std.proofs.Common.{◌≡◌, filter, drop, slice_get}
 use Rattle.fs_rules.specs.Group.{is_chosen, chosen}
 use Rattle.fs_rules.proofs.lists.admitted_at.Given as goal
 
-abbrev pub invariant-loop-k : goal.invariant-loop-k
-invariant-loop-k l = slice_get (filter (is_chosen l.family l.kept) (drop l.k-index l.kept)) l.left ≡ slice_get (chosen l.family l.kept) l.n
+abbrev pub invariant-loop-place : goal.invariant-loop-place
+invariant-loop-place l = slice_get (filter (is_chosen l.family l.kept) (drop l.place l.kept)) l.left ≡ slice_get (chosen l.family l.kept) l.n

@@ -4,8 +4,8 @@ use Rattle.fs_rules.specs.Lists.{routes_chosen}
 use Rattle.fs_rules.specs.Walk.{matching_from}
 use Rattle.fs_rules.proofs.lists.next_match.Given as goal
 
-abbrev pub invariant-loop-k : goal.invariant-loop-k
-invariant-loop-k l = record {
-  rest : find (λ n. nat_le l.n n) (matching_from l.view l.number (routes_of (filter (is_chosen l.family l.kept) (drop l.k-index l.kept)))) ≡ find (λ n. nat_le l.n n) (matching_from l.view l.first (routes_chosen l.family l.kept));
-  small : l.number + length (filter (is_chosen l.family l.kept) (drop l.k-index l.kept)) ≡ l.first + length (chosen l.family l.kept);
+abbrev pub invariant-loop-place : goal.invariant-loop-place
+invariant-loop-place l = record {
+  rest : find (λ n. nat_le l.n n) (matching_from l.view l.number (routes_of (filter (is_chosen l.family l.kept) (drop l.place l.kept)))) ≡ find (λ n. nat_le l.n n) (matching_from l.view l.first (routes_chosen l.family l.kept));
+  small : l.number + length (filter (is_chosen l.family l.kept) (drop l.place l.kept)) ≡ l.first + length (chosen l.family l.kept);
 }
