@@ -26,6 +26,10 @@ module _ {A : Type 0} (old new : Announcing) (out out' : List ℕ) (result : Res
       by None h = h
       by (Some why) h = absurd (not_both a why e (stayed why h).0)
 
+pub not_some : {A : Type 0} (o : Option A) → is_some o ≡ false → o ≡ None
+not_some None e = refl
+not_some (Some a) e = absurd cc
+
 -- one rule more is said
 pub first_of : (text : Sent → List ℕ) (n : ℕ) (rules : List Sent) (said : List ℕ) → first_text text (drop n rules) ≡ Some said → (flat_map text (take (suc n) rules) ≡ flat_map text (take n rules) ++ said) × (n < length rules)
 first_of text n [] said h = absurd (none n h)
@@ -98,37 +102,6 @@ starts_own old new out out' starts = by old.started starts
     by : (b : Bool) → StartsWith b old new out out' → (before_all new ≡ before_all old) × (new.line ≡ old.line)
     by true s = (ap before_all s.0, ap (λ (n : Announcing). n.line) s.0)
     by false s = (ap before_all s.0, ap (λ (n : Announcing). n.line) s.0)
-
--- a rule that was said is one less
-pub says_fewer : (old new : Announcing) (started : Bool) (out out' : List ℕ) → old.line.closed ≡ None → SaysText (next_text old) true old new out out' → ahead_of new started < ahead_of old started
-says_fewer old new started out out' alive says = by (is_established (state_in old.line)) says
-  where
-    texts : Option (List ℕ)
-    texts = first_text (text_sent old.config old.peer old.line.phase.four old.sending) (drop old.appended old.sending.rules)
-
-    first : ℕ
-    first = if started then 0 else 1
-
-    less : old.appended < length old.sending.rules
-        → (if is_some old.line.closed then 0 else first + (length old.sending.rules - (old.appended + 1))) < (if is_some old.line.closed then 0 else first + (length old.sending.rules - old.appended))
-    less h = subst (λ (c : Option Closed). (if is_some c then 0 else first + (length old.sending.rules - (old.appended + 1))) < (if is_some c then 0 else first + (length old.sending.rules - old.appended))) (sym alive)
-        (omega (arith, h))
-
-    at : (o : Option (List ℕ)) → texts ≡ o → SaysText o true old new out out' → ahead_of new started < ahead_of old started
-    at None e s = absurd (never s.0)
-      where
-        never : true ≡ false → ⊥
-        never h = cc
-    at (Some text) e s =
-        subst (λ (n : Announcing). ahead_of n started < ahead_of old started) (sym s.1)
-        (less (first_of (text_sent old.config old.peer old.line.phase.four old.sending) old.appended old.sending.rules text e).1)
-
-    by : (b : Bool) → SaysText (if b then texts else None) true old new out out' → ahead_of new started < ahead_of old started
-    by true s = at texts refl s
-    by false s = absurd (never s.0)
-      where
-        never : true ≡ false → ⊥
-        never h = cc
 
 -- none is left once an established end says nothing more
 pub says_all : (old new : Announcing) (started : Bool) (out out' : List ℕ) → old.line.closed ≡ None → is_established (state_in old.line) ≡ true → started ≡ true → SaysText (next_text old) false old new out out'

@@ -1,5 +1,5 @@
 -- How what an announcing end says over a wire follows from how it stands.
-use Rattle.std.proofs.Common.{◌≡◌, ◌<◌, ◌≤◌, ℕ, zero, suc, ◌+◌, ◌-◌, List, [], ◌∷◌, ◌++◌, length, take, Bool, true, false, if◌then◌else◌, Option, Some, None, refl, ap, sym, ◌∙◌, subst, arith, append-nil}
+use Rattle.std.proofs.Common.{◌≡◌, ◌<◌, ◌≤◌, ℕ, ◌+◌, ◌-◌, List, [], ◌++◌, length, Bool, true, false, if◌then◌else◌, Option, Some, None, refl, ap, sym, ◌∙◌, subst, arith, append-nil}
 use Rattle.std.specs.Prelude.{flat_map}
 use Rattle.std.specs.Option.{is_some}
 use Rattle.fs_base.specs.declared.config.Config.{Config}
@@ -7,7 +7,6 @@ use Rattle.fs_base.specs.declared.config.Peer.{Peer}
 use Rattle.fs_base.specs.Wire.{Told, WireEnds}
 use Rattle.fs_message.specs.Deframer.{pending}
 use Rattle.fs_speaker.specs.declared.sending.Sending.{Sending}
-use Rattle.fs_speaker.specs.declared.sending.Sent.{Sent}
 use Rattle.fs_speaker.specs.declared.state.Closed.{Closed}
 use Rattle.fs_speaker.specs.declared.state.State.TheVariants.{Closed as IsClosed}
 use Rattle.fs_speaker.specs.Announcer.{Announcing, is_established, machine_in, open_sent}
@@ -29,6 +28,8 @@ use Rattle.fs_ends.specs.Teller.{ClosesSo, HasHeard, IsOpening, IsUp, StandsBy, 
 use Rattle.fs_ends.specs.Tell.{EndsBefore, MetLimit, SaidAll, Tells, TellsOver, TellsSo, begins_with}
 use Rattle.fs_ends.proofs.OpenSteps.{opened_waits}
 use Rattle.fs_ends.proofs.Telling.{stance_of}
+use Rattle.fs_ends.proofs.Ahead.{not_some}
+use Rattle.std.proofs.lemmas.List.{take_all}
 
 -- before its first octet
 pub heard_none : (config : Config) (peer : Peer) (sending : Sending) → HasHeard (begins_with config peer sending) false 0 [] [] []
@@ -62,25 +63,8 @@ is_of end old config peer sending own e = record {
   sending_is = ap (λ (n : Announcing). n.sending) own ∙ ap (λ (n : Announcing). n.sending) e;
 }
 
-not_some : {A : Type 0} (o : Option A) → is_some o ≡ false → o ≡ None
-not_some None e = refl
-not_some (Some a) e = absurd cc
-
 state_alive : (line : Lined) (b : Bool) → line.closed ≡ None → is_established (state_in line) ≡ b → is_established line.phase.state ≡ b
 state_alive line b h e = sym (ap (λ (c : Option Closed). is_established (elim c [ Some why ↦ IsClosed | None ↦ line.phase.state ])) h) ∙ e
-
-take_none : (n : ℕ) → take {A = Sent} n [] ≡ []
-take_none zero = refl
-take_none (suc n) = refl
-
-none_over : (n : ℕ) → suc n ≤ 0 → ⊥
-none_over n l = omega (arith, l)
-
--- as many as there are, or more
-take_enough : (n : ℕ) (rules : List Sent) → length rules ≤ n → take n rules ≡ rules
-take_enough n [] l = take_none n
-take_enough zero (sent ∷ rules) l = absurd (none_over (length rules) l)
-take_enough (suc n) (sent ∷ rules) l = ap (λ (r : List Sent). sent ∷ r) (take_enough n rules (omega (arith, l)))
 
 module _ (end : Announcing) (started : Bool) (count : ℕ) (moments octets said : List ℕ) (h : HasHeard end started count moments octets said) where
   by_up : (b : Bool) → end.line.closed ≡ None → is_established end.line.phase.state ≡ b → StandsBy None b end moments octets h.rest said
@@ -146,7 +130,7 @@ module _ (end : Announcing) (started : Bool) (count : ℕ) (moments octets said 
       sub_none a b c z = omega (arith, z)
 
       all : rules_of end ≡ flat_map (text_sent end.config end.peer end.line.phase.four end.sending) end.sending.rules
-      all = ap (flat_map (text_sent end.config end.peer end.line.phase.four end.sending)) (take_enough end.appended end.sending.rules (sub_none (if started then 0 else 1) (length end.sending.rules) end.appended left))
+      all = ap (flat_map (text_sent end.config end.peer end.line.phase.four end.sending)) (take_all end.appended end.sending.rules (sub_none (if started then 0 else 1) (length end.sending.rules) end.appended left))
 
       own : SaidAll end.config end.peer end.sending limit octets said
       own = record {

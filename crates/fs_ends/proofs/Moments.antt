@@ -1,6 +1,10 @@
 -- The moments of an end, one more at a time.
-use Rattle.std.proofs.Common.{◌≡◌, ◌<◌, ◌≤◌, ℕ, ◌-◌, max, List, [], ◌∷◌, ◌++◌, length, ap, sym, ◌∙◌, arith, append_assoc, append-nil}
+use Rattle.std.proofs.Common.{◌≡◌, ◌<◌, ◌≤◌, ℕ, ◌-◌, max, List, [], ◌∷◌, ◌++◌, length, ap, sym, ◌∙◌, arith, append_assoc, append-nil, ◌≢◌, ◌==◌, ◌*◌, suc, zero, Bool, true, false, if◌then◌else◌, nat_le, refl, subst}
 use Rattle.fs_ends.specs.HoldTime.{IsTakenAt, Spans, most}
+use Rattle.std.proofs.lemmas.Bool.Decides.{nat_tests}
+use Rattle.fs_speaker.specs.Times.{tick_at}
+use Rattle.fs_speaker.specs.declared.times.Tick.TheVariants.{Quiet, Keeps, Expires}
+use Rattle.fs_speaker.specs.declared.times.Times.{Times}
 
 pub most_append : (xs ys : List ℕ) → most (xs ++ ys) ≡ max (most xs) (most ys)
 most_append [] ys = omega arith
@@ -43,3 +47,25 @@ spans_now moments greatest taken least e t some far = record {
       let all : most moments ≡ max (most t.earlier) (most t.later) = ap most t.split ∙ most_append t.earlier t.later in
       omega (arith, all, e, t.taken_is, some, far);
 }
+
+-- what a tick says of the hold time
+pub expires_timed : (hold : ℕ) (now : Times) → tick_at hold now ≡ Expires → hold ≢ 0
+expires_timed hold now h zero_is = quiet (subst (λ (n : ℕ). tick_at n now ≡ Expires) zero_is h)
+  where
+    quiet : Quiet ≡ Expires → ⊥
+    quiet e = cc
+
+pub expires_far : (hold : ℕ) (now : Times) → tick_at hold now ≡ Expires → 1000 * hold ≤ now.greatest - now.taken
+expires_far hold now h =
+    let far : nat_le (1000 * hold) (now.greatest - now.taken) ≡ true = by (hold == 0) (nat_le (1000 * hold) (now.greatest - now.taken)) (nat_le (1000 * hold) (3 * (now.greatest - now.written))) h in
+    grind (arith, nat_tests, far)
+  where
+    by : (a b c : Bool) → (if a then Quiet else if b then Expires else if c then Keeps else Quiet) ≡ Expires → b ≡ true
+    by true b c e = absurd cc
+    by false true c e = refl
+    by false false true e = absurd cc
+    by false false false e = absurd cc
+
+pub positive : (n : ℕ) → n ≢ 0 → 0 < 1000 * n
+positive zero h = absurd (h refl)
+positive (suc n) h = omega arith

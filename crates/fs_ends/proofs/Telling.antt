@@ -1,7 +1,7 @@
 -- An announcing end, message by message.
-use Rattle.std.proofs.Common.{◌≡◌, ◌≢◌, ◌⊎◌, ◌<◌, ◌≤◌, ℕ, suc, zero, ◌+◌, ◌-◌, ◌*◌, max, List, [], ◌∷◌, ◌++◌, length, drop, take, Bool, true, false, if◌then◌else◌, nat_le, ◌==◌, Option, Some, None, Result, Ok, Err, inl, inr, refl, ap, sym, ◌∙◌, subst, arith, append_assoc, append-nil, length-append, length-drop, IfSome, IfOk, OnOk}
+use Rattle.std.proofs.Common.{◌≡◌, ◌≢◌, ◌⊎◌, ◌<◌, ◌≤◌, ℕ, suc, ◌+◌, ◌-◌, ◌*◌, max, List, [], ◌∷◌, ◌++◌, length, drop, take, Bool, true, false, if◌then◌else◌, ◌==◌, Option, Some, None, Result, Ok, Err, inl, inr, refl, ap, sym, ◌∙◌, subst, arith, append_assoc, append-nil, length-append, length-drop, IfSome}
 use Rattle.std.proofs.lemmas.Bool.Decides.{nat_tests}
-use Rattle.std.proofs.lemmas.List.{drop_all, drop_at, take-append-drop}
+use Rattle.std.proofs.lemmas.List.{drop_all, take-append-drop}
 use Rattle.std.specs.Option.{is_some}
 use Rattle.fs_message.specs.declared.fault.MessageFault.{MessageFault}
 use Rattle.fs_message.specs.declared.open_.Open.{Open}
@@ -17,7 +17,7 @@ use Rattle.fs_speaker.specs.declared.state.State.TheVariants.{WaitOpen, WaitKeep
 use Rattle.fs_speaker.specs.declared.times.Tick.{Tick}
 use Rattle.fs_speaker.specs.declared.times.Tick.TheVariants.{Quiet, Keeps, Expires}
 use Rattle.fs_speaker.specs.declared.times.Times.{Times}
-use Rattle.fs_speaker.specs.Announcer.{Announcing, has_started, is_established, next_text, one_sent, first_text, machine_in, open_sent, with_line, FeedsEnd, SaysText, Starts, StartsOpen, StartsWith, StaysEnded, TicksEnd}
+use Rattle.fs_speaker.specs.Announcer.{Announcing, has_started, is_established, next_text, one_sent, first_text, machine_in, open_sent, with_line, FeedsEnd, SaysText, StartsWith, StaysEnded, TicksEnd}
 use Rattle.fs_speaker.specs.Line.{Advanced, CloseIs, Lined, Refuses, Step, TickCloses, TickDoes, answer_of, closed_after, lined, moved, state_in, step_by, stops, takes, waits}
 use Rattle.fs_speaker.specs.Session.{at_start, still}
 use Rattle.fs_speaker.specs.Side.{at_fault, keepalive_to, no_farewell}
@@ -32,10 +32,9 @@ use Rattle.fs_ends.specs.HoldTime.{AreTimely, IsTakenAt}
 use Rattle.fs_ends.specs.Opening.{opened_by}
 use Rattle.std.specs.Prelude.{flat_map, ⊤}
 use Rattle.fs_speaker.specs.Sending.{text_sent}
-use Rattle.fs_speaker.specs.declared.sending.Sent.{Sent}
-use Rattle.fs_ends.specs.Teller.{ahead_of, before_all, rules_of, ClosesSo, HasHeard, IsAnswered, IsOpening, IsUp, KeepsOwn, SaysMore, Stands, StandsBy, Takes, Wakes, keepalives, opening_of}
+use Rattle.fs_ends.specs.Teller.{rules_of, ClosesSo, HasHeard, IsAnswered, IsOpening, IsUp, KeepsOwn, SaysMore, Stands, StandsBy, Takes, Wakes, keepalives, opening_of}
 use Rattle.fs_ends.proofs.Ahead.{alive_on, first_of, stayed}
-use Rattle.fs_ends.proofs.Moments.{most_more, spans_later, spans_now, taken_later, taken_now}
+use Rattle.fs_ends.proofs.Moments.{most_more, spans_later, spans_now, taken_later, taken_now, expires_far, expires_timed, positive}
 use Rattle.fs_ends.proofs.OpenSteps.{opened_stops, opened_takes, opened_waits}
 
 -- nothing was said
@@ -59,23 +58,6 @@ keeps_timed hold now h zero_is = quiet (subst (λ (n : ℕ). tick_at n now ≡ K
   where
     quiet : Quiet ≡ Keeps → ⊥
     quiet e = cc
-
-expires_timed : (hold : ℕ) (now : Times) → tick_at hold now ≡ Expires → hold ≢ 0
-expires_timed hold now h zero_is = quiet (subst (λ (n : ℕ). tick_at n now ≡ Expires) zero_is h)
-  where
-    quiet : Quiet ≡ Expires → ⊥
-    quiet e = cc
-
-expires_far : (hold : ℕ) (now : Times) → tick_at hold now ≡ Expires → 1000 * hold ≤ now.greatest - now.taken
-expires_far hold now h =
-    let far : nat_le (1000 * hold) (now.greatest - now.taken) ≡ true = by (hold == 0) (nat_le (1000 * hold) (now.greatest - now.taken)) (nat_le (1000 * hold) (3 * (now.greatest - now.written))) h in
-    grind (arith, nat_tests, far)
-  where
-    by : (a b c : Bool) → (if a then Quiet else if b then Expires else if c then Keeps else Quiet) ≡ Expires → b ≡ true
-    by true b c e = absurd cc
-    by false true c e = refl
-    by false false true e = absurd cc
-    by false false false e = absurd cc
 
 -- one KEEPALIVE more of the hold timer
 answered_more : (state : State) (hold replied : ℕ) → hold ≢ 0 → IsAnswered state hold replied → IsAnswered state hold (suc replied)
@@ -179,10 +161,6 @@ module _ (end : Announcing) (moment : ℕ) (alive : end.line.closed ≡ None) (e
               (positive end.line.phase.hold timed) (expires_far end.line.phase.hold then_at h);
         },
       )))
-    where
-      positive : (n : ℕ) → n ≢ 0 → 0 < 1000 * n
-      positive zero h = absurd (h refl)
-      positive (suc n) h = omega arith
 
 refused : (why : Closed) (out out' : List ℕ) → (why ≡ Memory → ⊥) → Refuses 4 0 out out' why → (why ≡ Fault 4 0) × ((more : List ℕ) × (out' ≡ out ++ more))
 refused Memory out out' other d = absurd (other refl)
@@ -320,12 +298,6 @@ no_rules end none = ap (λ (n : ℕ). flat_map (text_sent end.config end.peer en
 bool_cases : (b : Bool) → (b ≡ true) ⊎ (b ≡ false)
 bool_cases true = inl refl
 bool_cases false = inr refl
-
-nothing_said : (why : Closed) → at_fault no_farewell why ≡ []
-nothing_said (Fault code subcode) = refl
-nothing_said (Notified code subcode) = refl
-nothing_said NoFamily = refl
-nothing_said Memory = refl
 
 module _ (old : Announcing) (early : is_established old.line.phase.state ≡ false) (alive : old.line.closed ≡ None) (piece moments octets : List ℕ) where
   abbrev machine : Machine
@@ -630,10 +602,6 @@ takes_err old new piece out out' why result e other early stays same shut fed = 
     by None h = takes_shut old new piece out out' why result e other (early_in old.line h early) h same shut fed
     by (Some what) h = let s = stayed old new out out' result stays what h in takes_same old new piece out out' s.1 s.2
 
-pub on_ok : {T E P Q : Type 0} (result : Result T E) → (P → Q) → OnOk result P → OnOk result Q
-on_ok (Ok t) f p = f p
-on_ok (Err e) f p = p
-
 pub kept_same : (a : Announcing) → KeepsOwn a a
 kept_same a = (refl, λ e. e)
 
@@ -720,37 +688,6 @@ pub behind_more : (piece rest : List ℕ) (count : ℕ) → Behind piece rest �
 behind_more piece rest count b =
     (b.0 ++ take count rest, b.1 ∙ ap (λ (z : List ℕ). b.0 ++ z) (sym (take-append-drop count rest)) ∙ sym (append_assoc b.0 (take count rest) (drop count rest)))
 
-pub behind_is : (piece rest : List ℕ) → Behind piece rest → (drop (length piece - length rest) piece ≡ rest) × (length rest ≤ length piece)
-behind_is piece rest b =
-    let whole : length piece ≡ length b.0 + length rest = ap length b.1 ∙ length-append b.0 rest in
-    let front : length b.0 ≡ length piece - length rest = omega (arith, whole) in
-    (ap (drop (length piece - length rest)) b.1 ∙ drop_at b.0 rest (length piece - length rest) front, omega (arith, whole))
-
--- all of the piece was taken, or the end closed
-pub takes_whole : (a b : Announcing) (piece rest : List ℕ) (out out' : List ℕ) → Takes a b piece rest out out'
-    → ((rest ≡ []) ⊎ ((is_some b.line.closed ≡ true) ⊎ (is_established (state_in b.line) ≡ true))) → is_established (state_in b.line) ≡ false
-    → Takes a b piece (drop (length piece) piece) out out'
-takes_whole a b piece rest out out' took why early moments octets some started said s =
-    let t = took moments octets some started said s in (t.0, (t.1.0, by b.line.closed refl (said ++ t.0) t.1.1))
-  where
-    none : drop (length piece) piece ≡ []
-    none = drop_all (length piece) piece (omega arith)
-
-    both : {b : Bool} → b ≡ true → b ≡ false → ⊥
-    both q r = cc
-
-    rest_none : b.line.closed ≡ None → rest ≡ []
-    rest_none e = elim why [
-      | inl empty ↦ empty
-      | inr other ↦ elim other [ inl shut ↦ absurd (both shut (ap is_some e)) | inr up ↦ absurd (both up early) ]
-    ]
-
-    by : (c : Option Closed) → b.line.closed ≡ c → (more : List ℕ) → Stands b moments octets rest more → Stands b moments octets (drop (length piece) piece) more
-    by (Some closing) e more k =
-        subst (λ (c : Option Closed). StandsBy c (is_established b.line.phase.state) b moments octets (drop (length piece) piece) more) (sym e)
-        (subst (λ (c : Option Closed). StandsBy c (is_established b.line.phase.state) b moments octets rest more) e k)
-    by None e more k = subst (λ (r : List ℕ). Stands b moments octets r more) (rest_none e ∙ sym none) k
-
 -- how an end stands, by the pieces that it heard
 abbrev pub stance_of : Announcing → Bool → ℕ → Stance
 stance_of end started count = λ heard said. HasHeard end started count (moments_in heard) (octets_in heard) said
@@ -775,26 +712,6 @@ pub says_pieces : (a d : Announcing) (started started' : Bool) (count count' : �
     → ((moments octets : List ℕ) → SaysMore (HasHeard a started count moments octets) (HasHeard d started' count' moments octets) out out')
     → Says (stance_of a started count) (stance_of d started' count') out out'
 says_pieces a d started started' count count' out out' step heard said h = step (moments_in heard) (octets_in heard) said h
-
--- what is still to be said
-pub ahead_kept : (a b : Announcing) (started : Bool) → KeepsOwn a b → ahead_of b started ≤ ahead_of a started
-ahead_kept a b started k =
-    subst (λ (n : Announcing). ahead_of n started ≤ ahead_of a started) (sym k.0) (by (is_some a.line.closed) (is_some b.line.closed) refl refl)
-  where
-    rest : ℕ
-    rest = (if started then 0 else 1) + (length a.sending.rules - a.appended)
-
-    none : true ≡ false → ⊥
-    none e = cc
-
-    by : (x y : Bool) → is_some a.line.closed ≡ x → is_some b.line.closed ≡ y → (if y then 0 else rest) ≤ (if x then 0 else rest)
-    by true true e f = omega arith
-    by true false e f = absurd (none (sym (k.1 e) ∙ f))
-    by false true e f = omega arith
-    by false false e f = omega arith
-
-pub own_kept : (a b : Announcing) → KeepsOwn a b → before_all b ≡ before_all a
-own_kept a b k = ap before_all k.0
 
 -- the next rule
 pub says_next : (old new : Announcing) (count : ℕ) (started had : Bool) (out out' : List ℕ) → old.line.closed ≡ None → SaysText (next_text old) had old new out out' → (moments octets : List ℕ)

@@ -1,8 +1,10 @@
 //! The ends of a session, as the loops over a wire take them.
 #![tactic(auto)]
 
+mod steps;
 mod tell;
 mod teller;
 
+pub use steps::{closes, is_established, say, start, sum};
 pub use tell::{Ending, announce_over};
 pub use teller::Teller;

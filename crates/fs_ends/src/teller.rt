@@ -1,12 +1,13 @@
 //! The announcing end, up to the message that establishes its session.
 
-ghost use Rattle.std.specs.Prelude.{◌≡◌, ◌≢◌, ◌≤◌, ◌<◌, ◌+◌, ◌++◌, [], ℕ, Bool, List, None, true, false, length, drop, IfOk, IfSome, OnOk};
-ghost use Rattle.fs_speaker.specs.Announcer.{SaysText, StartsWith, is_established, next_text};
+ghost use Rattle.std.specs.Prelude.{◌≡◌, ◌≤◌, ◌<◌, ◌++◌, [], ℕ, List, true, false, length, drop, IfOk, IfSome, OnOk};
+ghost use Rattle.fs_speaker.specs.Announcer.{is_established};
 ghost use Rattle.fs_speaker.specs.Line.{state_in};
 ghost use Rattle.fs_ends.specs.Teller.{ahead_of, KeepsOwn, MessageTaken, Takes, Wakes};
 
+use crate::steps::{closes, is_established, say, start, sum};
 use fs_base::{Config, Memory};
-use fs_speaker::{Announcer, Closed, Sending, State};
+use fs_speaker::{Announcer, Closed, Sending};
 use fs_talk::Speaker;
 use std::alloc::Global;
 
@@ -67,38 +68,6 @@ impl<'a> Teller<'a> {
         start(&mut self.announcer, out)?;
         self.started = true;
         Ok(())
-    }
-}
-
-/// Says the OPEN.
-fn start(announcer: &mut Announcer<'_>, out: &mut Vec<u8>) -> Result<(), Memory>
-    ensures open { OnOk result (announcer.old.line.closed ≡ None) }
-    ensures starts { OnOk result
-        (StartsWith announcer.old.started announcer.old announcer.new out.old.items out.new.items) }
-    ensures ahead { (started : Bool) → ahead_of announcer.new started ≤ ahead_of announcer.old started }
-{
-    match announcer.start(out) {
-        Ok(()) => Ok(()),
-        Err(_) => Err(Memory),
-    }
-}
-
-/// An end that has closed takes no more; for want of memory nothing more is said of it.
-fn closes(why: Closed) -> Result<(), Memory>
-    ensures { OnOk result (why ≢ Closed.Memory) }
-{
-    match why {
-        Closed::Memory => Err(Memory),
-        Closed::Fault { .. } | Closed::Notified { .. } | Closed::NoFamily => Ok(()),
-    }
-}
-
-fn is_established(state: State) -> bool
-    ensures { result ≡ is_established state }
-{
-    match state {
-        State::Established => true,
-        State::WaitOpen | State::WaitKeep | State::Closed => false,
     }
 }
 
@@ -215,24 +184,5 @@ impl<'a> Speaker for Teller<'a> {
 
     fn count(&self) -> u64 {
         self.count
-    }
-}
-
-/// No machine holds so many octets that their count doesn't fit.
-fn sum(count: u64, more: usize) -> Result<u64, Memory>
-    ensures { IfOk result (λ both. both ≡ count + more) }
-{
-    count.checked_add(more as u64).ok_or(Memory)
-}
-
-/// Says the UPDATE of the next rule, and answers whether there was one.
-fn say(announcer: &mut Announcer<'_>, out: &mut Vec<u8>) -> Result<bool, Memory>
-    requires { announcer.old.line.closed ≡ None }
-    ensures says { IfOk result (λ had.
-        SaysText (next_text announcer.old) had announcer.old announcer.new out.old.items out.new.items) }
-{
-    match announcer.next_message(out) {
-        Ok(had) => Ok(had),
-        Err(_) => Err(Memory),
     }
 }

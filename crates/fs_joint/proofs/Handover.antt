@@ -1,6 +1,6 @@
 -- An end that takes a piece message by message comes to what the whole piece makes of it.
-use Rattle.std.proofs.Common.{◌≡◌, ℕ, ◌≤◌, List, [], ◌∷◌, ◌++◌, length, drop, max, Option, Some, None, Result, Ok, Err, refl, ap, sym, ◌∙◌, subst, arith, append_assoc, append-nil, IfSome}
-use Rattle.std.proofs.lemmas.List.{drop_all}
+use Rattle.std.proofs.Common.{◌≡◌, ℕ, List, [], ◌∷◌, ◌++◌, length, drop, max, Option, Some, None, Result, Ok, Err, refl, ap, sym, ◌∙◌, subst, arith, append_assoc, append-nil, IfSome, take, ◌-◌}
+use Rattle.std.proofs.lemmas.List.{drop_all, take_rest, nil_from_length}
 use Rattle.fs_attrs.specs.declared.update.Update.{Update}
 use Rattle.fs_message.specs.Deframer.{pending}
 use Rattle.fs_speaker.specs.declared.state.State.{State}
@@ -9,13 +9,13 @@ use Rattle.fs_speaker.specs.declared.state.Closed.{Closed}
 use Rattle.fs_speaker.specs.declared.state.Closed.TheVariants.{Fault, Notified, NoFamily, Memory}
 use Rattle.fs_speaker.specs.declared.times.Times.{Times}
 use Rattle.fs_speaker.specs.Handed.{Point, point, Handed, handed, shuts, updates_with, with_taken, runs_by, hand}
-use Rattle.fs_speaker.specs.Line.{Lined, Step, waits, takes, stops, step_by, step_in, answer_of, closed_after, Advanced, CloseIs, FeedsAt, FeedsOpen, StaysOver, moved}
+use Rattle.fs_speaker.specs.Line.{Lined, Step, waits, takes, stops, step_by, answer_of, closed_after, Advanced, CloseIs, FeedsAt, FeedsOpen, StaysOver, moved}
 use Rattle.fs_speaker.specs.Side.{at_fault}
 use Rattle.fs_speaker.specs.Times.{times, at_moment, taken_in}
 use Rattle.fs_speaker.specs.declared.transition.Phase.{Phase}
 use Rattle.fs_speaker.specs.Transition.{Machine}
 use Rattle.fs_speaker.proofs.Handing.{runs_takes, runs_stops, runs_waits}
-use Rattle.fs_joint.specs.End.{IsAt, StandsAt, HandsOver}
+use Rattle.fs_joint.specs.End.{StandsAt, HandsOver}
 
 -- what was taken and answered before, and what is to come
 abbrev pub behind : List Update → List ℕ → Handed → Handed
@@ -287,6 +287,6 @@ hands_closed machine moment old line new piece rest taken taken' out out' out2 w
           (g.1 ∙ sym (append-nil taken), kept.2 ∙ g.2 ∙ sym (append-nil out)),
         )
 
-pub no_items : {A : Type 0} (items : List A) → length items ≡ 0 → items ≡ []
-no_items [] h = refl
-no_items (item ∷ items) h = absurd (omega (arith, h))
+-- nothing lies behind a count that leaves nothing
+pub rest_none : (count : ℕ) (rest : List ℕ) → length (take (length rest - count) (drop count rest)) ≡ 0 → drop count rest ≡ []
+rest_none count rest h = nil_from_length (drop count rest) (ap length (sym (take_rest rest count)) ∙ h)

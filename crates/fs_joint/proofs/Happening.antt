@@ -1,49 +1,33 @@
 -- What each event makes of both ends.
-use Rattle.std.proofs.Common.{◌≡◌, ℕ, ◌+◌, Bool, true, false, if◌then◌else◌, List, [], ◌∷◌, ◌++◌, take, drop, Option, Some, None, Result, Ok, Err, refl, ap, sym, ◌∙◌, subst, append-nil, unwrap_or, OnOk}
+use Rattle.std.proofs.Common.{◌≡◌, ℕ, Bool, true, if◌then◌else◌, List, [], ◌++◌, take, drop, Option, Some, None, refl, ap, sym, ◌∙◌, subst, append-nil, unwrap_or}
 use Rattle.fs_base.specs.declared.config.Config.{Config}
 use Rattle.fs_base.specs.declared.config.Peer.{Peer}
 use Rattle.fs_attrs.specs.declared.update.Update.{Update}
 use Rattle.fs_speaker.specs.declared.state.Closed.{Closed}
-use Rattle.fs_speaker.specs.declared.state.Closed.TheVariants.{Memory}
 use Rattle.fs_speaker.specs.declared.times.Tick.{Tick}
 use Rattle.fs_speaker.specs.declared.times.Tick.TheVariants.{Quiet, Keeps, Expires}
 use Rattle.fs_speaker.specs.declared.times.Times.{Times}
 use Rattle.fs_speaker.specs.declared.sending.Sending.{Sending}
-use Rattle.fs_speaker.specs.declared.sending.Sent.{Sent}
-use Rattle.fs_speaker.specs.Announcer.{Announcing, announcing, machine_in, is_established, first_text, next_text, one_sent, Says, SaysText, SaysOpen, StaysEnded}
-use Rattle.fs_speaker.specs.Handed.{Point, Handed, handed, hand}
+use Rattle.fs_speaker.specs.Announcer.{Announcing, machine_in, is_established, first_text, next_text}
+use Rattle.fs_speaker.specs.Handed.{Point, Handed, hand}
 use Rattle.fs_speaker.specs.declared.state.State.TheVariants.{Closed as IsClosed}
-use Rattle.fs_speaker.specs.Line.{Lined}
 use Rattle.fs_speaker.specs.Sending.{needs_of, text_sent}
 use Rattle.fs_speaker.specs.Session.{Live, line_of}
 use Rattle.fs_speaker.specs.Side.{receiver, announcer}
 use Rattle.fs_speaker.specs.Times.{at_moment, tick_at}
 use Rattle.fs_speaker.specs.declared.transition.Phase.{Phase}
 use Rattle.fs_speaker.specs.Transition.{Machine}
-use Rattle.fs_joint.specs.End.{Own, own_of_taker, own_of_teller, ticks, ticked, IsAt, StandsAt, HandsOver, TicksOver}
-use Rattle.fs_joint.specs.Ends.{Both, both, IsTaker, IsTeller, AreIn, says_next}
+use Rattle.fs_joint.specs.End.{Own, own_of_taker, own_of_teller, ticks, ticked, StandsAt, HandsOver, TicksOver}
+use Rattle.fs_joint.specs.Ends.{Both, both, IsTaker, IsTeller, AreIn}
 use Rattle.fs_joint.specs.Flight.{Flying, flying}
 use Rattle.fs_joint.specs.World.{World, sent, taker_of, teller_of, next_said, says, delivers, wakes, cuts}
-
-pub on_ok : {T E P Q : Type 0} (result : Result T E) → (P → Q) → OnOk result P → OnOk result Q
-on_ok (Ok t) f p = f p
-on_ok (Err e) f p = p
-
-sent_nothing : (cut : Bool) (octets : List ℕ) → sent cut octets [] ≡ octets
-sent_nothing true octets = refl
-sent_nothing false octets = append-nil octets
+use Rattle.fs_joint.proofs.Waking.{ticked_by}
 
 -- no update comes of the clock
 no_update : (tick : Tick) (waiting : List ℕ) (phase : Phase) (times : Times) → (ticks tick waiting phase times).updates ≡ []
 no_update Quiet waiting phase times = refl
 no_update Keeps waiting phase times = refl
 no_update Expires waiting phase times = refl
-
-abbrev ticked_by : ℕ → Point → Option Closed → Handed
-ticked_by moment now how = elim how [
-  | Some why ↦ handed now [] []
-  | None ↦ ticks (tick_at now.phase.hold (at_moment moment now.times)) now.waiting now.phase (at_moment moment now.times)
-]
 
 nothing_taken : (moment : ℕ) (now : Point) → (ticked moment now).updates ≡ []
 nothing_taken moment now = by now.closed

@@ -1,5 +1,13 @@
 pub mod Handover
 pub mod Waking
 mod Happening
+pub mod Lowest
 mod Running
 mod Taking
+mod Reading
+mod Opening
+mod Fronting
+mod Lasting
+mod Telling
+mod Closing
+mod Unnamed

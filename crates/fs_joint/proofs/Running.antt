@@ -1,13 +1,11 @@
 -- A list of events, and one event more.
-use Rattle.std.proofs.Common.{◌≡◌, ℕ, ◌==◌, Bool, true, false, true≢false, List, [], ◌∷◌, ◌++◌, Option, Some, None, Ok, find, nat_le, option_map, unwrap_or, refl, ap, sym, ◌∙◌, subst, if◌then◌else◌, IsSome, IfSome, eq-eqb, eqb-true}
-use Rattle.std.specs.List.{list_all}
-use Rattle.fs_base.specs.Config.{peer_of}
+use Rattle.std.proofs.Common.{◌≡◌, ℕ, true, false, List, [], ◌∷◌, ◌++◌, Option, Some, Ok, option_map, unwrap_or, refl, ap, sym, ◌∙◌, subst, IfSome}
 use Rattle.fs_base.specs.declared.config.Config.{Config}
 use Rattle.fs_base.specs.declared.config.Peer.{Peer}
 use Rattle.fs_speaker.specs.declared.sending.Sending.{Sending}
 use Rattle.fs_speaker.specs.Announcer.{Announcing, announcing, open_sent, StartsOpen}
 use Rattle.fs_speaker.specs.Line.{fresh, step_by, waits}
-use Rattle.fs_speaker.specs.Sending.{is_lowest, sender_of}
+use Rattle.fs_speaker.specs.Sending.{sender_of}
 use Rattle.fs_speaker.specs.Session.{Live, live, begins, at_start}
 use Rattle.fs_speaker.specs.Transition.{Machine}
 use Rattle.fs_joint.specs.declared.event.Event.{Event}
@@ -15,8 +13,9 @@ use Rattle.fs_joint.specs.Ends.{Both, both, AreIn, Becomes}
 use Rattle.fs_joint.specs.Flight.{flying}
 use Rattle.fs_joint.specs.Joint.{Jointed, jointed, one_more, IsRun}
 use Rattle.fs_joint.specs.World.{World, taker_of, teller_of, happens, runs_on, run}
+use Rattle.fs_joint.proofs.Lowest.{sender_told}
 
-run_more : (config : Config) (peer : Peer) (sending : Sending) (w : World) (events : List Event) (event : Event)
+pub run_more : (config : Config) (peer : Peer) (sending : Sending) (w : World) (events : List Event) (event : Event)
     → runs_on config peer sending w (events ++ event ∷ []) ≡ happens config peer sending event (runs_on config peer sending w events)
 run_more config peer sending w [] event = refl
 run_more config peer sending w (first ∷ events) event = run_more config peer sending (happens config peer sending first w) events event
@@ -52,43 +51,6 @@ same_joint old new events events' event was e more same =
     ∙ ap (λ (s : Sending). jointed old.teller.config old.teller.peer s events' false) same.sending_is
     ∙ ap (λ (l : List Event). jointed old.teller.config old.teller.peer old.teller.sending l false) more
     ∙ ap (one_more event) e
-
-find_holds : (p : Peer → Bool) (peers : List Peer) (peer : Peer) → find p peers ≡ Some peer → p peer ≡ true
-find_holds p [] peer h = absurd cc
-find_holds p (first ∷ peers) peer h = by (p first) refl h (find_holds p peers peer)
-  where
-    by : (b : Bool) → p first ≡ b → (if b then Some first else find p peers) ≡ Some peer → (find p peers ≡ Some peer → p peer ≡ true) → p peer ≡ true
-    by true e f rest = ap p (sym (ap (λ (o : Option Peer). unwrap_or o first) f)) ∙ e
-    by false e f rest = rest f
-
-same_lowest : (all : List Peer) (one other : Peer) → one.number ≡ other.number → is_lowest all one ≡ is_lowest all other
-same_lowest all one other e = ap (λ (n : ℕ). list_all (λ (p : Peer). nat_le n p.number) all) e
-
-differ : (all : List Peer) (first peer : Peer) → is_lowest all first ≡ false → is_lowest all peer ≡ true → (b : Bool) → (first.number == peer.number) ≡ b → b ≡ false
-differ all first peer higher least true e = absurd (true≢false (sym least ∙ sym (same_lowest all first peer (eqb-true first.number peer.number e)) ∙ higher))
-differ all first peer higher least false e = refl
-
--- the peer with the lowest number is the one that its number tells
-lowest_first : (all peers : List Peer) (peer : Peer) → find (is_lowest all) peers ≡ Some peer → find (λ (other : Peer). other.number == peer.number) peers ≡ Some peer
-lowest_first all [] peer h = absurd cc
-lowest_first all (first ∷ peers) peer h = by (is_lowest all first) refl h (lowest_first all peers peer)
-  where
-    by : (b : Bool) → is_lowest all first ≡ b → (if b then Some first else find (is_lowest all) peers) ≡ Some peer
-        → (find (is_lowest all) peers ≡ Some peer → find (λ (other : Peer). other.number == peer.number) peers ≡ Some peer)
-        → (if first.number == peer.number then Some first else find (λ (other : Peer). other.number == peer.number) peers) ≡ Some peer
-    by true e f rest =
-        let same : first ≡ peer = ap (λ (o : Option Peer). unwrap_or o first) f in
-        ap (λ (b : Bool). if b then Some first else find (λ (other : Peer). other.number == peer.number) peers) (eq-eqb first.number peer.number (ap (λ (p : Peer). p.number) same)) ∙ f
-    by false e f rest =
-        ap (λ (b : Bool). if b then Some first else find (λ (other : Peer). other.number == peer.number) peers)
-        (differ all first peer e (find_holds (is_lowest all) peers peer f) (first.number == peer.number) refl)
-        ∙ rest f
-
-pub sender_told : (peers : List Peer) (peer : Peer) → sender_of peers ≡ Some peer → peer_of peer.number peers ≡ Some peer
-sender_told peers peer h = lowest_first peers peers peer h
-
-pub is_told : (peers : List Peer) (peer : Peer) → sender_of peers ≡ Some peer → IsSome (peer_of peer.number peers)
-is_told peers peer h = subst (λ (o : Option Peer). IsSome o) (sym (sender_told peers peer h)) refl
 
 nothing_waits : (machine : Machine) → step_by machine at_start [] ≡ waits
 nothing_waits machine = refl

@@ -7,7 +7,7 @@ use Rattle.fs_speaker.specs.declared.state.Closed.{Closed}
 use Rattle.fs_speaker.specs.declared.times.Tick.{Tick}
 use Rattle.fs_speaker.specs.declared.times.Tick.TheVariants.{Quiet, Keeps, Expires}
 use Rattle.fs_speaker.specs.declared.sending.Sending.{Sending}
-use Rattle.fs_speaker.specs.Handed.{Point, Handed, handed, hand, runs_by}
+use Rattle.fs_speaker.specs.Handed.{Point, Handed, handed, hand}
 use Rattle.fs_speaker.specs.Session.{Last, at_start, session_by}
 use Rattle.fs_speaker.specs.Times.{at_moment, tick_at}
 use Rattle.fs_speaker.specs.Transition.{Machine}
@@ -18,17 +18,12 @@ use Rattle.fs_joint.specs.declared.event.Event.{Event}
 use Rattle.fs_joint.specs.declared.event.Event.TheVariants.{Send, Deliver, Tick as TickEvent, Cut}
 use Rattle.fs_joint.specs.End.{ticks, ticked}
 use Rattle.fs_joint.specs.Laws.{taken_in, handed_over, delivered_on, delivered}
-use Rattle.fs_joint.specs.World.{World, taker_of, teller_of, taker_comes, teller_comes, says, next_said, delivers, wakes, cuts, happens, at_first, runs_on, run}
+use Rattle.fs_joint.specs.World.{World, taker_of, teller_of, taker_comes, teller_comes, says, next_said, happens, at_first, runs_on, run}
 use Rattle.fs_joint.proofs.Handover.{open_hand, closed_hand}
+use Rattle.fs_joint.proofs.Waking.{ticked_by}
 
 abbrev updates_in : Machine → Point → List ℕ → List Update
 updates_in machine now more = (session_by machine now.phase (now.waiting ++ more)).0
-
-abbrev ticked_by : ℕ → Point → Option Closed → Handed
-ticked_by moment now how = elim how [
-  | Some why ↦ handed now [] []
-  | None ↦ ticks (tick_at now.phase.hold (at_moment moment now.times)) now.waiting now.phase (at_moment moment now.times)
-]
 
 -- What was taken is what the octets delivered give; and while the end is open it goes on from where it stands.
 record Takes (machine : Machine) (octets : List ℕ) (taken : List Update) (now : Point) : Type 0 where

@@ -1,6 +1,6 @@
 -- The clock at an end.
 use Rattle.std.proofs.Common.{◌≡◌, ℕ, List, [], ◌++◌, Option, Some, None, Result, Ok, Err, refl, ap, sym, ◌∙◌, subst, append-nil, IfSome}
-use Rattle.fs_message.specs.Deframer.{Framing, pending}
+use Rattle.fs_message.specs.Deframer.{pending}
 use Rattle.fs_speaker.specs.declared.state.Closed.{Closed}
 use Rattle.fs_speaker.specs.declared.state.Closed.TheVariants.{Fault, Notified, NoFamily, Memory}
 use Rattle.fs_speaker.specs.declared.times.Tick.{Tick}
@@ -8,11 +8,11 @@ use Rattle.fs_speaker.specs.declared.times.Tick.TheVariants.{Quiet, Keeps, Expir
 use Rattle.fs_speaker.specs.declared.times.Times.{Times}
 use Rattle.fs_speaker.specs.declared.transition.Phase.{Phase}
 use Rattle.fs_speaker.specs.Handed.{Point, Handed, handed}
-use Rattle.fs_speaker.specs.Line.{Lined, Refuses, TickDoes, TickCloses, Ticks, TicksOpen, StaysOver, closed_after, step_by, waits}
+use Rattle.fs_speaker.specs.Line.{Lined, Refuses, TickDoes, TickCloses, Ticks, TicksOpen, StaysOver, closed_after}
 use Rattle.fs_speaker.specs.Side.{notice_text}
 use Rattle.fs_speaker.specs.Times.{at_moment, written_now, tick_at}
 use Rattle.fs_speaker.specs.Transition.{Machine}
-use Rattle.fs_joint.specs.End.{ticks, ticked, IsAt, StandsAt, TicksOver}
+use Rattle.fs_joint.specs.End.{ticks, IsAt, StandsAt, TicksOver}
 
 abbrev Came : Machine → Lined → (out out' : List ℕ) → Handed → Type 0
 Came machine new out out' made = StandsAt machine new made.point × (out' ≡ out ++ made.text)
@@ -62,7 +62,8 @@ module _ (machine : Machine) (moment : ℕ) (old new : Lined) (out out' : List �
   closes why other shut Keeps did = absurd (other did.0)
   closes why other shut Quiet did = absurd did
 
-abbrev ticked_by : ℕ → Point → Option Closed → Handed
+-- what a tick makes of an end that has closed so, or is open
+abbrev pub ticked_by : ℕ → Point → Option Closed → Handed
 ticked_by moment now how = elim how [
   | Some why ↦ handed now [] []
   | None ↦ ticks (tick_at now.phase.hold (at_moment moment now.times)) now.waiting now.phase (at_moment moment now.times)

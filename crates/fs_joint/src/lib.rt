@@ -11,4 +11,4 @@ mod laws;
 pub use end::{End, hand, tick};
 pub use event::{Event, EventList};
 pub use joint::Joint;
-pub use laws::takes_what_was_delivered;
+pub use laws::{closes_only_so, takes_a_front, takes_none_unnamed, takes_what_was_delivered};

@@ -1,12 +1,12 @@
 -- The moments of an end, and when its hold time expires.
-use Rattle.std.proofs.Common.{◌≡◌, ◌≢◌, ◌⊎◌, inl, inr, ℕ, zero, suc, ◌*◌, ◌-◌, ◌<◌, ◌≤◌, max, nat_le, ◌==◌, List, [], ◌∷◌, ◌++◌, length, Bool, true, false, if◌then◌else◌, Option, Some, None, Result, Ok, Err, refl, ap, sym, ◌∙◌, subst, arith, append_assoc, append-nil}
-use Rattle.std.proofs.lemmas.Bool.Decides.{nat_tests}
+use Rattle.std.proofs.Common.{◌≡◌, ◌≢◌, ◌⊎◌, inl, inr, ℕ, ◌*◌, ◌<◌, max, List, [], ◌∷◌, ◌++◌, length, Option, Some, None, Result, Ok, Err, refl, ap, sym, ◌∙◌, subst, arith, append_assoc, append-nil}
+use Rattle.std.proofs.lemmas.Option.{none-some}
 use Rattle.fs_base.specs.Parts.{parts_of}
 use Rattle.fs_message.specs.declared.fault.MessageFault.{MessageFault}
 use Rattle.fs_message.specs.Stream.{Message, first_message, wrong_at}
 use Rattle.fs_attrs.specs.declared.update.Update.{Update}
 use Rattle.fs_ends.specs.HoldTime.{AreTimely, IsTakenAt, Spans, most}
-use Rattle.fs_ends.proofs.Moments.{most_more, spans_now, taken_later, taken_now}
+use Rattle.fs_ends.proofs.Moments.{most_more, spans_now, taken_later, taken_now, expires_far, expires_timed, positive}
 use Rattle.fs_joint.specs.End.{ticked, ticks}
 use Rattle.fs_speaker.specs.Handed.{Handed, Point, hand, handed, point, runs, runs_by, shuts}
 use Rattle.fs_speaker.specs.Session.{at_start}
@@ -27,9 +27,6 @@ use Rattle.fs_receive.specs.Walk.{after, hears, walk, walks_on}
 abbrev Made : Type 0
 Made = Result (Phase × Option Update) Closed
 
-none_some : {A : Type 0} (a : A) → None ≡ Some a → ⊥
-none_some a e = cc
-
 -- what stays open has its moments, or took a message at the greatest of them
 abbrev Later : Phase → Times → Point → Type 0
 Later now times made =
@@ -45,7 +42,7 @@ took_now Established times = (refl, refl)
 took_now IsClosed times = (refl, refl)
 
 shut_later : (machine : Machine) (now at : Phase) (times : Times) (why : Closed) → LaterOpen now times (shuts machine at times why)
-shut_later machine now at times why e = absurd (none_some why (sym e))
+shut_later machine now at times why e = absurd (none-some why (sym e))
 
 runs_later : (machine : Machine) (messages : List Message) (now : Phase) (times : Times) (waiting : List ℕ) (wrong : Option MessageFault)
     → LaterOpen now times (runs machine now times messages waiting wrong)
@@ -156,11 +153,11 @@ module _ (machine : Machine) (moments : List ℕ) (now : Handed) (t : Timely mom
       at : now.point.closed ≡ None → (tick : Tick) → tick_at now.point.phase.hold then_at ≡ tick → AreTimely (moments ++ event.0 ∷ []) both.point.phase.hold both.point.times
       at e Quiet k = goes e then_at refl refl (ap (λ (m : Handed). m.point) (woke_is Quiet e k)) end
       at e Keeps k = goes e (written_now then_at) refl refl (ap (λ (m : Handed). m.point) (woke_is Keeps e k)) end
-      at e Expires k = absurd (none_some (Fault 4 0) (sym end ∙ expired e k))
+      at e Expires k = absurd (none-some (Fault 4 0) (sym end ∙ expired e k))
 
       by : (c : Option Closed) → now.point.closed ≡ c → AreTimely (moments ++ event.0 ∷ []) both.point.phase.hold both.point.times
       by None e = at e (tick_at now.point.phase.hold then_at) refl
-      by (Some why) e = absurd (none_some why (sym end ∙ shut_stays why e))
+      by (Some why) e = absurd (none-some why (sym end ∙ shut_stays why e))
 
 timely_on : (machine : Machine) (moments : List ℕ) (now : Handed) → Timely moments now → (heard : Pieces) → Timely (moments ++ moments_in heard) (walks_on machine now heard)
 timely_on machine moments now t [] = subst (λ (ms : List ℕ). Timely ms now) (sym (append-nil moments)) t
@@ -172,28 +169,6 @@ pub timely_walk : (machine : Machine) (heard : Pieces) → Timely (moments_in he
 timely_walk machine heard =
     timely_on machine [] (handed (point [] at_start (record { greatest = 0; taken = 0; written = 0 }) None) [] [])
     (λ e. record { greatest_is = refl; taken_is = λ timed. absurd (timed refl) }) heard
-
--- what a tick says of the hold time
-expires_timed : (hold : ℕ) (now : Times) → tick_at hold now ≡ Expires → hold ≢ 0
-expires_timed hold now h zero_is = quiet (subst (λ (n : ℕ). tick_at n now ≡ Expires) zero_is h)
-  where
-    quiet : Quiet ≡ Expires → ⊥
-    quiet e = cc
-
-expires_far : (hold : ℕ) (now : Times) → tick_at hold now ≡ Expires → 1000 * hold ≤ now.greatest - now.taken
-expires_far hold now h =
-    let far : nat_le (1000 * hold) (now.greatest - now.taken) ≡ true = by (hold == 0) (nat_le (1000 * hold) (now.greatest - now.taken)) (nat_le (1000 * hold) (3 * (now.greatest - now.written))) h in
-    grind (arith, nat_tests, far)
-  where
-    by : (a b c : Bool) → (if a then Quiet else if b then Expires else if c then Keeps else Quiet) ≡ Expires → b ≡ true
-    by true b c e = absurd cc
-    by false true c e = refl
-    by false false true e = absurd cc
-    by false false false e = absurd cc
-
-pub positive : (n : ℕ) → n ≢ 0 → 0 < 1000 * n
-positive zero h = absurd (h refl)
-positive (suc n) h = omega arith
 
 pub expires_late : (machine : Machine) (heard : Pieces) (moment : ℕ) → (walk machine heard).point.closed ≡ None
     → tick_at (walk machine heard).point.phase.hold (at_moment moment (walk machine heard).point.times) ≡ Expires

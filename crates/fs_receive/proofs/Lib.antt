@@ -3,6 +3,7 @@ mod Receiving
 mod Listened
 mod Answering
 mod Settling
+mod Counting
 mod Sending
 mod Holding
 mod Replying
@@ -10,6 +11,8 @@ mod Meeting
 mod Lasting
 mod Staying
 mod Timely
+mod Expiring
+mod Apart
 mod Limits
 mod Unhindered
 mod Paired

@@ -1,5 +1,5 @@
 -- The updates of rules pass no limit of as many routes.
-use Rattle.std.proofs.Common.{◌≡◌, ℕ, suc, ◌+◌, ◌≤◌, nat_lt, List, [], ◌∷◌, ◌++◌, length, map, filter, find, flat_map, Bool, true, false, cond, is_some, Option, Some, None, refl, ap, sym, ◌∙◌, arith}
+use Rattle.std.proofs.Common.{◌≡◌, ℕ, suc, ◌≤◌, nat_lt, List, [], ◌∷◌, length, map, filter, find, flat_map, Bool, true, false, cond, is_some, Option, Some, None, refl, ap, arith}
 use Rattle.std.specs.Set.{distinct_count}
 use Rattle.std.proofs.lemmas.Bool.Decides.{nat_tests}
 use Rattle.std.proofs.lemmas.List.Sums.{count_by-le-length, length-filter}

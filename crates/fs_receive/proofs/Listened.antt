@@ -1,5 +1,5 @@
 -- How what a receiving end hears and says over a wire follows from how it stands.
-use Rattle.std.proofs.Common.{◌≡◌, ◌<◌, ◌≤◌, ℕ, List, [], Bool, true, false, Option, Some, None, refl, ap, sym, ◌∙◌, subst}
+use Rattle.std.proofs.Common.{◌≡◌, ◌<◌, ◌≤◌, ℕ, List, [], Bool, true, false, Option, Some, None, refl, ap, sym, ◌∙◌, subst, if◌then◌else◌}
 use Rattle.fs_base.specs.Config.{peer_of}
 use Rattle.fs_base.specs.Wire.{WireEnds}
 use Rattle.fs_base.specs.declared.config.Config.{Config}
@@ -15,14 +15,14 @@ use Rattle.fs_desk.specs.Desk.{Desked, standing_at_desk}
 use Rattle.fs_desk.specs.Limit.{bounded_session}
 use Rattle.fs_desk.proofs.Standing.{desk_stands}
 use Rattle.fs_ends.specs.declared.tell.Ending.{Ending}
-use Rattle.fs_ends.specs.declared.tell.Ending.TheVariants.{Done, Closed as WasClosed, Ended as EndedEarly, AtLimit}
+use Rattle.fs_ends.specs.declared.tell.Ending.TheVariants.{Done, Ended as EndedEarly}
 use Rattle.fs_talk.specs.Listening.{EndsSo as StopsSo, HeardOut, HearsOut}
 use Rattle.fs_talk.specs.Turn.{Pieces, Stance, octets_in}
 use Rattle.fs_talk.specs.declared.listening.Heard.{Heard}
 use Rattle.fs_talk.specs.declared.listening.Heard.TheVariants.{All, Over, Ready, AtLimit as MetIt}
 use Rattle.fs_talk.proofs.Telling.{told_as}
 use Rattle.fs_receive.specs.Hearer.{HasClosed, IsHearing, Receives, bare, is_ended, tape_of}
-use Rattle.fs_receive.specs.Listen.{EndsSo, IsReceiving, Listens, ListensOver, ListensSo, MeetsLimit, is_settled}
+use Rattle.fs_receive.specs.Listen.{EndsSo, IsReceiving, Listens, ListensOver, ListensSo, MeetsLimit, is_settled, EndsHearing}
 use Rattle.fs_receive.proofs.Receiving.{closed_of, ended_there, hearing_of, life_tape, stands_open}
 
 -- what the octets of an open session come to
@@ -105,34 +105,25 @@ module _ (first last : Desked) (peer peer' first_count count limit : ℕ) (same 
             ends = ends l.listened.heard l.listened.said b.first.left r l.ends;
           }
 
-  pub over_so : (ending : Ending) (over ready : Bool) → HearsOut Over s0 s1 over ready count 0 limit t0 t1 answers answers' → over ≡ is_ended (standing_at_desk last peer)
-      → ((why : Closed) → standing_at_desk last peer ≡ Ended why → ending ≡ WasClosed why) → ListensOver ending first.config last peer limit t0 t1 answers answers'
-  over_so ending over ready hears o is =
-      listens_so ending Over over ready hears
-      (λ pieces said left r e.
-      let found = ended_there (standing_at_desk last peer) (sym o ∙ e) in
-      subst (λ (x : Ending). ListensSo x last peer r.whose limit pieces said left) (sym (is found.0 found.1)) (closes_so last peer count limit pieces said left r found.0 found.1))
-
-  pub limit_so : (over ready : Bool) → HearsOut MetIt s0 s1 over ready count 0 limit t0 t1 answers answers' → over ≡ is_ended (standing_at_desk last peer)
-      → ListensOver AtLimit first.config last peer limit t0 t1 answers answers'
-  limit_so over ready hears o = listens_so AtLimit MetIt over ready hears (λ pieces said left r e. meets_so last peer count limit pieces said left r (sym o ∙ e.0) e.1)
-
-  pub all_so : (ending : Ending) (over ready : Bool) → HearsOut All s0 s1 over ready count 0 limit t0 t1 answers answers' → over ≡ is_ended (standing_at_desk last peer)
-      → (is_settled (standing_at_desk last peer) ≡ true → ending ≡ Done) → (is_settled (standing_at_desk last peer) ≡ false → ending ≡ EndedEarly)
-      → ListensOver ending first.config last peer limit t0 t1 answers answers'
-  all_so ending over ready hears o up down =
-      listens_so ending All over ready hears (λ pieces said left r e. by pieces said left r e (is_settled (standing_at_desk last peer)) refl)
+  pub listens_as : (heard : Heard) (ending : Ending) (over : Bool) → HearsOut heard s0 s1 over false count 0 limit t0 t1 answers answers' → over ≡ is_ended (standing_at_desk last peer)
+      → EndsHearing heard (standing_at_desk last peer) ending → ListensOver ending first.config last peer limit t0 t1 answers answers'
+  listens_as heard ending over hears o is = listens_so ending heard over false hears (λ pieces said left r stops. by heard is pieces said left r stops)
     where
-      by : (pieces : Pieces) (said left : List ℕ) (r : Receives last peer count pieces said) → StopsSo All over ready count limit left → (b : Bool) → is_settled (standing_at_desk last peer) ≡ b
-          → ListensSo ending last peer r.whose limit pieces said left
-      by pieces said left r e true s =
-          subst (λ (x : Ending). ListensSo x last peer r.whose limit pieces said left) (sym (up s)) (ends_so last peer count limit pieces said left r true s (sym o ∙ e.0) e.1.0 e.1.1.1)
-      by pieces said left r e false s =
-          subst (λ (x : Ending). ListensSo x last peer r.whose limit pieces said left) (sym (down s)) (ends_so last peer count limit pieces said left r false s (sym o ∙ e.0) e.1.0 e.1.1.1)
+      all : (pieces : Pieces) (said left : List ℕ) (r : Receives last peer count pieces said) → StopsSo All over false count limit left → (b : Bool) → is_settled (standing_at_desk last peer) ≡ b
+          → ListensSo (if b then Done else EndedEarly) last peer r.whose limit pieces said left
+      all pieces said left r e true s = ends_so last peer count limit pieces said left r true s (sym o ∙ e.0) e.1.0 e.1.1.1
+      all pieces said left r e false s = ends_so last peer count limit pieces said left r false s (sym o ∙ e.0) e.1.0 e.1.1.1
 
-  -- no receiving end is ready
-  pub never_ready : (ending : Ending) (over : Bool) → HearsOut Ready s0 s1 over false count 0 limit t0 t1 answers answers' → ListensOver ending first.config last peer limit t0 t1 answers answers'
-  never_ready ending over hears = listens_so ending Ready over false hears (λ pieces said left r e. absurd (no e.1.1))
-    where
-      no : false ≡ true → ⊥
-      no e = cc
+      never : false ≡ true → ⊥
+      never e = cc
+
+      by : (heard : Heard) → EndsHearing heard (standing_at_desk last peer) ending → (pieces : Pieces) (said left : List ℕ) (r : Receives last peer count pieces said)
+          → StopsSo heard over false count limit left → ListensSo ending last peer r.whose limit pieces said left
+      by Over is pieces said left r e =
+          let found = ended_there (standing_at_desk last peer) (sym o ∙ e) in
+          subst (λ (x : Ending). ListensSo x last peer r.whose limit pieces said left) (sym (is found.0 found.1)) (closes_so last peer count limit pieces said left r found.0 found.1)
+      by MetIt is pieces said left r e =
+          subst (λ (x : Ending). ListensSo x last peer r.whose limit pieces said left) (sym is) (meets_so last peer count limit pieces said left r (sym o ∙ e.0) e.1)
+      by All is pieces said left r e =
+          subst (λ (x : Ending). ListensSo x last peer r.whose limit pieces said left) (sym is) (all pieces said left r e (is_settled (standing_at_desk last peer)) refl)
+      by Ready is pieces said left r e = absurd (never e.1.1)

@@ -1,12 +1,9 @@
 -- What two ends that are joined know of each other.
-use Rattle.std.proofs.Common.{◌≡◌, ◌⊎◌, inl, inr, ℕ, ◌+◌, ◌≤◌, List, [], ◌∷◌, ◌++◌, length, map, min, Bool, true, nat_le, Option, Some, None, Result, Ok, Err, refl, ap, sym, ◌∙◌, subst, append_assoc, append-nil, arith, length-append}
-use Rattle.std.specs.Prelude.{flat_map}
+use Rattle.std.proofs.Common.{◌≡◌, ◌⊎◌, inl, inr, ℕ, ◌+◌, ◌≤◌, List, [], ◌∷◌, ◌++◌, length, map, min, Bool, true, Option, Some, None, Result, Ok, Err, refl, ap, sym, ◌∙◌, subst, append_assoc, arith}
 use Rattle.std.specs.List.{AllByRecursion}
-use Rattle.std.proofs.lemmas.Bool.Decides.{nat_tests}
-use Rattle.byteorder.specs.Endian.{big_bytes}
+use Rattle.std.proofs.lemmas.Option.{none-some}
 use Rattle.fs_base.specs.declared.config.Config.{Config}
 use Rattle.fs_base.specs.declared.config.Peer.{Peer}
-use Rattle.fs_message.specs.Header.{allows}
 use Rattle.fs_message.specs.Open.{open_of}
 use Rattle.fs_message.specs.Stream.{Message, first_message}
 use Rattle.fs_message.specs.Write.{message_text, open_body}
@@ -18,33 +15,24 @@ use Rattle.fs_message.proofs.StreamLaws.{message_stable}
 use Rattle.fs_message.proofs.TextFirst.{text_first}
 use Rattle.fs_attrs.specs.declared.update.Update.{Update}
 use Rattle.fs_attrs.specs.declared.update.UpdateFault.{UpdateFault}
-use Rattle.fs_attrs.specs.Texts.{attribute_text, long_text}
-use Rattle.fs_attrs.specs.Write.{written_attributes}
 use Rattle.fs_speaker.specs.Announcer.{open_sent}
 use Rattle.fs_speaker.specs.Laws.{ComesBack}
-use Rattle.fs_speaker.specs.Line.{step_by}
-use Rattle.fs_speaker.specs.Sending.{body_by, text_sent, update_by, update_sent}
+use Rattle.fs_speaker.specs.Sending.{body_by, text_sent, update_sent}
 use Rattle.fs_speaker.specs.Session.{Last, at_start, session_by, session_from, still, with_update}
 use Rattle.fs_speaker.specs.Side.{as_update, receiver, reply_to}
 use Rattle.fs_speaker.specs.Transition.{Machine, opened, phase, terms_of, transition_by, updates}
 use Rattle.fs_speaker.specs.declared.sending.Sending.{Sending}
 use Rattle.fs_speaker.specs.declared.sending.Sent.{Sent}
-use Rattle.fs_speaker.specs.declared.state.Closed.{Closed}
 use Rattle.fs_speaker.specs.declared.state.State.TheVariants.{WaitOpen, WaitKeep, Established}
 use Rattle.fs_speaker.specs.declared.transition.Phase.{Phase}
-use Rattle.fs_speaker.proofs.SessionSteps.{machine_takes, machine_waits, step_found}
+use Rattle.fs_speaker.proofs.Arriving.{at_most, body_long, one_message, open_fits, update_fits}
+use Rattle.fs_speaker.proofs.SessionSteps.{machine_waits}
 use Rattle.fs_ends.specs.Teller.{keepalives}
 use Rattle.fs_talk.specs.Turn.{Pieces}
 use Rattle.fs_receive.specs.Hearer.{walked}
-use Rattle.fs_receive.specs.Pair.{CanArrive}
+use Rattle.fs_joint.specs.Laws.{CanArrive}
 use Rattle.fs_receive.specs.Sender.{TookOpen, rules_in, woven}
 use Rattle.fs_receive.proofs.Replying.{replies}
-
-abbrev Made : Type 0
-Made = Result (Phase × Option Update) Closed
-
-none_some : {A : Type 0} (a : A) → None ≡ Some a → ⊥
-none_some a e = cc
 
 module _ (config : Config) (whose : Peer) where
   -- the receiving end, while it is open, has said nothing, or what it said begins with the answer to the OPEN
@@ -66,7 +54,7 @@ module _ (config : Config) (whose : Peer) where
       here = ap first_message split ∙ message_stable octets left (t.message, t.behind) t.first
 
       by : (said ≡ []) ⊎ ((more : List ℕ) × (said ≡ reply_to config WaitOpen ++ more)) → four ≡ true
-      by (inl none) = absurd (none_some (t.message, t.behind ++ left) (sym (ap first_message none) ∙ here))
+      by (inl none) = absurd (none-some (t.message, t.behind ++ left) (sym (ap first_message none) ∙ here))
       by (inr m) =
           let body : List ℕ = open_body config.local_as config.hold_time config.local_id in
           let own : Message = record { kind = 1; body = body } in
@@ -77,37 +65,6 @@ module _ (config : Config) (whose : Peer) where
           sym t.read ∙ ap (λ (z : Message). open_of config.local_as z.body) same
           ∙ open_read config.local_as config.hold_time config.local_id can.local_as can.hold_time can.local_id can.some_as can.not_one can.not_two can.some_id in
           t.four_is ∙ ap (λ (r : Result Open MessageFault). elim r [ Ok found ↦ found.four | Err fault ↦ true ]) read
-
--- a message of a text is taken, and the session goes on behind it
-pub one_message : (machine : Machine) (now next : Phase) (update : Option Update) (kind : ℕ) (body more : List ℕ) → 1 ≤ kind → kind ≤ 5
-    → allows kind (19 + length body) ≡ true → 19 + length body ≤ 4096 → transition_by machine now (record { kind = kind; body = body }) ≡ Ok (next, update)
-    → session_by machine now (message_text kind body ++ more) ≡ with_update update (session_by machine next more)
-one_message machine now next update kind body more one five right long t =
-    let message : Message = record { kind = kind; body = body } in
-    let text : List ℕ = message_text kind body ++ [] in
-    machine_takes machine now next update (message_text kind body) [] more
-    (ap (λ (z : List ℕ). step_by machine now z) (sym (append-nil (message_text kind body)))
-    ∙ step_found machine now text (message, []) (Ok (next, update)) (text_first kind body [] one five right long) t)
-
-pub open_fits : (n : ℕ) → n ≡ 42 → (allows 1 (19 + n) ≡ true) × (19 + n ≤ 4096)
-open_fits n h = rw h (refl, omega arith)
-
-update_fits : (n : ℕ) → 4 ≤ n → allows 2 (19 + n) ≡ true
-update_fits n h = grind (arith, nat_tests)
-
-at_most : (n : ℕ) → nat_le (19 + n) 4096 ≡ true → 19 + n ≤ 4096
-at_most n h = grind (arith, nat_tests)
-
--- an UPDATE's body has two lengths
-body_long : (config : Config) (peer : Peer) (sending : Sending) (sent : Sent) → 4 ≤ length (body_by (terms_of config peer true) sending.as_path sent)
-unfolding body_by
-body_long config peer sending sent =
-    let attributes : List ℕ =
-    flat_map attribute_text (written_attributes (terms_of config peer true) (update_by (terms_of config peer true) sending.as_path sent)) in
-    let front : List ℕ = long_text [] in
-    let first : length front ≡ 2 = refl in
-    let behind : length (long_text attributes) ≡ 2 + length attributes = length-append (big_bytes 2 (length attributes)) attributes in
-    omega (arith, first, behind, length-append front (long_text attributes ++ []), length-append (long_text attributes) [])
 
 module _ (config : Config) (peer : Peer) (sending : Sending) where
   abbrev established : ℕ → Phase

@@ -1,6 +1,7 @@
 -- How what both ends come to over a wire follows from how they stand.
-use Rattle.std.proofs.Common.{◌≡◌, ◌⊎◌, inl, inr, ◌≤◌, ℕ, zero, suc, ◌+◌, ◌-◌, ◌||◌, List, [], ◌∷◌, ◌++◌, length, take, map, Bool, true, false, if◌then◌else◌, Option, Some, None, refl, ap, sym, ◌∙◌, subst, arith, append-nil, length-append, ◌<◌}
+use Rattle.std.proofs.Common.{◌≡◌, ◌⊎◌, inl, inr, ◌≤◌, ℕ, ◌+◌, ◌-◌, ◌||◌, List, [], ◌∷◌, ◌++◌, length, take, map, Bool, true, false, if◌then◌else◌, Option, Some, None, refl, ap, sym, ◌∙◌, subst, arith, append-nil, length-append, ◌<◌}
 use Rattle.std.specs.Option.{is_some}
+use Rattle.std.proofs.lemmas.Option.{none-some}
 use Rattle.fs_base.specs.Config.{peer_of}
 use Rattle.fs_base.specs.Wire.{WireEnds}
 use Rattle.fs_base.specs.declared.config.Config.{Config}
@@ -10,11 +11,12 @@ use Rattle.fs_speaker.specs.Announcer.{Announcing, is_established, machine_in, o
 use Rattle.fs_speaker.specs.Line.{Lined}
 use Rattle.fs_speaker.specs.Sending.{needs_of, text_sent, update_sent}
 use Rattle.fs_speaker.specs.Session.{Last, at_start, closed, session_from, still}
-use Rattle.fs_speaker.specs.Side.{announcer, reply_to}
+use Rattle.fs_speaker.specs.Side.{announcer, receiver, reply_to}
 use Rattle.fs_speaker.specs.Transition.{Machine, phase}
 use Rattle.fs_speaker.specs.declared.sending.Sending.{Sending}
 use Rattle.fs_speaker.specs.declared.sending.Sent.{Sent}
 use Rattle.fs_speaker.specs.declared.state.Closed.{Closed}
+use Rattle.fs_speaker.specs.declared.state.Closed.TheVariants.{Fault}
 use Rattle.fs_speaker.specs.declared.state.Standing.TheVariants.{Ended}
 use Rattle.fs_speaker.specs.declared.state.State.{State}
 use Rattle.fs_speaker.specs.declared.state.State.TheVariants.{WaitOpen, WaitKeep, Established, Closed as IsClosed}
@@ -22,8 +24,8 @@ use Rattle.fs_speaker.specs.declared.transition.Phase.{Phase}
 use Rattle.fs_message.specs.Stream.{first_message}
 use Rattle.fs_desk.specs.Desk.{Desked, standing_at_desk}
 use Rattle.fs_desk.specs.Limit.{bounded, bounded_from, bounded_session, first_over, too_many}
-use Rattle.fs_ends.specs.Tell.{begins_with}
 use Rattle.fs_ends.specs.Teller.{ahead_of, before_all, keepalives, opening_of}
+use Rattle.fs_ends.specs.Tell.{EndsBefore, MetLimit, begins_with}
 use Rattle.fs_ends.specs.declared.tell.Ending.{Ending}
 use Rattle.fs_ends.specs.declared.tell.Ending.TheVariants.{Done, Closed as WasClosed, Ended as EndedEarly, AtLimit}
 use Rattle.fs_talk.specs.Joined.{AreJoined, Ended as EndedSo, Exchanges, ExchangedOut, Heard, SaidAll, StopsSo, ended, moments_of, of_first, of_second}
@@ -33,10 +35,13 @@ use Rattle.fs_talk.specs.declared.joined.Talk.TheVariants.{Done as AllSaid, Firs
 use Rattle.fs_talk.proofs.Telling.{told_as}
 use Rattle.fs_receive.specs.Hearer.{HasClosed, Receives, bare, is_ended, walked}
 use Rattle.fs_receive.specs.Listen.{IsReceiving}
-use Rattle.fs_receive.specs.Pair.{Arrives, CanArrive, EndsEarly, IsUnhindered, Pairs, PairsOver, PairsSo, SaysFront, told_by}
+use Rattle.fs_joint.specs.Laws.{CanArrive}
+use Rattle.fs_receive.specs.Pair.{Arrives, ComesUp, EndsEarly, IsUnhindered, Pairs, PairsOver, PairsSo, RunsLate, SaysFront, told_by, EndsTalk}
 use Rattle.fs_receive.specs.Sender.{Began, Speaks, SpeaksUpTo, TookOpen, is_settled, rules_in, text_in, woven}
 use Rattle.fs_receive.specs.Walk.{walk}
-use Rattle.fs_receive.proofs.Answering.{awaits_open}
+use Rattle.fs_joint.specs.End.{IsAt}
+use Rattle.fs_receive.proofs.Apart.{late_first, late_second}
+use Rattle.fs_receive.proofs.Counting.{Opens, opens_so}
 use Rattle.fs_receive.proofs.Listened.{receiving}
 use Rattle.fs_receive.proofs.Meeting.{all_arrive, answers, meets, open_first, own_message}
 use Rattle.fs_receive.proofs.Receiving.{closed_of, ended_there, hearing_of}
@@ -45,6 +50,9 @@ use Rattle.fs_receive.proofs.Replying.{replies}
 use Rattle.fs_receive.proofs.Staying.{teller_stays, teller_up}
 use Rattle.fs_receive.proofs.Timely.{timely_first, timely_second}
 use Rattle.fs_receive.proofs.Unhindered.{Fronts, never_first, unread}
+use Rattle.fs_ends.proofs.Ahead.{not_some}
+use Rattle.std.proofs.lemmas.List.{take_all}
+use Rattle.fs_receive.proofs.Settling.{open_settled, unawaited}
 
 -- before its first octet
 speaks_none : (config : Config) (whose : Peer) (sending : Sending) → Speaks (begins_with config whose sending) false [] []
@@ -66,11 +74,7 @@ pub speaks_start : (end : Announcing) (started : Bool) (count : ℕ) (config : C
 speaks_start end started count config whose sending e s k =
     subst (λ (n : Announcing). SpeaksUpTo n started count [] []) (sym e)
     (subst (λ (b : Bool). SpeaksUpTo (begins_with config whose sending) b count [] []) (sym s)
-    (subst (λ (m : ℕ). SpeaksUpTo (begins_with config whose sending) false m [] []) (sym k) (speaks_none config whose sending, omega arith)))
-
-not_some : {A : Type 0} (o : Option A) → is_some o ≡ false → o ≡ None
-not_some None e = refl
-not_some (Some a) e = absurd cc
+    (subst (λ (m : ℕ). SpeaksUpTo (begins_with config whose sending) false m [] []) (sym k) (speaks_none config whose sending, λ f. (λ more. refl, refl))))
 
 some_there : {A : Type 0} (o : Option A) → is_some o ≡ true → (a : A) × (o ≡ Some a)
 some_there None e = absurd cc
@@ -78,21 +82,6 @@ some_there (Some a) e = (a, refl)
 
 never : true ≡ false → ⊥
 never e = cc
-
-none_some : {A : Type 0} (a : A) → None ≡ Some a → ⊥
-none_some a e = cc
-
-take_none : (n : ℕ) → take {A = Sent} n [] ≡ []
-take_none zero = refl
-take_none (suc n) = refl
-
-none_over : (n : ℕ) → suc n ≤ 0 → ⊥
-none_over n l = omega (arith, l)
-
-take_enough : (n : ℕ) (rules : List Sent) → length rules ≤ n → take n rules ≡ rules
-take_enough n [] l = take_none n
-take_enough zero (sent ∷ rules) l = absurd (none_over (length rules) l)
-take_enough (suc n) (sent ∷ rules) l = ap (λ (r : List Sent). sent ∷ r) (take_enough n rules (omega (arith, l)))
 
 -- a session that the limit doesn't close is the one without
 bounded_still : (most : Option ℕ) (session : List Update × Last) (found : Phase) → (bounded most session).1 ≡ still found → bounded most session ≡ session
@@ -107,16 +96,6 @@ bounded_still most session found e = by (first_over most session.0) refl
       where
         no : closed too_many ≡ still found → ⊥
         no h = cc
-
-unawaited : (state : State) → is_established state ≡ true → awaits_open state ≡ false
-unawaited state h = by state h
-  where
-    by : (state : State) → is_established state ≡ true → awaits_open state ≡ false
-    by Established h = refl
-    by _ h = absurd cc
-
-open_settled : (line : Lined) (b : Bool) → line.closed ≡ None → is_settled line ≡ b → is_established line.phase.state ≡ b
-open_settled line b e s = sym (ap (λ (c : Option Closed). is_some c || is_established (elim c [ Some w ↦ IsClosed | None ↦ line.phase.state ])) e) ∙ s
 
 unsettled : (line : Lined) → is_settled line ≡ false → line.closed ≡ None
 unsettled line s = by line.closed refl
@@ -216,6 +195,15 @@ module _ (first last : Desked) (peer peer' first_count count limit : ℕ) (same 
       PairsSo ending config whose sending last peer limit events announced replied now
       × (IsUnhindered config whose sending limit (moments_of events) announced replied → ending ≡ Done)
 
+  -- its hold time expired
+  late_so : (events : List Heard) (announced replied : List ℕ) (now : WireEnds) (given : List ℕ) → moments_of events ≡ given
+      → PairsSo (WasClosed (Fault 4 0)) config whose sending last peer limit events announced replied now
+      → RunsLate (receiver config whose) (of_first events) given ⊎ RunsLate (announcer config (needs_of sending.rules)) (of_second events) given
+  late_so events announced replied now given asked (inl c) =
+      inl (subst (RunsLate (receiver config whose) (of_first events)) asked (late_first config peer whose events replied c))
+  late_so events announced replied now given asked (inr c) =
+      inr (subst (RunsLate (announcer config (needs_of sending.rules)) (of_second events)) asked (late_second config sending events c))
+
   pairs_so : (ending : Ending) (talk : Talk) → (x : Exchanges talk s0 s1 a0 a1 end limit t0 t1 moments moments')
       → ((events : List Heard) (announced replied : List ℕ) (now : WireEnds) → Known events announced replied now
       → StopsSo talk end (length (octets_in (of_first events))) limit now → EndsSo ending events announced replied now)
@@ -250,6 +238,8 @@ module _ (first last : Desked) (peer peer' first_count count limit : ℕ) (same 
             wrote_second = e.other.wrote;
             asked = o.asked;
             front = front_of (of_second o.events) e.announced (e.other.stands [] [] begins).0;
+            late = λ h. late_so o.events e.announced e.replied now x.given o.asked
+                (subst (λ (n : Ending). PairsSo n config whose sending last peer limit o.events e.announced e.replied now) h made.0);
             arrives = λ u. made.1 (subst (λ (ms : List ℕ). IsUnhindered config whose sending limit ms e.announced e.replied) (sym o.asked) u);
             ends = made.0;
           }
@@ -279,16 +269,67 @@ module _ (first last : Desked) (peer peer' first_count count limit : ℕ) (same 
         subst (λ (p : Peer). IsReceiving last peer p (of_first events) replied) whose_same
         (receiving last peer r.whose (of_first events) replied (hearing_of last peer r.whose (of_first events) replied alive r.stands))
 
-    ends_early : is_settled b.line ≡ false → now.first.left ≡ [] → now.second.left ≡ [] → EndsEarly config sending (of_second events) now
-    ends_early e none other =
+    -- an open announcing end, by all that it heard
+    module _ (open_b : b.line.closed ≡ None) where
+      alive_second : (told_by config sending (of_second events)).point.closed ≡ None
+      alive_second = sym (ap (λ (m : Machine). (walk m (of_second events)).point.closed) machine_is) ∙ sym s.at.closed_is ∙ open_b
+
+      at_second : IsAt (machine_in b) b.line (walk (machine_in b) (of_second events)).point
+      at_second = s.at.open_is (sym s.at.closed_is ∙ open_b)
+
+      opens_b : Opens (machine_in b) b.line heard_up (octets_in (of_second events))
+      opens_b = opens_so (machine_in b) b.line (walk (machine_in b) (of_second events)).point heard_up (octets_in (of_second events)) open_b at_second k.speaks.1
+
+      opens : Opens (announcer config (needs_of sending.rules)) b.line heard_up (octets_in (of_second events))
+      opens = subst (λ (m : Machine). Opens m b.line heard_up (octets_in (of_second events))) machine_is opens_b
+
+      met_second : limit ≤ heard_up → MetLimit (announcer config (needs_of sending.rules)) limit (octets_in (of_second events))
+      met_second l = let c = opens.counted in record { phase = opens.phase; behind = opens.behind; found = opens.found; met = omega (arith, l, c) }
+
+      comes_up : is_settled b.line ≡ true → heard_up < limit → ComesUp config sending limit (of_second events)
+      comes_up up l =
+          let c = opens.counted in
+          record {
+            alive = alive_second;
+            phase = opens.phase;
+            behind = opens.behind;
+            found = opens.found;
+            up = opens.up ∙ sym (open_settled b.line open_b) ∙ up;
+            within = omega (arith, l, c);
+          }
+
+      ends_before : is_settled b.line ≡ false → heard_up < limit → now.second.left ≡ [] → EndsBefore (announcer config (needs_of sending.rules)) limit (octets_in (of_second events)) now.second.left
+      ends_before e l other =
+          let down : is_established b.line.phase.state ≡ false = sym (open_settled b.line open_b) ∙ e in
+          let none : opens.behind ≡ [] = opens.none down in
+          let c = opens.counted in
+          let zero : length opens.behind ≡ 0 = ap length none in
+          record {
+            phase = opens.phase;
+            found = opens.found ∙ ap (λ (z : List ℕ). (still opens.phase, z)) none;
+            down = opens.up ∙ down;
+            within = omega (arith, l, c, zero);
+            none = other;
+          }
+
+    down_second : is_settled b.line ≡ false → is_established (told_by config sending (of_second events)).point.phase.state ≡ false
+    down_second e =
+        let open_b : b.line.closed ≡ None = unsettled b.line e in
+        sym (ap (λ (m : Machine). is_established (walk m (of_second events)).point.phase.state) machine_is)
+        ∙ sym (ap (λ (p : Phase). is_established p.state) (at_second open_b).phase_is)
+        ∙ sym (open_settled b.line open_b) ∙ e
+
+    ends_early : is_ended (standing_at_desk last peer) ≡ false → is_settled b.line ≡ false → length (octets_in (of_first events)) < limit → heard_up < limit → now.first.left ≡ [] → now.second.left ≡ []
+        → EndsEarly config whose sending last peer limit (of_first events) (of_second events) replied now
+    ends_early alive e few few_up none other =
         let open_b : b.line.closed ≡ None = unsettled b.line e in
         record {
+          receives = receives_so alive;
+          within = few;
           none_first = none;
-          none_second = other;
-          down =
-              sym (ap (λ (m : Machine). is_established (walk m (of_second events)).point.phase.state) machine_is)
-              ∙ sym (ap (λ (p : Phase). is_established p.state) (s.at.open_is (sym s.at.closed_is ∙ open_b)).phase_is)
-              ∙ open_settled b.line false open_b e;
+          alive = alive_second open_b;
+          down = down_second e;
+          before = ends_before open_b e few_up other;
         }
 
     all_heard : now.first.left ≡ [] → announced ≡ octets_in (of_first events)
@@ -355,9 +396,9 @@ module _ (first last : Desked) (peer peer' first_count count limit : ℕ) (same 
 
     -- what nothing hinders
     module _ (u : IsUnhindered config whose sending limit (moments_of events) announced replied) where
-      limit_never : (limit ≤ length (octets_in (of_first events))) ⊎ (limit ≤ length (octets_in (of_second events))) → ⊥
+      limit_never : (limit ≤ length (octets_in (of_first events))) ⊎ MetLimit (announcer config (needs_of sending.rules)) limit (octets_in (of_second events)) → ⊥
       limit_never (inl l) = reaches_never (octets_in (of_first events)) now.first.left announced limit k.read_first u.announced_within l
-      limit_never (inr l) = reaches_never (octets_in (of_second events)) now.second.left replied limit k.read_second u.replied_within l
+      limit_never (inr l) = let m = l.met in reaches_never (octets_in (of_second events)) now.second.left replied limit k.read_second u.replied_within (omega (arith, m))
 
       first_never : b.line.closed ≡ None → (why : Closed) → standing_at_desk last peer ≡ Ended why → ⊥
       first_never open_b why e =
@@ -385,14 +426,13 @@ module _ (first last : Desked) (peer peer' first_count count limit : ℕ) (same 
 
       second_never : IsUnhindered config whose sending limit (moments_of events) announced replied → (why : Closed) → b.line.closed ≡ Some why → ⊥
       second_never u why e =
-          none_some why
+          none-some why
           (sym (teller_stays config whose sending (of_second events) now.second.left replied u.can (sym k.read_second) replies_form (timely_second config events u.timely)) ∙ closes_second why e)
 
       -- the announcing end has said its OPEN, and nothing is in flight
       unsettled_never : IsUnhindered config whose sending limit (moments_of events) announced replied → is_settled b.line ≡ false → started ≡ true → now.first.left ≡ [] → now.second.left ≡ [] → ⊥
       unsettled_never u down go none_first none_second =
-          let early : EndsEarly config sending (of_second events) now = ends_early down none_first none_second in
-          by replies_form early.down
+          by replies_form (down_second down)
         where
           heard_all : replied ≡ octets_in (of_second events)
           heard_all = k.read_second ∙ ap (λ (z : List ℕ). octets_in (of_second events) ++ z) none_second ∙ append-nil (octets_in (of_second events))
@@ -405,7 +445,7 @@ module _ (first last : Desked) (peer peer' first_count count limit : ℕ) (same 
 
           has_replied : replied ≡ [] → ⊥
           has_replied none =
-              none_some (own_message config whose sending, rest)
+              none-some (own_message config whose sending, rest)
               (sym (unread config whose sending u.can (of_first events) [] rest open_walk (sym reply_is ∙ none) (append-nil (octets_in (of_first events)) ∙ announced_is)).0
               ∙ ap first_message announced_is ∙ open_first config whose sending rest)
 
@@ -431,13 +471,13 @@ module _ (first last : Desked) (peer peer' first_count count limit : ℕ) (same 
             by false h = absurd cc
 
         past : Past b s.four (of_second events) s.parts
-        past = past_of b.line.phase.state b s.four (of_second events) s.parts (unawaited b.line.phase.state (open_settled b.line true open_b up)) (s.began open_b)
+        past = past_of b.line.phase.state b s.four (of_second events) s.parts (unawaited b.line.phase.state (sym (open_settled b.line open_b) ∙ up)) (s.began open_b)
 
         said_so : announced ≡ open_sent config whose sending ++ woven (text_sent config whose s.four sending) (None ∷ past.0.0)
         said_so = said_past open_b has_begun past
 
         rules_so : rules_in past.0.0 ≡ sending.rules
-        rules_so = rules_past past ∙ take_enough b.appended sending.rules (subst (λ (x : Sending). length x.rules ≤ b.appended) b_sending none_left.1)
+        rules_so = rules_past past ∙ take_all b.appended sending.rules (subst (λ (x : Sending). length x.rules ≤ b.appended) b_sending none_left.1)
 
         four_so : CanArrive config whose sending → s.four ≡ true
         four_so can =
@@ -457,9 +497,12 @@ module _ (first last : Desked) (peer peer' first_count count limit : ℕ) (same 
             ∙ ap (session_from config whose at_start) (said_so ∙ ap (λ (f : Bool). open_sent config whose sending ++ woven (text_sent config whose f sending) (None ∷ past.0.0)) (four_so can))
             ∙ all_arrive config whose sending past.0.0 can rules_so
 
-        arrives : Arrives config whose sending last peer (of_first events) announced replied
-        arrives = record {
+        arrives : length (octets_in (of_first events)) < limit → heard_up < limit
+            → Arrives config whose sending last peer limit (of_first events) (of_second events) announced replied
+        arrives few few_up = record {
           receives = got;
+          within = few;
+          comes_up = comes_up open_b up few_up;
           all_is = all_heard none;
           four = s.four;
           parts = past.0.0;
@@ -470,7 +513,7 @@ module _ (first last : Desked) (peer peer' first_count count limit : ℕ) (same 
         }
 
   -- each way in which it ends
-  pub done_so : (ending : Ending) → Exchanges AllSaid s0 s1 a0 a1 end limit t0 t1 moments moments' → ending ≡ (if is_settled b.line then Done else EndedEarly)
+  done_so : (ending : Ending) → Exchanges AllSaid s0 s1 a0 a1 end limit t0 t1 moments moments' → ending ≡ (if is_settled b.line then Done else EndedEarly)
       → PairsOver ending config whose sending last peer limit t0 t1 moments moments'
   done_so ending x e = pairs_so ending AllSaid x (λ events announced replied now k st. by events announced replied now k st (is_settled b.line) refl)
     where
@@ -480,16 +523,16 @@ module _ (first last : Desked) (peer peer' first_count count limit : ℕ) (same 
       by events announced replied now k st true up =
           let is : ending ≡ Done = e ∙ ap (λ (z : Bool). if z then Done else EndedEarly) up in (
             subst (λ (x : Ending). PairsSo x config whose sending last peer limit events announced replied now) (sym is)
-                (arrives events announced replied now k (at_peer ∙ st.open_first) (not_some b.line.closed st.open_second) up st.heard_first (st.all up)),
+                (arrives events announced replied now k (at_peer ∙ st.open_first) (not_some b.line.closed st.open_second) up st.heard_first (st.all up) st.within_first st.within_second),
             λ u. is,
           )
       by events announced replied now k st false down = (
         subst (λ (x : Ending). PairsSo x config whose sending last peer limit events announced replied now) (sym (e ∙ ap (λ (z : Bool). if z then Done else EndedEarly) down))
-            (ends_early events announced replied now k down st.heard_first (st.heard_second down)),
+            (ends_early events announced replied now k (at_peer ∙ st.open_first) down st.within_first st.within_second st.heard_first (st.heard_second down)),
         λ u. absurd (unsettled_never events announced replied now k (at_peer ∙ st.open_first) u down st.begun st.heard_first (st.heard_second down)),
       )
 
-  pub first_so : (ending : Ending) → Exchanges FirstOver s0 s1 a0 a1 end limit t0 t1 moments moments'
+  first_so : (ending : Ending) → Exchanges FirstOver s0 s1 a0 a1 end limit t0 t1 moments moments'
       → ((why : Closed) → standing_at_desk last peer ≡ Ended why → ending ≡ WasClosed why) → PairsOver ending config whose sending last peer limit t0 t1 moments moments'
   first_so ending x is =
       pairs_so ending FirstOver x
@@ -500,7 +543,7 @@ module _ (first last : Desked) (peer peer' first_count count limit : ℕ) (same 
         λ u. absurd (first_never events announced replied now k u (not_some b.line.closed st.1) found.0 found.1),
       ))
 
-  pub second_so : (ending : Ending) → Exchanges SecondOver s0 s1 a0 a1 end limit t0 t1 moments moments'
+  second_so : (ending : Ending) → Exchanges SecondOver s0 s1 a0 a1 end limit t0 t1 moments moments'
       → ((why : Closed) → b.line.closed ≡ Some why → ending ≡ WasClosed why) → PairsOver ending config whose sending last peer limit t0 t1 moments moments'
   second_so ending x is =
       pairs_so ending SecondOver x
@@ -511,14 +554,24 @@ module _ (first last : Desked) (peer peer' first_count count limit : ℕ) (same 
         λ u. absurd (second_never events announced replied now k (at_peer ∙ st.0) u found.0 found.1),
       ))
 
-  pub limit_so : Exchanges MetIt s0 s1 a0 a1 end limit t0 t1 moments moments' → PairsOver AtLimit config whose sending last peer limit t0 t1 moments moments'
+  limit_so : Exchanges MetIt s0 s1 a0 a1 end limit t0 t1 moments moments' → PairsOver AtLimit config whose sending last peer limit t0 t1 moments moments'
   limit_so x = pairs_so AtLimit MetIt x (λ events announced replied now k st.
-      let met = by events announced replied now k st.1.1 in (met, λ u. absurd (limit_never events announced replied now k u met)))
+      let open_b : b.line.closed ≡ None = not_some b.line.closed st.1.0 in
+      let met = by events announced replied now k open_b st.1.1 in (
+        record { receives = receives_so events announced replied now k (at_peer ∙ st.0); alive = alive_second events announced replied now k open_b; met = met },
+        λ u. absurd (limit_never events announced replied now k u met),
+      ))
     where
-      by : (events : List Heard) (announced replied : List ℕ) (now : WireEnds) → Known events announced replied now → (limit ≤ length (octets_in (of_first events))) ⊎ (limit ≤ heard_up)
-          → (limit ≤ length (octets_in (of_first events))) ⊎ (limit ≤ length (octets_in (of_second events)))
-      by events announced replied now k (inl l) = inl l
-      by events announced replied now k (inr l) = inr (let m = k.speaks.1 in omega (arith, l, m))
+      by : (events : List Heard) (announced replied : List ℕ) (now : WireEnds) → Known events announced replied now → b.line.closed ≡ None
+          → (limit ≤ length (octets_in (of_first events))) ⊎ (limit ≤ heard_up)
+          → (limit ≤ length (octets_in (of_first events))) ⊎ MetLimit (announcer config (needs_of sending.rules)) limit (octets_in (of_second events))
+      by events announced replied now k open_b (inl l) = inl l
+      by events announced replied now k open_b (inr l) = inr (met_second events announced replied now k open_b l)
 
-  pub never_broken : (ending : Ending) → Exchanges Broken s0 s1 a0 a1 end limit t0 t1 moments moments' → PairsOver ending config whose sending last peer limit t0 t1 moments moments'
-  never_broken ending x = pairs_so ending Broken x (λ events announced replied now k st. absurd st)
+  pub pairs_as : (talk : Talk) (ending : Ending) → Exchanges talk s0 s1 a0 a1 end limit t0 t1 moments moments' → EndsTalk talk (standing_at_desk last peer) b.line ending
+      → PairsOver ending config whose sending last peer limit t0 t1 moments moments'
+  pairs_as AllSaid ending x e = done_so ending x e
+  pairs_as FirstOver ending x is = first_so ending x is
+  pairs_as SecondOver ending x is = second_so ending x is
+  pairs_as MetIt ending x e = subst (λ (n : Ending). PairsOver n config whose sending last peer limit t0 t1 moments moments') (sym e) (limit_so x)
+  pairs_as Broken ending x e = pairs_so ending Broken x (λ events announced replied now k st. absurd st)

@@ -1,5 +1,6 @@
 -- What an open receiving end has said: nothing, or the answer to the OPEN and then KEEPALIVEs.
 use Rattle.std.proofs.Common.{◌≡◌, ◌⊎◌, inl, inr, ℕ, zero, suc, ◌+◌, arith, List, [], ◌∷◌, ◌++◌, drop, true, false, Option, Some, None, Result, Ok, Err, refl, ap, sym, ◌∙◌, subst, append_assoc, append-nil}
+use Rattle.std.proofs.lemmas.Option.{none-some}
 use Rattle.fs_base.specs.Parts.{parts_of}
 use Rattle.fs_base.specs.declared.config.Config.{Config}
 use Rattle.fs_base.specs.declared.config.Peer.{Peer}
@@ -27,9 +28,6 @@ use Rattle.fs_receive.proofs.Walking.{Steps, by_pieces, lived, walk_more}
 
 abbrev Made : Type 0
 Made = Result (Phase × Option Update) Closed
-
-none_some : {A : Type 0} (a : A) → None ≡ Some a → ⊥
-none_some a e = cc
 
 -- so many, and then more
 pub keepalives_more : (n m : ℕ) → keepalives n ++ keepalives m ≡ keepalives (m + n)
@@ -62,7 +60,7 @@ module _ (config : Config) (whose : Peer) where
       → ((made.text ≡ []) × (made.point.phase ≡ now)) ⊎ ((made.text ≡ reply_to config now.state) × (awaits_open made.point.phase.state ≡ false))
 
   shut_answered : (now at : Phase) (times : Times) (why : Closed) → Answered now (shuts machine at times why)
-  shut_answered now at times why e = absurd (none_some why (sym e))
+  shut_answered now at times why e = absurd (none-some why (sym e))
 
   runs_answered : (messages : List Message) (now : Phase) (times : Times) (waiting : List ℕ) (wrong : Option MessageFault)
       → Answered now (runs machine now times messages waiting wrong)

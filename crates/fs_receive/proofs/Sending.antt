@@ -1,7 +1,8 @@
 -- An announcing end that hears a piece at a moment.
-use Rattle.std.proofs.Common.{◌≡◌, ◌⊎◌, inl, inr, ℕ, suc, zero, ◌+◌, ◌-◌, ◌≤◌, List, [], ◌∷◌, ◌++◌, drop, length, arith, take, Bool, true, false, if◌then◌else◌, Option, Some, None, refl, ap, sym, ◌∙◌, subst, append_assoc, append-nil, length-append}
+use Rattle.std.proofs.Common.{◌≡◌, ◌⊎◌, inl, inr, ℕ, suc, zero, ◌+◌, List, [], ◌∷◌, ◌++◌, drop, arith, take, Bool, true, false, if◌then◌else◌, Option, Some, None, refl, ap, sym, ◌∙◌, subst, append_assoc, append-nil}
 use Rattle.std.specs.Option.{is_some}
 use Rattle.std.proofs.lemmas.Grind.{flat_map-append}
+use Rattle.std.proofs.lemmas.Option.{none-some}
 use Rattle.fs_base.specs.declared.config.Config.{Config}
 use Rattle.fs_message.specs.Write.{message_text}
 use Rattle.fs_message.proofs.StreamLaws.{message_stable}
@@ -22,9 +23,9 @@ use Rattle.fs_speaker.specs.declared.times.Tick.{Tick}
 use Rattle.fs_speaker.specs.declared.times.Tick.TheVariants.{Quiet, Keeps, Expires}
 use Rattle.fs_speaker.specs.declared.times.Times.{Times}
 use Rattle.fs_speaker.specs.declared.transition.Phase.{Phase}
-use Rattle.fs_ends.specs.Teller.{ahead_of, before_all, opening_of}
+use Rattle.fs_ends.specs.Teller.{opening_of}
 use Rattle.fs_talk.specs.Turn.{Hears, Pieces, Says, octets_in}
-use Rattle.fs_receive.specs.Sender.{Began, Speaks, SpeaksUpTo, TookOpen, part_text, rule_in, rules_in, text_in, woven}
+use Rattle.fs_receive.specs.Sender.{Began, CountsTo, Speaks, SpeaksUpTo, TookOpen, part_text, rule_in, rules_in, text_in, woven}
 use Rattle.fs_receive.specs.Walk.{hears, walk}
 use Rattle.fs_receive.proofs.Answering.{Goes, Opens, Quiet as IsQuiet, awaits_open, opens_by, quiet_by}
 use Rattle.fs_receive.proofs.Receiving.{octets_more}
@@ -32,9 +33,6 @@ use Rattle.fs_receive.proofs.Walking.{walk_more}
 
 never : true ≡ false → ⊥
 never e = cc
-
-none_some : {A : Type 0} (a : A) → None ≡ Some a → ⊥
-none_some a e = cc
 
 -- the parts that are said behind others
 woven_more : (text : Sent → List ℕ) (parts more : List (Option Sent)) → woven text (parts ++ more) ≡ woven text parts ++ woven text more
@@ -170,8 +168,8 @@ module _ (a : Announcing) (line : Lined) (heard : Pieces) (said : List ℕ) (mom
           rules_are = rules_more s.parts keeps ∙ ap (λ (z : List Sent). rules_in s.parts ++ z) n ∙ append-nil (rules_in s.parts) ∙ s.rules_are;
           ending = ending;
           said_is = text;
-          unended = λ e. absurd (none_some why (sym e ∙ stands.closed_is ∙ c));
-          began = λ e. absurd (none_some why (sym e ∙ stands.closed_is ∙ c));
+          unended = λ e. absurd (none-some why (sym e ∙ stands.closed_is ∙ c));
+          began = λ e. absurd (none-some why (sym e ∙ stands.closed_is ∙ c));
           unstarted = λ e. absurd (never e);
         },
       ),
@@ -474,22 +472,6 @@ says_next a new started had out out' go alive says heard said s = by (is_establi
     by false e = let q = subst (λ (o : Option (List ℕ)). SaysText o had a new out out') (next_is false e) says in same q.1 q.2
     by true e = by_text texts e refl (subst (λ (o : Option (List ℕ)). SaysText o had a new out out') (next_is true e) says)
 
-pub kept_own : (a b : Announcing) → b ≡ with_line a b.line → before_all b ≡ before_all a
-kept_own a b e = ap before_all e
-
--- an open end has no less to say than behind it
-pub kept_ahead : (a b : Announcing) (started : Bool) → a.line.closed ≡ None → b ≡ with_line a b.line → ahead_of b started ≤ ahead_of a started
-kept_ahead a b started alive e =
-    subst (λ (n : Announcing). ahead_of n started ≤ ahead_of a started) (sym e)
-    (subst (λ (c : Option Closed). (if is_some b.line.closed then 0 else rest) ≤ (if is_some c then 0 else rest)) (sym alive) (by (is_some b.line.closed)))
-  where
-    rest : ℕ
-    rest = (if started then 0 else 1) + (length a.sending.rules - a.appended)
-
-    by : (x : Bool) → (if x then 0 else rest) ≤ rest
-    by true = omega arith
-    by false = omega arith
-
 -- an open end hears a piece at a moment
 pub hears_piece : (a b c : Announcing) (started : Bool) (moment : ℕ) (piece o0 o1 o2 : List ℕ) → started ≡ true → b ≡ with_line a b.line → c ≡ with_line b c.line
     → TicksOver (machine_in a) moment a.line b.line o0 o1 → HandsOver (machine_in b) moment b.line c.line piece [] [] o1 o2
@@ -563,30 +545,22 @@ hears_shut a started moment piece out h heard said s = by a.line.closed refl
           ending = s.ending;
           said_is = s.said_is;
           unended = s.unended;
-          began = λ f. absurd (none_some why (sym f ∙ e));
+          began = λ f. absurd (none-some why (sym f ∙ e));
           unstarted = s.unstarted;
         }),
       ),
     )
 
--- and so many octets were counted
-pub counts_hears : (a c : Announcing) (started started' : Bool) (count count' moment : ℕ) (piece out out' : List ℕ) → count' ≤ count + length piece
+-- and so many octets count
+pub counts_hears : (a c : Announcing) (started started' : Bool) (count count' moment : ℕ) (piece out out' : List ℕ)
+    → ((octets : List ℕ) → CountsTo (machine_in a) a.line count octets → CountsTo (machine_in c) c.line count' (octets ++ piece))
     → Hears (Speaks a started) (Speaks c started') moment piece out out' → Hears (SpeaksUpTo a started count) (SpeaksUpTo c started' count') moment piece out out'
-counts_hears a c started started' count count' moment piece out out' few step heard said s =
+counts_hears a c started started' count count' moment piece out out' counts step heard said s =
     let h = step heard said s.0 in
-    let all : length (octets_in (heard ++ (moment, piece) ∷ [])) ≡ length (octets_in heard) + length piece = ap length (octets_more heard moment piece) ∙ length-append (octets_in heard) piece in
-    (h.0, (h.1.0, (h.1.1, omega (arith, few, all, s.1))))
+    (h.0, (h.1.0, (h.1.1, subst (CountsTo (machine_in c) c.line count') (sym (octets_more heard moment piece)) (counts (octets_in heard) s.1))))
 
-pub counts_says : (a c : Announcing) (started started' : Bool) (count count' : ℕ) (out out' : List ℕ) → count' ≡ count → Says (Speaks a started) (Speaks c started') out out'
-    → Says (SpeaksUpTo a started count) (SpeaksUpTo c started' count') out out'
-counts_says a c started started' count count' out out' same step heard said s =
-    let h = step heard said s.0 in (h.0, (h.1.0, (h.1.1, subst (λ (n : ℕ). n ≤ length (octets_in heard)) (sym same) s.1)))
-
-pub no_fewer : (a b : ℕ) → a ≤ a + b
-no_fewer a b = omega arith
-
-pub at_most : (a b c d n : ℕ) → a ≡ b + c → b ≡ d → c ≤ n → a ≤ d + n
-at_most a b c d n e f l = omega (arith, e, f, l)
-
-pub as_many : (a b n : ℕ) → a ≡ b → a ≤ b + n
-as_many a b n e = omega (arith, e)
+pub counts_says : (a c : Announcing) (started started' : Bool) (count count' : ℕ) (out out' : List ℕ)
+    → ((octets : List ℕ) → CountsTo (machine_in a) a.line count octets → CountsTo (machine_in c) c.line count' octets)
+    → Says (Speaks a started) (Speaks c started') out out' → Says (SpeaksUpTo a started count) (SpeaksUpTo c started' count') out out'
+counts_says a c started started' count count' out out' counts step heard said s =
+    let h = step heard said s.0 in (h.0, (h.1.0, (h.1.1, counts (octets_in heard) s.1)))

@@ -1,9 +1,9 @@
 -- An end that is settled stays so.
-use Rattle.std.proofs.Common.{◌≡◌, ◌||◌, ℕ, ◌+◌, ◌-◌, ◌≤◌, List, [], ◌++◌, length, take, drop, length-drop, Bool, true, false, Option, Some, None, Result, Ok, Err, IfSome, OnOk, refl, ap, sym, ◌∙◌, subst, arith}
+use Rattle.std.proofs.Common.{◌≡◌, ◌||◌, ℕ, ◌+◌, ◌-◌, ◌≤◌, List, [], ◌++◌, length, take, drop, length-drop, Bool, true, false, Option, Some, None, Result, Ok, Err, IfSome, refl, ap, sym, ◌∙◌, subst, arith}
 use Rattle.std.specs.Option.{is_some}
 use Rattle.std.proofs.lemmas.List.{take_rest}
 use Rattle.fs_joint.specs.End.{HandsOver}
-use Rattle.fs_joint.proofs.Handover.{Going, going_more, hands_all, hands_closed, no_items}
+use Rattle.fs_joint.proofs.Handover.{Going, going_more, hands_all, hands_closed}
 use Rattle.fs_message.specs.Deframer.{pending}
 use Rattle.fs_speaker.specs.Announcer.{Announcing, FeedsEnd, StaysEnded, TicksEnd, is_established, machine_in, with_line, without_update}
 use Rattle.fs_speaker.specs.Line.{Advanced, FeedsOpen, Lined, StaysOver, Step, closed_after, moved, state_in, step_by, stops, takes, waits}
@@ -42,10 +42,10 @@ woke_over old new result out out' stays = stays_over old new result result out o
 shut_settled : (line : Lined) (why : Closed) → line.closed ≡ Some why → is_settled line ≡ true
 shut_settled line why e = ap (λ (c : Option Closed). is_some c || is_established (elim c [ Some w ↦ IsClosed | None ↦ line.phase.state ])) e
 
-open_settled : (line : Lined) → line.closed ≡ None → is_settled line ≡ is_established line.phase.state
+pub open_settled : (line : Lined) → line.closed ≡ None → is_settled line ≡ is_established line.phase.state
 open_settled line e = ap (λ (c : Option Closed). is_some c || is_established (elim c [ Some w ↦ IsClosed | None ↦ line.phase.state ])) e
 
-unawaited : (state : State) → is_established state ≡ true → awaits_open state ≡ false
+pub unawaited : (state : State) → is_established state ≡ true → awaits_open state ≡ false
 unawaited WaitOpen h = absurd cc
 unawaited WaitKeep h = absurd cc
 unawaited Established h = refl
@@ -55,7 +55,7 @@ no_call : {A : Type 0} (why : Closed) (a : A) (result : Result A Closed) → res
 no_call why a result e f = absurd cc
 
 -- of an end that a call leaves open
-alive_before : {A : Type 0} (old new : Announcing) (result : Result A Closed) (a : A) (out out' : List ℕ) → result ≡ Ok a → StaysEnded old new result out out' → old.line.closed ≡ None
+pub alive_before : {A : Type 0} (old new : Announcing) (result : Result A Closed) (a : A) (out out' : List ℕ) → result ≡ Ok a → StaysEnded old new result out out' → old.line.closed ≡ None
 alive_before old new result a out out' e stays = by old.line.closed refl stays
   where
     by : (c : Option Closed) → old.line.closed ≡ c → IfSome c (λ why. (result ≡ Err why) × (new ≡ old) × (out' ≡ out)) → old.line.closed ≡ None
@@ -99,10 +99,6 @@ settled_then a b c f l = (l.0 ∙ ap (λ (n : Announcing). with_line n c.line) f
 pub settled_same : (a : Announcing) → KeepsSettled a a
 settled_same a = (refl, λ h. h)
 
-pub on_ok : {T E P Q : Type 0} (result : Result T E) → (P → Q) → OnOk result P → OnOk result Q
-on_ok (Ok t) f p = f p
-on_ok (Err e) f p = p
-
 closed_without : (result : Result ℕ Closed) → closed_after result ≡ closed_after (without_update result)
 closed_without (Ok count) = refl
 closed_without (Err why) = refl
@@ -132,41 +128,6 @@ module _ (a b c : Announcing) (moment : ℕ) (piece rest o0 o1 o2 : List ℕ) (r
 -- an open one that is settled is established
 pub settled_up : (line : Lined) → line.closed ≡ None → is_settled line ≡ true → is_established (state_in line) ≡ true
 settled_up line e h = sym (ap (λ (c : Option Closed). is_some c || is_established (state_in line)) e) ∙ h
-
--- of a piece all was counted, or none behind the message that settled the end
-pub rest_none : (count : ℕ) (rest : List ℕ) → length (take (length rest - count) (drop count rest)) ≡ 0 → drop count rest ≡ []
-rest_none count rest h = no_items (drop count rest) (ap length (sym (take_rest rest count)) ∙ h)
-
-pub counts_all : (old new : Announcing) (was : Bool) (needed needed' count total : ℕ) (rest : List ℕ) → was ≡ is_settled old.line → KeepsSettled old new → count ≤ length rest → drop count rest ≡ []
-    → (was ≡ false → needed' ≡ needed + count) → (is_settled old.line ≡ false → needed + length rest ≡ total) → is_settled new.line ≡ false → needed' ≡ total
-counts_all old new was needed needed' count total rest w kept few none added all e = by (is_settled old.line) refl
-  where
-    never : true ≡ false → ⊥
-    never h = cc
-
-    by : (b : Bool) → is_settled old.line ≡ b → needed' ≡ total
-    by true h = absurd (never (sym (kept.1 h) ∙ e))
-    by false h =
-        let more = added (w ∙ h) in
-        let before = all h in
-        let gone : length rest - count ≡ 0 = sym (length-drop count rest) ∙ ap length none in
-        omega (arith, more, before, gone, few)
-
-pub counts_on : (old new : Announcing) (was : Bool) (needed needed' count total : ℕ) (rest : List ℕ) → was ≡ is_settled old.line → KeepsSettled old new → count ≤ length rest
-    → (was ≡ false → needed' ≡ needed + count) → (is_settled old.line ≡ false → needed + length rest ≡ total) → is_settled new.line ≡ false
-    → needed' + length (take (length rest - count) (drop count rest)) ≡ total
-counts_on old new was needed needed' count total rest w kept few added all e = by (is_settled old.line) refl
-  where
-    never : true ≡ false → ⊥
-    never h = cc
-
-    by : (b : Bool) → is_settled old.line ≡ b → needed' + length (take (length rest - count) (drop count rest)) ≡ total
-    by true h = absurd (never (sym (kept.1 h) ∙ e))
-    by false h =
-        let more = added (w ∙ h) in
-        let before = all h in
-        let left : length (take (length rest - count) (drop count rest)) ≡ length rest - count = ap length (take_rest rest count) ∙ length-drop count rest in
-        omega (arith, more, before, left, few)
 
 pub counts_bound : (was : Bool) (needed needed' count total : ℕ) (rest : List ℕ) → count ≤ length rest → (was ≡ false → needed' ≡ needed + count) → (was ≡ true → needed' ≡ needed)
     → needed + length rest ≤ total → needed' + length (take (length rest - count) (drop count rest)) ≤ total

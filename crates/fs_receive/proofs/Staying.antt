@@ -36,21 +36,21 @@ use Rattle.fs_ends.specs.HoldTime.{Spans, most}
 use Rattle.fs_ends.specs.Teller.{keepalives}
 use Rattle.fs_talk.specs.Turn.{Pieces, moments_in, octets_in}
 use Rattle.fs_receive.specs.Hearer.{walked}
-use Rattle.fs_receive.specs.Pair.{CanArrive, IsTimely, told_by}
+use Rattle.fs_joint.specs.Laws.{CanArrive}
+use Rattle.fs_receive.specs.Pair.{IsTimely, told_by}
 use Rattle.fs_receive.specs.Walk.{walk}
 use Rattle.fs_receive.proofs.Answering.{awaits_open}
 use Rattle.fs_receive.proofs.Holding.{Unheld, closed_still, hold_is, hold_kept, last_update, runs_unheld, same_still}
-use Rattle.fs_receive.proofs.Lasting.{expires_late, positive}
-use Rattle.fs_receive.proofs.Meeting.{least, one_message, open_fits, peer_opens}
+use Rattle.fs_receive.proofs.Lasting.{expires_late}
+use Rattle.fs_speaker.proofs.Arriving.{one_message, open_fits}
+use Rattle.fs_receive.proofs.Meeting.{least, peer_opens}
 use Rattle.fs_receive.proofs.Receiving.{octets_more}
 use Rattle.fs_receive.proofs.Replying.{keepalives_front}
 use Rattle.fs_receive.proofs.Walking.{Steps, by_pieces, lived, steps, walk_more}
+use Rattle.fs_ends.proofs.Moments.{positive}
 
 abbrev Made : Type 0
 Made = Result (Phase × Option Update) Closed
-
-none_some : {A : Type 0} (a : A) → None ≡ Some a → ⊥
-none_some a e = cc
 
 -- they lie so close behind a first one
 abbrev pub AreClose : (first least : ℕ) → List ℕ → Type 0

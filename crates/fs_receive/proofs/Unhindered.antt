@@ -1,17 +1,18 @@
 -- A receiving end that hears what the announcing end says doesn't close, where nothing hinders the rules.
-use Rattle.std.proofs.Common.{◌≡◌, ◌⊎◌, inl, inr, ℕ, zero, suc, ◌+◌, ◌≤◌, List, [], ◌∷◌, ◌++◌, length, map, take, Bool, true, false, Option, Some, None, Result, Ok, Err, refl, ap, sym, ◌∙◌, subst, append_assoc, append-nil, arith}
+use Rattle.std.proofs.Common.{◌≡◌, ◌⊎◌, inl, inr, ℕ, zero, suc, ◌≤◌, List, [], ◌∷◌, ◌++◌, length, map, take, Bool, true, false, Option, Some, None, Result, Ok, Err, refl, ap, sym, ◌∙◌, subst, append_assoc, append-nil, arith}
 use Rattle.std.specs.List.{AllByRecursion}
 use Rattle.std.proofs.lemmas.Grind.{flat_map-append}
+use Rattle.std.proofs.lemmas.Option.{none-some}
 use Rattle.fs_base.specs.Config.{peer_of}
 use Rattle.fs_base.specs.Parts.{parts_of}
 use Rattle.fs_base.specs.declared.config.Config.{Config}
 use Rattle.fs_base.specs.declared.config.Peer.{Peer}
 use Rattle.fs_message.specs.Stream.{Message, first_message, wrong_at}
-use Rattle.fs_message.specs.Write.{message_text}
 use Rattle.fs_message.specs.declared.fault.MessageFault.{MessageFault}
 use Rattle.fs_message.proofs.StreamLaws.{fault_stays, message_stable}
 use Rattle.fs_attrs.specs.declared.update.Update.{Update}
 use Rattle.fs_joint.specs.End.{ticked, ticks}
+use Rattle.fs_joint.specs.Laws.{CanArrive}
 use Rattle.fs_speaker.specs.Announcer.{open_sent}
 use Rattle.fs_speaker.specs.Handed.{Handed, Point, handed}
 use Rattle.fs_speaker.specs.Laws.{ComesBack}
@@ -25,16 +26,13 @@ use Rattle.fs_speaker.specs.declared.sending.Sending.{Sending}
 use Rattle.fs_speaker.specs.declared.sending.Sent.{Sent}
 use Rattle.fs_speaker.specs.declared.state.Closed.{Closed}
 use Rattle.fs_speaker.specs.declared.state.State.TheVariants.{WaitOpen, WaitKeep, Established}
-use Rattle.fs_speaker.specs.declared.times.Tick.{Tick}
-use Rattle.fs_speaker.specs.declared.times.Tick.TheVariants.{Quiet}
-use Rattle.fs_speaker.specs.declared.times.Times.{Times}
 use Rattle.fs_speaker.specs.declared.transition.Phase.{Phase}
 use Rattle.fs_speaker.proofs.ReplySteps.{replies_rest, replies_takes, wrong_first}
 use Rattle.fs_speaker.proofs.SessionSteps.{going, machine_takes, plays_none, plays_step, session_rest, step_found}
 use Rattle.fs_desk.specs.Limit.{bounded, bounded_from, bounded_replies, bounded_replies_from, first_over, replies_to_limit, too_many}
 use Rattle.fs_talk.specs.Turn.{Pieces, moments_in, octets_in}
 use Rattle.fs_receive.specs.Hearer.{ClosesIn, ExpiresAt, HasClosed, walked}
-use Rattle.fs_receive.specs.Pair.{CanArrive, IsTimely, MayHold}
+use Rattle.fs_receive.specs.Pair.{IsTimely, MayHold}
 use Rattle.fs_receive.specs.Sender.{TookOpen, rules_in, woven}
 use Rattle.fs_receive.proofs.Limits.{within}
 use Rattle.fs_receive.proofs.Answering.{awaits_open}
@@ -43,13 +41,6 @@ use Rattle.fs_receive.proofs.Meeting.{answers, meets, open_first, own_message, p
 use Rattle.fs_receive.proofs.Replying.{waits_silent}
 use Rattle.fs_receive.proofs.Staying.{hearer_hold, never_due, stands}
 use Rattle.fs_receive.proofs.Timely.{timely_up_to}
-
-none_some : {A : Type 0} (a : A) → None ≡ Some a → ⊥
-none_some a e = cc
-
-none_both : (xs ys : List ℕ) → [] ≡ xs ++ ys → ys ≡ []
-none_both [] ys e = sym e
-none_both (x ∷ xs) ys e = absurd cc
 
 never : true ≡ false → ⊥
 never e = cc
@@ -137,7 +128,7 @@ module _ (config : Config) (whose : Peer) (sending : Sending) (can : CanArrive c
       by : (w : Option MessageFault) → wrong_at octets ≡ w → wrong_at octets ≡ None
       by None f = f
       by (Some fault) f =
-          absurd (none_some (own, rest)
+          absurd (none-some (own, rest)
           (sym (wrong_first (octets ++ more) fault (fault_stays octets more fault f)) ∙ (ap first_message e ∙ open_first config whose sending rest)))
 
   -- what is replied to them

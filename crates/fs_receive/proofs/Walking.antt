@@ -1,5 +1,6 @@
 -- One piece more.
 use Rattle.std.proofs.Common.{◌≡◌, ◌⊎◌, inl, inr, ℕ, List, [], ◌∷◌, ◌++◌, Option, Some, None, refl, ap, sym, ◌∙◌, subst, append_assoc, append-nil}
+use Rattle.std.proofs.lemmas.Option.{none-some}
 use Rattle.fs_joint.specs.End.{first_point, ticked, ticks}
 use Rattle.fs_speaker.specs.Handed.{Handed, Point, hand, handed, point, runs_by}
 use Rattle.fs_speaker.specs.Times.{at_moment, tick_at, written_now}
@@ -85,13 +86,10 @@ module _ (machine : Machine) (event : ℕ × List ℕ) (now : Point) where
       shut : (why : Closed) → (ticked event.0 now).point.closed ≡ Some why → (hears machine event now).point.closed ≡ Some why
       shut why e = ap (λ (c : Option Closed). (hand_by c (ticked event.0 now).point).point.closed) e ∙ e
 
-      none_some : (why : Closed) → None ≡ Some why → ⊥
-      none_some why e = cc
-
       at : now.closed ≡ None → Steps machine event now ⊎ (tick_at now.phase.hold then_at ≡ Expires) → (now.closed ≡ None) × Steps machine event now
       at e (inl s) = (e, s)
-      at e (inr k) = absurd (none_some (Fault 4 0) (sym end ∙ shut (Fault 4 0) (ap (λ (m : Handed). m.point.closed) (woke_is Expires e k))))
+      at e (inr k) = absurd (none-some (Fault 4 0) (sym end ∙ shut (Fault 4 0) (ap (λ (m : Handed). m.point.closed) (woke_is Expires e k))))
 
       by : (c : Option Closed) → now.closed ≡ c → (now.closed ≡ None) × Steps machine event now
       by None e = at e (steps e)
-      by (Some why) e = absurd (none_some why (sym end ∙ shut why (ap (λ (m : Handed). m.point.closed) (ap woke_by e) ∙ e)))
+      by (Some why) e = absurd (none-some why (sym end ∙ shut why (ap (λ (m : Handed). m.point.closed) (ap woke_by e) ∙ e)))

@@ -1,9 +1,16 @@
--- When a session closes for its hold time: the moments of an end that hears pieces lie so far apart.
-use Rattle.std.specs.Prelude.{◌≡◌, ◌≢◌, ℕ, ◌*◌, [], ◌∷◌, ◌++◌, None}
+-- When a session closes for its hold time: the moments of an end that hears pieces lie so far apart. No octets do that.
+use Rattle.std.specs.Prelude.{◌≡◌, ◌≢◌, ℕ, ◌*◌, List, [], ◌∷◌, ◌++◌, None}
+use Rattle.fs_base.specs.declared.config.Config.{Config}
+use Rattle.fs_base.specs.declared.config.Peer.{Peer}
+use Rattle.fs_desk.specs.Limit.{bounded_from}
 use Rattle.fs_ends.specs.HoldTime.{Spans}
+use Rattle.fs_ends.specs.Opening.{opened_by}
+use Rattle.fs_speaker.specs.Session.{closed, session_by}
 use Rattle.fs_speaker.specs.Times.{at_moment, tick_at}
 use Rattle.fs_speaker.specs.Transition.{Machine}
+use Rattle.fs_speaker.specs.declared.state.Closed.TheVariants.{Fault}
 use Rattle.fs_speaker.specs.declared.times.Tick.TheVariants.{Expires}
+use Rattle.fs_speaker.specs.declared.transition.Phase.{Phase}
 use Rattle.fs_talk.specs.Turn.{Pieces, moments_in}
 use Rattle.fs_receive.specs.Walk.{walk}
 
@@ -15,3 +22,13 @@ ExpiresLate =
     → tick_at (walk machine heard).point.phase.hold (at_moment moment (walk machine heard).point.times) ≡ Expires
     → ((walk machine heard).point.phase.hold ≢ 0)
     × Spans (1000 * (walk machine heard).point.phase.hold) (moments_in heard ++ moment ∷ [])
+
+-- No octets close a session with Hold Timer Expired: only the clock does. So of either end with all its octets, of an
+-- announcing end with those up to the message that establishes it, and of a receiving end with a limit of routes.
+pub record NeverExpires : Type 0 where
+  pub by_session : (machine : Machine) (now : Phase) (octets : List ℕ)
+      → (session_by machine now octets).1 ≡ closed (Fault 4 0) → ⊥
+  pub by_opening : (machine : Machine) (now : Phase) (octets : List ℕ)
+      → (opened_by machine now octets).0 ≡ closed (Fault 4 0) → ⊥
+  pub bounded : (config : Config) (peer : Peer) (octets : List ℕ)
+      → (bounded_from config peer octets).1 ≡ closed (Fault 4 0) → ⊥

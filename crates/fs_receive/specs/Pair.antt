@@ -1,5 +1,5 @@
 -- What both ends of a session come to that are joined over a wire.
-use Rattle.std.specs.Prelude.{◌≡◌, ◌≢◌, ◌⊎◌, ⊤, ℕ, ◌+◌, ◌*◌, ◌^◌, ◌≤◌, ◌<◌, List, [], ◌∷◌, ◌++◌, length, map, take, if◌then◌else◌, Bool, true, false, Option, Some, None}
+use Rattle.std.specs.Prelude.{◌≡◌, ◌≢◌, ◌⊎◌, ⊤, ℕ, ◌+◌, ◌*◌, ◌≤◌, ◌<◌, List, [], ◌∷◌, ◌++◌, length, map, take, if◌then◌else◌, Bool, true, false, Option, Some, None}
 use Rattle.std.specs.List.{AllByRecursion}
 use Rattle.fs_base.specs.Sink.{Grew}
 use Rattle.fs_base.specs.Wire.{Told, WireEnds}
@@ -7,40 +7,34 @@ use Rattle.fs_base.specs.declared.config.Config.{Config}
 use Rattle.fs_base.specs.declared.config.Peer.{Peer}
 use Rattle.fs_speaker.specs.Announcer.{is_established, open_sent}
 use Rattle.fs_speaker.specs.Handed.{Handed}
-use Rattle.fs_speaker.specs.Laws.{ComesBack}
 use Rattle.fs_speaker.specs.Sending.{needs_of, text_sent, update_sent}
-use Rattle.fs_speaker.specs.Session.{still}
-use Rattle.fs_speaker.specs.Side.{announcer}
-use Rattle.fs_speaker.specs.Transition.{phase}
+use Rattle.fs_speaker.specs.Line.{Lined}
+use Rattle.fs_speaker.specs.Session.{at_start, session_by, still}
+use Rattle.fs_speaker.specs.Side.{announcer, receiver}
+use Rattle.fs_speaker.specs.Transition.{Machine, phase}
 use Rattle.fs_speaker.specs.declared.sending.Sending.{Sending}
 use Rattle.fs_speaker.specs.declared.sending.Sent.{Sent}
+use Rattle.fs_speaker.specs.declared.state.Closed.{Closed}
+use Rattle.fs_speaker.specs.declared.state.Closed.TheVariants.{Fault}
+use Rattle.fs_speaker.specs.declared.state.Standing.{Standing}
+use Rattle.fs_speaker.specs.declared.state.Standing.TheVariants.{Ended as HasEnded}
 use Rattle.fs_speaker.specs.declared.state.State.TheVariants.{Established}
+use Rattle.fs_speaker.specs.declared.transition.Phase.{Phase}
+use Rattle.fs_joint.specs.Laws.{CanArrive}
 use Rattle.fs_desk.specs.Desk.{Desked}
 use Rattle.fs_desk.specs.Limit.{bounded_session}
+use Rattle.fs_ends.specs.Opening.{opened_by}
+use Rattle.fs_ends.specs.Tell.{EndsBefore, MetLimit}
 use Rattle.fs_ends.specs.declared.tell.Ending.{Ending}
 use Rattle.fs_ends.specs.declared.tell.Ending.TheVariants.{Done, Closed as WasClosed, Ended, AtLimit}
 use Rattle.fs_talk.specs.Joined.{AreJoined, Heard, moments_of, of_first, of_second}
 use Rattle.fs_talk.specs.Turn.{Pieces, octets_in}
+use Rattle.fs_talk.specs.declared.joined.Talk.{Talk}
+use Rattle.fs_talk.specs.declared.joined.Talk.TheVariants.{Done as AllSaid, FirstOver, SecondOver, AtLimit as MetIt, Broken}
 use Rattle.fs_receive.specs.Hearer.{HasClosed}
 use Rattle.fs_receive.specs.Listen.{IsReceiving}
-use Rattle.fs_receive.specs.Sender.{rules_in, woven}
+use Rattle.fs_receive.specs.Sender.{rules_in, woven, is_settled}
 use Rattle.fs_receive.specs.Walk.{walk}
-
--- The numbers of both OPENs are as a configuration's and the rules' are, and each rule's UPDATE is read as the rule's
--- update.
-pub record CanArrive (config : Config) (peer : Peer) (sending : Sending) : Type 0 where
-  pub local_as : config.local_as < 2 ^ 32
-  pub some_as : 0 < config.local_as
-  pub local_id : config.local_id < 2 ^ 32
-  pub some_id : 0 < config.local_id
-  pub hold_time : config.hold_time < 2 ^ 16
-  pub not_one : config.hold_time ≢ 1
-  pub not_two : config.hold_time ≢ 2
-  pub peer_as : peer.asn < 2 ^ 32
-  pub some_peer : 0 < peer.asn
-  pub id : sending.id < 2 ^ 32
-  pub named : 0 < sending.id
-  pub read : AllByRecursion (ComesBack config peer sending) sending.rules
 
 -- Of these moments none lies so far behind another that a hold time could have passed between them.
 abbrev pub IsTimely : Config → List ℕ → Type 0
@@ -67,11 +61,24 @@ pub record IsUnhindered (config : Config) (whose : Peer) (sending : Sending) (li
 abbrev pub told_by : Config → Sending → Pieces → Handed
 told_by config sending heard = walk (announcer config (needs_of sending.rules)) heard
 
+-- The octets that the announcing end heard close it nowhere, and establish it before the limit: those behind the
+-- message that does so don't count.
+pub record ComesUp (config : Config) (sending : Sending) (limit : ℕ) (told : Pieces) : Type 0 where
+  pub alive : (told_by config sending told).point.closed ≡ None
+  pub phase : Phase
+  pub behind : List ℕ
+  pub found : opened_by (announcer config (needs_of sending.rules)) at_start (octets_in told) ≡ (still phase, behind)
+  pub up : is_established phase.state ≡ true
+  pub within : length (octets_in told) < limit + length behind
+
 -- The announcing end said its OPEN, a KEEPALIVE, and then the UPDATEs of all rules in their order, each once, with
--- KEEPALIVEs between them; and the receiving end heard all of it: it took exactly the rules' updates.
-pub record Arrives (config : Config) (whose : Peer) (sending : Sending) (desk : Desked) (peer : ℕ) (heard : Pieces)
-    (announced replied : List ℕ) : Type 0 where
+-- KEEPALIVEs between them; and the receiving end heard all of it, and took exactly the rules' updates. Neither end's
+-- octets close it, and they are fewer than the limit.
+pub record Arrives (config : Config) (whose : Peer) (sending : Sending) (desk : Desked) (peer limit : ℕ)
+    (heard told : Pieces) (announced replied : List ℕ) : Type 0 where
   pub receives : IsReceiving desk peer whose heard replied
+  pub within : length (octets_in heard) < limit
+  pub comes_up : ComesUp config sending limit told
   pub all_is : announced ≡ octets_in heard
   pub four : Bool
   pub parts : List (Option Sent)
@@ -83,23 +90,67 @@ pub record Arrives (config : Config) (whose : Peer) (sending : Sending) (desk : 
       → bounded_session config peer announced
       ≡ (map (update_sent config whose sending) sending.rules, still (phase Established true config.hold_time))
 
--- Nothing is in flight, and the announcing end isn't established.
-pub record EndsEarly (config : Config) (sending : Sending) (heard : Pieces) (now : WireEnds) : Type 0 where
+-- Nothing is in flight, each end's octets are fewer than the limit and close it nowhere, and the announcing end isn't
+-- established.
+pub record EndsEarly (config : Config) (whose : Peer) (sending : Sending) (desk : Desked) (peer limit : ℕ)
+    (heard told : Pieces) (replied : List ℕ) (now : WireEnds) : Type 0 where
+  pub receives : IsReceiving desk peer whose heard replied
+  pub within : length (octets_in heard) < limit
   pub none_first : now.first.left ≡ []
-  pub none_second : now.second.left ≡ []
-  pub down : is_established (told_by config sending heard).point.phase.state ≡ false
+  pub alive : (told_by config sending told).point.closed ≡ None
+  pub down : is_established (told_by config sending told).point.phase.state ≡ false
+  pub before : EndsBefore (announcer config (needs_of sending.rules)) limit (octets_in told) now.second.left
+
+-- The octets of neither end close it, and one end heard as many as the limit. Of the announcing end none count behind
+-- the message that establishes it.
+pub record MeetsLimit (config : Config) (whose : Peer) (sending : Sending) (desk : Desked) (peer limit : ℕ)
+    (heard told : Pieces) (replied : List ℕ) : Type 0 where
+  pub receives : IsReceiving desk peer whose heard replied
+  pub alive : (told_by config sending told).point.closed ≡ None
+  pub met : (limit ≤ length (octets_in heard))
+      ⊎ MetLimit (announcer config (needs_of sending.rules)) limit (octets_in told)
 
 abbrev pub PairsSo : Ending → Config → Peer → Sending → Desked → (peer limit : ℕ) → List Heard
     → (announced replied : List ℕ) → WireEnds → Type 0
 PairsSo Done config whose sending desk peer limit events announced replied now =
-    Arrives config whose sending desk peer (of_first events) announced replied
+    Arrives config whose sending desk peer limit (of_first events) (of_second events) announced replied
 PairsSo (WasClosed why) config whose sending desk peer limit events announced replied now =
     HasClosed config peer whose (of_first events) replied why
     ⊎ ((told_by config sending (of_second events)).point.closed ≡ Some why)
 PairsSo AtLimit config whose sending desk peer limit events announced replied now =
-    (limit ≤ length (octets_in (of_first events))) ⊎ (limit ≤ length (octets_in (of_second events)))
+    MeetsLimit config whose sending desk peer limit (of_first events) (of_second events) replied
 PairsSo Ended config whose sending desk peer limit events announced replied now =
-    EndsEarly config sending (of_second events) now
+    EndsEarly config whose sending desk peer limit (of_first events) (of_second events) replied now
+
+-- The ending of a session of which no more is heard: done where the announcing end is settled, an end that has closed
+-- closes the session.
+abbrev pub EndsTalk : Talk → Standing → Lined → Ending → Type 0
+EndsTalk AllSaid standing line ending = ending ≡ (if is_settled line then Done else Ended)
+EndsTalk FirstOver standing line ending = (why : Closed) → standing ≡ HasEnded why → ending ≡ WasClosed why
+EndsTalk SecondOver standing line ending = (why : Closed) → line.closed ≡ Some why → ending ≡ WasClosed why
+EndsTalk MetIt standing line ending = ending ≡ AtLimit
+EndsTalk Broken standing line ending = ⊤
+
+-- one of the moments is at least this
+abbrev pub Reaches : ℕ → List ℕ → Type 0
+Reaches least [] = ⊥
+Reaches least (moment ∷ moments) = (least ≤ moment) ⊎ Reaches least moments
+
+-- of the moments a later one lies at least so much above an earlier one
+abbrev pub LieApart : ℕ → List ℕ → Type 0
+LieApart least [] = ⊥
+LieApart least (moment ∷ moments) = Reaches (moment + least) moments ⊎ LieApart least moments
+
+-- The hold time of an end expired (RFC 4271, section 6.5): the octets that it took agree on one above 0, and of these
+-- moments a later one lies at least so much above an earlier one.
+pub record RunsLate (machine : Machine) (heard : Pieces) (moments : List ℕ) : Type 0 where
+  pub taken : List ℕ
+  pub untaken : List ℕ
+  pub split : octets_in heard ≡ taken ++ untaken
+  pub phase : Phase
+  pub found : (session_by machine at_start taken).1 ≡ still phase
+  pub timed : phase.hold ≢ 0
+  pub apart : LieApart (1000 * phase.hold) moments
 
 -- However it ends, the announcing end said of its OPEN, KEEPALIVEs, the UPDATEs of all rules in their order, each once,
 -- only a front; and where its hold time has expired, a NOTIFICATION behind that.
@@ -116,7 +167,7 @@ pub record SaysFront (config : Config) (whose : Peer) (sending : Sending) (annou
 
 -- Each end heard, in pieces at these moments, of what the other said all but what is in flight, and what it said was
 -- written through it. The desk has the configuration that it began with. Where nothing hinders the rules, all of them
--- arrive.
+-- arrive. It ends with Hold Timer Expired only where the hold time of an end did expire.
 pub record Pairs (ending : Ending) (config : Config) (whose : Peer) (sending : Sending) (desk : Desked) (peer limit : ℕ)
     (given : List ℕ) (before now : WireEnds) : Type 0 where
   pub config_is : desk.config ≡ config
@@ -130,6 +181,9 @@ pub record Pairs (ending : Ending) (config : Config) (whose : Peer) (sending : S
   pub asked : moments_of events ≡ given
   pub front : SaysFront config whose sending announced
   pub arrives : IsUnhindered config whose sending limit given announced replied → ending ≡ Done
+  pub late : ending ≡ WasClosed (Fault 4 0)
+      → RunsLate (receiver config whose) (of_first events) given
+      ⊎ RunsLate (announcer config (needs_of sending.rules)) (of_second events) given
   pub ends : PairsSo ending config whose sending desk peer limit events announced replied now
 
 pub record PairsOver (ending : Ending) (config : Config) (whose : Peer) (sending : Sending) (desk : Desked)

@@ -1,7 +1,8 @@
 -- The announcing end of a session over a wire, by the pieces that it heard and what it said.
-use Rattle.std.specs.Prelude.{◌≡◌, ◌||◌, ◌≤◌, ℕ, List, [], ◌∷◌, ◌++◌, length, take, flat_map, Bool, true, false, Option, Some, None, Ok}
+use Rattle.std.specs.Prelude.{◌≡◌, ◌||◌, ◌+◌, ℕ, List, [], ◌∷◌, ◌++◌, length, take, flat_map, Bool, true, false, Option, Some, None, Ok}
 use Rattle.std.specs.Option.{is_some}
 use Rattle.fs_base.specs.declared.config.Config.{Config}
+use Rattle.fs_message.specs.Deframer.{pending}
 use Rattle.fs_message.specs.Open.{open_of}
 use Rattle.fs_message.specs.Stream.{Message, first_message}
 use Rattle.fs_message.specs.Write.{message_text}
@@ -10,9 +11,13 @@ use Rattle.fs_joint.specs.End.{StandsAt}
 use Rattle.fs_speaker.specs.Announcer.{Announcing, is_established, machine_in, with_line}
 use Rattle.fs_speaker.specs.Line.{Lined, state_in}
 use Rattle.fs_speaker.specs.Sending.{text_sent}
+use Rattle.fs_speaker.specs.Session.{at_start, still}
+use Rattle.fs_speaker.specs.Transition.{Machine}
 use Rattle.fs_speaker.specs.declared.sending.Sent.{Sent}
 use Rattle.fs_speaker.specs.declared.state.State.{State}
 use Rattle.fs_speaker.specs.declared.state.State.TheVariants.{WaitOpen}
+use Rattle.fs_speaker.specs.declared.transition.Phase.{Phase}
+use Rattle.fs_ends.specs.Opening.{opened_by}
 use Rattle.fs_ends.specs.Teller.{opening_of}
 use Rattle.fs_talk.specs.Turn.{Pieces, octets_in}
 use Rattle.fs_receive.specs.Walk.{walk}
@@ -69,9 +74,45 @@ pub record Speaks (end : Announcing) (started : Bool) (heard : Pieces) (said : L
   pub began : end.line.closed ≡ None → Began end.line.phase.state end four heard parts
   pub unstarted : started ≡ false → (parts ≡ []) × (ending ≡ [])
 
--- and no more octets were counted than heard
+-- From a phase with octets in hand an end is established by these octets. So many of them count: those up to and with
+-- the message that establishes it.
+pub record CountsUp (machine : Machine) (begun : Phase) (held octets : List ℕ) (count : ℕ) : Type 0 where
+  pub phase : Phase
+  pub behind : List ℕ
+  pub opens : (more : List ℕ) → opened_by machine begun (held ++ (octets ++ more)) ≡ (still phase, behind ++ more)
+  pub up : is_established phase.state ≡ true
+  pub counted : count + length behind ≡ length octets
+
+-- Or it isn't, and all of them count that it has taken: what is to come of them is what is to come of those in hand and
+-- of the rest.
+abbrev pub CountsBy : Bool → Machine → Phase → (held octets : List ℕ) → Lined → List ℕ → ℕ → Type 0
+CountsBy true machine begun held octets line rest count = CountsUp machine begun held octets count
+CountsBy false machine begun held octets line rest count =
+    ((more : List ℕ) → opened_by machine begun (held ++ (octets ++ more))
+    ≡ opened_by machine line.phase (pending line.framing ++ (rest ++ more)))
+    × (count + length rest ≡ length octets)
+
+-- So of a piece, where it was open and not established before it; the rest is still to be taken.
+abbrev pub CountsOn : Machine → Lined → Lined → (piece rest : List ℕ) → ℕ → Type 0
+CountsOn machine old line piece rest count = line.closed ≡ None
+    → (old.closed ≡ None)
+    × (is_established old.phase.state ≡ false
+    → CountsBy (is_established line.phase.state) machine old.phase (pending old.framing) piece line rest count)
+
+-- and of all that it heard, while it is open
+abbrev pub CountsTo : Machine → Lined → ℕ → List ℕ → Type 0
+CountsTo machine line count octets = line.closed ≡ None
+    → CountsBy (is_established line.phase.state) machine at_start [] octets line [] count
+
+-- What an end keeps of the other's octets, where it stays open.
+abbrev pub KeepsHand : Lined → Lined → Type 0
+KeepsHand old new = new.closed ≡ None
+    → (old.closed ≡ None) × ((new.phase ≡ old.phase) × (new.framing ≡ old.framing))
+
+-- and so many of the octets count
 abbrev pub SpeaksUpTo : Announcing → Bool → ℕ → Pieces → List ℕ → Type 0
-SpeaksUpTo end started count heard said = Speaks end started heard said × (count ≤ length (octets_in heard))
+SpeaksUpTo end started count heard said =
+    Speaks end started heard said × CountsTo (machine_in end) end.line count (octets_in heard)
 
 -- it is established, or has closed
 abbrev pub is_settled : Lined → Bool

@@ -1,13 +1,14 @@
 //! The receiving end: a desk of which one peer is up.
 
-ghost use Rattle.std.specs.Prelude.{◌≡◌, ◌+◌, [], false, IfOk, IsSome};
+ghost use Rattle.std.specs.Prelude.{◌≡◌, [], false, IfOk, IsSome};
 ghost use Rattle.fs_base.specs.Config.{peer_of};
 ghost use Rattle.fs_receive.specs.Hearer.{Receives, is_ended};
 ghost use Rattle.fs_receive.specs.Listen.{is_settled};
 
 use fs_base::{Config, Memory};
 use fs_desk::Desk;
-use fs_speaker::{Closed, Standing, State};
+use fs_ends::{is_established, sum};
+use fs_speaker::Standing;
 use fs_talk::Speaker;
 use std::alloc::Global;
 
@@ -107,13 +108,6 @@ impl<'a> Speaker for Hearer<'a> {
     }
 }
 
-/// No machine holds so many octets that their count doesn't fit.
-pub(crate) fn sum(count: u64, more: usize) -> Result<u64, Memory>
-    ensures { IfOk result (λ both. both ≡ count + more) }
-{
-    count.checked_add(more as u64).ok_or(Memory)
-}
-
 /// Whether a session has closed.
 fn is_ended(standing: Standing) -> bool
     ensures { result ≡ is_ended standing }
@@ -131,16 +125,5 @@ pub(crate) fn is_settled(standing: Standing) -> bool
     match standing {
         Standing::Up(state) => is_established(state),
         Standing::Ended(_) | Standing::Down => false,
-    }
-}
-
-ghost use Rattle.fs_speaker.specs.Announcer.{is_established};
-
-pub(crate) fn is_established(state: State) -> bool
-    ensures { result ≡ is_established state }
-{
-    match state {
-        State::Established => true,
-        State::WaitOpen | State::WaitKeep | State::Closed => false,
     }
 }

@@ -1,11 +1,11 @@
 //! A receiving end over a wire.
 
-ghost use Rattle.std.specs.Prelude.{◌≡◌, ◌≤◌, IfOk, [], true, false};
+ghost use Rattle.std.specs.Prelude.{◌≡◌, ◌≤◌, if◌then◌else◌, IfOk, []};
 ghost use Rattle.std.specs.Result.{IsErrOf};
 ghost use Rattle.fs_base.specs.Outside.{Rose};
 ghost use Rattle.fs_desk.specs.Desk.{standing_at_desk};
 ghost use Rattle.fs_receive.specs.Hearer.{Receives};
-ghost use Rattle.fs_receive.specs.Listen.{ListensOver, is_settled};
+ghost use Rattle.fs_receive.specs.Listen.{EndsHearing, ListensOver, is_settled};
 ghost use Rattle.fs_speaker.specs.declared.state.Closed.{Closed};
 
 use crate::hearer::{Hearer, is_settled};
@@ -35,11 +35,19 @@ pub fn listen_over<W: Wire, C: Clock>(
         ListensOver ending hearer.old.desk.config hearer.new.desk hearer.old.peer limit
         (W.tells wire.old) (W.tells wire.new) (C.answers clock.old) (C.answers clock.new)) }
 {
-    match hear_out(wire, clock, 0, hearer, limit, room)? {
-        Heard::Over => Ok(closing_of(hearer.standing())),
-        Heard::AtLimit => Ok(Ending::AtLimit),
-        Heard::All => Ok(end_of(hearer.standing())),
-        Heard::Ready => Ok(Ending::Done),
+    let heard = hear_out(wire, clock, 0, hearer, limit, room)?;
+    Ok(ending_of(heard, hearer.standing()))
+}
+
+/// How the session ended of which no more is heard.
+fn ending_of(heard: Heard, standing: Standing) -> Ending
+    ensures { EndsHearing heard standing result }
+{
+    match heard {
+        Heard::Over => closing_of(standing),
+        Heard::AtLimit => Ending::AtLimit,
+        Heard::All => end_of(standing),
+        Heard::Ready => Ending::Done,
     }
 }
 
@@ -55,8 +63,7 @@ pub(crate) fn closing_of(standing: Standing) -> Ending
 
 /// How a stream ended.
 fn end_of(standing: Standing) -> Ending
-    ensures up { is_settled standing ≡ true → result ≡ Ending.Done }
-    ensures down { is_settled standing ≡ false → result ≡ Ending.Ended }
+    ensures { result ≡ (if is_settled standing then Ending.Done else Ending.Ended) }
 {
     if is_settled(standing) {
         Ending::Done

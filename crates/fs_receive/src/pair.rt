@@ -10,7 +10,7 @@ ghost use Rattle.fs_base.specs.declared.config.Peer.{Peer};
 ghost use Rattle.fs_desk.specs.Desk.{standing_at_desk};
 ghost use Rattle.fs_ends.specs.Tell.{begins_with};
 ghost use Rattle.fs_receive.specs.Hearer.{Receives, is_ended};
-ghost use Rattle.fs_receive.specs.Pair.{PairsOver};
+ghost use Rattle.fs_receive.specs.Pair.{EndsTalk, PairsOver};
 ghost use Rattle.fs_speaker.specs.declared.sending.Sending.{Sending};
 
 use crate::hearer::Hearer;
@@ -23,7 +23,8 @@ use fs_talk::{Room, Speaker, Talk, TalkFault, exchange};
 
 /// Joins the receiving end at end 0 of the wire and the announcing one at end 1, which are open and joined: by turns
 /// each hears what the other said, and the announcing end says its rules once it is established. Where nothing hinders
-/// the rules (no hold time that passes, no limit that is met), all of them arrive and the answer is `Done`.
+/// the rules (they can arrive, no hold time can have passed, no limit is met), all of them arrive and the answer is
+/// `Done`.
 ///
 /// # Errors
 ///
@@ -49,16 +50,26 @@ pub fn pair_over<W: Wire, C: Clock>(
         → PairsOver ending config whose sending hearer.new.desk hearer.old.peer limit
         (W.tells wire.old) (W.tells wire.new) (C.answers clock.old) (C.answers clock.new)) }
 {
-    match exchange(wire, clock, hearer, sender, limit, room)? {
-        Talk::Done => Ok(if sender.is_ready() {
-            Ending::Done
-        } else {
-            Ending::Ended
-        }),
-        Talk::FirstOver => Ok(closing_of(hearer.standing())),
-        Talk::SecondOver => Ok(closed_as(sender.closed())),
-        Talk::AtLimit => Ok(Ending::AtLimit),
-        Talk::Broken => Ok(Ending::Ended),
+    let talk = exchange(wire, clock, hearer, sender, limit, room)?;
+    Ok(ending_of(talk, hearer, sender))
+}
+
+/// How the session ended of which no more is heard.
+fn ending_of(talk: Talk, hearer: &Hearer<'_>, sender: &Sender<'_>) -> Ending
+    ensures { EndsTalk talk (standing_at_desk hearer.now.desk hearer.now.peer) sender.now.announcer.line result }
+{
+    match talk {
+        Talk::Done => {
+            if sender.is_ready() {
+                Ending::Done
+            } else {
+                Ending::Ended
+            }
+        }
+        Talk::FirstOver => closing_of(hearer.standing()),
+        Talk::SecondOver => closed_as(sender.closed()),
+        Talk::AtLimit => Ending::AtLimit,
+        Talk::Broken => Ending::Ended,
     }
 }
 

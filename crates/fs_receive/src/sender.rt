@@ -1,13 +1,13 @@
 //! The announcing end that hears all that comes.
 
-ghost use Rattle.std.specs.Prelude.{◌≡◌, ◌≢◌, ◌≤◌, ◌<◌, Bool, [], None, true, false, length, IfOk, IfSome, OnOk};
+ghost use Rattle.std.specs.Prelude.{◌≡◌, ◌≤◌, ◌<◌, [], true, false, length, IfOk, IfSome, OnOk};
 ghost use Rattle.fs_joint.specs.End.{HandsOver, TicksOver};
-ghost use Rattle.fs_speaker.specs.Announcer.{SaysText, StartsWith, machine_in, next_text};
+ghost use Rattle.fs_speaker.specs.Announcer.{machine_in};
 ghost use Rattle.fs_ends.specs.Teller.{ahead_of, before_all};
-ghost use Rattle.fs_receive.specs.Sender.{KeepsSettled, Speaks, SpeaksUpTo, is_settled};
+ghost use Rattle.fs_receive.specs.Sender.{CountsOn, KeepsHand, KeepsSettled, Speaks, SpeaksUpTo, is_settled};
 
-use crate::hearer::{is_established, sum};
 use fs_base::{Config, Memory};
+use fs_ends::{closes, is_established, say, start, sum};
 use fs_speaker::{Announcer, Closed, Sending};
 use fs_talk::Speaker;
 use std::alloc::Global;
@@ -75,29 +75,6 @@ impl<'a> Sender<'a> {
     }
 }
 
-/// Says the OPEN.
-fn start(announcer: &mut Announcer<'_>, out: &mut Vec<u8>) -> Result<(), Memory>
-    ensures open { OnOk result (announcer.old.line.closed ≡ None) }
-    ensures starts { OnOk result
-        (StartsWith announcer.old.started announcer.old announcer.new out.old.items out.new.items) }
-    ensures ahead { (started : Bool) → ahead_of announcer.new started ≤ ahead_of announcer.old started }
-{
-    match announcer.start(out) {
-        Ok(()) => Ok(()),
-        Err(_) => Err(Memory),
-    }
-}
-
-/// An end that has closed takes no more; for want of memory nothing more is said of it.
-fn closes(why: Closed) -> Result<(), Memory>
-    ensures { OnOk result (why ≢ Closed.Memory) }
-{
-    match why {
-        Closed::Memory => Err(Memory),
-        Closed::Fault { .. } | Closed::Notified { .. } | Closed::NoFamily => Ok(()),
-    }
-}
-
 /// Whether the end says what it has to say without hearing more: it is established, or has closed.
 fn is_settled(announcer: &Announcer<'_>) -> bool
     ensures { result ≡ is_settled announcer.now.line }
@@ -110,6 +87,7 @@ fn wake(announcer: &mut Announcer<'_>, moment: u64, out: &mut Vec<u8>) -> Result
     ensures wakes { OnOk result (TicksOver
         (machine_in announcer.old) moment announcer.old.line announcer.new.line out.old.items out.new.items) }
     ensures same { KeepsSettled announcer.old announcer.new }
+    ensures kept { KeepsHand announcer.old.line announcer.new.line }
 {
     match announcer.tick(moment, out) {
         Ok(()) => Ok(()),
@@ -130,7 +108,8 @@ fn take_all(
         out.old.items out.new.items) }
     ensures same { KeepsSettled announcer.old announcer.new }
     ensures bound { IfOk result (λ needed. needed ≤ length piece.now) }
-    ensures all { IfOk result (λ needed. is_settled announcer.new.line ≡ false → needed ≡ length piece.now) }
+    ensures counts { IfOk result (λ needed. CountsOn
+        (machine_in announcer.old) announcer.old.line announcer.new.line piece.now [] needed) }
 {
     let mut rest = piece;
     let mut needed = 0;
@@ -206,17 +185,5 @@ impl<'a> Speaker for Sender<'a> {
 
     fn count(&self) -> u64 {
         self.count
-    }
-}
-
-/// Says the UPDATE of the next rule, and answers whether there was one.
-fn say(announcer: &mut Announcer<'_>, out: &mut Vec<u8>) -> Result<bool, Memory>
-    requires { announcer.old.line.closed ≡ None }
-    ensures says { IfOk result (λ had.
-        SaysText (next_text announcer.old) had announcer.old announcer.new out.old.items out.new.items) }
-{
-    match announcer.next_message(out) {
-        Ok(had) => Ok(had),
-        Err(_) => Err(Memory),
     }
 }

@@ -19,7 +19,6 @@ use Rattle.fs_attrs.specs.Texts.{attribute_text, long_text}
 use Rattle.fs_attrs.specs.Write.{written_attributes}
 use Rattle.byteorder.specs.Endian.{big_bytes}
 use Rattle.fs_speaker.specs.declared.state.State.TheVariants.{WaitKeep, Established}
-use Rattle.fs_speaker.specs.declared.state.Closed.{Closed}
 use Rattle.fs_speaker.specs.declared.sending.Sent.{Sent}
 use Rattle.fs_speaker.specs.declared.sending.Sending.{Sending}
 use Rattle.fs_speaker.specs.Laws.{ComesBack, said_by}
@@ -30,11 +29,8 @@ use Rattle.fs_speaker.specs.Side.{receiver, as_update}
 use Rattle.fs_speaker.specs.Transition.{Machine, Phase, phase, opened, updates, transition_by, terms_of}
 use Rattle.fs_speaker.proofs.SessionSteps.{machine_takes, machine_waits, step_found}
 
-abbrev Made : Type 0
-Made = Result (Phase × Option Update) Closed
-
 -- a message of a text is taken, and the session goes on behind it
-one_message : (machine : Machine) (now next : Phase) (update : Option Update) (kind : ℕ) (body more : List ℕ) → 1 ≤ kind → kind ≤ 5
+pub one_message : (machine : Machine) (now next : Phase) (update : Option Update) (kind : ℕ) (body more : List ℕ) → 1 ≤ kind → kind ≤ 5
     → allows kind (19 + length body) ≡ true → 19 + length body ≤ 4096 → transition_by machine now (record { kind = kind; body = body }) ≡ Ok (next, update)
     → session_by machine now (message_text kind body ++ more) ≡ with_update update (session_by machine next more)
 one_message machine now next update kind body more one five right long t =
@@ -44,13 +40,13 @@ one_message machine now next update kind body more one five right long t =
     (ap (λ (z : List ℕ). step_by machine now z) (sym (append-nil (message_text kind body)))
     ∙ step_found machine now text (message, []) (Ok (next, update)) (text_first kind body [] one five right long) t)
 
-open_fits : (n : ℕ) → n ≡ 42 → (allows 1 (19 + n) ≡ true) × (19 + n ≤ 4096)
+pub open_fits : (n : ℕ) → n ≡ 42 → (allows 1 (19 + n) ≡ true) × (19 + n ≤ 4096)
 open_fits n h = rw h (refl, omega arith)
 
-update_fits : (n : ℕ) → 4 ≤ n → allows 2 (19 + n) ≡ true
+pub update_fits : (n : ℕ) → 4 ≤ n → allows 2 (19 + n) ≡ true
 update_fits n h = grind (arith, nat_tests)
 
-at_most : (n : ℕ) → nat_le (19 + n) 4096 ≡ true → 19 + n ≤ 4096
+pub at_most : (n : ℕ) → nat_le (19 + n) 4096 ≡ true → 19 + n ≤ 4096
 at_most n h = grind (arith, nat_tests)
 
 -- the receiving end takes an UPDATE that is read
@@ -59,7 +55,7 @@ update_taken : (config : Config) (peer : Peer) (hold : ℕ) (body : List ℕ) (u
 update_taken config peer hold body update h = ap (λ (r : Result Update UpdateFault). updates (phase Established true hold) (as_update r)) h
 
 -- an UPDATE's body has two lengths
-body_long : (config : Config) (peer : Peer) (sending : Sending) (sent : Sent) → 4 ≤ length (body_by (terms_of config peer true) sending.as_path sent)
+pub body_long : (config : Config) (peer : Peer) (sending : Sending) (sent : Sent) → 4 ≤ length (body_by (terms_of config peer true) sending.as_path sent)
 unfolding body_by
 body_long config peer sending sent =
     let attributes : List ℕ =

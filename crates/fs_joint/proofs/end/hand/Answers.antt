@@ -1,13 +1,10 @@
-use Rattle.std.proofs.Common.{rules, refl, ap, ◌≡◌, ℕ, ◌-◌, length, take, ◌∙◌, ◌++◌, [], List, sym, subst, drop}
+use Rattle.std.proofs.Common.{rules, refl, ◌∙◌, List, sym, subst, drop}
 use Rattle.std.proofs.lemmas.List.{take_rest}
+use Rattle.std.proofs.lemmas.Result.{on_ok_weaker}
 use Rattle.fs_attrs.specs.declared.update.Update.{Update}
 use Rattle.fs_joint.specs.End.{HandsOver}
-use Rattle.fs_joint.proofs.Handover.{Going, going_start, going_more, hands_all, hands_closed, no_items}
-use Rattle.fs_joint.proofs.Happening.{on_ok}
+use Rattle.fs_joint.proofs.Handover.{Going, going_start, going_more, hands_all, hands_closed, rest_none}
 use Rattle.fs_joint.proofs.end.hand.Goals as goal
-
-rest_none : (count : ℕ) (rest : List ℕ) → length (take (length rest - count) (drop count rest)) ≡ 0 → drop count rest ≡ []
-rest_none count rest h = no_items (drop count rest) (ap length (sym (take_rest rest count)) ∙ h)
 
 pub loop-count-init : goal.loop-count-init
 loop-count-init g c = record {
@@ -18,7 +15,7 @@ loop-count-init g c = record {
 
 pub returns-in-Err-clause-hands : goal.returns-in-Err-clause-hands
 returns-in-Err-clause-hands g c =
-    on_ok c.closes.result
+    on_ok_weaker c.closes.result
     (λ other.
     hands_closed (g.E.End.machine c.args.end.now) c.args.moment (g.E.End.line c.args.end.now) (g.E.End.line c.loop-count.end) (g.E.End.line c.take-fed.new.self) c.args.piece.now c.loop-count.rest.now
     c.args.taken.now.items c.loop-count.taken.items c.args.out.now.items c.loop-count.out.items c.take-fed.new.out.items c.in-Err.why c.take-fed.result

@@ -1,13 +1,12 @@
 use Rattle.std.proofs.Common.{ℕ, List, [], ap, ◌∙◌, subst}
+use Rattle.std.proofs.lemmas.Result.{on_ok_weaker}
 use Rattle.fs_attrs.specs.declared.update.Update.{Update}
 use Rattle.fs_speaker.specs.Announcer.{Announcing, machine_in}
-use Rattle.fs_speaker.specs.Session.{Live, line_of}
-use Rattle.fs_speaker.specs.Side.{receiver}
-use Rattle.fs_joint.specs.End.{HandsOver, TicksOver}
+use Rattle.fs_joint.specs.End.{HandsOver}
 use Rattle.fs_joint.specs.Ends.{Both, both, Becomes}
 use Rattle.fs_joint.specs.Flight.{Flying, flying}
-use Rattle.fs_joint.specs.World.{sent, delivers, wakes, cuts}
-use Rattle.fs_joint.proofs.Happening.{on_ok, teller_delivered}
+use Rattle.fs_joint.specs.World.{sent, delivers}
+use Rattle.fs_joint.proofs.Happening.{teller_delivered}
 use Rattle.fs_joint.proofs.ends.Ends.deliver_teller.Goals as goal
 
 pub returns : goal.returns
@@ -16,7 +15,7 @@ returns c =
     let flight : Flying = c.take_teller.new.self in
     let old : Both = both c.self.inside.taker teller c.self.inside.flight c.self.inside.taken.items in
     let new : Both = both c.self.inside.taker c.hand.new.end c.tell_taker.new.self c.self.inside.taken.items in
-    on_ok c.tell_taker.result
+    on_ok_weaker c.tell_taker.result
     (λ put. subst (λ (o : Both). Becomes (λ config peer sending. delivers config peer sending 1 c.args.count c.args.moment) o new) c.self.view_is
     (λ config peer sending w here. teller_delivered config peer sending w old here c.hand.new.end flight c.tell_taker.new.self c.hand.new.taken.items c.deref.result.now c.hand.new.out.items
     c.args.count c.args.moment (c.deref.ensures.value ∙ c.in_ok-piece.ensures.0) c.in_ok-piece.ensures.1 c.in_ok-hand.ensures.own

@@ -3,7 +3,8 @@ use Rattle.fs_attrs.specs.declared.update.Update.{Update}
 use Rattle.fs_speaker.specs.Announcer.{StartsOpen}
 use Rattle.fs_joint.specs.Ends.{both}
 use Rattle.fs_joint.specs.Flight.{Flying, flying}
-use Rattle.fs_joint.proofs.Running.{is_told, joint_begins}
+use Rattle.fs_joint.proofs.Running.{joint_begins}
+use Rattle.fs_joint.proofs.Lowest.{is_told}
 use Rattle.fs_joint.proofs.joint.Joint.new.Goals as goal
 
 pub new-requires : goal.new-requires

@@ -1,17 +1,24 @@
-use Rattle.std.proofs.Common.{sym, ◌∙◌, length}
-use Rattle.fs_receive.proofs.Sending.{as_many, at_most, begins_hears, counts_hears, hears_piece, hears_shut, no_fewer}
+use Rattle.std.proofs.Common.{◌≡◌, Bool, true, false, ap, sym, ◌∙◌, ◌+◌, ℕ, ◌++◌}
+use Rattle.fs_speaker.specs.Announcer.{machine_in}
+use Rattle.fs_receive.proofs.Counting.{counts_over, counts_piece}
+use Rattle.fs_receive.proofs.Sending.{begins_hears, counts_hears, hears_piece, hears_shut}
+use Rattle.std.proofs.Common.{rules}
 use Rattle.fs_receive.proofs.sender.SenderSpeaker.hear.Goals as goal
+
+both : {b : Bool} → b ≡ true → b ≡ false → ⊥
+both e f = cc
 
 pub returns-then-is_over-clause-hears : goal.returns-then-is_over-clause-hears
 returns-then-is_over-clause-hears c =
     counts_hears c.args.self.now.announcer c.args.self.now.announcer c.args.self.now.started c.args.self.now.started c.args.self.now.count c.args.self.now.count c.args.moment c.args.piece.now c.args.out.now.items
-    c.args.out.now.items (no_fewer c.args.self.now.count (length c.args.piece.now))
+    c.args.out.now.items (λ octets k. counts_over (machine_in c.args.self.now.announcer) c.args.self.now.announcer.line (octets ++ c.args.piece.now) c.args.self.now.count (sym c.is_over.ensures ∙ c.if-is_over.true))
     (hears_shut c.args.self.now.announcer c.args.self.now.started c.args.moment c.args.piece.now c.args.out.now.items (sym c.is_over.ensures ∙ c.if-is_over.true))
 
 pub returns-in_ok-self-clause-hears : goal.returns-in_ok-self-clause-hears
 returns-in_ok-self-clause-hears c =
     counts_hears c.args.self.now.announcer c.take_all.new.announcer c.args.self.now.started c.begin.new.self.started c.args.self.now.count _ c.args.moment c.args.piece.now c.args.out.now.items c.take_all.new.out.items
-    (at_most _ c.begin.new.self.count c.in_ok-needed.needed c.args.self.now.count (length c.args.piece.now) c.in_ok-self.ensures c.begin.ensures.count c.in_ok-needed.ensures.bound)
+    (counts_piece c.args.self.now.announcer c.begin.new.self.announcer c.wake.new.announcer c.take_all.new.announcer c.is_ready-was_ready.result c.args.piece.now c.in_ok-needed.needed c.args.self.now.count _ (ap machine_in c.in_ok-begin.ensures.own) c.in_ok-begin.ensures.same c.wake.ensures.same c.take_all.ensures.same c.wake.ensures.kept c.in_ok-needed.ensures.counts c.is_ready-was_ready.ensures
+    (λ h. c.in_ok-self.ensures ∙ ap (λ (n : ℕ). n + c.in_ok-needed.needed) c.begin.ensures.count) (λ h. absurd (both h (search rules))))
     (begins_hears c.args.self.now.announcer c.begin.new.self.announcer c.take_all.new.announcer c.args.self.now.started c.begin.new.self.started c.args.moment c.args.piece.now c.args.out.now.items c.begin.new.out.items
     c.take_all.new.out.items c.in_ok-begin.ensures.begins
     (hears_piece c.begin.new.self.announcer c.wake.new.announcer c.take_all.new.announcer c.begin.new.self.started c.args.moment c.args.piece.now c.begin.new.out.items c.wake.new.out.items c.take_all.new.out.items
@@ -20,7 +27,8 @@ returns-in_ok-self-clause-hears c =
 pub returns-else-not-was_ready-clause-hears : goal.returns-else-not-was_ready-clause-hears
 returns-else-not-was_ready-clause-hears c =
     counts_hears c.args.self.now.announcer c.take_all.new.announcer c.args.self.now.started c.begin.new.self.started c.args.self.now.count c.begin.new.self.count c.args.moment c.args.piece.now c.args.out.now.items
-    c.take_all.new.out.items (as_many c.begin.new.self.count c.args.self.now.count (length c.args.piece.now) c.begin.ensures.count)
+    c.take_all.new.out.items (counts_piece c.args.self.now.announcer c.begin.new.self.announcer c.wake.new.announcer c.take_all.new.announcer c.is_ready-was_ready.result c.args.piece.now c.in_ok-needed.needed c.args.self.now.count c.begin.new.self.count (ap machine_in c.in_ok-begin.ensures.own) c.in_ok-begin.ensures.same c.wake.ensures.same c.take_all.ensures.same c.wake.ensures.kept c.in_ok-needed.ensures.counts c.is_ready-was_ready.ensures
+    (λ h. absurd (both (search rules) h)) (λ h. c.begin.ensures.count))
     (begins_hears c.args.self.now.announcer c.begin.new.self.announcer c.take_all.new.announcer c.args.self.now.started c.begin.new.self.started c.args.moment c.args.piece.now c.args.out.now.items c.begin.new.out.items
     c.take_all.new.out.items c.in_ok-begin.ensures.begins
     (hears_piece c.begin.new.self.announcer c.wake.new.announcer c.take_all.new.announcer c.begin.new.self.started c.args.moment c.args.piece.now c.begin.new.out.items c.wake.new.out.items c.take_all.new.out.items

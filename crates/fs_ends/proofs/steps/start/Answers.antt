@@ -1,6 +1,6 @@
 use Rattle.std.proofs.Common.{rules}
 use Rattle.fs_ends.proofs.Ahead.{starts_ahead, starts_ok}
-use Rattle.fs_ends.proofs.teller.start.Goals as goal
+use Rattle.fs_ends.proofs.steps.start.Goals as goal
 
 pub returns-in-Ok-clause-open : goal.returns-in-Ok-clause-open
 returns-in-Ok-clause-open c =
