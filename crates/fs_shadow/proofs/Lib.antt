@@ -10,3 +10,5 @@ pub mod Measuring
 pub mod Destinations
 pub mod Reported
 pub mod Spanning
+pub mod Matched
+pub mod Walked

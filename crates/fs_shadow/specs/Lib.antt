@@ -6,3 +6,4 @@ pub mod Ends
 pub mod Extents
 pub mod Outlines
 pub mod Text
+pub mod Laws

@@ -4,6 +4,7 @@
 mod checking;
 mod ends;
 mod extents;
+mod laws;
 mod marks;
 mod outlines;
 mod prefixes;
@@ -12,5 +13,6 @@ mod tested;
 mod text;
 
 pub use checking::confirm;
+pub use laws::{confirmed_never_walks, contained_matches, covered_never_walks, packets_are_small};
 pub use reporting::report;
 pub use text::shadow_text;
