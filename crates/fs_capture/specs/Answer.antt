@@ -1,5 +1,5 @@
 -- The answers of both formats, as those of one capture.
-use Rattle.std.specs.Prelude.{ℕ, Option, Some, None, Result, Ok, Err}
+use Rattle.std.specs.Prelude.{Option, Some, None, Result, Ok, Err}
 use Rattle.fs_pcap.specs.declared.capture.Caught.{Caught as Record}
 use Rattle.fs_pcap.specs.declared.fault.CaptureReason.{CaptureReason as PcapReason}
 use Rattle.fs_pcap.specs.declared.link.Link.{Link}

@@ -44,10 +44,13 @@ of_blocks found = (map of_block found.0, end_as Pcapng found.1)
 abbrev pub is_section : List ℕ → Bool
 is_section front = (length front == 4) && (big_number 4 front == section_header)
 
+-- the packets of this content, where a section header begins it and where none does
+abbrev pub captured_by : Bool → ℕ → List ℕ → List Captured × End CaptureReason
+captured_by section limit content = if section then of_blocks (pcapng_of limit content) else of_records (pcap_of limit content)
+
 -- The packets of a capture of this content, and how it ends. Only its first `limit` octets are judged.
 abbrev pub captured_in : ℕ → List ℕ → List Captured × End CaptureReason
-captured_in limit content =
-    if is_section (take 4 (window limit 0 content)) then of_blocks (pcapng_of limit content) else of_records (pcap_of limit content)
+captured_in limit content = captured_by (is_section (take 4 (window limit 0 content))) limit content
 
 -- a capture: its packets, and how it ends
 pub record Recorded : Type 0 where

@@ -4,12 +4,10 @@ ghost use Rattle.std.specs.Result.{IsErrOf};
 ghost use Rattle.fs_base.specs.Files.{OnlySlot};
 ghost use Rattle.fs_base.specs.Outside.{Rose};
 ghost use Rattle.fs_base.specs.Parts.{with_part};
-ghost use Rattle.fs_pcap.specs.Capture.{capture_of as pcap_of};
 ghost use Rattle.fs_pcap.specs.Head.{longest_record};
-ghost use Rattle.fs_pcapng.specs.Pcapng.{pcapng_of};
 ghost use Rattle.fs_records.specs.Reading.{Advances, answer_of, ended_after};
 ghost use Rattle.fs_records.specs.declared.fault.Fault.TheVariants.{Read};
-ghost use Rattle.fs_capture.specs.Capture.{Begins, Grows, Times, captured_in, coming, is_section, of_blocks, of_records, packet_from};
+ghost use Rattle.fs_capture.specs.Capture.{Begins, Grows, Times, captured_by, captured_in, coming, is_section, packet_from};
 
 use crate::answer::{block_answer, block_fault, record_answer, record_fault};
 use crate::caught::Caught;
@@ -69,11 +67,7 @@ impl Capture {
         };
         let front = &front[..count];
         counted.put_back(front);
-        if is_section(front) {
-            begin_blocks(counted, files)
-        } else {
-            begin_records(counted, files)
-        }
+        open(is_section(front), counted, files)
     }
 
     /// Reads the next packet. Its octets stand at the front of `into`. `None`: the capture ended behind its last
@@ -131,8 +125,8 @@ fn is_section(front: &[u8]) -> bool
     front.len() == 4 && BigEndian::read_u32(front) == SECTION_HEADER
 }
 
-/// Begins to read a capture of the libpcap format. Octets of its front were put back.
-fn begin_records<F: Files>(counted: Counted, files: &mut F) -> Result<Capture, CaptureFault>
+/// Begins to read a capture of the pcapng format or of the libpcap format. Octets of its front were put back.
+fn open<F: Files>(section: bool, counted: Counted, files: &mut F) -> Result<Capture, CaptureFault>
     requires start { counted.taken ≡ 0 }
     requires few { length counted.back ≤ 4 }
     ensures later { F.faults files.old ≤ F.faults files.new }
@@ -145,42 +139,24 @@ fn begin_records<F: Files>(counted: Counted, files: &mut F) -> Result<Capture, C
 
     ensures begins { IsTrue F.tells
         → Begins
-        (of_records (pcap_of counted.limit (counted.back ++ F.left files.old counted.slot)))
+        (captured_by section counted.limit (counted.back ++ F.left files.old counted.slot))
         (λ capture. coming capture (F.left files.new counted.slot))
         result }
     ensures others { OnlySlot F.tells F.left F.holds counted.slot files.old files.new }
 {
-    match Pcap::begin(counted, files) {
-        Ok(capture) => Ok(Capture {
-            reader: Reader::Records(capture),
-        }),
-        Err(fault) => Err(record_fault(fault)),
-    }
-}
-
-/// Begins to read a capture of the pcapng format. Octets of its front were put back.
-fn begin_blocks<F: Files>(counted: Counted, files: &mut F) -> Result<Capture, CaptureFault>
-    requires start { counted.taken ≡ 0 }
-    requires few { length counted.back ≤ 4 }
-    ensures later { F.faults files.old ≤ F.faults files.new }
-    ensures read { IsErrOf result Read → Rose (F.faults files.old) (F.faults files.new) }
-    ensures slot { IfOk result (λ capture. capture.slot ≡ counted.slot) }
-    ensures limit { IfOk result (λ capture. capture.limit ≡ counted.limit) }
-    ensures end { IfOk result (λ capture. capture.end ≡ None) }
-    ensures moment { IfOk result (λ capture. capture.moment ≡ 0) }
-    ensures within { IfOk result (λ capture. capture.place ≤ capture.limit) }
-
-    ensures begins { IsTrue F.tells
-        → Begins
-        (of_blocks (pcapng_of counted.limit (counted.back ++ F.left files.old counted.slot)))
-        (λ capture. coming capture (F.left files.new counted.slot))
-        result }
-    ensures others { OnlySlot F.tells F.left F.holds counted.slot files.old files.new }
-{
-    match Ng::begin(counted, files) {
-        Ok(capture) => Ok(Capture {
-            reader: Reader::Blocks(capture),
-        }),
-        Err(fault) => Err(block_fault(fault)),
+    if section {
+        match Ng::begin(counted, files) {
+            Ok(capture) => Ok(Capture {
+                reader: Reader::Blocks(capture),
+            }),
+            Err(fault) => Err(block_fault(fault)),
+        }
+    } else {
+        match Pcap::begin(counted, files) {
+            Ok(capture) => Ok(Capture {
+                reader: Reader::Records(capture),
+            }),
+            Err(fault) => Err(record_fault(fault)),
+        }
     }
 }

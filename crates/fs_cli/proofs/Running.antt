@@ -1,8 +1,7 @@
 -- What the clauses of a run say follows from what it does.
-use Rattle.std.proofs.Common.{◌≡◌, ◌≢◌, ◌⊎◌, ◌++◌, append-nil, inl, inr, ◌<◌, ◌∙◌, ◌↔◌, ℕ, List, Option, Some, None, Result, IsTrue, refl, ap, sym, subst, arith, true, false, Bool, if◌then◌else◌, length, nat_le}
+use Rattle.std.proofs.Common.{◌≡◌, ◌≢◌, ◌⊎◌, ◌++◌, append-nil, inl, inr, ◌<◌, ◌∙◌, ℕ, List, Option, Some, None, Result, IsTrue, refl, ap, sym, subst, arith, true, false, Bool, if◌then◌else◌, length, nat_le}
 use Rattle.std.proofs.lemmas.Bool.Decides.{nat_tests}
-use Rattle.fs_base.specs.Happened.{Happened, happened, with_wire, FilesFailed, SinkFailed, WireFailed, FilesStood, SinkStood, WireStood, Stood}
-use Rattle.fs_base.specs.Outside.{Rose}
+use Rattle.fs_base.specs.Happened.{Happened, happened, with_wire, FilesFailed, SinkFailed, WireFailed, FilesStood, SinkStood, WireStood}
 use Rattle.fs_base.specs.Sink.{Grew}
 use Rattle.fs_base.specs.declared.outside.files.Files as files
 use Rattle.fs_base.specs.declared.outside.sink.Sink as sink
@@ -18,25 +17,22 @@ use Rattle.fs_rules.specs.Table.{Held}
 use Rattle.fs_tape.specs.Tape.{Timed, tape_of}
 use Rattle.fs_tape.specs.Laws.{tape_text}
 use Rattle.fs_tape.specs.declared.fault.TapeReason.{TapeReason}
-use Rattle.fs_wires.specs.Announcing.{Announces}
 use Rattle.fs_wires.specs.Conversation.{Conversation, conversation}
-use Rattle.fs_wires.specs.Pairing.{Joins}
 use Rattle.fs_wires.specs.Promised.{AnnouncePromises, PairPromises}
 use Rattle.fs_wires.proofs.Promising.{announce_promises, announce_status}
-use Rattle.fs_wires.specs.Listening.{ListensTo}
 use Rattle.fs_wires.specs.PromisedHearing.{ListenPromises}
 use Rattle.fs_wires.proofs.PromisingHearing.{listen_promises, listen_status}
 use Rattle.fs_wires.proofs.PromisingPair.{pair_promises, pair_status}
 use Rattle.fs_cli.specs.Program.{ChecksSo, Does, Runs, HasNoMoments, HasStatus, HasCauses, Completes, Promises, world, FailedOver, OutsideFailed, WireServed, World, AreTold, FilesKept, SinkKept, WireKept, ClockKept, names_in, happened_in, talk_in, speaks}
-use Rattle.fs_enforce.specs.Command.{Enforces, EnforcesSo, Enforced, Inputs, inputs, inputs_stage, status_for}
-use Rattle.fs_generate.specs.Command.{Generates, GeneratesSo, Generated}
+use Rattle.fs_enforce.specs.Command.{EnforcesSo, Enforced, Inputs, inputs, inputs_stage, status_for}
+use Rattle.fs_generate.specs.Command.{GeneratesSo, Generated}
 use Rattle.fs_stages.specs.Load.{Names, fetch, config_stage}
 use Rattle.fs_cli.specs.Command.{Form, Enforce, Surveys, Converts, Check, Gen, form_of, Announce, Listen, Pair}
 use Rattle.fs_mrt.specs.declared.fault.DumpReason.{DumpReason}
-use Rattle.fs_convert.specs.Command.{Converts as ConvertsDump, Converted, ConvertsSo, convert_status, dump_stage, status_for as status_by, status_at as dump_status, verdict_of}
+use Rattle.fs_convert.specs.Command.{Converted, ConvertsSo, convert_status, dump_stage, status_for as status_by, status_at as dump_status, verdict_of}
 use Rattle.fs_convert.specs.Making.{remade}
 use Rattle.fs_convert.proofs.Fitting.{reads_back_converted}
-use Rattle.fs_cli.specs.Survey.{Text, Lists, ListsSo, Listed, listed_status, text_for}
+use Rattle.fs_cli.specs.Survey.{Text, ListsSo, Listed, listed_status, text_for}
 use Rattle.fs_cli.specs.declared.command.Subject.{Subject}
 use Rattle.fs_cli.specs.declared.survey.Survey.{Survey}
 use Rattle.fs_tape.specs.declared.magic.Version.TheVariants.{Two}
@@ -45,14 +41,11 @@ use Rattle.fs_enforce.specs.Judge.{capture_stage, lines_from, output_of, rules_b
 use Rattle.fs_enforce.specs.Moments.{AnswersAt, HoldAt, verdict_at}
 use Rattle.fs_stages.specs.Refusal.{Answers, answered, Stage, Found, Stopped, and_then, or_stop, status_of}
 use Rattle.fs_stages.specs.declared.refusal.Refusal.{Refusal}
-use Rattle.fs_stages.specs.declared.refusal.Refusal.TheVariants.{Outside, Config as Refused, Tape, Capture, Dump, Memory, Limit, Session}
+use Rattle.fs_stages.specs.declared.refusal.Refusal.TheVariants.{Outside, Config as Refused, Limit}
+use Rattle.fs_wires.proofs.Statuses.{Caused, early_status, late_status, never_early, never_zero, not_rose, same_found}
+use Rattle.fs_wires.proofs.Accepted.{some_found, then_found}
 
 -- the words
-
-pub runs_words : (tells : Bool) (limit : ℕ) (holds : Names) (form : Option Form) (call : Happened) (talk : Conversation) (answer : ℕ)
-    → Runs tells limit holds form call talk answer → (answer ≡ 2) ↔ (form ≡ None)
-runs_words tells limit holds None call talk answer r = (λ e. refl, λ e. r.0)
-runs_words tells limit holds (Some form) call talk answer r = (λ e. absurd (r.0 e), λ e. absurd cc)
 
 -- the status
 
@@ -64,28 +57,20 @@ capture_status : (held : ℕ → Held) (judged : List Captured) (stage : Stage R
 capture_status held judged (Found capture) accepted = refl
 capture_status held judged (Stopped refusal) accepted = refl
 
-abbrev Caused : Type 0 → ℕ → ℕ → Type 0
-Caused failed status answer = (answer ≡ status) ⊎ (answer ≡ 6) ⊎ ((answer ≡ 1) × failed)
-
 enforce_status : (limit : ℕ) (holds : Names) (config tape capture : List ℕ) (failed : Type 0) (before now : Option (List ℕ)) (answer : ℕ)
     → EnforcesSo limit holds config tape capture failed before now answer
     → Caused failed (status_for (inputs_stage limit holds config tape capture)) answer
-enforce_status limit holds config tape capture failed before now answer (inl early) = at early.reason
-  where
-    at : ((refusal : Refusal) × (accepted_stage limit holds config tape ≡ Stopped refusal) × (answer ≡ status_of refusal)) ⊎ (answer ≡ 6) ⊎ ((answer ≡ 1) × failed)
-        → Caused failed (status_for (inputs_stage limit holds config tape capture)) answer
-    at (inl h) = inl (h.2 ∙ sym (ap (λ (s : Stage (Config × List Timed)). status_for (and_then s (λ accepted. and_then (capture_stage limit holds capture) (with_capture accepted)))) h.1))
-    at (inr h) = inr h
-enforce_status limit holds config tape capture failed before now answer (inr judged) = at judged.judged.answers.status_is
+enforce_status limit holds config tape capture failed before now answer (inl early) =
+    early_status (accepted_stage limit holds config tape) failed answer
+    (λ s. answer ≡ status_for (and_then s (λ accepted. and_then (capture_stage limit holds capture) (with_capture accepted)))) (λ refusal h. h) early.reason
+enforce_status limit holds config tape capture failed before now answer (inr judged) =
+    late_status failed (verdict_at judged.judged.came.held judged.judged.came.judged (capture_stage limit holds capture)).status answer
+    (answer ≡ status_for (inputs_stage limit holds config tape capture)) (λ h. h ∙ sym stage) judged.judged.answers.status_is
   where
     stage : status_for (inputs_stage limit holds config tape capture) ≡ (verdict_at judged.judged.came.held judged.judged.came.judged (capture_stage limit holds capture)).status
     stage =
         ap (λ (s : Stage (Config × List Timed)). status_for (and_then s (λ accepted. and_then (capture_stage limit holds capture) (with_capture accepted)))) judged.found
         ∙ sym (capture_status judged.judged.came.held judged.judged.came.judged (capture_stage limit holds capture) (judged.accepted, judged.items))
-
-    at : Caused failed (verdict_at judged.judged.came.held judged.judged.came.judged (capture_stage limit holds capture)).status answer → Caused failed (status_for (inputs_stage limit holds config tape capture)) answer
-    at (inl h) = inl (h ∙ sym stage)
-    at (inr h) = inr h
 
 check_status : (limit : ℕ) (holds : Names) (subject : Subject) (word : List ℕ) (files sink : Type 0) (before now : Option (List ℕ)) (talk : Conversation) (answer : ℕ)
     → ChecksSo subject word sink before now answer
@@ -100,31 +85,19 @@ check_status limit holds subject word files sink before now talk answer (inr say
 
 survey_status : (survey : Text) (limit : ℕ) (holds : Names) (config tape : List ℕ) (failed : Type 0) (before now : Option (List ℕ)) (answer : ℕ)
     → ListsSo survey limit holds config tape failed before now answer → Caused failed (listed_status (accepted_stage limit holds config tape)) answer
-survey_status survey limit holds config tape failed before now answer (inl ends) = at ends.2.status_is
-  where
-    at : Caused failed (status_of ends.0) answer → Caused failed (listed_status (accepted_stage limit holds config tape)) answer
-    at (inl h) = inl (h ∙ sym (ap listed_status ends.1))
-    at (inr h) = inr h
+survey_status survey limit holds config tape failed before now answer (inl ends) =
+    late_status failed (status_of ends.0) answer (answer ≡ listed_status (accepted_stage limit holds config tape)) (λ h. h ∙ sym (ap listed_status ends.1)) ends.2.status_is
 survey_status survey limit holds config tape failed before now answer (inr (inl early)) = inr early.0
-survey_status survey limit holds config tape failed before now answer (inr (inr shows)) = at shows.answers.status_is
-  where
-    at : Caused failed 0 answer → Caused failed (listed_status (accepted_stage limit holds config tape)) answer
-    at (inl h) = inl (h ∙ sym (ap listed_status shows.found))
-    at (inr h) = inr h
+survey_status survey limit holds config tape failed before now answer (inr (inr shows)) =
+    late_status failed 0 answer (answer ≡ listed_status (accepted_stage limit holds config tape)) (λ h. h ∙ sym (ap listed_status shows.found)) shows.answers.status_is
 
 dump_caused : (limit : ℕ) (holds : Names) (config dump : List ℕ) (failed : Type 0) (before now : Option (List ℕ)) (answer : ℕ)
     → ConvertsSo limit holds config dump failed before now answer → Caused failed (convert_status limit holds config dump) answer
-dump_caused limit holds config dump failed before now answer (inl early) = at early.reason
-  where
-    at : ((refusal : Refusal) × (config_stage limit holds config ≡ Stopped refusal) × (answer ≡ status_of refusal)) ⊎ (answer ≡ 6) ⊎ ((answer ≡ 1) × failed)
-        → Caused failed (convert_status limit holds config dump) answer
-    at (inl h) = inl (h.2 ∙ sym (ap (status_by limit (dump_stage holds dump)) h.1))
-    at (inr h) = inr h
-dump_caused limit holds config dump failed before now answer (inr makes) = at makes.answers.status_is
-  where
-    at : Caused failed (verdict_of makes.accepted limit (dump_stage holds dump)).status answer → Caused failed (convert_status limit holds config dump) answer
-    at (inl h) = inl (h ∙ sym (ap (status_by limit (dump_stage holds dump)) makes.found))
-    at (inr h) = inr h
+dump_caused limit holds config dump failed before now answer (inl early) =
+    early_status (config_stage limit holds config) failed answer (λ s. answer ≡ status_by limit (dump_stage holds dump) s) (λ refusal h. h) early.reason
+dump_caused limit holds config dump failed before now answer (inr makes) =
+    late_status failed (verdict_of makes.accepted limit (dump_stage holds dump)).status answer (answer ≡ convert_status limit holds config dump)
+    (λ h. h ∙ sym (ap (status_by limit (dump_stage holds dump)) makes.found)) makes.answers.status_is
 
 gen_status : (count : ℕ) (files sink : Type 0) (before now : Option (List ℕ)) (answer : ℕ)
     → GeneratesSo count sink before now answer → (answer ≡ 0) ⊎ (answer ≡ 6) ⊎ ((answer ≡ 1) × (files ⊎ sink))
@@ -158,9 +131,6 @@ runs_causes tells limit holds (Some (Pair config rules)) call talk answer told r
 
 -- completeness
 
-not_rose : (before now : ℕ) → Stood before now → Rose before now → ⊥
-not_rose before now s r = omega (arith, s.stands, s.below, r)
-
 none_failed : (form : Form) (call : Happened) → FilesStood call → SinkStood call → (IsTrue (speaks form) → WireStood call) → OutsideFailed form call → ⊥
 none_failed form call f s w failed = by (speaks form) refl failed
   where
@@ -180,26 +150,7 @@ causes_complete limit holds (Some form) call talk answer f s w (inr (inr h)) = a
 
 -- the headline
 
--- no refusal ends a run with status 0
-never_zero : (refusal : Refusal) → status_of refusal ≡ 0 → ⊥
-never_zero Outside e = absurd cc
-never_zero Refused e = absurd cc
-never_zero (Tape reason place) e = absurd cc
-never_zero Capture e = absurd cc
-never_zero Dump e = absurd cc
-never_zero Memory e = absurd cc
-never_zero Limit e = absurd cc
-never_zero Session e = absurd cc
-
 -- where stages are passed, each gave its value
-then_found : {A B : Type 0} (stage : Stage A) (next : A → Stage B) (b : B) → and_then stage next ≡ Found b → (a : A) × (stage ≡ Found a) × (next a ≡ Found b)
-then_found (Found a) next b e = (a, refl, e)
-then_found (Stopped refusal) next b e = absurd cc
-
-or_found : {A : Type 0} (refusal : Refusal) (o : Option A) (a : A) → or_stop refusal o ≡ Found a → o ≡ Some a
-or_found refusal (Some x) a e = cc
-or_found refusal None a e = absurd cc
-
 within_found : {A : Type 0} (b : Bool) (x a : A) → (if b then Stopped Limit else Found x) ≡ Found a → (b ≡ false) × (x ≡ a)
 within_found true x a e = absurd cc
 within_found false x a e = (refl, cc)
@@ -229,36 +180,29 @@ record Passed (limit : ℕ) (holds : Names) (config tape : List ℕ) (accepted :
 passed : (limit : ℕ) (holds : Names) (config tape : List ℕ) (accepted : Config) (items : List Timed) → accepted_stage limit holds config tape ≡ Found (accepted, items) → Passed limit holds config tape accepted items
 passed limit holds config tape accepted items found =
     let whole = then_found (config_stage limit holds config) _ (accepted, items) found in
-    let played = then_found (tape_stage whole.0 limit holds tape) _ (accepted, items) whole.2 in
-    let same : whole.0 ≡ accepted = ap (λ (p : Config × List Timed). p.0) (found_same played.2) in
-    let same_items : played.0 ≡ items = ap (λ (p : Config × List Timed). p.1) (found_same played.2) in
-    let read = then_found (fetch limit holds config) _ whole.0 whole.1 in
-    let fetched = then_found (or_stop Outside (holds config)) _ read.0 read.1 in
-    let within = within_found (nat_le limit (length fetched.0)) fetched.0 read.0 fetched.2 in
-    let opened = then_found (or_stop Outside (holds tape)) _ played.0 played.1 in
+    let played = then_found (tape_stage whole.0 limit holds tape) _ (accepted, items) whole.1.1 in
+    let same : whole.0 ≡ accepted = ap (λ (p : Config × List Timed). p.0) (same_found played.1.1) in
+    let same_items : played.0 ≡ items = ap (λ (p : Config × List Timed). p.1) (same_found played.1.1) in
+    let read = then_found (fetch limit holds config) _ whole.0 whole.1.0 in
+    let fetched = then_found (or_stop Outside (holds config)) _ read.0 read.1.0 in
+    let within = within_found (nat_le limit (length fetched.0)) fetched.0 read.0 fetched.1.1 in
+    let opened = then_found (or_stop Outside (holds tape)) _ played.0 played.1.0 in
     record {
       config_octets = read.0;
-      config_is = or_found Outside (holds config) fetched.0 fetched.1 ∙ ap Some within.1;
+      config_is = some_found Outside (holds config) fetched.0 fetched.1.0 ∙ ap Some within.1;
       config_within = below_limit limit (length read.0) (subst (λ (o : List ℕ). nat_le limit (length o) ≡ false) within.1 within.0);
-      accepted_is = or_found Refused (config_of read.0) whole.0 read.2 ∙ ap Some same;
+      accepted_is = some_found Refused (config_of read.0) whole.0 read.1.1 ∙ ap Some same;
       tape_octets = opened.0;
-      tape_is = or_found Outside (holds tape) opened.0 opened.1;
+      tape_is = some_found Outside (holds tape) opened.0 opened.1.0;
       items_are =
           subst (λ (c : Config). tape_of c limit opened.0 ≡ (items, done)) same
-          (played_found (tape_of whole.0 limit opened.0) played.0 opened.2 ∙ ap (λ (l : List Timed). (l, done)) same_items);
+          (played_found (tape_of whole.0 limit opened.0) played.0 opened.1.1 ∙ ap (λ (l : List Timed). (l, done)) same_items);
     }
-  where
-    found_same : {A : Type 0} {x y : A} → Found x ≡ Found y → x ≡ y
-    found_same e = cc
 
 enforced_well : (limit : ℕ) (holds : Names) (config tape capture : List ℕ) (failed : Type 0) (call : Happened) (answer : ℕ)
     → EnforcesSo limit holds config tape capture failed call.before.written call.now.written answer → answer ≡ 0 → Enforced limit holds config tape capture call
-enforced_well limit holds config tape capture failed call answer (inl early) zero = absurd (at early.reason)
-  where
-    at : ((refusal : Refusal) × (accepted_stage limit holds config tape ≡ Stopped refusal) × (answer ≡ status_of refusal)) ⊎ (answer ≡ 6) ⊎ ((answer ≡ 1) × failed) → ⊥
-    at (inl h) = never_zero h.0 (sym h.2 ∙ zero)
-    at (inr (inl h)) = absurd cc
-    at (inr (inr h)) = let one : answer ≡ 1 = h.0 in absurd cc
+enforced_well limit holds config tape capture failed call answer (inl early) zero =
+    absurd (never_early (accepted_stage limit holds config tape) failed answer 0 zero (λ e. absurd cc) (λ e. absurd cc) (λ refusal h e. never_zero refusal e) early.reason)
 enforced_well limit holds config tape capture failed call answer (inr judged) zero = at judged.judged.answers.status_is
   where
     six : answer ≢ 6
@@ -373,12 +317,8 @@ dump_done (bad reason place) e = absurd cc
 
 converted_well : (limit : ℕ) (holds : Names) (config dump : List ℕ) (failed : Type 0) (call : Happened) (answer : ℕ)
     → ConvertsSo limit holds config dump failed call.before.written call.now.written answer → answer ≡ 0 → Converted limit holds config dump call
-converted_well limit holds config dump failed call answer (inl early) zero = absurd (at early.reason)
-  where
-    at : ((refusal : Refusal) × (config_stage limit holds config ≡ Stopped refusal) × (answer ≡ status_of refusal)) ⊎ (answer ≡ 6) ⊎ ((answer ≡ 1) × failed) → ⊥
-    at (inl h) = never_zero h.0 (sym h.2 ∙ zero)
-    at (inr (inl h)) = absurd cc
-    at (inr (inr h)) = let one : answer ≡ 1 = h.0 in absurd cc
+converted_well limit holds config dump failed call answer (inl early) zero =
+    absurd (never_early (config_stage limit holds config) failed answer 0 zero (λ e. absurd cc) (λ e. absurd cc) (λ refusal h e. never_zero refusal e) early.reason)
 converted_well limit holds config dump failed call answer (inr makes) zero = at makes.answers.status_is
   where
     six : answer ≢ 6
@@ -399,13 +339,13 @@ converted_well limit holds config dump failed call answer (inr makes) zero = at 
     whole : answer ≡ (verdict_of makes.accepted limit (dump_stage holds dump)).status → Converted limit holds config dump call
     whole h =
         let read = then_found (fetch limit holds config) _ makes.accepted makes.found in
-        let fetched = then_found (or_stop Outside (holds config)) _ read.0 read.1 in
-        let within = within_found (nat_le limit (length fetched.0)) fetched.0 read.0 fetched.2 in
+        let fetched = then_found (or_stop Outside (holds config)) _ read.0 read.1.0 in
+        let within = within_found (nat_le limit (length fetched.0)) fetched.0 read.0 fetched.1.1 in
         let opened = by (holds dump) makes.answers h in
-        let accepted_is = or_found Refused (config_of read.0) makes.accepted read.2 in
+        let accepted_is = some_found Refused (config_of read.0) makes.accepted read.1.1 in
         record {
           config_octets = read.0;
-          config_is = or_found Outside (holds config) fetched.0 fetched.1 ∙ ap Some within.1;
+          config_is = some_found Outside (holds config) fetched.0 fetched.1.0 ∙ ap Some within.1;
           config_within = below_limit limit (length read.0) (subst (λ (o : List ℕ). nat_le limit (length o) ≡ false) within.1 within.0);
           accepted = makes.accepted;
           accepted_is = accepted_is;
@@ -444,39 +384,10 @@ runs_generated tells limit holds form call talk answer r zero count e =
     (subst (λ (f : Option Form). Runs tells limit holds f call talk answer) e r).1 zero
 
 -- what a command did, as what is answered
-
-pub does_enforce : {T : Type 0} (tells : Bool) (limit : ℕ) (holds : Names) (form : Form) (config tape capture : List ℕ) (call : Happened) (talk : Conversation) (result : Result T Refusal) (answer : ℕ)
-    → form ≡ Enforce config tape capture → answered result ≡ answer → (IsTrue tells → Enforces limit holds config tape capture call (answered result))
-    → Does tells limit holds form call talk answer
-does_enforce tells limit holds form config tape capture call talk result answer e a d =
-    subst (λ (f : Form). Does tells limit holds f call talk answer) (sym e)
-    (λ told. subst (λ (n : ℕ). Enforces limit holds config tape capture call n) a (d told))
-
-pub does_survey : {T : Type 0} (tells : Bool) (limit : ℕ) (holds : Names) (form : Form) (survey : Survey) (config tape : List ℕ) (call : Happened) (talk : Conversation) (result : Result T Refusal) (answer : ℕ)
-    → form ≡ Surveys survey config tape → answered result ≡ answer → (IsTrue tells → Lists (text_for survey) limit holds config tape call (answered result))
-    → Does tells limit holds form call talk answer
-does_survey tells limit holds form survey config tape call talk result answer e a d =
-    subst (λ (f : Form). Does tells limit holds f call talk answer) (sym e)
-    (λ told. subst (λ (n : ℕ). Lists (text_for survey) limit holds config tape call n) a (d told))
-
-pub does_convert : {T : Type 0} (tells : Bool) (limit : ℕ) (holds : Names) (form : Form) (config dump : List ℕ) (call : Happened) (talk : Conversation) (result : Result T Refusal) (answer : ℕ)
-    → form ≡ Converts config dump → answered result ≡ answer → (IsTrue tells → ConvertsDump limit holds config dump call (answered result))
-    → Does tells limit holds form call talk answer
-does_convert tells limit holds form config dump call talk result answer e a d =
-    subst (λ (f : Form). Does tells limit holds f call talk answer) (sym e)
-    (λ told. subst (λ (n : ℕ). ConvertsDump limit holds config dump call n) a (d told))
-
-pub does_gen : {T : Type 0} (tells : Bool) (limit : ℕ) (holds : Names) (form : Form) (count : ℕ) (call : Happened) (talk : Conversation) (result : Result T Refusal) (answer : ℕ)
-    → form ≡ Gen count → answered result ≡ answer → Generates count call (answered result) → Does tells limit holds form call talk answer
-does_gen tells limit holds form count call talk result answer e a d =
-    subst (λ (f : Form). Does tells limit holds f call talk answer) (sym e) (subst (λ (n : ℕ). Generates count call n) a d)
-
-pub does_announce : {T : Type 0} (tells : Bool) (limit : ℕ) (holds : Names) (form : Form) (config rules address : List ℕ) (call : Happened) (talk : Conversation) (result : Result T Refusal) (answer : ℕ)
-    → form ≡ Announce config rules address → answered result ≡ answer → (IsTrue tells → Announces limit holds config rules call talk (answered result))
-    → Does tells limit holds form call talk answer
-does_announce tells limit holds form config rules address call talk result answer e a d =
-    subst (λ (f : Form). Does tells limit holds f call talk answer) (sym e)
-    (λ told. subst (λ (n : ℕ). Announces limit holds config rules call talk n) a (d told))
+pub does_as : (tells : Bool) (limit : ℕ) (holds : Names) (form other : Form) (call : Happened) (talk : Conversation) (status answer : ℕ)
+    → form ≡ other → status ≡ answer → Does tells limit holds other call talk status → Does tells limit holds form call talk answer
+does_as tells limit holds form other call talk status answer e a d =
+    subst (λ (f : Form). Does tells limit holds f call talk answer) (sym e) (subst (λ (n : ℕ). Does tells limit holds other call talk n) a d)
 
 pub runs_announced : (tells : Bool) (limit : ℕ) (holds : Names) (form : Option Form) (call : Happened) (talk : Conversation) (answer : ℕ)
     → IsTrue tells → Runs tells limit holds form call talk answer
@@ -484,25 +395,11 @@ pub runs_announced : (tells : Bool) (limit : ℕ) (holds : Names) (form : Option
 runs_announced tells limit holds form call talk answer told r config rules address e =
     announce_promises limit holds config rules call talk answer ((subst (λ (f : Option Form). Runs tells limit holds f call talk answer) e r).1 told)
 
-pub does_listen : {T : Type 0} (tells : Bool) (limit : ℕ) (holds : Names) (form : Form) (config address : List ℕ) (call : Happened) (talk : Conversation) (result : Result T Refusal) (answer : ℕ)
-    → form ≡ Listen config address → answered result ≡ answer → (IsTrue tells → ListensTo limit holds config call talk (answered result))
-    → Does tells limit holds form call talk answer
-does_listen tells limit holds form config address call talk result answer e a d =
-    subst (λ (f : Form). Does tells limit holds f call talk answer) (sym e)
-    (λ told. subst (λ (n : ℕ). ListensTo limit holds config call talk n) a (d told))
-
 pub runs_heard : (tells : Bool) (limit : ℕ) (holds : Names) (form : Option Form) (call : Happened) (talk : Conversation) (answer : ℕ)
     → IsTrue tells → Runs tells limit holds form call talk answer
     → (config address : List ℕ) → form ≡ Some (Listen config address) → ListenPromises limit holds config call talk answer
 runs_heard tells limit holds form call talk answer told r config address e =
     listen_promises limit holds config call talk answer ((subst (λ (f : Option Form). Runs tells limit holds f call talk answer) e r).1 told)
-
-pub does_pair : {T : Type 0} (tells : Bool) (limit : ℕ) (holds : Names) (form : Form) (config rules : List ℕ) (call : Happened) (talk : Conversation) (result : Result T Refusal) (answer : ℕ)
-    → form ≡ Pair config rules → answered result ≡ answer → (IsTrue tells → Joins limit holds config rules call talk (answered result))
-    → Does tells limit holds form call talk answer
-does_pair tells limit holds form config rules call talk result answer e a d =
-    subst (λ (f : Form). Does tells limit holds f call talk answer) (sym e)
-    (λ told. subst (λ (n : ℕ). Joins limit holds config rules call talk n) a (d told))
 
 pub runs_paired : (tells : Bool) (limit : ℕ) (holds : Names) (form : Option Form) (call : Happened) (talk : Conversation) (answer : ℕ)
     → IsTrue tells → Runs tells limit holds form call talk answer

@@ -193,7 +193,8 @@ pub record Promises {F S W C : Type 0} (limit : ℕ) (w : World F S W C) (words 
   -- Then no file is opened, nothing is written, and neither the wire nor the clock is used.
   pub nothing_done : form_of words ≡ None → FilesKept w × SinkKept w × WireKept w × ClockKept w
   -- `check` opens no file.
-  pub check_opens_nothing : (subject : Subject) (word : List ℕ) → form_of words ≡ Some (Check subject word) → FilesKept w
+  pub check_opens_nothing : (subject : Subject) (word : List ℕ)
+      → form_of words ≡ Some (Check subject word) → FilesKept w
   -- `gen` opens no file.
   pub gen_opens_nothing : (count : ℕ) → form_of words ≡ Some (Gen count) → FilesKept w
   -- Only `announce`, `listen` and `pair` use the wire, and the clock.

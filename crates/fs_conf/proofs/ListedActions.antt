@@ -1,18 +1,17 @@
 -- Actions as communities: the octets of actions are read as these, and what is read are actions.
-use Rattle.std.proofs.Common.{◌≡◌, ℕ, zero, suc, ◌*◌, ◌/◌, ◌<◌, ◌≤◌, Bool, true, false, cond, ◌&&◌, List, [], ◌∷◌, ◌++◌, length, take, drop, bit_and, Option, Some, None, refl, sym, ap, ◌∙◌, subst, arith, filter_map}
+use Rattle.std.proofs.Common.{◌≡◌, ℕ, zero, suc, ◌*◌, ◌/◌, ◌<◌, ◌≤◌, Bool, true, false, cond, ◌&&◌, List, [], ◌∷◌, ◌++◌, length, drop, bit_and, Option, Some, None, refl, sym, ap, ◌∙◌, subst, arith, filter_map}
 use Rattle.std.specs.Prelude.{is_some}
 use Rattle.std.specs.List.{AllByRecursion, concat, list_all}
 use Rattle.std.specs.Simd.{first_chunks}
 use Rattle.std.specs.Int.Bits.{and_self}
-use Rattle.std.proofs.Math.Seq.{take-append_seam, drop-append_seam}
 use Rattle.std.proofs.lemmas.Bool.{lt-ltb}
-use Rattle.std.proofs.lemmas.List.{length-append, length-drop, length-take-le}
+use Rattle.std.proofs.lemmas.List.{length-drop, length-take-le}
 use Rattle.std.proofs.lemmas.Nat.{and_assoc, and_le_l}
 use Rattle.fs_base.proofs.Octets.{octets_drop, octets_take}
 use Rattle.fs_base.specs.Language.{IsOctets}
 use Rattle.fs_actions.proofs.Insertion.{each_with}
 use Rattle.fs_actions.proofs.Listed.{are_listed as are_the_listed}
-use Rattle.fs_actions.proofs.ReadBack.{read_back, whole_joined}
+use Rattle.fs_actions.proofs.ReadBack.{communities_joined, each_length, read_back, whole_joined}
 use Rattle.fs_actions.specs.Actions.{actions_of, are_communities, communities, with_action, with_actions}
 use Rattle.fs_actions.specs.Community.{IsAction, cleared, kind_of, listed, normal_form}
 use Rattle.fs_parse.proofs.Found.{IsEight, each, eight, masked, normal_at}
@@ -23,22 +22,6 @@ use Rattle.fs_conf.proofs.Sought.{all_filter}
 use Rattle.fs_conf.specs.Sent.{are_listed, listed_actions}
 
 -- what is written is read back
-
-pub each_length : (xs : List (List ℕ)) → AllByRecursion IsAction xs → length (concat xs) ≡ 8 * length xs
-each_length [] h = refl
-each_length (x ∷ xs) h = simp length-append (omega (arith, h.0.eight, each_length xs h.1))
-
-chunks_joined : (xs : List (List ℕ)) → AllByRecursion IsAction xs → first_chunks 8 (length xs) (concat xs) ≡ xs
-chunks_joined [] h = refl
-chunks_joined (x ∷ xs) h =
-    let front : take 8 (x ++ concat xs) ≡ x = rw (← h.0.eight) (take-append_seam x (concat xs)) in
-    let back : drop 8 (x ++ concat xs) ≡ concat xs = rw (← h.0.eight) (drop-append_seam x (concat xs)) in
-    rw (front, back, chunks_joined xs h.1) refl
-
-communities_joined : (xs : List (List ℕ)) → AllByRecursion IsAction xs → communities (concat xs) ≡ xs
-communities_joined xs h =
-    let count : length (concat xs) / 8 ≡ length xs = omega (arith, each_length xs h) in
-    rw count (chunks_joined xs h)
 
 each_listed : (xs : List (List ℕ)) → AllByRecursion IsAction xs → list_all (λ community. is_some (normal_form community)) xs ≡ true
 each_listed [] h = refl

@@ -28,7 +28,8 @@ use Rattle.fs_conf.specs.Sent.{actions_among, if_ok, listed_actions, only, rule_
 use Rattle.fs_conf.specs.Worded.{has_text, octet_lists, sent}
 use Rattle.fs_conf.specs.WordedLaw.{IsTextOf, SaysItsOwn}
 use Rattle.fs_conf.proofs.CanonicalFrame.{frame_octets, frame_short}
-use Rattle.fs_conf.proofs.ListedActions.{each_length, listed_are, listed_back}
+use Rattle.fs_actions.proofs.ReadBack.{each_length}
+use Rattle.fs_conf.proofs.ListedActions.{listed_are, listed_back}
 use Rattle.fs_conf.proofs.OneRule.{one_frame}
 use Rattle.fs_conf.proofs.Sought.{AreBelow, IsIn, all_append, all_each, all_filter, all_flat, all_lists, all_map, found_in, in_filter, in_flat, in_left, in_lists, in_map, in_right, none_in}
 

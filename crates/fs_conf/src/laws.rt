@@ -9,7 +9,8 @@ pub fn accepts_numbers()
 {}
 
 /// What a rules file says is to be sent has an identifier and AS numbers of four octets, these at most 255, and rules
-/// and actions in normal form; each rule's UPDATE to the peer that rules are sent for fits the 4096 octets of a message.
+/// and actions in normal form; each rule's UPDATE to the peer that rules are sent for fits the 4096 octets of a
+/// message.
 pub fn accepts_rules()
     ensures { AcceptsRules }
 {}

@@ -7,4 +7,5 @@ mod rules;
 mod tape_fault;
 
 pub use listing::desk_text;
+pub use peers::append_codes;
 pub use tape_fault::tape_fault_text;

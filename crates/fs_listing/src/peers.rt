@@ -73,7 +73,11 @@ fn append_standing(standing: Standing, text: &mut Vec<u8>) -> Result<(), Memory>
 }
 
 /// Appends a word and the two codes of a NOTIFICATION (RFC 4271 section 4.5).
-fn append_codes(word: &[u8], code: u8, subcode: u8, text: &mut Vec<u8>) -> Result<(), Memory>
+///
+/// # Errors
+///
+/// `Memory` where the machine refused memory.
+pub fn append_codes(word: &[u8], code: u8, subcode: u8, text: &mut Vec<u8>) -> Result<(), Memory>
     ensures { OnOk result (text.new.items ≡ text.old.items ++ codes_text word.now code subcode) }
 {
     append(word, text)?;

@@ -88,7 +88,13 @@ fn take_captured<F: Files>(
     let rest = (frame.total - fixed - captured) as usize;
     let size = captured as usize + rest + 4;
     if size > into.len() {
-        return take_pieces(frame, fixed, captured, counted, files, into);
+        if let Err(fault) = take_front(captured as usize, counted, files, into) {
+            return Err(fault);
+        }
+        return match end_block(frame, rest as u64, counted, files) {
+            Ok(()) => Ok(()),
+            Err(fault) => Err(fault),
+        };
     }
     if let Err(fault) = take_front(size, counted, files, into) {
         return Err(fault);
@@ -100,40 +106,6 @@ fn take_captured<F: Files>(
         });
     }
     Ok(())
-}
-
-/// The same, piece by piece.
-fn take_pieces<F: Files>(
-    frame: Frame,
-    fixed: u32,
-    captured: u32,
-    counted: &mut Counted,
-    files: &mut F,
-    into: &mut [u8],
-) -> Result<(), NgFault>
-    requires room { longest_record ≤ length into.old }
-    requires size { captured ≤ longest_record }
-    requires long { fixed + captured ≤ frame.total }
-    requires none { counted.old.back ≡ [] }
-    requires place { counted.old.taken + 4 ≡ frame.start + fixed }
-    ensures none { counted.new.back ≡ [] }
-    ensures room { length into.new ≡ length into.old }
-    ensures taken { IfOk result (λ _. counted.new.taken ≡ frame.start + frame.total) }
-    ensures reads { Scans F.Files files.old files.new (octets_in frame fixed captured) Cut counted.old counted.new
-        (λ _. take captured into.new) result }
-{
-    if let Err(fault) = take_front(captured as usize, counted, files, into) {
-        return Err(fault);
-    }
-    match end_block(
-        frame,
-        (frame.total - fixed - captured) as u64,
-        counted,
-        files,
-    ) {
-        Ok(()) => Ok(()),
-        Err(fault) => Err(fault),
-    }
 }
 
 fn seen(told: Told) -> Seen

@@ -67,5 +67,6 @@ pub record Answers (verdict : Verdict) (failed : Type 0) (before now : Option (L
 
 -- The run ended before anything was written: a stage ended it, memory was wanting, or a call on the outside failed.
 pub record EndsEarly {A : Type 0} (stage : Stage A) (failed : Type 0) (before now : Option (List ℕ)) (answer : ℕ) : Type 0 where
-  pub reason : ((refusal : Refusal) × (stage ≡ Stopped refusal) × (answer ≡ status_of refusal)) ⊎ (answer ≡ 6) ⊎ ((answer ≡ 1) × failed)
+  pub reason : ((refusal : Refusal) × (stage ≡ Stopped refusal) × (answer ≡ status_of refusal))
+      ⊎ (answer ≡ 6) ⊎ ((answer ≡ 1) × failed)
   pub nothing : Grew before now []

@@ -1,27 +1,25 @@
 -- What the files of an accepted configuration and its rules hold.
-use Rattle.std.proofs.Common.{◌≡◌, ℕ, ◌<◌, List, Option, Some, None, refl, ap, sym, ◌∙◌, subst}
+use Rattle.std.proofs.Common.{◌≡◌, ℕ, ◌<◌, List, Option, Some, None, refl, ap, sym, ◌∙◌}
 use Rattle.fs_base.specs.declared.config.Config.{Config}
 use Rattle.fs_base.specs.declared.config.Peer.{Peer}
 use Rattle.fs_conf.specs.Config.{config_of}
 use Rattle.fs_conf.specs.Rules.{rules_of}
 use Rattle.fs_speaker.specs.Sending.{sender_of}
 use Rattle.fs_speaker.specs.declared.sending.Sending.{Sending}
-use Rattle.fs_receive.specs.Pair.{CanArrive}
+use Rattle.fs_joint.specs.Laws.{CanArrive}
 use Rattle.fs_stages.specs.Load.{Names, config_stage, fetch, rules_stage, sending_stage}
 use Rattle.fs_stages.specs.Refusal.{Found, Stage, Stopped, and_then, or_stop}
 use Rattle.fs_stages.specs.declared.refusal.Refusal.{Refusal}
 use Rattle.fs_stages.specs.declared.refusal.Refusal.TheVariants.{Config as Refused}
 use Rattle.fs_wires.proofs.Arrivable.{can_arrive}
-
-same_found : {A : Type 0} {x y : A} → Found x ≡ Found y → x ≡ y
-same_found e = cc
+use Rattle.fs_wires.proofs.Statuses.{same_found}
 
 -- a stage behind another that gives a value
-then_found : {A B : Type 0} (stage : Stage A) (next : A → Stage B) (b : B) → and_then stage next ≡ Found b → (a : A) × ((stage ≡ Found a) × (next a ≡ Found b))
+pub then_found : {A B : Type 0} (stage : Stage A) (next : A → Stage B) (b : B) → and_then stage next ≡ Found b → (a : A) × ((stage ≡ Found a) × (next a ≡ Found b))
 then_found (Found a) next b e = (a, (refl, e))
 then_found (Stopped refusal) next b e = absurd cc
 
-some_found : {A : Type 0} (refusal : Refusal) (o : Option A) (a : A) → or_stop refusal o ≡ Found a → o ≡ Some a
+pub some_found : {A : Type 0} (refusal : Refusal) (o : Option A) (a : A) → or_stop refusal o ≡ Found a → o ≡ Some a
 some_found refusal (Some x) a e = ap Some (same_found e)
 some_found refusal None a e = absurd cc
 

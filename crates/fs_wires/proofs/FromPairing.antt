@@ -5,72 +5,33 @@ use Rattle.fs_base.specs.Config.{peer_of}
 use Rattle.fs_base.specs.Wire.{EndCloses, Told, WireEnds, joined_end}
 use Rattle.fs_base.specs.declared.config.Config.{Config}
 use Rattle.fs_base.specs.declared.config.Peer.{Peer}
-use Rattle.fs_base.proofs.Grew.{Grew-refl}
 use Rattle.fs_speaker.specs.declared.sending.Sending.{Sending}
-use Rattle.fs_speaker.specs.declared.state.Closed.{Closed}
 use Rattle.fs_speaker.specs.Announcer.{Announcing, CanSend, announcing}
 use Rattle.fs_speaker.specs.Line.{fresh}
 use Rattle.fs_speaker.specs.Sending.{sender_of}
 use Rattle.fs_talk.proofs.Telling.{told_and}
-use Rattle.fs_talk.specs.Joined.{AreJoined, of_first}
+use Rattle.fs_talk.specs.Joined.{AreJoined, of_first, of_second}
 use Rattle.fs_talk.specs.Turn.{octets_in}
-use Rattle.fs_tape.specs.Tape.{Item}
 use Rattle.fs_desk.specs.Desk.{Desked, Played}
 use Rattle.fs_desk.proofs.Leaves.{played_leaves}
 use Rattle.fs_ends.specs.declared.tell.Ending.{Ending}
 use Rattle.fs_ends.specs.declared.tell.Ending.TheVariants.{Done, Closed as HasClosed, Ended, AtLimit}
 use Rattle.fs_ends.specs.Tell.{begins_with}
-use Rattle.fs_listing.specs.Listing.{listing}
 use Rattle.fs_receive.specs.Hearer.{tape_of}
 use Rattle.fs_receive.specs.Pair.{Arrives, Pairs, PairsOver, PairsSo}
 use Rattle.fs_stages.specs.Load.{Names, config_stage, rules_stage}
-use Rattle.fs_stages.specs.Refusal.{Answers, Found, HasReason, answered, status_of, verdict_with}
-use Rattle.fs_stages.specs.Writing.{Writes}
+use Rattle.fs_stages.specs.Refusal.{Found, HasReason, answered, status_of, and_then, or_stop}
 use Rattle.fs_stages.specs.declared.refusal.Refusal.{Refusal}
-use Rattle.fs_stages.proofs.Stages.{answers_for, no_octets}
-use Rattle.fs_stages.proofs.Texts.{said_partly, said_whole}
+use Rattle.fs_stages.proofs.Stages.{answers_for}
 use Rattle.fs_wires.specs.Announcing.{IsBrokenOff}
 use Rattle.fs_wires.specs.Conversation.{Conversation}
-use Rattle.fs_wires.specs.Lines.{closing_line, ended_line}
 use Rattle.fs_wires.specs.Listed.{IsListing, ListsDesk, TellsListing, verdict_by}
 use Rattle.fs_wires.specs.Pairing.{BothBegin, Joined, JoinsSo, Meets}
 use Rattle.fs_wires.proofs.FromStages.{config_early, rules_early, sending_found, wire_early}
-
--- a listing that was written, or not
-
-pub listing_told : {T : Type 0} (desk : Desked) (text : List ℕ) (failed : Type 0) (before now : Option (List ℕ)) (result : Result T Refusal)
-    → ((config : Config) (items : List Item) → Played config items desk → text ≡ listing config items desk.held)
-    → Writes text failed before now result → TellsListing Done desk failed before now (answered result)
-listing_told desk text failed before now (Ok value) lists w = inr (text, (λ e. lists, said_whole 0 text failed before now w))
-listing_told desk text failed before now (Err refusal) lists w = inr (text, (λ e. lists, said_partly 0 text failed before now refusal w))
-
--- at another end there is no listing
-
-abbrev other_than_done : Ending → Type 0
-other_than_done ending = ending ≡ Done → ⊥
-
-pub closed_told : (ending : Ending) (why : Closed) (desk : Desked) (failed : Type 0) (before now : Option (List ℕ)) (answer : ℕ) → ending ≡ HasClosed why
-    → Answers (verdict_with 8 (closing_line why)) failed before now answer → TellsListing ending desk failed before now answer
-closed_told ending why desk failed before now answer e answers =
-    subst (λ (n : Ending). TellsListing n desk failed before now answer) (sym e) (inr (no_octets, (λ d. absurd (never d), answers)))
-  where
-    never : other_than_done (HasClosed why)
-    never d = cc
-
-pub ended_told : (ending : Ending) (desk : Desked) (failed : Type 0) (before now : Option (List ℕ)) (answer : ℕ) → ending ≡ Ended
-    → Answers (verdict_with 8 ended_line) failed before now answer → TellsListing ending desk failed before now answer
-ended_told ending desk failed before now answer e answers =
-    subst (λ (n : Ending). TellsListing n desk failed before now answer) (sym e) (inr (no_octets, (λ d. absurd (never d), answers)))
-  where
-    never : other_than_done Ended
-    never d = cc
-
-pub limit_told : (ending : Ending) (desk : Desked) (failed : Type 0) (a : Option (List ℕ)) → ending ≡ AtLimit → TellsListing ending desk failed a a 7
-limit_told ending desk failed a e =
-    subst (λ (n : Ending). TellsListing n desk failed a a 7) (sym e) (inr (no_octets, (λ d. absurd (never d), said_whole 7 no_octets failed a a (Grew-refl a))))
-  where
-    never : other_than_done AtLimit
-    never d = cc
+use Rattle.fs_joint.proofs.Lowest.{sender_told}
+use Rattle.fs_wires.specs.Listening.{Begins}
+use Rattle.std.specs.Result.{IfErr, IsErrAnd}
+use Rattle.fs_stages.specs.declared.refusal.Refusal.TheVariants.{Config as Refused}
 
 -- neither is answered with 3
 not_three : (ending : Ending) (text : List ℕ) → (verdict_by ending text).status ≡ 3 → ⊥
@@ -106,7 +67,7 @@ lists_for : (config : Config) (peer : Peer) (sending : Sending) (desk : Desked) 
     → (p : Pairs ending config peer sending desk peer.number limit given b c) → ListsDesk ending desk text → ending ≡ Done
     → IsListing config (tape_of peer.number p.announced) text
 lists_for config peer sending desk limit given text ending b c p lists e =
-    let came : Arrives config peer sending desk peer.number (of_first p.events) p.announced p.replied =
+    let came : Arrives config peer sending desk peer.number limit (of_first p.events) (of_second p.events) p.announced p.replied =
     subst (λ (n : Ending). PairsSo n config peer sending desk peer.number limit p.events p.announced p.replied c) e p.ends in
     let played : Played config (tape_of peer.number p.announced) desk =
     subst (λ (z : List ℕ). Played config (tape_of peer.number z) desk) (sym came.all_is)
@@ -135,6 +96,7 @@ met ending config peer sending desk limit given text lists a b c d f =
         asked = p.asked;
         front = p.front;
         arrives = p.arrives;
+        late = p.late;
         ends = p.ends;
       };
       lists = lists_for config peer sending desk limit given text ending b c p lists;
@@ -182,26 +144,28 @@ Made config sending o sender started count =
     IfSome o (λ peer. (sender ≡ announcing config peer sending fresh false 0) × ((started ≡ false) × (count ≡ 0)))
 
 -- both ends before their first octets
-pub both_begin : (config : Config) (sending : Sending) (desk : Desked) (number found : ℕ) (sender : Announcing) (started : Bool) (count : ℕ)
-    → CanSend config (sender_of config.peers) sending
-    → ((peer : Peer) → sender_of config.peers ≡ Some peer → (found ≡ peer.number) × (peer_of found config.peers ≡ Some peer))
-    → number ≡ found → desk.config ≡ config
-    → Made config sending (sender_of config.peers) sender started count
+pub both_begin : (config : Config) (sending : Sending) (desk : Desked) (number heard : ℕ) (sender : Announcing) (started : Bool) (count : ℕ)
+    → Begins config desk number heard → Made config sending (sender_of config.peers) sender started count
     → BothBegin config sending desk number sender started
-both_begin config sending desk number found sender started count can low same own made = by (sender_of config.peers) refl can made
-  where
-    by : (o : Option Peer) → sender_of config.peers ≡ o → CanSend config o sending → Made config sending o sender started count
-        → BothBegin config sending desk number sender started
-    by None e c m = absurd c
-    by (Some peer) e c m = record {
-      peer = peer;
-      peer_is = e;
-      number_is = same ∙ (low peer e).0;
-      known = ap (λ (n : ℕ). peer_of n config.peers) same ∙ (low peer e).1;
-      config_is = own;
-      sender_is = m.0;
-      unstarted = m.1.0;
+both_begin config sending desk number heard sender started count b made =
+    let own : Made config sending (Some b.peer) sender started count = subst (λ (o : Option Peer). Made config sending o sender started count) b.peer_is made in
+    record {
+      peer = b.peer;
+      peer_is = b.peer_is;
+      number_is = b.number_is;
+      known = ap (λ (n : ℕ). peer_of n config.peers) b.number_is ∙ sender_told config.peers b.peer b.peer_is;
+      config_is = b.config_is;
+      sender_is = own.0;
+      unstarted = own.1.0;
     }
+
+-- a peer that rules may be sent for is there
+pub lowest_broken : {T : Type 0} (config : Config) (o : Option Peer) (sending : Sending) (r : Result T Refusal) (refusal : Refusal) → CanSend config o sending
+    → HasReason (and_then {B = Config × Peer} (or_stop Refused o) (λ peer. Found (config, peer))) ⊥ refusal → IsErrAnd r (λ e. e ≡ refusal) → IfErr r (IsBrokenOff ⊥)
+lowest_broken config o sending (Ok t) refusal can reason e = tt
+lowest_broken config None sending (Err other) refusal can reason e = absurd can
+lowest_broken config (Some peer) sending (Err other) refusal can (inl h) e = absurd cc
+lowest_broken config (Some peer) sending (Err other) refusal can (inr h) e = subst (IsBrokenOff ⊥) (sym e) h
 
 pub unheard : (config : Config) (o : Option Peer) (sending : Sending) (sender : Announcing) (started : Bool) (count : ℕ) → CanSend config o sending
     → Made config sending o sender started count → count ≡ 0

@@ -1,5 +1,5 @@
 -- How what `announce` answers follows from its stages.
-use Rattle.std.proofs.Common.{◌≡◌, inl, inr, ◌<◌, ◌≤◌, ◌∙◌, ℕ, ◌+◌, List, [], ◌++◌, length, nat_le, Bool, true, false, if◌then◌else◌, Option, Some, None, IfSome, Result, append-nil, arith, refl, ap, sym, subst}
+use Rattle.std.proofs.Common.{◌≡◌, inl, inr, ◌<◌, ◌≤◌, ◌∙◌, ℕ, ◌+◌, List, [], ◌++◌, length, nat_le, Bool, true, false, if◌then◌else◌, Option, Some, None, IfSome, append-nil, arith, refl, ap, sym, subst}
 use Rattle.std.proofs.lemmas.Bool.Decides.{nat_tests}
 use Rattle.fs_base.specs.Wire.{EndCloses, Told, WireEnds, opened_end}
 use Rattle.fs_base.specs.declared.config.Config.{Config}
@@ -21,10 +21,10 @@ use Rattle.fs_ends.specs.Opening.{opened_by}
 use Rattle.fs_ends.specs.Tell.{EndsBefore, MetLimit, SaidAll, Tells, TellsOver, TellsSo, begins_with}
 use Rattle.fs_ends.specs.Teller.{ClosesSo}
 use Rattle.fs_stages.specs.Load.{Names, config_stage, rules_stage, sending_stage}
-use Rattle.fs_stages.specs.Refusal.{EndsEarly, Answers, Found, HasReason, Stage, and_then, answered, status_of}
+use Rattle.fs_stages.specs.Refusal.{EndsEarly, Found, HasReason, Stage, and_then, status_of}
 use Rattle.fs_stages.specs.declared.refusal.Refusal.{Refusal}
-use Rattle.fs_stages.proofs.Stages.{answers_for, ends_early, reason_then}
-use Rattle.fs_wires.specs.Announcing.{AnnouncesSo, Connected, IsBrokenOff, IsDue, Speaks, ending_by, ending_of, verdict_of}
+use Rattle.fs_stages.proofs.Stages.{ends_early, reason_then}
+use Rattle.fs_wires.specs.Announcing.{AnnouncesSo, Connected, IsBrokenOff, IsDue, Speaks, ending_by, ending_of}
 use Rattle.fs_wires.specs.Conversation.{Conversation}
 
 -- the end that is due
@@ -34,10 +34,10 @@ ending_at : (limit size : ℕ) (phase : Phase) (behind : List ℕ) (met up : Boo
 ending_at limit size phase behind met up m u =
     ap (λ (b : Bool). if b then AtLimit else if is_established phase.state then Done else Ended) m ∙ ap (λ (b : Bool). if met then AtLimit else if b then Done else Ended) u
 
-is_below : (least size : ℕ) → size < least → nat_le least size ≡ false
+pub is_below : (least size : ℕ) → size < least → nat_le least size ≡ false
 is_below least size l = grind (arith, nat_tests, l)
 
-is_reached : (least size : ℕ) → least ≤ size → nat_le least size ≡ true
+pub is_reached : (least size : ℕ) → least ≤ size → nat_le least size ≡ true
 is_reached least size l = grind (arith, nat_tests, l)
 
 below_sum : (limit size : ℕ) → size < limit → size < limit + length {A = ℕ} []
@@ -164,10 +164,6 @@ pub wire_early : (limit : ℕ) (holds : Names) (config rules : List ℕ) (failed
     → IsBrokenOff failed refusal → (failed → failed') → EndsEarly (sending_stage limit holds config rules) failed' a a (status_of refusal)
 wire_early limit holds config rules failed failed' a refusal h f = ends_early (sending_stage limit holds config rules) failed failed' a refusal (inr h) f
 
-pub wire_stops : (limit : ℕ) (holds : Names) (config rules : List ℕ) (failed failed' : Type 0) (a : Option (List ℕ)) (talk : Conversation) (refusal : Refusal)
-    → IsBrokenOff failed refusal → (failed → failed') → AnnouncesSo limit holds config rules failed' a a talk (status_of refusal)
-wire_stops limit holds config rules failed failed' a talk refusal h f = inl (wire_early limit holds config rules failed failed' a refusal h f)
-
 -- both files are accepted
 pub sending_found : (limit : ℕ) (holds holds' : Names) (config rules : List ℕ) (accepted : Config) (sending : Sending)
     → config_stage limit holds config ≡ Found accepted → holds' ≡ holds → rules_stage accepted limit holds' rules ≡ Found sending
@@ -177,20 +173,3 @@ sending_found limit holds holds' config rules accepted sending e same r =
     rules_in limit holds config rules accepted e ∙ ap (λ (s : Stage Sending). and_then s (λ sending. Found (accepted, sending))) here
 
 -- or the session ended
-
-pub session_told : {T : Type 0} (limit : ℕ) (holds holds' : Names) (config rules : List ℕ) (accepted : Config) (sending : Sending) (ending : Ending) (failed failed' : Type 0)
-    (before now : Option (List ℕ)) (talk : Conversation) (count : ℕ) (result : Result T Refusal)
-    → config_stage limit holds config ≡ Found accepted → holds' ≡ holds → rules_stage accepted limit holds' rules ≡ Found sending
-    → Connected ending accepted sending limit talk → count ≡ length sending.rules
-    → Answers (verdict_of ending count) failed before now (answered result) → (failed → failed')
-    → AnnouncesSo limit holds config rules failed' before now talk (answered result)
-session_told limit holds holds' config rules accepted sending ending failed failed' before now talk count result e same r c n answers f =
-    inr (record {
-      accepted = accepted;
-      sending = sending;
-      found = sending_found limit holds holds' config rules accepted sending e same r;
-      ending = ending;
-      speaks = c;
-      answers = answers_for (verdict_of ending (length sending.rules)) failed failed' before now (answered result)
-          (subst (λ (k : ℕ). Answers (verdict_of ending k) failed before now (answered result)) n answers) f;
-    })

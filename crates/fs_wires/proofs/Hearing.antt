@@ -1,7 +1,7 @@
 -- How what `listen` answers follows from its stages.
-use Rattle.std.proofs.Common.{◌≡◌, ◌⊎◌, inl, inr, ◌<◌, ◌≤◌, ◌∙◌, ℕ, List, [], ◌∷◌, ◌++◌, length, nat_le, Bool, true, false, if◌then◌else◌, Option, Some, None, append_assoc, arith, append-nil, refl, ap, sym, subst}
-use Rattle.std.proofs.lemmas.Bool.Decides.{nat_tests}
+use Rattle.std.proofs.Common.{◌≡◌, ◌⊎◌, inl, inr, ◌∙◌, ℕ, List, [], ◌∷◌, ◌++◌, length, nat_le, Bool, true, false, if◌then◌else◌, Option, Some, None, append_assoc, append-nil, refl, ap, sym, subst}
 use Rattle.std.proofs.lemmas.Grind.{flat_map-append}
+use Rattle.std.proofs.lemmas.Option.{same_Some}
 use Rattle.fs_base.specs.Config.{peer_of}
 use Rattle.fs_base.specs.Wire.{EndCloses, Told, WireEnds}
 use Rattle.fs_base.specs.declared.config.Config.{Config}
@@ -30,7 +30,8 @@ use Rattle.fs_wires.specs.Announcing.{IsBrokenOff}
 use Rattle.fs_wires.specs.Conversation.{Conversation}
 use Rattle.fs_wires.specs.Listening.{Begins, HasExpired, Heard, Hears, IsHeard, ListenedSo, ListensThrough, ending_by, ending_of, hearing_stage, listening, with_peer}
 use Rattle.fs_wires.specs.Listed.{ListsDesk, TellsListing, verdict_by}
-use Rattle.fs_wires.proofs.Lowest.{lowest_is}
+use Rattle.fs_joint.proofs.Lowest.{sender_told}
+use Rattle.fs_wires.proofs.FromStages.{is_below, is_reached}
 
 -- the octets up to a piece, and those behind it
 octets_split : (earlier : Pieces) (moment : ℕ) (piece : List ℕ) (later : Pieces)
@@ -65,12 +66,6 @@ session_is config number peer octets e =
     ap (λ (o : Option Peer). let s : List Update × Last = elim o [ None ↦ ([], still at_start) | Some p ↦ bounded_from config p octets ] in s.1) e
 
 -- the end that is due
-
-is_below : (least size : ℕ) → size < least → nat_le least size ≡ false
-is_below least size l = grind (arith, nat_tests, l)
-
-is_reached : (least size : ℕ) → least ≤ size → nat_le least size ≡ true
-is_reached least size l = grind (arith, nat_tests, l)
 
 due_still : (config : Config) (peer : Peer) (limit : ℕ) (octets : List ℕ) (phase : Phase) (met up : Bool)
     → (bounded_from config peer octets).1 ≡ still phase → nat_le limit (length octets) ≡ met → is_established phase.state ≡ up
@@ -130,19 +125,16 @@ through ending config desk number limit t0 t1 t2 t3 answers answers' opens l clo
 
 -- as the peer with the lowest number
 
-some_same : {A : Type 0} (x y : A) → Some x ≡ Some y → x ≡ y
-some_same x y e = cc
-
 module _ (ending : Ending) (config : Config) (desk : Desked) (peer : Peer) (text : List ℕ) (limit : ℕ)
     (peer_is : sender_of config.peers ≡ Some peer)
     (text_is : ListsDesk ending desk text) where
   is_of : peer_of peer.number config.peers ≡ Some peer
-  is_of = (lowest_is config.peers peer peer (sym peer_is) peer_is).1
+  is_of = sender_told config.peers peer peer_is
 
   hears_of : (given : List ℕ) (before now : WireEnds) → Listens ending config desk peer.number limit given (listening before) now
       → Hears ending config peer text limit given before now
   hears_of given before now l =
-      let whose_is : l.whose ≡ peer = some_same l.whose peer (sym l.whose_is ∙ is_of) in
+      let whose_is : l.whose ≡ peer = same_Some l.whose peer (sym l.whose_is ∙ is_of) in
       let there : peer_of peer.number desk.config.peers ≡ Some peer = subst (λ (c : Config). peer_of peer.number c.peers ≡ Some peer) (sym l.config_is) is_of in
       let ends : ListensSo ending desk peer.number peer limit l.heard l.said now.first.left =
       subst (λ (p : Peer). ListensSo ending desk peer.number p limit l.heard l.said now.first.left) whose_is l.ends in

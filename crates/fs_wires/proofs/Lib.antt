@@ -1,7 +1,7 @@
 pub mod FromStages
 pub mod Hearing
+pub mod Statuses
 pub mod Promising
-pub mod Lowest
 pub mod PromisingHearing
 pub mod Telling
 pub mod FromPairing

@@ -1,8 +1,6 @@
 -- What the clauses of a run of `announce` say follows from what it does.
-use Rattle.std.proofs.Common.{◌≡◌, ◌≢◌, ◌⊎◌, inl, inr, ◌<◌, ◌≤◌, ◌∙◌, ℕ, ◌+◌, List, [], ◌++◌, length, nat_le, Bool, true, false, if◌then◌else◌, Option, Some, None, append-nil, append_assoc, arith, refl, ap, sym, subst}
-use Rattle.std.proofs.lemmas.Grind.{common_steps}
-use Rattle.fs_base.specs.Happened.{Happened, FilesFailed, FilesStood, SinkFailed, SinkStood, Stood, WireFailed, WireStood}
-use Rattle.fs_base.specs.Outside.{Rose}
+use Rattle.std.proofs.Common.{◌≡◌, ◌⊎◌, inl, inr, ◌<◌, ◌≤◌, ◌∙◌, ℕ, ◌+◌, List, [], ◌++◌, length, nat_le, Bool, true, false, if◌then◌else◌, Option, Some, None, append-nil, append_assoc, arith, refl, ap, sym, subst, length-append, true≢false}
+use Rattle.fs_base.specs.Happened.{Happened, FilesFailed, FilesStood, SinkFailed, SinkStood, WireFailed, WireStood}
 use Rattle.fs_base.specs.Sink.{Grew}
 use Rattle.fs_base.specs.Wire.{Told, WireEnds}
 use Rattle.fs_base.specs.declared.config.Config.{Config}
@@ -23,25 +21,16 @@ use Rattle.fs_ends.specs.Teller.{ClosesSo, HasExpired}
 use Rattle.fs_conf.specs.Config.{config_of}
 use Rattle.fs_conf.specs.Rules.{rules_of}
 use Rattle.fs_stages.specs.Load.{Names, config_stage, fetch, rules_stage, sending_stage}
-use Rattle.fs_stages.specs.Refusal.{EndsEarly, Found, Stage, Stopped, and_then, or_stop, status_of}
+use Rattle.fs_stages.specs.Refusal.{Found, Stage, Stopped, and_then, or_stop, status_of}
 use Rattle.fs_stages.specs.declared.refusal.Refusal.{Refusal}
-use Rattle.fs_stages.specs.declared.refusal.Refusal.TheVariants.{Outside, Config as Refused, Tape, Capture, Dump, Memory, Limit, Session}
-use Rattle.fs_wires.specs.Announcing.{Announced, Announces, AnnouncesSo, Connected, Speaks, verdict_of}
+use Rattle.fs_stages.specs.declared.refusal.Refusal.TheVariants.{Outside, Config as Refused, Limit}
+use Rattle.fs_wires.specs.Announcing.{Announces, AnnouncesSo, Connected, Speaks, verdict_of}
 use Rattle.fs_wires.specs.Conversation.{Conversation}
 use Rattle.fs_wires.specs.Promised.{AnnouncePromises, EndsSo, HasAnnounceStatus, HasStatusBy, IsServed, Sent}
+use Rattle.fs_wires.proofs.Statuses.{differs, due_status, early_status, late_status, never_early, never_zero, none_failed, only_done, same_found, served_early, served_late}
+use Rattle.fs_wires.specs.Lines.{sent_line}
 
--- no refusal ends a run with status 0
-pub never_zero : (refusal : Refusal) → status_of refusal ≡ 0 → ⊥
-never_zero Outside e = absurd cc
-never_zero Refused e = absurd cc
-never_zero (Tape reason place) e = absurd cc
-never_zero Capture e = absurd cc
-never_zero Dump e = absurd cc
-never_zero Memory e = absurd cc
-never_zero Limit e = absurd cc
-never_zero Session e = absurd cc
-
--- and none of the files' ends one with status 8
+-- no refusal of the files' ends a run with status 8
 abbrev pub IsOfFiles : Refusal → Type 0
 IsOfFiles refusal = (refusal ≡ Outside) ⊎ ((refusal ≡ Limit) ⊎ (refusal ≡ Refused))
 
@@ -96,109 +85,57 @@ files_stop limit holds config rules refusal e =
 
 -- the status
 
-abbrev Caused : Type 0 → ℕ → ℕ → Type 0
-Caused failed status answer = (answer ≡ status) ⊎ (answer ≡ 6) ⊎ ((answer ≡ 1) × failed)
-
 pub announce_status : (limit : ℕ) (holds : Names) (config rules : List ℕ) (failed : Type 0) (before now : Option (List ℕ)) (talk : Conversation) (answer : ℕ)
     → AnnouncesSo limit holds config rules failed before now talk answer
     → HasAnnounceStatus limit holds config rules talk answer ⊎ (answer ≡ 6) ⊎ ((answer ≡ 1) × failed)
-announce_status limit holds config rules failed before now talk answer (inl early) = at early.reason
-  where
-    at : ((refusal : Refusal) × (sending_stage limit holds config rules ≡ Stopped refusal) × (answer ≡ status_of refusal)) ⊎ (answer ≡ 6) ⊎ ((answer ≡ 1) × failed)
-        → HasAnnounceStatus limit holds config rules talk answer ⊎ (answer ≡ 6) ⊎ ((answer ≡ 1) × failed)
-    at (inl h) = inl (subst (λ (s : Stage (Config × Sending)). HasStatusBy limit s talk answer) (sym h.1) h.2)
-    at (inr h) = inr h
-announce_status limit holds config rules failed before now talk answer (inr a) = at a.answers.status_is
-  where
-    at : Caused failed (verdict_of a.ending (length a.sending.rules)).status answer → HasAnnounceStatus limit holds config rules talk answer ⊎ (answer ≡ 6) ⊎ ((answer ≡ 1) × failed)
-    at (inl h) = inl (subst (λ (s : Stage (Config × Sending)). HasStatusBy limit s talk answer) (sym a.found) (a.ending, (a.speaks, h)))
-    at (inr h) = inr h
+announce_status limit holds config rules failed before now talk answer (inl early) =
+    early_status (sending_stage limit holds config rules) failed answer (λ s. HasStatusBy limit s talk answer) (λ refusal h. h) early.reason
+announce_status limit holds config rules failed before now talk answer (inr a) =
+    late_status failed (verdict_of a.ending (length a.sending.rules)).status answer (HasAnnounceStatus limit holds config rules talk answer)
+    (λ h. subst (λ (s : Stage (Config × Sending)). HasStatusBy limit s talk answer) (sym a.found) (a.ending, (a.speaks, h))) a.answers.status_is
 
 -- what is promised
-
--- the one ending that answers 0
-only_done : (ending : Ending) (count : ℕ) → (verdict_of ending count).status ≡ 0 → ending ≡ Done
-only_done Done count e = refl
-only_done (HasClosed why) count e = absurd cc
-only_done Ended count e = absurd cc
-only_done AtLimit count e = absurd cc
-
-pub not_rose : (before now : ℕ) → Stood before now → Rose before now → ⊥
-not_rose before now s r = omega (arith, s.stands, s.below, r)
 
 module _ (limit : ℕ) (holds : Names) (config rules : List ℕ) (call : Happened) (talk : Conversation) (answer : ℕ) where
   abbrev failed : Type 0
   failed = FilesFailed call ⊎ (SinkFailed call ⊎ WireFailed call)
 
-  abbrev Early : Type 0
-  Early = EndsEarly (sending_stage limit holds config rules) failed call.before.written call.now.written answer
-
-  abbrev Ends : Type 0
-  Ends = Announced limit holds config rules failed call.before.written call.now.written talk answer
-
-  -- a run that ended early
-  early_not : (wanted : ℕ) → answer ≡ wanted → wanted ≢ 6 → wanted ≢ 1 → ((refusal : Refusal) → sending_stage limit holds config rules ≡ Stopped refusal → status_of refusal ≡ wanted → ⊥) → Early → ⊥
-  early_not wanted is six one none early = at early.reason
-    where
-      at : ((refusal : Refusal) × (sending_stage limit holds config rules ≡ Stopped refusal) × (answer ≡ status_of refusal)) ⊎ (answer ≡ 6) ⊎ ((answer ≡ 1) × failed) → ⊥
-      at (inl h) = none h.0 h.1 (sym h.2 ∙ is)
-      at (inr (inl h)) = six (sym is ∙ h)
-      at (inr (inr h)) = one (sym is ∙ h.0)
-
-  -- an answered end
-  status_at : (a : Ends) → answer ≢ 6 → answer ≢ 1 → answer ≡ (verdict_of a.ending (length a.sending.rules)).status
-  status_at a six one = at a.answers.status_is
-    where
-      at : Caused failed (verdict_of a.ending (length a.sending.rules)).status answer → answer ≡ (verdict_of a.ending (length a.sending.rules)).status
-      at (inl h) = h
-      at (inr (inl h)) = absurd (six h)
-      at (inr (inr h)) = absurd (one h.0)
-
-  differs : (one other : ℕ) → one ≢ other → answer ≡ one → answer ≢ other
-  differs one other d e h = d (sym e ∙ h)
-
   sent_so : AnnouncesSo limit holds config rules failed call.before.written call.now.written talk answer → answer ≡ 0 → Sent limit holds config rules call talk
-  sent_so (inl early) zero = absurd (early_not 0 zero (λ e. absurd cc) (λ e. absurd cc) (λ refusal h e. never_zero refusal e) early)
+  sent_so (inl early) zero =
+      absurd (never_early (sending_stage limit holds config rules) failed answer 0 zero (λ e. absurd cc) (λ e. absurd cc) (λ refusal h e. never_zero refusal e) early.reason)
   sent_so (inr a) zero =
-      let six : answer ≢ 6 = differs 0 6 (λ e. absurd cc) zero in
-      let one : answer ≢ 1 = differs 0 1 (λ e. absurd cc) zero in
-      let done : a.ending ≡ Done = only_done a.ending (length a.sending.rules) (sym (status_at a six one) ∙ zero) in
+      let status : answer ≡ (verdict_of a.ending (length a.sending.rules)).status = due_status failed _ answer 0 zero (λ e. absurd cc) (λ e. absurd cc) a.answers.status_is in
+      let done : a.ending ≡ Done = only_done a.ending (sent_line (length a.sending.rules)) (sym status ∙ zero) in
       record {
         accepted = a.accepted;
         sending = a.sending;
         found = a.found;
         speaks = subst (λ (e : Ending). Connected e a.accepted a.sending limit talk) done a.speaks;
-        wrote = subst (λ (e : Ending). Grew call.before.written call.now.written (verdict_of e (length a.sending.rules)).text) done (a.answers.whole six one);
+        wrote = subst (λ (e : Ending). Grew call.before.written call.now.written (verdict_of e (length a.sending.rules)).text) done
+            (a.answers.whole (differs answer 0 6 (λ e. absurd cc) zero) (differs answer 0 1 (λ e. absurd cc) zero));
       }
 
   session_so : AnnouncesSo limit holds config rules failed call.before.written call.now.written talk answer → answer ≡ 8 → EndsSo limit holds config rules call talk answer
-  session_so (inl early) eight = absurd (early_not 8 eight (λ e. absurd cc) (λ e. absurd cc) (λ refusal h e. never_session refusal (files_stop limit holds config rules refusal h) e) early)
-  session_so (inr a) eight =
-      let six : answer ≢ 6 = differs 8 6 (λ e. absurd cc) eight in
-      let one : answer ≢ 1 = differs 8 1 (λ e. absurd cc) eight in
-      record {
-        accepted = a.accepted;
-        sending = a.sending;
-        found = a.found;
-        ending = a.ending;
-        speaks = a.speaks;
-        status_is = status_at a six one;
-        wrote = a.answers.whole six one;
-      }
+  session_so (inl early) eight =
+      absurd (never_early (sending_stage limit holds config rules) failed answer 8 eight (λ e. absurd cc) (λ e. absurd cc)
+      (λ refusal h e. never_session refusal (files_stop limit holds config rules refusal h) e) early.reason)
+  session_so (inr a) eight = record {
+    accepted = a.accepted;
+    sending = a.sending;
+    found = a.found;
+    ending = a.ending;
+    speaks = a.speaks;
+    status_is = due_status failed _ answer 8 eight (λ e. absurd cc) (λ e. absurd cc) a.answers.status_is;
+    wrote = a.answers.whole (differs answer 8 6 (λ e. absurd cc) eight) (differs answer 8 1 (λ e. absurd cc) eight);
+  }
 
 -- another end that establishes the session
-
-pub same_found : {A : Type 0} {x y : A} → Found x ≡ Found y → x ≡ y
-same_found e = cc
 
 never_both : (why : Closed) (phase : Phase) (behind : List ℕ) → ◌≡◌ {A = Last × List ℕ} (closed why, []) (still phase, behind) → ⊥
 never_both why phase behind e = let at : closed why ≡ still phase = ap (λ (p : Last × List ℕ). p.0) e in absurd cc
 
 same_phase : (phase other : Phase) (behind more : List ℕ) → ◌≡◌ {A = Last × List ℕ} (still phase, behind) (still other, more) → phase ≡ other
 same_phase phase other behind more e = let at : still phase ≡ still other = ap (λ (p : Last × List ℕ). p.0) e in cc
-
-up_not_down : (b : Bool) → b ≡ true → b ≡ false → ⊥
-up_not_down b t f = absurd cc
 
 expired_more : (machine : Machine) (moments octets more : List ℕ) → HasExpired machine moments octets → HasExpired machine moments (octets ++ more)
 expired_more machine moments octets more h = record {
@@ -213,9 +150,6 @@ expired_more machine moments octets more h = record {
 
 too_many : (limit behind size all left : ℕ) → limit + behind ≤ size → all ≡ size + left → all < limit → ⊥
 too_many limit behind size all left m e l = omega (arith, m, e, l)
-
-length_both : (xs ys : List ℕ) → length (xs ++ ys) ≡ length xs + length ys
-length_both xs ys = grind (arith, common_steps)
 
 module _ (config : Config) (peer : Peer) (sending : Sending) (limit : ℕ) (given : List ℕ) (before now : WireEnds) (phase : Phase) (behind : List ℕ)
     (opens : opened_by (announcer config (needs_of sending.rules)) at_start before.second.to_receive ≡ (still phase, behind))
@@ -237,11 +171,11 @@ module _ (config : Config) (peer : Peer) (sending : Sending) (limit : ℕ) (give
       at e =
           let all : before.second.to_receive ≡ s.octets = s.read ∙ ap (λ (z : List ℕ). s.octets ++ z) e.none ∙ append-nil s.octets in
           let same : phase ≡ e.phase = same_phase phase e.phase behind [] (sym opens ∙ ap (opened_by machine at_start) all ∙ e.found) in
-          up_not_down (is_established e.phase.state) (subst (λ (p : Phase). is_established p.state ≡ true) same up) e.down
+          true≢false (sym (subst (λ (p : Phase). is_established p.state ≡ true) same up) ∙ e.down)
   only_done_so AtLimit s = absurd (at s.ends)
     where
       at : MetLimit machine limit s.octets → ⊥
-      at m = too_many limit (length m.behind) (length s.octets) (length before.second.to_receive) (length now.second.left) m.met (ap (λ (z : List ℕ). length z) s.read ∙ length_both s.octets now.second.left) within
+      at m = too_many limit (length m.behind) (length s.octets) (length before.second.to_receive) (length now.second.left) m.met (ap (λ (z : List ℕ). length z) s.read ∙ length-append s.octets now.second.left) within
 
 module _ (limit : ℕ) (holds : Names) (config rules : List ℕ) (call : Happened) (talk : Conversation) (answer : ℕ) where
   served_done : (s : IsServed limit holds config rules talk) (accepted : Config) (sending : Sending) (ending : Ending) → sending_stage limit holds config rules ≡ Found (accepted, sending)
@@ -257,29 +191,13 @@ module _ (limit : ℕ) (holds : Names) (config rules : List ℕ) (call : Happene
       (subst (λ (c : Config). Speaks ending c speaks.peer s.sending limit speaks.given s.ends s.ends_now) (sym config_is)
       (subst (λ (m : Sending). Speaks ending accepted speaks.peer m limit speaks.given s.ends s.ends_now) (sym sending_is) here))
 
-  pub none_failed : FilesStood call → SinkStood call → WireStood call → FilesFailed call ⊎ (SinkFailed call ⊎ WireFailed call) → ⊥
-  none_failed f s w (inl r) = not_rose call.before.file_faults call.now.file_faults f r
-  none_failed f s w (inr (inl r)) = not_rose call.before.sink_faults call.now.sink_faults s r
-  none_failed f s w (inr (inr r)) = not_rose call.before.wire_faults call.now.wire_faults w r
-
   served_so : AnnouncesSo limit holds config rules (FilesFailed call ⊎ (SinkFailed call ⊎ WireFailed call)) call.before.written call.now.written talk answer
       → IsServed limit holds config rules talk → FilesStood call → SinkStood call → WireStood call → (answer ≡ 0) ⊎ (answer ≡ 6)
-  served_so (inl early) s f k w = at early.reason
-    where
-      never : (refusal : Refusal) → ◌≡◌ {A = Stage (Config × Sending)} (Found (s.accepted, s.sending)) (Stopped refusal) → ⊥
-      never refusal e = absurd cc
-
-      at : ((refusal : Refusal) × (sending_stage limit holds config rules ≡ Stopped refusal) × (answer ≡ status_of refusal)) ⊎ (answer ≡ 6) ⊎ ((answer ≡ 1) × (FilesFailed call ⊎ (SinkFailed call ⊎ WireFailed call)))
-          → (answer ≡ 0) ⊎ (answer ≡ 6)
-      at (inl h) = absurd (never h.0 (sym s.found ∙ h.1))
-      at (inr (inl h)) = inr h
-      at (inr (inr h)) = absurd (none_failed f k w h.1)
-  served_so (inr a) s f k w = at a.answers.status_is
-    where
-      at : Caused (FilesFailed call ⊎ (SinkFailed call ⊎ WireFailed call)) (verdict_of a.ending (length a.sending.rules)).status answer → (answer ≡ 0) ⊎ (answer ≡ 6)
-      at (inl h) = inl (h ∙ ap (λ (e : Ending). (verdict_of e (length a.sending.rules)).status) (served_done s a.accepted a.sending a.ending a.found a.speaks))
-      at (inr (inl h)) = inr h
-      at (inr (inr h)) = absurd (none_failed f k w h.1)
+  served_so (inl early) s f k w = served_early (sending_stage limit holds config rules) (s.accepted, s.sending) _ answer s.found (none_failed call f k w) early.reason
+  served_so (inr a) s f k w =
+      served_late _ (verdict_of a.ending (length a.sending.rules)).status answer
+      (ap (λ (e : Ending). (verdict_of e (length a.sending.rules)).status) (served_done s a.accepted a.sending a.ending a.found a.speaks))
+      (none_failed call f k w) a.answers.status_is
 
   pub announce_promises : Announces limit holds config rules call talk answer → AnnouncePromises limit holds config rules call talk answer
   announce_promises a = record {

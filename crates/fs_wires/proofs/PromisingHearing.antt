@@ -1,6 +1,5 @@
 -- What the clauses of a run of `listen` say follows from what it does.
-use Rattle.std.proofs.Common.{◌≡◌, ◌≢◌, ◌⊎◌, inl, inr, ◌<◌, ◌≤◌, ◌∙◌, ℕ, ◌+◌, List, ◌++◌, length, Bool, true, false, Option, Some, None, append-nil, arith, refl, ap, sym, subst}
-use Rattle.std.proofs.lemmas.Grind.{common_steps}
+use Rattle.std.proofs.Common.{◌≡◌, ◌⊎◌, inl, inr, ◌<◌, ◌≤◌, ◌∙◌, ℕ, ◌+◌, List, ◌++◌, length, true, false, Option, Some, None, append-nil, arith, refl, ap, sym, subst, length-append, true≢false}
 use Rattle.fs_base.specs.Happened.{Happened, FilesFailed, FilesStood, SinkFailed, SinkStood, WireFailed, WireStood}
 use Rattle.fs_base.specs.Config.{peer_of}
 use Rattle.fs_base.specs.Sink.{Grew}
@@ -19,16 +18,17 @@ use Rattle.fs_ends.specs.declared.tell.Ending.TheVariants.{Done, Closed as HasCl
 use Rattle.fs_receive.specs.Hearer.{ClosesIn, ExpiresAt, HasClosed as ClosesOnce}
 use Rattle.fs_receive.specs.Listen.{EndsSo, MeetsLimit}
 use Rattle.fs_stages.specs.Load.{Names, config_stage}
-use Rattle.fs_stages.specs.Refusal.{EndsEarly, Found, Stage, Stopped, and_then, or_stop, status_of}
+use Rattle.fs_stages.specs.Refusal.{Found, Stage, Stopped, and_then, or_stop}
 use Rattle.fs_stages.specs.declared.refusal.Refusal.{Refusal}
 use Rattle.fs_stages.specs.declared.refusal.Refusal.TheVariants.{Config as Refused}
 use Rattle.fs_wires.specs.Conversation.{Conversation}
 use Rattle.fs_wires.specs.Listed.{verdict_by}
-use Rattle.fs_wires.specs.Listening.{HasExpired, Heard, Hears, Listened, ListenedSo, ListensTo, hearing_stage, with_peer}
+use Rattle.fs_wires.specs.Listening.{HasExpired, Heard, Hears, ListenedSo, ListensTo, hearing_stage, with_peer}
 use Rattle.fs_wires.specs.PromisedHearing.{HasHeardStatus, HasListenStatus, HearingEnds, IsReached, ListenPromises, Received}
 use Rattle.fs_wires.proofs.Hearing.{closes_behind, expired_so, session_is}
-use Rattle.fs_wires.proofs.Lowest.{lowest_is}
-use Rattle.fs_wires.proofs.Promising.{IsOfFiles, config_stops, never_session, never_zero, not_rose, or_stops, then_stops}
+use Rattle.fs_wires.proofs.Promising.{IsOfFiles, config_stops, never_session, or_stops, then_stops}
+use Rattle.fs_wires.proofs.Statuses.{differs, due_status, early_status, late_status, never_early, never_zero, none_failed, only_done, same_found, served_early, served_late}
+use Rattle.fs_joint.proofs.Lowest.{sender_told}
 
 -- the configuration alone ends a run before the wire is opened
 
@@ -47,95 +47,53 @@ hearing_stops limit holds config refusal e =
 
 -- the status
 
-abbrev Caused : Type 0 → ℕ → ℕ → Type 0
-Caused failed status answer = (answer ≡ status) ⊎ (answer ≡ 6) ⊎ ((answer ≡ 1) × failed)
-
 pub listen_status : (limit : ℕ) (holds : Names) (config : List ℕ) (failed : Type 0) (before now : Option (List ℕ)) (talk : Conversation) (answer : ℕ)
     → ListenedSo limit holds config failed before now talk answer
     → HasListenStatus limit holds config talk answer ⊎ (answer ≡ 6) ⊎ ((answer ≡ 1) × failed)
-listen_status limit holds config failed before now talk answer (inl early) = at early.reason
-  where
-    at : ((refusal : Refusal) × (hearing_stage limit holds config ≡ Stopped refusal) × (answer ≡ status_of refusal)) ⊎ (answer ≡ 6) ⊎ ((answer ≡ 1) × failed)
-        → HasListenStatus limit holds config talk answer ⊎ (answer ≡ 6) ⊎ ((answer ≡ 1) × failed)
-    at (inl h) = inl (subst (λ (s : Stage (Config × Peer)). HasHeardStatus limit s talk answer) (sym h.1) h.2)
-    at (inr h) = inr h
-listen_status limit holds config failed before now talk answer (inr a) = at a.answers.status_is
-  where
-    at : Caused failed (verdict_by a.ending a.text).status answer → HasListenStatus limit holds config talk answer ⊎ (answer ≡ 6) ⊎ ((answer ≡ 1) × failed)
-    at (inl h) = inl (subst (λ (s : Stage (Config × Peer)). HasHeardStatus limit s talk answer) (sym a.found) (a.ending, a.text, (a.hears, h)))
-    at (inr h) = inr h
+listen_status limit holds config failed before now talk answer (inl early) =
+    early_status (hearing_stage limit holds config) failed answer (λ s. HasHeardStatus limit s talk answer) (λ refusal h. h) early.reason
+listen_status limit holds config failed before now talk answer (inr a) =
+    late_status failed (verdict_by a.ending a.text).status answer (HasListenStatus limit holds config talk answer)
+    (λ h. subst (λ (s : Stage (Config × Peer)). HasHeardStatus limit s talk answer) (sym a.found) (a.ending, a.text, (a.hears, h))) a.answers.status_is
 
 -- what is promised
-
--- the one ending that answers 0
-only_done : (ending : Ending) (text : List ℕ) → (verdict_by ending text).status ≡ 0 → ending ≡ Done
-only_done Done text e = refl
-only_done (HasClosed why) text e = absurd cc
-only_done Ended text e = absurd cc
-only_done AtLimit text e = absurd cc
 
 module _ (limit : ℕ) (holds : Names) (config : List ℕ) (call : Happened) (talk : Conversation) (answer : ℕ) where
   abbrev failed : Type 0
   failed = FilesFailed call ⊎ (SinkFailed call ⊎ WireFailed call)
 
-  abbrev Ends : Type 0
-  Ends = Listened limit holds config failed call.before.written call.now.written talk answer
-
-  early_not : (wanted : ℕ) → answer ≡ wanted → wanted ≢ 6 → wanted ≢ 1 → ((refusal : Refusal) → hearing_stage limit holds config ≡ Stopped refusal → status_of refusal ≡ wanted → ⊥)
-      → EndsEarly (hearing_stage limit holds config) failed call.before.written call.now.written answer → ⊥
-  early_not wanted is six one none early = at early.reason
-    where
-      at : ((refusal : Refusal) × (hearing_stage limit holds config ≡ Stopped refusal) × (answer ≡ status_of refusal)) ⊎ (answer ≡ 6) ⊎ ((answer ≡ 1) × failed) → ⊥
-      at (inl h) = none h.0 h.1 (sym h.2 ∙ is)
-      at (inr (inl h)) = six (sym is ∙ h)
-      at (inr (inr h)) = one (sym is ∙ h.0)
-
-  status_at : (a : Ends) → answer ≢ 6 → answer ≢ 1 → answer ≡ (verdict_by a.ending a.text).status
-  status_at a six one = at a.answers.status_is
-    where
-      at : Caused failed (verdict_by a.ending a.text).status answer → answer ≡ (verdict_by a.ending a.text).status
-      at (inl h) = h
-      at (inr (inl h)) = absurd (six h)
-      at (inr (inr h)) = absurd (one h.0)
-
-  differs : (one other : ℕ) → one ≢ other → answer ≡ one → answer ≢ other
-  differs one other d e h = d (sym e ∙ h)
-
   received_so : ListenedSo limit holds config failed call.before.written call.now.written talk answer → answer ≡ 0 → Received limit holds config call talk
-  received_so (inl early) zero = absurd (early_not 0 zero (λ e. absurd cc) (λ e. absurd cc) (λ refusal h e. never_zero refusal e) early)
+  received_so (inl early) zero =
+      absurd (never_early (hearing_stage limit holds config) failed answer 0 zero (λ e. absurd cc) (λ e. absurd cc) (λ refusal h e. never_zero refusal e) early.reason)
   received_so (inr a) zero =
-      let six : answer ≢ 6 = differs 0 6 (λ e. absurd cc) zero in
-      let one : answer ≢ 1 = differs 0 1 (λ e. absurd cc) zero in
-      let done : a.ending ≡ Done = only_done a.ending a.text (sym (status_at a six one) ∙ zero) in
+      let status : answer ≡ (verdict_by a.ending a.text).status = due_status failed _ answer 0 zero (λ e. absurd cc) (λ e. absurd cc) a.answers.status_is in
+      let done : a.ending ≡ Done = only_done a.ending a.text (sym status ∙ zero) in
       record {
         accepted = a.accepted;
         peer = a.peer;
         found = a.found;
         text = a.text;
         hears = subst (λ (e : Ending). Heard e a.accepted a.peer a.text limit talk) done a.hears;
-        wrote = subst (λ (e : Ending). Grew call.before.written call.now.written (verdict_by e a.text).text) done (a.answers.whole six one);
+        wrote = subst (λ (e : Ending). Grew call.before.written call.now.written (verdict_by e a.text).text) done
+            (a.answers.whole (differs answer 0 6 (λ e. absurd cc) zero) (differs answer 0 1 (λ e. absurd cc) zero));
       }
 
   session_so : ListenedSo limit holds config failed call.before.written call.now.written talk answer → answer ≡ 8 → HearingEnds limit holds config call talk answer
-  session_so (inl early) eight = absurd (early_not 8 eight (λ e. absurd cc) (λ e. absurd cc) (λ refusal h e. never_session refusal (hearing_stops limit holds config refusal h) e) early)
-  session_so (inr a) eight =
-      let six : answer ≢ 6 = differs 8 6 (λ e. absurd cc) eight in
-      let one : answer ≢ 1 = differs 8 1 (λ e. absurd cc) eight in
-      record {
-        accepted = a.accepted;
-        peer = a.peer;
-        found = a.found;
-        ending = a.ending;
-        text = a.text;
-        hears = a.hears;
-        status_is = status_at a six one;
-        wrote = a.answers.whole six one;
-      }
+  session_so (inl early) eight =
+      absurd (never_early (hearing_stage limit holds config) failed answer 8 eight (λ e. absurd cc) (λ e. absurd cc)
+      (λ refusal h e. never_session refusal (hearing_stops limit holds config refusal h) e) early.reason)
+  session_so (inr a) eight = record {
+    accepted = a.accepted;
+    peer = a.peer;
+    found = a.found;
+    ending = a.ending;
+    text = a.text;
+    hears = a.hears;
+    status_is = due_status failed _ answer 8 eight (λ e. absurd cc) (λ e. absurd cc) a.answers.status_is;
+    wrote = a.answers.whole (differs answer 8 6 (λ e. absurd cc) eight) (differs answer 8 1 (λ e. absurd cc) eight);
+  }
 
 -- another end that leaves the session established
-
-same_found : {A : Type 0} {x y : A} → Found x ≡ Found y → x ≡ y
-same_found e = cc
 
 never_both : (why : Closed) (phase : Phase) → closed why ≡ still phase → ⊥
 never_both why phase e = absurd cc
@@ -143,14 +101,8 @@ never_both why phase e = absurd cc
 same_phase : (phase other : Phase) → still phase ≡ still other → phase ≡ other
 same_phase phase other e = cc
 
-up_not_down : (b : Bool) → b ≡ true → b ≡ false → ⊥
-up_not_down b t f = absurd cc
-
 too_many : (limit size all left : ℕ) → limit ≤ size → all ≡ size + left → all < limit → ⊥
 too_many limit size all left m e l = omega (arith, m, e, l)
-
-length_both : (xs ys : List ℕ) → length (xs ++ ys) ≡ length xs + length ys
-length_both xs ys = grind (arith, common_steps)
 
 module _ (config : Config) (peer : Peer) (text : List ℕ) (limit : ℕ) (given : List ℕ) (before now : WireEnds) (phase : Phase)
     (is_of : peer_of peer.number config.peers ≡ Some peer)
@@ -179,12 +131,12 @@ module _ (config : Config) (peer : Peer) (text : List ℕ) (limit : ℕ) (given 
           sym (session_is config peer.number peer (octets_in s.heard) is_of)
           ∙ ap (λ (c : Config). (bounded_session c peer.number (octets_in s.heard)).1) (sym s.config_is) ∙ e.receives.found in
           let same : phase ≡ e.receives.phase = same_phase phase e.receives.phase (sym stays ∙ ap (λ (z : List ℕ). (bounded_from config peer z).1) all ∙ found) in
-          up_not_down (is_established e.receives.phase.state) (subst (λ (p : Phase). is_established p.state ≡ true) same up) e.settled
+          true≢false (sym (subst (λ (p : Phase). is_established p.state ≡ true) same up) ∙ e.settled)
   only_done_so AtLimit s = absurd (at s.ends)
     where
       at : MeetsLimit s.desk peer.number peer limit s.heard s.said → ⊥
       at m = too_many limit (length (octets_in s.heard)) (length before.first.to_receive) (length now.first.left) m.met
-          (ap (λ (z : List ℕ). length z) s.read ∙ length_both (octets_in s.heard) now.first.left) within
+          (ap (λ (z : List ℕ). length z) s.read ∙ length-append (octets_in s.heard) now.first.left) within
 
 -- the peer of a stage that is passed
 peer_found : (stage : Stage Config) (accepted : Config) (peer : Peer) → and_then stage with_peer ≡ Found (accepted, peer) → sender_of accepted.peers ≡ Some peer
@@ -211,33 +163,17 @@ module _ (limit : ℕ) (holds : Names) (config : List ℕ) (call : Happened) (ta
       subst (λ (c : Config). Hears ending c s.peer text limit hears.given s.ends s.ends_now) (sym config_is)
       (subst (λ (p : Peer). Hears ending accepted p text limit hears.given s.ends s.ends_now) (sym peer_is) here) in
       let sends : sender_of s.accepted.peers ≡ Some s.peer = peer_found (config_stage limit holds config) s.accepted s.peer s.found in
-      only_done_so s.accepted s.peer text limit hears.given s.ends s.ends_now s.phase (lowest_is s.accepted.peers s.peer s.peer (sym sends) sends).1 s.stays s.up s.within
+      only_done_so s.accepted s.peer text limit hears.given s.ends s.ends_now s.phase (sender_told s.accepted.peers s.peer sends) s.stays s.up s.within
       (λ heard left read asked. s.timely heard left read (subst (λ (moments : List ℕ). Grew talk.answers talk.answers_now moments) (sym asked) hears.grew))
       ending there
 
-  none_failed : FilesStood call → SinkStood call → WireStood call → FilesFailed call ⊎ (SinkFailed call ⊎ WireFailed call) → ⊥
-  none_failed f s w (inl r) = not_rose call.before.file_faults call.now.file_faults f r
-  none_failed f s w (inr (inl r)) = not_rose call.before.sink_faults call.now.sink_faults s r
-  none_failed f s w (inr (inr r)) = not_rose call.before.wire_faults call.now.wire_faults w r
-
   reached_so : ListenedSo limit holds config (FilesFailed call ⊎ (SinkFailed call ⊎ WireFailed call)) call.before.written call.now.written talk answer
       → IsReached limit holds config talk → FilesStood call → SinkStood call → WireStood call → (answer ≡ 0) ⊎ (answer ≡ 6)
-  reached_so (inl early) s f k w = at early.reason
-    where
-      never : (refusal : Refusal) → ◌≡◌ {A = Stage (Config × Peer)} (Found (s.accepted, s.peer)) (Stopped refusal) → ⊥
-      never refusal e = absurd cc
-
-      at : ((refusal : Refusal) × (hearing_stage limit holds config ≡ Stopped refusal) × (answer ≡ status_of refusal)) ⊎ (answer ≡ 6) ⊎ ((answer ≡ 1) × (FilesFailed call ⊎ (SinkFailed call ⊎ WireFailed call)))
-          → (answer ≡ 0) ⊎ (answer ≡ 6)
-      at (inl h) = absurd (never h.0 (sym s.found ∙ h.1))
-      at (inr (inl h)) = inr h
-      at (inr (inr h)) = absurd (none_failed f k w h.1)
-  reached_so (inr a) s f k w = at a.answers.status_is
-    where
-      at : Caused (FilesFailed call ⊎ (SinkFailed call ⊎ WireFailed call)) (verdict_by a.ending a.text).status answer → (answer ≡ 0) ⊎ (answer ≡ 6)
-      at (inl h) = inl (h ∙ ap (λ (e : Ending). (verdict_by e a.text).status) (reached_done s a.accepted a.peer a.text a.ending a.found a.hears))
-      at (inr (inl h)) = inr h
-      at (inr (inr h)) = absurd (none_failed f k w h.1)
+  reached_so (inl early) s f k w = served_early (hearing_stage limit holds config) (s.accepted, s.peer) _ answer s.found (none_failed call f k w) early.reason
+  reached_so (inr a) s f k w =
+      served_late _ (verdict_by a.ending a.text).status answer
+      (ap (λ (e : Ending). (verdict_by e a.text).status) (reached_done s a.accepted a.peer a.text a.ending a.found a.hears))
+      (none_failed call f k w) a.answers.status_is
 
   pub listen_promises : ListensTo limit holds config call talk answer → ListenPromises limit holds config call talk answer
   listen_promises a = record {

@@ -1,5 +1,6 @@
 -- What the clauses of a run of `pair` say follows from what it does.
-use Rattle.std.proofs.Common.{◌≡◌, ◌≢◌, ◌⊎◌, inl, inr, ◌∙◌, ℕ, ◌+◌, ◌<◌, List, ◌++◌, length, Option, Some, refl, ap, sym, subst, arith, length-append}
+use Rattle.std.proofs.Common.{◌≡◌, ◌⊎◌, inl, inr, ◌∙◌, ℕ, ◌+◌, ◌<◌, List, ◌++◌, length, Option, Some, ap, sym, subst, arith, length-append}
+use Rattle.std.proofs.lemmas.Option.{same_Some}
 use Rattle.fs_base.specs.Happened.{Happened, FilesFailed, FilesStood, SinkFailed, SinkStood, WireFailed, WireStood}
 use Rattle.fs_base.specs.Sink.{Grew}
 use Rattle.fs_base.specs.Wire.{Told, WireEnds}
@@ -7,55 +8,36 @@ use Rattle.fs_base.specs.declared.config.Config.{Config}
 use Rattle.fs_base.specs.declared.config.Peer.{Peer}
 use Rattle.fs_speaker.specs.declared.sending.Sending.{Sending}
 use Rattle.fs_ends.specs.declared.tell.Ending.{Ending}
-use Rattle.fs_ends.specs.declared.tell.Ending.TheVariants.{Done, Closed as HasClosed, Ended, AtLimit}
+use Rattle.fs_ends.specs.declared.tell.Ending.TheVariants.{Done}
 use Rattle.fs_receive.specs.Pair.{MayHold}
 use Rattle.fs_stages.specs.Load.{Names, sending_stage}
-use Rattle.fs_stages.specs.Refusal.{EndsEarly, Found, Stage, Stopped, status_of}
-use Rattle.fs_stages.specs.declared.refusal.Refusal.{Refusal}
+use Rattle.fs_stages.specs.Refusal.{Found, Stage}
 use Rattle.fs_wires.specs.Conversation.{Conversation}
 use Rattle.fs_wires.specs.Listed.{verdict_by}
-use Rattle.fs_wires.specs.Pairing.{Joined, Joins, JoinsSo, Meets, Paired}
+use Rattle.fs_wires.specs.Pairing.{Joined, Joins, JoinsSo, Meets}
 use Rattle.fs_wires.specs.Promised.{BreaksSo, CanBeCarried, Carried, HasJoinedStatus, HasPairStatus, PairPromises}
 use Rattle.fs_wires.proofs.Accepted.{arrivable}
-use Rattle.fs_wires.proofs.Promising.{files_stop, never_session, never_zero, none_failed, same_found}
+use Rattle.fs_wires.proofs.Promising.{files_stop, never_session}
+use Rattle.fs_wires.proofs.Statuses.{differs, due_status, early_status, late_status, never_early, never_zero, none_failed, only_done, same_found, served_early, served_late}
 
 -- the status
-
-abbrev Caused : Type 0 → ℕ → ℕ → Type 0
-Caused failed status answer = (answer ≡ status) ⊎ (answer ≡ 6) ⊎ ((answer ≡ 1) × failed)
 
 pub pair_status : (limit : ℕ) (holds : Names) (config rules : List ℕ) (failed : Type 0) (before now : Option (List ℕ)) (talk : Conversation) (answer : ℕ)
     → JoinsSo limit holds config rules failed before now talk answer
     → HasPairStatus limit holds config rules talk answer ⊎ (answer ≡ 6) ⊎ ((answer ≡ 1) × failed)
-pair_status limit holds config rules failed before now talk answer (inl early) = at early.reason
-  where
-    at : ((refusal : Refusal) × (sending_stage limit holds config rules ≡ Stopped refusal) × (answer ≡ status_of refusal)) ⊎ (answer ≡ 6) ⊎ ((answer ≡ 1) × failed)
-        → HasPairStatus limit holds config rules talk answer ⊎ (answer ≡ 6) ⊎ ((answer ≡ 1) × failed)
-    at (inl h) = inl (subst (λ (s : Stage (Config × Sending)). HasJoinedStatus limit s talk answer) (sym h.1) h.2)
-    at (inr h) = inr h
-pair_status limit holds config rules failed before now talk answer (inr p) = at p.answers.status_is
-  where
-    at : Caused failed (verdict_by p.ending p.text).status answer → HasPairStatus limit holds config rules talk answer ⊎ (answer ≡ 6) ⊎ ((answer ≡ 1) × failed)
-    at (inl h) = inl (subst (λ (s : Stage (Config × Sending)). HasJoinedStatus limit s talk answer) (sym p.found) (p.ending, p.text, (p.speaks, h)))
-    at (inr h) = inr h
+pair_status limit holds config rules failed before now talk answer (inl early) =
+    early_status (sending_stage limit holds config rules) failed answer (λ s. HasJoinedStatus limit s talk answer) (λ refusal h. h) early.reason
+pair_status limit holds config rules failed before now talk answer (inr p) =
+    late_status failed (verdict_by p.ending p.text).status answer (HasPairStatus limit holds config rules talk answer)
+    (λ h. subst (λ (s : Stage (Config × Sending)). HasJoinedStatus limit s talk answer) (sym p.found) (p.ending, p.text, (p.speaks, h))) p.answers.status_is
 
 -- what is promised
-
--- the one ending that answers 0
-only_done : (ending : Ending) (text : List ℕ) → (verdict_by ending text).status ≡ 0 → ending ≡ Done
-only_done Done text e = refl
-only_done (HasClosed why) text e = absurd cc
-only_done Ended text e = absurd cc
-only_done AtLimit text e = absurd cc
 
 -- so many more octets were written
 written_within : (before now said : List ℕ) (limit : ℕ) → now ≡ before ++ said → length now < length before + limit → length said < limit
 written_within before now said limit e l =
     let all : length now ≡ length before + length said = ap length e ∙ length-append before said in
     omega (arith, all, l)
-
-same_peer : (peer other : Peer) → Some peer ≡ Some other → peer ≡ other
-same_peer peer other e = cc
 
 -- where nothing hinders the rules, all of them arrive
 module _ (limit : ℕ) (holds : Names) (config rules : List ℕ) (talk : Conversation) (s : CanBeCarried limit holds config rules talk) where
@@ -66,7 +48,7 @@ module _ (limit : ℕ) (holds : Names) (config rules : List ℕ) (talk : Convers
       (subst (λ (o : Option WireEnds). Told (Meets ending s.accepted j.peer s.sending j.desk limit j.given text) o talk.ends_now) s.told j.told) in
       here.pairs.arrives (record {
         can = arrivable limit holds config rules s.accepted s.sending j.peer s.found j.peer_is s.named;
-        may_hold = subst (λ (p : Peer). MayHold p.max_routes (length s.sending.rules)) (same_peer s.peer j.peer (sym s.peer_is ∙ j.peer_is)) s.may_hold;
+        may_hold = subst (λ (p : Peer). MayHold p.max_routes (length s.sending.rules)) (same_Some s.peer j.peer (sym s.peer_is ∙ j.peer_is)) s.may_hold;
         timely = s.timely j.given j.grew;
         announced_within = written_within s.ends.second.written s.ends_now.second.written here.pairs.announced limit here.pairs.wrote_second s.announced_within;
         replied_within = written_within s.ends.first.written s.ends_now.first.written here.pairs.replied limit here.pairs.wrote_first s.replied_within;
@@ -76,39 +58,12 @@ module _ (limit : ℕ) (holds : Names) (config rules : List ℕ) (call : Happene
   abbrev failed : Type 0
   failed = FilesFailed call ⊎ (SinkFailed call ⊎ WireFailed call)
 
-  abbrev Early : Type 0
-  Early = EndsEarly (sending_stage limit holds config rules) failed call.before.written call.now.written answer
-
-  abbrev Ends : Type 0
-  Ends = Paired limit holds config rules failed call.before.written call.now.written talk answer
-
-  -- a run that ended early
-  early_not : (wanted : ℕ) → answer ≡ wanted → wanted ≢ 6 → wanted ≢ 1 → ((refusal : Refusal) → sending_stage limit holds config rules ≡ Stopped refusal → status_of refusal ≡ wanted → ⊥) → Early → ⊥
-  early_not wanted is six one none early = at early.reason
-    where
-      at : ((refusal : Refusal) × (sending_stage limit holds config rules ≡ Stopped refusal) × (answer ≡ status_of refusal)) ⊎ (answer ≡ 6) ⊎ ((answer ≡ 1) × failed) → ⊥
-      at (inl h) = none h.0 h.1 (sym h.2 ∙ is)
-      at (inr (inl h)) = six (sym is ∙ h)
-      at (inr (inr h)) = one (sym is ∙ h.0)
-
-  -- an answered end
-  status_at : (p : Ends) → answer ≢ 6 → answer ≢ 1 → answer ≡ (verdict_by p.ending p.text).status
-  status_at p six one = at p.answers.status_is
-    where
-      at : Caused failed (verdict_by p.ending p.text).status answer → answer ≡ (verdict_by p.ending p.text).status
-      at (inl h) = h
-      at (inr (inl h)) = absurd (six h)
-      at (inr (inr h)) = absurd (one h.0)
-
-  differs : (one other : ℕ) → one ≢ other → answer ≡ one → answer ≢ other
-  differs one other d e h = d (sym e ∙ h)
-
   carried_so : JoinsSo limit holds config rules failed call.before.written call.now.written talk answer → answer ≡ 0 → Carried limit holds config rules call talk
-  carried_so (inl early) zero = absurd (early_not 0 zero (λ e. absurd cc) (λ e. absurd cc) (λ refusal h e. never_zero refusal e) early)
+  carried_so (inl early) zero =
+      absurd (never_early (sending_stage limit holds config rules) failed answer 0 zero (λ e. absurd cc) (λ e. absurd cc) (λ refusal h e. never_zero refusal e) early.reason)
   carried_so (inr p) zero =
-      let six : answer ≢ 6 = differs 0 6 (λ e. absurd cc) zero in
-      let one : answer ≢ 1 = differs 0 1 (λ e. absurd cc) zero in
-      let done : p.ending ≡ Done = only_done p.ending p.text (sym (status_at p six one) ∙ zero) in
+      let status : answer ≡ (verdict_by p.ending p.text).status = due_status failed _ answer 0 zero (λ e. absurd cc) (λ e. absurd cc) p.answers.status_is in
+      let done : p.ending ≡ Done = only_done p.ending p.text (sym status ∙ zero) in
       let speaks : Joined Done p.accepted p.sending limit p.text talk = subst (λ (e : Ending). Joined e p.accepted p.sending limit p.text talk) done p.speaks in
       record {
         accepted = p.accepted;
@@ -117,24 +72,24 @@ module _ (limit : ℕ) (holds : Names) (config rules : List ℕ) (call : Happene
         text = p.text;
         speaks = speaks;
         can = λ named. arrivable limit holds config rules p.accepted p.sending speaks.peer p.found speaks.peer_is named;
-        wrote = subst (λ (e : Ending). Grew call.before.written call.now.written (verdict_by e p.text).text) done (p.answers.whole six one);
+        wrote = subst (λ (e : Ending). Grew call.before.written call.now.written (verdict_by e p.text).text) done
+            (p.answers.whole (differs answer 0 6 (λ e. absurd cc) zero) (differs answer 0 1 (λ e. absurd cc) zero));
       }
 
   breaks_so : JoinsSo limit holds config rules failed call.before.written call.now.written talk answer → answer ≡ 8 → BreaksSo limit holds config rules call talk answer
-  breaks_so (inl early) eight = absurd (early_not 8 eight (λ e. absurd cc) (λ e. absurd cc) (λ refusal h e. never_session refusal (files_stop limit holds config rules refusal h) e) early)
-  breaks_so (inr p) eight =
-      let six : answer ≢ 6 = differs 8 6 (λ e. absurd cc) eight in
-      let one : answer ≢ 1 = differs 8 1 (λ e. absurd cc) eight in
-      record {
-        accepted = p.accepted;
-        sending = p.sending;
-        found = p.found;
-        ending = p.ending;
-        text = p.text;
-        speaks = p.speaks;
-        status_is = status_at p six one;
-        wrote = p.answers.whole six one;
-      }
+  breaks_so (inl early) eight =
+      absurd (never_early (sending_stage limit holds config rules) failed answer 8 eight (λ e. absurd cc) (λ e. absurd cc)
+      (λ refusal h e. never_session refusal (files_stop limit holds config rules refusal h) e) early.reason)
+  breaks_so (inr p) eight = record {
+    accepted = p.accepted;
+    sending = p.sending;
+    found = p.found;
+    ending = p.ending;
+    text = p.text;
+    speaks = p.speaks;
+    status_is = due_status failed _ answer 8 eight (λ e. absurd cc) (λ e. absurd cc) p.answers.status_is;
+    wrote = p.answers.whole (differs answer 8 6 (λ e. absurd cc) eight) (differs answer 8 1 (λ e. absurd cc) eight);
+  }
 
   -- where nothing hinders the rules
   served_done : (s : CanBeCarried limit holds config rules talk) (accepted : Config) (sending : Sending) (ending : Ending) (text : List ℕ)
@@ -149,22 +104,11 @@ module _ (limit : ℕ) (holds : Names) (config rules : List ℕ) (call : Happene
 
   served_so : JoinsSo limit holds config rules failed call.before.written call.now.written talk answer
       → CanBeCarried limit holds config rules talk → FilesStood call → SinkStood call → WireStood call → (answer ≡ 0) ⊎ (answer ≡ 6)
-  served_so (inl early) s f k w = at early.reason
-    where
-      never : (refusal : Refusal) → ◌≡◌ {A = Stage (Config × Sending)} (Found (s.accepted, s.sending)) (Stopped refusal) → ⊥
-      never refusal e = absurd cc
-
-      at : ((refusal : Refusal) × (sending_stage limit holds config rules ≡ Stopped refusal) × (answer ≡ status_of refusal)) ⊎ (answer ≡ 6) ⊎ ((answer ≡ 1) × failed)
-          → (answer ≡ 0) ⊎ (answer ≡ 6)
-      at (inl h) = absurd (never h.0 (sym s.found ∙ h.1))
-      at (inr (inl h)) = inr h
-      at (inr (inr h)) = absurd (none_failed limit holds config rules call talk answer f k w h.1)
-  served_so (inr p) s f k w = at p.answers.status_is
-    where
-      at : Caused failed (verdict_by p.ending p.text).status answer → (answer ≡ 0) ⊎ (answer ≡ 6)
-      at (inl h) = inl (h ∙ ap (λ (e : Ending). (verdict_by e p.text).status) (served_done s p.accepted p.sending p.ending p.text p.found p.speaks))
-      at (inr (inl h)) = inr h
-      at (inr (inr h)) = absurd (none_failed limit holds config rules call talk answer f k w h.1)
+  served_so (inl early) s f k w = served_early (sending_stage limit holds config rules) (s.accepted, s.sending) failed answer s.found (none_failed call f k w) early.reason
+  served_so (inr p) s f k w =
+      served_late failed (verdict_by p.ending p.text).status answer
+      (ap (λ (e : Ending). (verdict_by e p.text).status) (served_done s p.accepted p.sending p.ending p.text p.found p.speaks))
+      (none_failed call f k w) p.answers.status_is
 
   pub pair_promises : Joins limit holds config rules call talk answer → PairPromises limit holds config rules call talk answer
   pair_promises j = record { carried = carried_so j; session = breaks_so j; served = served_so j }

@@ -2,10 +2,7 @@
 use Rattle.std.specs.Prelude.{ℕ, List, [], ◌++◌, codes, decimal}
 use Rattle.fs_speaker.specs.declared.state.Closed.{Closed}
 use Rattle.fs_speaker.specs.declared.state.Closed.TheVariants.{Fault, Notified, NoFamily, Memory}
-
--- a word and the codes of a NOTIFICATION (RFC 4271 section 4.5)
-abbrev pub codes_text : List ℕ → ℕ → ℕ → List ℕ
-codes_text word code subcode = word ++ (decimal code ++ (codes "/" ++ decimal subcode))
+use Rattle.fs_listing.specs.Peers.{codes_text}
 
 -- How a session closed: by a fault, by the other end's NOTIFICATION, or since the other end's OPEN lacks the family of a
 -- rule. No octets close it for want of memory.

@@ -97,7 +97,8 @@ listening ends = record { first = opened_end ends.first; second = ends.second }
 pub record ListensThrough (ending : Ending) (config : Config) (desk : Desked) (number limit : ℕ) (talk : Conversation) : Type 0 where
   pub given : List ℕ
   pub grew : Grew talk.answers talk.answers_now given
-  pub told : Told (λ before now. Listens ending config desk number limit given (listening before) now) talk.ends talk.ends_now
+  pub told : Told (λ before now. Listens ending config desk number limit given (listening before) now)
+      talk.ends talk.ends_now
 
 -- The configuration is accepted, the session with the other end ended so, and that was answered.
 pub record Listened (limit : ℕ) (holds : Names) (config : List ℕ) (failed : Type 0) (before now : Option (List ℕ))

@@ -15,7 +15,8 @@ use Rattle.fs_ends.specs.declared.tell.Ending.{Ending}
 use Rattle.fs_ends.specs.declared.tell.Ending.TheVariants.{Done}
 use Rattle.fs_ends.specs.Opening.{opened_by}
 use Rattle.fs_ends.specs.Teller.{HasExpired}
-use Rattle.fs_receive.specs.Pair.{CanArrive, IsTimely, MayHold}
+use Rattle.fs_joint.specs.Laws.{CanArrive}
+use Rattle.fs_receive.specs.Pair.{IsTimely, MayHold}
 use Rattle.fs_stages.specs.Load.{Names, sending_stage}
 use Rattle.fs_stages.specs.Refusal.{Found, Stage, Stopped, status_of}
 use Rattle.fs_wires.specs.Announcing.{Connected, verdict_of}
@@ -66,7 +67,8 @@ pub record IsServed (limit : ℕ) (holds : Names) (config rules : List ℕ) (tal
   pub told_now : talk.ends_now ≡ Some ends_now
   pub phase : Phase
   pub behind : List ℕ
-  pub opens : opened_by (announcer accepted (needs_of sending.rules)) at_start ends.second.to_receive ≡ (still phase, behind)
+  pub opens : opened_by (announcer accepted (needs_of sending.rules)) at_start ends.second.to_receive
+      ≡ (still phase, behind)
   pub up : is_established phase.state ≡ true
   pub within : length ends.second.to_receive < limit
   pub timely : (given : List ℕ)

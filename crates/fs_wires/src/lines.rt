@@ -1,10 +1,11 @@
 //! The lines of the commands that speak over a wire.
 
 ghost use Rattle.std.specs.Prelude.{◌≡◌, ◌++◌, IfOk, OnOk};
-ghost use Rattle.fs_wires.specs.Lines.{closing_line, closing_text, codes_text, ended_line, sent_line};
+ghost use Rattle.fs_wires.specs.Lines.{closing_line, closing_text, ended_line, sent_line};
 
 use fs_base::Memory;
 use fs_line::{append, append_decimal};
+use fs_listing::append_codes;
 use fs_speaker::Closed;
 use std::alloc::Global;
 
@@ -40,16 +41,6 @@ fn append_closing(why: Closed, text: &mut Vec<u8>) -> Result<(), Memory>
         Closed::NoFamily => append(b"family", text),
         Closed::Memory => Err(Memory),
     }
-}
-
-/// Appends a word and the two codes of a NOTIFICATION (RFC 4271 section 4.5).
-fn append_codes(word: &[u8], code: u8, subcode: u8, text: &mut Vec<u8>) -> Result<(), Memory>
-    ensures { OnOk result (text.new.items ≡ text.old.items ++ codes_text word.now code subcode) }
-{
-    append(word, text)?;
-    append_decimal(code, text)?;
-    append(b"/", text)?;
-    append_decimal(subcode, text)
 }
 
 /// The line of so many rules that were announced.

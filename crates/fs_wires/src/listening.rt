@@ -1,9 +1,10 @@
 //! The command `listen`.
 
-ghost use Rattle.std.specs.Prelude.{◌≡◌, ◌≤◌, ◌⊎◌, [], IfErr, IfOk, IsTrue, MatchResult};
+ghost use Rattle.std.specs.Prelude.{◌≡◌, ◌≤◌, ◌⊎◌, [], false, IfErr, IfOk, IsTrue, MatchResult};
 ghost use Rattle.fs_base.specs.Happened.{happened, with_wire};
 ghost use Rattle.fs_base.specs.Outside.{Rose};
-ghost use Rattle.fs_receive.specs.Hearer.{Receives};
+ghost use Rattle.fs_desk.specs.Desk.{standing_at_desk};
+ghost use Rattle.fs_receive.specs.Hearer.{Receives, is_ended};
 ghost use Rattle.fs_stages.specs.Refusal.{HasReason, answered};
 ghost use Rattle.fs_wires.specs.Announcing.{IsBrokenOff};
 ghost use Rattle.fs_wires.specs.Conversation.{conversation};
@@ -61,10 +62,15 @@ pub fn listen<F: Files, S: Sink, W: Wire, C: Clock>(
 
 /// The receiving end of the session with the configuration's peer with the lowest number, which is up and has sent
 /// nothing yet.
-fn lowest<'a>(alloc: Global, config: &'a Config) -> Result<Hearer<'a>, Refusal>
-    ensures { MatchResult result
+///
+/// # Errors
+///
+/// `Config` where the configuration has no peers; `Memory` where the machine refused memory.
+pub(crate) fn lowest<'a>(alloc: Global, config: &'a Config) -> Result<Hearer<'a>, Refusal>
+    ensures begins { MatchResult result
         (λ made. Begins config.entry.now made.desk made.peer made.count)
         (HasReason (with_peer config.entry.now) ⊥) }
+    ensures open { IfOk result (λ made. is_ended (standing_at_desk made.desk made.peer) ≡ false) }
 {
     let Some(peer) = sender(config) else {
         return Err(Refusal::Config);

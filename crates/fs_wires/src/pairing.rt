@@ -1,12 +1,10 @@
 //! The command `pair`.
 
-ghost use Rattle.std.specs.Prelude.{◌≡◌, ◌≤◌, ◌⊎◌, [], false, IfErr, IfOk, IsSome, IsTrue, List, Some, ℕ};
+ghost use Rattle.std.specs.Prelude.{◌≡◌, ◌≤◌, ◌⊎◌, [], false, IfErr, IfOk, IsTrue, List, ℕ};
 ghost use Rattle.std.specs.Option.{is_some};
-ghost use Rattle.fs_base.specs.Config.{peer_of};
 ghost use Rattle.fs_base.specs.Happened.{happened, with_wire};
 ghost use Rattle.fs_base.specs.Outside.{Rose};
 ghost use Rattle.fs_base.specs.declared.config.Config.{Config};
-ghost use Rattle.fs_base.specs.declared.config.Peer.{Peer};
 ghost use Rattle.fs_desk.specs.Desk.{standing_at_desk};
 ghost use Rattle.fs_receive.specs.Hearer.{Receives, is_ended};
 ghost use Rattle.fs_speaker.specs.Announcer.{CanSend};
@@ -19,10 +17,11 @@ ghost use Rattle.fs_wires.specs.Listed.{ListsDesk};
 ghost use Rattle.fs_wires.specs.Pairing.{BothBegin, Joined, Joins};
 
 use crate::listed::tell_listing;
+use crate::listening::lowest;
 use fs_base::{Clock, Config, Files, Opening, Sink, Wire};
 use fs_ends::Ending;
 use fs_receive::{Hearer, Sender, pair_over};
-use fs_speaker::{Sending, sender};
+use fs_speaker::Sending;
 use fs_stages::{Refusal, load_config, load_rules};
 use fs_talk::{Room, TalkFault};
 use std::alloc::Global;
@@ -88,22 +87,9 @@ fn both_ends<'a>(alloc: Global, config: &'a Config, sending: Sending) -> Result<
     ensures begins { IfOk result (λ ends. BothBegin config.entry.now sending
         ends.hearer.desk ends.hearer.peer ends.sender.announcer ends.sender.started) }
 {
-    let hearer = Hearer::new(alloc, config, lowest(config))?;
+    let hearer = lowest(alloc, config)?;
     let sender = Sender::new(alloc, config, sending)?;
     Ok(Ends { hearer, sender })
-}
-
-/// The lowest number of the configuration's peers.
-fn lowest(config: &Config) -> u16
-    requires { IsSome (sender_of config.now.peers) }
-    ensures number { (peer : Peer) → sender_of config.now.peers ≡ Some peer
-        → (result ≡ peer.number) × (peer_of result config.now.peers ≡ Some peer) }
-    ensures known { IsSome (peer_of result config.now.peers) }
-{
-    let Some(peer) = sender(config) else {
-        unreachable!();
-    };
-    peer.number
 }
 
 /// Joins both ends, announces and receives, and closes the announcing end.

@@ -29,7 +29,7 @@ returns-in_err-hearer-clause-listens g c = λ told.
     (peer_unheard c.args.order.now.limit (g.F.Files.holds c.args.files.now) c.args.order.now.config.now c.in_ok-config.config
     (Rose (g.F.Files.faults c.args.files.now) (g.F.Files.faults c.load_config.new.files) ⊎ (Rose (g.S.Sink.faults c.args.sink.now) (g.S.Sink.faults c.args.sink.now) ⊎ Rose (g.W.Wire.faults c.args.wire.now) (g.W.Wire.faults c.args.wire.now)))
     (g.S.Sink.written c.args.sink.now) (conversation g.W.Wire g.C.Clock c.args.wire.now c.args.wire.now c.args.clock.now c.args.clock.now) c.in_err-hearer.field-0.0
-    (c.in_ok-config.ensures.reaches told) c.in_err-hearer.ensures)
+    (c.in_ok-config.ensures.reaches told) c.in_err-hearer.ensures.begins)
 
 pub returns-in_err-ending-clause-listens : goal.returns-in_err-ending-clause-listens
 returns-in_err-ending-clause-listens g c = λ told.
@@ -52,5 +52,5 @@ returns-clause-listens g c = λ told.
     (Rose (g.F.Files.faults c.args.files.now) (g.F.Files.faults c.load_config.new.files) ⊎ (Rose (g.S.Sink.faults c.args.sink.now) (g.S.Sink.faults c.tell_listing.new.sink) ⊎ Rose (g.W.Wire.faults c.args.wire.now) (g.W.Wire.faults c.hear.new.wire)))
     (g.S.Sink.written c.args.sink.now) (g.S.Sink.written c.tell_listing.new.sink)
     (conversation g.W.Wire g.C.Clock c.args.wire.now c.hear.new.wire c.args.clock.now c.hear.new.clock) _
-    (c.in_ok-config.ensures.reaches told) c.in_ok-hearer.ensures c.in_ok-ending.ensures.heard
+    (c.in_ok-config.ensures.reaches told) c.in_ok-hearer.ensures.begins c.in_ok-ending.ensures.heard
     (rw (← c.desk.ensures) c.tell_listing.ensures.told) (λ r. inr (inl r))

@@ -1,5 +1,6 @@
-use Rattle.fs_wires.proofs.Lowest.{lowest_known}
+use Rattle.std.proofs.Common.{sym}
+use Rattle.fs_joint.proofs.Lowest.{is_told}
 use Rattle.fs_wires.proofs.listening.lowest.Goals as goal
 
 pub new-requires : goal.new-requires
-new-requires c = lowest_known c.args.config.now.peers c.in-Some.peer.now c.in-Some.ensures
+new-requires c = is_told c.args.config.now.peers c.in-Some.peer.now (sym c.in-Some.ensures)

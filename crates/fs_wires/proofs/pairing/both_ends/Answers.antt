@@ -1,10 +1,11 @@
 use Rattle.fs_speaker.specs.Sending.{sender_of}
-use Rattle.fs_wires.proofs.FromPairing.{both_begin, still_open, unheard}
-use Rattle.fs_wires.proofs.Lowest.{can_send_some}
+use Rattle.fs_wires.proofs.FromPairing.{both_begin, lowest_broken, still_open, unheard}
 use Rattle.fs_wires.proofs.pairing.both_ends.Goals as goal
 
-pub lowest-requires : goal.lowest-requires
-lowest-requires c = can_send_some c.args.config.now (sender_of c.args.config.now.peers) c.args.sending c.requires
+pub returns-in_err-hearer-clause-broken : goal.returns-in_err-hearer-clause-broken
+returns-in_err-hearer-clause-broken c =
+    lowest_broken c.args.config.now (sender_of c.args.config.now.peers) c.args.sending c.from_residual.result c.in_err-hearer.field-0.0
+    c.requires c.in_err-hearer.ensures.begins c.from_residual.ensures.1
 
 pub returns-clause-unheard : goal.returns-clause-unheard
 returns-clause-unheard c =
@@ -16,8 +17,10 @@ returns-clause-other c =
     still_open c.args.config.now (sender_of c.args.config.now.peers) c.args.sending c.in_ok-sender.sender.announcer c.in_ok-sender.sender.started c.in_ok-sender.sender.count
     c.requires c.in_ok-sender.ensures
 
+pub returns-clause-fresh : goal.returns-clause-fresh
+returns-clause-fresh c = c.in_ok-hearer.ensures.begins.fresh
+
 pub returns-clause-begins : goal.returns-clause-begins
 returns-clause-begins c =
-    both_begin c.args.config.now c.args.sending c.in_ok-hearer.hearer.desk c.in_ok-hearer.hearer.peer c.lowest.result
-    c.in_ok-sender.sender.announcer c.in_ok-sender.sender.started c.in_ok-sender.sender.count
-    c.requires c.lowest.ensures.number c.in_ok-hearer.ensures.fresh.1.0 c.in_ok-hearer.ensures.fresh.0 c.in_ok-sender.ensures
+    both_begin c.args.config.now c.args.sending c.in_ok-hearer.hearer.desk c.in_ok-hearer.hearer.peer c.in_ok-hearer.hearer.count
+    c.in_ok-sender.sender.announcer c.in_ok-sender.sender.started c.in_ok-sender.sender.count c.in_ok-hearer.ensures.begins c.in_ok-sender.ensures
