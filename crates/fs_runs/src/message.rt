@@ -27,7 +27,26 @@ fn append_counted(field: &[u8], body: &mut Vec<u8>) -> Result<(), Fault> {
     Ok(())
 }
 
-/// A path attribute with a length of one octet: flags and type, and then the value.
+/// The flag of a path attribute whose length has two octets: Extended Length (RFC 4271 section 4.3).
+const EXTENDED: u8 = 0x10;
+
+/// The length of an attribute's value, in as many octets as the flags say.
+fn append_length(flags: Option<u8>, length: usize, field: &mut Vec<u8>) -> Result<(), Fault> {
+    if flags.unwrap_or(0) & EXTENDED != 0 {
+        let Ok(length) = u16::try_from(length) else {
+            return Err(Fault::TooLarge);
+        };
+        field.extend_from_slice(&length.to_be_bytes())?;
+    } else {
+        let Ok(length) = u8::try_from(length) else {
+            return Err(Fault::TooLarge);
+        };
+        field.push(length)?;
+    }
+    Ok(())
+}
+
+/// A path attribute: flags and type, and then the value.
 fn append_attribute(
     named: &NamedOctets,
     attribute: &str,
@@ -37,12 +56,10 @@ fn append_attribute(
         Some((head, value)) => (head, value),
         None => (attribute, ""),
     };
+    let head = named.octets(head)?;
     let value = named.octets(value)?;
-    let Ok(length) = u8::try_from(value.len()) else {
-        return Err(Fault::TooLarge);
-    };
-    field.extend_from_slice(&named.octets(head)?)?;
-    field.push(length)?;
+    field.extend_from_slice(&head)?;
+    append_length(head.first().copied(), value.len(), field)?;
     field.extend_from_slice(&value)?;
     Ok(())
 }

@@ -14,6 +14,8 @@ pub struct Terms {
     pub words: Vec<String>,
     pub limit: u64,
     pub room: usize,
+    pub most_read: usize,
+    pub most_written: usize,
     pub failing_files: Vec<u64>,
     pub failing_writes: Vec<u64>,
     pub wire: WireTerms,
@@ -26,6 +28,8 @@ impl Terms {
             words: Vec::new(alloc),
             limit: AMPLE,
             room: ROOM,
+            most_read: usize::MAX,
+            most_written: usize::MAX,
             failing_files: Vec::new(alloc),
             failing_writes: Vec::new(alloc),
             wire: WireTerms::new(alloc),
@@ -36,6 +40,8 @@ impl Terms {
     pub fn reset(&mut self) {
         self.limit = AMPLE;
         self.room = ROOM;
+        self.most_read = usize::MAX;
+        self.most_written = usize::MAX;
         self.wire.reset();
         self.fail_none();
     }
@@ -74,14 +80,22 @@ fn files_of(alloc: Global, named: &NamedOctets, terms: &Terms) -> Result<MemFile
                 .map_err(|_| Fault::Memory)?;
         }
     }
+    files.narrow(terms.most_read.max(1));
     Ok(files)
+}
+
+/// The output.
+fn sink_of(alloc: Global, terms: &Terms) -> Result<MemSink, Fault> {
+    let failing = Vec::from_slice(alloc, &terms.failing_writes)?;
+    let mut sink = MemSink::new(alloc, terms.room, failing).map_err(|_| Fault::Memory)?;
+    sink.narrow(terms.most_written.max(1));
+    Ok(sink)
 }
 
 /// Runs the words over the files that they name.
 pub fn ended(alloc: Global, named: &NamedOctets, terms: &Terms) -> Result<Outcome, Fault> {
     let mut files = files_of(alloc, named, terms)?;
-    let failing = Vec::from_slice(alloc, &terms.failing_writes)?;
-    let mut sink = MemSink::new(alloc, terms.room, failing).map_err(|_| Fault::Memory)?;
+    let mut sink = sink_of(alloc, terms)?;
     let mut wire = terms.wire.wire(alloc)?;
     let mut clock = terms.wire.clock(alloc)?;
     let limit = terms.limit.max(1);

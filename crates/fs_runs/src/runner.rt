@@ -27,6 +27,7 @@ pub struct Runner {
     terms: Terms,
     case: String,
     expected: Vec<u8>,
+    due: u8,
     first_said: Option<String>,
     second_said: Option<String>,
 }
@@ -39,6 +40,7 @@ impl Runner {
             terms: Terms::new(alloc),
             case: String::new(alloc),
             expected: Vec::new(alloc),
+            due: 0,
             first_said: None,
             second_said: None,
         }
@@ -89,8 +91,9 @@ impl Runner {
             "octets" => self.expect_octets(rest),
             "words" => self.take_words(rest),
             "word" => self.take_word(rest),
-            "limit" | "room" | "fail_file" | "fail_write" | "fail_wire" | "moment" | "narrow" =>
+            "limit" | "room" | "fail_file" | "fail_write" | "fail_wire" | "moment" | "due" =>
                 self.set(word, rest),
+            "narrow" | "narrow_files" | "narrow_output" => self.narrow(word, rest),
             "gives" => self.give(rest),
             "said" => self.expect_said(rest),
             "ends" | "stops" => self.end_case(rt, tally, word, rest),
@@ -153,8 +156,19 @@ impl Runner {
             "fail_file" => self.terms.failing_files.push(number(digits)?)?,
             "fail_wire" => self.terms.wire.failing.push(number(digits)?)?,
             "moment" => self.terms.wire.moments.push(number(digits)?)?,
-            "narrow" => self.terms.wire.most = count(digits)?,
+            "due" => self.due = octet(digits)?,
             _ => self.terms.failing_writes.push(number(digits)?)?,
+        }
+        Ok(())
+    }
+
+    /// How many octets a call moves at most: one of the files, of the output, or of the wire.
+    fn narrow(&mut self, word: &str, digits: &str) -> Result<(), Fault> {
+        let most = count(digits)?;
+        match word {
+            "narrow_files" => self.terms.most_read = most,
+            "narrow_output" => self.terms.most_written = most,
+            _ => self.terms.wire.most = most,
         }
         Ok(())
     }
@@ -297,6 +311,7 @@ impl Runner {
     /// The next run has the same words, and the rest as at first.
     fn begin_next(&mut self) {
         self.expected.clear();
+        self.due = 0;
         self.first_said = None;
         self.second_said = None;
         self.terms.reset();
@@ -335,7 +350,7 @@ impl Runner {
     }
 
     /// How many calls can fail: with each of them the run ends with 1 and has written a front of what it must write,
-    /// and behind the last it ends with 0 and has written all. None where a run ends otherwise.
+    /// and behind the last it ends with the status that is due and has written all. None where a run ends otherwise.
     fn calls(&mut self, called: Called) -> Result<Option<u64>, Fault> {
         for call in 0..CALLS {
             self.terms.fail_none();
@@ -347,7 +362,7 @@ impl Runner {
             let outcome = self.outcome()?;
             let whole = self.expected.as_slice();
             let written = outcome.written.as_slice();
-            if outcome.status == 0 && written == whole {
+            if outcome.status == self.due && written == whole {
                 return Ok(Some(call));
             }
             if outcome.status != 1 || !whole.starts_with(written) {
