@@ -165,6 +165,37 @@ def equal_rules(count):
     return b"".join(parts), EMPTY_CAPTURE
 
 
+def one_network(count):
+    """Peers that all give one network and one rule for it."""
+    parts = []
+    for peer in range(1, count + 1):
+        parts += [up(peer), announce(bytes([24, 192, 0, 2]), peer), flow(bytes([1, 24, 192, 0, 2]), peer)]
+    return b"".join(parts), EMPTY_CAPTURE
+
+
+def nothing(count):
+    """UPDATEs of nothing beside a few rules."""
+    parts = [up(1)] + [flow(port(number)) for number in range(100)]
+    return b"".join(parts) + update(b"", b"", b"") * count, EMPTY_CAPTURE
+
+
+def long_attributes(count):
+    """The same rule in UPDATEs of an attribute that isn't known, each of nearly 4096 octets."""
+    reach = attribute(14, bytes.fromhex("0001 85 00 00") + frame(b"\x03\x81\x06"))
+    return up(1) + update(b"", reach + PATH + DROP + attribute(255, bytes(3900)), b"") * count, EMPTY_CAPTURE
+
+
+def empty_records(count):
+    """Records of a capture without octets."""
+    return up(1), EMPTY_CAPTURE + struct.pack("<IIII", 0, 0, 0, 65535) * count
+
+
+def longest_records(count):
+    """Records of a capture of 262144 octets."""
+    octets = packet(bytes([192, 0, 2, 1]), 25).ljust(262144, b"\0")
+    return up(1), EMPTY_CAPTURE + (struct.pack("<IIII", 0, 0, len(octets), len(octets)) + octets) * count
+
+
 SHAPES = [
     ("nested prefixes", nested, 20000),
     ("a wide route given again", given_again, 3000),
@@ -176,7 +207,16 @@ SHAPES = [
     ("a peer up and lost", up_and_lost, 5000),
     ("a peer down, lost again", down_and_lost, 5000),
     ("peers with equal rules", equal_rules, 512),
+    ("peers with one network", one_network, 256),
+    ("UPDATEs of nothing", nothing, 400000),
+    ("long attributes", long_attributes, 5000),
+    ("records without octets", empty_records, 400000),
+    ("the longest records", longest_records, 200),
 ]
+
+
+# Shapes whose twice the size is the largest that there is.
+OF_ONE_SIZE = ("pairs in one group", "headers in a chain", "peers with equal rules", "peers with one network")
 
 
 def seconds_of(program, folder, made, runs):
@@ -211,8 +251,7 @@ def main():
         for shape, make, size in SHAPES:
             if options.only not in shape:
                 continue
-            size = max(int(size * options.scale), 2) if shape not in ("pairs in one group", "headers in a chain",
-                                                                     "peers with equal rules") else size
+            size = size if shape in OF_ONE_SIZE else max(int(size * options.scale), 2)
             one, two = (
                 max(seconds_of(program, folder, make(count), options.runs) - without, 1e-4) for count in (size, 2 * size)
             )

@@ -6,7 +6,8 @@
 A tape holds the routes of one peer, one in each UPDATE. What is reported is the user and system time and the peak of
 memory of `enforce` over an empty capture, less those with a tape without these routes: for unicast routes;
 for rules to a destination each, beside a unicast route for each destination; for rules to one destination, and rules
-without a destination, that come in no order; and for unicast routes that come and go beside the rules.
+without a destination, that come in no order; and for unicast routes that come and go beside the rules. The peak is
+what GNU time (Debian's package `time`) tells: the one that a script sees of its child begins with the script's own size.
 """
 
 import argparse
@@ -20,6 +21,7 @@ from changes import EMPTY_CAPTURE, START, announce, changes_of, flow, slash24, w
 from enforce import CONFIG
 
 PORTS = 65536
+TIME = "/usr/bin/time"
 ODD = 40503  # multiplied by it, the ports come once each and in no order
 
 
@@ -45,7 +47,9 @@ def to_none(rules):
 def spent(program, folder, tape, runs):
     """The least seconds of some runs, and the peak of memory in octets."""
     (folder / "tape").write_bytes(tape)
-    words = [program, "enforce", *(str(folder / name) for name in ("config", "tape", "capture"))]
+    used_most = folder / "peak"
+    words = [TIME, "-f", "%M", "-o", str(used_most), program, "enforce"]
+    words += [str(folder / name) for name in ("config", "tape", "capture")]
     seconds, peak = [], 0
     for _ in range(runs):
         child = subprocess.Popen(words, stdout=subprocess.DEVNULL)
@@ -54,7 +58,7 @@ def spent(program, folder, tape, runs):
         if child.returncode != 0:
             sys.exit(f"enforce ended with status {child.returncode}")
         seconds.append(used.ru_utime + used.ru_stime)
-        peak = max(peak, used.ru_maxrss * 1024)
+        peak = max(peak, int(used_most.read_text()) * 1024)
     return min(seconds), peak
 
 

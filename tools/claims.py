@@ -1,15 +1,21 @@
 #!/usr/bin/env python3
-"""Lists every public call of the libraries with the clauses of its contract, the edits that the prover must refuse in its
-body, and the comparing programs in whose text a call of that name stands. Prints the tables of docs/CLAIMS.md; the text around them
-is kept there by hand. Usage: tools/claims.py > tables, or tools/claims.py --check docs/CLAIMS.md
+"""Lists the answers of tools/answers.py with the clauses that say when they come, its wrong bodies with what refuses
+each, and every public call of the libraries with the clauses of its contract, the edits that the prover must refuse in
+its body, and the comparing programs in whose text a call of that name stands. Prints the tables of docs/CLAIMS.md; the
+text around them is kept there by hand. A clause, an edit or a call that isn't there ends it. Usage: tools/claims.py >
+tables, or tools/claims.py --check docs/CLAIMS.md
 """
 
 import os
 import re
 import sys
 
+from answers import ANSWERS, STATUSES, WRONG
+
 ROOT = os.path.dirname(os.path.dirname(os.path.abspath(__file__)))
 PROGRAMS = ["fs_codecs", "fs_inputs", "fs_tables", "fs_matching", "fs_reading", "desks"]
+# what no program calls: the world that laws of both ends speak of
+UNCALLED = {"fs_joint": "no program"}
 BEGIN = "<!-- tables by tools/claims.py -->"
 
 
@@ -132,6 +138,7 @@ def tables():
     programs = calls_in_programs()
     named = uses()
     out = []
+    ensured = {}
     total = 0
     for crate in crates():
         if crate in PROGRAMS or not os.path.exists(os.path.join(ROOT, "crates", crate, "src", "lib.rt")):
@@ -158,21 +165,79 @@ def tables():
                         if crate in named[p] and is_called(crate, owner, function["name"], programs[p])]
                 clauses = ", ".join(f"`{c}`" for c in dict.fromkeys(function["clauses"])) or "by its trait's" if trait else ", ".join(
                     f"`{c}`" for c in dict.fromkeys(function["clauses"])) or "none"
+                if os.path.basename(path) == "laws.rt" and not seen:
+                    seen = ["a law"]
                 rows.append((shown, path, clauses, ", ".join(f"`{n}`" for n in inside), ", ".join(seen)))
+                ensured[crate, shown] = function["clauses"] or [] if trait is None else None
         if not rows:
             continue
         total += len(rows)
         out.append(f"### `{crate}`\n")
         out.append("| call | clauses | edits in its body | called by |\n|---|---|---|---|")
         for shown, path, clauses, inside, seen in rows:
-            out.append(f"| `{shown}` | {clauses} | {inside or '–'} | {seen or '`fs_runs`'} |")
+            out.append(f"| `{shown}` | {clauses} | {inside or '–'} | {seen or UNCALLED.get(crate, '`fs_runs`')} |")
         out.append("")
         rest = [name for where, line, name in edits(crate)]
         listed = {n for row in rows for n in re.findall(r"`([a-z_0-9]+)`", row[3])}
         hidden = [name for name in rest if name not in listed]
         if hidden:
             out.append("In functions below these calls: " + ", ".join(f"`{n}`" for n in hidden) + ".\n")
-    return total, "\n".join(out)
+    above = answers(ensured) + wrong_bodies()
+    return total, "\n".join([*above, "## The calls\n", *out])
+
+
+def promises():
+    """The fields of the record that a run of the program ensures."""
+    spec = read("crates", "fs_cli", "specs", "Program.antt").split("pub record Promises", 1)[1]
+    return set(re.findall(r"^  pub ([a-z_]+) :", spec, re.M))
+
+
+def answers(ensured):
+    """The tables of answers. Each clause that they name has to stand at its call."""
+    out = ["## Answers and their causes\n", "Of a run; the clauses are fields of `Promises`, which `PROMISES.md` tells:\n",
+           "| status | comes | clauses |\n|---|---|---|"]
+    fields = promises()
+    for status, when, names in STATUSES:
+        missing = set(names.split()) - fields
+        if missing:
+            sys.exit(f"status {status}: no field {missing} of Promises")
+        out.append(f"| {status} | {when} | {', '.join(f'`{name}`' for name in names.split())} |")
+    out += ["", "Of the layers; `Memory` is free wherever it can be answered:\n"]
+    out.append("| answer | comes | clauses |\n|---|---|---|")
+    for answer, when, calls in ANSWERS:
+        cells = []
+        for place in calls:
+            crate, call, *names = place.split()
+            known = ensured.get((crate, call))
+            if (crate, call) not in ensured or (known is not None and not set(names) <= set(known)):
+                sys.exit(f"{answer}: no clause {names} of {call} in {crate}")
+            cells.append(f"`{call}` of `{crate}` (" + ", ".join(f"`{name}`" for name in names) + ")")
+        out.append(f"| {answer} | {when} | {'; '.join(cells)} |")
+    return [*out, ""]
+
+
+def wrong_bodies():
+    """The table of wrong bodies. Each edit has to be there, and docs/WRONG_BODIES.md has to say what refuses it."""
+    page = {}
+    crate = None
+    for line in read("docs", "WRONG_BODIES.md").split("\n"):
+        head = re.match(r"\*\*`(\w+)`\*\*", line)
+        row = re.match(r"\| `(\w+)` \| (.*) \|$", line)
+        crate = head.group(1) if head else crate
+        if row:
+            page[f"{crate}/{row.group(1)}"] = row.group(2)
+    out = ["## Wrong bodies that a contract must refuse\n", "| body | edits, and what refuses each |\n|---|---|"]
+    for body, edits_of_it in WRONG:
+        cells = []
+        for edit in edits_of_it.split():
+            crate, name = edit.split("/")
+            path = os.path.join(ROOT, "crates", crate, "must-fail", f"{name}.edit")
+            if not os.path.exists(path) or edit not in page:
+                sys.exit(f"{body}: no edit {edit}, or docs/WRONG_BODIES.md doesn't have it")
+            cells.append(f"`{name}` of `{crate}`: {page[edit]}")
+        out.append(f"| {body} | {'; '.join(cells)} |")
+    out.append("| a run always answers 6 | refused by the runs alone: the first case of `fs_runs` |")
+    return [*out, ""]
 
 
 def main():

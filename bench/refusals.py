@@ -1,0 +1,232 @@
+#!/usr/bin/env python3
+"""Refuses each growth of the program in turn, under every command on small inputs, and reports how the runs ended.
+
+    bench/refusals.py PROGRAM [--only WORD]
+
+A run in which the machine refuses memory ends with status 6, or with 1 where an adapter of the real files or of the
+wire was refused; what it wrote is a front of what it writes otherwise, and `enforce` over a tape of version 1 writes
+nothing at 6. Once each growth behind the refused one is refused too, and once it alone: then a run may also end as if
+nothing had been refused, since a vector that is refused the room for all that an iterator promises asks for the room of
+one element. The preload is built from refusals.c by `cc`. The script ends with 1 where a run ended otherwise.
+"""
+
+import argparse
+import collections
+import os
+import pathlib
+import socket
+import struct
+import subprocess
+import sys
+import tempfile
+import threading
+
+from convert import mrt
+from enforce import OPEN, PATH, UNICAST, message, packet, record
+from pcapng import block
+
+CONFIG = "local_as = 65000\nlocal_id = \"192.0.2.254\"\n" + "".join(
+    f"[[peer]]\nnumber = {n}\naddress = \"198.51.100.{n}\"\nas = {number}\n"
+    for n, number in ((1, 65001), (2, 65002), (3, 65000))
+)
+RULES = """id = "198.51.100.1"
+as_path = [65001]
+[[rule]]
+family = "v4"
+nlri = "0b0118c00002038106048119"
+actions = "8006fde900000000"
+[[rule]]
+text = "v6 dst 2001:db8:0:0:0:0:0:0/32 proto =6 then control 1 mark 46"
+"""
+MAIL = bytes.fromhex("0b 0118c00002 038106 048119")
+HIDING = bytes.fromhex("08 0118c00002 038306")
+HIDDEN = bytes.fromhex("09 0118c00002 03910011")
+CAPABILITIES = bytes.fromhex("20 021e 010400010001 010400010085 010400020001 010400020085")
+ANNOUNCER = message(1, bytes.fromhex("04 fde9 0000 c6336401") + CAPABILITIES + bytes.fromhex("41040000fde9"))
+RECEIVER = message(1, bytes.fromhex("04 fde8 0000 c00002fe") + CAPABILITIES + bytes.fromhex("41040000fde8"))
+KEEPALIVE = message(4, b"")
+NETWORK = message(2, UNICAST)
+TEXT = "v4 dst 192.0.2.0/24 proto =6 port =25 then bytes 65001:00000000"
+
+
+def flow(nlri):
+    reach = bytes.fromhex("0001 85 00 00") + nlri
+    attributes = b"\x80\x0e" + bytes([len(reach)]) + reach + PATH + bytes.fromhex("c01008 8006fde900000000")
+    return message(2, b"\0\0" + struct.pack(">H", len(attributes)) + attributes)
+
+
+def later(kind, seconds, payload=b""):
+    """A record of a tape of version 2, of peer 1."""
+    return struct.pack(">BHQI", kind, 1, seconds * 10**9, len(payload)) + payload
+
+
+def write_inputs(folder):
+    start = message(1, OPEN) + KEEPALIVE
+    octets = packet(bytes([192, 0, 2, 9]), 25)
+    header = struct.pack("<IHHIIII", 0xA1B2C3D4, 2, 4, 0, 0, 262144, 101)
+    early, caught = (struct.pack("<IIII", seconds, 0, len(octets), len(octets)) + octets for seconds in (0, 1))
+    head = struct.pack("<IIIII", 0, 0, 10**6, len(octets), len(octets))
+    files = {
+        "peers.toml": CONFIG.encode(),
+        "rules.toml": RULES.encode(),
+        "first.tape": b"FSTAPE1\n" + record(1, 1) + record(2, 1, start + NETWORK + flow(MAIL)),
+        "hiding.tape": b"FSTAPE1\n" + record(1, 1) + record(2, 1, start + NETWORK + flow(HIDING) + flow(HIDDEN)),
+        "late.tape": b"FSTAPE2\n" + later(1, 0) + later(2, 0, start + NETWORK) + later(2, 1, flow(MAIL)),
+        "mail.pcap": header + caught,
+        "two.pcap": header + early + caught,
+        "mail.pcapng": block(0x0A0D0D0A, struct.pack("<IHHq", 0x1A2B3C4D, 1, 0, -1))
+        + block(1, struct.pack("<HHI", 101, 0, 262144)) + block(6, head + octets),
+        "seen.mrt": mrt(1, 4, 1, NETWORK) + mrt(2, 4, 1, flow(MAIL)),
+    }
+    for name, content in files.items():
+        (folder / name).write_bytes(content)
+    return start
+
+
+class Other:
+    """The other end of a session over loopback: it says its octets, and reads until the program says no more."""
+
+    def __init__(self, kind, octets):
+        self.octets = octets
+        self.listening = None
+        if kind == "announce":
+            self.listening = socket.create_server(("127.0.0.1", 0))
+            self.address = self.listening.getsockname()
+        else:
+            with socket.create_server(("127.0.0.1", 0)) as free:
+                self.address = free.getsockname()
+        self.over = threading.Event()
+        self.thread = threading.Thread(target=self.speak)
+        self.thread.start()
+
+    def connected(self):
+        while not self.over.is_set():
+            try:
+                if self.listening:
+                    self.listening.settimeout(0.02)
+                    return self.listening.accept()[0]
+                return socket.create_connection(self.address, 1)
+            except OSError:
+                self.over.wait(0.002)
+        return None
+
+    def speak(self):
+        end = self.connected()
+        if end is None:
+            return
+        try:
+            with end:
+                end.settimeout(5)
+                end.sendall(self.octets)
+                if not self.listening:
+                    end.shutdown(socket.SHUT_WR)
+                while end.recv(65536):
+                    pass
+        except OSError:
+            pass
+
+    def close(self):
+        self.over.set()
+        self.thread.join()
+        if self.listening:
+            self.listening.close()
+
+
+class Runs:
+    def __init__(self, program, folder):
+        self.program = program
+        self.folder = folder
+        self.start = write_inputs(folder)
+        self.preload = str(folder / "refusals.so")
+        source = pathlib.Path(__file__).resolve().with_name("refusals.c")
+        subprocess.run(["cc", "-O2", "-shared", "-fPIC", "-o", self.preload, str(source), "-ldl"], check=True)
+
+    def once(self, words, **variables):
+        """The status of a run, and what it wrote."""
+        other = None
+        if words[0] in ("announce", "listen"):
+            said = RECEIVER + KEEPALIVE if words[0] == "announce" else self.start + NETWORK + flow(MAIL)
+            other = Other(words[0], said)
+            words = [*words, f"127.0.0.1:{other.address[1]}"]
+        named = {**os.environ, "LD_PRELOAD": self.preload, **variables}
+        ran = subprocess.run([self.program, *words], cwd=self.folder, capture_output=True, env=named, timeout=20)
+        if other:
+            other.close()
+        return ran.returncode, ran.stdout, ran.stderr
+
+    def growths(self, words):
+        """How many growths a run has, its status and what it wrote."""
+        count = self.folder / "count"
+        status, written, _ = self.once(words, TELL=str(count))
+        return int(count.read_text()), status, written
+
+    def faults(self, words, status, whole, number, lasting):
+        """How a run with a refused growth ended, and what is wrong with that."""
+        variables = {"REFUSE": str(number), **({"LASTING": "1"} if lasting else {})}
+        came, written, said = self.once(words, **variables)
+        wrong = []
+        if came not in (1, 6) and (lasting or (came, written) != (status, whole)):
+            wrong.append(f"status {came}")
+        if not whole.startswith(written):
+            wrong.append(f"wrote {written!r}")
+        if said:
+            wrong.append(f"said {said!r}")
+        if came == 6 and words[0] == "enforce" and "late.tape" not in words and written:
+            wrong.append("wrote lines at status 6")
+        return came, came == 6 and bool(written), wrong
+
+
+COMMANDS = [
+    ("enforce peers.toml first.tape mail.pcap", 0),
+    ("enforce peers.toml first.tape mail.pcapng", 0),
+    ("enforce peers.toml late.tape two.pcap", 0),
+    ("rules peers.toml first.tape", 0),
+    ("list peers.toml first.tape", 0),
+    ("shadow peers.toml hiding.tape", 0),
+    ("convert peers.toml seen.mrt", 0),
+    ("check v4 " + MAIL.hex(), 0),
+    ("check v6 " + MAIL.hex(), 9),
+    ("check text", 0),
+    ("gen 100", 0),
+    ("announce peers.toml rules.toml", 0),
+    ("listen peers.toml", 0),
+    ("pair peers.toml rules.toml", 0),
+    ("help", 2),
+]
+
+
+def main():
+    parser = argparse.ArgumentParser(description=__doc__.split("\n", 1)[0])
+    parser.add_argument("program", type=pathlib.Path)
+    parser.add_argument("--only", default="")
+    options = parser.parse_args()
+    is_wrong = False
+    with tempfile.TemporaryDirectory() as name:
+        runs = Runs(str(options.program.resolve()), pathlib.Path(name))
+        for line, due in COMMANDS:
+            if options.only not in line:
+                continue
+            words = line.split() + ([TEXT] if line == "check text" else [])
+            count, status, whole = runs.growths(words)
+            if status != due:
+                print(f"{line}: status {status} where no growth is refused")
+                is_wrong = True
+                continue
+            for lasting in (False, True):
+                ended = collections.Counter()
+                wrote = 0
+                for number in range(1, count + 1):
+                    came, written, wrong = runs.faults(words, status, whole, number, lasting)
+                    ended[came] += 1
+                    wrote += written
+                    for fault in wrong:
+                        print(f"{line}: growth {number} of {count}: {fault}")
+                        is_wrong = True
+                how = ", ".join(f"{times} with {came}" for came, times in sorted(ended.items()))
+                kind = "from each on" if lasting else "each alone"
+                print(f"{line}, {kind}: of {count} growths {how}; at 6 {wrote} had written", flush=True)
+    sys.exit(1 if is_wrong else 0)
+
+
+if __name__ == "__main__":
+    main()

@@ -1,0 +1,430 @@
+"""What tools/claims.py tells beside the tables of calls: each answer that isn't the wanted value with the clauses that
+say when it comes, both ways, and the wrong bodies that a contract must refuse with the edits that try them."""
+
+# A status of a run, when it comes, and the fields of `Promises` of `fs_cli` that say so.
+STATUSES = [
+    (
+        "0",
+        "words, files and what the other end gave call for it, no call failed, and memory was there: then the "
+        "defined text was written whole",
+        "runs complete headline listed converted announced listened paired generator",
+    ),
+    (
+        "1",
+        "only where a call on the output failed in the run, on the files in a command that names one, or on the "
+        "wire in `announce`, `listen` and `pair`, or where a file isn't there when its turn comes; in that last "
+        "case always 1 or 6",
+        "runs causes",
+    ),
+    (
+        "2",
+        "exactly where the words are no command; no file is opened then",
+        "no_command nothing_done",
+    ),
+    (
+        "3",
+        "exactly where the configuration or the rules file isn't accepted, and it is reached",
+        "runs causes config_writes_nothing",
+    ),
+    (
+        "4",
+        "exactly where the tape has a fault, and it is reached",
+        "runs causes tape_writes_nothing",
+    ),
+    (
+        "5",
+        "exactly where the capture has a fault, and it is reached",
+        "runs causes",
+    ),
+    (
+        "6",
+        "free; what was written is a front of the text, and of `enforce` over a tape of version 1 nothing",
+        "runs memory_writes_nothing",
+    ),
+    (
+        "7",
+        "exactly where an input, or what an end of the wire heard, reaches the limit, with no fault and no "
+        "closing before it",
+        "runs causes",
+    ),
+    (
+        "8",
+        "exactly where the octets of an end close its session, end before it is established, or lack the family "
+        "of a rule, or where an agreed hold time has passed",
+        "runs causes announced listened paired",
+    ),
+    (
+        "9",
+        "exactly where the word of `check` isn't hexadecimal, has a fault, or is no text of a rule",
+        "runs causes",
+    ),
+    (
+        "10",
+        "exactly where the dump has a fault",
+        "runs causes",
+    ),
+]
+
+# An answer of a layer, when it comes, and clauses: crate, call, names.
+ANSWERS = [
+    (
+        "`Failed` of the outside",
+        "only where the count of faults rose in the call",
+        [
+            "fs_base Files::open_file cause",
+            "fs_base Files::read cause",
+            "fs_base Sink::write cause",
+            "fs_base Wire::open_end cause",
+            "fs_base Wire::read cause",
+            "fs_base Wire::write cause",
+            "fs_base Wire::close cause",
+        ],
+    ),
+    (
+        "`open_file` answers false",
+        "exactly where no file has the name",
+        [
+            "fs_base Files::open_file found",
+        ],
+    ),
+    (
+        "`Counted::read` answers `Failed`",
+        "only where the count of the files rose in the call",
+        [
+            "fs_base Counted::read failed",
+        ],
+    ),
+    (
+        "`Counted::read` answers `Limit`",
+        "exactly where `limit` octets were taken before",
+        [
+            "fs_base Counted::read limit",
+        ],
+    ),
+    (
+        "`Counted::read` answers 0",
+        "exactly where the slot is at its end, or there is no room",
+        [
+            "fs_base Counted::read left",
+        ],
+    ),
+    (
+        "no `Prefix`",
+        "exactly where the length is above 32 or 128",
+        [
+            "fs_base Prefix::new none some",
+        ],
+    ),
+    (
+        "no peer",
+        "exactly where the configuration has none of that number",
+        [
+            "fs_base Config::peer result",
+        ],
+    ),
+    (
+        "`Cut`, `Width` of a list",
+        "the first of them, with its place",
+        [
+            "fs_ops NumList::decode found fault",
+            "fs_ops NumList::decode_within found fault",
+            "fs_ops MaskList::decode found fault",
+        ],
+    ),
+    (
+        "`NotOfFamily`, `Order`, `TooLong`",
+        "the first that holds of the components",
+        [
+            "fs_nlri Rule::new result",
+        ],
+    ),
+    (
+        "no destination",
+        "exactly where the rule has none, or of IPv6 none with offset 0",
+        [
+            "fs_nlri Rule::destination shown",
+        ],
+    ),
+    (
+        "a fault of `decode`",
+        "exactly where no frame stands in front: its reason and its place",
+        [
+            "fs_nlri decode found fault only",
+        ],
+    ),
+    (
+        "a fault of `Feed`",
+        "exactly that of the first faulty value, and again at each later call; of `end` where a frame has begun",
+        [
+            "fs_nlri Feed::feed ok err",
+            "fs_nlri Feed::end result",
+        ],
+    ),
+    (
+        "`BadLength`",
+        "exactly where the octets are no positive multiple of eight",
+        [
+            "fs_actions from_communities bad_length",
+        ],
+    ),
+    (
+        "no marking, redirect or rate",
+        "exactly where the list has none there",
+        [
+            "fs_actions Actions::mark result",
+            "fs_actions Actions::redirect result",
+            "fs_actions Actions::rate result",
+        ],
+    ),
+    (
+        "1/1, 1/2, 1/3",
+        "exactly where the octets that no message took up begin so",
+        [
+            "fs_message Deframer::feed fault exact again",
+        ],
+    ),
+    (
+        "no message",
+        "exactly where none stands whole",
+        [
+            "fs_message Deframer::message exact",
+        ],
+    ),
+    (
+        "2/1, 2/2, 2/3, 2/4, 2/6",
+        "exactly the first test of OPEN that fails",
+        [
+            "fs_message Open::read result",
+        ],
+    ),
+    (
+        "3/1, 3/10, 3/9",
+        "exactly the first fault of the UPDATE, of an NLRI with reason and place",
+        [
+            "fs_attrs read_update result",
+        ],
+    ),
+    (
+        "`TooLong` of `write_update`",
+        "exactly where the message would pass 4096 octets",
+        [
+            "fs_attrs write_update written",
+        ],
+    ),
+    (
+        "`remove`, `withdraw_flow`, `withdraw_unicast` answer false",
+        "exactly where the peer doesn't hold the key",
+        [
+            "fs_unicast Unicast::remove removed held",
+            "fs_rules Table::withdraw_flow removed held",
+            "fs_rules Table::withdraw_unicast removed held",
+        ],
+    ),
+    (
+        "no best route",
+        "exactly where none is at the prefix, or at none that covers it",
+        [
+            "fs_unicast Unicast::best best",
+            "fs_unicast Unicast::best_match best",
+        ],
+    ),
+    (
+        "a rule isn't valid",
+        "exactly the first of the four tests that fails",
+        [
+            "fs_validate valid validity",
+        ],
+    ),
+    (
+        "no rule of that number, none that matches",
+        "exactly where the number is past the last, or no rule from there on matches",
+        [
+            "fs_rules Table::rule result",
+            "fs_rules Table::held_flow result",
+            "fs_rules Table::walk result",
+            "fs_compile Compiled::first first",
+            "fs_compile Compiled::next next",
+        ],
+    ),
+    (
+        "no link; `Unread`",
+        "exactly the links that aren't listed; exactly the first test that fails",
+        [
+            "fs_pcap Link::of result",
+            "fs_packet view result",
+        ],
+    ),
+    (
+        "a fault or `Limit` of an input",
+        "exactly where its octets, or the first `limit` of them, have it; it stays",
+        [
+            "fs_tape Tape::begin opens",
+            "fs_tape Tape::next again unread",
+            "fs_pcap Capture::begin opens",
+            "fs_pcap Capture::next again unread",
+            "fs_pcapng Ng::begin begins",
+            "fs_pcapng Ng::next again unread",
+            "fs_mrt Dump::begin begun",
+            "fs_mrt Dump::next again unread",
+            "fs_capture Capture::begin begins",
+            "fs_capture Capture::next again unread",
+        ],
+    ),
+    (
+        "`Read` of an input",
+        "only where the count of the files rose in the call that first answered it",
+        [
+            "fs_tape Tape::begin read",
+            "fs_tape Tape::next read",
+            "fs_pcap Capture::begin read",
+            "fs_pcap Capture::next read",
+            "fs_pcapng Ng::begin read",
+            "fs_pcapng Ng::next read",
+            "fs_mrt Dump::next read",
+            "fs_capture Capture::begin read",
+            "fs_capture Capture::next read",
+        ],
+    ),
+    (
+        "an input ends",
+        "exactly where it ends where a record would begin",
+        [
+            "fs_tape Tape::next ended",
+            "fs_pcap Capture::next ended",
+            "fs_pcapng Ng::next ended",
+            "fs_mrt Dump::next ended",
+            "fs_capture Capture::next ended",
+        ],
+    ),
+    (
+        "a session closes",
+        "exactly where its octets close it, or `cease` or `tick` does; it stays, and takes nothing more",
+        [
+            "fs_speaker Session::feed_at closed exact again",
+            "fs_speaker Session::tick closed exact again",
+            "fs_speaker Session::cease exact again",
+            "fs_speaker Announcer::feed_at closed exact again",
+            "fs_speaker Announcer::tick closed exact again",
+        ],
+    ),
+    (
+        "no update; no message",
+        "exactly where no UPDATE that is taken ends with the call; where it isn't established, or all rules were "
+        "said",
+        [
+            "fs_speaker Session::feed_at some exact",
+            "fs_speaker Announcer::next_message exact",
+        ],
+    ),
+    (
+        "6/1",
+        "exactly where an UPDATE leaves the peer holding more than its limit",
+        [
+            "fs_desk Desk::octets played replied",
+            "fs_rules Table::held_by result",
+        ],
+    ),
+    (
+        "a refused configuration or rules file",
+        "exactly where it isn't accepted by the definition",
+        [
+            "fs_conf read_config ok refused",
+            "fs_conf read_rules ok refused",
+        ],
+    ),
+    (
+        "`Bad`, `TooLong` of a text",
+        "exactly where the words are no text of a rule: the least word with which none goes on",
+        [
+            "fs_parse read found exact fault",
+        ],
+    ),
+    (
+        "a step of both ends",
+        "after want of memory each later one answers so, and changes nothing",
+        [
+            "fs_joint Joint::step again spent",
+            "fs_joint Joint::taken result",
+            "fs_joint Joint::closed result",
+        ],
+    ),
+    (
+        "one rule contains another",
+        "exactly by the definition, with the report and without it",
+        [
+            "fs_shadow report result",
+            "fs_shadow confirm result",
+            "fs_compile Spans::within result",
+        ],
+    ),
+]
+
+# A body that is wrong in a way that a contract must not let through, and the edits that write it.
+WRONG = [
+    (
+        "a decoder takes types in any order or twice, or refuses the length of two octets below 240",
+        "fs_nlri/takes_unordered_types fs_nlri/refuses_long_length_form",
+    ),
+    (
+        "a deframer takes no octet of any piece",
+        "fs_message/takes_no_octet",
+    ),
+    (
+        "a list is evaluated from left to right, AND and OR alike",
+        "fs_ops/evaluates_left_to_right",
+    ),
+    (
+        "a port rule matches a later fragment by its first octets",
+        "fs_packet/matches_ports_of_later_fragments fs_packet/matches_ports_of_later_v6_fragments",
+    ),
+    (
+        "the less specific prefix precedes",
+        "fs_order/less_specific_precedes fs_base/less_specific_precedes",
+    ),
+    (
+        "the terminal bit is taken for 'stop'",
+        "fs_enforce/terminal_bit_stops",
+    ),
+    (
+        "a flow route is validated once, when it arrives",
+        "fs_rules/validated_once_on_arrival",
+    ),
+    (
+        "a unicast change retests only rules under the prefix",
+        "fs_rules/retests_only_rules_under",
+    ),
+    (
+        "a unicast change retests all rules",
+        "fs_rules/retests_all_rules fs_rules/retests_each_rule_twice",
+    ),
+    (
+        "a lost or closed session keeps its routes",
+        "fs_rules/lost_peer_keeps_unicast fs_desk/lost_peer_keeps_routes fs_desk/closed_session_keeps_routes",
+    ),
+    (
+        "the first announcer of a rule wins",
+        "fs_rules/first_announcer_wins",
+    ),
+    (
+        "the matcher drops rules without a destination, or with an offset, or tests every rule",
+        "fs_compile/drops_rules_without_destination fs_compile/drops_offset_rules fs_compile/tests_every_rule",
+    ),
+    (
+        "a run always answers one status, at once or behind the opening of a name that the words don't have",
+        "fs_cli/always_answers_1 fs_cli/always_answers_2 fs_cli/always_answers_3 fs_cli/always_answers_4 "
+        "fs_cli/always_answers_5 fs_cli/always_answers_7 fs_cli/always_answers_8 fs_cli/always_answers_9 "
+        "fs_convert/answers_10_at_the_limit fs_cli/opens_a_name_that_the_words_do_not_have",
+    ),
+    (
+        "a rate with its highest bit set is told",
+        "fs_actions/reports_negative_rate",
+    ),
+    (
+        "a put that is refused for memory leaves something changed",
+        "fs_rules/refused_put_takes_routes_away fs_unicast/refused_put_takes_the_route_away",
+    ),
+    (
+        "the check of a shadowed rule always says yes",
+        "fs_shadow/confirm_always_answers_true",
+    ),
+]
