@@ -73,7 +73,7 @@ def main():
     parser.add_argument("program", type=pathlib.Path)
     parser.add_argument("--sizes", default="10000,100000")
     parser.add_argument("--group", default="15000,30000,60000")
-    parser.add_argument("--changes", type=int, default=20000)
+    parser.add_argument("--changes", type=int, default=200000)
     parser.add_argument("--runs", type=int, default=3)
     options = parser.parse_args()
     program = str(options.program.resolve())
