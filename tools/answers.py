@@ -411,8 +411,7 @@ WRONG = [
     ),
     (
         "a run always answers one status, at once or behind the opening of a name that the words don't have",
-        "fs_cli/always_answers_1 fs_cli/always_answers_2 fs_cli/always_answers_3 fs_cli/always_answers_4 "
-        "fs_cli/always_answers_5 fs_cli/always_answers_7 fs_cli/always_answers_8 fs_cli/always_answers_9 "
+        "fs_cli/always_answers_1 fs_cli/always_answers_4 fs_cli/always_answers_8 "
         "fs_convert/answers_10_at_the_limit fs_cli/opens_a_name_that_the_words_do_not_have",
     ),
     (
