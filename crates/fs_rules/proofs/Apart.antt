@@ -19,6 +19,7 @@ use Rattle.fs_order.specs.Laws.{destination_cmp}
 use Rattle.fs_order.proofs.First.{destinations_first}
 use Rattle.fs_order.proofs.Same.{same_rules}
 use Rattle.fs_rules.specs.Kept.{Kept}
+use Rattle.fs_rules.specs.Blocks.{RuleBefore, AllBefore}
 use Rattle.fs_rules.specs.Table.{key_cmp, is_key, same_rule}
 use Rattle.fs_rules.specs.Groups.{Entry, kept_in, IsTo, ArePlaced, AreInOrder, IsSound}
 
@@ -42,13 +43,6 @@ by_destination family a b h k = destinations_first a.route.rule b.route.rule h.r
 -- the route with the earlier destination has the earlier rule
 pub earlier : (family : Family) (a b : Kept) (p q : Option Prefix) → IsSound family a → IsSound family b → IsTo p a → IsTo q b → to_cmp p q ≡ Less → rule_cmp a.route.rule b.route.rule ≡ Less
 earlier family a b p q h k d e less = by_destination family a b h k ∙ ap (λ o. ordering_then o (rule_cmp a.route.rule b.route.rule)) (ap₂ to_cmp d e ∙ less)
-
--- Rules of the first list stand before those of the second.
-abbrev pub RuleBefore : Kept → Kept → Type 0
-RuleBefore a b = rule_cmp a.route.rule b.route.rule ≡ Less
-
-abbrev pub AllBefore : List Kept → List Kept → Type 0
-AllBefore xs ys = AllByRecursion (λ x. AllByRecursion (RuleBefore x) ys) xs
 
 pub key_less : (a b : Kept) → RuleBefore a b → key_cmp a.route.rule a.route.peer b.route ≡ Less
 key_less a b h = ap (λ o. ordering_then o (nat_cmp a.route.peer b.route.peer)) h

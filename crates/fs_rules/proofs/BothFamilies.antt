@@ -18,7 +18,8 @@ use Rattle.fs_rules.specs.Table.{is_key, is_of_family, is_valid, related_count}
 use Rattle.fs_rules.specs.Group.{AreSorted, routes_of, put_kept, mended, retested, is_related_kept, related_kept, is_beaten, is_chosen, chosen}
 use Rattle.fs_rules.specs.Groups.{IsSound}
 use Rattle.fs_rules.specs.Flows.{AreOfFamilies}
-use Rattle.fs_rules.proofs.Apart.{AllBefore, RuleBefore, families_before}
+use Rattle.fs_rules.specs.Blocks.{AllBefore, RuleBefore}
+use Rattle.fs_rules.proofs.Apart.{families_before}
 use Rattle.fs_rules.proofs.InParts.{chosen-append}
 use Rattle.fs_rules.proofs.Changes.{each-filter, each-put, related_is_count}
 use Rattle.fs_rules.proofs.Placing.{related-append}

@@ -1,13 +1,12 @@
 -- How many routes a peer holds, and the counts of them.
-use Rattle.std.proofs.Common.{◌≡◌, ℕ, ◌+◌, ◌-◌, refl, sym, ap, ◌∙◌, Bool, true, false, true≢false, not, ◌&&◌, ◌||◌, ◌==◌, nat_lt, cond, if◌then◌else◌, List, [], ◌∷◌, length, filter, Some, None, is_some, unwrap_or, Ordering, Less, Equal, Greater, is_eq, nat_cmp, IsSome, arith}
+use Rattle.std.proofs.Common.{◌≡◌, ℕ, ◌+◌, ◌-◌, refl, sym, ap, ◌∙◌, Bool, true, false, true≢false, not, ◌&&◌, ◌||◌, ◌==◌, nat_lt, cond, if◌then◌else◌, List, [], ◌∷◌, length, filter, Some, is_some, Ordering, Less, Equal, Greater, is_eq, nat_cmp, arith}
 use Rattle.std.proofs.lemmas.Bool.Decides.{nat_tests}
 use Rattle.std.specs.BTreeMap.{insert_entry, is_at}
-use Rattle.std.specs.Cmp.{IsTotalOrder, nat_cmp_total, eq_by_cmp_equiv}
+use Rattle.std.specs.Cmp.{IsTotalOrder}
 use Rattle.std.specs.List.{AllByRecursion}
 use Rattle.std.specs.List.Sorted.{IsStrictlySortedBy}
-use Rattle.std.specs.Map.{lookup, remove_entry, set_value, keys_of}
+use Rattle.std.specs.Map.{lookup, remove_entry, keys_of}
 use Rattle.std.specs.Ordering.{match_ordering, ordering_then}
-use Rattle.std.proofs.lemmas.Map.{lookup-set_value}
 use Rattle.std.proofs.lemmas.Map.Keys.{sorted_head, sorted_tail}
 use Rattle.fs_base.specs.declared.config.Config.{Config}
 use Rattle.fs_base.specs.declared.path.Path.{Path}
@@ -23,7 +22,7 @@ use Rattle.fs_rules.specs.Group.{AreSorted}
 use Rattle.fs_rules.specs.Counts.{count_of}
 use Rattle.fs_rules.proofs.Changes.{flow_total}
 use Rattle.fs_rules.proofs.Chosen.{held_of, with_flows}
-use Rattle.fs_rules.proofs.Entries.{lookup-insert_entry, is_equal}
+use Rattle.fs_rules.proofs.Entries.{is_equal}
 
 nat_same : (m n : ℕ) → is_eq (nat_cmp m n) ≡ (m == n)
 nat_same m n = grind (arith, nat_tests)
@@ -309,28 +308,3 @@ with_same_flows peer config unicast flows held view none =
 pub with_same : (peer : ℕ) (held : Held) → held_count peer held ≡ 0 → held ≡ without_peer peer held
 with_same peer held none =
     λ i. record { config = held.config; unicast = sym (idle_unicast peer held.unicast held.flows none) i; flows = sym (idle_flows peer held.unicast held.flows none) i }
-
--- The counts by their map.
-pub count_new : (peer : ℕ) (counts : List (ℕ × ℕ)) → lookup (is_at (nat_cmp peer)) counts ≡ None → (other : ℕ) → count_of other (insert_entry nat_cmp counts peer 0) ≡ count_of other counts
-count_new peer counts none other =
-    ap (λ o. unwrap_or o 0) (lookup-insert_entry nat_cmp nat_cmp_total other peer 0 counts)
-    ∙ by (is_eq (nat_cmp other peer)) refl
-  where
-    same : (m n : ℕ) → is_eq (nat_cmp m n) ≡ true → m ≡ n
-    same m n h = grind (arith, nat_tests, h, nat_same m n)
-
-    by : (b : Bool) → is_eq (nat_cmp other peer) ≡ b → unwrap_or (if b then Some 0 else lookup (is_at (nat_cmp other)) counts) 0 ≡ count_of other counts
-    by true h = sym (ap (λ n. count_of n counts) (same other peer h) ∙ ap (λ o. unwrap_or o 0) none)
-    by false h = refl
-
-pub count_set : (peer value : ℕ) (counts : List (ℕ × ℕ)) → IsSome (lookup (is_at (nat_cmp peer)) counts) → (other : ℕ)
-    → count_of other (set_value (is_at (nat_cmp peer)) counts value) ≡ (if peer == other then value else count_of other counts)
-count_set peer value counts there other =
-    ap (λ o. unwrap_or o 0)
-    (lookup-set_value (eq_by_cmp_equiv nat_cmp_total) (is_at (nat_cmp peer)) (λ x y h. ap is_eq (IsTotalOrder.congr nat_cmp_total peer x y (is_equal (nat_cmp peer x) h))) other value counts there
-    ∙ ap (λ b. cond b (Some value) (lookup (is_at (nat_cmp other)) counts)) (nat_same peer other))
-    ∙ by (peer == other)
-  where
-    by : (b : Bool) → unwrap_or (cond b (Some value) (lookup (is_at (nat_cmp other)) counts)) 0 ≡ (if b then value else count_of other counts)
-    by true = refl
-    by false = refl

@@ -1,5 +1,5 @@
 -- What the kept validities tell, read one group after the other.
-use Rattle.std.proofs.Common.{ℕ, suc, ◌≡◌, ◌+◌, ◌≤◌, refl, sym, ap, ap₂, ◌∙◌, Bool, true, false, true≢false, not, ◌&&◌, ◌||◌, cond, List, [], ◌∷◌, ◌++◌, map, length, find, nat_le, is_some, Option, Some, None, arith}
+use Rattle.std.proofs.Common.{ℕ, suc, ◌≡◌, ◌+◌, ◌≤◌, refl, sym, ap, ap₂, ◌∙◌, Bool, true, false, true≢false, not, ◌&&◌, ◌||◌, cond, List, [], ◌∷◌, ◌++◌, map, length, find, nat_le, is_some, Option, Some, None, option_map, slice_get, zero, ◌-◌, arith}
 use Rattle.std.specs.List.{AllByRecursion}
 use Rattle.std.specs.Map.{keys_of}
 use Rattle.std.proofs.lemmas.Map.Keys.{sorted_tail}
@@ -17,7 +17,8 @@ use Rattle.fs_rules.specs.Reading.{chosen_in}
 use Rattle.fs_rules.specs.Walk.{matching_from}
 use Rattle.fs_unicast.specs.Preference.{preferred}
 use Rattle.fs_rules.proofs.Takes.{length-filter}
-use Rattle.fs_rules.proofs.Apart.{RuleBefore, AllBefore, not_same, not_same_back, group_before, each_back}
+use Rattle.fs_rules.specs.Blocks.{RuleBefore, AllBefore}
+use Rattle.fs_rules.proofs.Apart.{not_same, not_same_back, group_before, each_back}
 
 -- no route of another rule beats
 no_rival : (k x : Kept) (rest : Bool) → same_rule x.route k.route ≡ false → ((is_valid x.validity && beats x.route k.route) || rest) ≡ rest
@@ -121,3 +122,32 @@ pub next_back : (view : Viewed) (n m : ℕ) (xs ys : List Kept) (found whole : O
 next_back view n m xs ys found whole h none e = ap (λ l. find (λ k. nat_le n k) (matching_from view (m + l) (routes_of ys))) (sym (length-routes xs))
     ∙ sym (find_back (λ k. nat_le n k) (matching_from view m (routes_of xs)) (matching_from view (m + length (routes_of xs)) (routes_of ys)) (sym (ap is_some h) ∙ none))
     ∙ ap (find (λ k. nat_le n k)) (sym (ap (matching_from view m) (routes-append xs ys) ∙ matching-append view m (routes_of xs) (routes_of ys))) ∙ e
+
+-- One of a number, in parts.
+some_map : {X Y : Type 0} (f : X → Y) (o : Option X) → is_some (option_map f o) ≡ is_some o
+some_map f None = refl
+some_map f (Some x) = refl
+
+get_front : {X : Type 0} (xs ys : List X) (n : ℕ) → is_some (slice_get xs n) ≡ true → slice_get (xs ++ ys) n ≡ slice_get xs n
+get_front [] ys n h = absurd (true≢false (sym h))
+get_front (x ∷ xs) ys zero h = refl
+get_front (x ∷ xs) ys (suc n) h = get_front xs ys n h
+
+get_back : {X : Type 0} (xs ys : List X) (n : ℕ) → is_some (slice_get xs n) ≡ false → (length xs ≤ n) × (slice_get (xs ++ ys) n ≡ slice_get ys (n - length xs))
+get_back [] ys n h = (omega arith, ap (slice_get ys) (let e : n ≡ n - 0 = omega arith in e))
+get_back (x ∷ xs) ys zero h = absurd (true≢false h)
+get_back (x ∷ xs) ys (suc n) h = let r : (length xs ≤ n) × (slice_get (xs ++ ys) n ≡ slice_get ys (n - length xs)) = get_back xs ys n h in
+    let l : length xs ≤ n = r.0 in (omega arith, r.1 ∙ ap (slice_get ys) (let e : n - length xs ≡ suc n - suc (length xs) = omega arith in e))
+
+module _ {X Y Z : Type 0} (f : X → Y) (g : Z → Y) (found : Option Z) (xs ys whole : List X) (left n : ℕ) (given : option_map g found ≡ option_map f (slice_get xs left)) (rest : slice_get (xs ++ ys) left ≡ slice_get whole n) where
+  there : is_some (slice_get xs left) ≡ is_some found
+  there = sym (some_map f (slice_get xs left)) ∙ sym (ap is_some given) ∙ some_map g found
+
+  pub found_front : is_some found ≡ true → option_map g found ≡ option_map f (slice_get whole n)
+  found_front some = given ∙ ap (option_map f) (sym (get_front xs ys left (there ∙ some)) ∙ rest)
+
+  pub found_behind : is_some found ≡ false → length xs ≤ left
+  found_behind none = (get_back xs ys left (there ∙ none)).0
+
+  pub found_back : (size : ℕ) → is_some found ≡ false → size ≡ length xs → slice_get ys (left - size) ≡ slice_get whole n
+  found_back size none e = ap (λ l. slice_get ys (left - l)) e ∙ sym (get_back xs ys left (there ∙ none)).1 ∙ rest

@@ -17,4 +17,6 @@ pub mod Grouping
 pub mod BothFamilies
 pub mod Telling
 pub mod Counting
-pub mod Marks
+pub mod Validities
+pub mod Cutting
+pub mod Begun

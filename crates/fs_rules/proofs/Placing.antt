@@ -47,7 +47,7 @@ related-append p [] ys = sym (zero-add (related_kept p ys))
 related-append p (x ∷ xs) ys = let e : related_kept p (xs ++ ys) ≡ related_kept p xs + related_kept p ys = related-append p xs ys in omega arith
 
 -- the element at a place doesn't depend on what stands for a missing one
-pub get_or_again : (xs : List Kept) (i : ℕ) (d : Kept) → i < length xs → get_or xs i d ≡ get_or xs i (get_or xs i d)
+pub get_or_again : {X : Type 0} (xs : List X) (i : ℕ) (d : X) → i < length xs → get_or xs i d ≡ get_or xs i (get_or xs i d)
 get_or_again xs i d h = get_or_default xs i d (get_or xs i d) h
 
 -- What stands at the place of a key, of routes in order.

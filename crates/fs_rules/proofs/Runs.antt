@@ -94,7 +94,7 @@ starts_first rule xs i sorted none inside behind = none ∙ first xs (sym (ap (�
 
 -- The routes of a rule.
 -- before the least key of a rule stands no route of it
-least_after : (o : Ordering) (n : ℕ) → ordering_then o (nat_cmp 0 n) ≡ Greater → o ≡ Greater
+pub least_after : (o : Ordering) (n : ℕ) → ordering_then o (nat_cmp 0 n) ≡ Greater → o ≡ Greater
 least_after Less n h = cc
 least_after Equal n h = absurd (grind (arith, nat_tests))
 least_after Greater n h = refl
@@ -187,25 +187,8 @@ none_beats k (x ∷ xs) h = no_rival k x (is_beaten xs k) h.0 ∙ none_beats k x
 pub run_ends : (k s : Kept) (rest : List Kept) → AllByRecursion (NotBefore k) (s ∷ rest) → AreSorted (routes_of (s ∷ rest)) → same_rule s.route k.route ≡ false → is_beaten (s ∷ rest) k ≡ false
 run_ends k s rest h sorted other = none_beats k (s ∷ rest) (other, each_weaker (λ t. key_cmp s.route.rule s.route.peer t.route ≡ Less) (λ t. same_rule t.route k.route ≡ false) (λ t less. later_rule k s t (rule_after k s h.0 other) less) rest (each_of_routes (λ t. key_cmp s.route.rule s.route.peer t ≡ Less) rest sorted.0))
 
--- one more of the rule
-pub run_hits : (k s : Kept) (rest : List Kept) → same_rule s.route k.route ≡ true → (is_valid s.validity && preferred (s.route.peer, s.route.path) (k.route.peer, k.route.path)) ≡ true → is_beaten (s ∷ rest) k ≡ true
-run_hits k s rest same better = at (is_valid s.validity) (same_rule s.route k.route) same better where
-  at : (a b : Bool) → b ≡ true → (a && preferred (s.route.peer, s.route.path) (k.route.peer, k.route.path)) ≡ true → ((a && (b && preferred (s.route.peer, s.route.path) (k.route.peer, k.route.path))) || is_beaten rest k) ≡ true
-  at true true e h = ap (λ c. c || is_beaten rest k) h
-  at false true e h = absurd (true≢false (sym h))
-  at true false e h = absurd (true≢false (sym e))
-  at false false e h = absurd (true≢false (sym e))
-
-pub run_misses : (k s : Kept) (rest : List Kept) → (is_valid s.validity && preferred (s.route.peer, s.route.path) (k.route.peer, k.route.path)) ≡ false → is_beaten (s ∷ rest) k ≡ is_beaten rest k
-run_misses k s rest better = at (is_valid s.validity) (same_rule s.route k.route) better where
-  at : (a b : Bool) → (a && preferred (s.route.peer, s.route.path) (k.route.peer, k.route.path)) ≡ false → ((a && (b && preferred (s.route.peer, s.route.path) (k.route.peer, k.route.path))) || is_beaten rest k) ≡ is_beaten rest k
-  at true true h = ap (λ c. c || is_beaten rest k) h
-  at true false h = refl
-  at false true h = refl
-  at false false h = refl
-
 -- a slice from a place on
-pub tail_is : (xs : List Kept) (n : ℕ) → take (length xs - n) (drop n xs) ≡ drop n xs
+pub tail_is : {X : Type 0} (xs : List X) (n : ℕ) → take (length xs - n) (drop n xs) ≡ drop n xs
 tail_is xs n = take_all (length xs - n) (drop n xs) (omega (arith, length-drop n xs))
 
 -- the loop over a run

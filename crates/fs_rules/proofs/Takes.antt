@@ -78,11 +78,11 @@ sorted_at p keeps (e ∷ es) h = at (is_eq (prefix_cmp p e.0)) (sorted_at p keep
   at false ih = parts_sorted e.0 (keys_of (keep_at p keeps es)) (each_at (λ q. prefix_cmp e.0 q ≡ Less) p keeps es (sorted_head prefix_cmp e.0 (keys_of es) h)) ih
 
 -- The entries that the map has after its calls.
-empty : (ks : List Kept) → (length ks == 0) ≡ true → ks ≡ []
+pub empty : (ks : List Kept) → (length ks == 0) ≡ true → ks ≡ []
 empty [] h = refl
 empty (k ∷ ks) h = absurd (let z : suc (length ks) ≡ 0 = eqb-true (suc (length ks)) 0 h in omega arith)
 
-not_empty : (n : ℕ) → (suc n == 0) ≡ false
+pub not_empty : (n : ℕ) → (suc n == 0) ≡ false
 not_empty n = at (suc n == 0) refl where
   at : (b : Bool) → (suc n == 0) ≡ b → (suc n == 0) ≡ false
   at true e = absurd (let z : suc n ≡ 0 = eqb-true (suc n) 0 e in omega arith)

@@ -26,21 +26,21 @@ use Rattle.fs_rules.proofs.Mending.{Same, each_key, none_found}
 pub told_as : {P Q : Type 0} (b : Bool) → (P → Q) → (Q → P) → (b ≡ false) ↔ P → (b ≡ false) ↔ Q
 told_as b f g t = ((λ e. f (t.0 e)), (λ q. t.1 (g q)))
 
-module _ (f : Kept → Kept) (P : Kept → Type 0) where
-  -- one route after another is validated anew
-  right_next : (xs : List Kept) (x : Kept) (a b : Bool) → (a ≡ false) ↔ AllByRecursion P xs → (b ≡ false) ↔ P x → ((a || b) ≡ false) ↔ AllByRecursion P (xs ++ x ∷ [])
+module _ {X : Type 0} (f : X → X) (P : X → Type 0) where
+  -- one after another is validated anew
+  right_next : (xs : List X) (x : X) (a b : Bool) → (a ≡ false) ↔ AllByRecursion P xs → (b ≡ false) ↔ P x → ((a || b) ≡ false) ↔ AllByRecursion P (xs ++ x ∷ [])
   right_next xs x a b s t = (
     (λ h. let both = or_false a b h in each_append P xs (x ∷ []) (s.0 both.0) (t.0 both.1, tt)),
     (λ r. or_none a b (t.1 (each_back P xs (x ∷ []) r).0) ∙ s.1 (each_front P xs (x ∷ []) r)),
   )
 
-  pub told_next : (xs ys : List Kept) (i : ℕ) (d x : Kept) (a b : Bool) → i < length xs → ys ≡ map f (take i xs) ++ drop i xs → x ≡ get_or ys i d
+  pub told_next : (xs ys : List X) (i : ℕ) (d x : X) (a b : Bool) → i < length xs → ys ≡ map f (take i xs) ++ drop i xs → x ≡ get_or ys i d
       → (a ≡ false) ↔ AllByRecursion P (take i xs) → (b ≡ false) ↔ P x → ((a || b) ≡ false) ↔ AllByRecursion P (take (i + 1) xs)
   told_next xs ys i d x a b inside e at s t =
       subst (λ ks. ((a || b) ≡ false) ↔ AllByRecursion P ks) (sym (take_more xs i d inside))
-      (right_next (take i xs) (get_or xs i d) a b s (subst (λ k. (b ≡ false) ↔ P k) (at ∙ ap (λ zs. get_or zs i d) e ∙ same xs i inside) t))
+      (right_next (take i xs) (get_or xs i d) a b s (subst (λ (k : X). (b ≡ false) ↔ P k) (at ∙ ap (λ zs. get_or zs i d) e ∙ same xs i inside) t))
     where
-      same : (zs : List Kept) (n : ℕ) → n < length zs → get_or (map f (take n zs) ++ drop n zs) n d ≡ get_or zs n d
+      same : (zs : List X) (n : ℕ) → n < length zs → get_or (map f (take n zs) ++ drop n zs) n d ≡ get_or zs n d
       same [] n h = absurd (omega arith)
       same (z ∷ zs) zero h = refl
       same (z ∷ zs) (suc n) h = same zs n (omega arith)

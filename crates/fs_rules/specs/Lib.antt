@@ -4,6 +4,8 @@ pub mod Table
 pub mod Walk
 pub mod Lent
 pub mod Group
+pub mod Blocks
+pub mod Parts
 pub mod Lists
 pub mod Groups
 pub mod Reading

@@ -146,8 +146,8 @@ pub record IsAdmitted (family : Family) (held : Held) (list : List FlowRoute) : 
   pub ordered : AreOrdered list
 
 -- each held flow route has the validity that it had
-abbrev pub MarksStay : Held → Held → Type 0
-MarksStay old new =
+abbrev pub ValiditiesStay : Held → Held → Type 0
+ValiditiesStay old new =
     AllByRecursion (λ r. validity new.unicast new.config r ≡ validity old.unicast old.config r) old.flows
 
 -- the same routes are admitted

@@ -52,11 +52,6 @@ impl Flows {
         self.v4.allocator()
     }
 
-    /// Whether there is a rule with a destination, so that unicast routes can matter.
-    pub(crate) fn has_destinations(&self) -> bool {
-        self.v4.has_destinations() || self.v6.has_destinations()
-    }
-
     /// Keeps the route in its place, instead of one of its key, and tells whether there was none. Where memory is
     /// refused nothing changes.
     pub(crate) fn put(&mut self, k: Kept) -> Result<bool, Memory>

@@ -1,290 +1,205 @@
-//! Flow routes with their validities, in the order of rules and then by peer.
+//! The flow routes of one destination, or those without one, in blocks.
 
-ghost use Rattle.std.specs.Prelude.{◌≡◌, ◌≤◌, ◌+◌, ◌<◌, ◌==◌, not, OnOk, OnErr, IfOk, map, filter, length, option_map, slice_get, [], position, drop};
-ghost use Rattle.std.specs.List.{list_any};
-ghost use Rattle.std.specs.Option.{option_copied};
-ghost use Rattle.fs_rules.specs.Table.{is_key, key_cmp, is_of_family, is_valid, same_rule};
-ghost use Rattle.fs_unicast.specs.Preference.{offered, preferred};
-ghost use Rattle.std.specs.Prelude.{◌∷◌, ◌&&◌, ◌↔◌, true, false};
-ghost use Rattle.fs_rules.specs.Group.{put_kept, place_in, rejudged, retested_to, is_beaten, is_before_rule, is_chosen, has_key, has_key_at, AreSorted, IsJudged, AreJudged, AreRightTo, routes_of, is_better};
+ghost use Rattle.std.specs.Prelude.{◌≡◌, ◌≤◌, ◌+◌, ◌<◌, ◌==◌, ◌↔◌, not, true, false, [], ◌∷◌, OnOk, OnErr, IfOk, map, filter, length, option_map, slice_get};
+ghost use Rattle.std.specs.List.{list_any, AllByRecursion};
+ghost use Rattle.fs_unicast.specs.Preference.{offered};
+ghost use Rattle.fs_rules.specs.Table.{is_key};
+ghost use Rattle.fs_rules.specs.Group.{put_kept, rejudged, retested_to, has_key, AreSorted, AreJudged, AreRightTo, routes_of};
+ghost use Rattle.fs_rules.specs.Blocks.{flat, AreCut, IsCut, block_of, keep_blocks, CanCut, cut_list};
 
+use crate::block::Block;
 use crate::kept::Kept;
-use fs_base::{Config, Family, Memory, Prefix, Steps};
+use fs_base::{Config, Memory, Prefix, Steps};
 use fs_nlri::Rule;
-use fs_order::compare;
-use fs_unicast::{Offer, Unicast};
-use fs_validate::{Basis, FlowRoute, Validity, basis_of, judged};
+use fs_unicast::Unicast;
+use fs_validate::{Basis, basis_of};
 use std::alloc::Global;
-use std::cmp::Ordering;
 use std::marker::Model;
 use std::sync::ledger::Ledger;
+use std::{mem, slice};
 
-/// How a rule and a peer are ordered to a route's.
-fn compare_key(rule: &Rule, peer: u16, route: &FlowRoute) -> Ordering
-    ensures { result ≡ key_cmp rule.now peer route.now }
+/// A group of as many routes is kept in blocks that are cut in two.
+const MANY: usize = 256;
+
+/// A block is cut in two when it has come to a multiple of as many routes.
+const FULL: usize = 512;
+
+/// The number of the block in which the rule has its place: the last that begins with it or with an earlier one, or
+/// else the first.
+fn block_of(blocks: &[Block], rule: &Rule) -> usize
+    requires cut { IsCut blocks.now }
+    ensures place { result ≡ block_of rule.now blocks.now }
+    ensures inside { 0 < length blocks.now → result < length blocks.now }
 {
-    compare(rule, &route.rule).then(peer.cmp(&route.peer))
+    match blocks {
+        [_, later @ ..] => later.partition_point(|block| block.begins_by(rule)),
+        [] => 0,
+    }
 }
 
-/// How many routes stand before the key.
-fn place_of(kept: &[Kept], rule: &Rule, peer: u16) -> usize
-    requires { AreSorted (routes_of kept.now) }
-    ensures place { result ≡ place_in rule.now peer kept.now }
-    ensures within { result ≤ length kept.now }
+/// Whether no block has a route.
+fn are_empty(blocks: &[Block]) -> bool
+    requires { IsCut blocks.now }
+    ensures { result ≡ (length (flat blocks.now) == 0) }
 {
-    kept.partition_point(|k| compare_key(rule, peer, k.route()).is_gt())
+    match blocks {
+        [] => true,
+        [block] => block.is_empty(),
+        _ => false,
+    }
 }
 
-/// Whether the route at the place, if there is one, has the key.
-fn is_at(kept: &[Kept], place: usize, rule: &Rule, peer: u16) -> bool
-    ensures { result ≡ has_key_at rule.now peer (slice_get kept.now place) }
+/// Cuts the block in two at the place. Where memory is refused nothing changes.
+fn cut_at(blocks: &mut Vec<Block>, number: usize, place: usize) -> Result<(), Memory>
+    requires number { number < length blocks.old.items }
+    requires place { CanCut number place blocks.old.items }
+    ensures ok { OnOk result (blocks.new.items ≡ cut_list number place blocks.old.items) }
+    ensures err { OnErr result (blocks.new.items ≡ blocks.old.items) }
 {
-    match kept.get(place) {
-        Some(k) => compare_key(rule, peer, k.route()).is_eq(),
-        None => false,
+    let empty = Block::new(*blocks.allocator());
+    blocks.insert(number + 1, empty)?;
+    match blocks[number].split_off(place) {
+        Ok(back) => {
+            blocks[number + 1] = back;
+            Ok(())
+        }
+        Err(memory) => {
+            blocks.remove(number + 1);
+            Err(memory)
+        }
+    }
+}
+
+/// Cuts the block in two between its rules, where it is full and has more than one. Where memory is refused it stays
+/// whole.
+fn cut(blocks: &mut Vec<Block>, number: usize)
+    requires number { number < length blocks.old.items }
+    requires cut { IsCut blocks.old.items }
+    requires sorted { AreSorted (routes_of (flat blocks.old.items)) }
+    ensures same { flat blocks.new.items ≡ flat blocks.old.items }
+    ensures cut { IsCut blocks.new.items }
+{
+    if blocks[number].len() % FULL != 0 {
+        return;
+    }
+    let place = blocks[number].border();
+    if place > 0 {
+        let _ = cut_at(blocks, number, place);
     }
 }
 
 /// Keeps the route in its place, instead of one of its key, and tells whether there was none. Where memory is refused
 /// nothing changes.
-fn put(kept: &mut Vec<Kept>, k: Kept) -> Result<bool, Memory>
-    requires { AreSorted (routes_of kept.old.items) }
-    ensures ok { OnOk result (kept.new.items ≡ put_kept k kept.old.items) }
-    ensures fresh { IfOk result (λ is_new. is_new ≡ not (has_key k.route.rule k.route.peer kept.old.items)) }
-    ensures err { OnErr result (kept.new.items ≡ kept.old.items) }
+fn put_among(blocks: &mut Vec<Block>, k: Kept) -> Result<bool, Memory>
+    requires cut { IsCut blocks.old.items }
+    requires sorted { AreSorted (routes_of (flat blocks.old.items)) }
+    ensures ok { OnOk result (flat blocks.new.items ≡ put_kept k (flat blocks.old.items)) }
+    ensures fresh { IfOk result (λ is_new. is_new ≡ not (has_key k.route.rule k.route.peer (flat blocks.old.items))) }
+    ensures err { OnErr result (flat blocks.new.items ≡ flat blocks.old.items) }
+    ensures cut { IsCut blocks.new.items }
 {
-    let route = k.route();
-    let place = place_of(kept, &route.rule, route.peer);
-    if is_at(kept, place, &route.rule, route.peer) {
-        kept[place] = k;
-        return Ok(false);
+    if blocks.is_empty() {
+        return begin(blocks, k);
     }
-    kept.insert(place, k)?;
+    let number = block_of(blocks, &k.route().rule);
+    let is_new = blocks[number].put(k)?;
+    cut(blocks, number);
+    Ok(is_new)
+}
+
+/// Keeps the route in a first block.
+fn begin(blocks: &mut Vec<Block>, k: Kept) -> Result<bool, Memory>
+    requires { blocks.old.items ≡ [] }
+    ensures ok { OnOk result (blocks.new.items ≡ (k ∷ []) ∷ []) }
+    ensures new { IfOk result (λ is_new. is_new ≡ true) }
+    ensures err { OnErr result (blocks.new.items ≡ []) }
+{
+    let mut block = Block::new(*blocks.allocator());
+    block.put(k)?;
+    blocks.push(block)?;
     Ok(true)
 }
 
-/// Makes room for the first route alone: most groups hold one.
-fn make_room(kept: &mut Vec<Kept>) -> Result<(), Memory>
-    ensures { kept.new.items ≡ kept.old.items }
-{
-    if kept.is_empty() {
-        kept.reserve_exact(1)?;
-    }
-    Ok(())
-}
-
 /// Takes the route of the key away, and tells whether there was one.
-fn take(kept: &mut Vec<Kept>, rule: &Rule, peer: u16) -> bool
-    requires { AreSorted (routes_of kept.old.items) }
-    ensures taken { kept.new.items ≡ filter (λ k. not (is_key rule.now peer k.route)) kept.old.items }
-    ensures held { result ≡ list_any (λ k. is_key rule.now peer k.route) kept.old.items }
+fn take_among(blocks: &mut Vec<Block>, rule: &Rule, peer: u16) -> bool
+    requires cut { IsCut blocks.old.items }
+    requires sorted { AreSorted (routes_of (flat blocks.old.items)) }
+    ensures taken { flat blocks.new.items ≡ filter (λ k. not (is_key rule.now peer k.route)) (flat blocks.old.items) }
+    ensures held { result ≡ list_any (λ k. is_key rule.now peer k.route) (flat blocks.old.items) }
+    ensures cut { IsCut blocks.new.items }
 {
-    let place = place_of(kept, rule, peer);
-    if !is_at(kept, place, rule, peer) {
+    if blocks.is_empty() {
         return false;
     }
-    kept.remove(place);
-    true
+    let number = block_of(blocks, rule);
+    let block = &mut blocks[number];
+    let held = block.take(rule, peer);
+    if block.is_empty() {
+        blocks.remove(number);
+    }
+    held
 }
 
-/// Takes away what the peer gave.
-fn forget(kept: &mut Vec<Kept>, peer: u16)
-    ensures { kept.new.items ≡ filter (λ k. not (k.route.peer == peer)) kept.old.items }
+/// Takes out of each block what the peer gave.
+fn forget_each(blocks: &mut Vec<Block>, peer: u16)
+    ensures { blocks.new.items ≡ keep_blocks (λ k. not (k.route.peer == peer)) blocks.old.items }
 {
-    kept.retain(|k| k.peer() != peer);
+    blocks.retain_mut(|block| {
+        block.forget(peer);
+        !block.is_empty()
+    });
 }
 
-/// Validates a route anew whose destination has this basis, and tells whether its validity is another than before.
-fn retest(k: &mut Kept, config: &Config, basis: &Basis<'_>) -> bool
-    ensures retested { k.new ≡ rejudged config.now (option_map offered basis.now.best) basis.now.others k.old }
+/// Validates each route anew, all to the destination of this basis, and tells whether a validity is another than
+/// before.
+fn retest_each(blocks: &mut [Block], config: &Config, basis: &Basis<'_>) -> bool
+    ensures retested { blocks.new
+        ≡ map (map (rejudged config.now (option_map offered basis.now.best) basis.now.others)) blocks.old }
     ensures told { (result ≡ false)
-        ↔ IsJudged config.now (option_map offered basis.now.best) basis.now.others k.old }
-{
-    let before = k.validity();
-    let after = judged(config, k.route(), basis);
-    k.judge(after);
-    after != before
-}
-
-/// Validates each route anew, whose destination has this basis, and tells whether a validity is another than before.
-fn retest_each(kept: &mut [Kept], config: &Config, basis: &Basis<'_>) -> bool
-    ensures retested { kept.new
-        ≡ map (rejudged config.now (option_map offered basis.now.best) basis.now.others) kept.old }
-    ensures told { (result ≡ false)
-        ↔ AreJudged config.now (option_map offered basis.now.best) basis.now.others kept.old }
+        ↔ AllByRecursion (AreJudged config.now (option_map offered basis.now.best) basis.now.others) blocks.old }
 {
     let mut changed = false;
-    for k in kept.iter_mut() {
-        changed |= retest(k, config, basis);
+    for block in blocks.iter_mut() {
+        changed |= block.retest(config, basis);
     }
     changed
 }
 
-fn stands(validity: Validity) -> bool
-    ensures { result ≡ is_valid validity }
+/// A block as the only one of a list. Where memory is refused nothing changes.
+fn list_of(block: &mut Block) -> Result<Vec<Block>, Memory>
+    ensures ok { IfOk result (λ blocks. blocks.items ≡ block.old ∷ []) }
+    ensures err { OnErr result (block.new ≡ block.old) }
 {
-    validity == Validity::Valid
+    let alloc = block.allocator();
+    let mut blocks = Vec::new(alloc);
+    blocks.push(Block::new(alloc))?;
+    mem::swap(&mut blocks[0], block);
+    Ok(blocks)
 }
 
-fn is_same_rule(s: &Kept, k: &Kept) -> bool
-    ensures { result ≡ same_rule s.now.route k.now.route }
-{
-    compare(&s.route().rule, &k.route().rule).is_eq()
-}
-
-/// Whether `s` is valid and preferred to `k`.
-fn is_better(s: &Kept, k: &Kept) -> bool
-    ensures { result ≡ is_better s.now k.now }
-{
-    stands(s.validity()) && seen(s.route()).is_preferred(&seen(k.route()))
-}
-
-fn seen(route: &FlowRoute) -> Offer<'_>
-    ensures { offered result ≡ (route.now.peer, route.now.path) }
-{
-    Offer {
-        peer: route.peer,
-        path: &route.path,
-    }
-}
-
-/// Whether the route at the place, if there is one, stands before the rule.
-fn is_before(kept: &[Kept], place: usize, rule: &Rule) -> bool
-    ensures { result ≡ is_before_rule rule.now (slice_get kept.now place) }
-{
-    match kept.get(place) {
-        Some(k) => compare_key(rule, 0, k.route()).is_gt(),
-        None => false,
-    }
-}
-
-/// Whether the routes before the place, at which there is one, are those that stand before the rule.
-fn is_start(kept: &[Kept], place: usize, rule: &Rule) -> bool
-    requires { AreSorted (routes_of kept.now) }
-    ensures start { result ≡ true → place ≡ place_in rule.now 0 kept.now }
-    ensures within { result ≡ true → place ≤ length kept.now }
-{
-    if kept.len() <= place || is_before(kept, place, rule) {
-        return false;
-    }
-    if place == 0 {
-        return true;
-    }
-    is_before(kept, place - 1, rule)
-}
-
-/// How many routes stand before those of the rule: mostly as many as before the place, which is tried first.
-fn start_of(kept: &[Kept], place: usize, rule: &Rule) -> usize
-    requires { AreSorted (routes_of kept.now) }
-    ensures start { result ≡ place_in rule.now 0 kept.now }
-    ensures within { result ≤ length kept.now }
-{
-    if is_start(kept, place, rule) {
-        place
-    } else {
-        place_of(kept, rule, 0)
-    }
-}
-
-/// Whether a valid route of the same rule is preferred. The routes of a rule stand next to each other, mostly from
-/// the place on.
-fn is_beaten(kept: &[Kept], place: usize, k: &Kept) -> bool
-    requires { AreSorted (routes_of kept.now) }
-    ensures { result ≡ is_beaten kept.now k.now }
-{
-    let start = start_of(kept, place, &k.route().rule);
-    for s in &kept[start..] {
-        if !is_same_rule(s, k) {
-            return false;
-        }
-        if is_better(s, k) {
-            return true;
-        }
-    }
-    false
-}
-
-/// Whether a valid route of the same rule stands at the place that is preferred.
-fn beats_at(kept: &[Kept], place: usize, k: &Kept) -> bool
-    ensures { result ≡ true → is_beaten kept.now k.now ≡ true }
-{
-    match kept.get(place) {
-        Some(s) => is_same_rule(s, k) && is_better(s, k),
-        None => false,
-    }
-}
-
-/// The place of the most preferred valid route among those from the place on that stand next to each other with the
-/// same rule.
-fn leader_of(kept: &[Kept], place: usize) -> usize
-    requires { place < length kept.now }
-{
-    let mut leader = place;
-    for next in place..kept.len() {
-        if !is_same_rule(&kept[next], &kept[leader]) {
-            return leader;
-        }
-        if is_better(&kept[next], &kept[leader]) {
-            leader = next;
-        }
-    }
-    leader
-}
-
-/// Whether a valid route of the same rule is preferred to the one at the place. The rival, which is tried first, is
-/// the most preferred route of the run that was asked last: so a run is gone through at most three times, however
-/// many of its routes are asked.
-fn has_rival(kept: &[Kept], place: usize, k: &Kept, rival: &mut usize) -> bool
-    requires sorted { AreSorted (routes_of kept.now) }
-    requires inside { place < length kept.now }
-    ensures { result ≡ is_beaten kept.now k.now }
-{
-    if beats_at(kept, *rival, k) {
-        return true;
-    }
-    if is_beaten(kept, place, k) {
-        *rival = leader_of(kept, place);
-        return true;
-    }
-    *rival = place;
-    false
-}
-
-/// Whether the route at the place is that of an admitted rule of the family. The routes are asked in their order, with
-/// one rival for all, which is 0 at first.
-pub(crate) fn is_chosen(
-    family: Family,
-    kept: &[Kept],
-    place: usize,
-    k: &Kept,
-    rival: &mut usize,
-) -> bool
-    requires sorted { AreSorted (routes_of kept.now) }
-    requires inside { place < length kept.now }
-    ensures { result ≡ is_chosen family kept.now k.now }
-{
-    is_of_family(family, k.route()) && stands(k.validity()) && !has_rival(kept, place, k, rival)
-}
-
-pub(crate) fn is_of_family(family: Family, route: &FlowRoute) -> bool
-    ensures { result ≡ is_of_family family route.now }
-{
-    route.rule.family() == family
-}
-
-/// The flow routes of one destination, or those without one, in the order of rules and then by peer.
+/// The flow routes of one destination, or those without one, in the order of rules and then by peer. A few are kept
+/// in one block, as those of most groups are, and many in blocks that are cut only between rules.
 #[derive(Drop)]
 pub(crate) struct Group {
-    items: Vec<Kept>,
+    blocks: Blocks,
+}
+
+#[derive(Drop)]
+enum Blocks {
+    One(Block),
+    Many(Vec<Block>),
 }
 
 impl Model for Group {
     ghost use Rattle.std.specs.Prelude.{List};
     ghost use Rattle.fs_rules.specs.Kept.{Kept};
+    ghost use Rattle.fs_rules.specs.Parts.{routes_in, AreWell};
 
     ghost Value = { List Kept };
 
-    ghost view = { λ a. a.items.items };
+    ghost view = { λ a. routes_in a.blocks };
+
+    ghost invariant = { λ a. AreWell a.blocks };
 }
 
 impl Group {
@@ -292,24 +207,48 @@ impl Group {
         ensures { result ≡ [] }
     {
         Group {
-            items: Vec::new(alloc),
+            blocks: Blocks::One(Block::new(alloc)),
         }
     }
 
     pub(crate) fn allocator(&self) -> Global {
-        *self.items.allocator()
+        match &self.blocks {
+            Blocks::One(block) => block.allocator(),
+            Blocks::Many(blocks) => *blocks.allocator(),
+        }
     }
 
-    pub(crate) fn as_slice(&self) -> &[Kept]
-        ensures { result.now ≡ self.now }
+    /// The routes in blocks, one behind the other.
+    pub(crate) fn blocks(&self) -> &[Block]
+        ensures routes { flat result.now ≡ self.now }
+        ensures cut { AreCut result.now }
     {
-        self.items.as_slice()
+        match &self.blocks {
+            Blocks::One(block) => slice::from_ref(block),
+            Blocks::Many(blocks) => blocks.as_slice(),
+        }
     }
 
     pub(crate) fn is_empty(&self) -> bool
         ensures { result ≡ (length self.now == 0) }
     {
-        self.items.is_empty()
+        match &self.blocks {
+            Blocks::One(block) => block.is_empty(),
+            Blocks::Many(blocks) => are_empty(blocks),
+        }
+    }
+
+    /// Keeps many routes in a list of blocks.
+    fn widen(&mut self) -> Result<(), Memory>
+        ensures { self.new ≡ self.old }
+    {
+        if let Blocks::One(block) = &mut self.blocks {
+            if block.len() >= MANY {
+                let blocks = list_of(block)?;
+                self.blocks = Blocks::Many(blocks);
+            }
+        }
+        Ok(())
     }
 
     /// Keeps the route in its place, instead of one of its key, and tells whether there was none. Where memory is
@@ -320,8 +259,11 @@ impl Group {
         ensures fresh { IfOk result (λ is_new. is_new ≡ not (has_key k.route.rule k.route.peer self.old)) }
         ensures err { OnErr result (self.new ≡ self.old) }
     {
-        make_room(&mut self.items)?;
-        put(&mut self.items, k)
+        self.widen()?;
+        match &mut self.blocks {
+            Blocks::One(block) => block.put(k),
+            Blocks::Many(blocks) => put_among(blocks, k),
+        }
     }
 
     /// Takes the route of the key away, and tells whether there was one.
@@ -330,14 +272,20 @@ impl Group {
         ensures taken { self.new ≡ filter (λ k. not (is_key rule.now peer k.route)) self.old }
         ensures held { result ≡ list_any (λ k. is_key rule.now peer k.route) self.old }
     {
-        take(&mut self.items, rule, peer)
+        match &mut self.blocks {
+            Blocks::One(block) => block.take(rule, peer),
+            Blocks::Many(blocks) => take_among(blocks, rule, peer),
+        }
     }
 
     /// Takes away what the peer gave.
     pub(crate) fn forget(&mut self, peer: u16)
         ensures { self.new ≡ filter (λ k. not (k.route.peer == peer)) self.old }
     {
-        forget(&mut self.items, peer);
+        match &mut self.blocks {
+            Blocks::One(block) => block.forget(peer),
+            Blocks::Many(blocks) => forget_each(blocks, peer),
+        }
     }
 
     /// Validates each route anew, all to the destination, and tells whether a validity is another than before. The
@@ -354,10 +302,24 @@ impl Group {
         ensures later { steps.old ≤ steps.new }
         ensures steps { steps.new ≤ steps.old + length self.old }
     {
-        if self.items.is_empty() {
+        if self.is_empty() {
             return false;
         }
         let basis = basis_of(unicast, config, destination, steps);
-        retest_each(&mut self.items, config, &basis)
+        self.rejudge(config, &basis)
+    }
+
+    /// Validates each route anew, all to the destination of this basis, and tells whether a validity is another than
+    /// before.
+    fn rejudge(&mut self, config: &Config, basis: &Basis<'_>) -> bool
+        ensures retested { self.new
+            ≡ map (rejudged config.now (option_map offered basis.now.best) basis.now.others) self.old }
+        ensures told { (result ≡ false)
+            ↔ AreJudged config.now (option_map offered basis.now.best) basis.now.others self.old }
+    {
+        match &mut self.blocks {
+            Blocks::One(block) => block.retest(config, basis),
+            Blocks::Many(blocks) => retest_each(blocks, config, basis),
+        }
     }
 }

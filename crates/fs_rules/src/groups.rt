@@ -64,11 +64,6 @@ impl Groups {
         self.rest.allocator()
     }
 
-    /// Whether there is a rule with a destination.
-    pub(crate) fn has_destinations(&self) -> bool {
-        !self.groups.is_empty()
-    }
-
     /// Keeps the route in its place, instead of one of its key, and tells whether there was none. Where memory is
     /// refused nothing changes.
     pub(crate) fn put(&mut self, k: Kept) -> Result<bool, Memory>

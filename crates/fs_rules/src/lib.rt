@@ -1,11 +1,14 @@
 //! The table of all held routes: flow routes with their validity kept up to date, and the admitted rules in order.
 #![tactic(auto)]
 
+mod block;
+mod blocks;
 mod counts;
 mod flows;
 mod group;
 mod groups;
 mod kept;
+mod latest;
 mod lent;
 mod lists;
 mod reading;

@@ -7,7 +7,7 @@ ghost use Rattle.fs_rules.specs.Lent.{listed, shown_admitted, shown_held, all_ad
 ghost use Rattle.fs_rules.specs.Lists.{judgement, routes_chosen, listing, listings, judgements, nth_listing};
 ghost use Rattle.fs_rules.specs.Walk.{matching_from};
 
-use crate::group::is_chosen;
+use crate::block::is_chosen;
 use crate::kept::Kept;
 use crate::lent::{Admitted, HeldFlow};
 use fs_base::{Family, Memory};
@@ -20,7 +20,7 @@ fn lend(k: &Kept) -> Admitted<'_>
     Admitted {
         rule: &route.rule,
         peer: route.peer,
-        actions: &route.actions,
+        actions: route.actions.actions(),
     }
 }
 

@@ -8,9 +8,9 @@ ghost use Rattle.fs_rules.specs.Lists.{judgement, listing};
 ghost use Rattle.fs_rules.specs.Reading.{chosen_in, listings_in, judgements_in, nth_listing_in, nth_judgement_in};
 ghost use Rattle.fs_rules.specs.Walk.{next_match};
 
+use crate::blocks;
 use crate::group::Group;
 use crate::lent::{Admitted, HeldFlow};
-use crate::lists;
 use fs_base::{Family, Memory};
 use fs_packet::View;
 use fs_unicast::PrefixKey;
@@ -28,9 +28,9 @@ pub(crate) fn push_admitted<'a>(
     ensures { OnOk result (AddsRules (listings_in family groups.now.entries rest.now) list.old.items list.new.items) }
 {
     for (_, group) in groups {
-        lists::push_admitted(family, group.as_slice(), list)?;
+        blocks::push_admitted(family, group.blocks(), list)?;
     }
-    lists::push_admitted(family, rest.as_slice(), list)
+    blocks::push_admitted(family, rest.blocks(), list)
 }
 
 /// Adds the routes to the list.
@@ -42,9 +42,9 @@ pub(crate) fn push_held<'a>(
     ensures { OnOk result (AddsHeld (judgements_in groups.now.entries rest.now) list.old.items list.new.items) }
 {
     for (_, group) in groups {
-        lists::push_held(group.as_slice(), list)?;
+        blocks::push_held(group.blocks(), list)?;
     }
-    lists::push_held(rest.as_slice(), list)
+    blocks::push_held(rest.blocks(), list)
 }
 
 /// How many rules are admitted.
@@ -56,9 +56,9 @@ pub(crate) fn count(groups: &BTreeMap<PrefixKey, Group>, rest: &Group, family: F
 {
     let mut total = 0;
     for (_, group) in groups {
-        total += lists::count_admitted(family, group.as_slice());
+        total += blocks::count_admitted(family, group.blocks());
     }
-    total + lists::count_admitted(family, rest.as_slice())
+    total + blocks::count_admitted(family, rest.blocks())
 }
 
 /// The admitted rule of that number.
@@ -74,13 +74,13 @@ pub(crate) fn admitted_at<'a>(
 {
     let mut left = n;
     for (_, group) in groups {
-        let found = lists::admitted_at(family, group.as_slice(), left);
+        let found = blocks::admitted_at(family, group.blocks(), left);
         if found.is_some() {
             return found;
         }
-        left -= lists::count_admitted(family, group.as_slice());
+        left -= blocks::count_admitted(family, group.blocks());
     }
-    lists::admitted_at(family, rest.as_slice(), left)
+    blocks::admitted_at(family, rest.blocks(), left)
 }
 
 /// The route of that number.
@@ -93,13 +93,13 @@ pub(crate) fn held_at<'a>(
 {
     let mut left = n;
     for (_, group) in groups {
-        let found = lists::held_at(group.as_slice(), left);
+        let found = blocks::held_at(group.blocks(), left);
         if found.is_some() {
             return found;
         }
-        left -= group.as_slice().len();
+        left -= blocks::count_held(group.blocks());
     }
-    lists::held_at(rest.as_slice(), left)
+    blocks::held_at(rest.blocks(), left)
 }
 
 /// The least number from `n` on of an admitted rule that matches the packet.
@@ -117,11 +117,11 @@ pub(crate) fn next_match(
 {
     let mut number = 0;
     for (_, group) in groups {
-        let found = lists::next_match(family, group.as_slice(), view, n, number);
+        let found = blocks::next_match(family, group.blocks(), view, n, number);
         if found.is_some() {
             return found;
         }
-        number += lists::count_admitted(family, group.as_slice());
+        number += blocks::count_admitted(family, group.blocks());
     }
-    lists::next_match(family, rest.as_slice(), view, n, number)
+    blocks::next_match(family, rest.blocks(), view, n, number)
 }

@@ -6,7 +6,7 @@ ghost use Rattle.std.specs.List.{AllByRecursion};
 ghost use Rattle.std.specs.List.Sorted.{IsStrictlySortedBy};
 ghost use Rattle.std.specs.Map.{keys_of, remove_entry, lookup};
 ghost use Rattle.fs_unicast.specs.Unicast.{place_cmp, has_path};
-ghost use Rattle.fs_rules.specs.Table.{put_route, without_route, has_route, without_peer_unicast, without_peer_flows, related_count, related_sum, admitted, IsAdmitted, IsRuleOf, with_flow, with_path, without_path, without_peer, held_count, MarksStay, AdmitsSame};
+ghost use Rattle.fs_rules.specs.Table.{put_route, without_route, has_route, without_peer_unicast, without_peer_flows, related_count, related_sum, admitted, IsAdmitted, IsRuleOf, with_flow, with_path, without_path, without_peer, held_count, ValiditiesStay, AdmitsSame};
 ghost use Rattle.fs_rules.specs.Lent.{listed, shown_admitted, shown_held, held_flows, AreRising};
 ghost use Rattle.fs_rules.specs.Walk.{next_match};
 ghost use Rattle.fs_unicast.specs.Search.{held_by};
@@ -14,6 +14,7 @@ ghost use Rattle.fs_unicast.specs.Search.{held_by};
 use crate::counts::Counts;
 use crate::flows::Flows;
 use crate::kept::Kept;
+use crate::latest::Latest;
 use crate::lent::{Admitted, HeldFlow};
 use fs_actions::Actions;
 use fs_base::{Config, Family, Memory, Path, Prefix, Steps};
@@ -27,13 +28,15 @@ use std::marker::Model;
 use std::sync::ledger::Ledger;
 
 /// All routes that peers hold. A flow route is kept with its validity, which each call leaves as it is over all
-/// held unicast routes. How many routes each peer holds is counted as they come and go.
+/// held unicast routes. How many routes each peer holds is counted as they come and go. Flow routes that come one after
+/// the other share an equal path and equal actions.
 #[derive(Drop)]
 pub struct Table<'a> {
     config: &'a Config,
     unicast: Unicast,
     flows: Flows,
     counts: Counts,
+    latest: Latest,
 }
 
 impl<'a> Model for Table<'a> {
@@ -58,6 +61,7 @@ impl<'a> Table<'a> {
             unicast: Unicast::new(alloc),
             flows: Flows::new(alloc),
             counts: Counts::new(alloc),
+            latest: Latest::new(),
         }
     }
 
@@ -76,6 +80,8 @@ impl<'a> Table<'a> {
         ensures later { steps.old ≤ steps.new }
         ensures steps { steps.new ≤ steps.old + 1 }
     {
+        let alloc = self.flows.allocator();
+        let (path, actions) = self.latest.share(alloc, path, actions)?;
         let route = FlowRoute {
             peer,
             rule,
@@ -83,7 +89,7 @@ impl<'a> Table<'a> {
             actions,
         };
         let validity = valid(&self.unicast, self.config, &route, steps);
-        let k = Kept::new(self.flows.allocator(), route, validity)?;
+        let k = Kept::new(alloc, route, validity)?;
         self.counts.reserve(peer)?;
         let is_new = self.flows.put(k)?;
         self.counts.raise(peer, is_new);
@@ -120,17 +126,16 @@ impl<'a> Table<'a> {
     ) -> Result<bool, Memory>
         ensures ok { OnOk result (self.new ≡ with_path peer prefix path self.old) }
         ensures err { OnErr result (self.new ≡ self.old) }
-        ensures told { IfOk result (λ changed. (changed ≡ false) ↔ MarksStay self.old self.new) }
+        ensures told { IfOk result (λ changed. (changed ≡ false) ↔ ValiditiesStay self.old self.new) }
         ensures same { IfOk result (λ changed. changed ≡ false → AdmitsSame self.old self.new) }
         ensures later { steps.old ≤ steps.new }
         ensures steps { steps.new ≤ steps.old + related_count prefix self.old.flows }
     {
         let held = self.unicast.len();
-        if self.flows.has_destinations() && self.unicast.holds(peer, &prefix, &path) {
+        self.counts.reserve(peer)?;
+        if !self.unicast.put_telling(peer, prefix, path)? {
             return Ok(false);
         }
-        self.counts.reserve(peer)?;
-        self.unicast.put(peer, prefix, path)?;
         self.counts.raise(peer, held < self.unicast.len());
         Ok(self.flows.mend(&prefix, &self.unicast, self.config, steps))
     }
@@ -177,7 +182,7 @@ impl<'a> Table<'a> {
         steps: &mut Steps<L>,
     ) -> bool
         ensures removed { self.new ≡ without_path peer prefix.now self.old }
-        ensures told { (result ≡ false) ↔ MarksStay self.old self.new }
+        ensures told { (result ≡ false) ↔ ValiditiesStay self.old self.new }
         ensures same { result ≡ false → AdmitsSame self.old self.new }
         ensures later { steps.old ≤ steps.new }
         ensures steps { steps.new ≤ steps.old + related_count prefix.now self.old.flows }
@@ -195,7 +200,7 @@ impl<'a> Table<'a> {
     ) -> Option<bool>
         ensures removed { self.new ≡ without_path peer prefix.now self.old }
         ensures held { is_some result ≡ has_path peer prefix.now self.old.unicast }
-        ensures told { (unwrap_or result false ≡ false) ↔ MarksStay self.old self.new }
+        ensures told { (unwrap_or result false ≡ false) ↔ ValiditiesStay self.old self.new }
         ensures later { steps.old ≤ steps.new }
         ensures steps { steps.new ≤ steps.old + related_count prefix.now self.old.flows }
     {
@@ -237,7 +242,7 @@ impl<'a> Table<'a> {
     /// withdrawals changed the validity of a flow route.
     fn lose_unicast<L: Ledger>(&mut self, peer: u16, steps: &mut Steps<L>) -> bool
         ensures removed { self.new ≡ record self.old { unicast = without_peer_unicast peer self.old.unicast } }
-        ensures told { result ≡ false → MarksStay self.old self.new }
+        ensures told { result ≡ false → ValiditiesStay self.old self.new }
         ensures later { steps.old ≤ steps.new }
         ensures steps { steps.new ≤ steps.old + related_sum peer self.old.unicast self.old.flows }
     {

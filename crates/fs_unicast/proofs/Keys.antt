@@ -1,11 +1,9 @@
 -- The last address of a prefix and its length tell the prefix.
-use Rattle.std.proofs.Common.{ℕ, ◌≡◌, ◌+◌, ◌-◌, ◌*◌, ◌/◌, ◌%◌, ◌^◌, ◌<◌, ◌≤◌, refl, sym, ap, ap₂, ◌∙◌, min, arith}
+use Rattle.std.proofs.Common.{ℕ, ◌≡◌, ◌+◌, ◌-◌, ◌*◌, ◌/◌, ◌%◌, ◌^◌, ◌<◌, ◌≤◌, refl, sym, ap, ◌∙◌, min, arith}
 use Rattle.std.proofs.lemmas.Nat.{pow_pos, mod_below, shr_split}
-use Rattle.std.specs.Ordering.{nat_cmp, ordering_then}
-use Rattle.fs_base.specs.declared.prefix.Family.{Family}
 use Rattle.fs_base.specs.declared.prefix.Prefix.{Prefix}
-use Rattle.fs_base.specs.Bits.{width_of, afi_of, cleared}
-use Rattle.fs_base.specs.Prefix.{IsPrefixOf, prefix_of, prefix_cmp, last_address}
+use Rattle.fs_base.specs.Bits.{width_of, cleared}
+use Rattle.fs_base.specs.Prefix.{prefix_of, last_address}
 use Rattle.fs_base.proofs.Blocks.{IsBlock, block_of, block_meeting}
 use Rattle.fs_base.proofs.SamePrefix.{same_prefix}
 use Rattle.fs_unicast.specs.Key.{IsKey, joined, least}
@@ -44,14 +42,3 @@ key_is p = record {
   small = mod_below (last_address p) (2 ^ 64) (pow_pos 64);
   is_last = ap (λ k. last_address (prefix_of p.family k p.length)) (halves (last_address p)) ∙ ap last_address (key_again p) ∙ sym (halves (last_address p));
 }
-
-pub prefix_is : (f : Family) (last n : ℕ) (p : Prefix) → n ≤ width_of f → IsPrefixOf f last n p → p ≡ prefix_of f last n
-prefix_is f last n p h is = same_prefix p (prefix_of f last n) is.same_family
-    (is.first_bits ∙ ap (λ k. cleared (width_of f) k last) (sym (least h))) (is.same_length ∙ sym (least h))
-
--- keys are compared by what stands in them
-pub keys_compared : (f g : Family) (a b c d m n : ℕ) → IsKey f a b m → IsKey g c d n
-    → ordering_then (nat_cmp (afi_of f) (afi_of g)) (ordering_then (nat_cmp (last_address (prefix_of f (joined a b) m)) (last_address (prefix_of g (joined c d) n))) (nat_cmp n m))
-    ≡ prefix_cmp (prefix_of f (joined a b) m) (prefix_of g (joined c d) n)
-keys_compared f g a b c d m n h k = ap (λ o. ordering_then (nat_cmp (afi_of f) (afi_of g)) (ordering_then (nat_cmp (last_address (prefix_of f (joined a b) m)) (last_address (prefix_of g (joined c d) n))) o))
-    (ap₂ nat_cmp (sym (least k.short)) (sym (least h.short)))

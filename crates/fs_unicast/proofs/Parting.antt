@@ -1,5 +1,5 @@
 -- Turns part the routes of other neighbouring ASes, after each change.
-use Rattle.std.proofs.Common.{ℕ, ◌≡◌, refl, sym, ap, subst, ◌∙◌, Bool, true, false, true≢false, ◌||◌, List, [], ◌∷◌, find, Option, Some, None, Ordering, Less, Equal, Greater, is_eq, is_le, is_lt, cond, option_map, arith}
+use Rattle.std.proofs.Common.{ℕ, suc, zero, length, ◌≡◌, refl, sym, ap, subst, ◌∙◌, Bool, true, false, true≢false, ◌||◌, List, [], ◌∷◌, find, Option, Some, None, Ordering, Less, Equal, Greater, is_eq, is_le, is_lt, cond, option_map, arith}
 use Rattle.std.specs.List.{AllByRecursion, list_any}
 use Rattle.std.specs.List.Sorted.{IsStrictlySortedBy}
 use Rattle.std.specs.Ordering.{match_ordering}
@@ -240,3 +240,31 @@ put_again held z path None e there is = absurd (true≢false (sym there))
 put_again held z path (Some g) e there is = same_held held z path g e (is_equal (place_cmp z g.0) there) (one g.1 path is) where
   one : (a b : Path) → Some a ≡ Some b → a ≡ b
   one a b k = cc
+
+-- a path whose insertion changes nothing is the one that the place has
+pub put_back : (held : List Route) (z : Place) (path : Path) → insert_entry place_cmp held z path ≡ held
+    → (stands_at z (find (λ r. is_le (place_cmp z r.0)) held) ≡ true)
+    × (option_map (λ r. r.1) (find (λ r. is_le (place_cmp z r.0)) held) ≡ Some path)
+put_back [] z path same = absurd (longer (ap length same)) where
+  longer : suc zero ≡ zero → ⊥
+  longer e = omega (arith, e)
+put_back (r ∷ held) z path same = at (place_cmp z r.0) refl same (put_back held z path) where
+  longer : (n : ℕ) → suc (suc n) ≡ suc n → ⊥
+  longer n e = omega (arith, e)
+
+  rest_is : (a b : List Route) → (r ∷ a) ≡ (r ∷ b) → a ≡ b
+  rest_is a b k = cc
+
+  first_is : (a b : Route) → (a ∷ held) ≡ (b ∷ held) → a ≡ b
+  first_is a b k = cc
+
+  at : (o : Ordering) → place_cmp z r.0 ≡ o
+      → match_ordering o ((z, path) ∷ r ∷ held) ((r.0, path) ∷ held) (r ∷ insert_entry place_cmp held z path) ≡ r ∷ held
+      → (insert_entry place_cmp held z path ≡ held
+      → (stands_at z (find (λ r. is_le (place_cmp z r.0)) held) ≡ true)
+      × (option_map (λ r. r.1) (find (λ r. is_le (place_cmp z r.0)) held) ≡ Some path))
+      → (stands_at z (cond (is_le o) (Some r) (find (λ r. is_le (place_cmp z r.0)) held)) ≡ true)
+      × (option_map (λ r. r.1) (cond (is_le o) (Some r) (find (λ r. is_le (place_cmp z r.0)) held)) ≡ Some path)
+  at Less l k ih = absurd (longer (length held) (ap length k))
+  at Equal l k ih = (ap is_eq l, ap Some (sym (ap (λ (s : Route). s.1) (first_is (r.0, path) r k))))
+  at Greater l k ih = ih (rest_is (insert_entry place_cmp held z path) held k)

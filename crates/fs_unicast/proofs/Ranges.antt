@@ -1,5 +1,5 @@
 -- The ranges of places that a look-up goes over.
-use Rattle.std.proofs.Common.{ℕ, ◌≡◌, ◌<◌, ◌≤◌, ◌^◌, refl, sym, ap, subst, ◌∙◌, Bool, true, false, true≢false, cond, not, ◌&&◌, ◌||◌, nat_le, ◌==◌, find, option_map, List, [], ◌∷◌, Some, None, filter, map, fold, Option, Ordering, Less, Equal, Greater, is_eq, is_le, is_lt, nat_cmp, arith}
+use Rattle.std.proofs.Common.{ℕ, ◌≡◌, ◌≤◌, refl, sym, ap, subst, ◌∙◌, Bool, true, false, true≢false, cond, not, ◌&&◌, ◌||◌, nat_le, ◌==◌, find, option_map, List, [], ◌∷◌, Some, None, filter, map, Option, Ordering, Less, Equal, Greater, is_eq, is_le, is_lt, nat_cmp, arith}
 use Rattle.std.specs.List.{AllByRecursion, list_any, list_all}
 use Rattle.std.specs.List.Sorted.{IsStrictlySortedBy}
 use Rattle.std.specs.Map.{keys_of}
@@ -15,13 +15,12 @@ use Rattle.fs_base.proofs.Lists.{filter_on, filter_none, filter_first, filter_em
 use Rattle.fs_base.proofs.Nesting.{alike, alike_covers, covers_nested, covers_same_length}
 use Rattle.fs_base.specs.Search.{IsFirst, IsLongest}
 use Rattle.std.proofs.lemmas.Map.Keys.{sorted_head, sorted_tail}
-use Rattle.fs_base.specs.declared.path.Path.{Path}
 use Rattle.fs_unicast.specs.declared.unicast.Place.{Place}
 use Rattle.fs_unicast.specs.Unicast.{Route, place_cmp}
-use Rattle.fs_unicast.specs.Search.{is_same_prefix, is_strictly_under, is_other, others_under, best_at, best_match_of, is_longest, is_from, held_by, candidate, start_of}
+use Rattle.fs_unicast.specs.Search.{IsFront, is_same_prefix, is_strictly_under, is_other, others_under, best_at, best_match_of, is_longest, is_from, held_by, candidate, start_of}
 use Rattle.fs_unicast.specs.Turns.{is_within}
 use Rattle.fs_unicast.proofs.PlaceOrder.{below_not_upto}
-use Rattle.fs_unicast.specs.Preference.{best_of, better}
+use Rattle.fs_unicast.specs.Preference.{best_of}
 
 abbrev pub place : Prefix → ℕ → Place
 place p n = record { prefix = p; peer = n }
@@ -52,11 +51,6 @@ pub best_starts : (p : Prefix) (held found : List Route) → found ≡ entries_b
 best_starts p held found e = ap (λ rs. best_of (map candidate rs)) (ap (filter (λ r. is_same_prefix p r.0.prefix)) e
     ∙ filter_within (λ r. is_same_prefix p r.0.prefix) (λ r. range_contains place_cmp (Included (place p 0)) Unbounded r.0) (λ r. from_same (prefix_cmp p r.0.prefix) r.0.peer) held)
 
--- where a route's prefix is another, so is that of each later one
-abbrev pub IsFront : Prefix → List Route → Type 0
-IsFront p [] = Unit {0}
-IsFront p (r ∷ rs) = (is_same_prefix p r.0.prefix ≡ false → filter (λ s. is_same_prefix p s.0.prefix) rs ≡ []) × IsFront p rs
-
 later_prefix : (p : Prefix) (r s : Place) → range_contains place_cmp (Included (place p 0)) Unbounded r ≡ true → is_same_prefix p r.prefix ≡ false → place_cmp r s ≡ Less → is_same_prefix p s.prefix ≡ false
 later_prefix p r s h k l = ap is_eq (behind (prefix_cmp r.prefix s.prefix) refl l) where
   less : (o : Ordering) → (is_le (ordering_then o (nat_cmp 0 r.peer)) && true) ≡ true → is_eq o ≡ false → o ≡ Less
@@ -86,15 +80,6 @@ front_range p (r ∷ held) sorted = at (range_contains place_cmp (Included (plac
   )
   at false e ih = ih
 
--- the prefix ends at a route with another one
-pub best_ends : (p : Prefix) (best : Option (ℕ × Path)) (r : Route) (rs : List Route) → IsFront p (r ∷ rs) → is_same_prefix p r.0.prefix ≡ false → best ≡ fold better best (map candidate (filter (λ s. is_same_prefix p s.0.prefix) (r ∷ rs)))
-best_ends p best r rs front other = ap (λ ss. fold better best (map candidate ss)) (sym (ap (λ b. cond b (r ∷ filter (λ s. is_same_prefix p s.0.prefix) rs) (filter (λ s. is_same_prefix p s.0.prefix) rs)) other ∙ front.0 other))
-
--- and goes on at one with this prefix
-pub best_goes_on : (p : Prefix) (best : Option (ℕ × Path)) (r : Route) (rs : List Route) → is_same_prefix p r.0.prefix ≡ true
-    → fold better (better best (candidate r)) (map candidate (filter (λ s. is_same_prefix p s.0.prefix) rs)) ≡ fold better best (map candidate (filter (λ s. is_same_prefix p s.0.prefix) (r ∷ rs)))
-best_goes_on p best r rs same = ap (λ ss. fold better best (map candidate ss)) (sym (ap (λ b. cond b (r ∷ filter (λ s. is_same_prefix p s.0.prefix) rs) (filter (λ s. is_same_prefix p s.0.prefix) rs)) same))
-
 under_tests : (a o : Ordering) (n : ℕ) → (is_le (ordering_then a (nat_cmp 0 n)) && not (is_le (ordering_then o (nat_cmp 0 n)))) ≡ ((is_le a && is_le (ordering_reverse o)) && not (is_eq o))
 under_tests Less Less n = refl
 under_tests Less Equal n = grind (arith, nat_tests)
@@ -120,7 +105,7 @@ others_in_range d first local_as asn held law = any_on (λ r. is_within (place f
       within_under : (q : Place) → is_within (place first 0) (place d 0) q ≡ is_strictly_under d q.prefix
       within_under q = ap (λ b. is_le (place_cmp (place first 0) q) && b) (below_not_upto q (place d 0)) ∙ under_range d first q law
 
-from_test : (o : Ordering) (n : ℕ) → (is_le (ordering_then o (nat_cmp 0 n)) && true) ≡ is_le o
+pub from_test : (o : Ordering) (n : ℕ) → (is_le (ordering_then o (nat_cmp 0 n)) && true) ≡ is_le o
 from_test Less n = refl
 from_test Equal n = grind (arith, nat_tests)
 from_test Greater n = refl

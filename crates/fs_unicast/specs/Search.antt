@@ -1,5 +1,5 @@
 -- The best route at a prefix, the best match of a prefix, and the routes under it, over one list of held routes.
-use Rattle.std.specs.Prelude.{ℕ, Bool, not, ◌&&◌, ◌||◌, ◌==◌, true, Option, Some, None, List, filter, map, nat_le, find, option_map}
+use Rattle.std.specs.Prelude.{ℕ, ◌≡◌, Bool, not, ◌&&◌, ◌||◌, ◌==◌, true, false, Option, Some, None, List, [], ◌∷◌, filter, map, nat_le, find, option_map}
 use Rattle.std.specs.List.{list_any, list_all}
 use Rattle.std.specs.Ordering.{is_eq, is_le}
 use Rattle.fs_base.specs.Prefix.{covers, prefix_cmp}
@@ -30,6 +30,15 @@ is_longest held d r =
 -- the most preferred route at the longest prefix that covers d and has one
 abbrev pub best_match_of : List Route → Prefix → Option (ℕ × Path)
 best_match_of held d = best_of (map candidate (filter (is_longest held d) held))
+
+-- where a route's prefix is another, so is that of each later one
+abbrev pub IsFront : Prefix → List Route → Type 0
+IsFront p [] = Unit {0}
+IsFront p (r ∷ rs) = (is_same_prefix p r.0.prefix ≡ false → filter (λ s. is_same_prefix p s.0.prefix) rs ≡ []) × IsFront p rs
+
+-- the neighbouring AS of a route, if there is one
+abbrev pub neighbour_of : ℕ → Option (ℕ × Path) → Option ℕ
+neighbour_of local_as route = option_map (λ r. neighbour_as local_as r.1.segments) route
 
 -- whether the path has another neighbouring AS than this; without one, always
 abbrev pub is_other : ℕ → Option ℕ → Path → Bool

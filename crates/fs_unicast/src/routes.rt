@@ -1,12 +1,13 @@
 //! The routes in the order of their places, and the turns among them.
 
-ghost use Rattle.std.specs.Prelude.{◌≡◌, [], OnOk, OnErr, IsTrue, is_some, ◌&&◌};
+ghost use Rattle.std.specs.Prelude.{◌≡◌, ◌↔◌, [], false, IfOk, OnOk, OnErr, is_some, ◌&&◌};
 ghost use Rattle.std.specs.BTreeMap.{insert_entry, is_at};
 ghost use Rattle.std.specs.List.{list_any};
 ghost use Rattle.std.specs.Map.{remove_entry, lookup};
 ghost use Rattle.fs_unicast.specs.Search.{is_other};
 ghost use Rattle.fs_unicast.specs.Unicast.{place_cmp};
 ghost use Rattle.fs_unicast.specs.Turns.{is_within};
+ghost use Rattle.fs_unicast.specs.declared.routes.Change.TheVariants.{Same};
 
 use crate::neighbour::neighbour;
 use crate::shared::{SharedPath, has_path, share_beside};
@@ -40,6 +41,17 @@ impl Model for Routes {
     ghost invariant = { λ a. IsParted a.turns.keys a.paths.entries };
 }
 
+/// What a path that is kept changes.
+#[derive(Clone, Copy, Drop)]
+enum Change {
+    /// Nothing: the path was there.
+    Same,
+    /// The route, and no turn is idle for that.
+    Tidy,
+    /// The route, and a turn beside it may be idle now.
+    Untidy,
+}
+
 impl Routes {
     /// No routes. Takes no memory.
     pub fn new(alloc: Global) -> Routes
@@ -59,16 +71,19 @@ impl Routes {
         &self.paths
     }
 
-    /// Keeps the path at the place, instead of one that is there. Where memory is refused nothing changes.
-    pub fn put(&mut self, place: Place, path: Path) -> Result<(), Memory>
+    /// Keeps the path at the place, instead of one that is there, and tells whether that changes anything: not where
+    /// this very path is there. Where memory is refused nothing changes.
+    pub fn put(&mut self, place: Place, path: Path) -> Result<bool, Memory>
         ensures ok { OnOk result (self.new ≡ insert_entry place_cmp self.old place path) }
+        ensures told { IfOk result (λ changed. (changed ≡ false) ↔ self.new ≡ self.old) }
         ensures err { OnErr result (self.new ≡ self.old) }
     {
         match self.keep(place, path) {
-            Ok(false) => Ok(()),
-            Ok(true) => {
+            Ok(Change::Same) => Ok(false),
+            Ok(Change::Tidy) => Ok(true),
+            Ok(Change::Untidy) => {
                 turns::tidy(&self.paths, &mut self.turns, &place);
-                Ok(())
+                Ok(true)
             }
             Err(refused) => {
                 turns::tidy(&self.paths, &mut self.turns, &place);
@@ -77,19 +92,22 @@ impl Routes {
         }
     }
 
-    /// Keeps the path at the place, with turns beside it, and tells whether one of those that stood there may be idle
-    /// now. Turns that were put before memory is refused stay.
-    fn keep(&mut self, place: Place, path: Path) -> Result<bool, Memory>
+    /// Keeps the path at the place, with turns beside it. Turns that were put before memory is refused stay.
+    fn keep(&mut self, place: Place, path: Path) -> Result<Change, Memory>
         ensures ok { OnOk result (self.new ≡ insert_entry place_cmp self.old place path) }
+        ensures told { IfOk result (λ change. (change ≡ Same) ↔ self.new ≡ self.old) }
         ensures err { OnErr result (self.new ≡ self.old) }
     {
         let asn = neighbour(path.segments.as_slice());
         let next = turns::first_from(&self.paths, &place);
         let taken = turns::stands_at(next, &place);
+        if taken && has_path(next, &path) {
+            return Ok(Change::Same);
+        }
         if taken && turns::is_alike(next, asn) {
             self.paths
                 .insert(place, SharedPath::new(self.alloc, path)?)?;
-            return Ok(false);
+            return Ok(Change::Tidy);
         }
         let after = turns::first_behind(&self.paths, &place, next);
         let before = turns::last_before(&self.paths, &place);
@@ -98,7 +116,7 @@ impl Routes {
         turns::part_before(&mut self.turns, before, &place, asn)?;
         turns::part_after(&mut self.turns, after, asn)?;
         self.paths.insert(place, shared)?;
-        Ok(parted)
+        Ok(if parted { Change::Untidy } else { Change::Tidy })
     }
 
     /// Takes the route at the place away, and tells whether there was one.
@@ -109,14 +127,6 @@ impl Routes {
         let held = self.paths.remove(place).is_some();
         turns::tidy(&self.paths, &mut self.turns, place);
         held
-    }
-
-    /// Whether the route at the place has this very path, so that to put it changes nothing.
-    pub fn holds(&self, place: &Place, path: &Path) -> bool
-        ensures { IsTrue result → insert_entry place_cmp self.now place.now path.now ≡ self.now }
-    {
-        let next = turns::first_from(&self.paths, place);
-        turns::stands_at(next, place) && has_path(next, path)
     }
 
     /// Whether a route from `low` on and before `high` has another neighbouring AS than `asn`; of None, whether

@@ -1,7 +1,7 @@
 //! Look-ups in the ordered map of routes.
 
-ghost use Rattle.std.specs.Prelude.{◌≡◌, option_map};
-ghost use Rattle.fs_unicast.specs.Search.{is_same_prefix, best_at, best_match_of, others_under, held_by, start_of};
+ghost use Rattle.std.specs.Prelude.{◌≡◌, IfSome, filter, fold, map, option_map};
+ghost use Rattle.fs_unicast.specs.Search.{IsFront, candidate, is_same_prefix, best_at, best_match_of, neighbour_of, others_under, held_by, start_of};
 ghost use Rattle.fs_unicast.specs.Preference.{better, offered};
 ghost use Rattle.fs_unicast.specs.Unicast.{place_cmp};
 ghost use Rattle.std.specs.Option.{option_copied};
@@ -11,12 +11,14 @@ ghost use Rattle.std.specs.Map.{keys_of};
 
 use crate::cover::{InOrder, longest_cover};
 use crate::key::PrefixKey;
+use crate::neighbour::neighbour_as;
 use crate::preference::Offer;
 use crate::routes::Routes;
 use crate::shared::SharedPath;
 use crate::unicast::Place;
 use fs_base::Prefix;
 use std::collections::BTreeMap;
+use std::collections::btree_map::Range;
 use std::ops::Bound;
 
 /// The most preferred route at the prefix.
@@ -28,9 +30,22 @@ pub fn best_at<'a>(routes: &'a BTreeMap<Place, SharedPath>, prefix: &Prefix) -> 
         prefix: key,
         peer: 0,
     };
-    let mut best = None;
-    for (place, path) in routes.range(low..) {
-        if !is_same_prefix(&key, &place.prefix) {
+    best_among(&key, None, routes.range(low..))
+}
+
+/// The most preferred of a route at the prefix and of those routes at the prefix that stand in front.
+fn best_among<'a>(
+    prefix: &PrefixKey,
+    route: Option<Offer<'a>>,
+    routes: Range<'a, Place, SharedPath>,
+) -> Option<Offer<'a>>
+    requires { IsFront prefix.now routes }
+    ensures { option_map offered result ≡ fold better (option_map offered route.entry)
+        (map candidate (filter (λ r. is_same_prefix prefix.now r.0.prefix) routes.entry)) }
+{
+    let mut best = route;
+    for (place, path) in routes {
+        if !is_same_prefix(prefix, &place.prefix) {
             return best;
         }
         let route = Offer {
@@ -40,6 +55,28 @@ pub fn best_at<'a>(routes: &'a BTreeMap<Place, SharedPath>, prefix: &Prefix) -> 
         best = Some(better(best, route));
     }
     best
+}
+
+/// The first prefix in order, from `low` on, that has a route, and the most preferred route there.
+fn best_from<'a>(
+    routes: &'a BTreeMap<Place, SharedPath>,
+    low: &Prefix,
+) -> Option<(Prefix, Option<Offer<'a>>)>
+    ensures first { IsFirstFrom (λ r. r.0.prefix) routes.now.entries low.now (option_map (λ f. f.0) result) }
+    ensures best { IfSome result (λ f. option_map offered f.1 ≡ best_at routes.now.entries f.0) }
+{
+    let low = Place {
+        prefix: PrefixKey::of(low),
+        peer: 0,
+    };
+    let mut behind = routes.range(low..);
+    let (place, path) = behind.next()?;
+    let first = Offer {
+        peer: place.peer,
+        path: path.path(),
+    };
+    let best = best_among(&place.prefix, Some(first), behind);
+    Some((place.prefix.prefix(), best))
 }
 
 fn is_same_prefix(one: &PrefixKey, other: &PrefixKey) -> bool
@@ -57,8 +94,52 @@ fn better<'a>(best: Option<Offer<'a>>, route: Offer<'a>) -> Offer<'a>
     }
 }
 
+/// The most preferred route at the longest prefix that covers this one and has a route, and whether a route strictly
+/// under this prefix has another neighbouring AS than that one; without it, whether there is any. Mostly nothing lies
+/// under the prefix, and the first route from there on tells both.
+pub fn best_and_others<'a>(
+    routes: &'a Routes,
+    prefix: &Prefix,
+    local_as: u32,
+) -> (Option<Offer<'a>>, bool)
+    ensures best { option_map offered result.0 ≡ best_match_of routes.now prefix.now }
+    ensures others { result.1 ≡ others_under routes.now prefix.now local_as
+        (neighbour_of local_as (best_match_of routes.now prefix.now)) }
+{
+    if let Some((first, best)) = best_from(routes.paths(), &prefix.first_under())
+        && first.covers(prefix)
+    {
+        return (best, false);
+    }
+    let best = best_match(routes.paths(), prefix);
+    (
+        best,
+        others_under(routes, prefix, local_as, neighbour_of(best, local_as)),
+    )
+}
+
+/// The neighbouring AS of the route, if there is one.
+fn neighbour_of(route: Option<Offer<'_>>, local_as: u32) -> Option<u32>
+    ensures { result ≡ neighbour_of local_as (option_map offered route.entry) }
+{
+    match route {
+        Some(route) => Some(neighbour_as(route.path.segments.as_slice(), local_as)),
+        None => None,
+    }
+}
+
 /// The most preferred route at the longest prefix that covers this one and has a route.
 pub fn best_match<'a>(routes: &'a BTreeMap<Place, SharedPath>, prefix: &Prefix) -> Option<Offer<'a>>
+    ensures { option_map offered result ≡ best_match_of routes.now.entries prefix.now }
+{
+    match best_from(routes, prefix) {
+        Some((first, best)) if first.covers(prefix) => best,
+        _ => best_over(routes, prefix),
+    }
+}
+
+/// As `best_match`, by a search that goes from prefix to prefix.
+fn best_over<'a>(routes: &'a BTreeMap<Place, SharedPath>, prefix: &Prefix) -> Option<Offer<'a>>
     ensures { option_map offered result ≡ best_match_of routes.now.entries prefix.now }
 {
     match longest_cover(routes, prefix) {

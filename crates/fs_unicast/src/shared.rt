@@ -1,6 +1,6 @@
 //! Paths that the routes beside one another share.
 
-ghost use Rattle.std.specs.Prelude.{◌≡◌, Some, IfOk, IfSome, IsTrue, option_map};
+ghost use Rattle.std.specs.Prelude.{◌≡◌, ◌↔◌, Some, IfOk, IfSome, IsTrue, option_map};
 ghost use Rattle.fs_unicast.specs.Neighbour.{neighbour};
 ghost use Rattle.fs_unicast.specs.Turns.{entry_now};
 
@@ -32,6 +32,13 @@ impl SharedPath {
     {
         let path = Rc::new(alloc, path)?;
         Ok(SharedPath { path })
+    }
+
+    /// Whether this is the path.
+    pub fn is(&self, path: &Path) -> bool
+        ensures { IsTrue result ↔ self.now ≡ path.now }
+    {
+        is_same_path(self.path(), path)
     }
 
     /// The same path once more.
@@ -80,24 +87,24 @@ fn same_path<'a>(route: Option<(&'a Place, &'a SharedPath)>, path: &Path) -> Opt
     ensures { IfSome result (λ held. held.now ≡ path.now) }
 {
     match route {
-        Some((_, held)) if is_same_path(held.path(), path) => Some(held),
+        Some((_, held)) if held.is(path) => Some(held),
         _ => None,
     }
 }
 
 /// Whether there is a route, and it has this path.
 pub fn has_path(route: Option<(&Place, &SharedPath)>, path: &Path) -> bool
-    ensures { IsTrue result → option_map (λ r. r.1) (option_map entry_now route.entry) ≡ Some path.now }
+    ensures { IsTrue result ↔ option_map (λ r. r.1) (option_map entry_now route.entry) ≡ Some path.now }
 {
     match route {
-        Some((_, held)) => is_same_path(held.path(), path),
+        Some((_, held)) => held.is(path),
         None => false,
     }
 }
 
 /// Whether the two paths are the same.
 fn is_same_path(one: &Path, other: &Path) -> bool
-    ensures { IsTrue result → one.now ≡ other.now }
+    ensures { IsTrue result ↔ one.now ≡ other.now }
 {
     one.origin == other.origin
         && one.local_pref == other.local_pref
@@ -107,7 +114,7 @@ fn is_same_path(one: &Path, other: &Path) -> bool
 }
 
 fn are_same_segments(ones: &[Segment], others: &[Segment]) -> bool
-    ensures { IsTrue result → ones.now ≡ others.now }
+    ensures { IsTrue result ↔ ones.now ≡ others.now }
 {
     if ones.len() != others.len() {
         return false;
@@ -121,7 +128,7 @@ fn are_same_segments(ones: &[Segment], others: &[Segment]) -> bool
 }
 
 fn is_same_segment(one: &Segment, other: &Segment) -> bool
-    ensures { IsTrue result → one.now ≡ other.now }
+    ensures { IsTrue result ↔ one.now ≡ other.now }
 {
     one.form == other.form && one.numbers.as_slice() == other.numbers.as_slice()
 }

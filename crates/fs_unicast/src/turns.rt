@@ -56,7 +56,8 @@ pub fn part_before(
     place: &Place,
     asn: Option<u32>,
 ) -> Result<(), Memory>
-    ensures ok { OnOk result (is_alike asn (option_map entry_now before.entry) ≡ false → PartsAt turns.new.keys place.now) }
+    ensures ok { OnOk result
+        (is_alike asn (option_map entry_now before.entry) ≡ false → PartsAt turns.new.keys place.now) }
     ensures stays { StaysParted turns.old.keys turns.new.keys }
 {
     if is_alike(before, asn) {

@@ -1,11 +1,11 @@
 //! The table of unicast routes.
 
-ghost use Rattle.std.specs.Prelude.{◌≡◌, [], OnOk, OnErr, IsTrue, is_some, option_map, length, ◌+◌};
+ghost use Rattle.std.specs.Prelude.{◌≡◌, ◌↔◌, [], false, IfOk, OnOk, OnErr, is_some, option_map, length, ◌+◌};
 ghost use Rattle.std.specs.BTreeMap.{insert_entry, is_at};
 ghost use Rattle.std.specs.List.Sorted.{IsStrictlySortedBy};
 ghost use Rattle.std.specs.Map.{keys_of, remove_entry, lookup};
 ghost use Rattle.fs_unicast.specs.Unicast.{place_cmp, put_path, take_path, has_path};
-ghost use Rattle.fs_unicast.specs.Search.{best_at, best_match_of, others_under, held_by};
+ghost use Rattle.fs_unicast.specs.Search.{best_at, best_match_of, neighbour_of, others_under, held_by};
 ghost use Rattle.fs_unicast.specs.Preference.{offered};
 ghost use Rattle.std.specs.Option.{option_copied};
 
@@ -60,12 +60,23 @@ impl Unicast {
         ensures ok { OnOk result (self.new ≡ put_path peer prefix path self.old) }
         ensures err { OnErr result (self.new ≡ self.old) }
     {
+        self.put_telling(peer, prefix, path)?;
+        Ok(())
+    }
+
+    /// As [`put`](Unicast::put), and tells whether that changes anything: not where the peer holds a route with this
+    /// very path at the prefix.
+    pub fn put_telling(&mut self, peer: u16, prefix: Prefix, path: Path) -> Result<bool, Memory>
+        ensures ok { OnOk result (self.new ≡ put_path peer prefix path self.old) }
+        ensures told { IfOk result (λ changed. (changed ≡ false) ↔ self.new ≡ self.old) }
+        ensures err { OnErr result (self.new ≡ self.old) }
+    {
         let place = Place {
             prefix: PrefixKey::of(&prefix),
             peer,
         };
-        self.routes.put(place, path)?;
-        Ok(())
+        let changed = self.routes.put(place, path)?;
+        Ok(changed)
     }
 
     /// Takes the peer's route at the prefix away, and tells whether there was one.
@@ -78,17 +89,6 @@ impl Unicast {
             peer,
         };
         self.routes.remove(&place)
-    }
-
-    /// Whether the peer holds a route with this very path at the prefix, so that to put it changes nothing.
-    pub fn holds(&self, peer: u16, prefix: &Prefix, path: &Path) -> bool
-        ensures { IsTrue result → put_path peer prefix.now path.now self.now ≡ self.now }
-    {
-        let place = Place {
-            prefix: PrefixKey::of(prefix),
-            peer,
-        };
-        self.routes.holds(&place, path)
     }
 
     /// How many routes there are. They are in the order of their places.
@@ -115,6 +115,24 @@ impl Unicast {
     {
         steps.take(); // up to the longest cover
         search::best_match(self.routes.paths(), prefix)
+    }
+
+    /// The most preferred route at the longest prefix that covers this one and has a route, and whether a route of any
+    /// peer strictly under the prefix has another neighbouring AS than that one; without it, whether there is any
+    /// route. A path with only confederation segments has the neighbouring AS `local_as`. One step.
+    pub fn best_and_others<L: Ledger>(
+        &self,
+        prefix: &Prefix,
+        local_as: u32,
+        steps: &mut Steps<L>,
+    ) -> (Option<Offer<'_>>, bool)
+        ensures best { option_map offered result.0 ≡ best_match_of self.now prefix.now }
+        ensures others { result.1 ≡ others_under self.now prefix.now local_as
+            (neighbour_of local_as (best_match_of self.now prefix.now)) }
+        ensures step { steps.new ≡ steps.old + 1 }
+    {
+        steps.take(); // for both
+        search::best_and_others(&self.routes, prefix, local_as)
     }
 
     /// The first prefix in order, from `from` on or from the start, at which the peer holds a route. The routes are

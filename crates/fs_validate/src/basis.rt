@@ -6,7 +6,7 @@ ghost use Rattle.fs_validate.specs.Basis.{IsBasis};
 ghost use Rattle.fs_validate.specs.Validity.{judged};
 
 use crate::route::FlowRoute;
-use crate::validity::{Validity, has_leftmost, has_originator, neighbour_of};
+use crate::validity::{Validity, has_leftmost, has_originator};
 use fs_base::{Config, Prefix, Steps};
 use fs_unicast::{Offer, Unicast};
 use std::sync::ledger::Ledger;
@@ -29,8 +29,7 @@ pub fn basis_of<'a, L: Ledger>(
     ensures basis { IsBasis unicast.now config.now destination.now (option_map offered result.best) result.others }
     ensures step { steps.new ≡ steps.old + 1 }
 {
-    let best = unicast.best_match(destination, steps);
-    let others = unicast.others_under(destination, config.local_as, neighbour_of(config, best));
+    let (best, others) = unicast.best_and_others(destination, config.local_as, steps);
     Basis { best, others }
 }
 

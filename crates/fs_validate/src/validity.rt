@@ -2,12 +2,13 @@
 
 ghost use Rattle.std.specs.Prelude.{◌≡◌, ◌≤◌, ◌+◌, option_map};
 ghost use Rattle.fs_unicast.specs.Preference.{offered};
-ghost use Rattle.fs_validate.specs.Validity.{validity, validity_at, has_originator, has_leftmost, neighbour_of_best, validity_without, same_as};
+ghost use Rattle.fs_validate.specs.Validity.{validity, has_originator, has_leftmost, validity_without, same_as};
 
+use crate::basis::{basis_of, judged};
 use crate::originator::{is_local, is_same_originator, originator};
 use crate::route::{FlowRoute, destination};
-use fs_base::{Config, Prefix, Steps};
-use fs_unicast::{Offer, Unicast, first_as, neighbour_as};
+use fs_base::{Config, Steps};
+use fs_unicast::{Offer, Unicast, first_as};
 use std::sync::ledger::Ledger;
 
 /// Valid, or the first rule of validation that the route breaks.
@@ -39,8 +40,8 @@ pub fn valid<L: Ledger>(
     let Some(destination) = destination(&route.rule) else {
         return without_destination(config);
     };
-    let best = unicast.best_match(&destination, steps);
-    valid_at(unicast, config, route, &destination, best)
+    let basis = basis_of(unicast, config, &destination, steps);
+    judged(config, route, &basis)
 }
 
 fn without_destination(config: &Config) -> Validity
@@ -53,51 +54,19 @@ fn without_destination(config: &Config) -> Validity
     }
 }
 
-/// Validates a route whose rule has this destination, of which `best` is the best match.
-fn valid_at(
-    unicast: &Unicast,
-    config: &Config,
-    route: &FlowRoute,
-    destination: &Prefix,
-    best: Option<Offer<'_>>,
-) -> Validity
-    ensures { result ≡ validity_at unicast.now config.now route.now destination.now (option_map offered best.entry) }
-{
-    if !has_originator(config, route, best) {
-        return Validity::Originator;
-    }
-    if unicast.others_under(destination, config.local_as, neighbour_of(config, best)) {
-        return Validity::MoreSpecific;
-    }
-    if !has_leftmost(route, best) {
-        return Validity::LeftAs;
-    }
-    Validity::Valid
-}
-
 /// Rule b: the best match has the same originator, or the route began in the local AS and that is allowed.
 pub fn has_originator(config: &Config, route: &FlowRoute, best: Option<Offer<'_>>) -> bool
     ensures { result ≡ has_originator config.now route.now (option_map offered best.entry) }
 {
-    if config.empty_path_valid && is_local(route.path.segments.as_slice()) {
+    if config.empty_path_valid && is_local(route.path.path().segments.as_slice()) {
         return true;
     }
     match best {
         Some(best) => is_same_originator(
-            originator(config, route.peer, &route.path),
+            originator(config, route.peer, route.path.path()),
             originator(config, best.peer, best.path),
         ),
         None => false,
-    }
-}
-
-/// The neighbouring AS of the best match.
-pub fn neighbour_of(config: &Config, best: Option<Offer<'_>>) -> Option<u32>
-    ensures { result ≡ neighbour_of_best config.now (option_map offered best.entry) }
-{
-    match best {
-        Some(best) => Some(neighbour_as(best.path.segments.as_slice(), config.local_as)),
-        None => None,
     }
 }
 
@@ -105,12 +74,12 @@ pub fn neighbour_of(config: &Config, best: Option<Offer<'_>>) -> Option<u32>
 pub fn has_leftmost(route: &FlowRoute, best: Option<Offer<'_>>) -> bool
     ensures { result ≡ has_leftmost route.now (option_map offered best.entry) }
 {
-    if !route.path.external {
+    if !route.path.path().external {
         return true;
     }
     match best {
         Some(best) => is_same_as(
-            first_as(route.path.segments.as_slice()),
+            first_as(route.path.path().segments.as_slice()),
             first_as(best.path.segments.as_slice()),
         ),
         None => false,

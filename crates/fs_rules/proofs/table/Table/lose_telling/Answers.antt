@@ -3,7 +3,7 @@ use Rattle.std.proofs.lemmas.Bool.Decides.{nat_tests}
 use Rattle.fs_base.proofs.Bools.{or_false}
 use Rattle.fs_rules.specs.Table.{Held, AdmitsSame, held_count, without_peer_unicast}
 use Rattle.fs_rules.proofs.Counting.{with_same, gone_twice}
-use Rattle.fs_rules.proofs.Marks.{marks_admit}
+use Rattle.fs_rules.proofs.Validities.{validities_admit}
 use Rattle.fs_rules.proofs.table.Table.lose_telling.Goals as goal
 
 pub returns-then-of-eq0-clause-removed : goal.returns-then-of-eq0-clause-removed
@@ -16,4 +16,4 @@ lose_flows-gone-requires g c = subst (λ (held : Held). without_peer_unicast c.a
 pub returns-clause-same : goal.returns-clause-same
 returns-clause-same g c = λ h. let both = or_false c.lose_flows-gone.result c.lose_unicast-marked.result h in
     subst (AdmitsSame c.args.self.now) (sym (c.lose_flows-gone.ensures.told both.0))
-    (marks_admit c.args.self.now c.lose_unicast-marked.new.self (ap (λ (held : Held). held.flows) c.lose_unicast-marked.ensures.removed) (c.lose_unicast-marked.ensures.told both.1))
+    (validities_admit c.args.self.now c.lose_unicast-marked.new.self (ap (λ (held : Held). held.flows) c.lose_unicast-marked.ensures.removed) (c.lose_unicast-marked.ensures.told both.1))

@@ -1,5 +1,5 @@
 use Rattle.std.proofs.Common.{◌≡◌, false, length}
-use Rattle.fs_rules.specs.Table.{MarksStay}
+use Rattle.fs_rules.specs.Table.{ValiditiesStay}
 use Rattle.fs_rules.proofs.Losing.{IsLosing, Passed}
 use Rattle.fs_rules.proofs.table.Table.lose_unicast.Given as goal
 
@@ -7,7 +7,7 @@ abbrev pub invariant-loop-prefix : goal.invariant-loop-prefix
 invariant-loop-prefix g l = record {
   losing : IsLosing l.peer l.fn.self l.self l.fn.steps l.steps;
   passed : Passed l.peer l.from l.self.unicast;
-  told : l.marked ≡ false → MarksStay l.fn.self l.self;
+  told : l.marked ≡ false → ValiditiesStay l.fn.self l.self;
 }
 
 abbrev pub decreases-loop-prefix : goal.decreases-loop-prefix

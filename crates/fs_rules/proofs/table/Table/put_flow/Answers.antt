@@ -1,17 +1,12 @@
-use Rattle.std.proofs.Common.{◌≡◌, ap, subst, ◌∙◌, not}
+use Rattle.std.proofs.Common.{ℕ, List, ◌≡◌, ap, ap₂, subst, ◌∙◌, not}
+use Rattle.fs_base.specs.declared.path.Path.{Path}
 use Rattle.fs_rules.specs.Kept.{Kept}
-use Rattle.fs_rules.specs.Table.{put_route, is_key}
+use Rattle.fs_rules.specs.Table.{put_route, is_key, with_flow}
 use Rattle.fs_rules.specs.Group.{routes_of, put_kept, has_key}
 use Rattle.fs_rules.proofs.Changes.{keeps-put, routes-put, any-routes}
 use Rattle.fs_rules.proofs.Chosen.{flows_changed}
 use Rattle.fs_rules.proofs.Counting.{counted_as, counted_put_flow}
 use Rattle.fs_rules.proofs.table.Table.put_flow.Goals as goal
-
-pub invariant_of-self : goal.invariant_of-self
-invariant_of-self g c = record {
-  keeps = c.self.invariant.keeps;
-  counted = counted_as c.self.inside.unicast (routes_of c.self.inside.flows) c.self.inside.counts c.reserve.new.self c.reserve.ensures.same c.self.invariant.counted;
-}
 
 pub invariant_of-self-2 : goal.invariant_of-self-2
 invariant_of-self-2 g c = record {
@@ -26,3 +21,4 @@ invariant_of-self-2 g c = record {
 pub returns-clause-ok : goal.returns-clause-ok
 returns-clause-ok g c = flows_changed (put_route _) c.self.inside.config.now c.self.inside.unicast c.self.inside.flows c.put.new.self _ c.self.view_is
     (ap routes_of (subst (λ (k : Kept). c.put.new.self ≡ put_kept k c.self.inside.flows) c.in_ok-k.ensures c.in_ok-is_new.ensures.ok) ∙ routes-put _ c.self.inside.flows)
+    ∙ ap₂ (λ (path : Path) (actions : List (List ℕ)). with_flow c.args.peer c.args.rule path actions c.args.self.now) c.in_ok-path.ensures.path c.in_ok-path.ensures.actions

@@ -6,7 +6,7 @@ use Rattle.fs_rules.specs.Group.{routes_of}
 use Rattle.fs_rules.proofs.Changes.{routes_mended}
 use Rattle.fs_rules.proofs.Chosen.{held_of, unicast_changed, keeps_after, agree_put}
 use Rattle.fs_rules.proofs.Counting.{counted_as, counted_put}
-use Rattle.fs_rules.proofs.Marks.{told_marks, marks_admit}
+use Rattle.fs_rules.proofs.Validities.{told_validities, validities_admit}
 use Rattle.fs_rules.proofs.table.Table.put_unicast_telling.Goals as goal
 
 pub invariant_of-self : goal.invariant_of-self
@@ -17,19 +17,19 @@ invariant_of-self g c = record {
 
 pub invariant_of-self-2 : goal.invariant_of-self-2
 invariant_of-self-2 g c = record {
-  keeps = keeps_after c.self.inside.config.now c.args.prefix c.self.inside.unicast c.put.new.self c.self.inside.flows c.mend.new.self (agree_put (record { prefix = c.args.prefix; peer = c.args.peer }) c.args.path c.self.inside.unicast c.put.new.self c.in_ok-put.ensures.ok) c.mend.ensures.mended c.self.invariant.keeps;
-  counted = counted_put c.args.peer c.args.prefix c.args.path c.self.inside.unicast c.put.new.self (routes_of c.self.inside.flows) (routes_of c.mend.new.self) c.reserve.new.self c.raise.new.self _ c.len-held.ensures.ordered
+  keeps = keeps_after c.self.inside.config.now c.args.prefix c.self.inside.unicast c.put_telling.new.self c.self.inside.flows c.mend.new.self (agree_put (record { prefix = c.args.prefix; peer = c.args.peer }) c.args.path c.self.inside.unicast c.put_telling.new.self c.in_ok-put_telling.ensures.ok) c.mend.ensures.mended c.self.invariant.keeps;
+  counted = counted_put c.args.peer c.args.prefix c.args.path c.self.inside.unicast c.put_telling.new.self (routes_of c.self.inside.flows) (routes_of c.mend.new.self) c.reserve.new.self c.raise.new.self _ c.len-held.ensures.ordered
       (counted_as c.self.inside.unicast (routes_of c.self.inside.flows) c.self.inside.counts c.reserve.new.self c.reserve.ensures.same c.self.invariant.counted)
-      c.raise.ensures (search (rules, of_calls)) c.in_ok-put.ensures.ok (ap routes_of c.mend.ensures.mended ∙ routes_mended c.args.prefix c.put.new.self c.self.inside.config.now c.self.inside.flows);
+      c.raise.ensures (search (rules, of_calls)) c.in_ok-put_telling.ensures.ok (ap routes_of c.mend.ensures.mended ∙ routes_mended c.args.prefix c.put_telling.new.self c.self.inside.config.now c.self.inside.flows);
 }
 
 pub returns-clause-ok : goal.returns-clause-ok
-returns-clause-ok g c = unicast_changed (λ u. insert_entry place_cmp u (record { prefix = c.args.prefix; peer = c.args.peer }) c.args.path) c.self.inside.config.now c.self.inside.unicast c.put.new.self c.self.inside.flows c.mend.new.self c.args.self.now c.self.view_is c.in_ok-put.ensures.ok (ap routes_of c.mend.ensures.mended ∙ routes_mended c.args.prefix c.put.new.self c.self.inside.config.now c.self.inside.flows)
+returns-clause-ok g c = unicast_changed (λ u. insert_entry place_cmp u (record { prefix = c.args.prefix; peer = c.args.peer }) c.args.path) c.self.inside.config.now c.self.inside.unicast c.put_telling.new.self c.self.inside.flows c.mend.new.self c.args.self.now c.self.view_is c.in_ok-put_telling.ensures.ok (ap routes_of c.mend.ensures.mended ∙ routes_mended c.args.prefix c.put_telling.new.self c.self.inside.config.now c.self.inside.flows)
 
 pub returns-clause-told : goal.returns-clause-told
-returns-clause-told g c = told_marks c.args.prefix c.self.inside.config.now c.self.inside.unicast c.put.new.self c.self.inside.flows c.mend.new.self c.self.invariant.keeps.right c.args.self.now c.mend.result c.self.view_is
-    (keeps_after c.self.inside.config.now c.args.prefix c.self.inside.unicast c.put.new.self c.self.inside.flows c.mend.new.self (agree_put (record { prefix = c.args.prefix; peer = c.args.peer }) c.args.path c.self.inside.unicast c.put.new.self c.in_ok-put.ensures.ok) c.mend.ensures.mended c.self.invariant.keeps).right
+returns-clause-told g c = told_validities c.args.prefix c.self.inside.config.now c.self.inside.unicast c.put_telling.new.self c.self.inside.flows c.mend.new.self c.self.invariant.keeps.right c.args.self.now c.mend.result c.self.view_is
+    (keeps_after c.self.inside.config.now c.args.prefix c.self.inside.unicast c.put_telling.new.self c.self.inside.flows c.mend.new.self (agree_put (record { prefix = c.args.prefix; peer = c.args.peer }) c.args.path c.self.inside.unicast c.put_telling.new.self c.in_ok-put_telling.ensures.ok) c.mend.ensures.mended c.self.invariant.keeps).right
     c.mend.ensures.mended c.mend.ensures.told
 
 pub returns-clause-same : goal.returns-clause-same
-returns-clause-same g c = λ h. marks_admit c.args.self.now (held_of c.self.inside.config.now c.put.new.self (routes_of c.mend.new.self)) (ap (λ (held : Held). held.flows) (returns-clause-ok g c)) ((returns-clause-told g c).0 h)
+returns-clause-same g c = λ h. validities_admit c.args.self.now (held_of c.self.inside.config.now c.put_telling.new.self (routes_of c.mend.new.self)) (ap (λ (held : Held). held.flows) (returns-clause-ok g c)) ((returns-clause-told g c).0 h)

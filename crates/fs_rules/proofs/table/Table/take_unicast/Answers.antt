@@ -4,11 +4,11 @@ use Rattle.std.specs.Map.{remove_entry}
 use Rattle.fs_unicast.specs.Unicast.{place_cmp}
 use Rattle.fs_rules.specs.Counts.{IsKept}
 use Rattle.fs_rules.specs.Group.{routes_of}
-use Rattle.fs_rules.specs.Table.{MarksStay}
+use Rattle.fs_rules.specs.Table.{ValiditiesStay}
 use Rattle.fs_rules.proofs.Changes.{routes_mended, remove_nothing}
 use Rattle.fs_rules.proofs.Chosen.{held_of, unicast_changed, keeps_after, agree_taken}
 use Rattle.fs_rules.proofs.Counting.{counted_taken}
-use Rattle.fs_rules.proofs.Marks.{marks_same, told_marks}
+use Rattle.fs_rules.proofs.Validities.{validities_same, told_validities}
 use Rattle.fs_rules.proofs.table.Table.take_unicast.Goals as goal
 
 pub invariant_of-self : goal.invariant_of-self
@@ -25,11 +25,11 @@ pub returns-clause-removed : goal.returns-clause-removed
 returns-clause-removed g c = unicast_changed (remove_entry (is_at (place_cmp (record { prefix = c.args.prefix.now; peer = c.args.peer })))) c.self.inside.config.now c.self.inside.unicast c.remove.new.self c.self.inside.flows c.mend.new.self c.args.self.now c.self.view_is c.remove.ensures.removed (ap routes_of c.mend.ensures.mended ∙ routes_mended c.args.prefix.now c.remove.new.self c.self.inside.config.now c.self.inside.flows)
 
 pub returns-clause-told : goal.returns-clause-told
-returns-clause-told g c = told_marks c.args.prefix.now c.self.inside.config.now c.self.inside.unicast c.remove.new.self c.self.inside.flows c.mend.new.self c.self.invariant.keeps.right c.args.self.now c.mend.result c.self.view_is
+returns-clause-told g c = told_validities c.args.prefix.now c.self.inside.config.now c.self.inside.unicast c.remove.new.self c.self.inside.flows c.mend.new.self c.self.invariant.keeps.right c.args.self.now c.mend.result c.self.view_is
     (keeps_after c.self.inside.config.now c.args.prefix.now c.self.inside.unicast c.remove.new.self c.self.inside.flows c.mend.new.self (agree_taken (record { prefix = c.args.prefix.now; peer = c.args.peer }) c.self.inside.unicast c.remove.new.self c.remove.ensures.removed) c.mend.ensures.mended c.self.invariant.keeps).right
     c.mend.ensures.mended c.mend.ensures.told
 
 pub returns-then-not-remove-clause-told : goal.returns-then-not-remove-clause-told
-returns-then-not-remove-clause-told g c = ((λ h. subst (λ u. MarksStay c.args.self.now (held_of c.self.inside.config.now u (routes_of c.self.inside.flows))) (sym same) (subst (MarksStay c.args.self.now) (sym c.self.view_is) (marks_same c.args.self.now))), (λ m. refl)) where
+returns-then-not-remove-clause-told g c = ((λ h. subst (λ u. ValiditiesStay c.args.self.now (held_of c.self.inside.config.now u (routes_of c.self.inside.flows))) (sym same) (subst (ValiditiesStay c.args.self.now) (sym c.self.view_is) (validities_same c.args.self.now))), (λ m. refl)) where
   same : c.remove.new.self ≡ c.self.inside.unicast
   same = c.remove.ensures.removed ∙ remove_nothing (is_at (place_cmp (record { prefix = c.args.prefix.now; peer = c.args.peer }))) c.self.inside.unicast (sym c.remove.ensures.held ∙ c.if-not-remove.true)

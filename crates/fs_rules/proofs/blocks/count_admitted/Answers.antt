@@ -1,0 +1,9 @@
+use Rattle.std.proofs.Common.{ap, ◌∙◌, length, zero-add}
+use Rattle.fs_rules.proofs.Cutting.{chosen_whole, sorted_each}
+use Rattle.fs_rules.proofs.blocks.count_admitted.Goals as goal
+
+pub loop-block-init : goal.loop-block-init
+loop-block-init c = record {
+  counted = zero-add _ ∙ ap length (chosen_whole c.args.family c.args.blocks.now c.requires.cut);
+  sorted = sorted_each c.args.blocks.now c.requires.sorted;
+}

@@ -1,0 +1,97 @@
+-- The first prefix from another on that has a route: its routes stand in front of the range, and where it covers the
+-- prefix under which the range begins, nothing lies under that one.
+use Rattle.std.proofs.Common.{ℕ, ◌≡◌, refl, sym, ap, subst, ◌∙◌, Bool, true, false, true≢false, not, ◌&&◌, List, ◌∷◌, cond, None, filter, map, fold, Ordering, Less, Equal, Greater, is_eq, is_le, Option}
+use Rattle.std.specs.List.Sorted.{IsStrictlySortedBy}
+use Rattle.std.specs.Map.{keys_of}
+use Rattle.std.specs.Ordering.{ordering_reverse}
+use Rattle.std.specs.Cmp.{tied_itself, alike_right}
+use Rattle.std.specs.BTreeMap.Range.{range_contains, entries_between}
+use Rattle.std.specs.declared.ops.Bound.TheVariants.{Included, Unbounded}
+use Rattle.fs_base.specs.declared.prefix.Prefix.{Prefix}
+use Rattle.fs_base.specs.Prefix.{covers, prefix_cmp, prefix_total}
+use Rattle.fs_base.specs.Search.{IsFirst, IsLongest}
+use Rattle.fs_base.proofs.Bools.{and_first, and_second, false_of_not, same_tests}
+use Rattle.fs_base.proofs.Covers.{covered_before}
+use Rattle.fs_base.proofs.Nesting.{covers_self}
+use Rattle.fs_base.proofs.Lists.{each_weaker, each_none, filter_on}
+use Rattle.fs_base.proofs.Seeking.{seeking_starts, seeking_found}
+use Rattle.fs_base.specs.declared.path.Path.{Path}
+use Rattle.fs_unicast.specs.Preference.{better}
+use Rattle.fs_unicast.specs.Unicast.{Route, place_cmp}
+use Rattle.fs_unicast.specs.Search.{IsFront, candidate, is_same_prefix, is_strictly_under, is_other, best_at, others_under}
+use Rattle.fs_unicast.proofs.Ranges.{place, first_in_range, front_range, best_starts, from_test}
+
+upto_upto : (x y z : Prefix) → is_le (prefix_cmp x y) ≡ true → is_le (prefix_cmp y z) ≡ true → is_le (prefix_cmp x z) ≡ true
+upto_upto x y z h k = at (prefix_cmp x y) refl h (prefix_cmp y z) refl k where
+  at : (o : Ordering) → prefix_cmp x y ≡ o → is_le o ≡ true → (p : Ordering) → prefix_cmp y z ≡ p → is_le p ≡ true → is_le (prefix_cmp x z) ≡ true
+  at Greater e l p f m = absurd (true≢false (sym l))
+  at Equal e l p f m = ap is_le (prefix_total.congr x y z e) ∙ k
+  at Less e l Greater f m = absurd (true≢false (sym m))
+  at Less e l Equal f m = sym (ap is_le (alike_right prefix_total y z x f)) ∙ ap is_le e
+  at Less e l Less f m = ap is_le (prefix_total.trans x y z e f)
+
+-- not before and not behind
+both_ways : (x y : Prefix) → is_le (prefix_cmp x y) ≡ true → is_le (prefix_cmp y x) ≡ true → is_eq (prefix_cmp x y) ≡ true
+both_ways x y h k = at (prefix_cmp x y) h (sym (ap is_le (prefix_total.antisymm y x)) ∙ k) where
+  at : (o : Ordering) → is_le o ≡ true → is_le (ordering_reverse o) ≡ true → is_eq o ≡ true
+  at Less l m = absurd (true≢false (sym m))
+  at Equal l m = refl
+  at Greater l m = absurd (true≢false (sym l))
+
+-- a route at the prefix counts before those behind it
+goes_on : (p : Prefix) (best : Option (ℕ × Path)) (r : Route) (rs : List Route) → is_same_prefix p r.0.prefix ≡ true
+    → fold better (better best (candidate r)) (map candidate (filter (λ s. is_same_prefix p s.0.prefix) rs)) ≡ fold better best (map candidate (filter (λ s. is_same_prefix p s.0.prefix) (r ∷ rs)))
+goes_on p best r rs same = ap (λ ss. fold better best (map candidate ss)) (sym (ap (λ b. cond b (r ∷ filter (λ s. is_same_prefix p s.0.prefix) rs) (filter (λ s. is_same_prefix p s.0.prefix) rs)) same))
+
+module _ (low : Prefix) (held : List Route) (sorted : IsStrictlySortedBy place_cmp (keys_of held)) (found : List Route) (x : Route) (rest : List Route)
+    (e : found ≡ entries_between place_cmp (Included (place low 0)) Unbounded held) (k : found ≡ x ∷ rest) where
+  first : IsFirst (λ r. r.0.prefix) held low x.0.prefix
+  first = first_in_range low held sorted found x rest e k
+
+  -- the range is also that from the first prefix on
+  range_on : found ≡ entries_between place_cmp (Included (place x.0.prefix 0)) Unbounded held
+  range_on = e ∙ filter_on (λ r. range_contains place_cmp (Included (place low 0)) Unbounded r.0) (λ r. range_contains place_cmp (Included (place x.0.prefix 0)) Unbounded r.0) held
+      (each_weaker (λ r. is_le (prefix_cmp low r.0.prefix) ≡ true → is_le (prefix_cmp x.0.prefix r.0.prefix) ≡ true)
+      (λ r. range_contains place_cmp (Included (place low 0)) Unbounded r.0 ≡ range_contains place_cmp (Included (place x.0.prefix 0)) Unbounded r.0)
+      (λ r h. from_test (prefix_cmp low r.0.prefix) r.0.peer
+      ∙ same_tests (is_le (prefix_cmp low r.0.prefix)) (is_le (prefix_cmp x.0.prefix r.0.prefix)) h (upto_upto low x.0.prefix r.0.prefix first.from)
+      ∙ sym (from_test (prefix_cmp x.0.prefix r.0.prefix) r.0.peer)) held first.least)
+
+  pub front_behind : IsFront x.0.prefix rest
+  front_behind = (subst (IsFront x.0.prefix) (sym range_on ∙ k) (front_range x.0.prefix held sorted)).1
+
+  -- the routes of its prefix are the first one and those with this prefix behind it
+  pub best_behind : fold better (better None (candidate x)) (map candidate (filter (λ r. is_same_prefix x.0.prefix r.0.prefix) rest)) ≡ best_at held x.0.prefix
+  best_behind = goes_on x.0.prefix None x rest (ap is_eq (tied_itself prefix_total x.0.prefix))
+      ∙ ap (λ rs. fold better None (map candidate (filter (λ r. is_same_prefix x.0.prefix r.0.prefix) rs))) (sym k)
+      ∙ best_starts x.0.prefix held found range_on
+
+module _ (d low q : Prefix) (held : List Route) (law : (p : Prefix) → covers d p ≡ (is_le (prefix_cmp low p) && is_le (prefix_cmp p d)))
+    (first : IsFirst (λ r. r.0.prefix) held low q) (over : covers q d ≡ true) where
+  low_upto : is_le (prefix_cmp low d) ≡ true
+  low_upto = and_first (is_le (prefix_cmp low d)) (is_le (prefix_cmp d d)) (sym (law d) ∙ covers_self d)
+
+  pub longest_over : IsLongest (λ r. r.0.prefix) held d q
+  longest_over = seeking_found (λ r. r.0.prefix) held d d q (seeking_starts (λ r. r.0.prefix) held d)
+      (record {
+        there = first.there;
+        from = covered_before q d over;
+        least = each_weaker (λ r. is_le (prefix_cmp low r.0.prefix) ≡ true → is_le (prefix_cmp q r.0.prefix) ≡ true) (λ r. is_le (prefix_cmp d r.0.prefix) ≡ true → is_le (prefix_cmp q r.0.prefix) ≡ true)
+            (λ r h behind. h (upto_upto low d r.0.prefix low_upto behind)) held first.least;
+      })
+      over
+
+  pub none_under : (local_as : ℕ) (asn : Option ℕ) → false ≡ others_under held d local_as asn
+  none_under local_as asn = sym (each_none (λ r. is_strictly_under d r.0.prefix && is_other local_as asn r.1) held
+      (each_weaker (λ r. is_le (prefix_cmp low r.0.prefix) ≡ true → is_le (prefix_cmp q r.0.prefix) ≡ true) (λ r. (is_strictly_under d r.0.prefix && is_other local_as asn r.1) ≡ false)
+      (λ r h. at r (is_strictly_under d r.0.prefix) refl (outside r h)) held first.least)) where
+        outside : (r : Route) → (is_le (prefix_cmp low r.0.prefix) ≡ true → is_le (prefix_cmp q r.0.prefix) ≡ true) → is_strictly_under d r.0.prefix ≡ true → true ≡ false
+        outside r h under = sym (both_ways d r.0.prefix (upto_upto d q r.0.prefix (covered_before q d over) (h (and_first (is_le (prefix_cmp low r.0.prefix)) (is_le (prefix_cmp r.0.prefix d)) between)))
+            (and_second (is_le (prefix_cmp low r.0.prefix)) (is_le (prefix_cmp r.0.prefix d)) between))
+            ∙ false_of_not (is_same_prefix d r.0.prefix) (and_second (covers d r.0.prefix) (not (is_same_prefix d r.0.prefix)) under) where
+              between : (is_le (prefix_cmp low r.0.prefix) && is_le (prefix_cmp r.0.prefix d)) ≡ true
+              between = sym (law r.0.prefix) ∙ and_first (covers d r.0.prefix) (not (is_same_prefix d r.0.prefix)) under
+
+        at : (r : Route) (b : Bool) → is_strictly_under d r.0.prefix ≡ b → (is_strictly_under d r.0.prefix ≡ true → true ≡ false) → (is_strictly_under d r.0.prefix && is_other local_as asn r.1) ≡ false
+        at r true e f = absurd (true≢false (f e))
+        at r false e f = ap (λ b. b && is_other local_as asn r.1) e
