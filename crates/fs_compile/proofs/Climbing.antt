@@ -6,7 +6,7 @@ use Rattle.std.proofs.lemmas.List.Sums.{sum_by-take-le}
 use Rattle.fs_base.proofs.Bools.{false_from}
 use Rattle.fs_compile.specs.declared.nodes.Node.{Node}
 use Rattle.fs_compile.specs.Buckets.{AreBuckets, node_at}
-use Rattle.fs_compile.specs.Search.{AreNear, Found, Missed, Passed, Within, marked}
+use Rattle.fs_compile.specs.Search.{AreNear, Found, Missed, Within, marked}
 use Rattle.fs_compile.proofs.Counts.{marked_all, marked_later, marked_run}
 
 -- Stretches joined.
@@ -203,25 +203,6 @@ tail_cost lasts nodes homes count d at lo low near s n e l = omega (arith, run, 
   whole : marked count near ≡ count_by (λ b. b) near
   whole = marked_all near count (omega (arith, size))
 
--- Where a search may begin.
-pub passed_missed : (lasts : List ℕ) (nodes : List (Node ℕ)) (homes : List ℕ) (count d at lo : ℕ) (hits near : List Bool) → AreBuckets lasts nodes homes count
-    → AreNear lasts nodes homes d count near → Within hits near → at ≤ length lasts → Passed lasts nodes homes d lo at → Missed hits lo (node_at nodes at).start
-passed_missed lasts nodes homes count d at lo hits near s n w within passed k above below = not_near hits near k w (false_from (get_or near k false) (λ hit.
-    let before = home_before lasts nodes homes count at k s within below in
-    let held = n.apart k before.0 hit in
-    let a : get_or lasts (get_or homes k 0) 0 < d = passed k above below held.0 in
-    let b : d ≤ get_or lasts (get_or homes k 0) 0 = held.1 in
-    omega (arith, a, b)))
-
--- at the first bucket that doesn't end below the address
-pub first_passed : (lasts : List ℕ) (nodes : List (Node ℕ)) (homes : List ℕ) (count d at lo : ℕ) → AreBuckets lasts nodes homes count → at ≤ length lasts
-    → ((b : ℕ) → b < at → get_or lasts b 0 < d) → Passed lasts nodes homes d lo at
-first_passed lasts nodes homes count d at lo s within below k above under held = below (get_or homes k 0) (home_before lasts nodes homes count at k s within under).1
-
--- where no rule is left before the bucket
-pub none_passed : (lasts : List ℕ) (nodes : List (Node ℕ)) (homes : List ℕ) (d at lo : ℕ) → (node_at nodes at).start ≤ lo → Passed lasts nodes homes d lo at
-none_passed lasts nodes homes d at lo h k above below held = let lo_k : lo ≤ k = above in let k_at : k < (node_at nodes at).start = below in omega (arith, h, lo_k, k_at)
-
 option_weaker : {A : Type 0} (P P' : Type 0) (Q Q' : A → Type 0) (r : Option A) → (P → P') → ((k : A) → Q k → Q' k) → MatchOption r P Q → MatchOption r P' Q'
 option_weaker P P' Q Q' None f g h = f h
 option_weaker P P' Q Q' (Some k) f g h = g k h
@@ -253,18 +234,6 @@ searched_steps lasts nodes homes count d at lo low before after node end near s 
     let own : marked (node_at nodes at).start near + ((node_at nodes (at + 1)).start - low) ≤ marked (node_at nodes (node_at nodes at).parent).start near =
     searched_cost lasts nodes homes count d at lo low near s n inside ends (subst (λ (x : Node ℕ). x.first ≤ d) e begins) (subst (λ (x : Node ℕ). low ≡ max lo x.start) e l) in
     omega (arith, most, own)
-
--- what the search of the tail says
-pub tail_found : (lasts : List ℕ) (nodes : List (Node ℕ)) (homes : List ℕ) (count at lo low : ℕ) (hits : List Bool) (r : Option ℕ)
-    → AreBuckets lasts nodes homes count → at ≡ length lasts → low ≡ max lo (length homes) → Missed hits lo (node_at nodes at).start
-    → MatchOption r (Missed hits low count) (Found hits low count) → MatchOption r (Missed hits lo count) (Found hits lo count)
-tail_found lasts nodes homes count at lo low hits r s e l missed =
-    option_weaker (Missed hits low count) (Missed hits lo count) (Found hits low count) (Found hits lo count) r
-    (λ h. missed_join hits lo (length homes) low count l tail h)
-    (λ k h. found_join hits lo (length homes) low count count k l (omega arith) tail h)
-  where
-    tail : Missed hits lo (length homes)
-    tail = subst (λ i. Missed hits lo i) (subst (λ i. (node_at nodes i).start ≡ length homes) (sym e) s.tail) missed
 
 -- one more that doesn't match
 pub missed_more : (hits : List Bool) (lo n : ℕ) → Missed hits lo n → get_or hits n false ≡ false → Missed hits lo (n + 1)

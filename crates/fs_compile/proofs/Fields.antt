@@ -1,11 +1,10 @@
 -- The test of a list by a field's number, of which an absent one is above all.
-use Rattle.std.proofs.Common.{◌≡◌, ◌==◌, ℕ, ◌-◌, ◌^◌, ◌<◌, ◌≤◌, min, not, List, [], ◌∷◌, Bool, true, false, true≢false, ◌&&◌, ◌||◌, nat_le, nat_lt, if◌then◌else◌, Option, Some, None, refl, sym, ap, subst, ◌∙◌, arith}
+use Rattle.std.proofs.Common.{◌≡◌, ◌==◌, ℕ, ◌-◌, ◌^◌, ◌<◌, ◌≤◌, min, List, [], ◌∷◌, Bool, true, false, true≢false, ◌&&◌, ◌||◌, nat_le, nat_lt, if◌then◌else◌, Option, Some, None, refl, sym, ap, subst, ◌∙◌, arith}
 use Rattle.std.specs.Prelude.{Result, Ok, Err, IfOk}
 use Rattle.std.proofs.lemmas.Bool.Decides.{nat_tests}
 use Rattle.std.proofs.lemmas.Bool.{le-leb, leb-true, lt-leb}
 use Rattle.fs_base.specs.declared.error.Memory.{Memory}
 use Rattle.fs_nlri.specs.Parts.{ListBody, part}
-use Rattle.fs_ops.specs.Evaluation.{compares, has_bit, holds}
 use Rattle.fs_packet.specs.Fields.{Viewed}
 use Rattle.fs_packet.specs.Matching.{holds_of, list_matches}
 use Rattle.fs_compile.specs.declared.numbers.Numbers.{Numbers}
@@ -13,7 +12,7 @@ use Rattle.fs_compile.specs.declared.numbers.Numbers.TheVariants.{Ranges, Pairs}
 use Rattle.fs_compile.specs.declared.tests.Test.{Test}
 use Rattle.fs_compile.specs.declared.tests.Test.TheVariants.{Within, OneOf}
 use Rattle.fs_compile.specs.Facts.{IsSmall, IsSmallField, facts_of, field_number, number_of}
-use Rattle.fs_compile.specs.Numbers.{AreNumbersOf, IsOnlyNumber, has, has_field, is_equality, numbers_range}
+use Rattle.fs_compile.specs.Numbers.{AreNumbersOf, IsOnlyNumber, has, has_field, numbers_range}
 use Rattle.fs_compile.specs.Ranges.{range}
 use Rattle.fs_compile.specs.Spans.{clipped, is_in}
 use Rattle.fs_compile.specs.Tests.{IsFieldTest, IsTestOf}
@@ -72,21 +71,6 @@ in_range pairs numbers r n (Some k) are h e small = ap (λ (k : ℕ). is_in k r)
 
 pub within_test : (field : ℕ) (pairs : List (ℕ × ℕ)) (numbers : Numbers) (low high : ℕ) → AreNumbersOf pairs numbers → numbers_range numbers ≡ Some (low, high) → IsFieldTest field pairs (Within (range field low high))
 within_test field pairs numbers low high are h = λ facts number e small. in_range pairs numbers (low, high) (number_of facts field) number are (range_of numbers (low, high) h) e small
-
-only_pair : (x : Bool) → ((x && true) || false) ≡ x
-only_pair true = refl
-only_pair false = refl
-
--- a list of one pair, which is an equality
-pub is_only_number : (pairs : List (ℕ × ℕ)) (operator value : ℕ) → pairs ≡ (operator, value) ∷ [] → is_equality operator ≡ true → IsOnlyNumber pairs value
-is_only_number pairs operator value one equality =
-    λ n. ap (λ (ps : List (ℕ × ℕ)). holds (compares n) ps) one ∙ only_pair (compares n (operator, value)) ∙ at (has_bit operator 4) (has_bit operator 2) (has_bit operator 1) (nat_lt n value) (nat_lt value n) (n == value) equality
-  where
-    at : (a b c x y z : Bool) → (not a && (not b && c)) ≡ true → ((a && x) || ((b && y) || (c && z))) ≡ z
-    at false false true x y z h = refl
-    at false false false x y z h = absurd (true≢false (sym h))
-    at false true c x y z h = absurd (true≢false (sym h))
-    at true b c x y z h = absurd (true≢false (sym h))
 
 same_number : (k n : ℕ) → is_in k (n, n) ≡ (k == n)
 same_number k n = grind (arith, nat_tests)

@@ -1,21 +1,18 @@
 -- One test more of a rule, in a free place among its ranges or behind them.
-use Rattle.std.proofs.Common.{◌≡◌, ◌≢◌, ℕ, zero, suc, ◌+◌, ◌<◌, ◌≤◌, List, [], ◌∷◌, ◌++◌, length, drop, get_or, set, Bool, true, false, ◌&&◌, nat_le, Some, refl, sym, ap, subst, ◌∙◌, arith}
+use Rattle.std.proofs.Common.{◌≡◌, ◌≢◌, ℕ, zero, suc, ◌+◌, ◌<◌, ◌≤◌, List, [], ◌∷◌, length, drop, get_or, set, Bool, true, false, ◌&&◌, nat_le, Some, refl, sym, ap, subst, ◌∙◌, arith}
 use Rattle.std.specs.List.{list_all}
-use Rattle.std.proofs.Math.ListN.{length-set}
 use Rattle.std.proofs.Math.Seq.{drop-cons}
 use Rattle.std.proofs.lemmas.List.{drop_all, get_or-set_other, get_or-set_same}
-use Rattle.std.proofs.lemmas.List.Folds.{list_all-append}
 use Rattle.fs_nlri.specs.declared.component.Component.{Component}
 use Rattle.fs_nlri.specs.Component.{part_of, parts_of}
 use Rattle.fs_nlri.specs.Sound.{AreSound}
 use Rattle.fs_packet.specs.Fields.{Viewed}
 use Rattle.fs_packet.specs.Matching.{part_matches}
-use Rattle.fs_compile.specs.declared.facts.Facts.{Facts}
 use Rattle.fs_compile.specs.declared.ranges.Range.{Range}
 use Rattle.fs_compile.specs.declared.ranges.Ranges.{Ranges}
 use Rattle.fs_compile.specs.declared.tests.Test.{Test}
 use Rattle.fs_compile.specs.declared.tests.Test.TheVariants.{Within, OneOf, Ports, TcpFlags, Fragment, Destination, Source}
-use Rattle.fs_compile.specs.Facts.{AreFacts, IsSmall, facts_of, number_of}
+use Rattle.fs_compile.specs.Facts.{Facts, AreFacts, IsSmall, facts_of, number_of}
 use Rattle.fs_compile.specs.Fast.{AreFree, AreTestsOf, IsPlaced, all_pass}
 use Rattle.fs_compile.specs.Ranges.{bounds_at, field_at, free_ranges, is_in_range, range_at, range_holds, ranges_hold, with_range}
 use Rattle.fs_compile.specs.Tests.{IsTestOf, passes, test_range}
@@ -90,22 +87,6 @@ put_placed ranges new place range tests test below free is made = λ facts none.
     (λ i. ranges_hold facts (made i) && list_all (passes facts) tests)
     ∙ ap (λ (b : Bool). b && list_all (passes facts) tests) (four ∙ sym (ap (λ (b : Bool). ranges_hold facts ranges && b) (range_is facts test range is)))
     ∙ and_swap (ranges_hold facts ranges) (passes facts test) (list_all (passes facts) tests)
-
-placed_free : (ranges : Ranges) (place : ℕ) (range : Range) → AreFree place ranges → AreFree (place + 1) (with_range ranges place range)
-placed_free ranges place range free = record {
-  fields = length-set ranges.fields place range.field ∙ free.fields;
-  bounds = length-set ranges.bounds place (range.low, range.high) ∙ free.bounds;
-  free = λ k low high. (other_field ranges place k range (λ e. omega arith) ∙ (free.free k (omega arith) high).0, other_bounds ranges place k range (λ e. omega arith) ∙ (free.free k (omega arith) high).1);
-}
-
-pub put_free : (ranges new : Ranges) (place : ℕ) (range : Range) → AreFree place ranges → new ≡ with_range ranges place range → AreFree (place + 1) new
-put_free ranges new place range free made = subst (λ (r : Ranges). AreFree (place + 1) r) (sym made) (placed_free ranges place range free)
-
-pub push_placed : (ranges : Ranges) (tests more : List Test) (test : Test) → more ≡ tests ++ test ∷ [] → IsPlaced test ranges tests ranges more
-push_placed ranges tests more test made = λ facts none.
-    ap (λ (all : List Test). ranges_hold facts ranges && list_all (passes facts) all) made
-    ∙ ap (λ (b : Bool). ranges_hold facts ranges && b) (list_all-append (passes facts) tests (test ∷ []) ∙ ap (λ (b : Bool). list_all (passes facts) tests && b) (and_true (passes facts test)))
-    ∙ sym (and_assoc (ranges_hold facts ranges) (list_all (passes facts) tests) (passes facts test))
 
 -- the components before the index are compiled
 pub record Compiling (components : List Component) (index used : ℕ) (ranges : Ranges) (tests : List Test) : Type 0 where

@@ -64,10 +64,6 @@ number_below : (address : Address) → IsSmallAddress address → number_of addr
 number_below (V4Address a) h = h
 number_below (V6Address a) h = h
 
--- the span of a rule's destination, by the destination
-pub span_some : (rule : Ruled) (d : Family × ℕ × ℕ) (p : ℕ × ℕ) → destination_of rule ≡ Some d → span_of rule ≡ Some p → p ≡ (d.1, last_shown d)
-span_some rule d p e s = sym (some_same (d.1, last_shown d) p (sym (ap span_by e) ∙ s))
-
 pub record HasDestination (rule : Ruled) (p : ℕ × ℕ) : Type 0 where
   pub d : Family × ℕ × ℕ
   pub is : destination_of rule ≡ Some d

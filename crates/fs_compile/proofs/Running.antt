@@ -1,5 +1,5 @@
 -- Runs, one rule more; their parents and nodes; and the buckets that these are.
-use Rattle.std.proofs.Common.{◌≡◌, ℕ, ◌+◌, ◌-◌, ◌<◌, ◌≤◌, ◌⊎◌, inl, inr, refl, sym, ap, ap₂, subst, ◌∙◌, ◌++◌, [], ◌∷◌, Option, Some, None, List, length, get_or, set, length-append, get_or-set_same, get_or-set_other, arith}
+use Rattle.std.proofs.Common.{◌≡◌, ℕ, ◌+◌, ◌-◌, ◌<◌, ◌≤◌, ◌⊎◌, inl, inr, refl, sym, ap, ap₂, subst, ◌∙◌, ◌++◌, [], ◌∷◌, Option, Some, None, List, length, get_or, length-append, arith}
 use Rattle.std.proofs.lemmas.Bool.{cases_lt, cases_order}
 use Rattle.std.proofs.lemmas.List.{get_or_append_left, get_or_push}
 use Rattle.fs_compile.specs.declared.nodes.Node.{Node}
@@ -128,67 +128,10 @@ open_runs spans fs ls ss hs low high s now = record {
       subst (λ x. get_or spans (get_or (ss ++ length hs ∷ []) x 0) None ≡ Some (get_or (fs ++ low ∷ []) x 0, get_or (ls ++ high ∷ []) x 0)) same
       (ap (λ x. get_or spans x None) ss_new ∙ now ∙ sym pair_new)
 
--- no rule yet
-pub no_runs : (spans : List (Option (ℕ × ℕ))) → AreRuns spans [] [] [] []
-no_runs spans = record {
-  firsts_size = refl;
-  starts_size = refl;
-  few = omega arith;
-  home = λ k b. omega (arith, b);
-  span = λ k b. absurd (none k b);
-  begins = λ k b. omega (arith, b);
-  ends = λ k b. absurd (none k b);
-  rising = λ i j l b. absurd (none j b);
-  started = λ i b. absurd (none i b);
-  owner = λ i b. absurd (none i b);
-} where
-  none : (k : ℕ) → k < 0 → ⊥
-  none k b = omega (arith, b)
-
--- One parent more, from the back.
-pub plain_more : (firsts parents : List ℕ) (i p : ℕ) → length parents ≡ length firsts → i < length firsts → ArePlain firsts parents (i + 1)
-    → i < p → p ≤ length firsts → ((j : ℕ) → i < j → j < p → get_or firsts i 0 < get_or firsts j 0) → ArePlain firsts (set parents i p) i
-plain_more firsts parents i p size inside plain after within least = record {
-  after = λ k low below. by_place k low (λ x. k < x) (λ more. plain.after k more below) (λ same. subst (λ x. x < p) same after);
-  within = λ k low below. by_place k low (λ x. x ≤ length firsts) (λ more. plain.within k more below) (λ same. within);
-  least = λ k j low below less. by_place k low (λ x. j < x → get_or firsts k 0 < get_or firsts j 0) (λ more under. plain.least k j more below less under)
-      (λ same under. subst (λ x. get_or firsts x 0 < get_or firsts j 0) same (least j (subst (λ x. x < j) (sym same) less) under));
-} where
-  other : (k : ℕ) → i + 1 ≤ k → k ≡ i → ⊥
-  other k more same = omega (arith, more, same)
-
-  by_place : (k : ℕ) → i ≤ k → (P : ℕ → Type 0) → (i + 1 ≤ k → P (get_or parents k 0)) → (i ≡ k → P p) → P (get_or (set parents i p) k 0)
-  by_place k low P old new = at (cases_lt i k) where
-    at : (i < k) ⊎ (k ≤ i) → P (get_or (set parents i p) k 0)
-    at (inl less) = subst P (sym (get_or-set_other parents i k p 0 (other k (omega (arith, less))))) (old (omega (arith, less)))
-    at (inr over) =
-        let same : i ≡ k = omega (arith, low, over) in
-        subst (λ x. P (get_or (set parents i p) x 0)) same (subst P (sym (get_or-set_same parents i p 0 (omega (arith, size, inside)))) (new same))
-
 -- the nodes of the first runs
 pub record AreNodesTo (firsts starts parents : List ℕ) (n : ℕ) (nodes : List (Node ℕ)) : Type 0 where
   pub size : length nodes ≡ n
   pub each : (k : ℕ) → k < n → node_at nodes k ≡ record { first = get_or firsts k 0; start = get_or starts k 0; parent = get_or parents k 0 }
-
-pub nodes_more : (firsts starts parents : List ℕ) (n : ℕ) (nodes all : List (Node ℕ)) (new : Node ℕ) → AreNodesTo firsts starts parents n nodes → all ≡ nodes ++ new ∷ []
-    → new ≡ record { first = get_or firsts n 0; start = get_or starts n 0; parent = get_or parents n 0 } → AreNodesTo firsts starts parents (n + 1) all
-nodes_more firsts starts parents n nodes all new s e is = subst (AreNodesTo firsts starts parents (n + 1)) (sym e) (record {
-  size = let a : length nodes ≡ n = s.size in omega (arith, longer nodes new, a);
-  each = λ k below. at k below (cases_lt k n);
-}) where
-  at : (k : ℕ) → k < n + 1 → (k < n) ⊎ (n ≤ k) → node_at (nodes ++ new ∷ []) k ≡ record { first = get_or firsts k 0; start = get_or starts k 0; parent = get_or parents k 0 }
-  at k below (inl inside) = get_or_append_left nodes (new ∷ []) _ k (subst (λ x. k < x) (sym s.size) inside) ∙ s.each k inside
-  at k below (inr end) =
-      let same : n ≡ k = omega (arith, below, end) in
-      subst (λ x. node_at (nodes ++ new ∷ []) x ≡ record { first = get_or firsts x 0; start = get_or starts x 0; parent = get_or parents x 0 }) same (get_or_push nodes new _ n s.size ∙ is)
-
-pub nodes_end : (firsts starts parents : List ℕ) (n homed : ℕ) (nodes all : List (Node ℕ)) (new : Node ℕ) → AreNodesTo firsts starts parents n nodes → all ≡ nodes ++ new ∷ []
-    → n ≡ length firsts → new.start ≡ homed → AreNodes firsts starts parents homed all
-nodes_end firsts starts parents n homed nodes all new s e last tail = subst (AreNodes firsts starts parents homed) (sym e) (record {
-  size = let a : length nodes ≡ n = s.size in omega (arith, longer nodes new, a, last);
-  each = λ k below. get_or_append_left nodes (new ∷ []) _ k (let a : length nodes ≡ n = s.size in omega (arith, below, a, last)) ∙ s.each k (omega (arith, below, last));
-  tail = ap (λ (x : Node ℕ). x.start) (get_or_push nodes new _ (length firsts) (s.size ∙ last)) ∙ tail;
-})
 
 -- Runs with their parents and nodes are buckets.
 pub buckets_from : (spans : List (Option (ℕ × ℕ))) (fs ls ss hs ps : List ℕ) (nodes : List (Node ℕ)) (count : ℕ) → AreNesting spans → AreRuns spans fs ls ss hs

@@ -3,7 +3,16 @@ use Rattle.std.specs.Prelude.{◌≡◌, ℕ, ◌%◌, ◌^◌, ◌<◌, List, [
 use Rattle.fs_base.specs.declared.config.Address.{Address}
 use Rattle.fs_base.specs.declared.config.Address.TheVariants.{V4, V6}
 use Rattle.fs_packet.specs.Fields.{Viewed}
-use Rattle.fs_compile.specs.declared.facts.Facts.{Facts}
+use Rattle.fs_base.specs.declared.prefix.Family.{Family}
+
+-- what a rule is tested on
+pub record Facts : Type 0 where
+  pub family : Family
+  pub destination : Address
+  pub source : Address
+  pub tcp_octets : Option ℕ
+  pub fragment : ℕ
+  pub numbers : List ℕ
 
 abbrev pub field_number : Option ℕ → ℕ
 field_number None = 2 ^ 32
@@ -37,16 +46,20 @@ numbers_of view =
 abbrev pub number_of : Facts → (field : ℕ) → ℕ
 number_of facts field = slice_index facts.numbers (field % 16)
 
--- the facts of a packet
-abbrev pub facts_of : Viewed → Facts
-facts_of view = record {
+-- a packet's fields, with these numbers
+abbrev pub facts_with : Viewed → List ℕ → Facts
+facts_with view numbers = record {
   family = view.family;
   destination = view.destination;
   source = view.source;
   tcp_octets = view.tcp_octets;
   fragment = view.fragment;
-  numbers = numbers_of view;
+  numbers = numbers;
 }
+
+-- the facts of a packet
+abbrev pub facts_of : Viewed → Facts
+facts_of view = facts_with view (numbers_of view)
 
 abbrev pub IsSmallField : Option ℕ → Type 0
 IsSmallField None = Unit {0}

@@ -5,11 +5,10 @@ use Rattle.fs_base.specs.Bits.{afi_of}
 use Rattle.fs_nlri.specs.Parts.{Part, Ruled}
 use Rattle.fs_packet.specs.Fields.{Viewed}
 use Rattle.fs_packet.specs.Matching.{is_match, part_matches}
-use Rattle.fs_compile.specs.declared.facts.Facts.{Facts}
 use Rattle.fs_compile.specs.declared.fast.Fast.{Fast}
 use Rattle.fs_compile.specs.declared.ranges.Ranges.{Ranges}
 use Rattle.fs_compile.specs.declared.tests.Test.{Test}
-use Rattle.fs_compile.specs.Facts.{IsSmall, facts_of, number_of}
+use Rattle.fs_compile.specs.Facts.{Facts, IsSmall, facts_of, number_of}
 use Rattle.fs_compile.specs.Ranges.{bounds_at, field_at, ranges_hold}
 use Rattle.fs_compile.specs.Tests.{passes}
 

@@ -1,9 +1,8 @@
 -- Ranges of a packet's fields, of which four stand within a rule.
 use Rattle.std.specs.Prelude.{ℕ, Bool, ◌&&◌, nat_le, [], ◌∷◌, get_or, set}
-use Rattle.fs_compile.specs.declared.facts.Facts.{Facts}
 use Rattle.fs_compile.specs.declared.ranges.Range.{Range}
 use Rattle.fs_compile.specs.declared.ranges.Ranges.{Ranges}
-use Rattle.fs_compile.specs.Facts.{number_of}
+use Rattle.fs_compile.specs.Facts.{Facts, number_of}
 
 abbrev pub is_in_range : Facts → (field low high : ℕ) → Bool
 is_in_range facts field low high = nat_le low (number_of facts field) && nat_le (number_of facts field) high

@@ -6,12 +6,11 @@ use Rattle.fs_ops.specs.Evaluation.{holds, masks}
 use Rattle.fs_nlri.specs.Parts.{Part}
 use Rattle.fs_packet.specs.Fields.{Viewed}
 use Rattle.fs_packet.specs.Matching.{holds_of, part_matches}
-use Rattle.fs_compile.specs.declared.facts.Facts.{Facts}
 use Rattle.fs_compile.specs.declared.pattern.Pattern.{Pattern}
 use Rattle.fs_compile.specs.declared.ranges.Range.{Range}
 use Rattle.fs_compile.specs.declared.tests.Test.{Test}
 use Rattle.fs_compile.specs.declared.tests.Test.TheVariants.{Within, OneOf, Ports, TcpFlags, Fragment, Destination, Source}
-use Rattle.fs_compile.specs.Facts.{IsSmall, IsSmallField, facts_of, field_number, number_of}
+use Rattle.fs_compile.specs.Facts.{Facts, IsSmall, IsSmallField, facts_of, field_number, number_of}
 use Rattle.fs_compile.specs.Numbers.{has_field}
 use Rattle.fs_compile.specs.Ranges.{range_holds}
 

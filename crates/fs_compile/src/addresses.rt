@@ -88,6 +88,9 @@ fn find_narrow(items: &[u32], address: u128) -> usize
     }
 }
 
+/// Among so many addresses the place is counted: a jump that nobody can foretell costs more than they do.
+const FEW: usize = 16;
+
 /// The place among addresses of IPv4 of one of them: it is compared in its own 32 bits.
 fn find_in_width(items: &[u32], address: u32) -> usize
     requires { AreRising items.now }
@@ -95,7 +98,34 @@ fn find_in_width(items: &[u32], address: u32) -> usize
     ensures below { (b : ℕ) → b < result → get_or items.now b 0 < address }
     ensures from { (b : ℕ) → result ≤ b → b < length items.now → address ≤ get_or items.now b 0 }
 {
-    items.partition_point(|item| *item < address)
+    let mut from = 0;
+    let mut to = items.len();
+    'halves: while to - from > FEW {
+        let middle = from + (to - from) / 2;
+        if items[middle] < address {
+            from = middle + 1;
+        } else {
+            to = middle;
+        }
+    }
+    count_below(items, from, to, address)
+}
+
+/// The place of the first that isn't below the address, which lies from one place on up to another.
+fn count_below(items: &[u32], from: usize, to: usize, address: u32) -> usize
+    requires rising { AreRising items.now }
+    requires bounds { (from ≤ to) × (to ≤ length items.now) }
+    requires before { (b : ℕ) → b < from → get_or items.now b 0 < address }
+    requires behind { (b : ℕ) → to ≤ b → b < length items.now → address ≤ get_or items.now b 0 }
+    ensures within { result ≤ length items.now }
+    ensures below { (b : ℕ) → b < result → get_or items.now b 0 < address }
+    ensures from { (b : ℕ) → result ≤ b → b < length items.now → address ≤ get_or items.now b 0 }
+{
+    let mut place = from;
+    for number in from..to {
+        place += (items[number] < address) as usize;
+    }
+    place
 }
 
 /// The place among addresses of IPv4 of a number that may have more bits.

@@ -2,7 +2,8 @@
 
 ghost use Rattle.std.specs.Prelude.{◌≡◌, ◌≤◌, ◌+◌, IfOk, List};
 ghost use Rattle.fs_base.specs.declared.prefix.Family.{Family};
-ghost use Rattle.fs_rules.specs.Lent.{Listed};
+ghost use Rattle.fs_base.specs.declared.prefix.Family.TheVariants.{V4, V6};
+ghost use Rattle.fs_rules.specs.Lent.{Listed, all_admitted};
 ghost use Rattle.fs_compile.specs.Index.{IsIndexOf};
 ghost use Rattle.fs_compile.specs.Matcher.{StandsForLists, WalksByNext, admitted_in, next_from};
 ghost use Rattle.fs_compile.specs.Reach.{reaching};
@@ -10,7 +11,7 @@ ghost use Rattle.fs_compile.specs.Reach.{reaching};
 use crate::index::Index;
 use fs_base::{Family, Memory, Steps};
 use fs_packet::View;
-use fs_rules::Table;
+use fs_rules::{Admitted, Table};
 use std::alloc::Global;
 use std::sync::ledger::Ledger;
 
@@ -19,6 +20,14 @@ use std::sync::ledger::Ledger;
 pub struct Compiled {
     v4: Index,
     v6: Index,
+}
+
+/// The admitted rules of a table: those of each family in order, and all compiled.
+#[derive(Drop)]
+pub struct Rules<'t> {
+    pub v4: Vec<Admitted<'t>>,
+    pub v6: Vec<Admitted<'t>>,
+    pub compiled: Compiled,
 }
 
 impl Compiled {
@@ -30,10 +39,8 @@ impl Compiled {
     pub fn build(alloc: Global, table: &Table<'_>) -> Result<Compiled, Memory>
         ensures { IfOk result (StandsForLists (admitted_in table.now)) }
     {
-        Ok(Compiled {
-            v4: admitted_index(alloc, table, Family::V4)?,
-            v6: admitted_index(alloc, table, Family::V6)?,
-        })
+        let Rules { compiled, .. } = rules_of(alloc, table)?;
+        Ok(compiled)
     }
 
     /// The least number, from 0, of a rule of the packet's family that matches it. At most as many steps as the
@@ -72,12 +79,40 @@ impl Compiled {
     }
 }
 
-/// The index of the rules of the family that the table admits.
-fn admitted_index(alloc: Global, table: &Table<'_>, family: Family) -> Result<Index, Memory>
-    ensures { IfOk result (IsIndexOf family (admitted_in table.now family)) }
+/// The rules that the table admits now, listed and compiled.
+///
+/// # Errors
+///
+/// As of [`Compiled::build`].
+pub fn rules_of<'t>(alloc: Global, table: &'t Table<'_>) -> Result<Rules<'t>, Memory>
+    ensures v4 { IfOk result (λ rules. all_admitted rules.v4.items ≡ admitted_in table.now V4) }
+    ensures v6 { IfOk result (λ rules. all_admitted rules.v6.items ≡ admitted_in table.now V6) }
+    ensures compiled { IfOk result (λ rules. StandsForLists (admitted_in table.now) rules.compiled) }
+{
+    let (v4, index_v4) = admitted_index(alloc, table, Family::V4)?;
+    let (v6, index_v6) = admitted_index(alloc, table, Family::V6)?;
+    Ok(Rules {
+        v4,
+        v6,
+        compiled: Compiled {
+            v4: index_v4,
+            v6: index_v6,
+        },
+    })
+}
+
+/// The rules of the family that the table admits, and their index.
+fn admitted_index<'t>(
+    alloc: Global,
+    table: &'t Table<'_>,
+    family: Family,
+) -> Result<(Vec<Admitted<'t>>, Index), Memory>
+    ensures list { IfOk result (λ made. all_admitted made.0.items ≡ admitted_in table.now family) }
+    ensures index { IfOk result (λ made. IsIndexOf family (admitted_in table.now family) made.1) }
 {
     let list = table.admitted(family)?;
-    Index::of(alloc, family, &list)
+    let index = Index::of(alloc, family, &list)?;
+    Ok((list, index))
 }
 
 /// A law of the walk: taken by a search from number to number, it is the walk over the rules in order.

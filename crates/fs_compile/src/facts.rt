@@ -3,39 +3,41 @@
 ghost use Rattle.std.specs.Prelude.{◌≡◌, ◌<◌, ◌^◌};
 ghost use Rattle.fs_compile.specs.Facts.{AreFacts, IsSmallAddress, IsSmallField, address_number, field_number, number_of};
 
-use fs_base::{Address, Family};
+use fs_base::Address;
 use fs_packet::View;
+use std::marker::Model;
 
 /// Above each number that a field can have: what stands for a field that the packet doesn't have.
 pub(crate) const ABSENT: u64 = 1 << 32;
 
-/// The fields that a rule is tested on, read from a packet once.
+/// The fields that a rule is tested on. The numbers among them are read from the packet once, the others where a rule
+/// asks for them.
 #[derive(Drop)]
-pub(crate) struct Facts {
-    pub(crate) family: Family,
-    pub(crate) destination: Address,
-    pub(crate) source: Address,
-    pub(crate) tcp_octets: Option<u16>,
-    pub(crate) fragment: u8,
+pub(crate) struct Facts<'a> {
+    pub(crate) view: &'a View<'a>,
     /// By the type of the component that tests it; at 1 and 2 the addresses of IPv4. Where the packet doesn't have the
     /// field, or the type's test isn't one of a single number, `ABSENT`; at 0 always 0.
     numbers: [u64; 16],
 }
 
-impl Facts {
+impl<'a> Model for Facts<'a> {
+    ghost use Rattle.fs_compile.specs.Facts.{Facts, facts_with};
+
+    ghost Value = { Facts };
+
+    ghost view = { λ a. facts_with a.view.now a.numbers };
+}
+
+impl<'a> Facts<'a> {
     /// Reads them.
     #[inline(always)]
-    pub(crate) fn of(view: &View<'_>) -> Facts
+    pub(crate) fn of(view: &'a View<'a>) -> Facts<'a>
         ensures { AreFacts view.now result }
     {
         let destination = view.destination();
         let source = view.source();
         Facts {
-            family: view.family(),
-            destination,
-            source,
-            tcp_octets: view.tcp_octets(),
-            fragment: view.fragment(),
+            view,
             numbers: [
                 0,
                 address_number(destination),

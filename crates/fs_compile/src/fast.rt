@@ -56,7 +56,7 @@ impl Fast {
     pub(crate) fn test_facts<L: Ledger>(
         &self,
         _view: &View<'_>,
-        facts: &Facts,
+        facts: &Facts<'_>,
         steps: &mut Steps<L>,
     ) -> bool
         requires { AreFacts _view.now facts.now }
@@ -67,14 +67,16 @@ impl Fast {
         self.holds(facts)
     }
 
-    fn holds(&self, facts: &Facts) -> bool
+    fn holds(&self, facts: &Facts<'_>) -> bool
         ensures { result ≡ holds_of_facts facts.now self.now }
     {
-        self.family == facts.family && self.ranges.hold(facts) && all_pass(&self.tests, facts)
+        self.family == facts.view.family()
+            && self.ranges.hold(facts)
+            && all_pass(&self.tests, facts)
     }
 }
 
-fn all_pass(tests: &[Test], facts: &Facts) -> bool
+fn all_pass(tests: &[Test], facts: &Facts<'_>) -> bool
     ensures { result ≡ list_all (passes facts.now) tests.now }
 {
     for test in tests {

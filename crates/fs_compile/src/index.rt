@@ -4,10 +4,11 @@ ghost use Rattle.std.specs.Prelude.{◌≡◌, ◌≤◌, ◌+◌, ◌<◌, ◌^
 ghost use Rattle.std.specs.List.{AllByRecursion};
 ghost use Rattle.fs_rules.specs.Lent.{Listed, all_admitted};
 ghost use Rattle.fs_compile.specs.Addresses.{nodes_in, numbers_in};
-ghost use Rattle.fs_compile.specs.Index.{IsIndexOf, IsOfFamily, StandForEach, spans_of};
+ghost use Rattle.fs_compile.specs.Index.{AreHoused, IsIndexOf, IsOfFamily, StandForEach, spans_of};
 ghost use Rattle.fs_compile.specs.Matcher.{next_from};
 ghost use Rattle.fs_compile.specs.Reach.{reaching};
 ghost use Rattle.fs_compile.specs.Runs.{AreNesting};
+ghost use Rattle.fs_compile.specs.Search.{AreSound};
 
 use crate::buckets::Buckets;
 use crate::fast::Fast;
@@ -52,18 +53,9 @@ impl Index {
         if list.len() > MOST {
             return Err(Memory);
         }
-        let runs = runs_of(alloc, family, list)?;
-        let parents = parents_of(alloc, &runs.firsts)?;
-        let nodes = nodes_of(alloc, family, &runs, &parents)?;
+        let buckets = buckets_of(alloc, family, list)?;
         let rules = compiled_rules(alloc, list)?;
-        Ok(Index {
-            buckets: Buckets {
-                lasts: runs.lasts,
-                nodes,
-                homes: runs.homes,
-            },
-            rules,
-        })
+        Ok(Index { buckets, rules })
     }
 
     /// The least number of a rule that matches the packet, which is of the family.
@@ -99,6 +91,23 @@ impl Index {
         }
         search_behind(&self.buckets, &self.rules, view, n, steps)
     }
+}
+
+/// The buckets of the rules. What is reckoned on the way is given back before the rules are compiled.
+fn buckets_of(alloc: Global, family: Family, list: &[Admitted<'_>]) -> Result<Buckets, Memory>
+    requires few { length list.now < 2 ^ 32 }
+    requires nesting { AreNesting (spans_of (all_admitted list.now)) }
+    ensures sound { IfOk result (λ buckets. AreSound buckets (length list.now)) }
+    ensures housed { IfOk result (AreHoused (spans_of (all_admitted list.now))) }
+{
+    let runs = runs_of(alloc, family, list)?;
+    let parents = parents_of(alloc, &runs.firsts)?;
+    let nodes = nodes_of(alloc, family, &runs, &parents)?;
+    Ok(Buckets {
+        lasts: runs.lasts,
+        nodes,
+        homes: runs.homes,
+    })
 }
 
 /// Compiles each rule.

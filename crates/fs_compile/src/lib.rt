@@ -20,6 +20,6 @@ mod search;
 mod spans;
 mod tests;
 
-pub use compiled::{Compiled, walks_by_next};
+pub use compiled::{Compiled, Rules, rules_of, walks_by_next};
 pub use fast::Fast;
 pub use spans::Spans;

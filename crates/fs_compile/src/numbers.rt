@@ -9,7 +9,8 @@ use fs_base::Memory;
 use fs_ops::NumList;
 use std::alloc::Global;
 
-/// A list of more pairs is kept as it is: its ranges take time by the square of the pairs.
+/// A list of more pairs is kept as it is: its ranges would be tried one by one, as its pairs are, and making them takes
+/// several times its room.
 const MOST_PAIRS: usize = 64;
 
 /// The numbers that a list holds of.

@@ -15,7 +15,7 @@ pub(crate) struct Range {
 }
 
 impl Range {
-    pub(crate) fn holds(&self, facts: &Facts) -> bool
+    pub(crate) fn holds(&self, facts: &Facts<'_>) -> bool
         ensures { result ≡ range_holds facts.now self.now }
     {
         is_in_range(self.field, self.low, self.high, facts)
@@ -53,7 +53,7 @@ impl Ranges {
     }
 
     /// Whether all four hold.
-    pub(crate) fn hold(&self, facts: &Facts) -> bool
+    pub(crate) fn hold(&self, facts: &Facts<'_>) -> bool
         ensures { result ≡ ranges_hold facts.now self.now }
     {
         self.holds_at(0, facts)
@@ -62,7 +62,7 @@ impl Ranges {
             && self.holds_at(3, facts)
     }
 
-    fn holds_at(&self, place: usize, facts: &Facts) -> bool
+    fn holds_at(&self, place: usize, facts: &Facts<'_>) -> bool
         requires { place < 4 }
         ensures { result ≡ range_at facts.now self.now place }
     {
@@ -71,7 +71,7 @@ impl Ranges {
     }
 }
 
-fn is_in_range(field: u8, low: u32, high: u32, facts: &Facts) -> bool
+fn is_in_range(field: u8, low: u32, high: u32, facts: &Facts<'_>) -> bool
     ensures { result ≡ is_in_range facts.now field low high }
 {
     let number = facts.number(field);

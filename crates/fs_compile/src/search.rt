@@ -29,7 +29,7 @@ pub(crate) struct Place {
 fn scan<L: Ledger>(
     rules: &[Fast],
     view: &View<'_>,
-    facts: &Facts,
+    facts: &Facts<'_>,
     from: usize,
     to: usize,
     steps: &mut Steps<L>,
@@ -56,7 +56,7 @@ fn scan_bucket<L: Ledger>(
     buckets: &Buckets,
     rules: &[Fast],
     view: &View<'_>,
-    facts: &Facts,
+    facts: &Facts<'_>,
     place: Place,
     steps: &mut Steps<L>,
 ) -> Option<usize>
@@ -99,7 +99,7 @@ pub(crate) fn climb<L: Ledger>(
     buckets: &Buckets,
     rules: &[Fast],
     view: &View<'_>,
-    facts: &Facts,
+    facts: &Facts<'_>,
     start: Place,
     steps: &mut Steps<L>,
 ) -> Option<usize>

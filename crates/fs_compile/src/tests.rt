@@ -27,7 +27,7 @@ pub(crate) enum Test {
 }
 
 impl Test {
-    pub(crate) fn passes(&self, facts: &Facts) -> bool
+    pub(crate) fn passes(&self, facts: &Facts<'_>) -> bool
         ensures { result ≡ passes facts.now self.now }
     {
         match self {
@@ -36,10 +36,10 @@ impl Test {
             Test::Ports(numbers) => {
                 numbers.contains_field(facts.number(6)) || numbers.contains_field(facts.number(5))
             }
-            Test::TcpFlags(list) => flags_pass(list, facts.tcp_octets),
-            Test::Fragment(list) => list.eval(facts.fragment.into()),
-            Test::Destination(pattern) => is_under(pattern, facts.destination),
-            Test::Source(pattern) => is_under(pattern, facts.source),
+            Test::TcpFlags(list) => flags_pass(list, facts.view.tcp_octets()),
+            Test::Fragment(list) => list.eval(facts.view.fragment().into()),
+            Test::Destination(pattern) => is_under(pattern, facts.view.destination()),
+            Test::Source(pattern) => is_under(pattern, facts.view.source()),
         }
     }
 

@@ -24,7 +24,7 @@ use Rattle.fs_stages.specs.Refusal.{status_of}
 use Rattle.fs_stages.proofs.LookingAhead.{stands_later}
 use Rattle.fs_stages.proofs.Playing.{all_more}
 use Rattle.fs_enforce.specs.Judge.{AdmittedRules, Ceases, admitted_rules, always, lines_from, output_of, packet_text, rules_by, status_at}
-use Rattle.fs_enforce.specs.Kept.{BreaksLine}
+use Rattle.fs_enforce.specs.Snapshot.{BreaksLine}
 use Rattle.fs_enforce.specs.Moments.{BreaksOff, CameTo, HoldAt, LeaveSameAt, came_lines}
 use Rattle.fs_enforce.proofs.Judging.{lines_append}
 

@@ -1,11 +1,11 @@
 -- A capture that is judged packet by packet.
-use Rattle.std.proofs.Common.{◌≡◌, ◌⊎◌, inl, inr, ◌≤◌, ◌+◌, ℕ, List, [], ◌∷◌, ◌++◌, Option, Result, Ok, Err, length, refl, ap, sym, ◌∙◌, append_assoc, append-nil, length-append, arith}
+use Rattle.std.proofs.Common.{◌≡◌, ◌⊎◌, inl, inr, ◌≤◌, ◌+◌, ℕ, List, [], ◌∷◌, ◌++◌, Option, Result, Ok, Err, length, ap, sym, ◌∙◌, append_assoc, append-nil, length-append, arith}
 use Rattle.std.specs.Result.{MatchResult, IsErrAnd}
 use Rattle.fs_base.specs.Outside.{Rose}
 use Rattle.fs_base.specs.Parts.{with_part}
-use Rattle.fs_records.specs.Records.{End, done}
+use Rattle.fs_records.specs.Records.{End}
 use Rattle.fs_line.specs.Output.{Goes, Stops}
-use Rattle.fs_line.proofs.Outputs.{goes_none, goes_then, goes_stops, stops_more, goes_as, stops_as}
+use Rattle.fs_line.proofs.Outputs.{goes_then, goes_stops, stops_more, goes_as, stops_as}
 use Rattle.fs_line.specs.Line.{line_of}
 use Rattle.fs_packet.specs.Fields.{Viewed}
 use Rattle.fs_rules.specs.Walk.{walk_of}
@@ -40,9 +40,6 @@ lines_parted rules gone packet packets number e =
     ∙ ap (λ (k : ℕ). lines_from 0 rules gone ++ (packet_text (k + 1) (rules packet.moment) packet.link packet.octets ++ lines_from (k + 1) rules packets)) (omega (arith, e))
     ∙ sym (append_assoc (lines_from 0 rules gone) (packet_text (number + 1) (rules packet.moment) packet.link packet.octets) (lines_from (number + 1) rules packets))
 
-pub judging_none : (rules : ℕ → AdmittedRules) (all : List Captured × End CaptureReason) (now : Option (List ℕ)) (pending : List ℕ) → Judging rules all all now now pending pending 0
-judging_none rules all now pending = record { gone = []; parts = refl; end_is = refl; count = refl; goes = goes_none now pending }
-
 pub judging_more : (rules : ℕ → AdmittedRules) (all rest rest' : List Captured × End CaptureReason) (before now now' : Option (List ℕ)) (pending pending_now pending' : List ℕ) (number : ℕ) (packet : Captured)
     → Judging rules all rest before now pending pending_now number → rest ≡ with_part packet rest'
     → Goes now now' pending_now pending' (packet_text (number + 1) (rules packet.moment) packet.link packet.octets)
@@ -57,14 +54,6 @@ judging_more rules all rest rest' before now now' pending pending_now pending' n
 
 pub lines_all : (rules : ℕ → AdmittedRules) (all rest : List Captured × End CaptureReason) (gone : List Captured) → all.0 ≡ gone ++ rest.0 → rest.0 ≡ [] → lines_from 0 rules gone ≡ lines_from 0 rules all.0
 lines_all rules all rest gone parts e = ap (lines_from 0 rules) (sym (parts ∙ ap (λ (z : List Captured). gone ++ z) e ∙ append-nil gone))
-
-pub judging_done : (rules : ℕ → AdmittedRules) (all rest : List Captured × End CaptureReason) (before now : Option (List ℕ)) (pending pending_now : List ℕ) (number : ℕ)
-    → Judging rules all rest before now pending pending_now number → rest ≡ ([], done)
-    → (all.1 ≡ done) × Goes before now pending pending_now (lines_from 0 rules all.0)
-judging_done rules all rest before now pending pending_now number p e = (
-  p.end_is ∙ ap (λ (r : List Captured × End CaptureReason). r.1) e,
-  goes_as (lines_all rules all rest p.gone p.parts (ap (λ (r : List Captured × End CaptureReason). r.0) e)) p.goes,
-)
 
 pub judging_ceased : (rules : ℕ → AdmittedRules) (all rest : List Captured × End CaptureReason) (before now : Option (List ℕ)) (pending pending_now : List ℕ) (number : ℕ) (first mid after : ℕ) (other : Type 0) (cause refusal : Refusal)
     → Judging rules all rest before now pending pending_now number → first ≤ mid → refusal ≡ cause → Ceases rest (Rose mid after) cause

@@ -2,6 +2,6 @@ pub mod Answering
 pub mod AtMoments
 pub mod Enforcing
 pub mod Judging
-pub mod KeptWalk
+pub mod SnapshotWalk
 pub mod MomentAnswers
 pub mod Walking

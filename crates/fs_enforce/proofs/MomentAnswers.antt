@@ -1,5 +1,5 @@
 -- How the answer of a run follows from what was judged at the packets' moments.
-use Rattle.std.proofs.Common.{◌≡◌, ◌≢◌, ◌⊎◌, inl, inr, ◌∙◌, ◌≤◌, ℕ, List, [], ◌∷◌, Bool, true, Option, Some, None, Result, Ok, Err, length, take, drop, filter, refl, ap, sym, subst, append-nil, arith}
+use Rattle.std.proofs.Common.{◌≡◌, ◌≢◌, ◌⊎◌, inl, inr, ◌∙◌, ◌≤◌, ℕ, List, [], ◌∷◌, Bool, true, Option, Result, Ok, Err, length, take, filter, refl, ap, sym, subst, append-nil, arith}
 use Rattle.std.specs.Prelude.{nat_le, if◌then◌else◌}
 use Rattle.std.specs.Result.{IsErrAnd}
 use Rattle.std.proofs.lemmas.Bool.Decides.{nat_tests}
@@ -7,28 +7,24 @@ use Rattle.std.proofs.lemmas.Grind.{common_steps}
 use Rattle.fs_base.specs.Sink.{Grew, GrewPart}
 use Rattle.fs_base.specs.declared.config.Config.{Config}
 use Rattle.fs_base.proofs.Grew.{Grew-refl, part_whole, part_none}
-use Rattle.fs_records.specs.Records.{End, limited, bad}
+use Rattle.fs_records.specs.Records.{End}
 use Rattle.fs_base.specs.Outside.{Rose}
-use Rattle.fs_records.specs.declared.fault.Fault.{Fault}
-use Rattle.fs_records.specs.declared.fault.Fault.TheVariants.{Read, Limit, Bad}
 use Rattle.fs_line.proofs.Outputs.{partly_flushed, goes_flush, goes_flush_part}
-use Rattle.fs_capture.specs.Capture.{Begins, Captured, CaptureState, Recorded, captured_in, coming, recorded}
+use Rattle.fs_capture.specs.Capture.{Captured, Recorded, recorded}
 use Rattle.fs_capture.specs.declared.fault.CaptureReason.{CaptureReason}
 use Rattle.fs_rules.specs.Table.{Held}
 use Rattle.fs_tape.specs.Tape.{Timed}
 use Rattle.fs_tape.specs.declared.magic.Version.TheVariants.{One}
 use Rattle.fs_desk.specs.Leaves.{Leaves}
 use Rattle.fs_stages.specs.Play.{HaveNoMoments, untimed}
-use Rattle.fs_stages.specs.Refusal.{Answers, Stage, Found, Stopped, HasReason, answered, status_of}
+use Rattle.fs_stages.specs.Refusal.{Answers, Stage, Found, Stopped, answered, status_of}
 use Rattle.fs_stages.specs.declared.refusal.Refusal.{Refusal}
 use Rattle.fs_stages.specs.declared.refusal.Refusal.TheVariants.{Outside}
-use Rattle.fs_stages.specs.Load.{Names}
 use Rattle.fs_stages.specs.Player.{IsUnplayed}
 use Rattle.fs_stages.proofs.LookingAhead.{rose_on}
 use Rattle.fs_stages.proofs.Stages.{answers_for, rose_earlier, rose_later}
-use Rattle.fs_enforce.specs.Judge.{always, capture_stage, lines_from, refused_by, rules_by, status_at, verdict_of}
-use Rattle.fs_enforce.specs.Moments.{AnswersAt, BreaksBehind, CameTo, EndsBefore, HoldAt, IsCaptureOpened, JudgesSo, came_lines, packets_of, verdict_at}
-use Rattle.fs_enforce.proofs.Answering.{found_capture}
+use Rattle.fs_enforce.specs.Judge.{always, lines_from, rules_by, status_at, verdict_of}
+use Rattle.fs_enforce.specs.Moments.{AnswersAt, BreaksBehind, CameTo, EndsBefore, HoldAt, JudgesSo, came_lines, packets_of, verdict_at}
 
 -- of no packets there are no lines
 
@@ -206,36 +202,10 @@ moments_unflushed config items stage found before mid now first pending failed o
 
 -- the capture was opened, or why it wasn't
 
-pub stop_before : (stage : Stage Recorded) (failed : Type 0) (refusal : Refusal) → HasReason stage failed refusal → EndsBefore stage failed refusal
-stop_before stage failed refusal (inl h) = inl (ap packets_of h, λ held. ap (λ (s : Stage Recorded). (verdict_at held [] s).status) h)
-stop_before stage failed refusal (inr h) = inr h
-
 ends_so : (stage : Stage Recorded) (end : End CaptureReason) (failed : Type 0) (refusal : Refusal)
     → stage ≡ Found (record { packets = []; end = end }) → status_at end ≡ status_of refusal → EndsBefore stage failed refusal
 ends_so stage end failed refusal e s =
     inl (ap packets_of e, λ held. ap (λ (x : Stage Recorded). (verdict_at held [] x).status) e ∙ s)
-
-pub head_before : {T : Type 0} (limit : ℕ) (holds : Names) (name : List ℕ) (before : ℕ → List ℕ) (slot counted : ℕ) (failed : Type 0) (coming : T → List Captured × End CaptureReason) (fault : Fault CaptureReason)
-    → slot ≡ 2 → holds name ≡ Some (before 2) → counted ≡ limit → Begins (captured_in counted (before slot)) coming (Err fault) → (fault ≡ Read → failed)
-    → EndsBefore (capture_stage limit holds name) failed (refused_by fault)
-head_before limit holds name before slot counted failed coming Read two h l o f = inr (inr (refl, f refl))
-head_before limit holds name before slot counted failed coming Limit two h l o f =
-    ends_so (capture_stage limit holds name) limited failed (refused_by Limit)
-    (found_capture limit holds name (before slot) (h ∙ ap (λ (n : ℕ). Some (before n)) (sym two))
-    ∙ ap (λ (r : List Captured × End CaptureReason). Found (recorded r)) (subst (λ (n : ℕ). captured_in n (before slot) ≡ ([], limited)) l o)) refl
-head_before limit holds name before slot counted failed coming (Bad reason place) two h l o f =
-    ends_so (capture_stage limit holds name) (bad reason place) failed (refused_by (Bad reason place))
-    (found_capture limit holds name (before slot) (h ∙ ap (λ (n : ℕ). Some (before n)) (sym two))
-    ∙ ap (λ (r : List Captured × End CaptureReason). Found (recorded r)) (subst (λ (n : ℕ). captured_in n (before slot) ≡ ([], bad reason place)) l o)) refl
-
-pub capture_opened : (limit : ℕ) (holds : Names) (name : List ℕ) (before after : ℕ → List ℕ) (slot counted : ℕ) (capture : CaptureState)
-    → slot ≡ 2 → holds name ≡ Some (before 2) → counted ≡ limit → captured_in counted (before slot) ≡ coming capture (after slot)
-    → IsCaptureOpened limit holds name (after 2) capture
-capture_opened limit holds name before after slot counted capture two h l o =
-    found_capture limit holds name (before slot) (h ∙ ap (λ (n : ℕ). Some (before n)) (sym two))
-    ∙ ap (λ (n : ℕ). Found (recorded (captured_in n (before slot)))) (sym l)
-    ∙ ap (λ (r : List Captured × End CaptureReason). Found (recorded r)) o
-    ∙ ap (λ (n : ℕ). Found (recorded (coming capture (after n)))) two
 
 -- the tape that was opened again couldn't be played
 pub unplayed_before : (stage : Stage Recorded) (before mid after : ℕ) (refusal : Refusal) → before ≤ mid → IsUnplayed (Rose mid after) refusal → EndsBefore stage (Rose before after) refusal

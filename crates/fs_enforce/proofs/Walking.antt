@@ -1,20 +1,18 @@
 -- How the walk goes on from one matching rule to the next.
-use Rattle.std.proofs.Common.{◌≡◌, ◌+◌, ◌<◌, ◌≤◌, ℕ, List, [], ◌∷◌, ◌++◌, Bool, true, false, Option, Some, None, if◌then◌else◌, length, map, drop, get_or, refl, ap, sym, subst, ◌∙◌, IfSome, IfOk, Result, Ok, Err, arith, append_assoc, append-nil, add-one, drop-cons, rules}
+use Rattle.std.proofs.Common.{◌≡◌, ◌+◌, ◌<◌, ◌≤◌, ℕ, List, [], ◌∷◌, ◌++◌, Bool, true, false, Option, Some, None, if◌then◌else◌, length, map, drop, get_or, refl, ap, sym, ◌∙◌, IfSome, arith, append_assoc, append-nil, add-one, drop-cons, rules}
 use Rattle.std.proofs.lemmas.List.{drop-map, length-drop, length-map, map-append}
 use Rattle.std.proofs.lemmas.Grind.{common_steps}
 use Rattle.fs_base.specs.declared.prefix.Family.{Family}
 use Rattle.fs_base.specs.declared.prefix.Family.TheVariants.{V4, V6}
 use Rattle.fs_enforce.specs.Judge.{lent_rules, rules_for}
 use Rattle.fs_enforce.specs.Matcher.{FindsFrom, WalksBy}
-use Rattle.fs_compile.specs.Index.{IsIndexOf}
-use Rattle.fs_compile.specs.Matcher.{StandsForLists, admitted_in}
+use Rattle.fs_compile.specs.Matcher.{StandsForLists}
 use Rattle.fs_compile.specs.declared.compiled.Compiled.{Compiled}
 use Rattle.fs_line.specs.declared.walked.Walked.{Walked}
 use Rattle.fs_line.specs.Walked.{entry_of, entries}
 use Rattle.fs_packet.specs.Fields.{Viewed}
 use Rattle.fs_packet.specs.Matching.{is_match}
 use Rattle.fs_rules.specs.Lent.{Listed, shown_admitted}
-use Rattle.fs_rules.specs.Table.{Held}
 use Rattle.fs_rules.specs.Walk.{first_from, goes_on, walk_from}
 use Rattle.fs_rules.specs.declared.lent.Admitted.{Admitted}
 
@@ -176,21 +174,6 @@ found_among view rules place found f = f.0 ∙ ap (first_from place view) (drop-
 
 pub among : (view : Viewed) (rules : List Admitted) (place k : ℕ) → FindsFrom place view (map shown_admitted rules) (Some k) → (place ≤ k) × (k < length rules)
 among view rules place k f = (f.1.0, omega (arith, f.1.1, length-map rules shown_admitted))
-
--- the compiled rules of a table stand for the rules that it lends
-pub stands_along : (held : Held) (v4 v6 : List Admitted) (compiled : Compiled) → StandsForLists (admitted_in held) compiled
-    → map shown_admitted v4 ≡ admitted_in held V4 → map shown_admitted v6 ≡ admitted_in held V6
-    → StandsForLists (λ family. rules_for family (lent_rules v4 v6)) compiled
-stands_along held v4 v6 compiled s e f = record {
-  v4 = subst (λ (list : List Listed). IsIndexOf V4 list compiled.v4) (sym e) s.v4;
-  v6 = subst (λ (list : List Listed). IsIndexOf V6 list compiled.v6) (sym f) s.v6;
-}
-
-pub if_stands : {E : Type 0} (held : Held) (v4 v6 : List Admitted) (r : Result Compiled E) → IfOk r (StandsForLists (admitted_in held))
-    → map shown_admitted v4 ≡ admitted_in held V4 → map shown_admitted v6 ≡ admitted_in held V6
-    → IfOk r (StandsForLists (λ family. rules_for family (lent_rules v4 v6)))
-if_stands held v4 v6 (Ok compiled) s e f = stands_along held v4 v6 compiled s e f
-if_stands held v4 v6 (Err fault) s e f = tt
 
 pub walks_v4 : (view : Viewed) (v4 v6 : List Admitted) (compiled : Compiled) → StandsForLists (λ family. rules_for family (lent_rules v4 v6)) compiled
     → view.family ≡ V4 → WalksBy view (map shown_admitted v4) compiled

@@ -1,5 +1,5 @@
 pub mod Judge
-pub mod Kept
+pub mod Snapshot
 pub mod Matcher
 pub mod Moments
 pub mod Command

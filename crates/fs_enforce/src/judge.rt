@@ -9,6 +9,7 @@ ghost use Rattle.fs_base.specs.Sink.{Grew, GrewPart};
 ghost use Rattle.fs_capture.specs.Capture.{coming};
 ghost use Rattle.fs_pcap.specs.Head.{longest_record};
 ghost use Rattle.fs_enforce.specs.Judge.{admitted_rules, always, capture_stage, Ceases, JudgesAll, packet_text, refused_by, seen_of, verdict_of, Yields};
+ghost use Rattle.fs_packet.specs.Reading.{read_into};
 ghost use Rattle.fs_stages.specs.Refusal.{Answers, IsAtPacket, IsLate, answered};
 ghost use Rattle.fs_line.specs.Output.{Sends};
 
@@ -16,7 +17,7 @@ use crate::matcher::Matcher;
 use fs_base::{Counted, Failed, Files, Memory, Sink};
 use fs_capture::{Capture, CaptureFault, Caught};
 use fs_line::{Output, write_unread_line};
-use fs_packet::{Unread, View, view};
+use fs_packet::{Unread, View, read_view};
 use fs_pcap::{LONGEST_RECORD, Link};
 use fs_rules::Table;
 use fs_stages::{CAPTURE_SLOT, Refusal, open};
@@ -142,13 +143,21 @@ pub(crate) fn refusal_of(fault: CaptureFault) -> Refusal
     }
 }
 
-/// The view of a packet behind this link type, or why it isn't read: so where the link type isn't known.
+/// Reads a packet behind this link type into the view.
+///
+/// # Errors
+///
+/// Why it isn't read: so where the link type isn't known.
 #[inline(always)]
-pub(crate) fn read_packet(link: Option<Link>, octets: &[u8]) -> Result<View<'_>, Unread>
-    ensures { result ≡ seen_of link octets.now }
+pub(crate) fn read_packet<'a>(
+    link: Option<Link>,
+    octets: &'a [u8],
+    view: &mut View<'a>,
+) -> Result<(), Unread>
+    ensures { read_into result view.new ≡ seen_of link octets.now }
 {
     match link {
-        Some(link) => view(link, octets),
+        Some(link) => read_view(link, octets, view),
         None => Err(Unread::Foreign),
     }
 }
@@ -191,8 +200,9 @@ impl<'t> Judging<'t> {
         ensures sends { Sends S.Sink sink.old sink.new self.old.pending self.new.pending
             (packet_text number self.old.rules link octets.now) result }
     {
-        match read_packet(link, octets) {
-            Ok(view) => self.matcher.judge(&view, number, &mut self.output, sink),
+        let mut view = View::blank();
+        match read_packet(link, octets, &mut view) {
+            Ok(()) => self.matcher.judge(&view, number, &mut self.output, sink),
             Err(unread) => write_unread_line(&mut self.output, sink, number, unread.number()),
         }
     }

@@ -3,11 +3,11 @@
 
 mod command;
 mod judge;
-mod kept;
 mod laws;
 mod matcher;
 mod moments;
 mod names;
+mod snapshot;
 
 pub use command::enforce;
 pub use laws::same_lines;

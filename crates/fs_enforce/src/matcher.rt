@@ -10,12 +10,11 @@ ghost use Rattle.fs_compile.specs.Matcher.{StandsForLists};
 ghost use Rattle.fs_line.specs.Line.{line_of};
 ghost use Rattle.fs_line.specs.Output.{Sends};
 ghost use Rattle.fs_line.specs.Walked.{actions_walked, entries};
-ghost use Rattle.fs_rules.specs.Lent.{Listed, listed, shown_admitted};
-ghost use Rattle.fs_rules.specs.Table.{admitted};
+ghost use Rattle.fs_rules.specs.Lent.{Listed, shown_admitted};
 ghost use Rattle.fs_rules.specs.Walk.{walk_of};
 
 use fs_base::{Failed, Family, Memory, Sink, Steps};
-use fs_compile::Compiled;
+use fs_compile::{Compiled, Rules, rules_of};
 use fs_line::{Output, Walked, discards, write_packet_line};
 use fs_packet::View;
 use fs_rules::{Admitted, Table};
@@ -53,9 +52,7 @@ impl<'t> Matcher<'t> {
     pub fn new(alloc: Global, table: &'t Table<'_>) -> Result<Matcher<'t>, Memory>
         ensures { IfOk result (λ matcher. matcher ≡ admitted_rules table.now) }
     {
-        let v4 = table.admitted(Family::V4)?;
-        let v6 = table.admitted(Family::V6)?;
-        let compiled = compile(alloc, table, &v4, &v6)?;
+        let Rules { v4, v6, compiled } = rules_of(alloc, table)?;
         let most = if v4.len() < v6.len() {
             v6.len()
         } else {
@@ -109,20 +106,6 @@ impl<'t> Matcher<'t> {
         );
         discards(&self.walked)
     }
-}
-
-/// Compiles the admitted rules of the table, which are these.
-fn compile(
-    alloc: Global,
-    table: &Table<'_>,
-    _v4: &[Admitted<'_>],
-    _v6: &[Admitted<'_>],
-) -> Result<Compiled, Memory>
-    requires v4 { map shown_admitted _v4.now ≡ map listed (admitted V4 table.now) }
-    requires v6 { map shown_admitted _v6.now ≡ map listed (admitted V6 table.now) }
-    ensures { IfOk result (StandsForLists (λ family. rules_for family (lent_rules _v4.now _v6.now))) }
-{
-    Compiled::build(alloc, table)
 }
 
 /// Puts the rules of its family that the packet walks into `walked`, in place of what stands there.

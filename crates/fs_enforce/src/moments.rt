@@ -14,16 +14,17 @@ ghost use Rattle.fs_stages.specs.Refusal.{Found, answered, status_of};
 ghost use Rattle.fs_tape.specs.Tape.{Timed};
 ghost use Rattle.fs_tape.specs.declared.magic.Version.TheVariants.{Two};
 ghost use Rattle.fs_enforce.specs.Judge.{AdmittedRules, admitted_rules, capture_stage, packet_text};
-ghost use Rattle.fs_enforce.specs.Kept.{BreaksLine, IsSound, StandsFor};
+ghost use Rattle.fs_enforce.specs.Snapshot.{BreaksLine, IsSound, StandsFor};
 ghost use Rattle.fs_enforce.specs.Moments.{AnswersAt, EndsBefore, IsCaptureOpened, JudgesMoments};
 
 use crate::judge::{next_packet, read_packet, refusal_of};
-use crate::kept::KeptRules;
 use crate::names::InputNames;
+use crate::snapshot::Snapshot;
 use fs_base::{Config, Counted, Files, Memory, Sink};
 use fs_capture::Capture;
 use fs_desk::same_routes;
 use fs_line::{Output, write_unread_line};
+use fs_packet::View;
 use fs_pcap::{LONGEST_RECORD, Link};
 use fs_stages::{CAPTURE_SLOT, Player, Refusal, open};
 use std::alloc::Global;
@@ -132,7 +133,7 @@ fn judge_packets<F: Files, S: Sink>(
 struct Following<'a> {
     alloc: Global,
     player: Player<'a>,
-    rules: KeptRules,
+    rules: Snapshot,
     output: Output,
 }
 
@@ -143,7 +144,7 @@ impl<'a> Following<'a> {
         ensures stands { IfOk result (λ following. StandsFor (admitted_rules player.entry.desk.held)
             following.rules.compiled following.rules.v4.items following.rules.v6.items) }
     {
-        let rules = KeptRules::new(alloc, player.table())?;
+        let rules = Snapshot::new(alloc, player.table())?;
         let output = Output::new(alloc)?;
         Ok(Following {
             alloc,
@@ -175,7 +176,7 @@ impl<'a> Following<'a> {
         ensures others { OnlySlot F.tells F.left F.holds self.old.player.tape.slot files.old files.new }
     {
         if self.player.play_to(files, moment)? {
-            self.rules = KeptRules::new(self.alloc, self.player.table())?;
+            self.rules = Snapshot::new(self.alloc, self.player.table())?;
         }
         Ok(())
     }
@@ -200,8 +201,9 @@ impl<'a> Following<'a> {
             (BreaksLine S.Sink sink.old sink.new self.old.output self.new.output
             (packet_text number rules link octets.now)) }
     {
-        match read_packet(link, octets) {
-            Ok(view) => self.rules.judge(&view, number, &mut self.output, sink),
+        let mut view = View::blank();
+        match read_packet(link, octets, &mut view) {
+            Ok(()) => self.rules.judge(&view, number, &mut self.output, sink),
             Err(unread) => match write_unread_line(
                 &mut self.output,
                 sink,

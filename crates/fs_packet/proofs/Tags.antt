@@ -1,5 +1,5 @@
 -- One tag more of an Ethernet header.
-use Rattle.std.proofs.Common.{◌≡◌, ℕ, zero, suc, ◌+◌, ◌-◌, ◌*◌, ◌<◌, ◌≤◌, List, length, Err, refl, sym, ◌∙◌, arith, true, false, Bool, nat_lt, if◌then◌else◌}
+use Rattle.std.proofs.Common.{◌≡◌, ℕ, zero, suc, ◌+◌, ◌-◌, ◌*◌, ◌<◌, ◌≤◌, List, length, Err, sym, ◌∙◌, arith, true, false, Bool, nat_lt, if◌then◌else◌}
 use Rattle.std.proofs.lemmas.Bool.Decides.{nat_tests}
 use Rattle.fs_packet.specs.Fields.{number_at}
 use Rattle.fs_packet.specs.Reading.{behind_tags, behind_type, is_tag}
@@ -9,9 +9,6 @@ use Rattle.fs_packet.specs.declared.fields.Unread.TheVariants.{Short}
 pub record Tagged (octets : List ℕ) (tags place : ℕ) : Type 0 where
   pub same : behind_tags tags place octets ≡ behind_tags 2 12 octets
   pub near : place + 4 * tags ≤ 20
-
-pub tagged_none : (octets : List ℕ) → Tagged octets 2 12
-tagged_none octets = record { same = refl; near = omega arith }
 
 tests_known : (tags place : ℕ) (octets : List ℕ) (b c : Bool) → nat_lt (length octets) (place + 2) ≡ b → is_tag (number_at 2 octets place) ≡ c
     → behind_tags (suc tags) place octets ≡ (if b then Err Short else (if c then behind_tags tags (place + 4) octets else behind_type place (place + 2) octets))
@@ -34,8 +31,3 @@ tagged_more octets (suc tags) place some held tag h =
 pub tagged_type : (octets : List ℕ) (tags place : ℕ) → 0 < tags → place + 2 ≤ length octets → is_tag (number_at 2 octets place) ≡ false → Tagged octets tags place → behind_type place (place + 2) octets ≡ behind_tags 2 12 octets
 tagged_type octets zero place some held tag h = absurd (omega arith)
 tagged_type octets (suc tags) place some held tag h = sym (tests_known tags place octets false false (not_short (length octets) place held) tag) ∙ h.same
-
--- no further tag may stand there
-pub tagged_all : (octets : List ℕ) (tags place : ℕ) → tags ≤ 0 → Tagged octets tags place → behind_type place (place + 2) octets ≡ behind_tags 2 12 octets
-tagged_all octets zero place none h = h.same
-tagged_all octets (suc tags) place none h = absurd (omega arith)

@@ -14,9 +14,6 @@ pub record Walking (number : ℕ) (octets : List ℕ) (next : ℕ) (rest : List 
   pub behind : (chain_of next rest).1 ≡ (chain_of number octets).1
   pub last : last_field field (chain_of next rest).0 ≡ last_field 0 (chain_of number octets).0
 
-pub walking_none : (number : ℕ) (octets : List ℕ) → Walking number octets number octets 0
-walking_none number octets = record { behind = refl; last = refl }
-
 size_some : (number second : ℕ) → 8 ≤ extension_size number second
 size_some number second = grind (arith, nat_tests)
 

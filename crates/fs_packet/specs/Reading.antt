@@ -1,6 +1,6 @@
 -- Where the network packet begins in a frame, and the fields of a captured packet, or the first test of its headers
 -- that fails (RFC 791 section 3.1, RFC 8200 sections 3 and 4).
-use Rattle.std.specs.Prelude.{ℕ, zero, suc, ◌+◌, ◌*◌, ◌/◌, ◌==◌, Bool, true, false, not, ◌&&◌, ◌||◌, bit_and, List, [], length, take, drop, slice_index, nat_lt, if◌then◌else◌, Option, Some, None, Result, Ok, Err}
+use Rattle.std.specs.Prelude.{ℕ, zero, suc, ◌+◌, ◌*◌, ◌/◌, ◌==◌, Bool, true, false, not, ◌&&◌, ◌||◌, bit_and, List, [], length, take, drop, slice_index, nat_lt, if◌then◌else◌, Option, Some, None, Result, Ok, Err, ⊤}
 use denote.Ref.{Bor}
 use Rattle.fs_base.specs.declared.prefix.Family.{Family}
 use Rattle.fs_base.specs.declared.prefix.Family.TheVariants.{V4, V6}
@@ -112,6 +112,11 @@ v6_view packet =
 abbrev pub packet_view : Family → List ℕ → Result Viewed Unread
 packet_view V4 packet = v4_view packet
 packet_view V6 packet = v6_view packet
+
+-- what is read into a view that stands so behind the call
+abbrev pub read_into : Result ⊤ Unread → Viewed → Result Viewed Unread
+read_into (Ok _) view = Ok view
+read_into (Err unread) view = Err unread
 
 abbrev pub behind_link : Result (Family × List ℕ) Unread → Result Viewed Unread
 behind_link (Ok found) = packet_view found.0 found.1

@@ -66,6 +66,18 @@ impl<'a> Model for View<'a> {
 impl<'a> View<'a> {
     ghost use Rattle.fs_packet.specs.Fields.{family_of};
 
+    /// A view of an IPv4 header of zeros, for a packet to be read into.
+    pub fn blank() -> View<'a> {
+        View {
+            family: Family::V4,
+            packet: &[0; 20],
+            length: 0,
+            protocol: None,
+            fragment: 0,
+            transport: &[],
+        }
+    }
+
     /// The address family.
     pub fn family(&self) -> Family
         ensures { result ≡ self.now.family }

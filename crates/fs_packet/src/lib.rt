@@ -10,4 +10,4 @@ mod reading;
 pub use fields::{Unread, View};
 pub use fs_pcap::Link;
 pub use matching::matches;
-pub use reading::view;
+pub use reading::{read_view, view};

@@ -1,9 +1,9 @@
 //! Reading of a record's headers.
 
-ghost use Rattle.std.specs.Prelude.{◌≡◌, ◌<◌, ◌≤◌, ◌+◌, ◌==◌, ◌&&◌, [], length, if◌then◌else◌};
+ghost use Rattle.std.specs.Prelude.{◌≡◌, ◌<◌, ◌≤◌, ◌+◌, ◌==◌, ◌&&◌, [], OnErr, length, if◌then◌else◌};
 ghost use Rattle.fs_base.specs.declared.prefix.Family.{Family};
 ghost use Rattle.fs_packet.specs.Fields.{number_at};
-ghost use Rattle.fs_packet.specs.Reading.{behind_tags, behind_type, family_of_type, found_in, fragment_of, held_from, is_tag, packet_view};
+ghost use Rattle.fs_packet.specs.Reading.{behind_link, behind_tags, behind_type, family_of_type, found_in, fragment_of, held_from, is_tag, packet_view, read_into};
 ghost use Rattle.fs_packet.specs.Reading.{raw_view, v4_fragment, v4_starts, v4_view, v6_fragment, v6_view, view_of};
 
 use crate::chain::walk;
@@ -23,26 +23,60 @@ const SERVICE_TAG: u16 = 0x88a8;
 
 /// The view of the packet in a record's octets, or the first test of its headers that fails (RFC 791 section 3.1,
 /// RFC 8200 sections 3 and 4).
-#[inline(always)]
 pub fn view(link: Link, octets: &[u8]) -> Result<View<'_>, Unread>
     ensures { result ≡ view_of link octets.now }
 {
+    let mut view = View::blank();
+    read_view(link, octets, &mut view)?;
+    Ok(view)
+}
+
+/// Reads the packet in a record's octets into `view`, whatever stood in it: the same without a copy of the view.
+///
+/// # Errors
+///
+/// The first test of its headers that fails; `view` is then as before.
+#[inline(always)]
+pub fn read_view<'a>(link: Link, octets: &'a [u8], view: &mut View<'a>) -> Result<(), Unread>
+    ensures read { read_into result view.new ≡ view_of link octets.now }
+    ensures same { OnErr result (view.new ≡ view.old) }
+{
+    let (family, packet) = behind_link(link, octets)?;
+    match family {
+        Family::V4 => {
+            *view = v4_view(packet)?;
+            Ok(())
+        }
+        Family::V6 => {
+            *view = v6_view(packet)?;
+            Ok(())
+        }
+    }
+}
+
+/// The packet behind what stands before it, and its family.
+#[inline(always)]
+fn behind_link(link: Link, octets: &[u8]) -> Result<(Family, &[u8]), Unread>
+    ensures { behind_link (found_in result) ≡ view_of link octets.now }
+{
     match link {
-        Link::Ethernet => {
-            let (family, packet) = behind_tags(octets)?;
-            packet_view(family, packet)
-        }
-        Link::Raw => raw_view(octets),
-        Link::Cooked => {
-            let (family, packet) = behind_type(octets, 14, 16)?;
-            packet_view(family, packet)
-        }
-        Link::CookedTwo => {
-            let (family, packet) = behind_type(octets, 0, 20)?;
-            packet_view(family, packet)
-        }
-        Link::V4 => v4_view(octets),
-        Link::V6 => v6_view(octets),
+        Link::Ethernet => behind_tags(octets),
+        Link::Raw => Ok((raw_family(octets), octets)),
+        Link::Cooked => behind_type(octets, 14, 16),
+        Link::CookedTwo => behind_type(octets, 0, 20),
+        Link::V4 => Ok((Family::V4, octets)),
+        Link::V6 => Ok((Family::V6, octets)),
+    }
+}
+
+/// The family of a packet that says its version itself: IPv4 unless that is 6.
+fn raw_family(packet: &[u8]) -> Family
+    ensures { packet_view result packet.now ≡ raw_view packet.now }
+{
+    match packet {
+        [first, ..] if first >> 4 == 6 => Family::V6,
+        [_, ..] => Family::V4,
+        [] => Family::V4,
     }
 }
 
@@ -102,27 +136,6 @@ fn family_of_type(number: u16) -> Option<Family>
         IPV4 => Some(Family::V4),
         IPV6 => Some(Family::V6),
         _ => None,
-    }
-}
-
-#[inline(always)]
-fn packet_view(family: Family, packet: &[u8]) -> Result<View<'_>, Unread>
-    ensures { result ≡ packet_view family packet.now }
-{
-    match family {
-        Family::V4 => v4_view(packet),
-        Family::V6 => v6_view(packet),
-    }
-}
-
-/// The packet says its version itself.
-fn raw_view(packet: &[u8]) -> Result<View<'_>, Unread>
-    ensures { result ≡ raw_view packet.now }
-{
-    match packet {
-        [] => Err(Unread::Short),
-        [first, ..] if first >> 4 == 6 => v6_view(packet),
-        [..] => v4_view(packet),
     }
 }
 

@@ -1,4 +1,4 @@
-use Rattle.std.proofs.Common.{◌^◌, subst, arith}
+use Rattle.std.proofs.Common.{subst, arith}
 use Rattle.fs_compile.specs.Numbers.{IsOnlyNumber}
 use Rattle.fs_compile.proofs.Fields.{number_test}
 use Rattle.fs_compile.proofs.components.field_test.Goals as goal

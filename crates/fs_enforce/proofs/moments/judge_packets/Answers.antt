@@ -7,8 +7,8 @@ use Rattle.fs_capture.specs.Capture.{coming, packet_from}
 use Rattle.fs_stages.specs.Play.{until}
 use Rattle.fs_stages.specs.Player.{PlayerState}
 use Rattle.fs_enforce.specs.Judge.{Ceases, admitted_rules}
-use Rattle.fs_enforce.specs.Kept.{StandsFor}
-use Rattle.fs_enforce.specs.declared.kept.KeptRules.{KeptRules}
+use Rattle.fs_enforce.specs.Snapshot.{StandsFor}
+use Rattle.fs_enforce.specs.declared.snapshot.Snapshot.{Snapshot}
 use Rattle.fs_enforce.proofs.AtMoments.{awaits, breaks_for, followed_broken, followed_ceased, followed_done, followed_more, followed_none, followed_unplayed, goes_for, next_comes, stands_as}
 use Rattle.fs_enforce.proofs.Judging.{match_err}
 use Rattle.fs_enforce.proofs.moments.judge_packets.Goals as goal
@@ -39,7 +39,7 @@ packets-preserved g c = record {
   number = omega (arith, c.packets.invariant.number, (rw c.in-Some.is at c.in_ok-caught.ensures.grows).0);
   tape = ap (λ (p : PlayerState). p.tape.slot) c.in_ok-judge_packet.ensures.same.0 ∙ c.in_ok-follow.ensures.slot ∙ c.packets.invariant.tape;
   config = ap (λ (p : PlayerState). p.desk.config) c.in_ok-judge_packet.ensures.same.0 ∙ c.in_ok-follow.ensures.config ∙ c.packets.invariant.config;
-  stands = subst (λ (r : KeptRules). StandsFor (admitted_rules c.judge_packet.new.self.player.desk.held) r.compiled r.v4.items r.v6.items) (sym c.in_ok-judge_packet.ensures.same.1)
+  stands = subst (λ (r : Snapshot). StandsFor (admitted_rules c.judge_packet.new.self.player.desk.held) r.compiled r.v4.items r.v6.items) (sym c.in_ok-judge_packet.ensures.same.1)
       (subst (λ (p : PlayerState). StandsFor (admitted_rules p.desk.held) c.follow.new.self.rules.compiled c.follow.new.self.rules.v4.items c.follow.new.self.rules.v6.items)
       (sym c.in_ok-judge_packet.ensures.same.0) c.in_ok-follow.ensures.stands);
   files_later = omega (arith, c.packets.invariant.files_later, c.in_ok-caught.ensures.later, c.in_ok-follow.ensures.later);

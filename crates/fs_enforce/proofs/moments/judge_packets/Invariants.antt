@@ -4,7 +4,7 @@ use Rattle.fs_pcap.specs.Head.{longest_record}
 use Rattle.fs_tape.specs.Tape.{Timed}
 use Rattle.fs_stages.specs.Player.{Stands}
 use Rattle.fs_enforce.specs.Judge.{admitted_rules}
-use Rattle.fs_enforce.specs.Kept.{StandsFor}
+use Rattle.fs_enforce.specs.Snapshot.{StandsFor}
 use Rattle.fs_enforce.proofs.AtMoments.{Followed}
 use Rattle.fs_enforce.proofs.moments.judge_packets.Given as goal
 

@@ -1,5 +1,9 @@
-use Rattle.std.proofs.Common.{◌∙◌}
+use Rattle.std.proofs.Common.{◌∙◌, inl, refl}
 use Rattle.fs_base.specs.Outside.{Rose}
+use Rattle.fs_base.proofs.Grew.{Grew-refl}
+use Rattle.fs_stages.specs.declared.refusal.Refusal.TheVariants.{Memory}
+use Rattle.fs_stages.proofs.Stages.{answered_err}
+use Rattle.fs_generate.specs.Command.{GeneratesSo}
 use Rattle.fs_generate.proofs.Generating.{written}
 use Rattle.fs_generate.proofs.command.generate.Goals as goal
 
@@ -8,3 +12,9 @@ returns-clause-generates g c =
     written c.args.count c.in_ok-desk.desk c.table.result.now (Rose (g.S.Sink.faults c.args.sink.now) (g.S.Sink.faults c.write_text.new.sink))
     (g.S.Sink.written c.args.sink.now) (g.S.Sink.written c.write_text.new.sink) c.deref.result.now c.write_text.result
     c.in_ok-desk.ensures.played c.table.ensures.table (c.deref.ensures.value ∙ c.in_ok-text.ensures) c.write_text.ensures.written
+
+pub returns-in_err-text-clause-generates : goal.returns-in_err-text-clause-generates
+returns-in_err-text-clause-generates g c =
+    answered_err (λ n. GeneratesSo c.args.count (Rose (g.S.Sink.faults c.args.sink.now) (g.S.Sink.faults c.args.sink.now))
+    (g.S.Sink.written c.args.sink.now) (g.S.Sink.written c.args.sink.now) n)
+    c.from_residual-in_err-text.result Memory c.from_residual-in_err-text.ensures.1 (inl (refl, Grew-refl (g.S.Sink.written c.args.sink.now)))

@@ -1,5 +1,5 @@
 use Rattle.std.proofs.Common.{◌∙◌, ap}
-use Rattle.fs_compile.specs.declared.facts.Facts.{Facts}
+use Rattle.fs_compile.specs.Facts.{Facts}
 use Rattle.fs_compile.specs.Fast.{fast_holds, holds_of_facts}
 use Rattle.fs_compile.proofs.Placing.{facts_are}
 use Rattle.fs_compile.proofs.fast.Fast.test_facts.Goals as goal

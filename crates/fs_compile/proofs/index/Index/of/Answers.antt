@@ -1,30 +1,6 @@
-use Rattle.std.proofs.Common.{ℕ, ◌≤◌, List, length, refl, subst, arith}
-use Rattle.fs_rules.specs.Lent.{all_admitted}
-use Rattle.fs_compile.specs.Addresses.{numbers_in, nodes_in}
-use Rattle.fs_compile.specs.Index.{spans_of}
-use Rattle.fs_compile.specs.Runs.{AreNodes, ArePlain}
-use Rattle.fs_compile.proofs.Indexing.{housed_from}
-use Rattle.fs_compile.proofs.Running.{buckets_from}
+use Rattle.std.proofs.Common.{sym, subst}
+use Rattle.fs_compile.specs.Search.{AreSound}
 use Rattle.fs_compile.proofs.index.Index.of.Goals as goal
 
 pub invariant_of-result : goal.invariant_of-result
-invariant_of-result c =
-    buckets_from (spans_of (all_admitted c.args.list.now)) c.in_ok-runs.runs.firsts.items (numbers_in c.in_ok-runs.runs.lasts) c.in_ok-runs.runs.starts.items c.in_ok-runs.runs.homes.items c.in_ok-parents.parents.items
-    (nodes_in c.in_ok-nodes.nodes) (length c.in_ok-rules.rules.items) c.requires.nesting c.in_ok-runs.ensures.runs plain made most where
-      plain : ArePlain c.in_ok-runs.runs.firsts.items c.in_ok-parents.parents.items 0
-      plain = subst (λ (xs : List ℕ). ArePlain xs c.in_ok-parents.parents.items 0) c.deref.ensures.value c.in_ok-parents.ensures.plain
-
-      made : AreNodes c.in_ok-runs.runs.firsts.items c.in_ok-runs.runs.starts.items c.in_ok-parents.parents.items (length c.in_ok-runs.runs.homes.items) (nodes_in c.in_ok-nodes.nodes)
-      made = subst (λ (xs : List ℕ). AreNodes c.in_ok-runs.runs.firsts.items c.in_ok-runs.runs.starts.items xs (length c.in_ok-runs.runs.homes.items) (nodes_in c.in_ok-nodes.nodes)) c.deref-2.ensures.value c.in_ok-nodes.ensures
-
-      most : length c.in_ok-runs.runs.homes.items ≤ length c.in_ok-rules.rules.items
-      most = let a = c.in_ok-runs.ensures.few in let b = c.in_ok-rules.ensures.size in omega (arith, a, b)
-
-pub returns : goal.returns
-returns c = record {
-  stands = c.in_ok-rules.ensures.stand;
-  housed = housed_from (spans_of (all_admitted c.args.list.now)) (record { lasts = c.in_ok-runs.runs.lasts; nodes = c.in_ok-nodes.nodes; homes = c.in_ok-runs.runs.homes })
-      c.in_ok-runs.runs.firsts.items (numbers_in c.in_ok-runs.runs.lasts) c.in_ok-runs.runs.starts.items c.in_ok-runs.runs.homes.items c.deref-2.result.now
-      c.requires.nesting c.in_ok-runs.ensures.runs c.in_ok-nodes.ensures refl refl c.in_ok-runs.ensures.rest;
-  each = c.requires.each;
-}
+invariant_of-result c = subst (AreSound c.in_ok-buckets.buckets) (sym c.in_ok-rules.ensures.size) c.in_ok-buckets.ensures.sound

@@ -1,8 +1,8 @@
 use Rattle.std.proofs.Common.{◌≤◌, ◌-◌, length, List}
 use Rattle.fs_rules.specs.Lent.{Listed}
-use Rattle.fs_enforce.specs.Kept.{WalksWith}
-use Rattle.fs_enforce.proofs.KeptWalk.{WalkGoesOn}
-use Rattle.fs_enforce.proofs.kept.walk.Given as goal
+use Rattle.fs_enforce.specs.Snapshot.{WalksWith}
+use Rattle.fs_enforce.proofs.SnapshotWalk.{WalkGoesOn}
+use Rattle.fs_enforce.proofs.snapshot.walk.Given as goal
 
 abbrev pub invariant-rules : goal.invariant-rules
 invariant-rules g l = record {

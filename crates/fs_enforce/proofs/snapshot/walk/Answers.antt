@@ -3,8 +3,8 @@ use Rattle.fs_line.specs.declared.walked.Walked.{Walked}
 use Rattle.fs_line.specs.Walked.{entries}
 use Rattle.fs_rules.specs.Walk.{goes_on, walk_of}
 use Rattle.fs_enforce.specs.Matcher.{FindsFrom}
-use Rattle.fs_enforce.proofs.KeptWalk.{WalkGoesOn, place_among, walk_ends, walk_on, walk_over}
-use Rattle.fs_enforce.proofs.kept.walk.Goals as goal
+use Rattle.fs_enforce.proofs.SnapshotWalk.{WalkGoesOn, place_among, walk_ends, walk_on, walk_over}
+use Rattle.fs_enforce.proofs.snapshot.walk.Goals as goal
 
 pub rules-preserved : goal.rules-preserved
 rules-preserved g c =

@@ -3,7 +3,7 @@
 ghost use Rattle.std.specs.Prelude.{◌≡◌, ◌≤◌, ◌<◌, ℕ, IfOk, List, MatchResult, [], map};
 ghost use Rattle.fs_base.specs.declared.prefix.Family.{Family};
 ghost use Rattle.fs_enforce.specs.Judge.{AdmittedRules, admitted_rules, rules_for};
-ghost use Rattle.fs_enforce.specs.Kept.{BreaksLine, IsSound, StandsFor, WalksWith, lent_actions};
+ghost use Rattle.fs_enforce.specs.Snapshot.{BreaksLine, IsSound, StandsFor, WalksWith, lent_actions};
 ghost use Rattle.fs_line.specs.Line.{line_of};
 ghost use Rattle.fs_line.specs.Output.{Goes};
 ghost use Rattle.fs_line.specs.Walked.{entries};
@@ -26,23 +26,23 @@ use std::sync::ledger::{Blank, Ledger};
 /// The admitted rules of both families in order, compiled for packets, and their actions. It keeps no part of the
 /// table, which may change meanwhile.
 #[derive(Drop)]
-pub(crate) struct KeptRules {
+pub(crate) struct Snapshot {
     alloc: Global,
     compiled: Compiled,
     v4: Vec<Actions>,
     v6: Vec<Actions>,
 }
 
-impl KeptRules {
+impl Snapshot {
     /// The rules that the table admits now.
-    pub(crate) fn new(alloc: Global, table: &Table<'_>) -> Result<KeptRules, Memory>
-        ensures { IfOk result (λ kept.
-            StandsFor (admitted_rules table.now) kept.compiled kept.v4.items kept.v6.items) }
+    pub(crate) fn new(alloc: Global, table: &Table<'_>) -> Result<Snapshot, Memory>
+        ensures { IfOk result (λ snapshot.
+            StandsFor (admitted_rules table.now) snapshot.compiled snapshot.v4.items snapshot.v6.items) }
     {
         let v4 = family_actions(alloc, table, Family::V4)?;
         let v6 = family_actions(alloc, table, Family::V6)?;
         let compiled = Compiled::build(alloc, table)?;
-        Ok(KeptRules {
+        Ok(Snapshot {
             alloc,
             compiled,
             v4,
@@ -102,7 +102,7 @@ fn copy_actions(alloc: Global, rules: &[Admitted<'_>]) -> Result<Vec<Actions>, M
 /// Appends the rules of its family that the packet walks.
 fn walk_family<'r, L: Ledger>(
     blank: Blank,
-    rules: &'r KeptRules,
+    rules: &'r Snapshot,
     view: &View<'_>,
     walked: &mut Vec<Walked<'r>>,
 ) -> Result<(), Memory>
