@@ -1,5 +1,5 @@
 -- What each event makes of both ends.
-use Rattle.std.proofs.Common.{◌≡◌, ℕ, Bool, true, if◌then◌else◌, List, [], ◌++◌, take, drop, Option, Some, None, refl, ap, sym, ◌∙◌, subst, append-nil, unwrap_or}
+use Rattle.std.proofs.Common.{◌≡◌, ℕ, Bool, if◌then◌else◌, List, [], ◌++◌, take, drop, Option, Some, None, refl, ap, sym, ◌∙◌, subst, append-nil, unwrap_or}
 use Rattle.fs_base.specs.declared.config.Config.{Config}
 use Rattle.fs_base.specs.declared.config.Peer.{Peer}
 use Rattle.fs_attrs.specs.declared.update.Update.{Update}
@@ -20,7 +20,7 @@ use Rattle.fs_speaker.specs.Transition.{Machine}
 use Rattle.fs_joint.specs.End.{Own, own_of_taker, own_of_teller, ticks, ticked, StandsAt, HandsOver, TicksOver}
 use Rattle.fs_joint.specs.Ends.{Both, both, IsTaker, IsTeller, AreIn}
 use Rattle.fs_joint.specs.Flight.{Flying, flying}
-use Rattle.fs_joint.specs.World.{World, sent, taker_of, teller_of, next_said, says, delivers, wakes, cuts}
+use Rattle.fs_joint.specs.World.{World, sent, taker_of, teller_of, next_said, says, delivers, wakes}
 use Rattle.fs_joint.proofs.Waking.{ticked_by}
 
 -- no update comes of the clock
@@ -156,16 +156,6 @@ module _ (config : Config) (peer : Peer) (sending : Sending) (w : World) (old : 
         cut_is = ap (λ (f : Flying). f.cut) put ∙ here.cut_is;
         taken_is = here.taken_is;
       }
-
-  pub wire_cut : (flight : Flying) → flight ≡ flying [] [] true → AreIn config peer sending (both old.taker old.teller flight old.taken) (cuts w)
-  wire_cut flight put = record {
-    first = here.first;
-    second = here.second;
-    to_taker_is = ap (λ (f : Flying). f.to_taker) put;
-    to_teller_is = ap (λ (f : Flying). f.to_teller) put;
-    cut_is = ap (λ (f : Flying). f.cut) put;
-    taken_is = here.taken_is;
-  }
 
   -- what an opened end says next
   next_is : w.teller.closed ≡ None → next_text old.teller ≡ next_said config peer sending w.teller w.appended

@@ -24,19 +24,19 @@ use Rattle.fs_joint.proofs.Handover.{closed_hand, open_hand}
 use Rattle.fs_joint.proofs.Waking.{ticked_by}
 
 -- an update more changes nothing of what the session comes to
-last_update : (update : Option Update) (played : List Update × Last) → (with_update update played).1 ≡ played.1
+pub last_update : (update : Option Update) (played : List Update × Last) → (with_update update played).1 ≡ played.1
 last_update None played = refl
 last_update (Some update) played = refl
 
 module _ (machine : Machine) where
-  abbrev last_by : Phase → List ℕ → Last
+  abbrev pub last_by : Phase → List ℕ → Last
   last_by now octets = (session_by machine now octets).1
 
   -- what it comes to of an end that was handed octets, and of more behind them
-  abbrev goes_at : List ℕ → Point → Option Closed → Last
+  abbrev pub goes_at : List ℕ → Point → Option Closed → Last
   goes_at more now how = elim how [ Some why ↦ closed why | None ↦ last_by now.phase (now.waiting ++ more) ]
 
-  abbrev goes_on : List ℕ → Handed → Last
+  abbrev pub goes_on : List ℕ → Handed → Last
   goes_on more made = goes_at more made.point made.point.closed
 
   module _ (more : List ℕ) where
@@ -71,7 +71,7 @@ module _ (machine : Machine) where
         by goes (Ok next) = last_update next.1 (plays machine next.0 (messages ++ next_messages rest) (next_wrong rest)) ∙ goes next.0
         by goes (Err why) = refl
 
-    goes_by : (now : Phase) (times : Times) (octets : List ℕ) → last_by now (octets ++ more) ≡ goes_on more (runs_by machine now times octets)
+    pub goes_by : (now : Phase) (times : Times) (octets : List ℕ) → last_by now (octets ++ more) ≡ goes_on more (runs_by machine now times octets)
     goes_by now times octets =
         ap (λ (parts : List Message × List ℕ). (plays machine now parts.0 (wrong_at parts.1)).1) (parts_append first_message message_shrinks message_stable octets more)
         ∙ last_join now times (parts_of first_message octets).0 (parts_of first_message octets).1

@@ -7,7 +7,7 @@ mod Taking
 mod Reading
 mod Opening
 mod Fronting
-mod Lasting
+pub mod Lasting
 mod Telling
 mod Closing
-mod Unnamed
+pub mod Unnamed

@@ -111,7 +111,7 @@ module _ (config : Config) (peer : Peer) (sending : Sending) where
 
   module _ (un : IsUnnamed config peer sending) where
     -- the OPEN closes the session, whatever follows
-    refused : (more : List ℕ) → session_by taker at_start (open_sent config peer sending ++ more) ≡ ([], closed (Fault 2 3))
+    pub refused : (more : List ℕ) → session_by taker at_start (open_sent config peer sending ++ more) ≡ ([], closed (Fault 2 3))
     refused more =
         let body : List ℕ = open_body peer.asn config.hold_time sending.id in
         let text : List ℕ = message_text 1 body in

@@ -17,10 +17,10 @@ use Rattle.fs_speaker.specs.declared.sending.Sending.{Sending}
 use Rattle.fs_speaker.specs.declared.state.Closed.TheVariants.{Fault}
 use Rattle.fs_speaker.specs.declared.times.Tick.TheVariants.{Expires}
 use Rattle.fs_talk.specs.Joined.{Heard, moments_of, of_first, of_second}
-use Rattle.fs_talk.specs.Turn.{Pieces, moments_in, octets_in}
+use Rattle.fs_talk.specs.Round.{Pieces, moments_in, octets_in}
 use Rattle.fs_receive.specs.Hearer.{ClosesIn, ExpiresAt, HasClosed}
 use Rattle.fs_receive.specs.Pair.{LieApart, Reaches, RunsLate, told_by}
-use Rattle.fs_receive.specs.Walk.{walk}
+use Rattle.fs_receive.specs.Course.{course}
 use Rattle.fs_receive.proofs.Expiring.{Expired, bounded_late, closed_late}
 use Rattle.fs_receive.proofs.Lasting.{expires_late}
 use Rattle.fs_receive.proofs.Staying.{stands}
@@ -104,10 +104,10 @@ apart_second least (event ∷ events) a = by (λ k. apart_second least events k)
     by rest false (inr k) = inr (rest k)
 
 -- the hold time of an end expired at one of the moments
-module _ (machine : Machine) (heard earlier later : Pieces) (event : ℕ × List ℕ) (split : heard ≡ earlier ++ event ∷ later) (lived : (walk machine earlier).point.closed ≡ None)
-    (due : tick_at (walk machine earlier).point.phase.hold (at_moment event.0 (walk machine earlier).point.times) ≡ Expires) where
+module _ (machine : Machine) (heard earlier later : Pieces) (event : ℕ × List ℕ) (split : heard ≡ earlier ++ event ∷ later) (lived : (course machine earlier).point.closed ≡ None)
+    (due : tick_at (course machine earlier).point.phase.hold (at_moment event.0 (course machine earlier).point.times) ≡ Expires) where
   abbrev hold : ℕ
-  hold = (walk machine earlier).point.phase.hold
+  hold = (course machine earlier).point.phase.hold
 
   far : LieApart (1000 * hold) (moments_in heard)
   far =
@@ -122,7 +122,7 @@ module _ (machine : Machine) (heard earlier later : Pieces) (event : ℕ × List
     taken = octets_in earlier;
     untaken = octets_in (event ∷ later);
     split = ap octets_in split ∙ flat_map-append (λ (e : ℕ × List ℕ). e.1) earlier (event ∷ later);
-    phase = (walk machine earlier).point.phase;
+    phase = (course machine earlier).point.phase;
     found = (stands machine earlier lived).found;
     timed = (expires_late machine earlier event.0 lived due).0;
     apart = lift (1000 * hold) far;

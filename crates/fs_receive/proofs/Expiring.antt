@@ -33,10 +33,10 @@ use Rattle.fs_speaker.proofs.SessionSteps.{going, plays_none, plays_step}
 use Rattle.fs_desk.specs.Limit.{bounded_from, first_over, too_many}
 use Rattle.fs_ends.specs.Opening.{opened_by, opens, front_message}
 use Rattle.fs_joint.specs.End.{ticks}
-use Rattle.fs_talk.specs.Turn.{Pieces}
-use Rattle.fs_receive.specs.Walk.{hears, walk}
-use Rattle.fs_receive.proofs.Holding.{last_update}
-use Rattle.fs_receive.proofs.Walking.{Steps, by_pieces, steps, walk_more}
+use Rattle.fs_talk.specs.Round.{Pieces}
+use Rattle.fs_receive.specs.Course.{hears, course}
+use Rattle.fs_joint.proofs.Lasting.{last_update}
+use Rattle.fs_receive.proofs.Courses.{Steps, by_pieces, steps, course_more}
 
 abbrev Made : Type 0
 Made = Result (Phase × Option Update) Closed
@@ -248,15 +248,15 @@ module _ (machine : Machine) where
     pub event : ℕ × List ℕ
     pub later : Pieces
     pub split : heard ≡ earlier ++ event ∷ later
-    pub lived : (walk machine earlier).point.closed ≡ None
-    pub due : tick_at (walk machine earlier).point.phase.hold (at_moment event.0 (walk machine earlier).point.times) ≡ Expires
+    pub lived : (course machine earlier).point.closed ≡ None
+    pub due : tick_at (course machine earlier).point.phase.hold (at_moment event.0 (course machine earlier).point.times) ≡ Expires
 
   abbrev ClosedLate : Pieces → Type 0
-  ClosedLate heard = (walk machine heard).point.closed ≡ Some (Fault 4 0) → Expired heard
+  ClosedLate heard = (course machine heard).point.closed ≡ Some (Fault 4 0) → Expired heard
 
-  module _ (heard : Pieces) (event : ℕ × List ℕ) (before : ClosedLate heard) (e : (walk machine (heard ++ event ∷ [])).point.closed ≡ Some (Fault 4 0)) where
+  module _ (heard : Pieces) (event : ℕ × List ℕ) (before : ClosedLate heard) (e : (course machine (heard ++ event ∷ [])).point.closed ≡ Some (Fault 4 0)) where
     abbrev here : Point
-    here = (walk machine heard).point
+    here = (course machine heard).point
 
     abbrev hand_by : Option Closed → Point → Handed
     hand_by c p = elim c [ Some why ↦ handed p [] [] | None ↦ runs_by machine p.phase (at_moment event.0 p.times) (p.waiting ++ event.1) ]
@@ -268,7 +268,7 @@ module _ (machine : Machine) where
     ]
 
     there : (hears machine event here).point.closed ≡ Some (Fault 4 0)
-    there = sym (ap (λ (m : Handed). m.point.closed) (walk_more machine heard event)) ∙ e
+    there = sym (ap (λ (m : Handed). m.point.closed) (course_more machine heard event)) ∙ e
 
     shut : (why : Closed) → here.closed ≡ Some why → (hears machine event here).point.closed ≡ Some why
     shut why k =
@@ -297,7 +297,7 @@ module _ (machine : Machine) where
               due = x.due;
             }
 
-  pub closed_late : (heard : Pieces) → (walk machine heard).point.closed ≡ Some (Fault 4 0) → Expired heard
+  pub closed_late : (heard : Pieces) → (course machine heard).point.closed ≡ Some (Fault 4 0) → Expired heard
   closed_late heard = by_pieces ClosedLate (λ earlier event before e. late_more earlier event before e) (λ e. absurd (none-some (Fault 4 0) e)) heard
 
 -- with a limit of routes

@@ -9,7 +9,7 @@ use Rattle.fs_message.specs.declared.open_.Open.{Open}
 use Rattle.fs_attrs.specs.declared.update.Update.{Update}
 use Rattle.fs_attrs.specs.declared.update.UpdateFault.{UpdateFault}
 use Rattle.fs_speaker.specs.Handed.{Handed, runs}
-use Rattle.fs_speaker.specs.Session.{Last, closed, plays, session_by, still, with_update}
+use Rattle.fs_speaker.specs.Session.{Last, closed, plays, session_by, still}
 use Rattle.fs_speaker.specs.Times.{taken_in}
 use Rattle.fs_speaker.specs.Transition.{Machine, faulted, not_taken, notified, opened, phase, taken, transition_at, transition_by, updates}
 use Rattle.fs_speaker.specs.declared.state.Closed.{Closed}
@@ -20,6 +20,7 @@ use Rattle.fs_speaker.specs.declared.times.Times.{Times}
 use Rattle.fs_speaker.specs.declared.transition.Phase.{Phase}
 use Rattle.fs_speaker.proofs.Handing.{ran, runs_none, runs_step}
 use Rattle.fs_speaker.proofs.SessionSteps.{going, plays_none, plays_step}
+use Rattle.fs_joint.proofs.Lasting.{last_update}
 use Rattle.fs_receive.proofs.Answering.{awaits_open}
 
 abbrev Made : Type 0
@@ -33,11 +34,6 @@ same_still a b e = cc
 
 pub closed_still : (why : Closed) (last : Phase) → closed why ≡ still last → ⊥
 closed_still why last e = cc
-
--- an update more changes nothing of what the session comes to
-pub last_update : (update : Option Update) (played : List Update × Last) → (with_update update played).1 ≡ played.1
-last_update None played = refl
-last_update (Some update) played = refl
 
 -- a message that is taken leaves an end past the OPEN, with the hold time that was agreed
 abbrev pub Keeps : Phase → Made → Type 0

@@ -21,8 +21,8 @@ use Rattle.fs_speaker.specs.declared.times.Tick.TheVariants.{Quiet, Keeps, Expir
 use Rattle.fs_speaker.specs.declared.times.Times.{Times}
 use Rattle.fs_speaker.specs.declared.transition.Phase.{Phase}
 use Rattle.fs_speaker.proofs.Handing.{ran, runs_none, runs_step}
-use Rattle.fs_talk.specs.Turn.{Pieces, moments_in}
-use Rattle.fs_receive.specs.Walk.{after, hears, walk, walks_on}
+use Rattle.fs_talk.specs.Round.{Pieces, moments_in}
+use Rattle.fs_receive.specs.Course.{after, hears, course, course_from}
 
 abbrev Made : Type 0
 Made = Result (Phase × Option Update) Closed
@@ -159,23 +159,23 @@ module _ (machine : Machine) (moments : List ℕ) (now : Handed) (t : Timely mom
       by None e = at e (tick_at now.point.phase.hold then_at) refl
       by (Some why) e = absurd (none-some why (sym end ∙ shut_stays why e))
 
-timely_on : (machine : Machine) (moments : List ℕ) (now : Handed) → Timely moments now → (heard : Pieces) → Timely (moments ++ moments_in heard) (walks_on machine now heard)
+timely_on : (machine : Machine) (moments : List ℕ) (now : Handed) → Timely moments now → (heard : Pieces) → Timely (moments ++ moments_in heard) (course_from machine now heard)
 timely_on machine moments now t [] = subst (λ (ms : List ℕ). Timely ms now) (sym (append-nil moments)) t
 timely_on machine moments now t (event ∷ heard) =
-    subst (λ (ms : List ℕ). Timely ms (walks_on machine (after now (hears machine event now.point)) heard)) (append_assoc moments (event.0 ∷ []) (moments_in heard))
+    subst (λ (ms : List ℕ). Timely ms (course_from machine (after now (hears machine event now.point)) heard)) (append_assoc moments (event.0 ∷ []) (moments_in heard))
     (timely_on machine (moments ++ event.0 ∷ []) (after now (hears machine event now.point)) (timely_more machine moments now t event) heard)
 
-pub timely_walk : (machine : Machine) (heard : Pieces) → Timely (moments_in heard) (walk machine heard)
-timely_walk machine heard =
+pub timely_course : (machine : Machine) (heard : Pieces) → Timely (moments_in heard) (course machine heard)
+timely_course machine heard =
     timely_on machine [] (handed (point [] at_start (record { greatest = 0; taken = 0; written = 0 }) None) [] [])
     (λ e. record { greatest_is = refl; taken_is = λ timed. absurd (timed refl) }) heard
 
-pub expires_late : (machine : Machine) (heard : Pieces) (moment : ℕ) → (walk machine heard).point.closed ≡ None
-    → tick_at (walk machine heard).point.phase.hold (at_moment moment (walk machine heard).point.times) ≡ Expires
-    → ((walk machine heard).point.phase.hold ≢ 0) × Spans (1000 * (walk machine heard).point.phase.hold) (moments_in heard ++ moment ∷ [])
+pub expires_late : (machine : Machine) (heard : Pieces) (moment : ℕ) → (course machine heard).point.closed ≡ None
+    → tick_at (course machine heard).point.phase.hold (at_moment moment (course machine heard).point.times) ≡ Expires
+    → ((course machine heard).point.phase.hold ≢ 0) × Spans (1000 * (course machine heard).point.phase.hold) (moments_in heard ++ moment ∷ [])
 expires_late machine heard moment alive due =
-    let here : Point = (walk machine heard).point in
-    let timely : AreTimely (moments_in heard) here.phase.hold here.times = timely_walk machine heard alive in
+    let here : Point = (course machine heard).point in
+    let timely : AreTimely (moments_in heard) here.phase.hold here.times = timely_course machine heard alive in
     let timed : here.phase.hold ≢ 0 = expires_timed here.phase.hold (at_moment moment here.times) due in (
       timed,
       spans_now (moments_in heard ++ moment ∷ []) (at_moment moment here.times).greatest here.times.taken (1000 * here.phase.hold)

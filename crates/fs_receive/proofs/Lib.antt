@@ -1,4 +1,4 @@
-mod Walking
+mod Courses
 mod Receiving
 mod Listened
 mod Answering

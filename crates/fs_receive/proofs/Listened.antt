@@ -17,7 +17,7 @@ use Rattle.fs_desk.proofs.Standing.{desk_stands}
 use Rattle.fs_ends.specs.declared.tell.Ending.{Ending}
 use Rattle.fs_ends.specs.declared.tell.Ending.TheVariants.{Done, Ended as EndedEarly}
 use Rattle.fs_talk.specs.Listening.{EndsSo as StopsSo, HeardOut, HearsOut}
-use Rattle.fs_talk.specs.Turn.{Pieces, Stance, octets_in}
+use Rattle.fs_talk.specs.Round.{Pieces, Stance, octets_in}
 use Rattle.fs_talk.specs.declared.listening.Heard.{Heard}
 use Rattle.fs_talk.specs.declared.listening.Heard.TheVariants.{All, Over, Ready, AtLimit as MetIt}
 use Rattle.fs_talk.proofs.Telling.{told_as}

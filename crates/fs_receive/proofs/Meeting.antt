@@ -28,20 +28,20 @@ use Rattle.fs_speaker.specs.declared.transition.Phase.{Phase}
 use Rattle.fs_speaker.proofs.Arriving.{at_most, body_long, one_message, open_fits, update_fits}
 use Rattle.fs_speaker.proofs.SessionSteps.{machine_waits}
 use Rattle.fs_ends.specs.Teller.{keepalives}
-use Rattle.fs_talk.specs.Turn.{Pieces}
-use Rattle.fs_receive.specs.Hearer.{walked}
+use Rattle.fs_talk.specs.Round.{Pieces}
+use Rattle.fs_receive.specs.Hearer.{course_of}
 use Rattle.fs_joint.specs.Laws.{CanArrive}
 use Rattle.fs_receive.specs.Sender.{TookOpen, rules_in, woven}
 use Rattle.fs_receive.proofs.Replying.{replies}
 
 module _ (config : Config) (whose : Peer) where
   -- the receiving end, while it is open, has said nothing, or what it said begins with the answer to the OPEN
-  pub answers : (heard : Pieces) → (walked config whose heard).point.closed ≡ None
-      → ((walked config whose heard).text ≡ []) ⊎ ((more : List ℕ) × ((walked config whose heard).text ≡ reply_to config WaitOpen ++ more))
+  pub answers : (heard : Pieces) → (course_of config whose heard).point.closed ≡ None
+      → ((course_of config whose heard).text ≡ []) ⊎ ((more : List ℕ) × ((course_of config whose heard).text ≡ reply_to config WaitOpen ++ more))
   answers heard alive = by (replies config whose heard alive)
     where
-      by : ((walked config whose heard).text ≡ []) ⊎ ((n : ℕ) × ((walked config whose heard).text ≡ reply_to config WaitOpen ++ keepalives n))
-          → ((walked config whose heard).text ≡ []) ⊎ ((more : List ℕ) × ((walked config whose heard).text ≡ reply_to config WaitOpen ++ more))
+      by : ((course_of config whose heard).text ≡ []) ⊎ ((n : ℕ) × ((course_of config whose heard).text ≡ reply_to config WaitOpen ++ keepalives n))
+          → ((course_of config whose heard).text ≡ []) ⊎ ((more : List ℕ) × ((course_of config whose heard).text ≡ reply_to config WaitOpen ++ more))
       by (inl none) = inl none
       by (inr m) = inr (keepalives m.0, m.1)
 

@@ -29,16 +29,16 @@ use Rattle.fs_ends.specs.Tell.{EndsBefore, MetLimit, begins_with}
 use Rattle.fs_ends.specs.declared.tell.Ending.{Ending}
 use Rattle.fs_ends.specs.declared.tell.Ending.TheVariants.{Done, Closed as WasClosed, Ended as EndedEarly, AtLimit}
 use Rattle.fs_talk.specs.Joined.{AreJoined, Ended as EndedSo, Exchanges, ExchangedOut, Heard, SaidAll, StopsSo, ended, moments_of, of_first, of_second}
-use Rattle.fs_talk.specs.Turn.{Pieces, Stance, octets_in}
+use Rattle.fs_talk.specs.Round.{Pieces, Stance, octets_in}
 use Rattle.fs_talk.specs.declared.joined.Talk.{Talk}
 use Rattle.fs_talk.specs.declared.joined.Talk.TheVariants.{Done as AllSaid, FirstOver, SecondOver, AtLimit as MetIt, Broken}
 use Rattle.fs_talk.proofs.Telling.{told_as}
-use Rattle.fs_receive.specs.Hearer.{HasClosed, Receives, bare, is_ended, walked}
+use Rattle.fs_receive.specs.Hearer.{HasClosed, Receives, bare, is_ended, course_of}
 use Rattle.fs_receive.specs.Listen.{IsReceiving}
 use Rattle.fs_joint.specs.Laws.{CanArrive}
 use Rattle.fs_receive.specs.Pair.{Arrives, ComesUp, EndsEarly, IsUnhindered, Pairs, PairsOver, PairsSo, RunsLate, SaysFront, told_by, EndsTalk}
 use Rattle.fs_receive.specs.Sender.{Began, Speaks, SpeaksUpTo, TookOpen, is_settled, rules_in, text_in, woven}
-use Rattle.fs_receive.specs.Walk.{walk}
+use Rattle.fs_receive.specs.Course.{course}
 use Rattle.fs_joint.specs.End.{IsAt}
 use Rattle.fs_receive.proofs.Apart.{late_first, late_second}
 use Rattle.fs_receive.proofs.Counting.{Opens, opens_so}
@@ -262,7 +262,7 @@ module _ (first last : Desked) (peer peer' first_count count limit : ℕ) (same 
         (subst (λ (c : Config). HasClosed c peer r.whose (of_first events) replied why) config_is (closed_of last peer r.whose (of_first events) replied why e r.stands))
 
     closes_second : (why : Closed) → b.line.closed ≡ Some why → (told_by config sending (of_second events)).point.closed ≡ Some why
-    closes_second why e = sym (ap (λ (m : Machine). (walk m (of_second events)).point.closed) machine_is) ∙ sym s.at.closed_is ∙ e
+    closes_second why e = sym (ap (λ (m : Machine). (course m (of_second events)).point.closed) machine_is) ∙ sym s.at.closed_is ∙ e
 
     receives_so : is_ended (standing_at_desk last peer) ≡ false → IsReceiving last peer whose (of_first events) replied
     receives_so alive =
@@ -272,13 +272,13 @@ module _ (first last : Desked) (peer peer' first_count count limit : ℕ) (same 
     -- an open announcing end, by all that it heard
     module _ (open_b : b.line.closed ≡ None) where
       alive_second : (told_by config sending (of_second events)).point.closed ≡ None
-      alive_second = sym (ap (λ (m : Machine). (walk m (of_second events)).point.closed) machine_is) ∙ sym s.at.closed_is ∙ open_b
+      alive_second = sym (ap (λ (m : Machine). (course m (of_second events)).point.closed) machine_is) ∙ sym s.at.closed_is ∙ open_b
 
-      at_second : IsAt (machine_in b) b.line (walk (machine_in b) (of_second events)).point
+      at_second : IsAt (machine_in b) b.line (course (machine_in b) (of_second events)).point
       at_second = s.at.open_is (sym s.at.closed_is ∙ open_b)
 
       opens_b : Opens (machine_in b) b.line heard_up (octets_in (of_second events))
-      opens_b = opens_so (machine_in b) b.line (walk (machine_in b) (of_second events)).point heard_up (octets_in (of_second events)) open_b at_second k.speaks.1
+      opens_b = opens_so (machine_in b) b.line (course (machine_in b) (of_second events)).point heard_up (octets_in (of_second events)) open_b at_second k.speaks.1
 
       opens : Opens (announcer config (needs_of sending.rules)) b.line heard_up (octets_in (of_second events))
       opens = subst (λ (m : Machine). Opens m b.line heard_up (octets_in (of_second events))) machine_is opens_b
@@ -315,7 +315,7 @@ module _ (first last : Desked) (peer peer' first_count count limit : ℕ) (same 
     down_second : is_settled b.line ≡ false → is_established (told_by config sending (of_second events)).point.phase.state ≡ false
     down_second e =
         let open_b : b.line.closed ≡ None = unsettled b.line e in
-        sym (ap (λ (m : Machine). is_established (walk m (of_second events)).point.phase.state) machine_is)
+        sym (ap (λ (m : Machine). is_established (course m (of_second events)).point.phase.state) machine_is)
         ∙ sym (ap (λ (p : Phase). is_established p.state) (at_second open_b).phase_is)
         ∙ sym (open_settled b.line open_b) ∙ e
 
@@ -410,19 +410,19 @@ module _ (first last : Desked) (peer peer' first_count count limit : ℕ) (same 
       got : IsReceiving last peer whose (of_first events) replied
       got = receives_so alive
 
-      open_walk : (walked config whose (of_first events)).point.closed ≡ None
-      open_walk =
+      open_course : (course_of config whose (of_first events)).point.closed ≡ None
+      open_course =
           let h = hearing_of last peer r.whose (of_first events) replied alive r.stands in
-          sym (ap (λ (p : Peer). (walked config p (of_first events)).point.closed) whose_same)
-          ∙ sym (ap (λ (c : Config). (walked c r.whose (of_first events)).point.closed) config_is)
+          sym (ap (λ (p : Peer). (course_of config p (of_first events)).point.closed) whose_same)
+          ∙ sym (ap (λ (c : Config). (course_of c r.whose (of_first events)).point.closed) config_is)
           ∙ sym (ap (λ p. p.closed) h.point_is) ∙ h.alive
 
-      reply_is : replied ≡ (walked config whose (of_first events)).text
-      reply_is = got.said_is ∙ ap (λ (c : Config). (walked c whose (of_first events)).text) config_is
+      reply_is : replied ≡ (course_of config whose (of_first events)).text
+      reply_is = got.said_is ∙ ap (λ (c : Config). (course_of c whose (of_first events)).text) config_is
 
       replies_form : (replied ≡ []) ⊎ ((n : ℕ) × (replied ≡ reply_to config WaitOpen ++ keepalives n))
       replies_form =
-          subst (λ (z : List ℕ). (z ≡ []) ⊎ ((n : ℕ) × (z ≡ reply_to config WaitOpen ++ keepalives n))) (sym reply_is) (replies config whose (of_first events) open_walk)
+          subst (λ (z : List ℕ). (z ≡ []) ⊎ ((n : ℕ) × (z ≡ reply_to config WaitOpen ++ keepalives n))) (sym reply_is) (replies config whose (of_first events) open_course)
 
       second_never : IsUnhindered config whose sending limit (moments_of events) announced replied → (why : Closed) → b.line.closed ≡ Some why → ⊥
       second_never u why e =
@@ -446,7 +446,7 @@ module _ (first last : Desked) (peer peer' first_count count limit : ℕ) (same 
           has_replied : replied ≡ [] → ⊥
           has_replied none =
               none-some (own_message config whose sending, rest)
-              (sym (unread config whose sending u.can (of_first events) [] rest open_walk (sym reply_is ∙ none) (append-nil (octets_in (of_first events)) ∙ announced_is)).0
+              (sym (unread config whose sending u.can (of_first events) [] rest open_course (sym reply_is ∙ none) (append-nil (octets_in (of_first events)) ∙ announced_is)).0
               ∙ ap first_message announced_is ∙ open_first config whose sending rest)
 
           by : (replied ≡ []) ⊎ ((n : ℕ) × (replied ≡ reply_to config WaitOpen ++ keepalives n)) → is_established (told_by config sending (of_second events)).point.phase.state ≡ false → ⊥
@@ -482,7 +482,7 @@ module _ (first last : Desked) (peer peer' first_count count limit : ℕ) (same 
         four_so : CanArrive config whose sending → s.four ≡ true
         four_so can =
             meets config whose sending s.four (octets_in (of_second events)) now.second.left replied can (subst (λ (c : Config). TookOpen c s.four (octets_in (of_second events))) b_config past.1.1) k.read_second
-            (subst (λ (z : List ℕ). (z ≡ []) ⊎ ((more : List ℕ) × (z ≡ reply_to config WaitOpen ++ more))) (sym reply_is) (answers config whose (of_first events) open_walk))
+            (subst (λ (z : List ℕ). (z ≡ []) ⊎ ((more : List ℕ) × (z ≡ reply_to config WaitOpen ++ more))) (sym reply_is) (answers config whose (of_first events) open_course))
 
         updates_so : CanArrive config whose sending
             → bounded_session config peer announced ≡ (map (update_sent config whose sending) sending.rules, still (phase Established true config.hold_time))

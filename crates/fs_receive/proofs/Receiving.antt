@@ -27,10 +27,10 @@ use Rattle.fs_desk.specs.Desk.{Desked, HandsPeer, PeerIs, Played, Plays, Replies
 use Rattle.fs_desk.specs.HoldTimer.{TickMakes, TicksIn, TicksSession, with_times}
 use Rattle.fs_desk.specs.Life.{life}
 use Rattle.fs_desk.specs.Receive.{IsFed, IsUp, point_of}
-use Rattle.fs_talk.specs.Turn.{Hears, Pieces, octets_in}
-use Rattle.fs_receive.specs.Hearer.{HasClosed, IsHearing, Receives, StandsBy, is_ended, tape_of, walked}
-use Rattle.fs_receive.specs.Walk.{after, hears}
-use Rattle.fs_receive.proofs.Walking.{walk_more}
+use Rattle.fs_talk.specs.Round.{Hears, Pieces, octets_in}
+use Rattle.fs_receive.specs.Hearer.{HasClosed, IsHearing, Receives, StandsBy, is_ended, tape_of, course_of}
+use Rattle.fs_receive.specs.Course.{after, hears}
+use Rattle.fs_receive.proofs.Courses.{course_more}
 
 own : (n : ℕ) → (n == n) ≡ true
 own n = grind (arith, nat_tests)
@@ -189,19 +189,19 @@ pub record Woke (old new : Desked) (peer moment : ℕ) (whose : Peer) (heard : P
   pub session_is : session_at peer new.sessions ≡ Some session
   pub alive : session.closed ≡ None
   pub played : Played old.config (tape_of peer (octets_in heard)) new
-  pub point_is : point_of session ≡ (ticked moment (walked old.config whose heard).point).point
+  pub point_is : point_of session ≡ (ticked moment (course_of old.config whose heard).point).point
   pub moved_is : at_moment moment session.times ≡ session.times
-  pub said_is : out' ≡ out ++ (ticked moment (walked old.config whose heard).point).text
+  pub said_is : out' ≡ out ++ (ticked moment (course_of old.config whose heard).point).text
 
 -- or the hold time has expired
 pub record Slept (old new : Desked) (peer moment : ℕ) (whose : Peer) (heard : Pieces) (out out' : List ℕ) : Type 0 where
-  pub due : tick_at (walked old.config whose heard).point.phase.hold (at_moment moment (walked old.config whose heard).point.times) ≡ Expires
+  pub due : tick_at (course_of old.config whose heard).point.phase.hold (at_moment moment (course_of old.config whose heard).point.times) ≡ Expires
   pub ended : standing_at_desk new peer ≡ Ended (Fault 4 0)
   pub said_is : out' ≡ out ++ notice_text 4 0
 
 module _ (old new : Desked) (peer moment : ℕ) (whose : Peer) (heard : Pieces) (said out out' : List ℕ) (h : IsHearing old peer whose heard said) where
   abbrev here : Point
-  here = (walked old.config whose heard).point
+  here = (course_of old.config whose heard).point
 
   open_here : here.closed ≡ None
   open_here = ap (λ (p : Point). p.closed) (sym h.point_is) ∙ h.alive
@@ -308,7 +308,7 @@ module _ (old mid new : Desked) (peer moment : ℕ) (whose : Peer) (heard : Piec
   all = heard ++ (moment, piece) ∷ []
 
   abbrev woken : Handed
-  woken = ticked moment (walked config whose heard).point
+  woken = ticked moment (course_of config whose heard).point
 
   played_all : Played config (tape_of peer (octets_in heard ++ piece)) new
   played_all = retaped config peer (octets_in heard) piece new (plays config (tape_of peer (octets_in heard)) w.played)
@@ -366,7 +366,7 @@ module _ (old mid new : Desked) (peer moment : ℕ) (whose : Peer) (heard : Piec
       let made = hands config (tape_of peer (octets_in heard)) w.session now_is.session w.played w.session_is now_is.session_is alive in
       let later : Handed = hand machine moment woken.point piece in
       let text : c ≡ b ++ later.text = made.grows ∙ ap (λ (m : Handed). b ++ m.text) handed_then in
-      let step : walked config whose all ≡ after (walked config whose heard) (hears machine (moment, piece) (walked config whose heard).point) = walk_more machine heard (moment, piece) in
+      let step : course_of config whose all ≡ after (course_of config whose heard) (hears machine (moment, piece) (course_of config whose heard).point) = course_more machine heard (moment, piece) in
       answer (woken.text ++ later.text)
       (text ∙ ap (λ (z : List ℕ). z ++ later.text) w.said_is ∙ append_assoc a woken.text later.text)
       (subst (λ (at : Standing). StandsBy at new peer whose all (said ++ (woken.text ++ later.text))) (sym (stands_open new peer now_is.session now_is.session_is alive))
@@ -375,8 +375,8 @@ module _ (old mid new : Desked) (peer moment : ℕ) (whose : Peer) (heard : Piec
         session_is = now_is.session_is;
         alive = alive;
         played = played_now;
-        point_is = made.point_is ∙ ap (λ (m : Handed). m.point) handed_then ∙ sym (ap (λ (m : Handed). m.point) step) ∙ ap (λ (d : Config). (walked d whose all).point) (sym config_is);
-        said_is = ap (λ (z : List ℕ). z ++ (woken.text ++ later.text)) h.said_is ∙ sym (ap (λ (m : Handed). m.text) step) ∙ ap (λ (d : Config). (walked d whose all).text) (sym config_is);
+        point_is = made.point_is ∙ ap (λ (m : Handed). m.point) handed_then ∙ sym (ap (λ (m : Handed). m.point) step) ∙ ap (λ (d : Config). (course_of d whose all).point) (sym config_is);
+        said_is = ap (λ (z : List ℕ). z ++ (woken.text ++ later.text)) h.said_is ∙ sym (ap (λ (m : Handed). m.text) step) ∙ ap (λ (d : Config). (course_of d whose all).text) (sym config_is);
       }))
 
   -- or its octets close it

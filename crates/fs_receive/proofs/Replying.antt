@@ -19,12 +19,12 @@ use Rattle.fs_speaker.specs.declared.times.Times.{Times}
 use Rattle.fs_speaker.specs.declared.transition.Phase.{Phase}
 use Rattle.fs_speaker.proofs.Handing.{ran, runs_none, runs_step}
 use Rattle.fs_ends.specs.Teller.{keepalives}
-use Rattle.fs_talk.specs.Turn.{Pieces}
-use Rattle.fs_receive.specs.Hearer.{walked}
-use Rattle.fs_receive.specs.Walk.{after, hears, walk}
+use Rattle.fs_talk.specs.Round.{Pieces}
+use Rattle.fs_receive.specs.Hearer.{course_of}
+use Rattle.fs_receive.specs.Course.{after, hears, course}
 use Rattle.fs_receive.proofs.Answering.{awaits_open}
 use Rattle.fs_receive.proofs.Holding.{Keeps, keeps}
-use Rattle.fs_receive.proofs.Walking.{Steps, by_pieces, lived, walk_more}
+use Rattle.fs_receive.proofs.Courses.{Steps, by_pieces, lived, course_more}
 
 abbrev Made : Type 0
 Made = Result (Phase × Option Update) Closed
@@ -165,31 +165,31 @@ module _ (config : Config) (whose : Peer) where
         by (inr r) = inr (from_replied r (answered now.point.phase s.times (now.point.waiting ++ event.1) alive))
 
   abbrev SaysAll : Pieces → Type 0
-  SaysAll heard = Says (walk machine heard)
+  SaysAll heard = Says (course machine heard)
 
   says_more : (heard : Pieces) (event : ℕ × List ℕ) → SaysAll heard → SaysAll (heard ++ event ∷ [])
   says_more heard event a =
-      subst Says (sym (walk_more machine heard event)) (λ e.
-      let before = lived machine event (walk machine heard).point e in says_both (walk machine heard) event before.1 (a before.0) e)
+      subst Says (sym (course_more machine heard event)) (λ e.
+      let before = lived machine event (course machine heard).point e in says_both (course machine heard) event before.1 (a before.0) e)
 
   none_begun : (octet : ℕ) (octets : List ℕ) → [] ≡ octet ∷ octets → ⊥
   none_begun octet octets e = cc
 
   -- an open receiving end that has said nothing waits for the OPEN
-  pub waits_silent : (heard : Pieces) → (walked config whose heard).point.closed ≡ None → (walked config whose heard).text ≡ []
-      → awaits_open (walked config whose heard).point.phase.state ≡ true
+  pub waits_silent : (heard : Pieces) → (course_of config whose heard).point.closed ≡ None → (course_of config whose heard).text ≡ []
+      → awaits_open (course_of config whose heard).point.phase.state ≡ true
   waits_silent heard alive none = by (by_pieces SaysAll says_more (λ e. inl (record { text_is = refl; state_is = refl; hold_is = refl })) heard alive)
     where
-      by : Silent (walk machine heard) ⊎ Replied (walk machine heard) → awaits_open (walked config whose heard).point.phase.state ≡ true
+      by : Silent (course machine heard) ⊎ Replied (course machine heard) → awaits_open (course_of config whose heard).point.phase.state ≡ true
       by (inl n) = ap awaits_open n.state_is
       by (inr r) = absurd (none_begun 255 (drop 1 (reply_to config WaitOpen ++ keepalives r.count)) (sym none ∙ r.text_is))
 
   -- An open receiving end has said nothing, or our OPEN and KEEPALIVEs.
-  pub replies : (heard : Pieces) → (walked config whose heard).point.closed ≡ None
-      → ((walked config whose heard).text ≡ []) ⊎ ((n : ℕ) × ((walked config whose heard).text ≡ reply_to config WaitOpen ++ keepalives n))
+  pub replies : (heard : Pieces) → (course_of config whose heard).point.closed ≡ None
+      → ((course_of config whose heard).text ≡ []) ⊎ ((n : ℕ) × ((course_of config whose heard).text ≡ reply_to config WaitOpen ++ keepalives n))
   replies heard alive = by (by_pieces SaysAll says_more (λ e. inl (record { text_is = refl; state_is = refl; hold_is = refl })) heard alive)
     where
-      by : Silent (walk machine heard) ⊎ Replied (walk machine heard)
-          → ((walked config whose heard).text ≡ []) ⊎ ((n : ℕ) × ((walked config whose heard).text ≡ reply_to config WaitOpen ++ keepalives n))
+      by : Silent (course machine heard) ⊎ Replied (course machine heard)
+          → ((course_of config whose heard).text ≡ []) ⊎ ((n : ℕ) × ((course_of config whose heard).text ≡ reply_to config WaitOpen ++ keepalives n))
       by (inl n) = inl n.text_is
       by (inr r) = inr (r.count, r.text_is)

@@ -24,12 +24,12 @@ use Rattle.fs_speaker.specs.declared.times.Tick.TheVariants.{Quiet, Keeps, Expir
 use Rattle.fs_speaker.specs.declared.times.Times.{Times}
 use Rattle.fs_speaker.specs.declared.transition.Phase.{Phase}
 use Rattle.fs_ends.specs.Teller.{opening_of}
-use Rattle.fs_talk.specs.Turn.{Hears, Pieces, Says, octets_in}
+use Rattle.fs_talk.specs.Round.{Hears, Pieces, Says, octets_in}
 use Rattle.fs_receive.specs.Sender.{Began, CountsTo, Speaks, SpeaksUpTo, TookOpen, part_text, rule_in, rules_in, text_in, woven}
-use Rattle.fs_receive.specs.Walk.{hears, walk}
+use Rattle.fs_receive.specs.Course.{hears, course}
 use Rattle.fs_receive.proofs.Answering.{Goes, Opens, Quiet as IsQuiet, awaits_open, opens_by, quiet_by}
 use Rattle.fs_receive.proofs.Receiving.{octets_more}
-use Rattle.fs_receive.proofs.Walking.{walk_more}
+use Rattle.fs_receive.proofs.Courses.{course_more}
 
 never : true ≡ false → ⊥
 never e = cc
@@ -132,7 +132,7 @@ module _ (a : Announcing) (line : Lined) (heard : Pieces) (said : List ℕ) (mom
   machine = machine_in a
 
   abbrev here : Point
-  here = (walk machine heard).point
+  here = (course machine heard).point
 
   abbrev woke : Handed
   woke = ticked moment here
@@ -150,8 +150,8 @@ module _ (a : Announcing) (line : Lined) (heard : Pieces) (said : List ℕ) (mom
     abbrev Answer : Type 0
     Answer = (more : List ℕ) × ((o2 ≡ o0 ++ more) × Speaks end true all (said ++ more))
 
-    at_all : StandsAt machine line (walk machine all).point
-    at_all = subst (λ (h : Handed). StandsAt machine line h.point) (sym (walk_more machine heard (moment, piece))) stands
+    at_all : StandsAt machine line (course machine all).point
+    at_all = subst (λ (h : Handed). StandsAt machine line h.point) (sym (course_more machine heard (moment, piece))) stands
 
     -- the end is closed, or closes: nothing is told of it but what it said
     shut : (why : Closed) (more ending : List ℕ) (keeps : List (Option Sent)) → made.point.closed ≡ Some why → woke.text ++ made.text ≡ more → rules_in keeps ≡ []
@@ -302,7 +302,7 @@ module _ (a : Announcing) (line : Lined) (heard : Pieces) (said : List ℕ) (mom
                     before.1.0,
                     (
                       ap (λ (p : Phase). p.hold) (line_phase f) ∙ ap (λ (p : Phase). p.hold) w.phase_is ∙ sym (ap (λ (p : Phase). p.hold) at_here.phase_is) ∙ before.1.1.0,
-                      ap (λ (h : Handed). h.point.waiting) (walk_more machine heard (moment, piece)) ∙ ap (λ (h : Handed). h.point.waiting) made_is ∙ w.waiting_is ∙ octets_are,
+                      ap (λ (h : Handed). h.point.waiting) (course_more machine heard (moment, piece)) ∙ ap (λ (h : Handed). h.point.waiting) made_is ∙ w.waiting_is ∙ octets_are,
                     ),
                   ),
                 ))
@@ -487,10 +487,10 @@ hears_piece a b c started moment piece o0 o1 o2 go first later ticks_over hands 
     t = subst (λ (g : Bool). Speaks a g heard said) go s
 
     woke : Handed
-    woke = ticked moment (walk (machine_in a) heard).point
+    woke = ticked moment (course (machine_in a) heard).point
 
     ticked_so : StandsAt (machine_in a) b.line woke.point × (o1 ≡ o0 ++ woke.text)
-    ticked_so = ticks_over (walk (machine_in a) heard).point t.at
+    ticked_so = ticks_over (course (machine_in a) heard).point t.at
 
     hands_a : HandsOver (machine_in a) moment b.line c.line piece [] [] o1 o2
     hands_a = subst (λ (m : Machine). HandsOver m moment b.line c.line piece [] [] o1 o2) (ap machine_in first) hands
@@ -520,7 +520,7 @@ hears_shut a started moment piece out h heard said s = by a.line.closed refl
     machine = machine_in a
 
     here : Point
-    here = (walk machine heard).point
+    here = (course machine heard).point
 
     made : (why : Closed) → here.closed ≡ Some why → (hears machine (moment, piece) here).point ≡ here
     made why e =
@@ -538,7 +538,7 @@ hears_shut a started moment piece out h heard said s = by a.line.closed refl
         sym (append-nil out),
         subst (Speaks a started (heard ++ (moment, piece) ∷ [])) (sym (append-nil said)) (record {
           started_is = s.started_is;
-          at = subst (StandsAt machine a.line) (sym (ap (λ (h : Handed). h.point) (walk_more machine heard (moment, piece)) ∙ made why (sym s.at.closed_is ∙ e))) s.at;
+          at = subst (StandsAt machine a.line) (sym (ap (λ (h : Handed). h.point) (course_more machine heard (moment, piece)) ∙ made why (sym s.at.closed_is ∙ e))) s.at;
           four = s.four;
           parts = s.parts;
           rules_are = s.rules_are;

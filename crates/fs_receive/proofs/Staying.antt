@@ -5,17 +5,16 @@ use Rattle.std.proofs.lemmas.List.{map-append}
 use Rattle.fs_base.specs.Parts.{parts_of}
 use Rattle.fs_base.specs.declared.config.Config.{Config}
 use Rattle.fs_base.specs.declared.config.Peer.{Peer}
-use Rattle.fs_base.proofs.Parts.{parts_append}
 use Rattle.fs_message.specs.Stream.{Message, first_message, wrong_at}
 use Rattle.fs_message.specs.Write.{message_text, open_body}
 use Rattle.fs_message.specs.declared.fault.MessageFault.{MessageFault}
 use Rattle.fs_message.specs.declared.open_.Open.{Open}
 use Rattle.fs_message.proofs.OpenReadBack.{open_read}
-use Rattle.fs_message.proofs.StreamLaws.{fault_stays, message_shrinks, message_stable}
+use Rattle.fs_message.proofs.StreamLaws.{message_stable}
 use Rattle.fs_message.proofs.TextFirst.{text_first}
 use Rattle.fs_attrs.specs.declared.update.Update.{Update}
 use Rattle.fs_speaker.specs.Announcer.{is_established, open_sent}
-use Rattle.fs_speaker.specs.Handed.{Handed, Point, rests, runs, runs_by}
+use Rattle.fs_speaker.specs.Handed.{Handed, Point, runs, runs_by}
 use Rattle.fs_speaker.specs.Sending.{needs_of}
 use Rattle.fs_speaker.specs.Session.{Last, at_start, closed, plays, rest_closes, session_by, session_from, still}
 use Rattle.fs_speaker.specs.Side.{announcer, receiver, reply_to}
@@ -30,23 +29,23 @@ use Rattle.fs_speaker.specs.declared.times.Tick.TheVariants.{Expires}
 use Rattle.fs_speaker.specs.declared.times.Times.{Times}
 use Rattle.fs_speaker.specs.declared.transition.Phase.{Phase}
 use Rattle.fs_speaker.proofs.Handing.{ran, runs_none, runs_step}
-use Rattle.fs_speaker.proofs.ReplySteps.{wrong_first}
 use Rattle.fs_speaker.proofs.SessionSteps.{going, machine_takes, machine_waits, plays_none, plays_step, session_rest, step_found}
 use Rattle.fs_ends.specs.HoldTime.{Spans, most}
 use Rattle.fs_ends.specs.Teller.{keepalives}
-use Rattle.fs_talk.specs.Turn.{Pieces, moments_in, octets_in}
-use Rattle.fs_receive.specs.Hearer.{walked}
+use Rattle.fs_talk.specs.Round.{Pieces, moments_in, octets_in}
+use Rattle.fs_receive.specs.Hearer.{course_of}
 use Rattle.fs_joint.specs.Laws.{CanArrive}
 use Rattle.fs_receive.specs.Pair.{IsTimely, told_by}
-use Rattle.fs_receive.specs.Walk.{walk}
+use Rattle.fs_receive.specs.Course.{course}
 use Rattle.fs_receive.proofs.Answering.{awaits_open}
-use Rattle.fs_receive.proofs.Holding.{Unheld, closed_still, hold_is, hold_kept, last_update, runs_unheld, same_still}
+use Rattle.fs_joint.proofs.Lasting.{goes_by, goes_on, last_by, last_update}
+use Rattle.fs_receive.proofs.Holding.{Unheld, closed_still, hold_is, hold_kept, runs_unheld, same_still}
 use Rattle.fs_receive.proofs.Lasting.{expires_late}
 use Rattle.fs_speaker.proofs.Arriving.{one_message, open_fits}
 use Rattle.fs_receive.proofs.Meeting.{least, peer_opens}
 use Rattle.fs_receive.proofs.Receiving.{octets_more}
 use Rattle.fs_receive.proofs.Replying.{keepalives_front}
-use Rattle.fs_receive.proofs.Walking.{Steps, by_pieces, lived, steps, walk_more}
+use Rattle.fs_receive.proofs.Courses.{Steps, by_pieces, lived, steps, course_more}
 use Rattle.fs_ends.proofs.Moments.{positive}
 
 abbrev Made : Type 0
@@ -93,13 +92,13 @@ never_spans first least moments some all s =
     omega (arith, above, below, s.apart)
 
 -- At such moments no hold time expires.
-pub none_expires : (machine : Machine) (hold : ℕ) (heard : Pieces) (moment : ℕ) → (walk machine heard).point.closed ≡ None
-    → ((walk machine heard).point.phase.hold ≡ 0) ⊎ ((walk machine heard).point.phase.hold ≡ hold) → AreEarly hold (moments_in heard ++ moment ∷ [])
-    → tick_at (walk machine heard).point.phase.hold (at_moment moment (walk machine heard).point.times) ≡ Expires → ⊥
+pub none_expires : (machine : Machine) (hold : ℕ) (heard : Pieces) (moment : ℕ) → (course machine heard).point.closed ≡ None
+    → ((course machine heard).point.phase.hold ≡ 0) ⊎ ((course machine heard).point.phase.hold ≡ hold) → AreEarly hold (moments_in heard ++ moment ∷ [])
+    → tick_at (course machine heard).point.phase.hold (at_moment moment (course machine heard).point.times) ≡ Expires → ⊥
 none_expires machine hold heard moment alive agreed early due = by agreed early
   where
     now : ℕ
-    now = (walk machine heard).point.phase.hold
+    now = (course machine heard).point.phase.hold
 
     late : (now ≢ 0) × Spans (1000 * now) (moments_in heard ++ moment ∷ [])
     late = expires_late machine heard moment alive due
@@ -112,53 +111,8 @@ none_expires machine hold heard moment alive agreed early due = by agreed early
         (subst (λ (n : ℕ). Spans (1000 * n) (moments_in heard ++ moment ∷ [])) h late.1)
 
 module _ (machine : Machine) where
-  -- what the session comes to of octets
-  abbrev pub last_by : Phase → List ℕ → Last
-  last_by now octets = (session_by machine now octets).1
-
-  -- of those that an end was handed, and of more behind them
-  abbrev goes_on : List ℕ → Handed → Last
-  goes_on more made = elim made.point.closed [ Some why ↦ closed why | None ↦ last_by made.point.phase (made.point.waiting ++ more) ]
-
   abbrev stands_at : Handed → Last
   stands_at made = elim made.point.closed [ Some why ↦ closed why | None ↦ still made.point.phase ]
-
-  module _ (more : List ℕ) where
-    abbrev next_messages : List ℕ → List Message
-    next_messages rest = (parts_of first_message (rest ++ more)).0
-
-    abbrev next_wrong : List ℕ → Option MessageFault
-    next_wrong rest = wrong_at (parts_of first_message (rest ++ more)).1
-
-    last_rest : (now : Phase) (times : Times) (rest : List ℕ) (wrong : Option MessageFault) → wrong_at rest ≡ wrong
-        → last_by now (rest ++ more) ≡ goes_on more (rests machine now times rest wrong)
-    last_rest now times rest None h = refl
-    last_rest now times rest (Some fault) h =
-        let stays = fault_stays rest more fault h in
-        ap (λ (z : List Update × Last). z.1) (session_rest machine now (rest ++ more) (wrong_first (rest ++ more) fault stays))
-        ∙ ap (rest_closes now) stays
-
-    last_join : (now : Phase) (times : Times) (messages : List Message) (rest : List ℕ)
-        → (plays machine now (messages ++ next_messages rest) (next_wrong rest)).1 ≡ goes_on more (runs machine now times messages rest (wrong_at rest))
-    last_join now times [] rest =
-        last_rest now times rest (wrong_at rest) refl ∙ sym (ap (goes_on more) (runs_none machine now times rest (wrong_at rest)))
-    last_join now times (message ∷ messages) rest =
-        ap (λ (z : List Update × Last). z.1) (plays_step machine now message (messages ++ next_messages rest) (next_wrong rest))
-        ∙ by (λ next. last_join next (taken_in now.state times) messages rest) (transition_by machine now message)
-        ∙ sym (ap (goes_on more) (runs_step machine now times message messages rest (wrong_at rest)))
-      where
-        by : ((next : Phase) → (plays machine next (messages ++ next_messages rest) (next_wrong rest)).1
-            ≡ goes_on more (runs machine next (taken_in now.state times) messages rest (wrong_at rest)))
-            → (made : Made)
-            → (going made (λ next. plays machine next (messages ++ next_messages rest) (next_wrong rest))).1
-            ≡ goes_on more (ran machine now times made (λ next. runs machine next (taken_in now.state times) messages rest (wrong_at rest)))
-        by goes (Ok next) = last_update next.1 (plays machine next.0 (messages ++ next_messages rest) (next_wrong rest)) ∙ goes next.0
-        by goes (Err why) = refl
-
-    goes_by : (now : Phase) (times : Times) (octets : List ℕ) → last_by now (octets ++ more) ≡ goes_on more (runs_by machine now times octets)
-    goes_by now times octets =
-        ap (λ (parts : List Message × List ℕ). (plays machine now parts.0 (wrong_at parts.1)).1) (parts_append first_message message_shrinks message_stable octets more)
-        ∙ last_join now times (parts_of first_message octets).0 (parts_of first_message octets).1
 
   stands_runs : (messages : List Message) (now : Phase) (times : Times) (waiting : List ℕ) (wrong : Option MessageFault)
       → (plays machine now messages wrong).1 ≡ stands_at (runs machine now times messages waiting wrong)
@@ -177,17 +131,17 @@ module _ (machine : Machine) where
       by goes (Ok next) = last_update next.1 (plays machine next.0 messages wrong) ∙ goes next.0
       by goes (Err why) = refl
 
-  stands_by : (now : Phase) (times : Times) (octets : List ℕ) → last_by now octets ≡ stands_at (runs_by machine now times octets)
+  stands_by : (now : Phase) (times : Times) (octets : List ℕ) → last_by machine now octets ≡ stands_at (runs_by machine now times octets)
   stands_by now times octets = stands_runs (parts_of first_message octets).0 now times (parts_of first_message octets).1 (wrong_at (parts_of first_message octets).1)
 
   abbrev at : Pieces → Point
-  at heard = (walk machine heard).point
+  at heard = (course machine heard).point
 
   -- An open end stands where the session of its octets does: what is to come of more is what is to come of those in hand
   -- and of these.
   pub record Stands (heard : Pieces) : Type 0 where
-    pub follows : (more : List ℕ) → last_by at_start (octets_in heard ++ more) ≡ last_by (at heard).phase ((at heard).waiting ++ more)
-    pub found : last_by at_start (octets_in heard) ≡ still (at heard).phase
+    pub follows : (more : List ℕ) → last_by machine at_start (octets_in heard ++ more) ≡ last_by machine (at heard).phase ((at heard).waiting ++ more)
+    pub found : last_by machine at_start (octets_in heard) ≡ still (at heard).phase
     pub unheld : Unheld machine (at heard).phase
 
   moments_more : (heard : Pieces) (event : ℕ × List ℕ) → moments_in (heard ++ event ∷ []) ≡ moments_in heard ++ event.0 ∷ []
@@ -201,25 +155,25 @@ module _ (machine : Machine) where
     all = heard ++ event ∷ []
 
     point_is : at all ≡ later.point
-    point_is = ap (λ (m : Handed). m.point) (walk_more machine heard event) ∙ s.point_is
+    point_is = ap (λ (m : Handed). m.point) (course_more machine heard event) ∙ s.point_is
 
     -- what is to come, by what the piece made of the end
-    comes : (more : List ℕ) → last_by at_start (octets_in all ++ more) ≡ goes_on more later
+    comes : (more : List ℕ) → last_by machine at_start (octets_in all ++ more) ≡ goes_on machine more later
     comes more =
-        ap (λ (z : List ℕ). last_by at_start (z ++ more)) (octets_more heard event.0 event.1)
-        ∙ ap (last_by at_start) (append_assoc (octets_in heard) event.1 more)
+        ap (λ (z : List ℕ). last_by machine at_start (z ++ more)) (octets_more heard event.0 event.1)
+        ∙ ap (last_by machine at_start) (append_assoc (octets_in heard) event.1 more)
         ∙ st.follows (event.1 ++ more)
-        ∙ ap (last_by (at heard).phase) (sym (append_assoc (at heard).waiting event.1 more))
-        ∙ goes_by more (at heard).phase s.times ((at heard).waiting ++ event.1)
+        ∙ ap (last_by machine (at heard).phase) (sym (append_assoc (at heard).waiting event.1 more))
+        ∙ goes_by machine more (at heard).phase s.times ((at heard).waiting ++ event.1)
 
     stands_more : (at all).closed ≡ None → Stands all
     stands_more e = record {
       follows = λ more.
           comes more
-          ∙ ap (λ (c : Option Closed). elim c [ Some why ↦ closed why | None ↦ last_by later.point.phase (later.point.waiting ++ more) ]) alive
-          ∙ ap (λ (p : Point). last_by p.phase (p.waiting ++ more)) (sym point_is);
+          ∙ ap (λ (c : Option Closed). elim c [ Some why ↦ closed why | None ↦ last_by machine later.point.phase (later.point.waiting ++ more) ]) alive
+          ∙ ap (λ (p : Point). last_by machine p.phase (p.waiting ++ more)) (sym point_is);
       found =
-          ap (last_by at_start) (octets_more heard event.0 event.1)
+          ap (last_by machine at_start) (octets_more heard event.0 event.1)
           ∙ st.follows event.1
           ∙ stands_by (at heard).phase s.times ((at heard).waiting ++ event.1)
           ∙ ap (λ (c : Option Closed). elim c [ Some why ↦ closed why | None ↦ still later.point.phase ]) alive
@@ -233,13 +187,13 @@ module _ (machine : Machine) where
         alive : later.point.closed ≡ None
         alive = sym (ap (λ (p : Point). p.closed) point_is) ∙ e
 
-    open_more : (more : List ℕ) (last : Phase) → last_by at_start (octets_in all ++ more) ≡ still last → (at all).closed ≡ None
+    open_more : (more : List ℕ) (last : Phase) → last_by machine at_start (octets_in all ++ more) ≡ still last → (at all).closed ≡ None
     open_more more last h = ap (λ (p : Point). p.closed) point_is ∙ by later.point.closed refl
       where
         by : (c : Option Closed) → later.point.closed ≡ c → later.point.closed ≡ None
         by None e = e
         by (Some why) e =
-            absurd (closed_still why last (sym (ap (λ (c : Option Closed). elim c [ Some why ↦ closed why | None ↦ last_by later.point.phase (later.point.waiting ++ more) ]) e)
+            absurd (closed_still why last (sym (ap (λ (c : Option Closed). elim c [ Some why ↦ closed why | None ↦ last_by machine later.point.phase (later.point.waiting ++ more) ]) e)
             ∙ sym (comes more) ∙ h))
 
   abbrev StandsOpen : Pieces → Type 0
@@ -247,33 +201,33 @@ module _ (machine : Machine) where
 
   more_stands : (heard : Pieces) (event : ℕ × List ℕ) → StandsOpen heard → StandsOpen (heard ++ event ∷ [])
   more_stands heard event a e =
-      let before = lived machine event (at heard) (sym (ap (λ (m : Handed). m.point.closed) (walk_more machine heard event)) ∙ e) in
+      let before = lived machine event (at heard) (sym (ap (λ (m : Handed). m.point.closed) (course_more machine heard event)) ∙ e) in
       stands_more heard event (a before.0) before.1 e
 
-  pub stands : (heard : Pieces) → (walk machine heard).point.closed ≡ None → Stands heard
+  pub stands : (heard : Pieces) → (course machine heard).point.closed ≡ None → Stands heard
   stands heard =
       by_pieces StandsOpen more_stands
       (λ e. record { follows = λ more. refl; found = ap (λ (z : List Update × Last). z.1) (machine_waits machine at_start [] refl); unheld = λ w. refl }) heard
 
   -- its hold time is none, or the one of the session that comes of more octets
-  pub agreed : (heard : Pieces) (more : List ℕ) (last : Phase) → (walk machine heard).point.closed ≡ None
+  pub agreed : (heard : Pieces) (more : List ℕ) (last : Phase) → (course machine heard).point.closed ≡ None
       → (session_by machine at_start (octets_in heard ++ more)).1 ≡ still last
-      → ((walk machine heard).point.phase.hold ≡ 0) ⊎ ((walk machine heard).point.phase.hold ≡ last.hold)
+      → ((course machine heard).point.phase.hold ≡ 0) ⊎ ((course machine heard).point.phase.hold ≡ last.hold)
   agreed heard more last alive h =
       let st : Stands heard = stands heard alive in
       hold_is machine (at heard).phase last ((at heard).waiting ++ more) st.unheld (sym (st.follows more) ∙ h)
 
   abbrev StaysOpen : Pieces → Type 0
   StaysOpen heard =
-      (more : List ℕ) (last : Phase) → last_by at_start (octets_in heard ++ more) ≡ still last → AreEarly last.hold (moments_in heard) → (at heard).closed ≡ None
+      (more : List ℕ) (last : Phase) → last_by machine at_start (octets_in heard ++ more) ≡ still last → AreEarly last.hold (moments_in heard) → (at heard).closed ≡ None
 
   more_stays : (heard : Pieces) (event : ℕ × List ℕ) → StaysOpen heard → StaysOpen (heard ++ event ∷ [])
   more_stays heard event a more last h early = by (steps machine event (at heard) alive)
     where
-      here : last_by at_start (octets_in heard ++ (event.1 ++ more)) ≡ still last
+      here : last_by machine at_start (octets_in heard ++ (event.1 ++ more)) ≡ still last
       here =
-          ap (last_by at_start) (sym (append_assoc (octets_in heard) event.1 more))
-          ∙ ap (λ (z : List ℕ). last_by at_start (z ++ more)) (sym (octets_more heard event.0 event.1)) ∙ h
+          ap (last_by machine at_start) (sym (append_assoc (octets_in heard) event.1 more))
+          ∙ ap (λ (z : List ℕ). last_by machine at_start (z ++ more)) (sym (octets_more heard event.0 event.1)) ∙ h
 
       moments_early : AreEarly last.hold (moments_in heard ++ event.0 ∷ [])
       moments_early = subst (AreEarly last.hold) (moments_more heard event) early
@@ -287,7 +241,7 @@ module _ (machine : Machine) where
 
   -- An end that heard a front of octets whose session is open is open, where no hold time has passed.
   pub stays : (heard : Pieces) (more : List ℕ) (last : Phase) → (session_by machine at_start (octets_in heard ++ more)).1 ≡ still last
-      → AreEarly last.hold (moments_in heard) → (walk machine heard).point.closed ≡ None
+      → AreEarly last.hold (moments_in heard) → (course machine heard).point.closed ≡ None
   stays heard = by_pieces StaysOpen more_stays (λ more last h early. refl) heard
 
   -- of a front of octets that begin with an OPEN that is taken, the session has agreed on no hold time, or on the OPEN's
@@ -371,20 +325,6 @@ module _ (config : Config) (peer : Peer) (sending : Sending) where
   early_so hold moments (inl z) timely = inl z
   early_so hold moments (inr e) timely = subst (λ (n : ℕ). AreEarly n moments) (sym e) timely
 
-  then_none : (a b : ℕ) → (a ≡ 0) ⊎ (a ≡ b) → (b ≡ 0) ⊎ (b ≡ config.hold_time) → (a ≡ 0) ⊎ (a ≡ config.hold_time)
-  then_none a b (inl z) h = inl z
-  then_none a b (inr e) (inl z) = inl (e ∙ z)
-  then_none a b (inr e) (inr f) = inr (e ∙ f)
-
-  -- The announcing end, while it is open and heard a front of what an open receiving end said: no hold time, or ours.
-  pub teller_hold : (heard : Pieces) (left text : List ℕ) → CanArrive config peer sending → octets_in heard ++ left ≡ text → AreReplies text
-      → (told_by config sending heard).point.closed ≡ None
-      → ((told_by config sending heard).point.phase.hold ≡ 0) ⊎ ((told_by config sending heard).point.phase.hold ≡ config.hold_time)
-  teller_hold heard left text can split form alive =
-      let found = text_last text can form in
-      then_none (told_by config sending heard).point.phase.hold found.0.hold
-      (agreed teller heard left found.0 alive (ap (last_by teller at_start) split ∙ found.1.0)) found.1.1
-
   -- It is open where no hold time has passed,
   pub teller_stays : (heard : Pieces) (left text : List ℕ) → CanArrive config peer sending → octets_in heard ++ left ≡ text → AreReplies text
       → IsTimely config (moments_in heard) → (told_by config sending heard).point.closed ≡ None
@@ -410,21 +350,14 @@ module _ (config : Config) (peer : Peer) (sending : Sending) where
 
   -- and so has the receiving end, while it is open and heard it.
   pub hearer_hold : (heard : Pieces) (left more : List ℕ) → CanArrive config peer sending → octets_in heard ++ left ≡ open_sent config peer sending ++ more
-      → (walked config peer heard).point.closed ≡ None
-      → ((walked config peer heard).point.phase.hold ≡ 0) ⊎ ((walked config peer heard).point.phase.hold ≡ config.hold_time)
+      → (course_of config peer heard).point.closed ≡ None
+      → ((course_of config peer heard).point.phase.hold ≡ 0) ⊎ ((course_of config peer heard).point.phase.hold ≡ config.hold_time)
   hearer_hold heard left more can split alive =
-      session_hold (octets_in heard) left more (walked config peer heard).point.phase can split (stands (receiver config peer) heard alive).found
-
-  -- It is open where the session of all that it heard is open, and no hold time has passed.
-  pub hearer_stays : (heard : Pieces) (left more : List ℕ) (last : Phase) → CanArrive config peer sending → octets_in heard ++ left ≡ open_sent config peer sending ++ more
-      → (session_from config peer at_start (octets_in heard)).1 ≡ still last → IsTimely config (moments_in heard) → (walked config peer heard).point.closed ≡ None
-  hearer_stays heard left more last can split h timely =
-      stays (receiver config peer) heard [] last (ap (last_by (receiver config peer) at_start) (append-nil (octets_in heard)) ∙ h)
-      (early_so last.hold (moments_in heard) (session_hold (octets_in heard) left more last can split h) timely)
+      session_hold (octets_in heard) left more (course_of config peer heard).point.phase can split (stands (receiver config peer) heard alive).found
 
   -- At such moments neither end's hold time expires.
-  pub never_due : (machine : Machine) (heard : Pieces) (moment : ℕ) → (walk machine heard).point.closed ≡ None
-      → ((walk machine heard).point.phase.hold ≡ 0) ⊎ ((walk machine heard).point.phase.hold ≡ config.hold_time)
+  pub never_due : (machine : Machine) (heard : Pieces) (moment : ℕ) → (course machine heard).point.closed ≡ None
+      → ((course machine heard).point.phase.hold ≡ 0) ⊎ ((course machine heard).point.phase.hold ≡ config.hold_time)
       → IsTimely config (moments_in heard ++ moment ∷ [])
-      → tick_at (walk machine heard).point.phase.hold (at_moment moment (walk machine heard).point.times) ≡ Expires → ⊥
+      → tick_at (course machine heard).point.phase.hold (at_moment moment (course machine heard).point.times) ≡ Expires → ⊥
   never_due machine heard moment alive hold timely due = none_expires machine config.hold_time heard moment alive hold timely due

@@ -3,7 +3,7 @@ use Rattle.std.proofs.Common.{inl, inr, ℕ, ◌+◌, ◌*◌, ◌<◌, ◌≤�
 use Rattle.std.specs.List.{AllByRecursion}
 use Rattle.fs_base.specs.declared.config.Config.{Config}
 use Rattle.fs_talk.specs.Joined.{Heard, moments_of, of_first, of_second}
-use Rattle.fs_talk.specs.Turn.{Pieces, moments_in}
+use Rattle.fs_talk.specs.Round.{Pieces, moments_in}
 use Rattle.fs_receive.specs.Pair.{IsTimely}
 
 timely_by : (config : Config) (some all : List ℕ) → ((P : ℕ → Type 0) → AllByRecursion P all → AllByRecursion P some) → IsTimely config all → IsTimely config some

@@ -30,13 +30,14 @@ use Rattle.fs_speaker.specs.declared.transition.Phase.{Phase}
 use Rattle.fs_speaker.proofs.ReplySteps.{replies_rest, replies_takes, wrong_first}
 use Rattle.fs_speaker.proofs.SessionSteps.{going, machine_takes, plays_none, plays_step, session_rest, step_found}
 use Rattle.fs_desk.specs.Limit.{bounded, bounded_from, bounded_replies, bounded_replies_from, first_over, replies_to_limit, too_many}
-use Rattle.fs_talk.specs.Turn.{Pieces, moments_in, octets_in}
-use Rattle.fs_receive.specs.Hearer.{ClosesIn, ExpiresAt, HasClosed, walked}
+use Rattle.fs_talk.specs.Round.{Pieces, moments_in, octets_in}
+use Rattle.fs_receive.specs.Hearer.{ClosesIn, ExpiresAt, HasClosed, course_of}
 use Rattle.fs_receive.specs.Pair.{IsTimely, MayHold}
 use Rattle.fs_receive.specs.Sender.{TookOpen, rules_in, woven}
 use Rattle.fs_receive.proofs.Limits.{within}
 use Rattle.fs_receive.proofs.Answering.{awaits_open}
-use Rattle.fs_receive.proofs.Holding.{Keeps, closed_still, keeps, last_update, same_still}
+use Rattle.fs_joint.proofs.Lasting.{last_update}
+use Rattle.fs_receive.proofs.Holding.{Keeps, closed_still, keeps, same_still}
 use Rattle.fs_receive.proofs.Meeting.{answers, meets, open_first, own_message, parts_arrive, peer_opens}
 use Rattle.fs_receive.proofs.Replying.{waits_silent}
 use Rattle.fs_receive.proofs.Staying.{hearer_hold, never_due, stands}
@@ -164,13 +165,13 @@ module _ (config : Config) (whose : Peer) (sending : Sending) (can : CanArrive c
       by (inr f) = some f.0 f.1 (first_over whose.max_routes (session_from config whose at_start octets).0) refl
 
   -- while the receiving end has said nothing it heard no whole message
-  pub unread : (heard : Pieces) (more rest : List ℕ) → (walked config whose heard).point.closed ≡ None → (walked config whose heard).text ≡ []
+  pub unread : (heard : Pieces) (more rest : List ℕ) → (course_of config whose heard).point.closed ≡ None → (course_of config whose heard).text ≡ []
       → octets_in heard ++ more ≡ open_sent config whose sending ++ rest
-      → (first_message (octets_in heard) ≡ None) × ((walked config whose heard).point.phase.hold ≡ 0)
+      → (first_message (octets_in heard) ≡ None) × ((course_of config whose heard).point.phase.hold ≡ 0)
   unread heard more rest alive none split = (by (reads_open (octets_in heard) more rest split), (stands (receiver config whose) heard alive).unheld silent)
     where
       here : Phase
-      here = (walked config whose heard).point.phase
+      here = (course_of config whose heard).point.phase
 
       silent : awaits_open here.state ≡ true
       silent = waits_silent config whose heard alive none
@@ -197,7 +198,7 @@ module _ (config : Config) (whose : Peer) (sending : Sending) (can : CanArrive c
         (reads : announced ≡ octets_in heard ++ left) (f : Fronts config whose sending announced told)
         (timely : IsTimely config (moments_in heard)) where
       abbrev here : Point
-      here = (walked config whose h.earlier).point
+      here = (course_of config whose h.earlier).point
 
       abbrev to_there : List ℕ
       to_there = octets_in h.earlier ++ h.piece
@@ -246,7 +247,7 @@ module _ (config : Config) (whose : Peer) (sending : Sending) (can : CanArrive c
           grown : bounded_replies_from config whose to_there ≡ bounded_replies_from config whose (octets_in h.earlier) ++ c.more
           grown = sym (replies_are to_there) ∙ c.replied ∙ ap (λ (z : List ℕ). z ++ c.more) (replies_are (octets_in h.earlier))
 
-          silent : (walked config whose h.earlier).text ≡ [] → Said said
+          silent : (course_of config whose h.earlier).text ≡ [] → Said said
           silent none = at (replies_so to_there beyond (rest_of f.four) whole)
             where
               before : (first_message (octets_in h.earlier) ≡ None) × (here.phase.hold ≡ 0)
@@ -267,7 +268,7 @@ module _ (config : Config) (whose : Peer) (sending : Sending) (can : CanArrive c
               at (inl z) = inl (said_so ∙ sym (grown_so first_none) ∙ z.1)
               at (inr z) = inr (z.0, said_so ∙ sym (grown_so first_none) ∙ z.1)
 
-          by : ((walked config whose h.earlier).text ≡ []) ⊎ ((more : List ℕ) × ((walked config whose h.earlier).text ≡ reply_to config WaitOpen ++ more)) → Said said
+          by : ((course_of config whose h.earlier).text ≡ []) ⊎ ((more : List ℕ) × ((course_of config whose h.earlier).text ≡ reply_to config WaitOpen ++ more)) → Said said
           by (inl none) = silent none
           by (inr m) = inr (
             m.0 ++ ((ticked h.moment here).text ++ c.more),

@@ -17,16 +17,16 @@ use Rattle.fs_tape.specs.Tape.{Item, came_up, received}
 use Rattle.fs_desk.specs.Desk.{Desked, Played, session_at, standing_at_desk}
 use Rattle.fs_desk.specs.Limit.{bounded_replies}
 use Rattle.fs_desk.specs.Receive.{IsOver, point_of}
-use Rattle.fs_talk.specs.Turn.{Pieces, octets_in}
-use Rattle.fs_receive.specs.Walk.{walk}
+use Rattle.fs_talk.specs.Round.{Pieces, octets_in}
+use Rattle.fs_receive.specs.Course.{course}
 
 -- the tape of a peer that came up and sent these octets
 abbrev pub tape_of : ℕ → List ℕ → List Item
 tape_of peer octets = came_up peer ∷ received peer octets ∷ []
 
 -- what a session with a peer comes to that hears these pieces, where no limit of routes is passed
-abbrev pub walked : Config → Peer → Pieces → Handed
-walked config whose heard = walk (receiver config whose) heard
+abbrev pub course_of : Config → Peer → Pieces → Handed
+course_of config whose heard = course (receiver config whose) heard
 
 -- An open session: the desk stands as the octets leave it, the session where the pieces do, and it said what is
 -- answered to these and what the clock appends.
@@ -35,28 +35,28 @@ pub record IsHearing (desk : Desked) (peer : ℕ) (whose : Peer) (heard : Pieces
   pub session_is : session_at peer desk.sessions ≡ Some session
   pub alive : session.closed ≡ None
   pub played : Played desk.config (tape_of peer (octets_in heard)) desk
-  pub point_is : point_of session ≡ (walked desk.config whose heard).point
-  pub said_is : said ≡ (walked desk.config whose heard).text
+  pub point_is : point_of session ≡ (course_of desk.config whose heard).point
+  pub said_is : said ≡ (course_of desk.config whose heard).text
 
 -- The hold time has expired at a moment, and that was said (RFC 4271, section 6.5).
 pub record ExpiresAt (config : Config) (whose : Peer) (earlier : Pieces) (moment : ℕ) (said : List ℕ) (why : Closed)
     : Type 0 where
-  pub due : tick_at (walked config whose earlier).point.phase.hold
-      (at_moment moment (walked config whose earlier).point.times)
+  pub due : tick_at (course_of config whose earlier).point.phase.hold
+      (at_moment moment (course_of config whose earlier).point.times)
       ≡ Expires
   pub why_is : why ≡ Fault 4 0
-  pub said_is : said ≡ (walked config whose earlier).text ++ notice_text 4 0
+  pub said_is : said ≡ (course_of config whose earlier).text ++ notice_text 4 0
 
 -- The octets close the session within a piece, whatever follows, and what is replied to them up to there was said.
 pub record ClosesIn (config : Config) (peer : ℕ) (whose : Peer) (earlier : Pieces) (moment : ℕ) (piece said : List ℕ)
     (why : Closed) : Type 0 where
-  pub lives : (ticked moment (walked config whose earlier).point).point.closed ≡ None
+  pub lives : (ticked moment (course_of config whose earlier).point).point.closed ≡ None
   pub over : IsOver config whose (octets_in earlier ++ piece) why
   pub more : List ℕ
   pub replied : bounded_replies config peer (octets_in earlier ++ piece)
       ≡ bounded_replies config peer (octets_in earlier) ++ more
   pub said_is : said
-      ≡ (walked config whose earlier).text ++ ((ticked moment (walked config whose earlier).point).text ++ more)
+      ≡ (course_of config whose earlier).text ++ ((ticked moment (course_of config whose earlier).point).text ++ more)
 
 -- A session that has closed: up to one of the pieces it is open, and there it closes, by the clock or by its octets.
 -- Nothing behind that counts.
@@ -67,7 +67,7 @@ pub record HasClosed (config : Config) (peer : ℕ) (whose : Peer) (heard : Piec
   pub piece : List ℕ
   pub later : Pieces
   pub split : heard ≡ earlier ++ (moment, piece) ∷ later
-  pub lived : (walked config whose earlier).point.closed ≡ None
+  pub lived : (course_of config whose earlier).point.closed ≡ None
   pub closes : ExpiresAt config whose earlier moment said why ⊎ ClosesIn config peer whose earlier moment piece said why
 
 abbrev pub StandsBy : Standing → Desked → ℕ → Peer → Pieces → List ℕ → Type 0

@@ -11,17 +11,17 @@ use Rattle.fs_speaker.specs.Transition.{Machine}
 use Rattle.fs_speaker.specs.declared.state.Closed.TheVariants.{Fault}
 use Rattle.fs_speaker.specs.declared.times.Tick.TheVariants.{Expires}
 use Rattle.fs_speaker.specs.declared.transition.Phase.{Phase}
-use Rattle.fs_talk.specs.Turn.{Pieces, moments_in}
-use Rattle.fs_receive.specs.Walk.{walk}
+use Rattle.fs_talk.specs.Round.{Pieces, moments_in}
+use Rattle.fs_receive.specs.Course.{course}
 
 -- Either end, wherever pieces at moments leave it open: where its hold time has expired at one moment more, it agreed on
 -- one above 0, and of these moments a later one lies at least so much above an earlier one.
 abbrev pub ExpiresLate : Type 0
 ExpiresLate =
-    (machine : Machine) (heard : Pieces) (moment : ℕ) → (walk machine heard).point.closed ≡ None
-    → tick_at (walk machine heard).point.phase.hold (at_moment moment (walk machine heard).point.times) ≡ Expires
-    → ((walk machine heard).point.phase.hold ≢ 0)
-    × Spans (1000 * (walk machine heard).point.phase.hold) (moments_in heard ++ moment ∷ [])
+    (machine : Machine) (heard : Pieces) (moment : ℕ) → (course machine heard).point.closed ≡ None
+    → tick_at (course machine heard).point.phase.hold (at_moment moment (course machine heard).point.times) ≡ Expires
+    → ((course machine heard).point.phase.hold ≢ 0)
+    × Spans (1000 * (course machine heard).point.phase.hold) (moments_in heard ++ moment ∷ [])
 
 -- No octets close a session with Hold Timer Expired: only the clock does. So of either end with all its octets, of an
 -- announcing end with those up to the message that establishes it, and of a receiving end with a limit of routes.

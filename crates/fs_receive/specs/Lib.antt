@@ -1,4 +1,4 @@
-pub mod Walk
+pub mod Course
 pub mod Hearer
 pub mod Listen
 pub mod Sender

@@ -15,10 +15,10 @@ use Rattle.fs_desk.specs.Desk.{Desked, Played}
 use Rattle.fs_desk.specs.Limit.{bounded_session}
 use Rattle.fs_ends.specs.declared.tell.Ending.{Ending}
 use Rattle.fs_ends.specs.declared.tell.Ending.TheVariants.{Done, Closed as WasClosed, Ended, AtLimit}
-use Rattle.fs_talk.specs.Turn.{Pieces, moments_in, octets_in}
+use Rattle.fs_talk.specs.Round.{Pieces, moments_in, octets_in}
 use Rattle.fs_talk.specs.declared.listening.Heard.{Heard}
 use Rattle.fs_talk.specs.declared.listening.Heard.TheVariants.{All, Over, Ready, AtLimit as MetIt}
-use Rattle.fs_receive.specs.Hearer.{HasClosed, tape_of, walked}
+use Rattle.fs_receive.specs.Hearer.{HasClosed, tape_of, course_of}
 
 -- the peer is up, and its session is established
 abbrev pub is_settled : Standing → Bool
@@ -31,7 +31,7 @@ pub record IsReceiving (desk : Desked) (peer : ℕ) (whose : Peer) (heard : Piec
   pub played : Played desk.config (tape_of peer (octets_in heard)) desk
   pub phase : Phase
   pub found : (bounded_session desk.config peer (octets_in heard)).1 ≡ still phase
-  pub said_is : said ≡ (walked desk.config whose heard).text
+  pub said_is : said ≡ (course_of desk.config whose heard).text
 
 -- They end so, established or not.
 pub record EndsSo (established : Bool) (desk : Desked) (peer : ℕ) (whose : Peer) (limit : ℕ) (heard : Pieces)

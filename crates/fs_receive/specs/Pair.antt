@@ -28,13 +28,13 @@ use Rattle.fs_ends.specs.Tell.{EndsBefore, MetLimit}
 use Rattle.fs_ends.specs.declared.tell.Ending.{Ending}
 use Rattle.fs_ends.specs.declared.tell.Ending.TheVariants.{Done, Closed as WasClosed, Ended, AtLimit}
 use Rattle.fs_talk.specs.Joined.{AreJoined, Heard, moments_of, of_first, of_second}
-use Rattle.fs_talk.specs.Turn.{Pieces, octets_in}
+use Rattle.fs_talk.specs.Round.{Pieces, octets_in}
 use Rattle.fs_talk.specs.declared.joined.Talk.{Talk}
 use Rattle.fs_talk.specs.declared.joined.Talk.TheVariants.{Done as AllSaid, FirstOver, SecondOver, AtLimit as MetIt, Broken}
 use Rattle.fs_receive.specs.Hearer.{HasClosed}
 use Rattle.fs_receive.specs.Listen.{IsReceiving}
 use Rattle.fs_receive.specs.Sender.{rules_in, woven, is_settled}
-use Rattle.fs_receive.specs.Walk.{walk}
+use Rattle.fs_receive.specs.Course.{course}
 
 -- Of these moments none lies so far behind another that a hold time could have passed between them.
 abbrev pub IsTimely : Config → List ℕ → Type 0
@@ -59,7 +59,7 @@ pub record IsUnhindered (config : Config) (whose : Peer) (sending : Sending) (li
 
 -- what the announcing end comes to that hears these pieces
 abbrev pub told_by : Config → Sending → Pieces → Handed
-told_by config sending heard = walk (announcer config (needs_of sending.rules)) heard
+told_by config sending heard = course (announcer config (needs_of sending.rules)) heard
 
 -- The octets that the announcing end heard close it nowhere, and establish it before the limit: those behind the
 -- message that does so don't count.

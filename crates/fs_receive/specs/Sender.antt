@@ -19,8 +19,8 @@ use Rattle.fs_speaker.specs.declared.state.State.TheVariants.{WaitOpen}
 use Rattle.fs_speaker.specs.declared.transition.Phase.{Phase}
 use Rattle.fs_ends.specs.Opening.{opened_by}
 use Rattle.fs_ends.specs.Teller.{opening_of}
-use Rattle.fs_talk.specs.Turn.{Pieces, octets_in}
-use Rattle.fs_receive.specs.Walk.{walk}
+use Rattle.fs_talk.specs.Round.{Pieces, octets_in}
+use Rattle.fs_receive.specs.Course.{course}
 
 -- KEEPALIVEs, and between them the UPDATEs of rules
 abbrev pub part_text : (Sent → List ℕ) → Option Sent → List ℕ
@@ -55,7 +55,7 @@ pub record TookOpen (config : Config) (four : Bool) (octets : List ℕ) : Type 0
 abbrev pub Began : State → Announcing → (four : Bool) → (heard : Pieces) → List (Option Sent) → Type 0
 Began WaitOpen end four heard parts =
     (parts ≡ []) × ((end.appended ≡ 0) × ((end.line.phase.hold ≡ 0)
-    × ((walk (machine_in end) heard).point.waiting ≡ octets_in heard)))
+    × ((course (machine_in end) heard).point.waiting ≡ octets_in heard)))
 Began state end four heard parts =
     ((more : List (Option Sent)) × (parts ≡ None ∷ more))
     × ((four ≡ end.line.phase.four) × TookOpen end.config four (octets_in heard))
@@ -64,7 +64,7 @@ Began state end four heard parts =
 -- time has expired, a NOTIFICATION.
 pub record Speaks (end : Announcing) (started : Bool) (heard : Pieces) (said : List ℕ) : Type 0 where
   pub started_is : end.started ≡ started
-  pub at : StandsAt (machine_in end) end.line (walk (machine_in end) heard).point
+  pub at : StandsAt (machine_in end) end.line (course (machine_in end) heard).point
   pub four : Bool
   pub parts : List (Option Sent)
   pub rules_are : rules_in parts ≡ take end.appended end.sending.rules

@@ -21,7 +21,7 @@ use fs_ends::Ending;
 use fs_speaker::Closed;
 use fs_talk::{Room, Speaker, Talk, TalkFault, exchange};
 
-/// Joins the receiving end at end 0 of the wire and the announcing one at end 1, which are open and joined: by turns
+/// Joins the receiving end at end 0 of the wire and the announcing one at end 1, which are open and joined: alternately
 /// each hears what the other said, and the announcing end says its rules once it is established. Where nothing hinders
 /// the rules (they can arrive, no hold time can have passed, no limit is met), all of them arrive and the answer is
 /// `Done`.

@@ -25,7 +25,7 @@ impl<'a> Sender<'a> {
     ghost use Rattle.fs_speaker.specs.Announcer.{CanSend, announcing};
     ghost use Rattle.fs_speaker.specs.Line.{fresh};
     ghost use Rattle.fs_speaker.specs.Sending.{sender_of};
-    ghost use Rattle.fs_talk.specs.Turn.{Says};
+    ghost use Rattle.fs_talk.specs.Round.{Says};
 
     /// The end of the peer with the lowest number, before its OPEN.
     ///

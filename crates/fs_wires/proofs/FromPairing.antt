@@ -11,7 +11,7 @@ use Rattle.fs_speaker.specs.Line.{fresh}
 use Rattle.fs_speaker.specs.Sending.{sender_of}
 use Rattle.fs_talk.proofs.Telling.{told_and}
 use Rattle.fs_talk.specs.Joined.{AreJoined, of_first, of_second}
-use Rattle.fs_talk.specs.Turn.{octets_in}
+use Rattle.fs_talk.specs.Round.{octets_in}
 use Rattle.fs_desk.specs.Desk.{Desked, Played}
 use Rattle.fs_desk.proofs.Leaves.{played_leaves}
 use Rattle.fs_ends.specs.declared.tell.Ending.{Ending}

@@ -14,7 +14,7 @@ use Rattle.fs_speaker.specs.Session.{at_start, still}
 use Rattle.fs_speaker.specs.Side.{announcer}
 use Rattle.fs_speaker.specs.Transition.{Machine}
 use Rattle.fs_talk.proofs.Telling.{told_and}
-use Rattle.fs_talk.specs.Turn.{octets_in}
+use Rattle.fs_talk.specs.Round.{octets_in}
 use Rattle.fs_ends.specs.declared.tell.Ending.{Ending}
 use Rattle.fs_ends.specs.declared.tell.Ending.TheVariants.{Done, Closed as HasClosed, Ended, AtLimit}
 use Rattle.fs_ends.specs.Opening.{opened_by}

@@ -16,7 +16,7 @@ use Rattle.fs_desk.specs.Desk.{Desked, Played}
 use Rattle.fs_desk.specs.Limit.{bounded_from, bounded_session}
 use Rattle.fs_desk.proofs.Leaves.{played_leaves}
 use Rattle.fs_talk.proofs.Telling.{told_and, told_as}
-use Rattle.fs_talk.specs.Turn.{Pieces, octets_in}
+use Rattle.fs_talk.specs.Round.{Pieces, octets_in}
 use Rattle.fs_ends.specs.declared.tell.Ending.{Ending}
 use Rattle.fs_ends.specs.declared.tell.Ending.TheVariants.{Done, Closed as HasClosed, Ended, AtLimit}
 use Rattle.fs_receive.specs.Hearer.{ClosesIn, ExpiresAt, HasClosed as ClosesOnce, tape_of}

@@ -8,3 +8,4 @@ pub mod FromPairing
 pub mod PromisingPair
 pub mod Arrivable
 pub mod Accepted
+pub mod Named

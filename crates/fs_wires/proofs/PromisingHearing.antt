@@ -12,7 +12,7 @@ use Rattle.fs_speaker.specs.Announcer.{is_established}
 use Rattle.fs_speaker.specs.Sending.{sender_of}
 use Rattle.fs_speaker.specs.Session.{closed, still}
 use Rattle.fs_desk.specs.Limit.{bounded_from, bounded_session}
-use Rattle.fs_talk.specs.Turn.{Pieces, moments_in, octets_in}
+use Rattle.fs_talk.specs.Round.{Pieces, moments_in, octets_in}
 use Rattle.fs_ends.specs.declared.tell.Ending.{Ending}
 use Rattle.fs_ends.specs.declared.tell.Ending.TheVariants.{Done, Closed as HasClosed, Ended, AtLimit}
 use Rattle.fs_receive.specs.Hearer.{ClosesIn, ExpiresAt, HasClosed as ClosesOnce}

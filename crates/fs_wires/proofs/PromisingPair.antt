@@ -7,8 +7,11 @@ use Rattle.fs_base.specs.Wire.{Told, WireEnds}
 use Rattle.fs_base.specs.declared.config.Config.{Config}
 use Rattle.fs_base.specs.declared.config.Peer.{Peer}
 use Rattle.fs_speaker.specs.declared.sending.Sending.{Sending}
+use Rattle.fs_joint.specs.Laws.{CanArrive}
 use Rattle.fs_ends.specs.declared.tell.Ending.{Ending}
 use Rattle.fs_ends.specs.declared.tell.Ending.TheVariants.{Done}
+use Rattle.fs_talk.specs.Joined.{of_first, of_second}
+use Rattle.fs_talk.proofs.Telling.{told_as}
 use Rattle.fs_receive.specs.Pair.{MayHold}
 use Rattle.fs_stages.specs.Load.{Names, sending_stage}
 use Rattle.fs_stages.specs.Refusal.{Found, Stage}
@@ -17,6 +20,7 @@ use Rattle.fs_wires.specs.Listed.{verdict_by}
 use Rattle.fs_wires.specs.Pairing.{Joined, Joins, JoinsSo, Meets}
 use Rattle.fs_wires.specs.Promised.{BreaksSo, CanBeCarried, Carried, HasJoinedStatus, HasPairStatus, PairPromises}
 use Rattle.fs_wires.proofs.Accepted.{arrivable}
+use Rattle.fs_wires.proofs.Named.{arrived}
 use Rattle.fs_wires.proofs.Promising.{files_stop, never_session}
 use Rattle.fs_wires.proofs.Statuses.{differs, due_status, early_status, late_status, never_early, never_zero, none_failed, only_done, same_found, served_early, served_late}
 
@@ -71,7 +75,12 @@ module _ (limit : ℕ) (holds : Names) (config rules : List ℕ) (call : Happene
         found = p.found;
         text = p.text;
         speaks = speaks;
-        can = λ named. arrivable limit holds config rules p.accepted p.sending speaks.peer p.found speaks.peer_is named;
+        can =
+            told_as (Meets Done p.accepted speaks.peer p.sending speaks.desk limit speaks.given p.text) (λ b n. CanArrive p.accepted speaks.peer p.sending)
+            (λ b n m.
+            arrived limit holds config rules p.accepted p.sending speaks.peer p.found speaks.peer_is speaks.desk
+            (of_first m.pairs.events) (of_second m.pairs.events) m.pairs.announced m.pairs.replied m.pairs.config_is m.pairs.ends)
+            talk.ends talk.ends_now speaks.told;
         wrote = subst (λ (e : Ending). Grew call.before.written call.now.written (verdict_by e p.text).text) done
             (p.answers.whole (differs answer 0 6 (λ e. absurd cc) zero) (differs answer 0 1 (λ e. absurd cc) zero));
       }

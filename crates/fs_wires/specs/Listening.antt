@@ -13,10 +13,10 @@ use Rattle.fs_speaker.specs.Times.{at_moment, tick_at}
 use Rattle.fs_speaker.specs.declared.times.Tick.TheVariants.{Expires}
 use Rattle.fs_desk.specs.Desk.{Desked}
 use Rattle.fs_desk.specs.Limit.{bounded_from}
-use Rattle.fs_talk.specs.Turn.{Pieces, moments_in, octets_in}
+use Rattle.fs_talk.specs.Round.{Pieces, moments_in, octets_in}
 use Rattle.fs_ends.specs.declared.tell.Ending.{Ending}
 use Rattle.fs_ends.specs.declared.tell.Ending.TheVariants.{Done, Closed as HasClosed, Ended, AtLimit}
-use Rattle.fs_receive.specs.Hearer.{Receives, tape_of, walked}
+use Rattle.fs_receive.specs.Hearer.{Receives, tape_of, course_of}
 use Rattle.fs_receive.specs.Listen.{Listens, ListensSo}
 use Rattle.fs_stages.specs.Load.{Names, config_stage}
 use Rattle.fs_stages.specs.Refusal.{Answers, EndsEarly, Found, Stage, and_then, or_stop}
@@ -57,9 +57,9 @@ pub record HasExpired (config : Config) (peer : Peer) (heard : Pieces) : Type 0 
   pub piece : List ℕ
   pub later : Pieces
   pub split : heard ≡ earlier ++ (moment, piece) ∷ later
-  pub lived : (walked config peer earlier).point.closed ≡ None
-  pub due : tick_at (walked config peer earlier).point.phase.hold
-      (at_moment moment (walked config peer earlier).point.times)
+  pub lived : (course_of config peer earlier).point.closed ≡ None
+  pub due : tick_at (course_of config peer earlier).point.phase.hold
+      (at_moment moment (course_of config peer earlier).point.times)
       ≡ Expires
 
 -- It is the end that the octets call for, or a hold time expired.

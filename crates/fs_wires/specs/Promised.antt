@@ -2,7 +2,7 @@
 use Rattle.std.specs.Prelude.{◌≡◌, ◌⊎◌, ◌+◌, ◌<◌, ℕ, List, true, length, Some}
 use Rattle.fs_base.specs.Happened.{Happened, FilesStood, SinkStood, WireStood, Wrote}
 use Rattle.fs_base.specs.Sink.{Grew}
-use Rattle.fs_base.specs.Wire.{WireEnds}
+use Rattle.fs_base.specs.Wire.{Told, WireEnds}
 use Rattle.fs_base.specs.declared.config.Config.{Config}
 use Rattle.fs_base.specs.declared.config.Peer.{Peer}
 use Rattle.fs_speaker.specs.declared.sending.Sending.{Sending}
@@ -116,15 +116,15 @@ pub record CanBeCarried (limit : ℕ) (holds : Names) (config rules : List ℕ) 
   pub timely : (given : List ℕ) → Grew talk.answers talk.answers_now given → IsTimely accepted given
 
 -- The rules of the file were announced by the one end and received by the other: the OPEN, KEEPALIVEs, and an UPDATE
--- for each rule, in the file's order and nothing else. Where the identifier isn't 0.0.0.0, the other end took exactly
--- their updates. What these leave held was listed.
+-- for each rule, in the file's order and nothing else; and where the wire tells, the other end took exactly their
+-- updates. What these leave held was listed.
 pub record Carried (limit : ℕ) (holds : Names) (config rules : List ℕ) (call : Happened) (talk : Conversation) : Type 0 where
   pub accepted : Config
   pub sending : Sending
   pub found : sending_stage limit holds config rules ≡ Found (accepted, sending)
   pub text : List ℕ
   pub speaks : Joined Done accepted sending limit text talk
-  pub can : 0 < sending.id → CanArrive accepted speaks.peer sending
+  pub can : Told (λ before now. CanArrive accepted speaks.peer sending) talk.ends talk.ends_now
   pub wrote : Wrote call text
 
 -- The session ended so that this is answered, and its line alone was written. A front of that was announced, whatever

@@ -9,7 +9,7 @@ use Rattle.fs_speaker.specs.declared.transition.Phase.{Phase}
 use Rattle.fs_speaker.specs.Announcer.{is_established}
 use Rattle.fs_speaker.specs.Session.{still}
 use Rattle.fs_desk.specs.Limit.{bounded_from}
-use Rattle.fs_talk.specs.Turn.{Pieces, moments_in, octets_in}
+use Rattle.fs_talk.specs.Round.{Pieces, moments_in, octets_in}
 use Rattle.fs_ends.specs.declared.tell.Ending.{Ending}
 use Rattle.fs_ends.specs.declared.tell.Ending.TheVariants.{Done}
 use Rattle.fs_stages.specs.Load.{Names}

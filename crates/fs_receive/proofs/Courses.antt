@@ -11,17 +11,17 @@ use Rattle.fs_speaker.specs.declared.times.Tick.{Tick}
 use Rattle.fs_speaker.specs.declared.times.Tick.TheVariants.{Quiet, Keeps, Expires}
 use Rattle.fs_speaker.specs.declared.times.Times.{Times}
 use Rattle.fs_ends.specs.Teller.{keepalives}
-use Rattle.fs_talk.specs.Turn.{Pieces}
-use Rattle.fs_receive.specs.Walk.{after, hears, walk, walks_on}
+use Rattle.fs_talk.specs.Round.{Pieces}
+use Rattle.fs_receive.specs.Course.{after, hears, course, course_from}
 
 more : (machine : Machine) (now : Handed) (heard : Pieces) (event : ℕ × List ℕ)
-    → walks_on machine now (heard ++ event ∷ []) ≡ after (walks_on machine now heard) (hears machine event (walks_on machine now heard).point)
+    → course_from machine now (heard ++ event ∷ []) ≡ after (course_from machine now heard) (hears machine event (course_from machine now heard).point)
 more machine now [] event = refl
 more machine now (first ∷ heard) event = more machine (after now (hears machine first now.point)) heard event
 
-pub walk_more : (machine : Machine) (heard : Pieces) (event : ℕ × List ℕ)
-    → walk machine (heard ++ event ∷ []) ≡ after (walk machine heard) (hears machine event (walk machine heard).point)
-walk_more machine heard event = more machine (handed first_point [] []) heard event
+pub course_more : (machine : Machine) (heard : Pieces) (event : ℕ × List ℕ)
+    → course machine (heard ++ event ∷ []) ≡ after (course machine heard) (hears machine event (course machine heard).point)
+course_more machine heard event = more machine (handed first_point [] []) heard event
 
 -- what each piece more leaves true is true of all
 module _ (P : Pieces → Type 0) (step : (heard : Pieces) (event : ℕ × List ℕ) → P heard → P (heard ++ event ∷ [])) where

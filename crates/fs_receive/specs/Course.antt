@@ -3,7 +3,7 @@ use Rattle.std.specs.Prelude.{ℕ, List, [], ◌∷◌, ◌++◌}
 use Rattle.fs_joint.specs.End.{first_point, ticked}
 use Rattle.fs_speaker.specs.Handed.{Handed, Point, hand, handed}
 use Rattle.fs_speaker.specs.Transition.{Machine}
-use Rattle.fs_talk.specs.Turn.{Pieces}
+use Rattle.fs_talk.specs.Round.{Pieces}
 
 -- what was taken and answered first, and then
 abbrev pub after : Handed → Handed → Handed
@@ -14,10 +14,10 @@ abbrev pub hears : Machine → (ℕ × List ℕ) → Point → Handed
 hears machine event now =
     after (ticked event.0 now) (hand machine event.0 (ticked event.0 now).point event.1)
 
-abbrev pub walks_on : Machine → Handed → Pieces → Handed
-walks_on machine now [] = now
-walks_on machine now (event ∷ later) = walks_on machine (after now (hears machine event now.point)) later
+abbrev pub course_from : Machine → Handed → Pieces → Handed
+course_from machine now [] = now
+course_from machine now (event ∷ later) = course_from machine (after now (hears machine event now.point)) later
 
 -- all pieces, one after the other
-abbrev pub walk : Machine → Pieces → Handed
-walk machine heard = walks_on machine (handed first_point [] []) heard
+abbrev pub course : Machine → Pieces → Handed
+course machine heard = course_from machine (handed first_point [] []) heard
