@@ -1,5 +1,5 @@
 -- Lists of actions in order, each once.
-use Rattle.std.proofs.Common.{◌≡◌, ℕ, zero, suc, ◌+◌, ◌<◌, ◌≤◌, List, [], ◌∷◌, ◌++◌, length, take, drop, get_or, refl, sym, ap, ◌∙◌, arith, add-one, Ordering, filter_map, Option, Some, None}
+use Rattle.std.proofs.Common.{◌≡◌, ℕ, zero, suc, ◌+◌, ◌<◌, ◌≤◌, List, [], ◌∷◌, ◌++◌, length, take, drop, get_or, refl, sym, ap, ◌∙◌, arith, add-one, Ordering, filter_map, Option, Some}
 use Rattle.std.specs.declared.cmp.Ordering.TheVariants.{Less, Equal, Greater}
 use Rattle.std.specs.Ordering.{match_ordering, nat_cmp, ordering_index, ordering_reverse, is_lt}
 use Rattle.std.specs.Cmp.Lexicographic.{slice_cmp}
@@ -108,7 +108,3 @@ gathered_step communities index list d o l e h =
 pub gathered_one : (communities : List (List ℕ)) (index : ℕ) (list : List (List ℕ)) (d action : List ℕ) → index < length communities → normal_form (get_or communities index d) ≡ Some action → IsAction action
     → Gathered communities index list → Gathered communities (index + 1) (with_action action list)
 gathered_one communities index list d action l e p h = record { same = gathered_step communities index list d (Some action) l e h; actions = actions_with action list p h.actions }
-
-pub gathered_other : (communities : List (List ℕ)) (index : ℕ) (list : List (List ℕ)) (d : List ℕ) → index < length communities → normal_form (get_or communities index d) ≡ None
-    → Gathered communities index list → Gathered communities (index + 1) list
-gathered_other communities index list d l e h = record { same = gathered_step communities index list d None l e h; actions = h.actions }

@@ -17,7 +17,7 @@ use Rattle.fs_attrs.specs.declared.update.Terms.{Terms}
 use Rattle.fs_attrs.specs.declared.update.Update.{Update}
 use Rattle.fs_attrs.specs.Attributes.{value_of}
 use Rattle.fs_attrs.specs.Segments.{is_confederation, is_written_segment, AreNumbers, are_low}
-use Rattle.fs_attrs.specs.Paths.{origin_wrong, four_octets, path_of, withdraws}
+use Rattle.fs_attrs.specs.Paths.{four_octets, path_of, withdraws}
 use Rattle.fs_attrs.specs.Write.{written_attributes, IsPath}
 use Rattle.fs_attrs.specs.Writable.{is_path_of_session}
 use Rattle.fs_attrs.proofs.TextsReadBack.{FitsAs, FitsSegment, segments_whole, segments_read}
@@ -130,9 +130,6 @@ actions_read terms update path there is =
     ap (λ (z : Option (List ℕ)). actions_of (unwrap_or z [])) (actions_value terms update path there) ∙ actions_at (length update.actions == 0) update.actions refl is
 
 -- the whole path
-
-origin_right : (origin : ℕ) → nat_le origin 2 ≡ true → origin_wrong (origin ∷ []) ≡ false
-origin_right origin h = rw (h) refl
 
 session_pref : (terms : Terms) (path : Path) → is_path_of_session terms path ≡ true → terms.external ≡ true → path.local_pref ≡ 100
 session_pref terms path h external =

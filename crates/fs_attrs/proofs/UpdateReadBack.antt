@@ -78,9 +78,6 @@ frames_of family (rule ∷ rules) h all =
 
 -- the routes of attributes
 
-routes_in : (afi safi : ℕ) → Routes → Type 0
-routes_in afi safi routes = routes_of afi safi (routes_text routes) ≡ Ok (Some routes)
-
 unicast_back : (prefixes : List Shown) → are_prefixes_of V6 prefixes ≡ true → AllByRecursion IsPrefix prefixes → unicast_routes V6 (prefixes_text prefixes) ≡ Ok (Some (Unicast V6 prefixes))
 unicast_back prefixes h all =
     let shown = shown_in V6 prefixes h all in
@@ -125,10 +122,6 @@ reach_at afi safi hop routes small read =
     let size : length front ≡ 5 + length hop = omega arith in
     let behind : drop (5 + length hop) value ≡ routes = ap (λ (z : List ℕ). drop (5 + length hop) z) joined ∙ drop_at front routes (5 + length hop) size in
     rw (three, number, read, four, hops, behind) refl
-
-afi_small : (family : Family) → afi_of family < 65536
-afi_small V4 = omega arith
-afi_small V6 = omega arith
 
 reach_back : (address : Address) (routes : Routes) → are_attribute_routes routes ≡ true → AreRoutes routes → IsOctets (routes_text routes) → reach_of (reach_text address routes) ≡ Ok (Some routes)
 reach_back address (Unicast V4 prefixes) h all small = cc

@@ -79,10 +79,6 @@ pub false_from : (a : Bool) → (a ≡ true → ⊥) → a ≡ false
 false_from true h = absurd (h refl)
 false_from false h = refl
 
-pub true_or_false : (a : Bool) → (a ≡ true) ⊎ (a ≡ false)
-true_or_false true = inl refl
-true_or_false false = inr refl
-
 -- two tests that follow from each other are the same
 pub same_tests : (a b : Bool) → (a ≡ true → b ≡ true) → (b ≡ true → a ≡ true) → a ≡ b
 same_tests true b there back = sym (there refl)

@@ -42,7 +42,3 @@ part_then a b c xs ys grew part =
 pub on_err : {T E : Type 0} {X : Type 0} (result : Result T E) → X → OnErr result X
 on_err (Ok t) x = tt
 on_err (Err e) x = x
-
-pub on_err_from : {T E : Type 0} {X Y : Type 0} (result : Result T E) → OnErr result X → (X → Y) → OnErr result Y
-on_err_from (Ok t) x f = tt
-on_err_from (Err e) x f = f x

@@ -1,6 +1,6 @@
 -- Laws of the words of specs/Language: what a cut and a first fault are, whatever the language.
 use Rattle.std.proofs.Common.{◌≡◌, ℕ, ◌+◌, ◌<◌, ◌≤◌, List, [], ◌++◌, length, take, drop, sym, subst, ◌⊎◌, inl, inr, arith, length-append, append_assoc}
-use Rattle.std.proofs.lemmas.List.{take-append-drop, append-nil, length-take, take-take}
+use Rattle.std.proofs.lemmas.List.{take-append-drop, append-nil}
 use Rattle.std.proofs.lemmas.Bool.{cases_lt}
 use Rattle.fs_base.specs.Language.{IsOctets, Begins, IsCut, IsFirstFault}
 use Rattle.fs_base.proofs.Octets.{octets_nil, octets_append, octets_take, octets_drop, take-append-add, take_longer}
@@ -83,12 +83,4 @@ fault_as M L octets place same back fault = record {
   inside = fault.inside;
   before = begins_as M L (take place octets) same fault.before;
   at = λ begins. fault.at (begins_as L M (take (place + 1) octets) back begins);
-}
-
--- a fault that is found in a longer list stands in each front that holds its place
-pub fault_front : (Whole : List ℕ → Type 0) (octets : List ℕ) (place n : ℕ) → place < n → IsFirstFault Whole octets place → IsFirstFault Whole (take n octets) place
-fault_front Whole octets place n within fault = record {
-  inside = let inside : place < length octets = fault.inside in rw length-take (omega arith);
-  before = subst (Begins Whole) (sym (take-take place n octets (omega arith))) fault.before;
-  at = λ begins. fault.at (subst (Begins Whole) (take-take (place + 1) n octets (omega arith)) begins);
 }

@@ -1,5 +1,4 @@
 pub mod Bools
-pub mod Fronts
 pub mod Languages
 pub mod Octets
 pub mod Parts

@@ -134,12 +134,6 @@ spelled_by next text Fits shrinks spells (suc n) octets are a = elim (either (ne
       (spelled_by next text Fits shrinks spells n found.0.1 behind (omega arith)))
 ]
 
--- octets are the texts of their parts, and what is left
-pub spelled_parts : {A : Type 0} (next : List ℕ → Option (A × List ℕ)) (text : A → List ℕ) (Fits : A → Type 0)
-    → Shrinks next → SpellsText next text Fits → (octets : List ℕ) → IsOctets octets
-    → AreRead text Fits octets (parts_of next octets)
-spelled_parts next text Fits shrinks spells octets are = spelled_by next text Fits shrinks spells (length octets) octets are (omega arith)
-
 -- the window and the limit behind the first n octets of what is judged
 pub window_behind : (limit taken n : ℕ) (left : List ℕ) → n ≤ limit - taken
     → take (limit - (taken + n)) (drop n left) ≡ drop n (take (limit - taken) left)

@@ -1,17 +1,13 @@
 -- The loop that writes a whole piece: so much was written, and so much is left.
-use Rattle.std.proofs.Common.{◌≡◌, ℕ, List, [], ◌++◌, Option, length, take, drop, refl, ap, sym, ◌∙◌, arith, append_assoc}
+use Rattle.std.proofs.Common.{◌≡◌, ℕ, List, [], ◌++◌, Option, take, drop, ap, sym, ◌∙◌, append_assoc}
 use Rattle.std.proofs.lemmas.List.{take-append-drop}
-use Rattle.std.proofs.lemmas.Grind.{common_steps}
 use Rattle.fs_base.specs.Sink.{Grew, GrewPart}
-use Rattle.fs_base.proofs.Grew.{Grew-refl, Grew-trans, part_then, part_none}
+use Rattle.fs_base.proofs.Grew.{Grew-trans, part_then, part_none}
 
 pub record Writing (piece rest : List ℕ) (before now : Option (List ℕ)) : Type 0 where
   pub done : List ℕ
   pub split : piece ≡ done ++ rest
   pub grew : Grew before now done
-
-pub writing_start : (piece : List ℕ) (before : Option (List ℕ)) → Writing piece piece before before
-writing_start piece before = record { done = []; split = refl; grew = Grew-refl before }
 
 pub writing_more : (piece rest : List ℕ) (before now later : Option (List ℕ)) (n : ℕ)
     → Writing piece rest before now → Grew now later (take n rest) → Writing piece (drop n rest) before later
@@ -25,8 +21,3 @@ pub writing_part : (piece rest : List ℕ) (before now later : Option (List ℕ)
     → Writing piece rest before now → Grew now later [] → GrewPart before later piece
 writing_part piece rest before now later w grew =
     rw w.split (part_then before now later w.done rest w.grew (part_none now later rest grew))
-
-pub writing_end : (piece rest : List ℕ) (before now : Option (List ℕ))
-    → Writing piece rest before now → length rest ≡ 0 → Grew before now piece
-writing_end piece rest before now w none =
-    let e : piece ≡ w.done = grind (arith, common_steps, w.split) in rw e w.grew

@@ -2,7 +2,7 @@
 -- Clauses take it as one argument, so that an object outside is named here alone.
 use Rattle.std.specs.Prelude.{ℕ, List, Option, ◌≡◌, ◌<◌, ◌-◌, ◌^◌}
 use Rattle.fs_base.specs.Outside.{Rose}
-use Rattle.fs_base.specs.Sink.{Grew, GrewPart}
+use Rattle.fs_base.specs.Sink.{Grew}
 use Rattle.fs_base.specs.declared.outside.files.Files as files
 use Rattle.fs_base.specs.declared.outside.sink.Sink as sink
 use Rattle.fs_base.specs.declared.outside.wire.Wire as wire
@@ -55,10 +55,6 @@ WireFailed call = Rose call.before.wire_faults call.now.wire_faults
 -- the text was written, where the sink tells it
 abbrev pub Wrote : Happened → List ℕ → Type 0
 Wrote call text = Grew call.before.written call.now.written text
-
--- a front of the text was written, where the sink tells it
-abbrev pub WrotePart : Happened → List ℕ → Type 0
-WrotePart call text = GrewPart call.before.written call.now.written text
 
 -- The count stands, and could have risen: no call failed.
 pub record Stood (before now : ℕ) : Type 0 where

@@ -1,9 +1,8 @@
 -- Prefixes: which lie under which, and their order.
-use Rattle.std.specs.Prelude.{◌≡◌, ◌≢◌, ℕ, ◌+◌, ◌-◌, ◌^◌, ◌<◌, ◌==◌, Bool, ◌&&◌, min, nat_le}
+use Rattle.std.specs.Prelude.{◌≡◌, ℕ, ◌+◌, ◌-◌, ◌^◌, ◌<◌, ◌==◌, Bool, ◌&&◌, min, nat_le}
 use Rattle.std.specs.Cmp.{IsTotalOrder, on_total, then_total, back_total, nat_cmp_total}
 use Rattle.std.specs.Ordering.{nat_cmp, on, then_cmp, flip_args, is_eq, ordering_then}
 use Rattle.std.specs.declared.cmp.Ordering.{Ordering}
-use Rattle.std.specs.declared.cmp.Ordering.TheVariants.{Greater}
 use Rattle.std.proofs.Common.{arith, refl, ap}
 use Rattle.std.proofs.lemmas.Bool.Decides.{nat_tests}
 use Rattle.std.proofs.lemmas.Nat.{pow_pos}
@@ -42,9 +41,6 @@ last_address p = p.bits + 2 ^ (width_of p.family - p.length) - 1
 -- IPv4 before IPv6, then the lower last address, then the longer prefix; what that means for two prefixes is said by IsPrecedence
 abbrev pub prefix_cmp : Prefix → Prefix → Ordering
 prefix_cmp = then_cmp (on (λ p. afi_of p.family) nat_cmp) (then_cmp (on last_address nat_cmp) (flip_args (on (λ p. p.length) nat_cmp)))
-
-abbrev pub NotAfter : Prefix → Prefix → Type 0
-NotAfter p q = prefix_cmp p q ≢ Greater
 
 -- The laws of the order, which its impl gives.
 

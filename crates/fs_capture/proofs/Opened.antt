@@ -1,23 +1,13 @@
 -- A capture that is opened, as its first four octets tell.
-use Rattle.std.proofs.Common.{◌≡◌, ◌≤◌, ◌++◌, ◌∙◌, ◌-◌, ℕ, List, [], Bool, None, Result, Ok, Err, length, take, drop, ap, sym, subst, arith, take-append-drop}
+use Rattle.std.proofs.Common.{◌≡◌, ◌≤◌, ◌++◌, ◌∙◌, ◌-◌, ℕ, List, Bool, Result, length, take, drop, ap, sym, subst, arith, take-append-drop}
 use Rattle.std.proofs.lemmas.List.{length-take, take-take}
 use Rattle.fs_base.specs.Filling.{Fills}
 use Rattle.fs_base.specs.Parts.{window}
-use Rattle.fs_pcap.specs.Capture.{Recorded as PcapRecorded, packets_to_come, recorded}
-use Rattle.fs_pcap.specs.declared.fault.CaptureReason.{CaptureReason as PcapReason}
-use Rattle.fs_pcap.specs.declared.header.Heading.{Heading}
 use Rattle.fs_records.specs.Records.{End}
 use Rattle.fs_records.specs.declared.fault.Fault.{Fault}
 use Rattle.fs_records.proofs.Records.{head_filled}
 use Rattle.fs_capture.specs.Capture.{Begins, Captured, captured_in, coming, is_section, captured_by}
 use Rattle.fs_capture.specs.declared.fault.CaptureReason.{CaptureReason}
-
--- what a header opens
-abbrev opens_to : (limit : ℕ) (octets : List ℕ) → Result Heading (End PcapReason) → PcapRecorded
-opens_to limit octets o = elim o [
-  | Ok heading ↦ recorded heading.link (packets_to_come heading limit 24 0 (drop 24 octets))
-  | Err end ↦ record { link = None; packets = []; end = end }
-]
 
 -- what was filled and put back is what was left
 put_back_whole : (limit taken : ℕ) (left left' into : List ℕ) (count : ℕ) → Fills (window limit taken left) left left' into count

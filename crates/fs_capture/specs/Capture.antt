@@ -65,9 +65,9 @@ abbrev pub capture_of : ℕ → List ℕ → Recorded
 capture_of limit content = recorded (captured_in limit content)
 
 -- what the packets to come depend on: what the header says, or where the blocks stand
-pub data Standing : Type 0 where
-  records : Heading → Standing
-  blocks : Stands → Standing
+pub data Context : Type 0 where
+  records : Heading → Context
+  blocks : Stands → Context
 
 -- What a capture shows: its slot and limit, how many octets of it were taken, how it ended, where it did, the moment of
 -- its last packet, 0 before the first, and where it stands.
@@ -77,9 +77,9 @@ pub record CaptureState : Type 0 where
   pub place : ℕ
   pub end : Option (Ended CaptureReason)
   pub moment : ℕ
-  pub standing : Standing
+  pub context : Context
 
-abbrev pub coming_by : (limit place moment : ℕ) → Standing → List ℕ → List Captured × End CaptureReason
+abbrev pub coming_by : (limit place moment : ℕ) → Context → List ℕ → List Captured × End CaptureReason
 coming_by limit place moment (records heading) left =
     let found = records_to_come heading limit place moment left in
     (map (of_record (Some heading.link)) found.0, end_as Pcap found.1)
@@ -87,7 +87,7 @@ coming_by limit place moment (blocks now) left = of_blocks (blocks_to_come limit
 
 -- the packets that a capture which hasn't ended is still to give, of what its slot has left, and how it will end
 abbrev pub coming : CaptureState → List ℕ → List Captured × End CaptureReason
-coming capture left = coming_by capture.limit capture.place capture.moment capture.standing left
+coming capture left = coming_by capture.limit capture.place capture.moment capture.context left
 
 -- a packet as the answer tells it; its octets stand at the front of the buffer
 abbrev pub packet_from : Caught → List ℕ → Captured

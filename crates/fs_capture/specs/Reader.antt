@@ -13,13 +13,13 @@ state_of (Records capture) = record {
   place = capture.place;
   end = option_map (ended_as Pcap) capture.end;
   moment = capture.moment;
-  standing = records capture.heading;
+  context = records capture.heading;
 }
 state_of (Blocks capture) = record {
   slot = capture.slot;
   limit = capture.limit;
   place = capture.place;
   end = option_map (ended_as Pcapng) capture.end;
-  moment = capture.standing.moment;
-  standing = blocks capture.standing;
+  moment = capture.context.moment;
+  context = blocks capture.context;
 }

@@ -1,5 +1,5 @@
 -- What stands in the text when some frames have been read, and what follows at the end of a field.
-use Rattle.std.proofs.Common.{◌≡◌, ℕ, ◌+◌, ◌-◌, ◌≤◌, List, [], ◌∷◌, ◌++◌, length, take, drop, refl, ap, sym, subst, ◌∙◌, arith, append_assoc, length-append}
+use Rattle.std.proofs.Common.{◌≡◌, ℕ, ◌+◌, ◌-◌, ◌≤◌, List, [], ◌∷◌, ◌++◌, length, take, drop, ap, sym, subst, ◌∙◌, arith, append_assoc, length-append}
 use Rattle.std.proofs.lemmas.List.{append-nil, take-append-drop, take_rest}
 use Rattle.fs_base.specs.declared.prefix.Family.{Family}
 use Rattle.fs_nlri.specs.Parts.{Ruled}
@@ -17,10 +17,6 @@ pub record HasReported (family : Family) (octets rest text : List ℕ) (number :
   pub numbered : number ≡ 1 + length rules
   pub enough : length rules ≤ length front
   pub lines : text ≡ frame_lines 1 rules
-
-pub none_reported : (family : Family) (octets : List ℕ) → HasReported family octets octets [] 1
-none_reported family octets =
-    record { front = []; rules = []; frames = refl; split = refl; numbered = refl; enough = omega arith; lines = refl }
 
 lines_more : (number : ℕ) (rules : List Ruled) (rule : Ruled) → frame_lines number (rules ++ rule ∷ []) ≡ frame_lines number rules ++ frame_line (number + length rules) rule
 lines_more number [] rule =

@@ -1,5 +1,5 @@
 -- What an accepted rules file says is to be sent.
-use Rattle.std.proofs.Common.{◌≡◌, ℕ, ◌<◌, ◌^◌, ◌++◌, nat_le, nat_lt, Bool, ◌&&◌, true, false, if◌then◌else◌, List, [], ◌∷◌, Option, Some, None, Result, Ok, Err, length, refl, sym, ap, subst, ◌∙◌, arith, append-nil}
+use Rattle.std.proofs.Common.{◌≡◌, ℕ, ◌<◌, ◌^◌, nat_le, nat_lt, Bool, ◌&&◌, true, false, if◌then◌else◌, List, [], Option, Some, None, Result, Ok, Err, length, refl, sym, ap, subst, ◌∙◌, arith}
 use Rattle.std.specs.Prelude.{codes, option_and_then}
 use Rattle.std.specs.List.{AllByRecursion, list_all}
 use Rattle.std.proofs.lemmas.Bool.{and_parts, leb-true}
@@ -29,7 +29,7 @@ use Rattle.fs_conf.specs.Document.{document_of, each_item}
 use Rattle.fs_conf.specs.Fields.{keys_among}
 use Rattle.fs_conf.specs.Laws.{AcceptsRules, HasRules}
 use Rattle.fs_conf.specs.Rules.{are_single, as_path_in, file_keys, number_of, rules_in, sendable, sending_of_document, sending_of_members}
-use Rattle.fs_conf.specs.Sent.{actions_in, actions_written, family_of, if_ok, listed_actions, octets_of, only, rule_keys, rule_of, rule_written, sent_of_data, sent_of_members, sent_of_table, sent_of_text, text_keys}
+use Rattle.fs_conf.specs.Sent.{actions_in, actions_written, family_of, if_ok, listed_actions, octets_of, rule_keys, rule_of, rule_written, sent_of_data, sent_of_members, sent_of_table, sent_of_text, text_keys}
 use Rattle.fs_conf.proofs.Accepted.{as_within, written_reads, written_small}
 use Rattle.fs_conf.proofs.Found.{cond_within, each_passes}
 use Rattle.fs_conf.proofs.ListedActions.{listed_are}
@@ -48,11 +48,6 @@ text_octets text octets is = octets_from octets (decode_of-ok text octets (decod
 
 pub rule_sound : (family : Family) (octets : List ℕ) (rule : Ruled) → IsOctets octets → rule_of family octets ≡ Some rule → IsRule rule
 rule_sound = rule_is outcome_is
-
-pub written_rule : (family : Family) (text : List ℕ) (rule : Ruled) → rule_written family text ≡ Some rule → IsRule rule
-written_rule family text rule is =
-    and_then_some (rule_of family) (octets_of text) rule is λ octets read found.
-    rule_sound family octets rule (text_octets text octets read) found
 
 -- a rule with its actions
 

@@ -1,10 +1,10 @@
 -- How the answer of `convert` follows from what its parts did.
-use Rattle.std.proofs.Common.{◌≡◌, ◌⊎◌, inl, inr, ◌≤◌, ◌∙◌, ℕ, List, [], Option, Some, None, Result, Ok, Err, take, refl, ap, sym, subst, append-nil}
+use Rattle.std.proofs.Common.{◌≡◌, ◌⊎◌, inl, inr, ◌≤◌, ◌∙◌, ℕ, List, [], Option, Some, None, Result, Ok, Err, refl, ap, sym, subst}
 use Rattle.std.specs.Result.{IfErr, IsErrAnd, MatchResult}
 use Rattle.fs_base.specs.Outside.{Rose}
 use Rattle.fs_base.specs.Sink.{Grew, GrewPart}
 use Rattle.fs_base.specs.declared.config.Config.{Config}
-use Rattle.fs_base.proofs.Grew.{Grew-refl, Grew-trans, part_whole, part_none, part_more}
+use Rattle.fs_base.proofs.Grew.{Grew-refl, part_whole, part_none}
 use Rattle.fs_line.specs.Output.{Goes}
 use Rattle.fs_line.proofs.Outputs.{goes_flush, goes_flush_part, partly_flushed}
 use Rattle.fs_mrt.specs.Dump.{DumpState, IsBegun, coming, heard_to_come}
@@ -13,7 +13,7 @@ use Rattle.fs_records.specs.Records.{End, done}
 use Rattle.fs_stages.specs.Load.{Names, config_stage}
 use Rattle.fs_stages.specs.Refusal.{Answers, Found, HasReason, IsAtPacket, Stage, Verdict, answered, or_stop, status_of, verdict_with}
 use Rattle.fs_stages.specs.declared.refusal.Refusal.{Refusal}
-use Rattle.fs_stages.specs.declared.refusal.Refusal.TheVariants.{Outside, Memory}
+use Rattle.fs_stages.specs.declared.refusal.Refusal.TheVariants.{Outside}
 use Rattle.fs_stages.proofs.Stages.{answers_for, answers_memory, answers_outside, ends_early, rose_earlier, rose_later}
 use Rattle.fs_tape.specs.Laws.{tape_text}
 use Rattle.fs_tape.specs.declared.magic.Version.TheVariants.{Two}
@@ -47,12 +47,6 @@ module _ (limit : ℕ) (holds : Names) (config dump : List ℕ) (accepted : Conf
             (answers_stopped accepted limit (dump_stage holds dump) failed a refusal
             (subst (λ (n : Names). HasReason (dump_stage n dump) failed refusal) same h)) f;
       })
-
-  pub memory_ends : {T : Type 0} (failed : Type 0) (a : Option (List ℕ)) (r : Result T Refusal)
-      → config_stage limit holds config ≡ Found accepted → IsErrAnd r (λ e. e ≡ Memory) → ConvertsSo limit holds config dump failed a a (answered r)
-  memory_ends failed a (Ok t) found h = absurd h
-  memory_ends failed a (Err e) found h =
-      inr (record { accepted = accepted; found = found; answers = answers_memory (verdict_of accepted limit (dump_stage holds dump)) failed a e h })
 
 -- what it is to answer and write, where the dump was opened
 pub read_verdict : (config accepted : Config) (limit : ℕ) (names : Names) (name : List ℕ) (left : ℕ → List ℕ) (dump : DumpState) (lives : List Life)

@@ -1,5 +1,5 @@
 -- A dump that is converted record by record.
-use Rattle.std.proofs.Common.{◌≡◌, ◌⊎◌, inl, inr, ◌≤◌, ℕ, List, [], ◌++◌, Option, Result, Ok, Err, ap, sym, ◌∙◌, subst, append_assoc, append-nil, arith}
+use Rattle.std.proofs.Common.{◌≡◌, ◌⊎◌, inr, ◌≤◌, ℕ, List, ◌++◌, Option, Result, Ok, Err, ap, sym, ◌∙◌, subst, append_assoc, arith}
 use Rattle.std.specs.Prelude.{flat_map}
 use Rattle.std.specs.Result.{MatchResult, IsErrAnd}
 use Rattle.std.proofs.lemmas.Grind.{flat_map-append}
@@ -7,12 +7,11 @@ use Rattle.std.proofs.lemmas.List.Folds.{flat_map-map}
 use Rattle.fs_base.specs.Outside.{Rose}
 use Rattle.fs_base.specs.Parts.{with_part}
 use Rattle.fs_base.specs.declared.config.Config.{Config}
-use Rattle.fs_records.specs.Records.{End, done}
+use Rattle.fs_records.specs.Records.{End}
 use Rattle.fs_line.specs.Output.{Goes, Stops}
 use Rattle.fs_line.proofs.Outputs.{goes_then, goes_stops, stops_more, goes_as, stops_as}
 use Rattle.fs_mrt.specs.Record.{Spoken}
 use Rattle.fs_mrt.specs.declared.fault.DumpReason.{DumpReason}
-use Rattle.fs_stages.specs.Refusal.{status_of}
 use Rattle.fs_stages.specs.declared.refusal.Refusal.{Refusal}
 use Rattle.fs_stages.specs.declared.refusal.Refusal.TheVariants.{Outside}
 use Rattle.fs_tape.specs.Laws.{item_text, tape_text}
@@ -21,7 +20,7 @@ use Rattle.fs_tape.specs.Tape.{Item, Timed, timed}
 use Rattle.fs_tape.specs.declared.magic.Version.TheVariants.{Two}
 use Rattle.fs_convert.specs.Lives.{Lives, with_life}
 use Rattle.fs_convert.specs.Making.{items_from, made, text_at, timed_at}
-use Rattle.fs_convert.specs.Command.{Breaks, Ceases, status_at}
+use Rattle.fs_convert.specs.Command.{Breaks}
 
 -- the tape of some items and of others behind them
 tape_append : (xs ys : List Timed) → tape_text Two (xs ++ ys) ≡ tape_text Two xs ++ flat_map (item_text Two) ys
@@ -43,15 +42,6 @@ pub record Doing (config : Config) (first lives : Lives) (all rest : List Spoken
   pub parts : items_from config first all.0 ≡ gone ++ items_from config lives rest.0
   pub end_is : all.1 ≡ rest.1
   pub goes : Goes before now pending pending_now (tape_text Two gone)
-
-pub doing_none : (config : Config) (first lives : Lives) (all rest : List Spoken × End DumpReason) (before now : Option (List ℕ)) (pending pending_now : List ℕ)
-    → lives ≡ first → all ≡ rest → Goes before now pending pending_now (magic_of Two) → Doing config first lives all rest before now pending pending_now
-doing_none config first lives all rest before now pending pending_now same stand goes = record {
-  gone = [];
-  parts = ap (λ (l : Lives). items_from config l all.0) (sym same) ∙ ap (λ (r : List Spoken × End DumpReason). items_from config lives r.0) stand;
-  end_is = ap (λ (r : List Spoken × End DumpReason). r.1) stand;
-  goes = goes;
-}
 
 module _ (config : Config) (first lives : Lives) (all rest : List Spoken × End DumpReason) (before now : Option (List ℕ)) (pending pending_now : List ℕ) where
   pub doing_more : (current : Config) (next : Lives) (rest' : List Spoken × End DumpReason) (now' : Option (List ℕ)) (pending' : List ℕ) (heard : Spoken)
@@ -77,37 +67,6 @@ module _ (config : Config) (first lives : Lives) (all rest : List Spoken × End 
 
       lives_are : next ≡ with_life heard.peer (made config heard (lives heard.peer)).1 lives
       lives_are i other = told other i
-
-  text_all : (gone : List Timed) → items_from config first all.0 ≡ gone ++ items_from config lives rest.0 → rest.0 ≡ []
-      → tape_text Two gone ≡ tape_text Two (items_from config first all.0)
-  text_all gone parts none =
-      ap (tape_text Two) (sym (parts ∙ ap (λ (r : List Spoken). gone ++ items_from config lives r) none ∙ append-nil gone))
-
-  pub doing_done : Doing config first lives all rest before now pending pending_now → rest ≡ ([], done)
-      → (all.1 ≡ done) × Goes before now pending pending_now (tape_text Two (items_from config first all.0))
-  doing_done p e = (
-    p.end_is ∙ ap (λ (r : List Spoken × End DumpReason). r.1) e,
-    goes_as (text_all p.gone p.parts (ap (λ (r : List Spoken × End DumpReason). r.0) e)) p.goes,
-  )
-
-  pub doing_ceased : (early mid late : ℕ) (other : Type 0) (cause refusal : Refusal)
-      → Doing config first lives all rest before now pending pending_now → early ≤ mid → refusal ≡ cause → Ceases rest (Rose mid late) cause
-      → Breaks all.1 before now pending pending_now (tape_text Two (items_from config first all.0)) (Rose early late ⊎ other) refusal
-  doing_ceased early mid late other cause refusal p l s (inl h) =
-      inl (ap status_at p.end_is ∙ h.1 ∙ ap status_of (sym s), goes_as (text_all p.gone p.parts h.0) p.goes)
-  doing_ceased early mid late other cause refusal p l s (inr h) =
-      inr (
-        s ∙ h.0,
-        (
-          inl (omega (arith, l, h.1)),
-          inl (record {
-            front = tape_text Two p.gone;
-            rest = flat_map (item_text Two) (items_from config lives rest.0);
-            parts = ap (tape_text Two) p.parts ∙ tape_append p.gone (items_from config lives rest.0);
-            goes = p.goes;
-          }),
-        ),
-      )
 
   pub doing_stopped : (current : Config) (rest' : List Spoken × End DumpReason) (now' : Option (List ℕ)) (pending' : List ℕ) (heard : Spoken) (files : Type 0) (early mid late : ℕ) (refusal : Refusal)
       → current ≡ config

@@ -160,18 +160,6 @@ joined_choice true false value before = refl
 joined_choice false true value before = refl
 joined_choice false false value before = refl
 
--- prefixes of two lists, and rules
-pub taken_join : (peer : ℕ) (first later : List Shown) (rules : List Ruled) (old mid new : Held)
-    → Changes peer (taken_of first) same old mid → Changes peer (taken_of later) (rules_taken rules) mid new
-    → Changes peer (taken_of (first ++ later)) (rules_taken rules) old new
-taken_join peer first later rules old mid new t u =
-    changes_as peer (λ p o. taken_of later p (taken_of first p o)) (taken_of (first ++ later)) (λ r o. rules_taken rules r o) (rules_taken rules) old new
-    (λ p o.
-    joined_choice (list_any (is_prefix p) first) (list_any (is_prefix p) later) None o
-    ∙ ap (λ (b : Bool). if b then None else o) (sym (list_any-append (is_prefix p) first later)))
-    (λ r o. refl)
-    (changes_then peer (taken_of first) (taken_of later) same (rules_taken rules) old mid new t u)
-
 pub given_join : (peer : ℕ) (path : Path) (first later : List Shown) (rules : Ruled → Option Given → Option Given) (old mid new : Held)
     → Changes peer (given_at first path) same old mid → Changes peer (given_at later path) rules mid new
     → Changes peer (given_at (first ++ later) path) rules old new
@@ -182,13 +170,6 @@ given_join peer path first later rules old mid new t u =
     ∙ ap (λ (b : Bool). if b then Some path else o) (sym (list_any-append (is_prefix p) first later)))
     (λ r o. refl)
     (changes_then peer (given_at first path) (given_at later path) same rules old mid new t u)
-
--- what an update says, by whether it is treated as a withdrawal
-told_with : Bool → Update → Prefix → Option Path → Option Path
-told_with w update prefix before =
-    if list_any (is_prefix prefix) (if w then [] else given_prefixes update) then update.path
-    else if list_any (is_prefix prefix) (update.classic_out ++ (unicast_in update.unreach ++ (if w then given_prefixes update else []))) then None
-    else before
 
 all_any : (p : Prefix) (u : Update) (rest : List Shown)
     → list_any (is_prefix p) (u.classic_out ++ (unicast_in u.unreach ++ rest)) ≡ (list_any (is_prefix p) (u.classic_out ++ unicast_in u.unreach) || list_any (is_prefix p) rest)

@@ -109,10 +109,6 @@ fed_closed peer old new table table' piece why did n closed t = λ config whose 
   spares = spares_others peer nothing nothing table table' t l;
 })
 
--- nothing is left of the piece
-pub fed_nothing : (peer : ℕ) (session : Live) (table : Held) (piece : List ℕ) → piece ≡ [] → TakesMessage peer session session table table piece None
-fed_nothing peer session table piece e = λ config whose octets updates f w l k. inl (e, refl, refl)
-
 -- before the first octet of a piece
 pub taken_none : (config : Config) (whose : Peer) (peer : ℕ) (octets piece : List ℕ) (session : Live) (table : Held)
     → IsUp config whose peer octets session table → session.closed ≡ None → IsListed table

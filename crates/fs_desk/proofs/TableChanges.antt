@@ -125,11 +125,6 @@ changes_rule_given r held = record {
       ∙ rule_given_choice (is_rule other r.rule) (from == r.peer) r (at_key flow_key flow_key_cmp (other, from) held.flows);
 }
 
--- all that a peer holds is taken away
-lost_choice : {A : Type 0} (b : Bool) (found : Option A) → (if not b then found else None) ≡ (if b then None else found)
-lost_choice true found = refl
-lost_choice false found = refl
-
 lost_flow : (b : Bool) (found : Option FlowRoute) → option_map given_of (if not b then found else None) ≡ (if b then None else option_map given_of found)
 lost_flow true found = refl
 lost_flow false found = refl

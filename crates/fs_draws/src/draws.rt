@@ -21,7 +21,7 @@ impl Draws {
     pub fn below(&mut self, count: u64) -> u64
         requires { 0 < count }
         ensures state { self.new.state ≡ following self.old.state }
-        ensures shown { result ≡ shown_below count self.new.state }
+        ensures drawn { result ≡ shown_below count self.new.state }
         ensures below { result < count }
     {
         self.state = self
@@ -35,7 +35,7 @@ impl Draws {
     pub fn octet_below(&mut self, count: u8) -> u8
         requires { 0 < count }
         ensures state { self.new.state ≡ following self.old.state }
-        ensures shown { result ≡ shown_below count self.new.state }
+        ensures drawn { result ≡ shown_below count self.new.state }
         ensures below { result < count }
     {
         self.below(u64::from(count)) as u8
@@ -45,7 +45,7 @@ impl Draws {
     pub fn chance(&mut self, of: u64) -> bool
         requires { 0 < of }
         ensures state { self.new.state ≡ following self.old.state }
-        ensures shown { result ≡ (shown_below of self.new.state == 0) }
+        ensures drawn { result ≡ (shown_below of self.new.state == 0) }
     {
         self.below(of) == 0
     }

@@ -16,7 +16,7 @@ use Rattle.fs_speaker.specs.Session.{at_start, still}
 use Rattle.fs_speaker.specs.Side.{announcer}
 use Rattle.fs_speaker.specs.Transition.{Machine}
 use Rattle.fs_talk.specs.Listening.{EndsSo, HeardOut, HearsOut}
-use Rattle.fs_talk.specs.Turn.{Part, Pieces, Spoken, Stance, moments_in, octets_in}
+use Rattle.fs_talk.specs.Round.{Part, Pieces, Spoken, Stance, moments_in, octets_in}
 use Rattle.fs_talk.specs.declared.listening.Heard.{Heard}
 use Rattle.fs_talk.specs.declared.listening.Heard.TheVariants.{All, Over, Ready, AtLimit as MetIt}
 use Rattle.fs_talk.proofs.Composing.{part_then}
@@ -205,12 +205,6 @@ module _ (config : Config) (peer : Peer) (sending : Sending) (limit : ℕ) (s0 s
         (first_heard heard s0 s1 s2 over ready so_far limit hears.given a b c f l))
         t0 t1 t2 first hears.told;
   }
-
-  pub over_so : (over ready : Bool) (so_far : ℕ) (why : Closed) → HearsOut Over s1 s2 over ready so_far 1 limit t1 t2 answers answers' → IsOf end config peer sending → end.line.closed ≡ Some why
-      → TellsOver (HasClosed why) config peer sending limit t0 t2 answers answers'
-  over_so over ready so_far why hears of shut =
-      at_end (HasClosed why) Over over ready so_far hears
-      (λ moments octets said left e h. subst (λ (m : Machine). ClosesSo m moments octets why) (machine_is end config peer sending of) (closed_so end started count moments octets said h why shut))
 
   pub over_any : (ending : Ending) (over ready : Bool) (so_far : ℕ) → HearsOut Over s1 s2 over ready so_far 1 limit t1 t2 answers answers' → IsOf end config peer sending → over ≡ is_some end.line.closed
       → ((why : Closed) → end.line.closed ≡ Some why → ending ≡ HasClosed why) → TellsOver ending config peer sending limit t0 t2 answers answers'

@@ -25,7 +25,7 @@ use Rattle.fs_speaker.specs.Times.{at_moment, taken_in, tick_at}
 use Rattle.fs_speaker.specs.Transition.{Machine, opened, transition_at, transition_by}
 use Rattle.fs_speaker.specs.declared.transition.Phase.{Phase}
 use Rattle.fs_speaker.proofs.ReplySteps.{Shows, told}
-use Rattle.fs_talk.specs.Turn.{Hears, Says, Stance, moments_in, octets_in}
+use Rattle.fs_talk.specs.Round.{Hears, Says, Stance, moments_in, octets_in}
 use Rattle.std.proofs.lemmas.Grind.{flat_map-append}
 use Rattle.std.proofs.lemmas.List.{map-append}
 use Rattle.fs_ends.specs.HoldTime.{AreTimely, IsTakenAt}

@@ -12,7 +12,7 @@ use Rattle.fs_speaker.specs.Session.{at_start, still}
 use Rattle.fs_speaker.specs.Side.{announcer}
 use Rattle.fs_speaker.specs.Transition.{Machine}
 use Rattle.fs_speaker.specs.declared.transition.Phase.{Phase}
-use Rattle.fs_talk.specs.Turn.{Pieces, moments_in, octets_in}
+use Rattle.fs_talk.specs.Round.{Pieces, moments_in, octets_in}
 use Rattle.fs_ends.specs.declared.tell.Ending.{Ending}
 use Rattle.fs_ends.specs.declared.tell.Ending.TheVariants.{Done, Closed as HasClosed, Ended, AtLimit}
 use Rattle.fs_ends.specs.Opening.{opened_by}

@@ -135,7 +135,7 @@ fn take_until(
 
 impl<'a> Speaker for Teller<'a> {
     ghost use Rattle.std.specs.Option.{is_some};
-    ghost use Rattle.fs_talk.specs.Turn.{moments_in, octets_in};
+    ghost use Rattle.fs_talk.specs.Round.{moments_in, octets_in};
     ghost use Rattle.fs_ends.specs.Teller.{HasHeard, ahead_of, before_all};
 
     ghost stands = { λ t heard said. HasHeard t.announcer t.started t.count (moments_in heard) (octets_in heard) said };

@@ -25,10 +25,10 @@ port_of pair = (pair.second / 256) % 1024
 
 -- the UPDATE of a step: a wide prefix is announced, or a prefix under it, or a rule, or the prefix is withdrawn
 abbrev pub update_by : ℕ → Pair → List ℕ
-update_by turn pair =
-    if turn == 0 then announcement (peer_of pair) (wide (x_of pair))
-    else if turn == 1 then announcement (peer_of pair) (net (x_of pair) (y_of pair))
-    else if turn == 2 then rule_announcement (peer_of pair) (rule_of (x_of pair) (y_of pair) (port_of pair))
+update_by step pair =
+    if step == 0 then announcement (peer_of pair) (wide (x_of pair))
+    else if step == 1 then announcement (peer_of pair) (net (x_of pair) (y_of pair))
+    else if step == 2 then rule_announcement (peer_of pair) (rule_of (x_of pair) (y_of pair) (port_of pair))
     else withdrawal (net (x_of pair) (y_of pair))
 
 abbrev pub update_of : Pair → List ℕ

@@ -1,5 +1,5 @@
 -- What is printed of actions that discard and say no more.
-use Rattle.std.proofs.Common.{◌≡◌, ℕ, ◌+◌, ◌==◌, Bool, true, false, List, [], ◌∷◌, ◌++◌, length, get_or, take, Option, Some, None, refl, sym, ◌∙◌, ap, subst, arith, append-nil, append_assoc, IsTrue, not, true≢false, ◌<◌, ◌||◌, Result, Ok, Err, IsOk}
+use Rattle.std.proofs.Common.{◌≡◌, ℕ, ◌+◌, ◌==◌, Bool, true, false, List, [], ◌∷◌, ◌++◌, length, get_or, Option, Some, None, refl, sym, ◌∙◌, ap, subst, arith, append-nil, append_assoc, IsTrue, not, true≢false, ◌<◌, ◌||◌, Result, Ok, Err, IsOk}
 use Rattle.std.specs.Prelude.{codes, decimal, if◌then◌else◌}
 use Rattle.std.specs.List.{AllByRecursion, list_any}
 use Rattle.std.specs.Option.{option_map_or}
@@ -75,11 +75,6 @@ says_discard (action ∷ actions) all some = record {
   discards = ap (λ (b : Bool). b || list_any is_discard actions) all.0;
   silent = silent (action ∷ actions) all;
 }
-
--- no rule walked
-pub none_walked : (walked : List Walked) → length walked ≡ 0 → [] ≡ entries walked
-none_walked [] none = refl
-none_walked (rule ∷ walked) none = let never : ⊥ = omega (arith, none) in absurd never
 
 -- one rule walked, which discards
 pub one_discards : (number : ℕ) (walked : List Walked) (rule : Walked) → length walked ≡ 1 → rule ≡ get_or walked 0 rule → SaysDiscard rule.actions.now

@@ -395,10 +395,3 @@ one_field_outcome family octets one other are first second =
     a.is ∙ ap (λ (rules : List Ruled). outcome_of rules a.end) same.rules ∙ ap (λ (end : Option (Reason × ℕ)). outcome_of b.rules end) same.end ∙ sym b.is
 
 -- What the reader of a field has found: the rules of the frames before what is left
-
-pub all_frames : (family : Family) (octets front : List ℕ) (rules : List Ruled) → Frames family front rules → octets ≡ front ++ [] → IsFieldOutcome family octets (Ok rules)
-all_frames family octets front rules frames split = subst (λ (l : List ℕ). Frames family l rules) (sym (split ∙ append-nil front)) frames
-
-pub bad_frames : (family : Family) (octets front rest : List ℕ) (rules : List Ruled) (reason : Reason) (place : ℕ) → Frames family front rules → octets ≡ front ++ rest → (rest ≡ [] → ⊥) → IsFrameBad family rest reason place → IsFieldOutcome family octets (Err (reason, place))
-bad_frames family octets front rest rules reason place frames split some bad =
-    record { front = front; rules = rules; rest = rest; frames = frames; split = split; some = some; bad = bad }

@@ -1,6 +1,5 @@
 -- Lists in normal form, pair by pair.
-use Rattle.std.proofs.Common.{◌≡◌, ℕ, zero, suc, ◌/◌, ◌^◌, ◌<◌, ◌≤◌, false, true, List, [], ◌∷◌, refl, sym, ap, subst, ◌∙◌, arith}
-use Rattle.std.proofs.lemmas.Bool.{false≢true}
+use Rattle.std.proofs.Common.{◌≡◌, ℕ, zero, suc, ◌/◌, ◌^◌, ◌<◌, ◌≤◌, false, List, [], ◌∷◌, refl, sym, ap, subst, arith}
 use Rattle.std.proofs.lemmas.Nat.{and_le_r}
 use Rattle.fs_ops.specs.Operator.{width_code, width_of, ends}
 use Rattle.fs_ops.specs.OperatorList.{IsNormalPair, AreNormal}
@@ -19,18 +18,6 @@ pub first_pair : (bits : ℕ) (pair : ℕ × ℕ) (tail : List (ℕ × ℕ)) →
 first_pair bits pair [] normal = normal.0
 first_pair bits pair (next ∷ tail) normal = normal.0
 
--- nothing stands behind the pair with the end bit
-pub ends_there : (bits : ℕ) (pair : ℕ × ℕ) (tail : List (ℕ × ℕ)) → AreNormal bits (pair ∷ tail) → ends pair.0 ≡ true → tail ≡ []
-ends_there bits pair [] normal last = refl
-ends_there bits pair (next ∷ tail) normal last = absurd (false≢true (sym normal.1 ∙ last))
-
-pub rest_normal : (bits : ℕ) (pair : ℕ × ℕ) (tail : List (ℕ × ℕ)) → AreNormal bits (pair ∷ tail) → ends pair.0 ≡ false → AreNormal bits tail
-rest_normal bits pair [] normal goes = absurd (false≢true (sym goes ∙ normal.1))
-rest_normal bits pair (next ∷ tail) normal goes = normal.2
-
 pub with_pair : (bits : ℕ) (pair : ℕ × ℕ) (tail : List (ℕ × ℕ)) → IsNormalPair bits pair → ends pair.0 ≡ false → AreNormal bits tail → AreNormal bits (pair ∷ tail)
 with_pair bits pair [] own goes normal = absurd normal
 with_pair bits pair (next ∷ tail) own goes normal = (own, goes, normal)
-
-pub last_pair : (bits : ℕ) (pair : ℕ × ℕ) (tail : List (ℕ × ℕ)) → IsNormalPair bits pair → ends pair.0 ≡ true → tail ≡ [] → AreNormal bits (pair ∷ tail)
-last_pair bits pair tail own last none = subst (λ (l : List (ℕ × ℕ)). AreNormal bits (pair ∷ l)) (sym none) (own, last)

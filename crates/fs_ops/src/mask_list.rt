@@ -8,7 +8,7 @@ ghost use Rattle.fs_ops.specs.Evaluation.{holds, masks};
 
 use crate::fault::OpsFault;
 use crate::kind::Kind;
-use crate::pairs::Pairs;
+use crate::pairs::PairList;
 use crate::{evaluation, making, reading, size, writing};
 use fs_base::Memory;
 use std::alloc::Global;
@@ -18,7 +18,7 @@ use std::marker::Model;
 /// are clear. It is never empty.
 #[derive(Drop)]
 pub struct MaskList {
-    list: Pairs,
+    list: PairList,
 }
 
 impl Model for MaskList {
@@ -47,7 +47,7 @@ impl MaskList {
         ensures fault { IfErr result (IsFault widths.now octets.now) }
     {
         let (pairs, taken) = reading::read(alloc, Kind::Bitmask, octets, widths)?;
-        let list = Pairs::new(pairs);
+        let list = PairList::new(pairs);
         Ok((MaskList { list }, taken))
     }
 
@@ -60,7 +60,7 @@ impl MaskList {
             return None;
         }
         Some(MaskList {
-            list: Pairs::new(pairs),
+            list: PairList::new(pairs),
         })
     }
 

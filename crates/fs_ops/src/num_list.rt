@@ -8,7 +8,7 @@ ghost use Rattle.fs_ops.specs.Evaluation.{holds, compares};
 
 use crate::fault::OpsFault;
 use crate::kind::Kind;
-use crate::pairs::Pairs;
+use crate::pairs::PairList;
 use crate::{evaluation, making, reading, size, writing};
 use fs_base::Memory;
 use std::alloc::Global;
@@ -18,7 +18,7 @@ use std::marker::Model;
 /// are clear. It is never empty.
 #[derive(Drop)]
 pub struct NumList {
-    list: Pairs,
+    list: PairList,
 }
 
 impl Model for NumList {
@@ -57,7 +57,7 @@ impl NumList {
         ensures fault { IfErr result (IsFault widths.now octets.now) }
     {
         let (pairs, taken) = reading::read(alloc, Kind::Numeric, octets, widths)?;
-        let list = Pairs::new(pairs);
+        let list = PairList::new(pairs);
         Ok((NumList { list }, taken))
     }
 
@@ -70,7 +70,7 @@ impl NumList {
             return None;
         }
         Some(NumList {
-            list: Pairs::new(pairs),
+            list: PairList::new(pairs),
         })
     }
 

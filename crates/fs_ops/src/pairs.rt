@@ -9,17 +9,17 @@ use std::slice;
 
 /// The pairs of a list. A list of one pair, as most are, holds it in itself and takes no memory.
 #[derive(Drop)]
-pub struct Pairs {
-    kept: Kept,
+pub struct PairList {
+    kept: Stored,
 }
 
 #[derive(Drop)]
-enum Kept {
+enum Stored {
     One((u8, u64)),
     Many(Vec<(u8, u64)>),
 }
 
-impl Model for Pairs {
+impl Model for PairList {
     ghost use Rattle.std.specs.Prelude.{ℕ, List};
     ghost use Rattle.fs_ops.specs.Pairs.{kept_pairs};
 
@@ -28,19 +28,19 @@ impl Model for Pairs {
     ghost view = { λ a. kept_pairs a.kept };
 }
 
-impl Pairs {
+impl PairList {
     /// These pairs, with no room for more.
-    pub fn new(mut pairs: Vec<(u8, u64)>) -> Pairs
+    pub fn new(mut pairs: Vec<(u8, u64)>) -> PairList
         ensures { result ≡ pairs.items }
     {
         if let [pair] = pairs.as_slice() {
-            return Pairs {
-                kept: Kept::One(*pair),
+            return PairList {
+                kept: Stored::One(*pair),
             };
         }
         pairs.shrink_to_fit();
-        Pairs {
-            kept: Kept::Many(pairs),
+        PairList {
+            kept: Stored::Many(pairs),
         }
     }
 
@@ -48,8 +48,8 @@ impl Pairs {
         ensures { result.now ≡ self.now }
     {
         match &self.kept {
-            Kept::One(pair) => slice::from_ref(pair),
-            Kept::Many(pairs) => pairs.as_slice(),
+            Stored::One(pair) => slice::from_ref(pair),
+            Stored::Many(pairs) => pairs.as_slice(),
         }
     }
 
@@ -58,19 +58,19 @@ impl Pairs {
         ensures { self.new ≡ map (λ pair. (pair.0, bit_and pair.1 bits)) self.old }
     {
         match &mut self.kept {
-            Kept::One((_, value)) => *value &= bits,
-            Kept::Many(pairs) => values::keep_bits(pairs, bits),
+            Stored::One((_, value)) => *value &= bits,
+            Stored::Many(pairs) => values::keep_bits(pairs, bits),
         }
     }
 
     /// Equal pairs.
-    pub fn copy(&self) -> Result<Pairs, Memory>
+    pub fn copy(&self) -> Result<PairList, Memory>
         ensures { IfOk result (λ pairs. pairs ≡ self.now) }
     {
         let kept = match &self.kept {
-            Kept::One(pair) => Kept::One(*pair),
-            Kept::Many(pairs) => Kept::Many(pairs.clone()?),
+            Stored::One(pair) => Stored::One(*pair),
+            Stored::Many(pairs) => Stored::Many(pairs.clone()?),
         };
-        Ok(Pairs { kept })
+        Ok(PairList { kept })
     }
 }

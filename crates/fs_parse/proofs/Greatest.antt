@@ -178,9 +178,6 @@ octets_eight a b c d e f g i ka kb kc kd ke kf kg ki =
 full_named : (first second : ℕ) → first < 256 → second < 256 → IsOctets (full first second)
 full_named first second a b = octets_eight first second 255 255 255 255 255 255 a b (omega arith) (omega arith) (omega arith) (omega arith) (omega arith) (omega arith)
 
-plain_named : (second bits : ℕ) → second < 256 → bits < 256 → IsOctets (plain second bits)
-plain_named second bits a b = octets_eight 0x80 second 0 0 0 0 0 bits (omega arith) a (omega arith) (omega arith) (omega arith) (omega arith) (omega arith) b
-
 is_top : (name greatest : List ℕ) (r : Option (List ℕ)) → r ≡ Some greatest → IsNamed name greatest → ((action : List ℕ) → IsNamed name action → NotAbove action greatest) → HasGreatest name r
 is_top name greatest r found named highest = subst (HasGreatest name) (sym found) (record { named = named; highest = highest })
 
@@ -211,30 +208,6 @@ top_packets name r is found =
     (λ n h. let first : 112 ≡ 114 = ap first_of (sym is ∙ n) in absurd (omega (arith, first)))).1
     )
 
-pub top_control : (name : List ℕ) (r : Option (List ℕ)) → name ≡ codes "control" → r ≡ Some (plain 0x07 0x03) → HasGreatest name r
-top_control name r is found =
-    is_top name (plain 0x07 0x03) r found (record { normal = record { eight = refl; normal = refl }; octets = plain_named 0x07 0x03 (omega arith) (omega arith); named = sym is }) (
-    λ action named.
-    (by_name name action (λ _. NotAbove action (plain 0x07 0x03)) named
-    (λ n h. let first : 99 ≡ 98 = ap first_of (sym is ∙ n) in absurd (omega (arith, first)))
-    (λ n h. let first : 99 ≡ 112 = ap first_of (sym is ∙ n) in absurd (omega (arith, first)))
-    (λ n h. h)
-    (λ n h. let first : 99 ≡ 109 = ap first_of (sym is ∙ n) in absurd (omega (arith, first)))
-    (λ n h. let first : 99 ≡ 114 = ap first_of (sym is ∙ n) in absurd (omega (arith, first)))).1
-    )
-
-pub top_mark : (name : List ℕ) (r : Option (List ℕ)) → name ≡ codes "mark" → r ≡ Some (plain 0x09 0x3f) → HasGreatest name r
-top_mark name r is found =
-    is_top name (plain 0x09 0x3f) r found (record { normal = record { eight = refl; normal = refl }; octets = plain_named 0x09 0x3f (omega arith) (omega arith); named = sym is }) (
-    λ action named.
-    (by_name name action (λ _. NotAbove action (plain 0x09 0x3f)) named
-    (λ n h. let first : 109 ≡ 98 = ap first_of (sym is ∙ n) in absurd (omega (arith, first)))
-    (λ n h. let first : 109 ≡ 112 = ap first_of (sym is ∙ n) in absurd (omega (arith, first)))
-    (λ n h. let first : 109 ≡ 99 = ap first_of (sym is ∙ n) in absurd (omega (arith, first)))
-    (λ n h. h)
-    (λ n h. let first : 109 ≡ 114 = ap first_of (sym is ∙ n) in absurd (omega (arith, first)))).1
-    )
-
 pub top_redirect : (name : List ℕ) (r : Option (List ℕ)) → name ≡ codes "redirect" → r ≡ Some (full 0x82 0x08) → HasGreatest name r
 top_redirect name r is found =
     is_top name (full 0x82 0x08) r found (record { normal = record { eight = refl; normal = refl }; octets = full_named 0x82 0x08 (omega arith) (omega arith); named = sym is }) (
@@ -246,10 +219,6 @@ top_redirect name r is found =
     (λ n h. let first : 114 ≡ 109 = ap first_of (sym is ∙ n) in absurd (omega (arith, first)))
     (λ n h. h)).1
     )
-
-pub no_top : (name : List ℕ) → (name ≡ codes "bytes" → ⊥) → (name ≡ codes "packets" → ⊥) → (name ≡ codes "control" → ⊥) → (name ≡ codes "mark" → ⊥)
-    → (name ≡ codes "redirect" → ⊥) → HasGreatest name None
-no_top name a b c d e action named = (by_name name action (λ _. ⊥) named (λ n h. a n) (λ n h. b n) (λ n h. c n) (λ n h. d n) (λ n h. e n)).1
 
 -- what is above a lower one is above a higher one
 pub above_too : (last : Option (List ℕ)) (action greatest : List ℕ) → IsAbove last action → NotAbove action greatest → IsAbove last greatest

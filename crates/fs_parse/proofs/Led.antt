@@ -78,17 +78,6 @@ one_family V4 V6 e = let same : 54 ≡ 52 = ap second_of e in absurd (omega (ari
 one_family V6 V4 e = let same : 52 ≡ 54 = ap second_of e in absurd (omega (arith, same))
 one_family V6 V6 e = refl
 
-pub led_first : (words : List (List ℕ)) (family : Family) → words ≡ family_word family ∷ drop 1 words → Led words family [] 0 1
-led_first words family split = record {
-  split = split;
-  here = refl;
-  normal = tt;
-  last_is = refl;
-  goes = λ tail f ps said normal is.
-      let same : f ≡ family = one_family f family (head_is is) in
-      record { same = same; others = ps; split = refl; normal = subst (λ (g : Family). AreNormal g 0 ps) same normal; behind = tail_is is };
-}
-
 normal_more : (family : Family) (last : ℕ) (parts : List Part) (part : Part) → AreNormal family last parts → FitsBehind family (last_kind last parts) part → AreNormal family last (parts ++ part ∷ [])
 normal_more family last [] part is fits = (fits.0, fits.1, tt)
 normal_more family last (p ∷ parts) part is fits = (is.0, is.1, normal_more family p.kind parts part is.2 fits)

@@ -150,9 +150,6 @@ prefixed_loosely family kind word form read high loose made own same normal told
 pub some_body : {x y : Body} → Some x ≡ Some y → x ≡ y
 some_body e = cc
 
-pub none_body : {A : Type 0} {x : Body} → None ≡ Some x → A
-none_body e = absurd cc
-
 -- the types of the family
 pub low_type : (family : Family) (kind : ℕ) (body : Body) → IsNormalAt (form_of family kind) body → 1 ≤ kind
 low_type family zero body is = absurd is

@@ -22,7 +22,7 @@ use Rattle.fs_words.specs.Figures.{hexadecimal}
 use Rattle.fs_words.specs.Values.{body_text, component_name, list_kind, value_text}
 use Rattle.fs_parse.specs.ActionParts.{Gives, GivesPlain, form_parts, ip4_parts, long_octets, pair_parts, rate_parts, short_octets}
 use Rattle.fs_parse.specs.ActionWord.{IsNamed}
-use Rattle.fs_parse.specs.Pieces.{Part, Run, Mark, parts_of}
+use Rattle.fs_parse.specs.Pieces.{Part, Run, Delimiter, parts_of}
 use Rattle.fs_parse.specs.PrefixParts.{GivesV4, GivesV6, range_parts, wide_parts}
 use Rattle.fs_parse.specs.Text.{AreActions, words_in}
 use Rattle.fs_parse.proofs.Acted.{no_then}
@@ -38,10 +38,10 @@ use Rattle.fs_parse.proofs.Spaceless.{words_back}
 
 abbrev text_in : Part → List ℕ
 text_in (Run run) = run
-text_in (Mark mark) = []
+text_in (Delimiter delimiter) = []
 
 abbrev text_at : List Part → ℕ → List ℕ
-text_at parts place = text_in (get_or parts place (Mark 0))
+text_at parts place = text_in (get_or parts place (Delimiter 0))
 
 abbrev number_at : List Part → ℕ → ℕ
 number_at parts place = digits_value 10 (text_at parts place)
@@ -131,7 +131,7 @@ wide_back n tail small =
 offset_back : (n len offset : ℕ) → offset < 128 → number_at (wide_parts n (range_parts len offset)) 18 ≡ offset
 offset_back n len offset low = by (offset == 0) refl
   where
-    by : (b : Bool) → (offset == 0) ≡ b → number_at (wide_parts n (Mark 47 ∷ Run (decimal len) ∷ (if b then [] else Mark 45 ∷ Run (decimal offset) ∷ []))) 18 ≡ offset
+    by : (b : Bool) → (offset == 0) ≡ b → number_at (wide_parts n (Delimiter 47 ∷ Run (decimal len) ∷ (if b then [] else Delimiter 45 ∷ Run (decimal offset) ∷ []))) 18 ≡ offset
     by true e = sym (eqb-true offset 0 e)
     by false e = decimal_back offset (omega (arith, low))
 

@@ -140,17 +140,6 @@ abbrev pub Left : Kind → List ℕ → List (ℕ × ℕ) → ℕ → List ℕ �
 Left kind word list joined rest =
     (pairs : List (ℕ × ℕ)) → IsNormal kind pairs → word ≡ list_text kind pairs → IsLeft kind pairs list joined rest
 
-pub left_all : (kind : Kind) (word : List ℕ) → Left kind word [] 0 word
-left_all kind word [] is w = absurd is.normal
-left_all kind word (pair ∷ others) is w = record {
-  pair = pair;
-  others = others;
-  normal = is.normal;
-  split = refl;
-  joins = ap bit_if (sym is.first);
-  spelled = w;
-}
-
 pub first_normal : (bits : ℕ) (pair : ℕ × ℕ) (others : List (ℕ × ℕ)) → AreNormal bits (pair ∷ others) → IsNormalPair bits pair
 first_normal bits pair [] is = is.0
 first_normal bits pair (next ∷ others) is = is.0
@@ -179,13 +168,13 @@ last_read kind pairs list joined plain value pair (next ∷ others) normal split
     by false e = absurd cc
 
 -- the pair behind this one is left
-pub next_left : (kind : Kind) (pairs list new : List (ℕ × ℕ)) (joined bit plain value mark : ℕ) (tail : List ℕ) (pair : ℕ × ℕ) (others : List (ℕ × ℕ))
+pub next_left : (kind : Kind) (pairs list new : List (ℕ × ℕ)) (joined bit plain value delimiter : ℕ) (tail : List ℕ) (pair : ℕ × ℕ) (others : List (ℕ × ℕ))
     → AreNormal (meant_bits kind) (pair ∷ others) → pairs ≡ list ++ pair ∷ others → joined ≡ joined_bit pair.0
-    → flat_map (joined_text kind) others ≡ mark ∷ tail → plain ≡ plain_of kind pair.0 → value ≡ pair.1
-    → new ≡ list ++ (plain + joined, value) ∷ [] → bit ≡ bit_if (mark == 38)
+    → flat_map (joined_text kind) others ≡ delimiter ∷ tail → plain ≡ plain_of kind pair.0 → value ≡ pair.1
+    → new ≡ list ++ (plain + joined, value) ∷ [] → bit ≡ bit_if (delimiter == 38)
     → IsLeft kind pairs new bit tail
-next_left kind pairs list new joined bit plain value mark tail pair [] normal split joined_is some p v new_is bit_is = absurd cc
-next_left kind pairs list new joined bit plain value mark tail pair (next ∷ others) normal split joined_is some p v new_is bit_is = record {
+next_left kind pairs list new joined bit plain value delimiter tail pair [] normal split joined_is some p v new_is bit_is = absurd cc
+next_left kind pairs list new joined bit plain value delimiter tail pair (next ∷ others) normal split joined_is some p v new_is bit_is = record {
   pair = next;
   others = others;
   normal = normal.2;
@@ -199,12 +188,12 @@ next_left kind pairs list new joined bit plain value mark tail pair (next ∷ ot
     told : plain_of kind pair.0 + joined_bit pair.0 + 0 ≡ pair.0
     told = made_by kind pair.0 false normal.0.clear normal.1
 
-    by : (b : Bool) → joins next.0 ≡ b → (joiner_by b ++ pair_text kind next) ++ flat_map (joined_text kind) others ≡ mark ∷ tail
-        → (bit_if (mark == 38) ≡ bit_if b) × (tail ≡ pair_text kind next ++ flat_map (joined_text kind) others)
+    by : (b : Bool) → joins next.0 ≡ b → (joiner_by b ++ pair_text kind next) ++ flat_map (joined_text kind) others ≡ delimiter ∷ tail
+        → (bit_if (delimiter == 38) ≡ bit_if b) × (tail ≡ pair_text kind next ++ flat_map (joined_text kind) others)
     by true e h =
-        let m : 38 ≡ mark = cc in (ap (λ (o : ℕ). bit_if (o == 38)) (sym m), cc)
+        let m : 38 ≡ delimiter = cc in (ap (λ (o : ℕ). bit_if (o == 38)) (sym m), cc)
     by false e h =
-        let m : 44 ≡ mark = cc in (ap (λ (o : ℕ). bit_if (o == 38)) (sym m), cc)
+        let m : 44 ≡ delimiter = cc in (ap (λ (o : ℕ). bit_if (o == 38)) (sym m), cc)
 
 abbrev Cuts : (text a b c : List ℕ) → Type 0
 Cuts text a b c =

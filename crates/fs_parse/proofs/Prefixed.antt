@@ -17,7 +17,7 @@ use Rattle.fs_nlri.specs.Spelling.{IsRange}
 use Rattle.fs_words.specs.Figures.{hexadecimal}
 use Rattle.fs_words.specs.Prefixes.{groups_text, offset_text, v6_text, wide_address_text}
 use Rattle.fs_words.specs.Values.{body_text}
-use Rattle.fs_parse.specs.Pieces.{Part, Run, Mark, is_plain, parts_of}
+use Rattle.fs_parse.specs.Pieces.{Part, Run, Delimiter, is_plain, parts_of}
 use Rattle.fs_parse.specs.PrefixParts.{GivesV4, GivesV6, offset_parts, range_parts, wide_parts}
 use Rattle.fs_parse.proofs.Numerals.{plain_digits}
 use Rattle.fs_parse.proofs.Words.{IsRun, one_run, run_decimal, run_mark, v4_runs}
@@ -27,16 +27,16 @@ run_hexadecimal g small = plain_digits 16 g (omega arith) (omega arith) (omega a
 
 abbrev group_parts : ℕ → List ℕ → List Part → List Part
 group_parts g [] tail = Run (hexadecimal g) ∷ tail
-group_parts g (h ∷ gs) tail = Run (hexadecimal g) ∷ Mark 58 ∷ group_parts h gs tail
+group_parts g (h ∷ gs) tail = Run (hexadecimal g) ∷ Delimiter 58 ∷ group_parts h gs tail
 
 groups_cut : (g : ℕ) (gs : List ℕ) (mark : ℕ) (rest : List ℕ) → AllByRecursion (λ k. k < 2 ^ 64) (g ∷ gs) → is_plain mark ≡ false
-    → parts_of (groups_text (g ∷ gs) ++ mark ∷ rest) ≡ group_parts g gs (Mark mark ∷ parts_of rest)
+    → parts_of (groups_text (g ∷ gs) ++ mark ∷ rest) ≡ group_parts g gs (Delimiter mark ∷ parts_of rest)
 groups_cut g [] mark rest small is =
     ap (λ (l : List ℕ). parts_of (l ++ mark ∷ rest)) (append-nil (hexadecimal g)) ∙ run_mark (hexadecimal g) rest mark (run_hexadecimal g small.0) is
 groups_cut g (h ∷ gs) mark rest small is =
     ap parts_of (append_assoc (hexadecimal g) (58 ∷ groups_text (h ∷ gs)) (mark ∷ rest))
     ∙ run_mark (hexadecimal g) (groups_text (h ∷ gs) ++ mark ∷ rest) 58 (run_hexadecimal g small.0) refl
-    ∙ ap (λ (l : List Part). Run (hexadecimal g) ∷ Mark 58 ∷ l) (groups_cut h gs mark rest small.1 is)
+    ∙ ap (λ (l : List Part). Run (hexadecimal g) ∷ Delimiter 58 ∷ l) (groups_cut h gs mark rest small.1 is)
 
 -- two octets are a group
 two_octets : (m : ℕ) → m / 256 % 256 * 256 + m % 256 ≡ m % 65536
@@ -65,17 +65,17 @@ small_group m = let h : m % 65536 < 65536 = mod-lt m (omega arith) in omega (ari
 range_cut : (len offset : ℕ) → len < 2 ^ 64 → offset < 2 ^ 64 → parts_of (decimal len ++ offset_text offset) ≡ Run (decimal len) ∷ offset_parts offset
 range_cut len offset small low = by (offset == 0)
   where
-    by : (b : Bool) → parts_of (decimal len ++ (if b then [] else 45 ∷ decimal offset)) ≡ Run (decimal len) ∷ (if b then [] else Mark 45 ∷ Run (decimal offset) ∷ [])
+    by : (b : Bool) → parts_of (decimal len ++ (if b then [] else 45 ∷ decimal offset)) ≡ Run (decimal len) ∷ (if b then [] else Delimiter 45 ∷ Run (decimal offset) ∷ [])
     by true = ap parts_of (append-nil (decimal len)) ∙ one_run (decimal len) (run_decimal len small)
     by false =
         run_mark (decimal len) (decimal offset) 45 (run_decimal len small) refl
-        ∙ ap (λ (l : List Part). Run (decimal len) ∷ Mark 45 ∷ l) (one_run (decimal offset) (run_decimal offset low))
+        ∙ ap (λ (l : List Part). Run (decimal len) ∷ Delimiter 45 ∷ l) (one_run (decimal offset) (run_decimal offset low))
 
 eight_cut : (a b c d e f g h mark : ℕ) (rest : List ℕ) → is_plain mark ≡ false
     → parts_of (
     groups_text ((a % 65536) ∷ (b % 65536) ∷ (c % 65536) ∷ (d % 65536) ∷ (e % 65536) ∷ (f % 65536) ∷ (g % 65536) ∷ (h % 65536) ∷ []) ++ mark ∷ rest
     )
-    ≡ group_parts (a % 65536) ((b % 65536) ∷ (c % 65536) ∷ (d % 65536) ∷ (e % 65536) ∷ (f % 65536) ∷ (g % 65536) ∷ (h % 65536) ∷ []) (Mark mark ∷ parts_of rest)
+    ≡ group_parts (a % 65536) ((b % 65536) ∷ (c % 65536) ∷ (d % 65536) ∷ (e % 65536) ∷ (f % 65536) ∷ (g % 65536) ∷ (h % 65536) ∷ []) (Delimiter mark ∷ parts_of rest)
 eight_cut a b c d e f g h mark rest is =
     groups_cut (a % 65536) ((b % 65536) ∷ (c % 65536) ∷ (d % 65536) ∷ (e % 65536) ∷ (f % 65536) ∷ (g % 65536) ∷ (h % 65536) ∷ []) mark rest
     (small_group a, (small_group b, (small_group c, (small_group d, (small_group e, (small_group f, (small_group g, (small_group h, tt)))))))) is
@@ -89,16 +89,16 @@ v6_runs len offset pattern small low = by (pattern / 2 ^ offset)
         ap (λ (l : List ℕ). parts_of (groups_text l ++ 47 ∷ (decimal len ++ offset_text offset))) (eight_groups n)
         ∙ eight_cut (n / 2 ^ 64 / 2 ^ 48) (n / 2 ^ 64 / 2 ^ 32) (n / 2 ^ 64 / 2 ^ 16) (n / 2 ^ 64) (n / 2 ^ 48) (n / 2 ^ 32) (n / 2 ^ 16) n 47
         (decimal len ++ offset_text offset) refl
-        ∙ ap (λ (l : List Part). wide_parts n (Mark 47 ∷ l)) (range_cut len offset small low)
+        ∙ ap (λ (l : List Part). wide_parts n (Delimiter 47 ∷ l)) (range_cut len offset small low)
 
 -- a length and an offset, by whether the offset is 0
 pub range_read : (parts : List Part) (r : Option (ℕ × ℕ))
-    → ((len : ℕ) → len < 256 → parts ≡ Mark 47 ∷ Run (decimal len) ∷ [] → r ≡ Some (len, 0))
-    → ((len offset : ℕ) → len < 256 → offset < 256 → parts ≡ Mark 47 ∷ Run (decimal len) ∷ Mark 45 ∷ Run (decimal offset) ∷ [] → r ≡ Some (len, offset))
+    → ((len : ℕ) → len < 256 → parts ≡ Delimiter 47 ∷ Run (decimal len) ∷ [] → r ≡ Some (len, 0))
+    → ((len offset : ℕ) → len < 256 → offset < 256 → parts ≡ Delimiter 47 ∷ Run (decimal len) ∷ Delimiter 45 ∷ Run (decimal offset) ∷ [] → r ≡ Some (len, offset))
     → (len offset : ℕ) → len < 256 → offset < 256 → parts ≡ range_parts len offset → r ≡ Some (len, offset)
 range_read parts r whole part len offset small low is = by (offset == 0) refl is
   where
-    by : (b : Bool) → (offset == 0) ≡ b → parts ≡ Mark 47 ∷ Run (decimal len) ∷ (if b then [] else Mark 45 ∷ Run (decimal offset) ∷ []) → r ≡ Some (len, offset)
+    by : (b : Bool) → (offset == 0) ≡ b → parts ≡ Delimiter 47 ∷ Run (decimal len) ∷ (if b then [] else Delimiter 45 ∷ Run (decimal offset) ∷ []) → r ≡ Some (len, offset)
     by true e p = whole len small p ∙ ap (λ (k : ℕ). let made : Option (ℕ × ℕ) = Some (len, k) in made) (sym (eqb-true offset 0 e))
     by false e p = part len offset small low p
 

@@ -1,6 +1,6 @@
 -- What is answered of whole words, and of texts.
-use Rattle.std.proofs.Common.{◌≡◌, ◌⊎◌, ⊎_elim, ℕ, ◌+◌, ◌<◌, ◌≤◌, List, [], ◌∷◌, ◌++◌, zero, suc, map, Result, Ok, Err, drop, length, refl, sym, ap, subst, ◌∙◌, arith}
-use Rattle.std.specs.Prelude.{IfErr, IfOk, codes}
+use Rattle.std.proofs.Common.{◌≡◌, ◌⊎◌, ⊎_elim, ℕ, ◌+◌, ◌<◌, List, [], ◌∷◌, ◌++◌, zero, suc, map, Result, Ok, Err, drop, length, refl, sym, ap, subst, ◌∙◌, arith}
+use Rattle.std.specs.Prelude.{IfOk, codes}
 use Rattle.std.specs.Result.{IsErrAnd}
 use Rattle.std.specs.List.{join_with_byte}
 use Rattle.std.proofs.lemmas.List.{map-append}
@@ -9,11 +9,11 @@ use Rattle.fs_base.specs.declared.prefix.Family.{Family}
 use Rattle.fs_nlri.specs.declared.component.Component.{Component}
 use Rattle.fs_nlri.specs.Component.{part_of, parts_of}
 use Rattle.fs_nlri.specs.Parts.{Part, Ruled, ruled}
-use Rattle.fs_nlri.specs.Rule.{IsRule, canonical_value}
+use Rattle.fs_nlri.specs.Rule.{IsRule}
 use Rattle.fs_text.specs.Text.{text_of, words_of}
 use Rattle.fs_parse.specs.Progress.{Acts, AreAll, Led}
 use Rattle.fs_parse.specs.Steps.{IsActionFault, IsNextPart, IsNoEnd, IsPartFault}
-use Rattle.fs_parse.specs.Text.{AreActions, IsBadWord, IsTextFault, IsWhole, IsWordFault, IsWordsFault, Makes, ReadsAs, ReadsWords, words_in}
+use Rattle.fs_parse.specs.Text.{AreActions, IsBadWord, IsWhole, IsWordFault, Makes, ReadsAs, ReadsWords, words_in}
 use Rattle.fs_parse.specs.declared.fault.TextFault.{TextFault}
 use Rattle.fs_parse.specs.declared.fault.TextFault.TheVariants.{Bad, TooLong, Memory}
 use Rattle.fs_parse.proofs.Acted.{acts_first, bad_action_name, bad_action_value, no_action}
@@ -116,27 +116,6 @@ reads_fault words (Bad place) bad = record {
 reads_fault words TooLong bad = absurd bad
 reads_fault words Memory bad = record { found = tt; exact = λ other said is are told. tt; fault = tt }
 
-pub reads_long : (words : List (List ℕ)) (family : Family) (parts : List Part) (actions : List (List ℕ)) (fault : TextFault) → IsWhole words family parts actions
-    → Makes family parts (Err fault) → ReadsWords words (Err fault)
-reads_long words family parts actions (Bad place) whole made = absurd made
-reads_long words family parts actions TooLong whole made = record {
-  found = tt;
-  exact = λ other said is are told.
-      let one = whole.only other.family other.parts said is.normal are told in
-      let fits : length (canonical_value parts) ≤ 4095 = subst (λ (p : List Part). length (canonical_value p) ≤ 4095) one.1 is.fits in
-      absurd (omega (arith, fits, made));
-  fault = record {
-    family = family;
-    parts = parts;
-    actions = actions;
-    normal = whole.normal;
-    actions_are = whole.actions_are;
-    words_are = whole.words_are;
-    long = made;
-  };
-}
-reads_long words family parts actions Memory whole made = record { found = tt; exact = λ other said is are told. tt; fault = tt }
-
 -- texts
 
 text_is : (text : List ℕ) (words : List (List ℕ)) → words_in text ≡ words → text ≡ join_with_byte 32 words
@@ -151,8 +130,3 @@ pub text_exact : (text : List ℕ) (words : List (List ℕ)) (r : Result (Ruled 
     → (rule : Ruled) (actions : List (List ℕ)) → IsRule rule → AreActions actions → text ≡ text_of rule actions → ReadsAs rule actions r
 text_exact text words r same reads rule actions is are told =
     reads.exact rule actions is are (same ∙ ap words_in told ∙ words_back rule.family rule.parts actions is.normal are)
-
-pub text_fault : (text : List ℕ) (words : List (List ℕ)) (r : Result (Ruled × List (List ℕ)) TextFault) → words ≡ words_in text → ReadsWords words r
-    → IfErr r (IsTextFault text)
-text_fault text words (Ok read) same reads = tt
-text_fault text words (Err fault) same reads = subst (λ (l : List (List ℕ)). IsWordsFault l fault) same reads.fault

@@ -7,7 +7,7 @@ use Rattle.std.specs.Prelude.{codes, decimal, slice_index}
 use Rattle.hex.specs.Hex.{encode_lower, encode_with, lower_digits}
 use Rattle.fs_base.specs.Language.{IsOctets}
 use Rattle.fs_base.proofs.Octets.{octets_head, octets_tail}
-use Rattle.fs_parse.specs.Pieces.{Part, Run, Mark, is_plain, parts_of, with_octet}
+use Rattle.fs_parse.specs.Pieces.{Part, Run, Delimiter, is_plain, parts_of, with_octet}
 use Rattle.fs_parse.specs.ActionParts.{ip4_parts}
 use Rattle.fs_parse.specs.PrefixParts.{v4_parts}
 use Rattle.fs_words.specs.Prefixes.{address_text, v4_text}
@@ -54,19 +54,19 @@ pub one_run : (run : List ℕ) → IsRun run → parts_of run ≡ Run run ∷ []
 one_run run is = ap parts_of (sym (append-nil run)) ∙ run_first is_plain run [] is.0 is.1 tt
 
 -- a run, a mark, and what stands behind
-pub run_mark : (run rest : List ℕ) (mark : ℕ) → IsRun run → is_plain mark ≡ false → parts_of (run ++ mark ∷ rest) ≡ Run run ∷ Mark mark ∷ parts_of rest
+pub run_mark : (run rest : List ℕ) (mark : ℕ) → IsRun run → is_plain mark ≡ false → parts_of (run ++ mark ∷ rest) ≡ Run run ∷ Delimiter mark ∷ parts_of rest
 run_mark run rest mark is e =
     run_first is_plain run (mark ∷ rest) is.0 is.1 e
-    ∙ ap (λ (b : Bool). Run run ∷ (if b then with_octet mark (parts_of rest) else Mark mark ∷ parts_of rest)) e
+    ∙ ap (λ (b : Bool). Run run ∷ (if b then with_octet mark (parts_of rest) else Delimiter mark ∷ parts_of rest)) e
 
-pub two_runs : (first last : List ℕ) → IsRun first → IsRun last → parts_of (first ++ (codes ":" ++ last)) ≡ Run first ∷ Mark 58 ∷ Run last ∷ []
-two_runs first last a b = run_mark first last 58 a refl ∙ ap (λ (l : List Part). Run first ∷ Mark 58 ∷ l) (one_run last b)
+pub two_runs : (first last : List ℕ) → IsRun first → IsRun last → parts_of (first ++ (codes ":" ++ last)) ≡ Run first ∷ Delimiter 58 ∷ Run last ∷ []
+two_runs first last a b = run_mark first last 58 a refl ∙ ap (λ (l : List Part). Run first ∷ Delimiter 58 ∷ l) (one_run last b)
 
 small_octet : (n k : ℕ) → n / k % 256 < 2 ^ 64
 small_octet n k = let h : n / k % 256 < 256 = mod-lt (n / k) (omega arith) in omega arith
 
 dotted : (a b c d n : List ℕ) (mark : ℕ) → is_plain mark ≡ false → IsRun a → IsRun b → IsRun c → IsRun d → IsRun n
-    → parts_of ((a ++ 46 ∷ (b ++ 46 ∷ (c ++ 46 ∷ d))) ++ mark ∷ n) ≡ Run a ∷ Mark 46 ∷ Run b ∷ Mark 46 ∷ Run c ∷ Mark 46 ∷ Run d ∷ Mark mark ∷ Run n ∷ []
+    → parts_of ((a ++ 46 ∷ (b ++ 46 ∷ (c ++ 46 ∷ d))) ++ mark ∷ n) ≡ Run a ∷ Delimiter 46 ∷ Run b ∷ Delimiter 46 ∷ Run c ∷ Delimiter 46 ∷ Run d ∷ Delimiter mark ∷ Run n ∷ []
 dotted a b c d n mark is p q r s t =
     let third : (c ++ 46 ∷ d) ++ mark ∷ n ≡ c ++ 46 ∷ (d ++ mark ∷ n) = append_assoc c (46 ∷ d) (mark ∷ n) in
     let second : (b ++ 46 ∷ (c ++ 46 ∷ d)) ++ mark ∷ n ≡ b ++ 46 ∷ (c ++ 46 ∷ (d ++ mark ∷ n)) =
@@ -74,16 +74,16 @@ dotted a b c d n mark is p q r s t =
     let first : (a ++ 46 ∷ (b ++ 46 ∷ (c ++ 46 ∷ d))) ++ mark ∷ n ≡ a ++ 46 ∷ (b ++ 46 ∷ (c ++ 46 ∷ (d ++ mark ∷ n))) =
     append_assoc a (46 ∷ (b ++ 46 ∷ (c ++ 46 ∷ d))) (mark ∷ n) ∙ ap (λ (l : List ℕ). a ++ 46 ∷ l) second in
     ap parts_of first ∙ run_mark a (b ++ 46 ∷ (c ++ 46 ∷ (d ++ mark ∷ n))) 46 p refl
-    ∙ ap (λ (l : List Part). Run a ∷ Mark 46 ∷ l) (run_mark b (c ++ 46 ∷ (d ++ mark ∷ n)) 46 q refl)
-    ∙ ap (λ (l : List Part). Run a ∷ Mark 46 ∷ Run b ∷ Mark 46 ∷ l) (run_mark c (d ++ mark ∷ n) 46 r refl)
-    ∙ ap (λ (l : List Part). Run a ∷ Mark 46 ∷ Run b ∷ Mark 46 ∷ Run c ∷ Mark 46 ∷ l) (run_mark d n mark s is)
-    ∙ ap (λ (l : List Part). Run a ∷ Mark 46 ∷ Run b ∷ Mark 46 ∷ Run c ∷ Mark 46 ∷ Run d ∷ Mark mark ∷ l) (one_run n t)
+    ∙ ap (λ (l : List Part). Run a ∷ Delimiter 46 ∷ l) (run_mark b (c ++ 46 ∷ (d ++ mark ∷ n)) 46 q refl)
+    ∙ ap (λ (l : List Part). Run a ∷ Delimiter 46 ∷ Run b ∷ Delimiter 46 ∷ l) (run_mark c (d ++ mark ∷ n) 46 r refl)
+    ∙ ap (λ (l : List Part). Run a ∷ Delimiter 46 ∷ Run b ∷ Delimiter 46 ∷ Run c ∷ Delimiter 46 ∷ l) (run_mark d n mark s is)
+    ∙ ap (λ (l : List Part). Run a ∷ Delimiter 46 ∷ Run b ∷ Delimiter 46 ∷ Run c ∷ Delimiter 46 ∷ Run d ∷ Delimiter mark ∷ l) (one_run n t)
 
 -- an address, a mark and a number
 address_runs : (address number mark : ℕ) → is_plain mark ≡ false → number < 2 ^ 64
     → parts_of (address_text address ++ mark ∷ decimal number)
-    ≡ Run (decimal (address / 2 ^ 24 % 256)) ∷ Mark 46 ∷ Run (decimal (address / 2 ^ 16 % 256)) ∷ Mark 46
-    ∷ Run (decimal (address / 2 ^ 8 % 256)) ∷ Mark 46 ∷ Run (decimal (address % 256)) ∷ Mark mark ∷ Run (decimal number) ∷ []
+    ≡ Run (decimal (address / 2 ^ 24 % 256)) ∷ Delimiter 46 ∷ Run (decimal (address / 2 ^ 16 % 256)) ∷ Delimiter 46
+    ∷ Run (decimal (address / 2 ^ 8 % 256)) ∷ Delimiter 46 ∷ Run (decimal (address % 256)) ∷ Delimiter mark ∷ Run (decimal number) ∷ []
 address_runs address number mark is small =
     dotted (decimal (address / 16777216 % 256)) (decimal (address / 65536 % 256)) (decimal (address / 256 % 256)) (decimal (address % 256)) (decimal number) mark is
     (run_decimal (address / 16777216 % 256) (small_octet address 16777216)) (run_decimal (address / 65536 % 256) (small_octet address 65536))

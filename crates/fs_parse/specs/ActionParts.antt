@@ -2,26 +2,26 @@
 use Rattle.std.specs.Prelude.{◌≡◌, ◌<◌, ◌/◌, ◌%◌, ◌^◌, ℕ, List, [], ◌∷◌, ◌++◌, Some, Option, decimal}
 use Rattle.byteorder.specs.Endian.{big_bytes}
 use Rattle.hex.specs.Hex.{encode_lower}
-use Rattle.fs_parse.specs.Pieces.{Part, Mark, Run}
+use Rattle.fs_parse.specs.Pieces.{Part, Delimiter, Run}
 
 abbrev pub rate_parts : (id figure : ℕ) → List Part
-rate_parts id figure = Run (decimal id) ∷ Mark 58 ∷ Run (encode_lower (big_bytes 4 figure)) ∷ []
+rate_parts id figure = Run (decimal id) ∷ Delimiter 58 ∷ Run (encode_lower (big_bytes 4 figure)) ∷ []
 
 abbrev pub plain_parts : ℕ → List Part
 plain_parts last = Run (decimal last) ∷ []
 
 abbrev pub pair_parts : (first last : ℕ) → List Part
-pair_parts first last = Run (decimal first) ∷ Mark 58 ∷ Run (decimal last) ∷ []
+pair_parts first last = Run (decimal first) ∷ Delimiter 58 ∷ Run (decimal last) ∷ []
 
 -- an address and a number
 abbrev pub ip4_parts : (address number : ℕ) → List Part
 ip4_parts address number =
-    Run (decimal (address / 2 ^ 24 % 256)) ∷ Mark 46 ∷ Run (decimal (address / 2 ^ 16 % 256)) ∷ Mark 46
-    ∷ Run (decimal (address / 2 ^ 8 % 256)) ∷ Mark 46 ∷ Run (decimal (address % 256)) ∷ Mark 58 ∷ Run (decimal number) ∷ []
+    Run (decimal (address / 2 ^ 24 % 256)) ∷ Delimiter 46 ∷ Run (decimal (address / 2 ^ 16 % 256)) ∷ Delimiter 46
+    ∷ Run (decimal (address / 2 ^ 8 % 256)) ∷ Delimiter 46 ∷ Run (decimal (address % 256)) ∷ Delimiter 58 ∷ Run (decimal number) ∷ []
 
 -- behind a word
 abbrev pub form_parts : List ℕ → List Part → List Part
-form_parts form parts = Run form ∷ Mark 58 ∷ parts
+form_parts form parts = Run form ∷ Delimiter 58 ∷ parts
 
 -- a type, sixteen bits and thirty-two
 abbrev pub short_octets : (kind first last : ℕ) → List ℕ

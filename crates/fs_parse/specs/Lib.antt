@@ -1,6 +1,6 @@
 pub mod Pieces
 pub mod Reading
-pub mod Shown
+pub mod Parts
 pub mod ActionWord
 pub mod ActionParts
 pub mod ListWord

@@ -8,17 +8,17 @@ is_plain octet = is_digit octet 36
 
 pub data Part : Type 0 where
   Run : List ℕ → Part
-  Mark : ℕ → Part
+  Delimiter : ℕ → Part
 
 -- an octet before these joins the run that stands first
 abbrev pub with_octet : ℕ → List Part → List Part
 with_octet octet [] = Run (octet ∷ []) ∷ []
 with_octet octet (Run run ∷ parts) = Run (octet ∷ run) ∷ parts
-with_octet octet (Mark mark ∷ parts) = Run (octet ∷ []) ∷ Mark mark ∷ parts
+with_octet octet (Delimiter mark ∷ parts) = Run (octet ∷ []) ∷ Delimiter mark ∷ parts
 
 abbrev pub parts_by : (ℕ → Bool) → List ℕ → List Part
 parts_by p [] = []
-parts_by p (octet ∷ text) = if p octet then with_octet octet (parts_by p text) else Mark octet ∷ parts_by p text
+parts_by p (octet ∷ text) = if p octet then with_octet octet (parts_by p text) else Delimiter octet ∷ parts_by p text
 
 abbrev pub parts_of : List ℕ → List Part
 parts_of text = parts_by is_plain text

@@ -5,29 +5,29 @@ use Rattle.fs_base.specs.Bits.{cleared}
 use Rattle.fs_nlri.specs.Parts.{Body, V4Body, V6Body}
 use Rattle.fs_nlri.specs.Spelling.{IsRange}
 use Rattle.fs_words.specs.Figures.{hexadecimal}
-use Rattle.fs_parse.specs.Pieces.{Part, Mark, Run}
+use Rattle.fs_parse.specs.Pieces.{Part, Delimiter, Run}
 
 -- an address and a length
 abbrev pub v4_parts : (len bits : ℕ) → List Part
 v4_parts len bits =
-    Run (decimal (bits / 2 ^ 24 % 256)) ∷ Mark 46 ∷ Run (decimal (bits / 2 ^ 16 % 256)) ∷ Mark 46
-    ∷ Run (decimal (bits / 2 ^ 8 % 256)) ∷ Mark 46 ∷ Run (decimal (bits % 256)) ∷ Mark 47 ∷ Run (decimal len) ∷ []
+    Run (decimal (bits / 2 ^ 24 % 256)) ∷ Delimiter 46 ∷ Run (decimal (bits / 2 ^ 16 % 256)) ∷ Delimiter 46
+    ∷ Run (decimal (bits / 2 ^ 8 % 256)) ∷ Delimiter 46 ∷ Run (decimal (bits % 256)) ∷ Delimiter 47 ∷ Run (decimal len) ∷ []
 
 -- the last four groups of an IPv6 address, and what stands behind them
 abbrev pub half_parts : ℕ → List Part → List Part
 half_parts address rest =
-    Run (hexadecimal (address / 2 ^ 48 % 2 ^ 16)) ∷ Mark 58 ∷ Run (hexadecimal (address / 2 ^ 32 % 2 ^ 16)) ∷ Mark 58
-    ∷ Run (hexadecimal (address / 2 ^ 16 % 2 ^ 16)) ∷ Mark 58 ∷ Run (hexadecimal (address % 2 ^ 16)) ∷ rest
+    Run (hexadecimal (address / 2 ^ 48 % 2 ^ 16)) ∷ Delimiter 58 ∷ Run (hexadecimal (address / 2 ^ 32 % 2 ^ 16)) ∷ Delimiter 58
+    ∷ Run (hexadecimal (address / 2 ^ 16 % 2 ^ 16)) ∷ Delimiter 58 ∷ Run (hexadecimal (address % 2 ^ 16)) ∷ rest
 
 abbrev pub wide_parts : ℕ → List Part → List Part
-wide_parts address rest = half_parts (address / 2 ^ 64) (Mark 58 ∷ half_parts address rest)
+wide_parts address rest = half_parts (address / 2 ^ 64) (Delimiter 58 ∷ half_parts address rest)
 
 -- a length, and an offset that isn't 0
 abbrev pub offset_parts : ℕ → List Part
-offset_parts offset = if offset == 0 then [] else Mark 45 ∷ Run (decimal offset) ∷ []
+offset_parts offset = if offset == 0 then [] else Delimiter 45 ∷ Run (decimal offset) ∷ []
 
 abbrev pub range_parts : (len offset : ℕ) → List Part
-range_parts len offset = Mark 47 ∷ Run (decimal len) ∷ offset_parts offset
+range_parts len offset = Delimiter 47 ∷ Run (decimal len) ∷ offset_parts offset
 
 -- what is read of the parts of an IPv4 prefix
 abbrev pub GivesV4 : List Part → Option Body → Type 0

@@ -8,9 +8,9 @@ ghost use Rattle.fs_actions.specs.Community.{IsAction};
 ghost use Rattle.fs_words.specs.Actions.{action_name, action_text};
 ghost use Rattle.fs_parse.specs.ActionParts.{Gives, GivesPlain, form_parts, ip4_parts, long_octets, pair_parts, plain_parts, rate_parts, short_octets};
 ghost use Rattle.fs_parse.specs.ActionWord.{Compared, IsNamed};
-ghost use Rattle.fs_parse.specs.Pieces.{Mark, Part, Run, parts_of};
+ghost use Rattle.fs_parse.specs.Pieces.{Delimiter, Part, Run, parts_of};
 ghost use Rattle.fs_parse.specs.Reading.{Reads};
-ghost use Rattle.fs_parse.specs.Shown.{shown};
+ghost use Rattle.fs_parse.specs.Parts.{as_part};
 
 use crate::figures::{loose_address, loose_decimal, loose_figure};
 use crate::parts::{Piece, parts_of};
@@ -44,11 +44,11 @@ fn octets_of(kind: u16, first: u16, last: u32) -> [u8; 8]
 /// The octets of a traffic-rate of this type.
 fn loose_rate(kind: u16, parts: &[Piece<'_>]) -> Option<[u8; 8]>
     ensures { (id figure : ℕ) → id < 2 ^ 16 → figure < 2 ^ 32
-        → map shown parts.now ≡ Run (decimal id) ∷ Mark 58 ∷ Run (encode_lower (big_bytes 4 figure)) ∷ []
+        → map as_part parts.now ≡ Run (decimal id) ∷ Delimiter 58 ∷ Run (encode_lower (big_bytes 4 figure)) ∷ []
         → result ≡ Some (big_bytes 2 kind ++ (big_bytes 2 id ++ big_bytes 4 figure)) }
 {
     match parts {
-        [Piece::Run(id), Piece::Mark(b':'), Piece::Run(figure)] => {
+        [Piece::Run(id), Piece::Delimiter(b':'), Piece::Run(figure)] => {
             match (loose_short(id), loose_figure(figure)) {
                 (Some(id), Some(figure)) => Some(octets_of(kind, id, figure)),
                 _ => None,
@@ -60,7 +60,7 @@ fn loose_rate(kind: u16, parts: &[Piece<'_>]) -> Option<[u8; 8]>
 
 /// The octets of a traffic-action or a traffic-marking.
 fn loose_plain(kind: u16, parts: &[Piece<'_>]) -> Option<[u8; 8]>
-    ensures { (last : ℕ) → last < 256 → map shown parts.now ≡ Run (decimal last) ∷ []
+    ensures { (last : ℕ) → last < 256 → map as_part parts.now ≡ Run (decimal last) ∷ []
         → result ≡ Some (big_bytes 2 kind ++ (big_bytes 2 0 ++ big_bytes 4 last)) }
 {
     match parts {
@@ -95,10 +95,10 @@ fn loose_long(word: &[u8]) -> Option<u32>
 
 /// The octets of an rt-redirect with a two-octet AS number.
 fn loose_as2(parts: &[Piece<'_>]) -> Option<[u8; 8]>
-    ensures { Gives (2 ^ 16) (2 ^ 32) pair_parts (short_octets 0x8008) (map shown parts.now) result }
+    ensures { Gives (2 ^ 16) (2 ^ 32) pair_parts (short_octets 0x8008) (map as_part parts.now) result }
 {
     match parts {
-        [Piece::Run(asn), Piece::Mark(b':'), Piece::Run(number)] => {
+        [Piece::Run(asn), Piece::Delimiter(b':'), Piece::Run(number)] => {
             match (loose_short(asn), loose_long(number)) {
                 (Some(asn), Some(number)) => Some(octets_of(0x8008, asn, number)),
                 _ => None,
@@ -110,10 +110,10 @@ fn loose_as2(parts: &[Piece<'_>]) -> Option<[u8; 8]>
 
 /// The octets of an rt-redirect with a four-octet AS number.
 fn loose_as4(parts: &[Piece<'_>]) -> Option<[u8; 8]>
-    ensures { Gives (2 ^ 32) (2 ^ 16) pair_parts (long_octets 0x8208) (map shown parts.now) result }
+    ensures { Gives (2 ^ 32) (2 ^ 16) pair_parts (long_octets 0x8208) (map as_part parts.now) result }
 {
     match parts {
-        [Piece::Run(asn), Piece::Mark(b':'), Piece::Run(number)] => {
+        [Piece::Run(asn), Piece::Delimiter(b':'), Piece::Run(number)] => {
             match (loose_long(asn), loose_short(number)) {
                 (Some(asn), Some(number)) => Some(octets_with(0x8208, asn, number)),
                 _ => None,
@@ -125,18 +125,18 @@ fn loose_as4(parts: &[Piece<'_>]) -> Option<[u8; 8]>
 
 /// The octets of an rt-redirect with an IPv4 address.
 fn loose_ip4(parts: &[Piece<'_>]) -> Option<[u8; 8]>
-    ensures { Gives (2 ^ 32) (2 ^ 16) ip4_parts (long_octets 0x8108) (map shown parts.now) result }
+    ensures { Gives (2 ^ 32) (2 ^ 16) ip4_parts (long_octets 0x8108) (map as_part parts.now) result }
 {
     match parts {
         [
             Piece::Run(a),
-            Piece::Mark(b'.'),
+            Piece::Delimiter(b'.'),
             Piece::Run(b),
-            Piece::Mark(b'.'),
+            Piece::Delimiter(b'.'),
             Piece::Run(c),
-            Piece::Mark(b'.'),
+            Piece::Delimiter(b'.'),
             Piece::Run(d),
-            Piece::Mark(b':'),
+            Piece::Delimiter(b':'),
             Piece::Run(number),
         ] => {
             match (loose_address(a, b, c, d), loose_short(number)) {
@@ -151,11 +151,11 @@ fn loose_ip4(parts: &[Piece<'_>]) -> Option<[u8; 8]>
 /// The octets of an rt-redirect of this form.
 fn loose_form(form: &[u8], parts: &[Piece<'_>]) -> Option<[u8; 8]>
     ensures as2 { form.now ≡ codes "as2"
-        → Gives (2 ^ 16) (2 ^ 32) pair_parts (short_octets 0x8008) (map shown parts.now) result }
+        → Gives (2 ^ 16) (2 ^ 32) pair_parts (short_octets 0x8008) (map as_part parts.now) result }
     ensures ip4 { form.now ≡ codes "ip4"
-        → Gives (2 ^ 32) (2 ^ 16) ip4_parts (long_octets 0x8108) (map shown parts.now) result }
+        → Gives (2 ^ 32) (2 ^ 16) ip4_parts (long_octets 0x8108) (map as_part parts.now) result }
     ensures as4 { form.now ≡ codes "as4"
-        → Gives (2 ^ 32) (2 ^ 16) pair_parts (long_octets 0x8208) (map shown parts.now) result }
+        → Gives (2 ^ 32) (2 ^ 16) pair_parts (long_octets 0x8208) (map as_part parts.now) result }
 {
     match form {
         b"as2" => loose_as2(parts),
@@ -167,15 +167,15 @@ fn loose_form(form: &[u8], parts: &[Piece<'_>]) -> Option<[u8; 8]>
 
 /// The octets of an rt-redirect.
 fn loose_target(parts: &[Piece<'_>]) -> Option<[u8; 8]>
-    ensures as2 { (rest : List Part) → map shown parts.now ≡ form_parts (codes "as2") rest
+    ensures as2 { (rest : List Part) → map as_part parts.now ≡ form_parts (codes "as2") rest
         → Gives (2 ^ 16) (2 ^ 32) pair_parts (short_octets 0x8008) rest result }
-    ensures ip4 { (rest : List Part) → map shown parts.now ≡ form_parts (codes "ip4") rest
+    ensures ip4 { (rest : List Part) → map as_part parts.now ≡ form_parts (codes "ip4") rest
         → Gives (2 ^ 32) (2 ^ 16) ip4_parts (long_octets 0x8108) rest result }
-    ensures as4 { (rest : List Part) → map shown parts.now ≡ form_parts (codes "as4") rest
+    ensures as4 { (rest : List Part) → map as_part parts.now ≡ form_parts (codes "as4") rest
         → Gives (2 ^ 32) (2 ^ 16) pair_parts (long_octets 0x8208) rest result }
 {
     match parts {
-        [Piece::Run(form), Piece::Mark(b':'), rest @ ..] => loose_form(form, rest),
+        [Piece::Run(form), Piece::Delimiter(b':'), rest @ ..] => loose_form(form, rest),
         _ => None,
     }
 }
@@ -183,19 +183,19 @@ fn loose_target(parts: &[Piece<'_>]) -> Option<[u8; 8]>
 /// The octets of the action of this name whose word has these parts, by the forms of words.
 fn loose_octets(name: &str, parts: &[Piece<'_>]) -> Option<[u8; 8]>
     ensures bytes { name.now ≡ codes "bytes"
-        → Gives (2 ^ 16) (2 ^ 32) rate_parts (short_octets 0x8006) (map shown parts.now) result }
+        → Gives (2 ^ 16) (2 ^ 32) rate_parts (short_octets 0x8006) (map as_part parts.now) result }
     ensures packets { name.now ≡ codes "packets"
-        → Gives (2 ^ 16) (2 ^ 32) rate_parts (short_octets 0x800c) (map shown parts.now) result }
-    ensures control { name.now ≡ codes "control" → GivesPlain 0x8007 (map shown parts.now) result }
-    ensures mark { name.now ≡ codes "mark" → GivesPlain 0x8009 (map shown parts.now) result }
+        → Gives (2 ^ 16) (2 ^ 32) rate_parts (short_octets 0x800c) (map as_part parts.now) result }
+    ensures control { name.now ≡ codes "control" → GivesPlain 0x8007 (map as_part parts.now) result }
+    ensures mark { name.now ≡ codes "mark" → GivesPlain 0x8009 (map as_part parts.now) result }
     ensures as2 { name.now ≡ codes "redirect"
-        → (rest : List Part) → map shown parts.now ≡ form_parts (codes "as2") rest
+        → (rest : List Part) → map as_part parts.now ≡ form_parts (codes "as2") rest
         → Gives (2 ^ 16) (2 ^ 32) pair_parts (short_octets 0x8008) rest result }
     ensures ip4 { name.now ≡ codes "redirect"
-        → (rest : List Part) → map shown parts.now ≡ form_parts (codes "ip4") rest
+        → (rest : List Part) → map as_part parts.now ≡ form_parts (codes "ip4") rest
         → Gives (2 ^ 32) (2 ^ 16) ip4_parts (long_octets 0x8108) rest result }
     ensures as4 { name.now ≡ codes "redirect"
-        → (rest : List Part) → map shown parts.now ≡ form_parts (codes "as4") rest
+        → (rest : List Part) → map as_part parts.now ≡ form_parts (codes "as4") rest
         → Gives (2 ^ 32) (2 ^ 16) pair_parts (long_octets 0x8208) rest result }
 {
     match name {
@@ -210,7 +210,7 @@ fn loose_octets(name: &str, parts: &[Piece<'_>]) -> Option<[u8; 8]>
 
 /// The octets of the action of this name whose word has these parts.
 fn loose_action(name: &str, parts: &[Piece<'_>]) -> Option<[u8; 8]>
-    ensures { (action : List ℕ) → IsNamed name.now action → map shown parts.now ≡ parts_of (action_text action)
+    ensures { (action : List ℕ) → IsNamed name.now action → map as_part parts.now ≡ parts_of (action_text action)
         → result ≡ Some action }
 {
     loose_octets(name, parts)

@@ -216,12 +216,12 @@ fn loose_pair(kind: Kind, text: &[u8]) -> Option<(u8, u64)>
     }
 }
 
-/// The AND bit of an operator behind this mark.
-fn and_bit(mark: u8) -> u8
-    ensures value { result ≡ (if mark == 38 then 64 else 0) }
+/// The AND bit of an operator behind this delimiter.
+fn and_bit(delimiter: u8) -> u8
+    ensures value { result ≡ (if delimiter == 38 then 64 else 0) }
     ensures small { result ≤ 64 }
 {
-    if mark == b'&' { 64 } else { 0 }
+    if delimiter == b'&' { 64 } else { 0 }
 }
 
 /// The text of a pair, and what stands behind it.
@@ -255,9 +255,9 @@ pub(crate) fn loose_pairs(
                 pairs.push((plain + joined + 128, value))?;
                 return Ok(Some(pairs));
             }
-            Some((mark, others)) => {
+            Some((delimiter, others)) => {
                 pairs.push((plain + joined, value))?;
-                joined = and_bit(*mark);
+                joined = and_bit(*delimiter);
                 rest = others;
             }
         }

@@ -3,7 +3,7 @@
 ghost use Rattle.std.specs.Prelude.{◌≡◌, ◌<◌, ◌≤◌, ◌∷◌, length, map, IfOk};
 ghost use Rattle.std.specs.List.{prefix_len};
 ghost use Rattle.fs_parse.specs.Pieces.{is_plain, parts_of};
-ghost use Rattle.fs_parse.specs.Shown.{shown};
+ghost use Rattle.fs_parse.specs.Parts.{as_part};
 
 use fs_base::Memory;
 use std::alloc::Global;
@@ -14,7 +14,7 @@ pub enum Piece<'a> {
     /// Letters and digits.
     Run(&'a [u8]),
     /// An octet of another kind.
-    Mark(u8),
+    Delimiter(u8),
 }
 
 /// Whether an octet is a letter or a digit.
@@ -40,11 +40,11 @@ pub(crate) fn run_len(text: &[u8]) -> usize
 fn first_part(text: &[u8]) -> (Piece<'_>, &[u8])
     requires { 0 < length text.now }
     ensures shorter { length result.1.now < length text.now }
-    ensures first { parts_of text.now ≡ shown result.0 ∷ parts_of result.1.now }
+    ensures first { parts_of text.now ≡ as_part result.0 ∷ parts_of result.1.now }
 {
     let len = run_len(text);
     if len == 0 {
-        (Piece::Mark(text[0]), &text[1..])
+        (Piece::Delimiter(text[0]), &text[1..])
     } else {
         (Piece::Run(&text[..len]), &text[len..])
     }
@@ -52,7 +52,7 @@ fn first_part(text: &[u8]) -> (Piece<'_>, &[u8])
 
 /// The parts of a word.
 pub(crate) fn parts_of(alloc: Global, word: &[u8]) -> Result<Vec<Piece<'_>>, Memory>
-    ensures { IfOk result (λ parts. map shown parts.items ≡ parts_of word.now) }
+    ensures { IfOk result (λ parts. map as_part parts.items ≡ parts_of word.now) }
 {
     let mut parts = Vec::new(alloc);
     let mut rest = word;

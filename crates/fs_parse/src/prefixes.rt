@@ -11,9 +11,9 @@ ghost use Rattle.fs_nlri.specs.Rule.{IsNormalBody};
 ghost use Rattle.fs_nlri.specs.Spelling.{IsRange};
 ghost use Rattle.fs_words.specs.Figures.{hexadecimal};
 ghost use Rattle.fs_words.specs.Values.{body_text};
-ghost use Rattle.fs_parse.specs.Pieces.{Mark, Part, Run, parts_of};
+ghost use Rattle.fs_parse.specs.Pieces.{Delimiter, Part, Run, parts_of};
 ghost use Rattle.fs_parse.specs.PrefixParts.{GivesV4, GivesV6, half_parts, range_parts, v4_parts, wide_parts};
-ghost use Rattle.fs_parse.specs.Shown.{shown};
+ghost use Rattle.fs_parse.specs.Parts.{as_part};
 
 use crate::figures::{loose_address, loose_group, loose_octet};
 use crate::parts::Piece;
@@ -32,19 +32,19 @@ fn v4_form(address: u32, length: u8) -> Option<PrefixForm>
 
 /// The address and the length of these parts.
 fn loose_dotted(parts: &[Piece<'_>]) -> Option<(u32, u8)>
-    ensures { (len bits : ℕ) → len < 256 → bits < 2 ^ 32 → map shown parts.now ≡ v4_parts len bits
+    ensures { (len bits : ℕ) → len < 256 → bits < 2 ^ 32 → map as_part parts.now ≡ v4_parts len bits
         → result ≡ Some (bits, len) }
 {
     match parts {
         [
             Piece::Run(a),
-            Piece::Mark(b'.'),
+            Piece::Delimiter(b'.'),
             Piece::Run(b),
-            Piece::Mark(b'.'),
+            Piece::Delimiter(b'.'),
             Piece::Run(c),
-            Piece::Mark(b'.'),
+            Piece::Delimiter(b'.'),
             Piece::Run(d),
-            Piece::Mark(b'/'),
+            Piece::Delimiter(b'/'),
             Piece::Run(length),
         ] => match (loose_address(a, b, c, d), loose_octet(length)) {
             (Some(address), Some(length)) => Some((address, length)),
@@ -56,7 +56,7 @@ fn loose_dotted(parts: &[Piece<'_>]) -> Option<(u32, u8)>
 
 /// The IPv4 prefix of these parts.
 fn loose_v4(parts: &[Piece<'_>]) -> Option<PrefixForm>
-    ensures { GivesV4 (map shown parts.now) (option_map body_of result) }
+    ensures { GivesV4 (map as_part parts.now) (option_map body_of result) }
 {
     match loose_dotted(parts) {
         Some((address, length)) => v4_form(address, length),
@@ -92,10 +92,10 @@ fn loose_groups(a: &[u8], b: &[u8], c: &[u8], d: &[u8]) -> Option<u64>
 
 /// A length and an offset, by the number of their parts.
 fn loose_ends(parts: &[Piece<'_>]) -> Option<(u8, u8)>
-    ensures whole { (len : ℕ) → len < 256 → map shown parts.now ≡ Mark 47 ∷ Run (decimal len) ∷ []
+    ensures whole { (len : ℕ) → len < 256 → map as_part parts.now ≡ Delimiter 47 ∷ Run (decimal len) ∷ []
         → result ≡ Some (len, 0) }
     ensures part { (len offset : ℕ) → len < 256 → offset < 256
-        → map shown parts.now ≡ Mark 47 ∷ Run (decimal len) ∷ Mark 45 ∷ Run (decimal offset) ∷ []
+        → map as_part parts.now ≡ Delimiter 47 ∷ Run (decimal len) ∷ Delimiter 45 ∷ Run (decimal offset) ∷ []
         → result ≡ Some (len, offset) }
 {
     match parts {
@@ -115,7 +115,7 @@ fn loose_ends(parts: &[Piece<'_>]) -> Option<(u8, u8)>
 
 /// A length, and an offset, which may be left out where it is 0.
 fn loose_range(parts: &[Piece<'_>]) -> Option<(u8, u8)>
-    ensures { (len offset : ℕ) → len < 256 → offset < 256 → map shown parts.now ≡ range_parts len offset
+    ensures { (len offset : ℕ) → len < 256 → offset < 256 → map as_part parts.now ≡ range_parts len offset
         → result ≡ Some (len, offset) }
 {
     loose_ends(parts)
@@ -146,18 +146,18 @@ fn whole(high: u64, low: u64) -> u128
 
 /// The number of the first four groups, and the parts behind them.
 fn loose_half<'a>(parts: &'a [Piece<'a>]) -> Option<(u64, &'a [Piece<'a>])>
-    ensures some { IfSome result (λ read. (n : ℕ) → (rest : List Part) → map shown parts.now ≡ half_parts n rest
-        → (read.0 ≡ n % 2 ^ 64) × (map shown read.1.now ≡ rest)) }
-    ensures none { IfNone result ((n : ℕ) → (rest : List Part) → map shown parts.now ≡ half_parts n rest → ⊥) }
+    ensures some { IfSome result (λ read. (n : ℕ) → (rest : List Part) → map as_part parts.now ≡ half_parts n rest
+        → (read.0 ≡ n % 2 ^ 64) × (map as_part read.1.now ≡ rest)) }
+    ensures none { IfNone result ((n : ℕ) → (rest : List Part) → map as_part parts.now ≡ half_parts n rest → ⊥) }
 {
     match parts {
         [
             Piece::Run(a),
-            Piece::Mark(b':'),
+            Piece::Delimiter(b':'),
             Piece::Run(b),
-            Piece::Mark(b':'),
+            Piece::Delimiter(b':'),
             Piece::Run(c),
-            Piece::Mark(b':'),
+            Piece::Delimiter(b':'),
             Piece::Run(d),
             rest @ ..,
         ] => match loose_groups(a, b, c, d) {
@@ -171,7 +171,7 @@ fn loose_half<'a>(parts: &'a [Piece<'a>]) -> Option<(u64, &'a [Piece<'a>])>
 /// The low half of an address, a length and an offset.
 fn loose_behind(parts: &[Piece<'_>]) -> Option<(u64, (u8, u8))>
     ensures { (n len offset : ℕ) → len < 256 → offset < 256
-        → map shown parts.now ≡ half_parts n (range_parts len offset)
+        → map as_part parts.now ≡ half_parts n (range_parts len offset)
         → result ≡ Some (n % 2 ^ 64, (len, offset)) }
 {
     match loose_half(parts) {
@@ -186,11 +186,11 @@ fn loose_behind(parts: &[Piece<'_>]) -> Option<(u64, (u8, u8))>
 /// The same behind a colon.
 fn loose_low(parts: &[Piece<'_>]) -> Option<(u64, (u8, u8))>
     ensures { (n len offset : ℕ) → len < 256 → offset < 256
-        → map shown parts.now ≡ Mark 58 ∷ half_parts n (range_parts len offset)
+        → map as_part parts.now ≡ Delimiter 58 ∷ half_parts n (range_parts len offset)
         → result ≡ Some (n % 2 ^ 64, (len, offset)) }
 {
     match parts {
-        [Piece::Mark(b':'), rest @ ..] => loose_behind(rest),
+        [Piece::Delimiter(b':'), rest @ ..] => loose_behind(rest),
         _ => None,
     }
 }
@@ -198,7 +198,7 @@ fn loose_low(parts: &[Piece<'_>]) -> Option<(u64, (u8, u8))>
 /// An address, a length and an offset.
 fn loose_wide(parts: &[Piece<'_>]) -> Option<(u128, (u8, u8))>
     ensures { (n len offset : ℕ) → n < 2 ^ 128 → len < 256 → offset < 256
-        → map shown parts.now ≡ wide_parts n (range_parts len offset) → result ≡ Some (n, (len, offset)) }
+        → map as_part parts.now ≡ wide_parts n (range_parts len offset) → result ≡ Some (n, (len, offset)) }
 {
     match loose_half(parts) {
         Some((high, rest)) => match loose_low(rest) {
@@ -211,7 +211,7 @@ fn loose_wide(parts: &[Piece<'_>]) -> Option<(u128, (u8, u8))>
 
 /// The IPv6 prefix of these parts.
 fn loose_v6(parts: &[Piece<'_>]) -> Option<PrefixForm>
-    ensures { GivesV6 (map shown parts.now) (option_map body_of result) }
+    ensures { GivesV6 (map as_part parts.now) (option_map body_of result) }
 {
     match loose_wide(parts) {
         Some((address, (length, offset))) => v6_form(address, length, offset),
@@ -222,7 +222,7 @@ fn loose_v6(parts: &[Piece<'_>]) -> Option<PrefixForm>
 /// The prefix of the family that has these parts.
 pub(crate) fn loose_prefix(family: Family, parts: &[Piece<'_>]) -> Option<PrefixForm>
     ensures { (body : Body) → IsNormalBody (prefix_form family) body
-        → map shown parts.now ≡ parts_of (body_text 1 body) → option_map body_of result ≡ Some body }
+        → map as_part parts.now ≡ parts_of (body_text 1 body) → option_map body_of result ≡ Some body }
 {
     match family {
         Family::V4 => loose_v4(parts),

@@ -16,18 +16,18 @@ use Rattle.fs_pcap.specs.Laws.{Fits, after, octets_of, packet_text, stands}
 use Rattle.fs_pcap.specs.Order.{number, time_of}
 use Rattle.fs_pcap.specs.declared.fault.CaptureReason.TheVariants.{RecordTooLong}
 use Rattle.fs_pcap.specs.declared.head.Said.{Said}
-use Rattle.fs_pcap.specs.declared.head.Standing.{Standing}
+use Rattle.fs_pcap.specs.declared.head.Context.{Context}
 use Rattle.fs_pcap.specs.declared.order.Endian.{Endian}
 use Rattle.fs_pcap.specs.declared.order.Unit.{Unit as FractionUnit}
 use Rattle.fs_pcap.proofs.Headings.{number_below, number_read, number_written, octets_count}
 
 -- the fields of a whole head
-record IsHeadOf (now : Standing) (head : List ℕ) (said : Said) (size : ℕ) : Type 0 where
+record IsHeadOf (now : Context) (head : List ℕ) (said : Said) (size : ℕ) : Type 0 where
   pub said_is : said_in now head ≡ said
   pub size_is : number now.order 4 (drop 8 head) ≡ size
   pub small : size ≤ 262144
 
-head_told : (now : Standing) (head : List ℕ) (said : Said) (size : ℕ) → head_of now head ≡ Whole said size → IsHeadOf now head said size
+head_told : (now : Context) (head : List ℕ) (said : Said) (size : ℕ) → head_of now head ≡ Whole said size → IsHeadOf now head said size
 head_told now head said size h =
     by (nat_lt (length head) 12) (nat_lt 262144 (number now.order 4 (drop 8 head))) (nat_lt (length head) 16) refl h
   where
@@ -46,7 +46,7 @@ head_told now head said size h =
         let most : number now.order 4 (drop 8 head) ≤ 262144 = grind (arith, nat_tests) in
         record { said_is = (cc); size_is = same; small = (omega (arith, same, most)) }
 
-head_known : (now : Standing) (head : List ℕ) (said : Said) (size : ℕ) → length head ≡ 16 → IsHeadOf now head said size
+head_known : (now : Context) (head : List ℕ) (said : Said) (size : ℕ) → length head ≡ 16 → IsHeadOf now head said size
     → head_of now head ≡ Whole said size
 head_known now head said size sixteen h =
     let small : size ≤ 262144 = h.small in
@@ -117,7 +117,7 @@ packet_spelled now found are h =
     payload (drop one.size behind)
     ∙ ap (λ t. t ++ drop one.size behind) (sym (said_text order said one.size payload long)) in
     let item : packet_of said payload ≡ found.0 = ap (λ s. packet_of s payload) told.said_is ∙ one.item in
-    let rest : drop one.size behind ≡ found.1.octets = drop-drop one.size 16 octets ∙ ap (λ (a : At Standing). a.octets) one.behind in
+    let rest : drop one.size behind ≡ found.1.octets = drop-drop one.size 16 octets ∙ ap (λ (a : At Context). a.octets) one.behind in
     let fits : Fits now.state (packet_of said payload) = record {
       seconds = number_below order 4 head (octets_take 16 octets are);
       fraction = number_below order 4 (drop 4 head) (octets_drop 4 head (octets_take 16 octets are));
@@ -125,7 +125,7 @@ packet_spelled now found are h =
       captured = (omega (arith, long, told.small));
       moment_is = refl;
     } in
-    let moved : stands order now.state.unit one.said.moment ≡ found.1.state = ap (λ (a : At Standing). a.state) one.behind in (
+    let moved : stands order now.state.unit one.said.moment ≡ found.1.state = ap (λ (a : At Context). a.state) one.behind in (
       text ∙ ap (λ packet. packet_text order packet ++ drop one.size behind) item ∙ ap (λ more. packet_text order found.0 ++ more) rest,
       subst (Fits now.state) item fits,
       sym moved ∙ ap (λ (packet : Captured). stands order now.state.unit packet.moment) one.item,
@@ -150,7 +150,7 @@ parted a b c d payload rest p q r s =
     }
 
 -- the four numbers of a head
-numbers_read : (now : Standing) (seconds fraction size original moment : ℕ) → seconds < 256 ^ 4 → fraction < 256 ^ 4 → size ≤ 262144
+numbers_read : (now : Context) (seconds fraction size original moment : ℕ) → seconds < 256 ^ 4 → fraction < 256 ^ 4 → size ≤ 262144
     → original < 256 ^ 4 → moment ≡ max now.moment (time_of now.unit seconds fraction)
     → (head : List ℕ)
     → head ≡ octets_of now.order 4 seconds ++ (octets_of now.order 4 fraction ++ (octets_of now.order 4 size ++ octets_of now.order 4 original))
@@ -211,7 +211,7 @@ packet_read now packet rest fits =
 
 -- the order stays, so the text of the packets is that of each
 pub texts : (order : Endian) (unit : FractionUnit) (moment : ℕ) (packets : List Captured)
-    → text_from (λ (now : Standing) (packet : Captured). packet_text now.order packet) after (stands order unit moment) packets
+    → text_from (λ (now : Context) (packet : Captured). packet_text now.order packet) after (stands order unit moment) packets
     ≡ flat_map (packet_text order) packets
 texts order unit moment [] = refl
 texts order unit moment (packet ∷ packets) = ap (λ more. packet_text order packet ++ more) (texts order unit packet.moment packets)

@@ -16,7 +16,7 @@ use Rattle.fs_pcap.specs.Header.{header_of}
 use Rattle.fs_pcap.specs.Laws.{Fits, HeaderWords, IsCaptureOf, IsHeaderOf, ReadsBack, after, header_text, packet_text, stands}
 use Rattle.fs_pcap.specs.declared.fault.CaptureReason.{CaptureReason}
 use Rattle.fs_pcap.specs.declared.fault.CaptureReason.TheVariants.{Cut}
-use Rattle.fs_pcap.specs.declared.head.Standing.{Standing}
+use Rattle.fs_pcap.specs.declared.head.Context.{Context}
 use Rattle.fs_pcap.specs.declared.header.Heading.{Heading}
 use Rattle.fs_pcap.specs.declared.link.Link.{Link}
 use Rattle.fs_pcap.specs.declared.order.Endian.{Endian}
@@ -38,7 +38,7 @@ all_taken n octets within = grind (arith, common_steps)
 has_head : HasHead records
 has_head now = omega arith
 
-empty_head : (now : Standing) → records.head_of now [] ≡ Partial
+empty_head : (now : Context) → records.head_of now [] ≡ Partial
 empty_head now = by now.order
   where
     by : (order : Endian) → records.head_of (stands order now.unit now.moment) [] ≡ Partial
@@ -61,7 +61,7 @@ header_opens order unit link words limit body h below =
     ∙ ap (opened_by Cut (nat_le limit (length content)) (length (header_text order words)))
     (heading_known (header_text order words) (headed order unit link) size (header_read order unit link words h))
 
-abbrev text_at : Standing → Captured → List ℕ
+abbrev text_at : Context → Captured → List ℕ
 text_at now packet = packet_text now.order packet
 
 text_read : (limit : ℕ) (content : List ℕ) (link : Link) (packets : List Captured) → IsCaptureOf limit content link packets

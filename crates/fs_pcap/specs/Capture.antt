@@ -11,7 +11,7 @@ use Rattle.fs_pcap.specs.declared.capture.Caught.{Caught}
 use Rattle.fs_pcap.specs.declared.fault.CaptureReason.{CaptureReason}
 use Rattle.fs_pcap.specs.declared.fault.CaptureReason.TheVariants.{Cut}
 use Rattle.fs_pcap.specs.declared.head.Said.{Said}
-use Rattle.fs_pcap.specs.declared.head.Standing.{Standing}
+use Rattle.fs_pcap.specs.declared.head.Context.{Context}
 use Rattle.fs_pcap.specs.declared.header.Heading.{Heading}
 use Rattle.fs_pcap.specs.declared.link.Link.{Link}
 
@@ -33,7 +33,7 @@ packet_of said octets = record {
   octets = octets;
 }
 
-abbrev pub records : Format Standing Said Captured CaptureReason
+abbrev pub records : Format Context Said Captured CaptureReason
 records = record {
   head_size = λ now. 16;
   head_of = head_of;

@@ -6,10 +6,10 @@ use Rattle.fs_pcap.specs.Order.{number, time_of}
 use Rattle.fs_pcap.specs.declared.fault.CaptureReason.{CaptureReason}
 use Rattle.fs_pcap.specs.declared.fault.CaptureReason.TheVariants.{RecordTooLong}
 use Rattle.fs_pcap.specs.declared.head.Said.{Said}
-use Rattle.fs_pcap.specs.declared.head.Standing.{Standing}
+use Rattle.fs_pcap.specs.declared.head.Context.{Context}
 
 -- What a head says. Its moment is the greatest time of the records up to and with this one.
-abbrev pub said_in : Standing → List ℕ → Said
+abbrev pub said_in : Context → List ℕ → Said
 said_in now head =
     let seconds = number now.order 4 head in
     let fraction = number now.order 4 (drop 4 head) in
@@ -24,7 +24,7 @@ said_in now head =
 abbrev pub longest_record : ℕ
 longest_record = 262144
 
-abbrev pub head_of : Standing → List ℕ → Head Said CaptureReason
+abbrev pub head_of : Context → List ℕ → Head Said CaptureReason
 head_of now head =
     if nat_lt (length head) 12 then Partial
     else if nat_lt longest_record (number now.order 4 (drop 8 head)) then Wrong RecordTooLong 8

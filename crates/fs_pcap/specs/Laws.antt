@@ -8,7 +8,7 @@ use Rattle.fs_pcap.specs.Capture.{Captured, capture_of}
 use Rattle.fs_pcap.specs.Head.{longest_record}
 use Rattle.fs_pcap.specs.Link.{link_of}
 use Rattle.fs_pcap.specs.Order.{order_of, time_of}
-use Rattle.fs_pcap.specs.declared.head.Standing.{Standing}
+use Rattle.fs_pcap.specs.declared.head.Context.{Context}
 use Rattle.fs_pcap.specs.declared.link.Link.{Link}
 use Rattle.fs_pcap.specs.declared.order.Endian.{Endian}
 use Rattle.fs_pcap.specs.declared.order.Endian.TheVariants.{Big, Little}
@@ -46,18 +46,18 @@ packet_text order packet =
 
 -- A packet can be written where a capture stands: the numbers have their room, not too many octets were captured, and
 -- its moment is the greater of the last one and its own time.
-pub record Fits (now : Standing) (packet : Captured) : Type 0 where
+pub record Fits (now : Context) (packet : Captured) : Type 0 where
   pub seconds : packet.seconds < 2 ^ 32
   pub fraction : packet.fraction < 2 ^ 32
   pub original : packet.original < 2 ^ 32
   pub captured : length packet.octets ≤ longest_record
   pub moment_is : packet.moment ≡ max now.moment (time_of now.unit packet.seconds packet.fraction)
 
-abbrev pub stands : Endian → FractionUnit → ℕ → Standing
+abbrev pub stands : Endian → FractionUnit → ℕ → Context
 stands order unit moment = record { order = order; unit = unit; moment = moment }
 
 -- where a capture stands behind a packet
-abbrev pub after : Standing → Captured → Standing
+abbrev pub after : Context → Captured → Context
 after now packet = stands now.order now.unit packet.moment
 
 -- The content is the text of these packets behind a header of this link type, each of which can be written behind those

@@ -10,7 +10,7 @@ ghost use Rattle.fs_pcap.specs.Head.{longest_record};
 ghost use Rattle.fs_pcap.specs.Capture.{Grows, Times, heading_of, packet_from};
 
 use crate::fault::{CaptureFault, CaptureReason};
-use crate::head::{Said, Standing};
+use crate::head::{Context, Said};
 use crate::header::{HEADER_SIZE, Heading, read_header};
 use crate::link::Link;
 use fs_base::{Counted, Files, fill};
@@ -146,12 +146,12 @@ impl Capture {
             result }
         ensures others { OnlySlot F.tells F.left F.holds self.old.slot files.old files.new }
     {
-        let standing = Standing {
+        let context = Context {
             order: self.heading.order,
             unit: self.heading.unit,
             moment: self.moment,
         };
-        match next_record(&standing, &mut self.counted, &mut self.end, files, into) {
+        match next_record(&context, &mut self.counted, &mut self.end, files, into) {
             Ok(Some(found)) => {
                 self.moment = found.said.moment;
                 Ok(Some(caught_of(found.said, found.size)))

@@ -23,13 +23,13 @@ pub(crate) struct Said {
 
 /// What the reading of a head depends on: what the capture's magic tells, and the moment of the record before.
 #[derive(Clone, Copy, Debug, PartialEq, Eq, Drop)]
-pub(crate) struct Standing {
+pub(crate) struct Context {
     pub(crate) order: Endian,
     pub(crate) unit: Unit,
     pub(crate) moment: u64,
 }
 
-impl Heads for Standing {
+impl Heads for Context {
     ghost use Rattle.std.specs.Prelude.{◌≤◌, ◌<◌};
     ghost use Rattle.std.proofs.Common.{rules};
     ghost use Rattle.fs_pcap.specs.Capture.{Captured, records};
@@ -78,7 +78,7 @@ impl Heads for Standing {
     ghost some = { λ now. Prim.search rules };
 }
 
-impl Standing {
+impl Context {
     ghost use Rattle.std.specs.Prelude.{◌≤◌};
     ghost use Rattle.fs_pcap.specs.Head.{said_in};
 

@@ -9,9 +9,9 @@ use Rattle.fs_scan.specs.Scan.{Scanner, fails}
 use Rattle.fs_pcapng.specs.Block.{fitting}
 use Rattle.fs_pcapng.specs.Options.{option_behind, padded, value_in}
 use Rattle.fs_pcapng.specs.declared.fault.NgReason.{NgReason}
-use Rattle.fs_pcapng.specs.declared.fault.NgReason.TheVariants.{Length, RecordTooLong}
+use Rattle.fs_pcapng.specs.declared.fault.NgReason.TheVariants.{Length}
 use Rattle.fs_pcapng.specs.declared.fields.Frame.{Frame}
-use Rattle.fs_pcapng.specs.declared.options.Walk.{Walk}
+use Rattle.fs_pcapng.specs.declared.options.Cursor.{Cursor}
 
 le_true : (a b : ℕ) → a ≤ b → nat_le a b ≡ true
 le_true a b h = let s = h in grind (arith, nat_tests)
@@ -29,27 +29,15 @@ module _ {A : Type 0} (frame : Frame) (fixed captured place : ℕ) (next : Scann
       → next at octets ≡ fitting frame fixed captured place next at octets
   fits few room at octets = rw (le_true captured 262144 few, le_true (fixed + padded captured) frame.total room) refl
 
-  -- one that is too long
-  pub too_long : 262144 < captured → (spot : ℕ) → spot ≡ place → (at : ℕ) (octets : List ℕ)
-      → fails {A = A} RecordTooLong spot at octets ≡ fitting frame fixed captured place next at octets
-  too_long many spot is at octets = rw (is, le_false captured 262144 many) refl
-
   -- one that the block has no room for
   pub no_room : captured ≤ 262144 → frame.total < fixed + padded captured → (spot : ℕ) → spot ≡ frame.start + 4 → (at : ℕ) (octets : List ℕ)
       → fails {A = A} Length spot at octets ≡ fitting frame fixed captured place next at octets
   no_room few none spot is at octets = rw (is, le_true captured 262144 few, le_false (fixed + padded captured) frame.total none) refl
 
-module _ (order : Endian) (now : Walk) (place code size : ℕ) (head : List ℕ) (code_is : code ≡ number order 2 head)
+module _ (order : Endian) (now : Cursor) (place code size : ℕ) (head : List ℕ) (code_is : code ≡ number order 2 head)
     (size_is : size ≡ number order 2 (drop 2 head)) where
   -- an option whose value fits
   pub value_fits : 4 + padded size ≤ now.left → (at : ℕ) (octets : List ℕ) → value_in now code size at octets ≡ option_behind order now place head at octets
   value_fits room at octets =
       let r : 4 + padded (number order 2 (drop 2 head)) ≤ now.left = subst (λ n. 4 + padded n ≤ now.left) size_is room in
       rw (code_is, size_is, le_true (4 + padded (number order 2 (drop 2 head))) now.left r) refl
-
-  -- one whose value doesn't
-  pub value_exceeds : now.left < 4 + padded size → (at : ℕ) (octets : List ℕ)
-      → fails {A = Walk} Length place at octets ≡ option_behind order now place head at octets
-  value_exceeds none at octets =
-      let r : now.left < 4 + padded (number order 2 (drop 2 head)) = subst (λ n. now.left < 4 + padded n) size_is none in
-      rw (le_false (4 + padded (number order 2 (drop 2 head))) now.left r) refl

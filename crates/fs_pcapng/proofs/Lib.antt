@@ -1,5 +1,5 @@
 pub mod Dividing
-pub mod Walking
+pub mod Cursors
 pub mod Parts
 pub mod Takes
 pub mod Fitting

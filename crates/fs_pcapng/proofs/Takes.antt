@@ -9,13 +9,13 @@ use Rattle.fs_scan.specs.Reads.{whole}
 use Rattle.fs_scan.specs.Scan.{Scanner, and, field, gives, needs, skips}
 use Rattle.fs_scan.proofs.Coming.{and_takes, fails_takes, field_takes, gives_takes, needs_takes, skips_takes}
 use Rattle.fs_pcapng.specs.Block.{Stands, behind_packet, block_in, body_in, close_in, cut_to, described_behind, described_in, end_in, enhanced_in, fitting, frame_of, kind_behind, kind_of, magic_behind, octets_in, opened, order_of, ordered_in, original_in, packet, plain_in, section_in, simple_behind, simple_by, simple_in, timed_behind, timed_in, total_behind, version_in, with_interface}
-use Rattle.fs_pcapng.specs.Options.{option_behind, option_in, options_in, padded, unit_in, value_in, walk}
+use Rattle.fs_pcapng.specs.Options.{option_behind, option_in, options_in, padded, unit_in, value_in, cursor}
 use Rattle.fs_pcapng.specs.Time.{time_of}
 use Rattle.fs_pcapng.specs.declared.block.Kind.{Kind}
 use Rattle.fs_pcapng.specs.declared.block.Kind.TheVariants.{Described, Enhanced, Simple, Other}
 use Rattle.fs_pcapng.specs.declared.fault.NgReason.{NgReason}
 use Rattle.fs_pcapng.specs.declared.fields.Frame.{Frame}
-use Rattle.fs_pcapng.specs.declared.options.Walk.{Walk}
+use Rattle.fs_pcapng.specs.declared.options.Cursor.{Cursor}
 use Rattle.fs_pcapng.specs.declared.section.Interface.{Interface}
 
 any : {A : Type 0} (least : ℕ) (scanner : Scanner A NgReason) → Takes least scanner → Takes 0 scanner
@@ -31,20 +31,20 @@ any_skip size = any size (skips size) (skips_takes size)
 then_gives : {A B : Type 0} (first : Scanner A NgReason) (value : A → B) → Takes 0 first → Takes 0 (and first (λ a. gives (value a)))
 then_gives first value h = and_takes 0 first (λ a. gives (value a)) h (λ a. gives_takes (value a))
 
-unit_takes : (now : Walk) → Takes 0 (unit_in now)
-unit_takes now = then_gives (field 4 whole) (λ octets. walk (now.left - 8) (slice_index octets 0)) (any_field 4 whole)
+unit_takes : (now : Cursor) → Takes 0 (unit_in now)
+unit_takes now = then_gives (field 4 whole) (λ octets. cursor (now.left - 8) (slice_index octets 0)) (any_field 4 whole)
 
-value_takes : (now : Walk) (code size : ℕ) → Takes 0 (value_in now code size)
+value_takes : (now : Cursor) (code size : ℕ) → Takes 0 (value_in now code size)
 value_takes now code size = by (code == 9 && size == 1)
   where
-    rest : Scanner Walk NgReason
-    rest = and (skips (padded size)) (λ _. gives (walk (now.left - 4 - padded size) now.unit))
+    rest : Scanner Cursor NgReason
+    rest = and (skips (padded size)) (λ _. gives (cursor (now.left - 4 - padded size) now.unit))
 
     by : (test : Bool) → Takes 0 (if test then unit_in now else rest)
     by true = unit_takes now
-    by false = then_gives (skips (padded size)) (λ _. walk (now.left - 4 - padded size) now.unit) (any_skip (padded size))
+    by false = then_gives (skips (padded size)) (λ _. cursor (now.left - 4 - padded size) now.unit) (any_skip (padded size))
 
-option_takes : (order : Endian) (now : Walk) → Takes 0 (option_in order now)
+option_takes : (order : Endian) (now : Cursor) → Takes 0 (option_in order now)
 option_takes order now place =
     and_takes 0 (field 4 whole) (option_behind order now place) (any_field 4 whole)
     (λ head. needs_takes 0 _ _ place (value_in now (number order 2 head) (number order 2 (drop 2 head)))
@@ -55,7 +55,7 @@ if_takes : {A : Type 0} (test : Bool) (one other : Scanner A NgReason) → Takes
 if_takes true one other h k = h
 if_takes false one other h k = k
 
-options_takes : (order : Endian) (fuel : ℕ) (now : Walk) → Takes 0 (options_in order fuel now)
+options_takes : (order : Endian) (fuel : ℕ) (now : Cursor) → Takes 0 (options_in order fuel now)
 options_takes order zero now = gives_takes now.unit
 options_takes order (suc fuel) now =
     if_takes (now.left == 0) (gives now.unit) (and (option_in order now) (options_in order fuel)) (gives_takes now.unit)
@@ -92,10 +92,10 @@ section_takes start =
 described_takes : (frame : Frame) → Takes 0 (described_in frame)
 described_takes frame =
     and_takes 0 (field 8 whole) (described_behind frame) (any_field 8 whole)
-    (λ head. and_takes 0 (options_in frame.order (frame.total - 20) (walk (frame.total - 20) 6))
+    (λ head. and_takes 0 (options_in frame.order (frame.total - 20) (cursor (frame.total - 20) 6))
     (λ unit. and (close_in frame)
     (λ _. gives (record { link = number frame.order 2 head; snap = number frame.order 4 (drop 4 head); unit = unit })))
-    (options_takes frame.order (frame.total - 20) (walk (frame.total - 20) 6))
+    (options_takes frame.order (frame.total - 20) (cursor (frame.total - 20) 6))
     (λ unit. then_gives (close_in frame)
     (λ _. record { link = number frame.order 2 head; snap = number frame.order 4 (drop 4 head); unit = unit }) (close_takes frame)))
 

@@ -13,7 +13,7 @@ use Rattle.fs_pcap.specs.declared.order.Endian.{Endian}
 use Rattle.fs_pcap.specs.declared.order.Endian.TheVariants.{Big, Little}
 use Rattle.fs_scan.specs.Reads.{whole}
 use Rattle.fs_scan.specs.Scan.{Scanner, and, fails, field, gives, needs, skips}
-use Rattle.fs_pcapng.specs.Options.{options_in, padded, walk}
+use Rattle.fs_pcapng.specs.Options.{options_in, padded, cursor}
 use Rattle.fs_pcapng.specs.Time.{time_of}
 use Rattle.fs_pcapng.specs.declared.block.Kind.{Kind}
 use Rattle.fs_pcapng.specs.declared.block.Kind.TheVariants.{Described, Enhanced, Simple, Other}
@@ -79,7 +79,7 @@ section_in start = and (field 4 whole) (magic_behind start)
 
 abbrev pub described_behind : Frame → List ℕ → Scanner Interface NgReason
 described_behind frame head =
-    and (options_in frame.order (frame.total - 20) (walk (frame.total - 20) 6))
+    and (options_in frame.order (frame.total - 20) (cursor (frame.total - 20) 6))
     (λ unit. and (close_in frame)
     (λ _. gives (record { link = number frame.order 2 head; snap = number frame.order 4 (drop 4 head); unit = unit })))
 

@@ -38,12 +38,12 @@ pub record NgState : Type 0 where
   pub limit : ℕ
   pub place : ℕ
   pub end : Option (Ended NgReason)
-  pub standing : Stands
+  pub context : Stands
   pub link : Option Link
 
 -- the packets that a capture which hasn't ended is still to give, of what its slot has left, and how it will end
 abbrev pub coming : NgState → List ℕ → List Packet × End NgReason
-coming capture left = packets_to_come capture.limit capture.place capture.standing left
+coming capture left = packets_to_come capture.limit capture.place capture.context left
 
 -- a packet as the answer tells it; its octets stand at the front of the buffer
 abbrev pub packet_from : Option Link → NgCaught → List ℕ → Packet

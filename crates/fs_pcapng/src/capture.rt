@@ -46,7 +46,7 @@ impl Model for Ng {
           limit = capture.counted.limit;
           place = capture.counted.taken;
           end = capture.end;
-          standing = capture.section;
+          context = capture.section;
           link = capture.link;
         } };
 
@@ -71,7 +71,7 @@ impl Ng {
         ensures limit { IfOk result (λ capture. capture.limit ≡ counted.limit) }
         ensures end { IfOk result (λ capture. capture.end ≡ None) }
         ensures link { IfOk result (λ capture. capture.link ≡ None) }
-        ensures moment { IfOk result (λ capture. capture.standing.moment ≡ 0) }
+        ensures moment { IfOk result (λ capture. capture.context.moment ≡ 0) }
         ensures within { IfOk result (λ capture. capture.place ≤ capture.limit) }
 
         ensures begins { IsTrue F.tells
@@ -124,8 +124,8 @@ impl Ng {
         ensures unread { IsSome self.old.end → files.new ≡ files.old }
         ensures ended { self.new.end ≡ ended_after result }
         ensures grows { self.old.end ≡ None → Grows self.old.place self.new.place self.new.limit result }
-        ensures times { IfOk result (λ found. IfSome found (λ caught. caught.moment ≡ self.new.standing.moment)) }
-        ensures rises { self.old.standing.moment ≤ self.new.standing.moment }
+        ensures times { IfOk result (λ found. IfSome found (λ caught. caught.moment ≡ self.new.context.moment)) }
+        ensures rises { self.old.context.moment ≤ self.new.context.moment }
 
         ensures advances { IsTrue F.tells
             → self.old.end ≡ None

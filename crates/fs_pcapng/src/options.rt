@@ -2,7 +2,7 @@
 ghost use Rattle.std.specs.Prelude.{◌≡◌, ◌≤◌, ◌<◌, ◌+◌, ◌-◌, ◌/◌, ◌*◌, [], IfOk, length};
 ghost use Rattle.fs_pcap.specs.Head.{longest_record};
 ghost use Rattle.fs_scan.specs.Reads.{Scans};
-ghost use Rattle.fs_pcapng.specs.Options.{option_in, options_in, padded, unit_in, value_in, walk};
+ghost use Rattle.fs_pcapng.specs.Options.{option_in, options_in, padded, unit_in, value_in, cursor};
 ghost use Rattle.fs_pcapng.specs.declared.fault.NgReason.TheVariants.{Cut};
 
 use crate::fault::{NgFault, NgReason};
@@ -12,7 +12,7 @@ use fs_pcap::Endian;
 
 /// Options that are walked: how many octets of them are left, and the unit of times so far.
 #[derive(Clone, Copy, Debug, PartialEq, Eq, Drop)]
-pub(crate) struct Walk {
+pub(crate) struct Cursor {
     pub(crate) left: u32,
     pub(crate) unit: u8,
 }
@@ -35,10 +35,10 @@ pub(crate) fn read_options<F: Files>(
     requires none { counted.old.back ≡ [] }
     ensures none { counted.new.back ≡ [] }
     ensures taken { IfOk result (λ _. counted.new.taken ≡ counted.old.taken + size) }
-    ensures reads { Scans F.Files files.old files.new (options_in order size (walk size 6)) Cut counted.old counted.new
-        (λ unit. unit) result }
+    ensures reads { Scans F.Files files.old files.new (options_in order size (cursor size 6)) Cut
+        counted.old counted.new (λ unit. unit) result }
 {
-    let mut now = Walk {
+    let mut now = Cursor {
         left: size,
         unit: 6,
     };
@@ -54,10 +54,10 @@ pub(crate) fn read_options<F: Files>(
 /// Reads one option.
 fn take_option<F: Files>(
     order: Endian,
-    now: Walk,
+    now: Cursor,
     counted: &mut Counted,
     files: &mut F,
-) -> Result<Walk, NgFault>
+) -> Result<Cursor, NgFault>
     requires none { counted.old.back ≡ [] }
     ensures none { counted.new.back ≡ [] }
     ensures less { IfOk result (λ later. later.left < now.left) }
@@ -83,12 +83,12 @@ fn take_option<F: Files>(
 
 /// Reads an option's value: of code 9 and length 1 the unit; others are skipped.
 fn take_value<F: Files>(
-    now: Walk,
+    now: Cursor,
     code: u16,
     size: u16,
     counted: &mut Counted,
     files: &mut F,
-) -> Result<Walk, NgFault>
+) -> Result<Cursor, NgFault>
     requires none { counted.old.back ≡ [] }
     requires room { 4 + padded size ≤ now.left }
     ensures none { counted.new.back ≡ [] }
@@ -102,7 +102,7 @@ fn take_value<F: Files>(
     }
     let size = padded(size as u32);
     match skip(size as u64, counted, files) {
-        Ok(()) => Ok(Walk {
+        Ok(()) => Ok(Cursor {
             left: now.left - 4 - size,
             unit: now.unit,
         }),
@@ -111,7 +111,7 @@ fn take_value<F: Files>(
 }
 
 /// Reads the unit, an octet and three that pad it.
-fn take_unit<F: Files>(now: Walk, counted: &mut Counted, files: &mut F) -> Result<Walk, NgFault>
+fn take_unit<F: Files>(now: Cursor, counted: &mut Counted, files: &mut F) -> Result<Cursor, NgFault>
     requires none { counted.old.back ≡ [] }
     requires room { 8 ≤ now.left }
     ensures none { counted.new.back ≡ [] }
@@ -124,7 +124,7 @@ fn take_unit<F: Files>(now: Walk, counted: &mut Counted, files: &mut F) -> Resul
     if let Err(fault) = take_front(4, counted, files, &mut octets) {
         return Err(fault);
     }
-    Ok(Walk {
+    Ok(Cursor {
         left: now.left - 8,
         unit: octets[0],
     })

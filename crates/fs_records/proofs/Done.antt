@@ -107,9 +107,3 @@ text_done format text Fits after some empty reads limit taken state left items h
     ap (λ octets. parts_from (first_record format) (at state octets)) judged
     ∙ parts_spelled (first_record format) text Fits after (records_shrink format some) (none_at format empty) reads state items h.fit in
     rw (parts, free, none_head format (state_behind after state items) (empty (state_behind after state items))) refl
-
-pub is_done : IsDone
-is_done S A B R format text Fits after some empty reads spells limit taken state left items are = (
-  done_text format text Fits after some spells limit taken state left items are,
-  text_done format text Fits after some empty reads limit taken state left items,
-)

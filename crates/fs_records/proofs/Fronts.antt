@@ -54,18 +54,18 @@ module _ {V R : Type 0} (size : ℕ) (front_of : List ℕ → Head V R) (cut : R
       (opens_with limit taken left left' front count Partial none fills len h ∙ rw (short, test) refl))
 
 -- a fault that ends an input before its records is that of what was to be opened
-by_fault : {T V R : Type 0} (shown : T → V) (found : Result V (End R)) (behind left : List ℕ) (fault : Fault R)
-    → Opens (λ v. v) found behind left (Err fault) → Opens shown found behind left (Err fault)
-by_fault shown found behind left Read h = tt
-by_fault shown found behind left Limit h = h
-by_fault shown found behind left (Bad reason place) h = h
+by_fault : {T V R : Type 0} (view : T → V) (found : Result V (End R)) (behind left : List ℕ) (fault : Fault R)
+    → Opens (λ v. v) found behind left (Err fault) → Opens view found behind left (Err fault)
+by_fault view found behind left Read h = tt
+by_fault view found behind left Limit h = h
+by_fault view found behind left (Bad reason place) h = h
 
-pub opens_not : {T V R : Type 0} (shown : T → V) (found : Result V (End R)) (behind left : List ℕ) (answer : Result V (Fault R)) (fault : Fault R)
-    → Opens (λ v. v) found behind left answer → answer ≡ Err fault → Opens shown found behind left (Err fault)
-opens_not {V = V} {R} shown found behind left answer fault h is =
-    by_fault shown found behind left fault (subst (λ (a : Result V (Fault R)). Opens (λ v. v) found behind left a) is h)
+pub opens_not : {T V R : Type 0} (view : T → V) (found : Result V (End R)) (behind left : List ℕ) (answer : Result V (Fault R)) (fault : Fault R)
+    → Opens (λ v. v) found behind left answer → answer ≡ Err fault → Opens view found behind left (Err fault)
+opens_not {V = V} {R} view found behind left answer fault h is =
+    by_fault view found behind left fault (subst (λ (a : Result V (Fault R)). Opens (λ v. v) found behind left a) is h)
 
-pub opens_so : {T V R : Type 0} (shown : T → V) (found : Result V (End R)) (behind left : List ℕ) (answer : Result V (Fault R)) (input : T)
-    → Opens (λ v. v) found behind left answer → answer ≡ Ok (shown input) → Opens shown found behind left (Ok input)
-opens_so {V = V} {R} shown found behind left answer input h is =
+pub opens_so : {T V R : Type 0} (view : T → V) (found : Result V (End R)) (behind left : List ℕ) (answer : Result V (Fault R)) (input : T)
+    → Opens (λ v. v) found behind left answer → answer ≡ Ok (view input) → Opens view found behind left (Ok input)
+opens_so {V = V} {R} view found behind left answer input h is =
     subst (λ (a : Result V (Fault R)). Opens (λ v. v) found behind left a) is h

@@ -21,10 +21,10 @@ opening size front_of cut limit content =
 
 -- An opened input shows what was opened, and has left what stands behind it. A fault is what ends it before its records.
 abbrev pub Opens : {T V R : Type 0} → (T → V) → Result V (End R) → (behind left : List ℕ) → Result T (Fault R) → Type 0
-Opens shown opened behind left (Ok input) = (opened ≡ Ok (shown input)) × (left ≡ behind)
-Opens shown opened behind left (Err Read) = ⊤
-Opens shown opened behind left (Err Limit) = opened ≡ Err limited
-Opens shown opened behind left (Err (Bad reason place)) = opened ≡ Err (bad reason place)
+Opens view opened behind left (Ok input) = (opened ≡ Ok (view input)) × (left ≡ behind)
+Opens view opened behind left (Err Read) = ⊤
+Opens view opened behind left (Err Limit) = opened ≡ Err limited
+Opens view opened behind left (Err (Bad reason place)) = opened ≡ Err (bad reason place)
 
 -- what is answered where the octets before the records say this, and so many were taken
 abbrev pub opened_answer : {V R : Type 0} → R → (taken limit : ℕ) → Head V R → Result V (Fault R)

@@ -6,6 +6,5 @@ pub mod Lifting
 pub mod Skipping
 pub mod Stages
 pub mod Fixed
-pub mod Joined
 pub mod Coming
 pub mod Advancing

@@ -1,13 +1,13 @@
 -- Calls that read fields one behind the other read the chain.
-use Rattle.std.proofs.Common.{◌≡◌, ℕ, List, Bool, true, false, Option, Result, Ok, Err, ◌≤◌, length, take, refl, ap, sym, ◌∙◌, subst, arith, le_trans}
-use Rattle.std.specs.Prelude.{IfErr, if◌then◌else◌, nat_le}
+use Rattle.std.proofs.Common.{◌≡◌, ℕ, List, Bool, true, Option, Result, Ok, Err, ◌≤◌, length, refl, ap, sym, ◌∙◌, subst, arith, le_trans}
+use Rattle.std.specs.Prelude.{IfErr}
 use Rattle.fs_base.specs.Outside.{Rose}
 use Rattle.fs_base.specs.Parts.{at_limit, window}
 use Rattle.fs_base.specs.declared.counted.Counted.{Counted}
 use Rattle.fs_records.specs.declared.fault.Fault.{Fault}
-use Rattle.fs_records.specs.declared.fault.Fault.TheVariants.{Read, Limit, Bad}
-use Rattle.fs_scan.specs.Scan.{Scan, Scanner, and, fails, field, gives, got, partial}
-use Rattle.fs_scan.specs.Reads.{Fails, Reads, Scanned, Starts, Took, end_of, ends_by, whole}
+use Rattle.fs_records.specs.declared.fault.Fault.TheVariants.{Read, Bad}
+use Rattle.fs_scan.specs.Scan.{Scanner, and, fails, field, gives}
+use Rattle.fs_scan.specs.Reads.{Fails, Reads, Scanned, Starts, Took, end_of, whole}
 use Rattle.fs_scan.proofs.Joining.{both_took, fails_first, fails_second}
 
 rose_later : (early mid late : ℕ) → early ≤ mid → Rose mid late → Rose early late
@@ -134,71 +134,6 @@ pub gives_for : {T A R : Type 0} {cut : R} {told : Bool} {faults : ℕ} {left : 
     → Reads told faults faults left left holds holds (gives value) cut now now tells (Ok answer)
 gives_for {now = now} value tells answer e =
     reads_as (gives value) (λ octets. ap (λ v. gives v now.taken octets) (sym e)) (reads_gives tells answer)
-
--- the octets of a field, read as a value
-field_as : {A R : Type 0} (size : ℕ) (read : List ℕ → A) (limit taken taken' : ℕ) (left left' into : List ℕ) (value : A) → read into ≡ value
-    → Took (field {A = List ℕ} {R = R} size whole taken (window limit taken left)) (length (window limit taken left)) taken taken' left left' into
-    → Took (field {A = A} {R = R} size read taken (window limit taken left)) (length (window limit taken left)) taken taken' left left' value
-field_as {A} {R} size read limit taken taken' left left' into value e took = record {
-  count = took.count;
-  is = by (nat_le size (length (window limit taken left))) took.is;
-  within = took.within;
-  taken_is = took.taken_is;
-  left_is = took.left_is;
-} where
-  by : (test : Bool)
-      → ◌≡◌ {A = Scan (List ℕ) R} (if test then got (take size (window limit taken left)) size else partial) (got into took.count)
-      → ◌≡◌ {A = Scan A R} (if test then got (read (take size (window limit taken left))) size else partial) (got value took.count)
-  by true h =
-      let octets : take size (window limit taken left) ≡ into = cc in
-      let count : size ≡ took.count = cc in
-      (λ i. got (read (octets i)) (count i)) ∙ ap (λ v. got v took.count) e
-  by false h = absurd cc
-
-field_ends_as : {A R : Type 0} (size : ℕ) (read : List ℕ → A) (cut : R) (limit taken : ℕ) (left : List ℕ) (fault : Fault R)
-    → Fails (ends_by (field {A = List ℕ} {R = R} size whole) cut limit taken left) fault
-    → Fails (ends_by (field {A = A} {R = R} size read) cut limit taken left) fault
-field_ends_as {A} {R} size read cut limit taken left fault h = by (nat_le size (length (window limit taken left))) fault h
-  where
-    by : (test : Bool) (fault : Fault R)
-        → Fails (end_of {A = List ℕ} cut (at_limit limit taken left) taken (length (window limit taken left))
-        (if test then got (take size (window limit taken left)) size else partial)) fault
-        → Fails (end_of {A = A} cut (at_limit limit taken left) taken (length (window limit taken left))
-        (if test then got (read (take size (window limit taken left))) size else partial)) fault
-    by test Read h = tt
-    by true Limit h = absurd cc
-    by true (Bad reason place) h = absurd cc
-    by false Limit h = h
-    by false (Bad reason place) h = h
-
-module _ {T U A R : Type 0} {cut : R} {told : Bool} {faults faults' : ℕ} {left left' : ℕ → List ℕ} {holds holds' : List ℕ → Option (List ℕ)}
-    {old new : Counted} {into : List ℕ} where
-  pub reads_field : {answer : T} (size : ℕ) (read : List ℕ → A) (tells : U → A) (last : U) → read into ≡ tells last
-      → Reads told faults faults' left left' holds holds' (field size whole) cut old new (λ (_ : T). into) (Ok answer)
-      → Reads told faults faults' left left' holds holds' (field size read) cut old new tells (Ok last)
-  reads_field size read tells last e h = record {
-    later = h.later;
-    failed = tt;
-    slot = h.slot;
-    limit = h.limit;
-    scanned = λ tells_so.
-        field_as size read old.limit old.taken new.taken (left old.slot) (left' old.slot) into (tells last) e (h.scanned tells_so);
-    others = h.others;
-    same = h.same;
-  }
-
-  pub field_ends : {fault : Fault R} (size : ℕ) (read : List ℕ → A) (tells : U → A)
-      → Reads told faults faults' left left' holds holds' (field size whole) cut old new (λ (_ : T). into) (Err fault)
-      → Reads told faults faults' left left' holds holds' (field size read) cut old new tells (Err fault)
-  field_ends {fault = fault} size read tells h = record {
-    later = h.later;
-    failed = h.failed;
-    slot = h.slot;
-    limit = h.limit;
-    scanned = λ tells_so. field_ends_as size read cut old.limit old.taken (left old.slot) fault (h.scanned tells_so);
-    others = h.others;
-    same = h.same;
-  }
 
 -- the first field of a part, where it was taken
 pub starts_reads : {R : Type 0} {cut : R} {told : Bool} {faults faults' : ℕ} {left left' : ℕ → List ℕ}

@@ -2,7 +2,7 @@ pub mod Below
 pub mod ByEnds
 pub mod Known
 pub mod Lying
-pub mod Marking
+pub mod AtPoints
 pub mod Patterns
 pub mod Testing
 pub mod ByBits

@@ -1,7 +1,7 @@
 pub mod Contains
 pub mod Reporting
 pub mod Tested
-pub mod Marks
+pub mod Points
 pub mod Ends
 pub mod Extents
 pub mod Outlines

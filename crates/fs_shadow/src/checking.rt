@@ -8,7 +8,7 @@ ghost use Rattle.fs_shadow.specs.Contains.{contains, may_lie_in, part_lies_in};
 ghost use Rattle.fs_shadow.specs.Tested.{IsSound, tested_lies_in};
 
 use crate::ends::prefix_lies_in;
-use crate::marks::numbers_lie_in;
+use crate::points::numbers_lie_in;
 use crate::tested::{Tested, test_of};
 use fs_nlri::{Component, Rule};
 

@@ -2,12 +2,10 @@
 use Rattle.std.specs.Prelude.{ℕ, List, [], ◌∷◌, ◌++◌, Option, Some, None, Ok, Err}
 use Rattle.fs_base.specs.declared.config.Config.{Config}
 use Rattle.fs_base.specs.declared.config.Peer.{Peer}
-use Rattle.fs_base.specs.Config.{peer_of}
 use Rattle.fs_base.specs.Parts.{parts_of}
 use Rattle.fs_message.specs.declared.fault.MessageFault.{MessageFault}
 use Rattle.fs_message.specs.Stream.{Message, first_message, wrong_at}
 use Rattle.fs_speaker.specs.Side.{at_fault, receiver}
-use Rattle.fs_speaker.specs.Session.{at_start}
 use Rattle.fs_speaker.specs.Transition.{Machine, Phase, faulted, transition_by}
 
 -- a fault of the rest behind the last message
@@ -33,8 +31,3 @@ replies_by machine now octets =
 -- So the receiving end.
 abbrev pub replies_from : Config → Peer → Phase → List ℕ → List ℕ
 replies_from config peer now octets = replies_by (receiver config peer) now octets
-
--- All that is replied to a peer's octets.
-abbrev pub replies_of : Config → ℕ → List ℕ → List ℕ
-replies_of config number octets =
-    elim (peer_of number config.peers) [ None ↦ [] | Some peer ↦ replies_from config peer at_start octets ]

@@ -52,14 +52,6 @@ session_by machine now octets =
 abbrev pub session_from : Config → Peer → Phase → List ℕ → List Update × Last
 session_from config peer now octets = session_by (receiver config peer) now octets
 
--- The updates that a peer's octets give, and what its session comes to.
-abbrev pub session_of : Config → ℕ → List ℕ → List Update × Last
-session_of config number octets =
-    elim (peer_of number config.peers) [
-      | None ↦ ([], still at_start)
-      | Some peer ↦ session_from config peer at_start octets
-    ]
-
 -- What a session keeps: whose it is, the octets of the message begun, its phase, its moments, and how it closed.
 pub record Live : Type 0 where
   pub config : Config

@@ -16,7 +16,6 @@ use Rattle.fs_tape.specs.declared.item.TapeItem.{TapeItem}
 use Rattle.fs_tape.specs.declared.magic.Version.{Version}
 use Rattle.fs_tape.specs.declared.magic.Version.TheVariants.{Two}
 use Rattle.fs_tape.proofs.Rising.{moments_rise}
-use Rattle.fs_rules.specs.Table.{Held, AdmitsSame}
 use Rattle.fs_desk.specs.Desk.{Desked, Played, Plays}
 use Rattle.fs_desk.specs.Leaves.{Leaves}
 use Rattle.fs_desk.proofs.Leaves.{played_leaves}
@@ -44,8 +43,8 @@ pub unplayed : {A : Type 0} (stage : Stage A) (a : A) (failed : Type 0) (refusal
 unplayed stage a failed refusal e (inl h) = let wrong : Found a ≡ Stopped refusal = sym e ∙ h in absurd cc
 unplayed stage a failed refusal e (inr h) = h
 
-one_version : {A : Type 0} (x : Option A) (shown : A → Result Version (End TapeReason)) (a b : Version) → option_map shown x ≡ Some (Ok a) → option_map shown x ≡ Some (Ok b) → a ≡ b
-one_version x shown a b e f = let both : Some (Ok a) ≡ Some (Ok b) = sym e ∙ f in cc
+one_version : {A : Type 0} (x : Option A) (view : A → Result Version (End TapeReason)) (a b : Version) → option_map view x ≡ Some (Ok a) → option_map view x ≡ Some (Ok b) → a ≡ b
+one_version x view a b e f = let both : Some (Ok a) ≡ Some (Ok b) = sym e ∙ f in cc
 
 abbrev pub player_with : TapeState → Option TapeItem → List ℕ → Desked → PlayerState
 player_with tape ahead into desk = record { tape = tape; ahead = ahead; into = into; desk = desk }
@@ -166,12 +165,6 @@ leaves_until items t player left s none =
 
 -- the same rules are admitted
 
-pub admits_same : (held : Held) → AdmitsSame held held
-admits_same held family = refl
-
-pub admits_then : (old mid new : Held) → AdmitsSame old mid → AdmitsSame mid new → AdmitsSame old new
-admits_then old mid new f g family = g family ∙ f family
-
 pub rose_on : (before mid after : ℕ) (refusal : Refusal) → before ≤ mid → IsUnplayed (Rose mid after) refusal → IsUnplayed (Rose before after) refusal
 rose_on before mid after refusal l (inl h) = inl h
 rose_on before mid after refusal l (inr h) = inr (h.0, rose h.1)
@@ -206,19 +199,6 @@ fewer_left old new item limit place limit' place' h e g =
 pub match_err : {T E : Type 0} {R : E → Type 0} (P : T → Type 0) (Q : E → Type 0) (r : Result T E) → IsErrAnd r R → ((e : E) → R e → Q e) → MatchResult r P Q
 match_err P Q (Ok t) h f = absurd h
 match_err P Q (Err e) h f = f e h
-
--- the item ahead was played up to a moment, or why it wasn't
-pub stopped_behind : (items : List Timed) (t : ℕ) (old : PlayerState) (left : List ℕ) (item : TapeItem) (failed : Type 0) (refusal : Refusal)
-    → old.ahead ≡ Some item → Stands items t old left → HasReason (played_to (coming old.desk.config old.tape left)) failed refusal → IsUnplayed failed refusal
-stopped_behind items t old left item failed refusal h s (inl stop) =
-    absurd (by (coming old.desk.config old.tape left) stop
-    (sym (ap (λ (a : Option TapeItem). (items_ahead a old.tape.moment old.into (coming old.desk.config old.tape left)).1) h) ∙ s.ends))
-  where
-    by : (r : List Timed × End TapeReason) → played_to r ≡ Stopped refusal → r.1 ≡ done → ⊥
-    by (found, done) e d = absurd cc
-    by (found, limited) e d = absurd cc
-    by (found, bad reason place) e d = absurd cc
-stopped_behind items t old left item failed refusal h s (inr other) = other
 
 -- the first item was read ahead, or why it wasn't
 

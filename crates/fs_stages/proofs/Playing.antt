@@ -26,15 +26,6 @@ pub record Playing (config : Config) (version : Version) (all rest : List Timed 
   pub moments : HaveNoMoments version gone
   pub played : (items : List Item) → Played config items old → Played config (items ++ untimed gone) now
 
-pub playing_none : (config : Config) (version : Version) (all : List Timed × End TapeReason) (desk : Desked) → Playing config version all all desk desk
-playing_none config version all desk = record {
-  gone = [];
-  parts = refl;
-  end_is = refl;
-  moments = tt;
-  played = λ items p. subst (λ (z : List Item). Played config z desk) (sym (append-nil items)) p;
-}
-
 pub all_more : {A : Type 0} (P : A → Type 0) (xs ys : List A) → AllByRecursion P xs → AllByRecursion P ys → AllByRecursion P (xs ++ ys)
 all_more P [] ys all more = more
 all_more P (x ∷ xs) ys all more = (all.0, all_more P xs ys all.1 more)
@@ -76,14 +67,6 @@ same_stop items items' (bad reason place) refusal h = h
 
 rose_before : (old mid now : ℕ) → old ≤ mid → Rose mid now → Rose old now
 rose_before old mid now l r = omega (arith, l, r)
-
--- the reason for which the rest is refused is one of the whole
-pub refused_all : (config : Config) (version : Version) (all rest : List Timed × End TapeReason) (old now : Desked) (before mid after : ℕ) (refusal : Refusal)
-    → Playing config version all rest old now → before ≤ mid → HasReason (played_to rest) (Rose mid after) refusal → HasReason (played_to all) (Rose before after) refusal
-refused_all config version all rest old now before mid after refusal p l (inl h) =
-    inl (subst (λ (e : End TapeReason). played_to (all.0, e) ≡ Stopped refusal) (sym p.end_is) (same_stop rest.0 all.0 rest.1 refusal h))
-refused_all config version all rest old now before mid after refusal p l (inr (inl h)) = inr (inl h)
-refused_all config version all rest old now before mid after refusal p l (inr (inr h)) = inr (inr (h.0, rose_before before mid after l h.1))
 
 -- a tape that was played to its end
 pub all_played : (config : Config) (version : Version) (all : List Timed × End TapeReason) (old new : Desked) → PlaysOn config version all old new → played_to all ≡ Found all.0

@@ -70,12 +70,6 @@ pub either_rose : (before mid now : ℕ) (other : Type 0) → before ≤ mid →
 either_rose before mid now other l (inl r) = inl (rose_earlier before mid now l r)
 either_rose before mid now other l (inr h) = inr h
 
--- a count that rose in a later part rose in the whole
-pub reason_later : {A : Type 0} (stage : Stage A) (before mid now : ℕ) (refusal : Refusal) → before ≤ mid → HasReason stage (Rose mid now) refusal → HasReason stage (Rose before now) refusal
-reason_later stage before mid now refusal l (inl h) = inl h
-reason_later stage before mid now refusal l (inr (inl h)) = inr (inl h)
-reason_later stage before mid now refusal l (inr (inr h)) = inr (inr (h.0, rose_earlier before mid now l h.1))
-
 -- a refusal that a `?` hands on is late where its cause is
 pub late_err : {T : Type 0} (r : Result T Refusal) (cause : Refusal) → IsErrAnd r (λ e. e ≡ cause) → IsLate cause → IfErr r IsLate
 late_err (Ok t) cause h l = absurd h

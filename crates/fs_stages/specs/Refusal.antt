@@ -36,7 +36,7 @@ HasReason stage failed refusal =
 
 -- what is answered is what the stage gives, or has such a reason
 abbrev pub Reaches : {T A : Type 0} → (T → A) → Stage A → Type 0 → Result T Refusal → Type 0
-Reaches shown stage failed result = MatchResult result (λ t. stage ≡ Found (shown t)) (HasReason stage failed)
+Reaches view stage failed result = MatchResult result (λ t. stage ≡ Found (view t)) (HasReason stage failed)
 
 abbrev pub answered : {T : Type 0} → Result T Refusal → ℕ
 answered (Ok t) = 0

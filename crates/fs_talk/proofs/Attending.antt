@@ -1,11 +1,11 @@
--- What an end hears of a stream, turn by turn.
+-- What an end hears of a stream, round by round.
 use Rattle.std.proofs.Common.{◌≡◌, ℕ, List, [], ◌∷◌, ◌++◌, Bool, Option, refl, ap, ◌∙◌}
 use Rattle.std.proofs.lemmas.List.{map-append}
 use Rattle.fs_base.specs.Sink.{Grew}
 use Rattle.fs_base.specs.Wire.{Told, WireEnds, end_at}
 use Rattle.fs_base.proofs.Grew.{Grew-refl, Grew-trans}
 use Rattle.fs_talk.specs.Listening.{EndsSo, HeardOut, HearsOut, Listened, Listens}
-use Rattle.fs_talk.specs.Turn.{Stance, Turn}
+use Rattle.fs_talk.specs.Round.{Stance, Round}
 use Rattle.fs_talk.specs.declared.listening.Heard.{Heard}
 use Rattle.fs_talk.proofs.Composing.{part_none, part_then}
 use Rattle.fs_talk.proofs.Telling.{told_and, told_same}
@@ -19,36 +19,36 @@ listens_none stance place told answers = record {
 }
 
 listened_more : (s0 s1 s2 : Stance) (place : ℕ) (given : List ℕ) (moment count said : ℕ) (a b c : WireEnds)
-    → Listened s0 s1 place given a b → Turn s1 s2 place moment count said b c → Listened s0 s2 place (given ++ moment ∷ []) a c
-listened_more s0 s1 s2 place given moment count said a b c l turn = record {
-  heard = l.heard ++ (moment, turn.got) ∷ [];
-  said = l.said ++ turn.out;
-  part = part_then s0 s1 s2 place l.heard ((moment, turn.got) ∷ []) l.said turn.out a b c l.part turn.part;
-  asked = map-append (λ piece. piece.0) l.heard ((moment, turn.got) ∷ []) ∙ ap (λ (moments : List ℕ). moments ++ moment ∷ []) l.asked;
+    → Listened s0 s1 place given a b → Round s1 s2 place moment count said b c → Listened s0 s2 place (given ++ moment ∷ []) a c
+listened_more s0 s1 s2 place given moment count said a b c l round = record {
+  heard = l.heard ++ (moment, round.got) ∷ [];
+  said = l.said ++ round.out;
+  part = part_then s0 s1 s2 place l.heard ((moment, round.got) ∷ []) l.said round.out a b c l.part round.part;
+  asked = map-append (λ piece. piece.0) l.heard ((moment, round.got) ∷ []) ∙ ap (λ (moments : List ℕ). moments ++ moment ∷ []) l.asked;
 }
 
 pub listens_more : (s0 s1 s2 : Stance) (place moment count said : ℕ) (before now later : Option WireEnds) (answers asked last : Option (List ℕ))
-    → Listens s0 s1 place before now answers asked → Told (Turn s1 s2 place moment count said) now later → Grew asked last (moment ∷ [])
+    → Listens s0 s1 place before now answers asked → Told (Round s1 s2 place moment count said) now later → Grew asked last (moment ∷ [])
     → Listens s0 s2 place before later answers last
-listens_more s0 s1 s2 place moment count said before now later answers asked last l turn grew = record {
+listens_more s0 s1 s2 place moment count said before now later answers asked last l round grew = record {
   given = l.given ++ moment ∷ [];
   grew = Grew-trans answers asked last l.given (moment ∷ []) l.grew grew;
-  told = told_and (Listened s0 s1 place l.given) (Turn s1 s2 place moment count said) (Listened s0 s2 place (l.given ++ moment ∷ []))
-      (listened_more s0 s1 s2 place l.given moment count said) before now later l.told turn;
+  told = told_and (Listened s0 s1 place l.given) (Round s1 s2 place moment count said) (Listened s0 s2 place (l.given ++ moment ∷ []))
+      (listened_more s0 s1 s2 place l.given moment count said) before now later l.told round;
 }
 
--- the last turn, and why it is the last
+-- the last round, and why it is the last
 pub hears_out : (heard : Heard) (s0 s1 s2 : Stance) (over ready : Bool) (heard_so_far place limit moment count said : ℕ) (before now later : Option WireEnds)
-    (answers asked last : Option (List ℕ)) → Listens s0 s1 place before now answers asked → Told (Turn s1 s2 place moment count said) now later
+    (answers asked last : Option (List ℕ)) → Listens s0 s1 place before now answers asked → Told (Round s1 s2 place moment count said) now later
     → Grew asked last (moment ∷ []) → ((left : List ℕ) → (count ≡ 0 → left ≡ []) → EndsSo heard over ready heard_so_far limit left)
     → HearsOut heard s0 s2 over ready heard_so_far place limit before later answers last
-hears_out heard s0 s1 s2 over ready heard_so_far place limit moment count said before now later answers asked last l turn grew ends = record {
+hears_out heard s0 s1 s2 over ready heard_so_far place limit moment count said before now later answers asked last l round grew ends = record {
   given = l.given ++ moment ∷ [];
   grew = Grew-trans answers asked last l.given (moment ∷ []) l.grew grew;
-  told = told_and (Listened s0 s1 place l.given) (Turn s1 s2 place moment count said)
+  told = told_and (Listened s0 s1 place l.given) (Round s1 s2 place moment count said)
       (HeardOut heard s0 s2 over ready heard_so_far place limit (l.given ++ moment ∷ []))
       (λ a b c l t. record {
         listened = listened_more s0 s1 s2 place _ moment count said a b c l t;
         ends = ends (end_at place c).left t.none;
-      }) before now later l.told turn;
+      }) before now later l.told round;
 }

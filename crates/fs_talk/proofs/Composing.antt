@@ -3,7 +3,7 @@ use Rattle.std.proofs.Common.{◌≡◌, ℕ, List, [], ◌++◌, refl, ap, sym,
 use Rattle.std.proofs.lemmas.Grind.{flat_map-append}
 use Rattle.std.proofs.lemmas.List.{append-nil}
 use Rattle.fs_base.specs.Wire.{WireEnds, end_at, heard_end, other_than}
-use Rattle.fs_talk.specs.Turn.{Part, Pieces, Stance, octets_in}
+use Rattle.fs_talk.specs.Round.{Part, Pieces, Stance, octets_in}
 use Rattle.fs_talk.proofs.Telling.{heard_none, heard_then}
 
 pub octets_then : (first later : Pieces) → octets_in (first ++ later) ≡ octets_in first ++ octets_in later

@@ -1,4 +1,4 @@
--- Two joined ends, turn by turn.
+-- Two joined ends, round by round.
 use Rattle.std.proofs.Common.{◌≡◌, ℕ, ◌+◌, ◌-◌, ◌<◌, List, [], ◌∷◌, ◌++◌, Bool, true, false, Option, Some, None, if◌then◌else◌, length, refl, ap, sym, ◌∙◌, subst, arith, append_assoc, append-nil, length-append, IsTrue}
 use Rattle.std.proofs.lemmas.Grind.{flat_map-append}
 use Rattle.std.proofs.lemmas.List.{map-append}
@@ -10,7 +10,7 @@ use Rattle.fs_talk.specs.declared.joined.Talk.{Talk}
 use Rattle.fs_talk.specs.declared.joined.Talk.TheVariants.{Broken, Done}
 use Rattle.fs_talk.specs.Joined.{AreJoined, Ended, Exchanged, ExchangedOut, Exchanges, Heard, Side, StopsSo, heard_by, moments_of, of_first, of_second}
 use Rattle.fs_talk.specs.Flow.{no_flow, first_heard, second_heard, second_said}
-use Rattle.fs_talk.specs.Turn.{Pieces, Speech, Stance, Turn, octets_in}
+use Rattle.fs_talk.specs.Round.{Pieces, Speech, Stance, Round, octets_in}
 use Rattle.fs_talk.proofs.Composing.{octets_then, same_stance}
 use Rattle.fs_talk.proofs.Telling.{told_and, told_same}
 
@@ -117,47 +117,47 @@ read_more heard heard' moment got n count e h k =
     omega (arith, h, k, whole)
 
 exchanging_first : (r r1 r2 a a1 : Stance) (given : List ℕ) (flow : Flow) (moment count said : ℕ) (b m n : WireEnds) → Exchanging r r1 a a1 given flow b m
-    → Turn r1 r2 0 moment count said m n → Exchanging r r2 a a1 (given ++ moment ∷ []) (first_heard count said flow) b n
-exchanging_first r r1 r2 a a1 given flow moment count said b m n x turn =
-    let more = first_more x.events moment turn.got in
+    → Round r1 r2 0 moment count said m n → Exchanging r r2 a a1 (given ++ moment ∷ []) (first_heard count said flow) b n
+exchanging_first r r1 r2 a a1 given flow moment count said b m n x round =
+    let more = first_more x.events moment round.got in
     record {
-      events = x.events ++ event true moment turn.got ∷ [];
+      events = x.events ++ event true moment round.got ∷ [];
       exchanged = record {
-        replied = x.exchanged.replied ++ turn.out;
+        replied = x.exchanged.replied ++ round.out;
         announced = x.exchanged.announced;
         one = side_same r r2 _ _ _ _ _ _ b.first n.first (sym more.0) refl refl
-            (side_more r r1 r2 (of_first x.events) ((moment, turn.got) ∷ []) x.exchanged.replied turn.out x.exchanged.announced b.first m.first n.first
-            x.exchanged.one turn.part.stands turn.part.read turn.part.wrote turn.part.tied);
+            (side_more r r1 r2 (of_first x.events) ((moment, round.got) ∷ []) x.exchanged.replied round.out x.exchanged.announced b.first m.first n.first
+            x.exchanged.one round.part.stands round.part.read round.part.wrote round.part.tied);
         other = side_same a a1 _ _ _ _ _ _ b.second n.second (sym more.1) refl refl
-            (side_told a a1 (of_second x.events) x.exchanged.announced x.exchanged.replied turn.out b.second m.second n.second x.exchanged.other turn.part.other);
+            (side_told a a1 (of_second x.events) x.exchanged.announced x.exchanged.replied round.out b.second m.second n.second x.exchanged.other round.part.other);
       };
-      asked = moments_more x.events given true moment turn.got x.asked;
-      to_first = left_less m.first.left n.first.left turn.got flow.to_first count turn.part.read x.to_first turn.counted;
-      to_second = left_grown m.second n.second turn.out flow.to_second said turn.part.other x.exchanged.other.tied x.to_second turn.sized;
-      first_read = read_more (of_first x.events) _ moment turn.got flow.first_read count more.0 x.first_read turn.counted;
+      asked = moments_more x.events given true moment round.got x.asked;
+      to_first = left_less m.first.left n.first.left round.got flow.to_first count round.part.read x.to_first round.counted;
+      to_second = left_grown m.second n.second round.out flow.to_second said round.part.other x.exchanged.other.tied x.to_second round.sized;
+      first_read = read_more (of_first x.events) _ moment round.got flow.first_read count more.0 x.first_read round.counted;
       second_read = x.second_read ∙ ap (λ (p : Pieces). length (octets_in p)) (sym more.1);
     }
 
 exchanging_second : (r r1 a a1 a2 : Stance) (given : List ℕ) (flow : Flow) (moment count said : ℕ) (b m n : WireEnds) → Exchanging r r1 a a1 given flow b m
-    → Turn a1 a2 1 moment count said m n → Exchanging r r1 a a2 (given ++ moment ∷ []) (second_heard count said flow) b n
-exchanging_second r r1 a a1 a2 given flow moment count said b m n x turn =
-    let more = second_more x.events moment turn.got in
+    → Round a1 a2 1 moment count said m n → Exchanging r r1 a a2 (given ++ moment ∷ []) (second_heard count said flow) b n
+exchanging_second r r1 a a1 a2 given flow moment count said b m n x round =
+    let more = second_more x.events moment round.got in
     record {
-      events = x.events ++ event false moment turn.got ∷ [];
+      events = x.events ++ event false moment round.got ∷ [];
       exchanged = record {
         replied = x.exchanged.replied;
-        announced = x.exchanged.announced ++ turn.out;
+        announced = x.exchanged.announced ++ round.out;
         one = side_same r r1 _ _ _ _ _ _ b.first n.first (sym more.0) refl refl
-            (side_told r r1 (of_first x.events) x.exchanged.replied x.exchanged.announced turn.out b.first m.first n.first x.exchanged.one turn.part.other);
+            (side_told r r1 (of_first x.events) x.exchanged.replied x.exchanged.announced round.out b.first m.first n.first x.exchanged.one round.part.other);
         other = side_same a a2 _ _ _ _ _ _ b.second n.second (sym more.1) refl refl
-            (side_more a a1 a2 (of_second x.events) ((moment, turn.got) ∷ []) x.exchanged.announced turn.out x.exchanged.replied b.second m.second n.second
-            x.exchanged.other turn.part.stands turn.part.read turn.part.wrote turn.part.tied);
+            (side_more a a1 a2 (of_second x.events) ((moment, round.got) ∷ []) x.exchanged.announced round.out x.exchanged.replied b.second m.second n.second
+            x.exchanged.other round.part.stands round.part.read round.part.wrote round.part.tied);
       };
-      asked = moments_more x.events given false moment turn.got x.asked;
-      to_first = left_grown m.first n.first turn.out flow.to_first said turn.part.other x.exchanged.one.tied x.to_first turn.sized;
-      to_second = left_less m.second.left n.second.left turn.got flow.to_second count turn.part.read x.to_second turn.counted;
+      asked = moments_more x.events given false moment round.got x.asked;
+      to_first = left_grown m.first n.first round.out flow.to_first said round.part.other x.exchanged.one.tied x.to_first round.sized;
+      to_second = left_less m.second.left n.second.left round.got flow.to_second count round.part.read x.to_second round.counted;
       first_read = x.first_read ∙ ap (λ (p : Pieces). length (octets_in p)) (sym more.0);
-      second_read = read_more (of_second x.events) _ moment turn.got flow.second_read count more.1 x.second_read turn.counted;
+      second_read = read_more (of_second x.events) _ moment round.got flow.second_read count more.1 x.second_read round.counted;
     }
 
 exchanging_said : (r r1 a a1 a2 : Stance) (given : List ℕ) (flow : Flow) (said : ℕ) (b m n : WireEnds) → Exchanging r r1 a a1 given flow b m
@@ -193,27 +193,27 @@ talking_none r a told answers = record {
 }
 
 pub talking_first : (r r1 r2 a a1 : Stance) (flow flow' : Flow) (moment count said : ℕ) (before now later : Option WireEnds) (answers asked last : Option (List ℕ))
-    → Talking r r1 a a1 flow before now answers asked → flow' ≡ first_heard count said flow → Told (Turn r1 r2 0 moment count said) now later → Grew asked last (moment ∷ [])
+    → Talking r r1 a a1 flow before now answers asked → flow' ≡ first_heard count said flow → Told (Round r1 r2 0 moment count said) now later → Grew asked last (moment ∷ [])
     → Talking r r2 a a1 flow' before later answers last
-talking_first r r1 r2 a a1 flow flow' moment count said before now later answers asked last t e turn grew = record {
+talking_first r r1 r2 a a1 flow flow' moment count said before now later answers asked last t e round grew = record {
   given = t.given ++ moment ∷ [];
   grew = Grew-trans answers asked last t.given (moment ∷ []) t.grew grew;
   told = subst (λ (f : Flow). Told (λ b n. AreJoined b → Exchanging r r2 a a1 (t.given ++ moment ∷ []) f b n) before later) (sym e)
-      (told_and (λ b n. AreJoined b → Exchanging r r1 a a1 t.given flow b n) (Turn r1 r2 0 moment count said)
+      (told_and (λ b n. AreJoined b → Exchanging r r1 a a1 t.given flow b n) (Round r1 r2 0 moment count said)
       (λ b n. AreJoined b → Exchanging r r2 a a1 (t.given ++ moment ∷ []) (first_heard count said flow) b n)
-      (λ b m n x turned j. exchanging_first r r1 r2 a a1 t.given flow moment count said b m n (x j) turned) before now later t.told turn);
+      (λ b m n x turned j. exchanging_first r r1 r2 a a1 t.given flow moment count said b m n (x j) turned) before now later t.told round);
 }
 
 pub talking_second : (r r1 a a1 a2 : Stance) (flow flow' : Flow) (moment count said : ℕ) (before now later : Option WireEnds) (answers asked last : Option (List ℕ))
-    → Talking r r1 a a1 flow before now answers asked → flow' ≡ second_heard count said flow → Told (Turn a1 a2 1 moment count said) now later → Grew asked last (moment ∷ [])
+    → Talking r r1 a a1 flow before now answers asked → flow' ≡ second_heard count said flow → Told (Round a1 a2 1 moment count said) now later → Grew asked last (moment ∷ [])
     → Talking r r1 a a2 flow' before later answers last
-talking_second r r1 a a1 a2 flow flow' moment count said before now later answers asked last t e turn grew = record {
+talking_second r r1 a a1 a2 flow flow' moment count said before now later answers asked last t e round grew = record {
   given = t.given ++ moment ∷ [];
   grew = Grew-trans answers asked last t.given (moment ∷ []) t.grew grew;
   told = subst (λ (f : Flow). Told (λ b n. AreJoined b → Exchanging r r1 a a2 (t.given ++ moment ∷ []) f b n) before later) (sym e)
-      (told_and (λ b n. AreJoined b → Exchanging r r1 a a1 t.given flow b n) (Turn a1 a2 1 moment count said)
+      (told_and (λ b n. AreJoined b → Exchanging r r1 a a1 t.given flow b n) (Round a1 a2 1 moment count said)
       (λ b n. AreJoined b → Exchanging r r1 a a2 (t.given ++ moment ∷ []) (second_heard count said flow) b n)
-      (λ b m n x turned j. exchanging_second r r1 a a1 a2 t.given flow moment count said b m n (x j) turned) before now later t.told turn);
+      (λ b m n x turned j. exchanging_second r r1 a a1 a2 t.given flow moment count said b m n (x j) turned) before now later t.told round);
 }
 
 pub talking_said : (r r1 a a1 a2 : Stance) (flow flow' : Flow) (said : ℕ) (before now later : Option WireEnds) (answers asked : Option (List ℕ))
@@ -258,27 +258,27 @@ never_arrives left left' got flying count e h some k none empty =
     absurd (omega (arith, h, some, k, none, whole, ap length empty))
 
 pub never_first : (r r1 r2 a a1 : Stance) (end : Ended) (limit : ℕ) (flow : Flow) (moment count said : ℕ) (before now later : Option WireEnds) (answers asked last : Option (List ℕ))
-    → Talking r r1 a a1 flow before now answers asked → Told (Turn r1 r2 0 moment count said) now later → Grew asked last (moment ∷ []) → 0 < flow.to_first → count ≡ 0
+    → Talking r r1 a a1 flow before now answers asked → Told (Round r1 r2 0 moment count said) now later → Grew asked last (moment ∷ []) → 0 < flow.to_first → count ≡ 0
     → Exchanges Broken r r2 a a1 end limit before later answers last
-never_first r r1 r2 a a1 end limit flow moment count said before now later answers asked last t turn grew some none = record {
+never_first r r1 r2 a a1 end limit flow moment count said before now later answers asked last t round grew some none = record {
   given = t.given ++ moment ∷ [];
   grew = Grew-trans answers asked last t.given (moment ∷ []) t.grew grew;
-  told = told_and (λ b n. AreJoined b → Exchanging r r1 a a1 t.given flow b n) (Turn r1 r2 0 moment count said)
+  told = told_and (λ b n. AreJoined b → Exchanging r r1 a a1 t.given flow b n) (Round r1 r2 0 moment count said)
       (λ b n. AreJoined b → ExchangedOut Broken r r2 a a1 end limit (t.given ++ moment ∷ []) b n)
       (λ b m n x turned j. absurd (never_arrives m.first.left n.first.left turned.got flow.to_first count turned.part.read (x j).to_first some turned.counted none (turned.none none)))
-      before now later t.told turn;
+      before now later t.told round;
 }
 
 pub never_second : (r r1 a a1 a2 : Stance) (end : Ended) (limit : ℕ) (flow : Flow) (moment count said : ℕ) (before now later : Option WireEnds) (answers asked last : Option (List ℕ))
-    → Talking r r1 a a1 flow before now answers asked → Told (Turn a1 a2 1 moment count said) now later → Grew asked last (moment ∷ []) → 0 < flow.to_second → count ≡ 0
+    → Talking r r1 a a1 flow before now answers asked → Told (Round a1 a2 1 moment count said) now later → Grew asked last (moment ∷ []) → 0 < flow.to_second → count ≡ 0
     → Exchanges Broken r r1 a a2 end limit before later answers last
-never_second r r1 a a1 a2 end limit flow moment count said before now later answers asked last t turn grew some none = record {
+never_second r r1 a a1 a2 end limit flow moment count said before now later answers asked last t round grew some none = record {
   given = t.given ++ moment ∷ [];
   grew = Grew-trans answers asked last t.given (moment ∷ []) t.grew grew;
-  told = told_and (λ b n. AreJoined b → Exchanging r r1 a a1 t.given flow b n) (Turn a1 a2 1 moment count said)
+  told = told_and (λ b n. AreJoined b → Exchanging r r1 a a1 t.given flow b n) (Round a1 a2 1 moment count said)
       (λ b n. AreJoined b → ExchangedOut Broken r r1 a a2 end limit (t.given ++ moment ∷ []) b n)
       (λ b m n x turned j. absurd (never_arrives m.second.left n.second.left turned.got flow.to_second count turned.part.read (x j).to_second some turned.counted none (turned.none none)))
-      before now later t.told turn;
+      before now later t.told round;
 }
 
 pub no_octets : (octets : List ℕ) → 0 ≡ length octets → octets ≡ []

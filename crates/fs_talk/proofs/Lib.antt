@@ -1,6 +1,5 @@
 pub mod Telling
 pub mod Composing
-pub mod Turning
 pub mod Attending
 mod Speaking
 mod Exchanging

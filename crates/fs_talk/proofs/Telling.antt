@@ -1,8 +1,7 @@
 -- Steps of a wire that may stop telling, and a piece that is written in parts.
-use Rattle.std.proofs.Common.{◌≡◌, ℕ, List, [], ◌++◌, Bool, true, false, Option, Some, None, length, take, drop, refl, ap, sym, ◌∙◌, arith, append_assoc}
+use Rattle.std.proofs.Common.{◌≡◌, ℕ, List, [], ◌++◌, Bool, true, false, Option, Some, None, take, drop, refl, ap, sym, ◌∙◌, append_assoc}
 use Rattle.std.specs.Prelude.{if◌then◌else◌}
 use Rattle.std.proofs.lemmas.List.{append-nil, take-append-drop}
-use Rattle.std.proofs.lemmas.Grind.{common_steps}
 use Rattle.fs_base.specs.Wire.{TakesIn, Told, WireEnd, WireEnds, end_at, heard_end, other_than, wrote_end}
 
 -- one step and then another are one step
@@ -59,9 +58,6 @@ pub record Wrote (place : ℕ) (piece rest : List ℕ) (before now : Option Wire
   pub split : piece ≡ done ++ rest
   pub told : Told (TakesIn place done) before now
 
-pub wrote_start : (place : ℕ) (piece : List ℕ) (before : Option WireEnds) → Wrote place piece piece before before
-wrote_start place piece before = record { done = []; split = refl; told = told_same (TakesIn place []) (takes_none place) before }
-
 pub wrote_more : (place : ℕ) (piece rest : List ℕ) (before now later : Option WireEnds) (n : ℕ)
     → Wrote place piece rest before now → Told (TakesIn place (take n rest)) now later → Wrote place piece (drop n rest) before later
 wrote_more place piece rest before now later n w step = record {
@@ -70,8 +66,3 @@ wrote_more place piece rest before now later n w step = record {
   told = told_and (TakesIn place w.done) (TakesIn place (take n rest)) (TakesIn place (w.done ++ take n rest))
       (takes_then place w.done (take n rest)) before now later w.told step;
 }
-
-pub wrote_all : (place : ℕ) (piece rest : List ℕ) (before now : Option WireEnds)
-    → Wrote place piece rest before now → length rest ≡ 0 → Told (TakesIn place piece) before now
-wrote_all place piece rest before now w none =
-    let e : piece ≡ w.done = grind (arith, common_steps, w.split) in rw e w.told

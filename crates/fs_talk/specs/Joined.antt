@@ -2,7 +2,7 @@
 use Rattle.std.specs.Prelude.{ℕ, List, [], ◌∷◌, ◌++◌, ◌≡◌, ◌<◌, ◌≤◌, ◌⊎◌, Bool, true, false, if◌then◌else◌, flat_map, map, Option, length, IsTrue}
 use Rattle.fs_base.specs.Sink.{Grew}
 use Rattle.fs_base.specs.Wire.{Told, WireEnd, WireEnds}
-use Rattle.fs_talk.specs.Turn.{Pieces, Stance, octets_in}
+use Rattle.fs_talk.specs.Round.{Pieces, Stance, octets_in}
 use Rattle.fs_talk.specs.declared.joined.Talk.{Talk}
 use Rattle.fs_talk.specs.declared.joined.Talk.TheVariants.{Done, FirstOver, SecondOver, AtLimit, Broken}
 

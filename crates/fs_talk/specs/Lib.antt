@@ -1,4 +1,4 @@
-pub mod Turn
+pub mod Round
 pub mod Listening
 pub mod Flow
 pub mod Joined

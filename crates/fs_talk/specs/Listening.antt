@@ -2,7 +2,7 @@
 use Rattle.std.specs.Prelude.{ℕ, List, [], ◌≡◌, ◌<◌, ◌≤◌, Bool, true, false, Option}
 use Rattle.fs_base.specs.Sink.{Grew}
 use Rattle.fs_base.specs.Wire.{Told, WireEnds, end_at}
-use Rattle.fs_talk.specs.Turn.{Part, Pieces, Stance, moments_in}
+use Rattle.fs_talk.specs.Round.{Part, Pieces, Stance, moments_in}
 use Rattle.fs_talk.specs.declared.listening.Heard.{Heard}
 use Rattle.fs_talk.specs.declared.listening.Heard.TheVariants.{All, Over, Ready, AtLimit}
 

@@ -1,4 +1,4 @@
-//! Two ends that are joined to each other, by turns.
+//! Two ends that are joined to each other, alternately.
 
 ghost use Rattle.std.specs.Prelude.{◌≡◌, ◌≤◌, ◌<◌, ◌+◌, ◌-◌, false, IfOk, OnOk};
 ghost use Rattle.std.specs.Result.{IsErrOf};
@@ -7,8 +7,8 @@ ghost use Rattle.fs_talk.specs.Joined.{Exchanges, ended};
 
 use crate::fault::TalkFault;
 use crate::room::Room;
+use crate::round::{Taken, speak, take_round};
 use crate::speaker::Speaker;
-use crate::turn::{Taken, speak, take_turn};
 use fs_base::{Clock, Memory, Wire};
 
 /// Why two ends hear no more of each other.
@@ -51,26 +51,26 @@ impl Flow {
     }
 
     /// The first end heard and said so much.
-    fn first_heard(&self, turn: &Taken) -> Result<Flow, Memory>
-        ensures { IfOk result (λ flow. flow ≡ first_heard turn.now.count turn.now.said self.now) }
+    fn first_heard(&self, round: &Taken) -> Result<Flow, Memory>
+        ensures { IfOk result (λ flow. flow ≡ first_heard round.now.count round.now.said self.now) }
     {
         Ok(Flow {
-            to_first: self.to_first.saturating_sub(turn.count),
-            to_second: sum(self.to_second, turn.said)?,
-            first_read: sum(self.first_read, turn.count)?,
+            to_first: self.to_first.saturating_sub(round.count),
+            to_second: sum(self.to_second, round.said)?,
+            first_read: sum(self.first_read, round.count)?,
             second_read: self.second_read,
         })
     }
 
     /// The second end heard and said so much.
-    fn second_heard(&self, turn: &Taken) -> Result<Flow, Memory>
-        ensures { IfOk result (λ flow. flow ≡ second_heard turn.now.count turn.now.said self.now) }
+    fn second_heard(&self, round: &Taken) -> Result<Flow, Memory>
+        ensures { IfOk result (λ flow. flow ≡ second_heard round.now.count round.now.said self.now) }
     {
         Ok(Flow {
-            to_first: sum(self.to_first, turn.said)?,
-            to_second: self.to_second.saturating_sub(turn.count),
+            to_first: sum(self.to_first, round.said)?,
+            to_second: self.to_second.saturating_sub(round.count),
             first_read: self.first_read,
-            second_read: sum(self.second_read, turn.count)?,
+            second_read: sum(self.second_read, round.count)?,
         })
     }
 
@@ -92,7 +92,7 @@ fn sum(one: u64, other: u64) -> Result<u64, Memory>
     one.checked_add(other).ok_or(Memory)
 }
 
-/// Two ends that are joined hear each other by turns, each piece at the moment that the clock answers behind its read:
+/// Two ends that are joined hear each other alternately, each piece at the moment that the clock answers behind its read:
 /// the first where octets to it are unread, else the second, else the second says its next message. Until an end has
 /// closed, has heard `limit` octets (the second: up to where it was ready), or nothing more is said.
 ///
@@ -137,27 +137,27 @@ pub fn exchange<W: Wire, C: Clock, R: Speaker, A: Speaker>(
     let mut flow = Flow::none();
     loop {
         if 0 < flow.to_first {
-            let turn = take_turn(wire, clock, 0, first, limit - flow.first_read, room)?;
-            flow = flow.first_heard(&turn)?;
+            let round = take_round(wire, clock, 0, first, limit - flow.first_read, room)?;
+            flow = flow.first_heard(&round)?;
             if first.is_over() {
                 return Ok(Talk::FirstOver);
             }
             if limit <= flow.first_read {
                 return Ok(Talk::AtLimit);
             }
-            if turn.count == 0 {
+            if round.count == 0 {
                 return Ok(Talk::Broken);
             }
         } else if 0 < flow.to_second && flow.second_read < limit {
-            let turn = take_turn(wire, clock, 1, second, limit - flow.second_read, room)?;
-            flow = flow.second_heard(&turn)?;
+            let round = take_round(wire, clock, 1, second, limit - flow.second_read, room)?;
+            flow = flow.second_heard(&round)?;
             if second.is_over() {
                 return Ok(Talk::SecondOver);
             }
             if limit <= second.count() {
                 return Ok(Talk::AtLimit);
             }
-            if turn.count == 0 {
+            if round.count == 0 {
                 return Ok(Talk::Broken);
             }
         } else {

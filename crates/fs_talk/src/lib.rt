@@ -6,12 +6,12 @@ mod fault;
 mod joined;
 mod listening;
 mod room;
+mod round;
 mod speaker;
-mod turn;
 
 pub use fault::TalkFault;
 pub use joined::{Flow, Talk, exchange};
 pub use listening::{Heard, hear_out};
 pub use room::Room;
+pub use round::say_all;
 pub use speaker::Speaker;
-pub use turn::say_all;

@@ -7,8 +7,8 @@ ghost use Rattle.fs_talk.specs.Listening.{HearsOut};
 
 use crate::fault::TalkFault;
 use crate::room::Room;
+use crate::round::take_round;
 use crate::speaker::Speaker;
-use crate::turn::take_turn;
 use fs_base::{Clock, Wire};
 
 /// Why an end hears no more.
@@ -61,7 +61,7 @@ pub fn hear_out<W: Wire, C: Clock, S: Speaker>(
         (C.answers clock.new)) }
 {
     loop {
-        let turn = take_turn(wire, clock, end, speaker, limit - speaker.count(), room)?;
+        let round = take_round(wire, clock, end, speaker, limit - speaker.count(), room)?;
         if speaker.is_over() {
             return Ok(Heard::Over);
         }
@@ -71,7 +71,7 @@ pub fn hear_out<W: Wire, C: Clock, S: Speaker>(
         if speaker.is_ready() {
             return Ok(Heard::Ready);
         }
-        if turn.count == 0 {
+        if round.count == 0 {
             return Ok(Heard::All);
         }
     }

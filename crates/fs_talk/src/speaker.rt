@@ -1,7 +1,7 @@
 //! An end that hears octets and says octets, as a trait.
 
 ghost use Rattle.std.specs.Prelude.{◌≡◌, ◌≤◌, ◌<◌, ◌+◌, ℕ, List, Bool, false, length, IsTrue, IfOk, OnOk};
-ghost use Rattle.fs_talk.specs.Turn.{Hears, Pieces, Says};
+ghost use Rattle.fs_talk.specs.Round.{Hears, Pieces, Says};
 
 use fs_base::Memory;
 

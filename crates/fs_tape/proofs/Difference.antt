@@ -1,8 +1,7 @@
 -- The loop that looks for the first difference of two lists, place by place.
-use Rattle.std.proofs.Common.{◌≡◌, ◌≢◌, ℕ, List, [], ◌∷◌, Some, None, true, false, ◌+◌, ◌<◌, ◌≤◌, ◌==◌, length, get_or, drop, refl, ◌∙◌, arith, drop-cons, add-one}
+use Rattle.std.proofs.Common.{◌≡◌, ◌≢◌, ℕ, List, ◌∷◌, Some, true, false, ◌+◌, ◌<◌, ◌==◌, length, get_or, drop, refl, ◌∙◌, arith, drop-cons, add-one}
 use Rattle.std.specs.Prelude.{if◌then◌else◌}
 use Rattle.std.proofs.lemmas.Bool.Decides.{nat_tests}
-use Rattle.std.proofs.lemmas.Grind.{common_steps}
 use Rattle.fs_tape.specs.Magic.{difference_from}
 
 pub difference_step : (place : ℕ) (xs ys : List ℕ) → place < length xs → place < length ys
@@ -25,6 +24,3 @@ pub difference_found : (place : ℕ) (xs ys : List ℕ) → place < length xs �
 difference_found place xs ys within had differ =
     let test : get_or xs place 0 == get_or ys place 0 ≡ false = grind (arith, nat_tests) in
     difference_step place xs ys within had ∙ rw test refl
-
-pub difference_end : (place : ℕ) (xs ys : List ℕ) → length xs ≤ place → difference_from place (drop place xs) ys ≡ None
-difference_end place xs ys past = let none : drop place xs ≡ [] = grind (arith, common_steps) in rw none refl

@@ -25,22 +25,22 @@ pub(crate) struct Said {
 /// What the reading of a head depends on: the configured peers, the tape's version, and the moment of the record
 /// before.
 #[derive(Drop)]
-pub(crate) struct Standing<'a> {
+pub(crate) struct Context<'a> {
     pub(crate) config: &'a Config,
     pub(crate) version: Version,
     pub(crate) moment: u64,
 }
 
-impl<'a> Model for Standing<'a> {
+impl<'a> Model for Context<'a> {
     ghost use Rattle.fs_tape.specs.Header.{Stands};
 
     ghost Value = { Stands };
 
-    ghost view = { λ standing.
-        record { config = standing.config.now; version = standing.version; moment = standing.moment } };
+    ghost view = { λ context.
+        record { config = context.config.now; version = context.version; moment = context.moment } };
 }
 
-impl<'a> Heads for Standing<'a> {
+impl<'a> Heads for Context<'a> {
     ghost use Rattle.std.specs.Prelude.{◌<◌};
     ghost use Rattle.std.proofs.Common.{rules};
     ghost use Rattle.fs_tape.specs.declared.magic.Version.TheVariants.{One, Two};
@@ -89,7 +89,7 @@ impl<'a> Heads for Standing<'a> {
     ] };
 }
 
-impl<'a> Standing<'a> {
+impl<'a> Context<'a> {
     /// Goes on behind the kind.
     fn read_peer(&self, kind: Kind, octets: &[u8]) -> Head<Said, TapeReason>
         ensures exact { result ≡ peer_field self.now.config self.now.version self.now.moment kind octets.now }

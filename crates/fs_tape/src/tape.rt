@@ -12,7 +12,7 @@ ghost use Rattle.fs_tape.specs.Header.{longest_payload};
 ghost use Rattle.fs_tape.specs.Tape.{Grows, IsBegun, IsItem, Tells, Times, item_from, timed, version_of};
 
 use crate::fault::{TapeFault, TapeReason};
-use crate::header::{Said, Standing};
+use crate::header::{Context, Said};
 use crate::item::{Kind, TapeItem};
 use crate::magic::{MAGIC_SIZE, Version, read_magic};
 use fs_base::{Config, Counted, Files, fill};
@@ -141,12 +141,12 @@ impl Tape {
             result }
         ensures others { OnlySlot F.tells F.left F.holds self.old.slot files.old files.new }
     {
-        let standing = Standing {
+        let context = Context {
             config,
             version: self.version,
             moment: self.moment,
         };
-        match next_record(&standing, &mut self.counted, &mut self.end, files, into) {
+        match next_record(&context, &mut self.counted, &mut self.end, files, into) {
             Ok(Some(found)) => {
                 self.moment = found.said.moment;
                 Ok(Some(item(found.said, found.size)))

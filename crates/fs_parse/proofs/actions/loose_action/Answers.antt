@@ -1,11 +1,11 @@
 use Rattle.std.proofs.Common.{map}
-use Rattle.fs_parse.specs.Shown.{shown}
+use Rattle.fs_parse.specs.Parts.{as_part}
 use Rattle.fs_parse.proofs.Found.{found}
 use Rattle.fs_parse.proofs.actions.loose_action.Goals as goal
 
 pub returns : goal.returns
 returns c = λ action is parts.
-    found c.args.name.now action (map shown c.args.parts.now) c.loose_octets.result is parts (record {
+    found c.args.name.now action (map as_part c.args.parts.now) c.loose_octets.result is parts (record {
       bytes = c.loose_octets.ensures.bytes;
       packets = c.loose_octets.ensures.packets;
       control = c.loose_octets.ensures.control;

@@ -28,6 +28,6 @@ loop-plain-preserved c = (
       left c.first_pair.ensures.parts c.loose_pair.ensures.loose in
       let said = said_first c.loose_pair.result c.in-Some.plain c.in-Some.value (plain_of c.args.kind left.pair.0) left.pair.1 c.in-Some.is t.1 in
       next_left c.args.kind pairs c.loop-plain.pairs.items c.push-in-Some-split_first.new.self.items c.loop-plain.joined c.and_bit-joined.result c.in-Some.plain c.in-Some.value
-      c.in-Some-split_first.mark.now c.in-Some-split_first.others.now left.pair left.others left.normal left.split left.joins
+      c.in-Some-split_first.delimiter.now c.in-Some-split_first.others.now left.pair left.others left.normal left.split left.joins
       (sym t.0 ∙ c.in-Some-split_first.ensures.cases.0) said.0 said.1 c.in_ok-push-in-Some-split_first.ensures.items c.and_bit-joined.ensures.value,
 )

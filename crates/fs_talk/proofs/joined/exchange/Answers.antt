@@ -16,17 +16,17 @@ loop-flow-init g c = record {
   talking = rw c.none-flow.ensures (talking_none _ _ _ _);
 }
 
-pub loop-flow-preserved-else-turn-eq0 : goal.loop-flow-preserved-else-turn-eq0
-loop-flow-preserved-else-turn-eq0 g c = record {
+pub loop-flow-preserved-else-round-eq0 : goal.loop-flow-preserved-else-round-eq0
+loop-flow-preserved-else-round-eq0 g c = record {
   later = search rules;
   within_first = search rules;
   within_second = c.loop-flow.invariant.within_second;
   open_first = search rules;
   open_second = c.loop-flow.invariant.open_second;
   counted = search rules;
-  own_first = c.in_ok-turn.ensures.own ∙ c.loop-flow.invariant.own_first;
+  own_first = c.in_ok-round.ensures.own ∙ c.loop-flow.invariant.own_first;
   own_second = c.loop-flow.invariant.own_second;
-  talking = talking_first _ _ _ _ _ _ _ _ _ _ _ _ _ _ _ _ c.loop-flow.invariant.talking c.in_ok-flow.ensures c.in_ok-turn.ensures.turn c.in_ok-turn.ensures.moment;
+  talking = talking_first _ _ _ _ _ _ _ _ _ _ _ _ _ _ _ _ c.loop-flow.invariant.talking c.in_ok-flow.ensures c.in_ok-round.ensures.round c.in_ok-round.ensures.moment;
 }
 
 pub loop-flow-preserved-then-flow-limit : goal.loop-flow-preserved-then-flow-limit
@@ -38,8 +38,8 @@ loop-flow-preserved-then-flow-limit g c = record {
   open_second = search rules;
   counted = search rules;
   own_first = c.loop-flow.invariant.own_first;
-  own_second = c.in_ok-turn-2.ensures.own ∙ c.loop-flow.invariant.own_second;
-  talking = talking_second _ _ _ _ _ _ _ _ _ _ _ _ _ _ _ _ c.loop-flow.invariant.talking c.in_ok-flow-2.ensures c.in_ok-turn-2.ensures.turn c.in_ok-turn-2.ensures.moment;
+  own_second = c.in_ok-round-2.ensures.own ∙ c.loop-flow.invariant.own_second;
+  talking = talking_second _ _ _ _ _ _ _ _ _ _ _ _ _ _ _ _ c.loop-flow.invariant.talking c.in_ok-flow-2.ensures c.in_ok-round-2.ensures.round c.in_ok-round-2.ensures.moment;
 }
 
 pub loop-flow-preserved : goal.loop-flow-preserved
@@ -57,31 +57,31 @@ loop-flow-preserved g c = record {
 
 pub returns-then-is_over-clause-talked : goal.returns-then-is_over-clause-talked
 returns-then-is_over-clause-talked g c =
-    talked _ _ _ _ _ _ _ _ _ _ _ _ (talking_first _ _ _ _ _ _ _ _ _ _ _ _ _ _ _ _ c.loop-flow.invariant.talking c.in_ok-flow.ensures c.in_ok-turn.ensures.turn c.in_ok-turn.ensures.moment)
+    talked _ _ _ _ _ _ _ _ _ _ _ _ (talking_first _ _ _ _ _ _ _ _ _ _ _ _ _ _ _ _ c.loop-flow.invariant.talking c.in_ok-flow.ensures c.in_ok-round.ensures.round c.in_ok-round.ensures.moment)
     (λ events now first second read. (search rules, c.loop-flow.invariant.open_second))
 
 pub returns-then-limit-flow-clause-talked : goal.returns-then-limit-flow-clause-talked
 returns-then-limit-flow-clause-talked g c =
-    talked _ _ _ _ _ _ _ _ _ _ _ _ (talking_first _ _ _ _ _ _ _ _ _ _ _ _ _ _ _ _ c.loop-flow.invariant.talking c.in_ok-flow.ensures c.in_ok-turn.ensures.turn c.in_ok-turn.ensures.moment)
+    talked _ _ _ _ _ _ _ _ _ _ _ _ (talking_first _ _ _ _ _ _ _ _ _ _ _ _ _ _ _ _ c.loop-flow.invariant.talking c.in_ok-flow.ensures c.in_ok-round.ensures.round c.in_ok-round.ensures.moment)
     (λ events now first second read. (search rules, (c.loop-flow.invariant.open_second, inl (search rules))))
 
-pub returns-then-turn-eq0-clause-talked : goal.returns-then-turn-eq0-clause-talked
-returns-then-turn-eq0-clause-talked g c =
-    never_first _ _ _ _ _ _ _ _ _ _ _ _ _ _ _ _ _ c.loop-flow.invariant.talking c.in_ok-turn.ensures.turn c.in_ok-turn.ensures.moment (search rules) (search rules)
+pub returns-then-round-eq0-clause-talked : goal.returns-then-round-eq0-clause-talked
+returns-then-round-eq0-clause-talked g c =
+    never_first _ _ _ _ _ _ _ _ _ _ _ _ _ _ _ _ _ c.loop-flow.invariant.talking c.in_ok-round.ensures.round c.in_ok-round.ensures.moment (search rules) (search rules)
 
 pub returns-then-is_over-2-clause-talked : goal.returns-then-is_over-2-clause-talked
 returns-then-is_over-2-clause-talked g c =
-    talked _ _ _ _ _ _ _ _ _ _ _ _ (talking_second _ _ _ _ _ _ _ _ _ _ _ _ _ _ _ _ c.loop-flow.invariant.talking c.in_ok-flow-2.ensures c.in_ok-turn-2.ensures.turn c.in_ok-turn-2.ensures.moment)
+    talked _ _ _ _ _ _ _ _ _ _ _ _ (talking_second _ _ _ _ _ _ _ _ _ _ _ _ _ _ _ _ c.loop-flow.invariant.talking c.in_ok-flow-2.ensures c.in_ok-round-2.ensures.round c.in_ok-round-2.ensures.moment)
     (λ events now first second read. (c.loop-flow.invariant.open_first, search rules))
 
 pub returns-then-limit-count-clause-talked : goal.returns-then-limit-count-clause-talked
 returns-then-limit-count-clause-talked g c =
-    talked _ _ _ _ _ _ _ _ _ _ _ _ (talking_second _ _ _ _ _ _ _ _ _ _ _ _ _ _ _ _ c.loop-flow.invariant.talking c.in_ok-flow-2.ensures c.in_ok-turn-2.ensures.turn c.in_ok-turn-2.ensures.moment)
+    talked _ _ _ _ _ _ _ _ _ _ _ _ (talking_second _ _ _ _ _ _ _ _ _ _ _ _ _ _ _ _ c.loop-flow.invariant.talking c.in_ok-flow-2.ensures c.in_ok-round-2.ensures.round c.in_ok-round-2.ensures.moment)
     (λ events now first second read. (c.loop-flow.invariant.open_first, (search rules, inr (search rules))))
 
-pub returns-then-turn-eq0-2-clause-talked : goal.returns-then-turn-eq0-2-clause-talked
-returns-then-turn-eq0-2-clause-talked g c =
-    never_second _ _ _ _ _ _ _ _ _ _ _ _ _ _ _ _ _ c.loop-flow.invariant.talking c.in_ok-turn-2.ensures.turn c.in_ok-turn-2.ensures.moment (search rules) (search rules)
+pub returns-then-round-eq0-2-clause-talked : goal.returns-then-round-eq0-2-clause-talked
+returns-then-round-eq0-2-clause-talked g c =
+    never_second _ _ _ _ _ _ _ _ _ _ _ _ _ _ _ _ _ c.loop-flow.invariant.talking c.in_ok-round-2.ensures.round c.in_ok-round-2.ensures.moment (search rules) (search rules)
 
 pub returns-in_default-clause-talked : goal.returns-in_default-clause-talked
 returns-in_default-clause-talked g c =

@@ -2,8 +2,8 @@ use Rattle.std.proofs.Common.{◌≡◌, ◌≤◌, ◌<◌, ◌-◌}
 use Rattle.fs_talk.specs.Listening.{Listens}
 use Rattle.fs_talk.proofs.listening.hear_out.Given as goal
 
-abbrev pub invariant-loop-turn : goal.invariant-loop-turn
-invariant-loop-turn g l = record {
+abbrev pub invariant-loop-round : goal.invariant-loop-round
+invariant-loop-round g l = record {
   later : g.W.Wire.faults l.fn.wire ≤ g.W.Wire.faults l.wire;
   within : g.S.Speaker.count l.speaker < l.fn.limit;
   own : g.S.Speaker.own l.speaker ≡ g.S.Speaker.own l.fn.speaker;
@@ -18,5 +18,5 @@ invariant-loop-turn g l = record {
       (g.C.Clock.answers l.clock);
 }
 
-abbrev pub decreases-loop-turn : goal.decreases-loop-turn
-decreases-loop-turn g l = l.fn.limit - g.S.Speaker.count l.speaker
+abbrev pub decreases-loop-round : goal.decreases-loop-round
+decreases-loop-round g l = l.fn.limit - g.S.Speaker.count l.speaker

@@ -1,7 +1,7 @@
 use Rattle.std.proofs.Common.{◌≤◌, ◌≡◌}
 use Rattle.fs_base.specs.Wire.{Told}
-use Rattle.fs_talk.specs.Turn.{Spoken}
-use Rattle.fs_talk.proofs.turn.say_all.Given as goal
+use Rattle.fs_talk.specs.Round.{Spoken}
+use Rattle.fs_talk.proofs.round.say_all.Given as goal
 
 abbrev pub invariant-messages : goal.invariant-messages
 invariant-messages g l = record {

@@ -1,6 +1,6 @@
 use Rattle.std.proofs.Common.{◌≤◌, length}
 use Rattle.fs_talk.proofs.Telling.{Wrote}
-use Rattle.fs_talk.proofs.turn.write_end.Given as goal
+use Rattle.fs_talk.proofs.round.write_end.Given as goal
 
 abbrev pub invariant-loop-rest : goal.invariant-loop-rest
 invariant-loop-rest g l = record {

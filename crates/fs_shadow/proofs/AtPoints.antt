@@ -14,7 +14,7 @@ use Rattle.fs_packet.proofs.Flags.{AreWide, holds_same, sound_is_wide}
 use Rattle.fs_nlri.specs.Parts.{ListBody}
 use Rattle.fs_nlri.specs.Sound.{IsSoundBody}
 use Rattle.fs_shadow.specs.Contains.{implies, numbers_lie_in}
-use Rattle.fs_shadow.specs.Marks.{are_implied, implied_around, implied_at}
+use Rattle.fs_shadow.specs.Points.{are_implied, implied_around, implied_at}
 use Rattle.fs_shadow.proofs.Below.{below_is}
 
 -- no pair's value is the number behind n, or n itself

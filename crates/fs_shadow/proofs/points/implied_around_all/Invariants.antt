@@ -1,7 +1,7 @@
 use Rattle.std.proofs.Common.{◌≡◌, drop}
 use Rattle.std.specs.List.{list_all}
-use Rattle.fs_shadow.specs.Marks.{implied_around}
-use Rattle.fs_shadow.proofs.marks.implied_around_all.Given as goal
+use Rattle.fs_shadow.specs.Points.{implied_around}
+use Rattle.fs_shadow.proofs.points.implied_around_all.Given as goal
 
 -- what is left answers for all
 abbrev pub invariant-loop-value : goal.invariant-loop-value

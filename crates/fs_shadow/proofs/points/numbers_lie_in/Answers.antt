@@ -1,7 +1,7 @@
 use Rattle.std.proofs.Common.{◌∙◌}
-use Rattle.fs_shadow.specs.Marks.{are_implied}
-use Rattle.fs_shadow.proofs.Marking.{marks_tell}
-use Rattle.fs_shadow.proofs.marks.numbers_lie_in.Goals as goal
+use Rattle.fs_shadow.specs.Points.{are_implied}
+use Rattle.fs_shadow.proofs.AtPoints.{marks_tell}
+use Rattle.fs_shadow.proofs.points.numbers_lie_in.Goals as goal
 
 pub returns : goal.returns
 returns c =

@@ -37,7 +37,7 @@ pub record Part (old new : Stance) (place : ℕ) (heard : Pieces) (said : List �
   pub other : other_than place now ≡ heard_end said (other_than place before)
 
 -- one read, and what was said to it; a read of none says that nothing is left
-pub record Turn (old new : Stance) (place moment count said : ℕ) (before now : WireEnds) : Type 0 where
+pub record Round (old new : Stance) (place moment count said : ℕ) (before now : WireEnds) : Type 0 where
   pub got : List ℕ
   pub out : List ℕ
   pub part : Part old new place ((moment, got) ∷ []) out before now

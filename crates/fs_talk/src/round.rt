@@ -1,4 +1,4 @@
-//! One turn of an end, and one message of its own.
+//! One round of an end, and one message of its own.
 
 ghost use Rattle.std.specs.Prelude.{◌≡◌, ◌≤◌, ◌<◌, ◌+◌, ◌∷◌, [], ℕ, false, IsSome, IsTrue, None, IfOk, OnOk, OnErr, Ok, length, unwrap_or};
 ghost use Rattle.std.specs.Result.{IsErrOf};
@@ -7,7 +7,7 @@ ghost use Rattle.fs_base.specs.Outside.{HasCause, Rose};
 ghost use Rattle.fs_base.specs.Sink.{Grew};
 ghost use Rattle.fs_base.specs.Wire.{EndReads, TakesIn, Told};
 ghost use Rattle.fs_base.specs.declared.outside.files.Failed.{Failed};
-ghost use Rattle.fs_talk.specs.Turn.{Speech, Spoken, Turn};
+ghost use Rattle.fs_talk.specs.Round.{Speech, Spoken, Round};
 
 use crate::fault::TalkFault;
 use crate::room::{PIECE, Room};
@@ -66,7 +66,7 @@ pub struct Taken {
 
 /// Reads from an end, at most `left` octets and at most a piece, hands them to the speaker with the moment behind the
 /// read, and writes what it says to them.
-pub fn take_turn<W: Wire, C: Clock, S: Speaker>(
+pub fn take_round<W: Wire, C: Clock, S: Speaker>(
     wire: &mut W,
     clock: &mut C,
     end: u8,
@@ -79,9 +79,9 @@ pub fn take_turn<W: Wire, C: Clock, S: Speaker>(
     ensures later { W.faults wire.old ≤ W.faults wire.new }
     ensures failed { IsErrOf result TalkFault.Failed → Rose (W.faults wire.old) (W.faults wire.new) }
     ensures within { IfOk result (λ taken. taken.count ≤ left) }
-    ensures turn { IfOk result (λ taken.
+    ensures round { IfOk result (λ taken.
         Told
-        (Turn (S.stands speaker.old) (S.stands speaker.new) end taken.moment taken.count taken.said)
+        (Round (S.stands speaker.old) (S.stands speaker.new) end taken.moment taken.count taken.said)
         (W.tells wire.old)
         (W.tells wire.new)) }
     ensures moment { IfOk result (λ taken. Grew (C.answers clock.old) (C.answers clock.new) (taken.moment ∷ [])) }
