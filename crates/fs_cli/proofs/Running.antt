@@ -23,7 +23,7 @@ use Rattle.fs_wires.proofs.Promising.{announce_promises, announce_status}
 use Rattle.fs_wires.specs.PromisedHearing.{ListenPromises}
 use Rattle.fs_wires.proofs.PromisingHearing.{listen_promises, listen_status}
 use Rattle.fs_wires.proofs.PromisingPair.{pair_promises, pair_status}
-use Rattle.fs_cli.specs.Program.{ChecksSo, Does, Runs, HasNoMoments, HasStatus, HasCauses, Completes, Promises, world, FailedOver, OutsideFailed, WireServed, World, AreTold, FilesKept, SinkKept, WireKept, ClockKept, names_in, happened_in, talk_in, speaks}
+use Rattle.fs_cli.specs.Program.{ChecksSo, Does, Runs, HasNoMoments, HasStatus, HasCauses, Completes, Promises, objects, FailedOver, OutsideFailed, WireServed, Objects, AreTold, FilesKept, SinkKept, WireKept, ClockKept, names_in, happened_in, talk_in, speaks}
 use Rattle.fs_enforce.specs.Command.{EnforcesSo, Enforced, Inputs, inputs, inputs_stage, status_for}
 use Rattle.fs_generate.specs.Command.{GeneratesSo, Generated}
 use Rattle.fs_stages.specs.Load.{Names, fetch, config_stage}
@@ -32,7 +32,7 @@ use Rattle.fs_mrt.specs.declared.fault.DumpReason.{DumpReason}
 use Rattle.fs_convert.specs.Command.{Converted, ConvertsSo, convert_status, dump_stage, status_for as status_by, status_at as dump_status, verdict_of}
 use Rattle.fs_convert.specs.Making.{remade}
 use Rattle.fs_convert.proofs.Fitting.{reads_back_converted}
-use Rattle.fs_cli.specs.Survey.{Text, ListsSo, Listed, listed_status, text_for}
+use Rattle.fs_cli.specs.Survey.{Text, ListsSo, Surveyed, listed_status, text_for}
 use Rattle.fs_cli.specs.declared.command.Subject.{Subject}
 use Rattle.fs_cli.specs.declared.survey.Survey.{Survey}
 use Rattle.fs_tape.specs.declared.magic.Version.TheVariants.{Two}
@@ -266,7 +266,7 @@ runs_headline tells limit holds form call talk answer told r zero config tape ca
 -- the listing
 
 listed_well : (survey : Text) (limit : ℕ) (holds : Names) (config tape : List ℕ) (failed : Type 0) (call : Happened) (answer : ℕ)
-    → ListsSo survey limit holds config tape failed call.before.written call.now.written answer → answer ≡ 0 → Listed survey limit holds config tape call
+    → ListsSo survey limit holds config tape failed call.before.written call.now.written answer → answer ≡ 0 → Surveyed survey limit holds config tape call
 listed_well survey limit holds config tape failed call answer (inl ends) zero = absurd (at ends.2.status_is)
   where
     at : Caused failed (status_of ends.0) answer → ⊥
@@ -303,7 +303,7 @@ listed_well survey limit holds config tape failed call answer (inr (inr shows)) 
 
 pub runs_listed : (tells : Bool) (limit : ℕ) (holds : Names) (form : Option Form) (call : Happened) (talk : Conversation) (answer : ℕ)
     → IsTrue tells → Runs tells limit holds form call talk answer → answer ≡ 0
-    → (survey : Survey) (config tape : List ℕ) → form ≡ Some (Surveys survey config tape) → Listed (text_for survey) limit holds config tape call
+    → (survey : Survey) (config tape : List ℕ) → form ≡ Some (Surveys survey config tape) → Surveyed (text_for survey) limit holds config tape call
 runs_listed tells limit holds form call talk answer told r zero survey config tape e =
     listed_well (text_for survey) limit holds config tape (FilesFailed call ⊎ SinkFailed call) call answer
     ((subst (λ (f : Option Form). Runs tells limit holds f call talk answer) e r).1 told) zero
@@ -419,7 +419,7 @@ wants_enforce tells limit holds form config tape capture old new result answer e
 
 pub promises_none : {F S W C : Type 0} (limit : ℕ) (of_files : files.Ghosts F) (of_sink : sink.Ghosts S) (of_wire : wire.Ghosts W) (of_clock : clock.Ghosts C) (files : F) (sink : S) (wire : W) (clock : C)
     (words : List (List ℕ)) → None ≡ form_of words
-    → Promises limit (world of_files of_sink of_wire of_clock files files sink sink wire wire clock clock) words 2
+    → Promises limit (objects of_files of_sink of_wire of_clock files files sink sink wire wire clock clock) words 2
 promises_none limit of_files of_sink of_wire of_clock files sink wire clock words e =
     let call : Happened = with_wire of_wire wire wire (happened of_files of_sink files files sink sink) in
     let talk : Conversation = conversation of_wire of_clock wire wire clock clock in
@@ -456,7 +456,7 @@ some_form form other o e asked = let same : Some form ≡ Some other = e ∙ ask
 
 -- of a command that was run
 
-pub promises_some : {F S W C : Type 0} (limit : ℕ) (w : World F S W C) (words : List (List ℕ)) (form : Form) (answer : ℕ)
+pub promises_some : {F S W C : Type 0} (limit : ℕ) (w : Objects F S W C) (words : List (List ℕ)) (form : Form) (answer : ℕ)
     → Some form ≡ form_of words
     → Does w.of_files.tells limit (names_in w) form (happened_in w) (talk_in w) answer
     → answer ≢ 2

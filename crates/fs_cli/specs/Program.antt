@@ -20,7 +20,7 @@ use Rattle.fs_wires.specs.PromisedHearing.{HasListenStatus, ListenPromises}
 use Rattle.fs_cli.specs.Command.{Form, Enforce, Surveys, Converts, Check, Gen, form_of, Announce, Listen, Pair}
 use Rattle.fs_stages.specs.Play.{HasVersion, accepted_stage}
 use Rattle.fs_tape.specs.declared.magic.Version.TheVariants.{Two}
-use Rattle.fs_cli.specs.Survey.{Lists, Listed, listed_status, text_for}
+use Rattle.fs_cli.specs.Survey.{Lists, Surveyed, listed_status, text_for}
 use Rattle.fs_cli.specs.declared.command.Subject.{Subject}
 use Rattle.fs_cli.specs.declared.command.Subject.TheVariants.{Nlri, Text}
 use Rattle.fs_cli.specs.declared.survey.Survey.{Survey}
@@ -122,8 +122,8 @@ HasNoMoments tells limit holds form =
     (config tape capture : List ℕ) → form ≡ Enforce config tape capture
     → IsTrue tells × (HasVersion limit holds tape Two → ⊥)
 
--- The world of a run: the files, the sink, the wire and the clock, before it and behind it.
-pub record World (F S W C : Type 0) : Type 1 where
+-- The objects of a run: the files, the sink, the wire and the clock, before it and behind it.
+pub record Objects (F S W C : Type 0) : Type 1 where
   pub of_files : files.Ghosts F
   pub of_sink : sink.Ghosts S
   pub of_wire : wire.Ghosts W
@@ -137,9 +137,9 @@ pub record World (F S W C : Type 0) : Type 1 where
   pub clock_before : C
   pub clock_behind : C
 
--- in a clause: `world F.Files S.Sink W.Wire C.Clock files.old files.new sink.old sink.new wire.old wire.new clock.old clock.new`
-abbrev pub world : {F S W C : Type 0} → files.Ghosts F → sink.Ghosts S → wire.Ghosts W → clock.Ghosts C → F → F → S → S → W → W → C → C → World F S W C
-world of_files of_sink of_wire of_clock files files_now sink sink_now wire wire_now clock clock_now = record {
+-- in a clause: `objects F.Files S.Sink W.Wire C.Clock files.old files.new sink.old sink.new wire.old wire.new clock.old clock.new`
+abbrev pub objects : {F S W C : Type 0} → files.Ghosts F → sink.Ghosts S → wire.Ghosts W → clock.Ghosts C → F → F → S → S → W → W → C → C → Objects F S W C
+objects of_files of_sink of_wire of_clock files files_now sink sink_now wire wire_now clock clock_now = record {
   of_files = of_files;
   of_sink = of_sink;
   of_wire = of_wire;
@@ -155,36 +155,36 @@ world of_files of_sink of_wire of_clock files files_now sink sink_now wire wire_
 }
 
 -- the files tell what they hold
-abbrev pub AreTold : {F S W C : Type 0} → World F S W C → Type 0
+abbrev pub AreTold : {F S W C : Type 0} → Objects F S W C → Type 0
 AreTold w = IsTrue w.of_files.tells
 
 -- what each name held before the run
-abbrev pub names_in : {F S W C : Type 0} → World F S W C → Names
+abbrev pub names_in : {F S W C : Type 0} → Objects F S W C → Names
 names_in w = w.of_files.holds w.files_before
 
-abbrev pub happened_in : {F S W C : Type 0} → World F S W C → Happened
+abbrev pub happened_in : {F S W C : Type 0} → Objects F S W C → Happened
 happened_in w =
     with_wire w.of_wire w.wire_before w.wire_behind
     (happened w.of_files w.of_sink w.files_before w.files_behind w.sink_before w.sink_behind)
 
 -- what wire and clock told before the run and behind it
-abbrev pub talk_in : {F S W C : Type 0} → World F S W C → Conversation
+abbrev pub talk_in : {F S W C : Type 0} → Objects F S W C → Conversation
 talk_in w = conversation w.of_wire w.of_clock w.wire_before w.wire_behind w.clock_before w.clock_behind
 
-abbrev pub FilesKept : {F S W C : Type 0} → World F S W C → Type 0
+abbrev pub FilesKept : {F S W C : Type 0} → Objects F S W C → Type 0
 FilesKept w = w.files_behind ≡ w.files_before
 
-abbrev pub SinkKept : {F S W C : Type 0} → World F S W C → Type 0
+abbrev pub SinkKept : {F S W C : Type 0} → Objects F S W C → Type 0
 SinkKept w = w.sink_behind ≡ w.sink_before
 
-abbrev pub WireKept : {F S W C : Type 0} → World F S W C → Type 0
+abbrev pub WireKept : {F S W C : Type 0} → Objects F S W C → Type 0
 WireKept w = w.wire_behind ≡ w.wire_before
 
-abbrev pub ClockKept : {F S W C : Type 0} → World F S W C → Type 0
+abbrev pub ClockKept : {F S W C : Type 0} → Objects F S W C → Type 0
 ClockKept w = w.clock_behind ≡ w.clock_before
 
 -- What a run of the program promises, for inputs of fewer than `limit` octets each.
-pub record Promises {F S W C : Type 0} (limit : ℕ) (w : World F S W C) (words : List (List ℕ)) (answer : ℕ) : Type 0 where
+pub record Promises {F S W C : Type 0} (limit : ℕ) (w : Objects F S W C) (words : List (List ℕ)) (answer : ℕ) : Type 0 where
   -- All that is answered and written, exactly: the defined status and the whole text; or want of memory, or a call on
   -- the outside that failed, and a front of the text.
   pub runs : Runs w.of_files.tells limit (names_in w) (form_of words) (happened_in w) (talk_in w) answer
@@ -223,7 +223,7 @@ pub record Promises {F S W C : Type 0} (limit : ℕ) (w : World F S W C) (words 
   -- `list`, the admitted rules in words.
   pub listed : AreTold w → answer ≡ 0 → (survey : Survey) (config tape : List ℕ)
       → form_of words ≡ Some (Surveys survey config tape)
-      → Listed (text_for survey) limit (names_in w) config tape (happened_in w)
+      → Surveyed (text_for survey) limit (names_in w) config tape (happened_in w)
   -- At 0 `convert` wrote the tape of the second version whose items the dump's records make.
   pub converted : AreTold w → answer ≡ 0 → (config dump : List ℕ)
       → form_of words ≡ Some (Converts config dump)

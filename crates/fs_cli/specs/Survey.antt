@@ -70,7 +70,7 @@ listed_status (Stopped refusal) = status_of refusal
 
 -- Of the files that these names hold, both without a fault and within the limit, the survey was written: of the items of
 -- the tape, and of the routes that they leave held.
-pub record Listed (survey : Text) (limit : ℕ) (holds : Names) (config tape : List ℕ) (call : Happened) : Type 0 where
+pub record Surveyed (survey : Text) (limit : ℕ) (holds : Names) (config tape : List ℕ) (call : Happened) : Type 0 where
   pub config_octets : List ℕ
   pub config_is : holds config ≡ Some config_octets
   pub config_within : length config_octets < limit

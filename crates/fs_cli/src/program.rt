@@ -4,7 +4,7 @@ ghost use Rattle.std.specs.Prelude.{◌≡◌, ◌≢◌, ◌≤◌, ◌^◌, �
 ghost use Rattle.fs_base.specs.Happened.{at_sink, happened, with_wire};
 ghost use Rattle.fs_base.specs.Outside.{Rose};
 ghost use Rattle.fs_cli.specs.declared.command.Subject.{Subject};
-ghost use Rattle.fs_cli.specs.Program.{Checks, Does, HasNoMoments, Promises, WroteOn, speaks, world};
+ghost use Rattle.fs_cli.specs.Program.{Checks, Does, HasNoMoments, Promises, WroteOn, speaks, objects};
 ghost use Rattle.fs_cli.specs.Command.{form_shown, Check, Enforce, Gen};
 ghost use Rattle.fs_stages.specs.Refusal.{answered};
 ghost use Rattle.fs_wires.specs.Conversation.{conversation};
@@ -34,7 +34,7 @@ pub fn run<F: Files, S: Sink, W: Wire, C: Clock>(
     clock: &mut C,
 ) -> u8
     ensures { Promises (2 ^ 40)
-        (world F.Files S.Sink W.Wire C.Clock
+        (objects F.Files S.Sink W.Wire C.Clock
         files.old files.new sink.old sink.new wire.old wire.new clock.old clock.new)
         (map string_bytes words.now) result }
 {
@@ -57,7 +57,7 @@ pub fn run_within<F: Files, S: Sink, W: Wire, C: Clock>(
 ) -> u8
     requires { 1 ≤ limit }
     ensures { Promises limit
-        (world F.Files S.Sink W.Wire C.Clock
+        (objects F.Files S.Sink W.Wire C.Clock
         files.old files.new sink.old sink.new wire.old wire.new clock.old clock.new)
         (map string_bytes words.now) result }
 {

@@ -1,4 +1,4 @@
-use Rattle.fs_cli.specs.Program.{world}
+use Rattle.fs_cli.specs.Program.{objects}
 use Rattle.fs_cli.proofs.Running.{promises_none, promises_some}
 use Rattle.fs_cli.proofs.program.run_within.Goals as goal
 
@@ -9,7 +9,7 @@ returns-in-None g c =
 pub returns-in-Some : goal.returns-in-Some
 returns-in-Some g c =
     promises_some c.args.limit
-    (world g.F.Files g.S.Sink g.W.Wire g.C.Clock c.args.files.now c.perform.new.files c.args.sink.now c.perform.new.sink c.args.wire.now c.perform.new.wire c.args.clock.now c.perform.new.clock)
+    (objects g.F.Files g.S.Sink g.W.Wire g.C.Clock c.args.files.now c.perform.new.files c.args.sink.now c.perform.new.sink c.args.wire.now c.perform.new.wire c.args.clock.now c.perform.new.clock)
     _ _ c.perform.result
     c.in-Some.ensures c.perform.ensures.does c.perform.ensures.known
     (λ three. ((c.perform.ensures.quiet three).0, (c.perform.ensures.quiet three).1.0, (c.perform.ensures.quiet three).1.1))
