@@ -57,7 +57,8 @@ fn try_file(rt: &HostRuntime, name: &str, text: &str) -> Result<(), Fault> {
     Ok(())
 }
 
-/// The peer comes up, sends octets, or is lost. Answers whether the rules that are admitted may be others than before.
+/// The peer comes up, sends octets, is lost, or is gone, that is, lost by the call that tells nothing. Answers whether
+/// the rules that are admitted may be others than before.
 fn happen(
     alloc: Global,
     desk: &mut Desk<'_>,
@@ -74,6 +75,10 @@ fn happen(
         }
         "sends" => Ok(desk.octets_telling(PEER, &octets(alloc, rest)?, replies)?),
         "lost" => Ok(desk.lost_telling(PEER)),
+        "gone" => {
+            desk.lost(PEER);
+            Ok(true)
+        }
         _ => Err(Fault::Line),
     }
 }

@@ -14,7 +14,7 @@ use fs_speaker::{Announcer, Closed, Sending, Sent, SentList, Session, State, sen
 use std::alloc::Global;
 
 /// The rule `mail`, with the action to discard, that the peer announces under this identifier.
-fn sending(alloc: Global, names: &Names, id: u32) -> Result<Sending, Stop> {
+pub fn sending(alloc: Global, names: &Names, id: u32) -> Result<Sending, Stop> {
     let Ok((rule, _)) = decode(alloc, Family::V4, &names.octets("mail")?) else {
         return Err(Stop::Line);
     };
@@ -192,16 +192,23 @@ fn hear(announcer: &mut Announcer<'_>, moment: u64, piece: &[u8], out: &mut Vec<
 
 fn tell_state(state: State, closed: Option<Closed>, told: &mut Told) {
     match closed {
-        Some(Closed::Fault { code, subcode }) => {
+        Some(why) => tell_closed(why, told),
+        None => told.word(name_of(state)),
+    }
+}
+
+/// How an end has closed.
+pub fn tell_closed(why: Closed, told: &mut Told) {
+    match why {
+        Closed::Fault { code, subcode } => {
             told.word("closed-");
             tell_codes(code, subcode, told);
         }
-        Some(Closed::Notified { code, subcode }) => {
+        Closed::Notified { code, subcode } => {
             told.word("notified-");
             tell_codes(code, subcode, told);
         }
-        Some(Closed::NoFamily) => told.word("no-family"),
-        Some(Closed::Memory) => told.word("no-memory"),
-        None => told.word(name_of(state)),
+        Closed::NoFamily => told.word("no-family"),
+        Closed::Memory => told.word("no-memory"),
     }
 }

@@ -4,6 +4,7 @@
 
 mod actions;
 mod ends;
+mod joint;
 mod lists;
 mod local;
 mod messages;
@@ -99,6 +100,7 @@ fn answer_of_message(
         "withdraw" => updates::withdraw_many(alloc, input),
         "session" => sessions::play(alloc, names, input),
         "ends" => ends::play(alloc, names, input),
+        "joint" => joint::play(alloc, names, input),
         _ => Err(Stop::Line),
     }
 }

@@ -57,7 +57,6 @@ fn fault_text(alloc: Global, fault: UpdateFault) -> Result<String, Stop> {
     Ok(told.finish()?)
 }
 
-/// All parts of the update that say something, in the order in which they act, and then path and actions.
 fn update_text(alloc: Global, update: &Update) -> Result<String, Stop> {
     let mut told = Told::new(alloc);
     told.word("says");
@@ -65,7 +64,9 @@ fn update_text(alloc: Global, update: &Update) -> Result<String, Stop> {
     Ok(told.finish()?)
 }
 
-fn tell_update(alloc: Global, update: &Update, told: &mut Told) -> Result<(), Stop> {
+/// All parts of the update that say something, in the order in which they act, and then path and actions; each with a
+/// space in front.
+pub fn tell_update(alloc: Global, update: &Update, told: &mut Told) -> Result<(), Stop> {
     tell_prefixes(" out", update.classic_out.as_slice(), told);
     tell_routes(alloc, " unreach", &update.unreach, told)?;
     tell_routes(alloc, " reach", &update.reach, told)?;

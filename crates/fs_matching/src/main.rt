@@ -1,4 +1,5 @@
-//! The compiled rules beside the plain walk over them: drawn rules of all types and drawn packets of both families.
+//! The compiled rules beside the plain walk over them: drawn rules of all types and drawn packets of both families; and
+//! a few that were worked out by hand.
 #![tactic(auto)]
 
 mod addresses;
@@ -7,6 +8,7 @@ mod frames;
 mod octets;
 mod packets;
 mod trying;
+mod worked;
 
 ghost use Rattle.std.specs.Prelude.{◌≡◌, ◌<◌};
 
@@ -25,6 +27,22 @@ fn print_count(rt: &HostRuntime, name: &str, count: &Count) -> Result<(), Fault>
     let found = count.found;
     let differ = count.differ;
     println!(rt; "{name}: {compared} answers compared, {found} find a rule, {differ} differ")?;
+    Ok(())
+}
+
+/// What the compiled rules find for the packets that were worked out by hand.
+fn run_worked<L: Ledger>(rt: &HostRuntime, steps: &mut Steps<L>) -> Result<(), Fault> {
+    let config = worked::config(rt.alloc())?;
+    let [first, second, third] = worked::two_patterns(rt.alloc(), &config, steps)?;
+    println!(rt; "two rules of v6: first {first:?}, behind 0 {second:?}, behind 1 {third:?}")?;
+    let (first, most) = worked::four_rules(rt.alloc(), &config, steps)?;
+    println!(rt; "four rules of v4: first {first:?}, steps at most {most}")?;
+    print!(rt; "each by itself:")?;
+    for frame in worked::FOUR {
+        let matches = worked::matches_alone(rt.alloc(), frame, steps)?;
+        print!(rt; " {matches}")?;
+    }
+    println!(rt; "")?;
     Ok(())
 }
 
@@ -63,6 +81,7 @@ fn run<L: Ledger>(blank: Blank, rt: &HostRuntime) -> Result<(), Fault>
     requires some { 0 < L.parts }
 {
     let mut steps = Steps::<L>::new(blank);
+    run_worked(rt, &mut steps)?;
     let config = config(rt);
     let v4 = try_family(rt, &config, Family::V4, TABLES, false, &mut steps)?;
     print_count(rt, "v4", &v4)?;

@@ -270,8 +270,8 @@ impl Runner {
         let whole = self.expected.as_slice();
         let written = outcome.written.as_slice();
         let is_front = word == "stops" && whole.starts_with(written);
-        let expected = shown(self.alloc, octet(status)?, whole)?;
-        let came = shown(
+        let expected = answer_text(self.alloc, octet(status)?, whole)?;
+        let came = answer_text(
             self.alloc,
             outcome.status,
             if is_front { whole } else { written },
@@ -374,7 +374,7 @@ impl Runner {
 }
 
 /// A status and what was written as one: a text as it is, other octets in hexadecimal.
-fn shown(alloc: Global, status: u8, written: &[u8]) -> Result<String, Fault> {
+fn answer_text(alloc: Global, status: u8, written: &[u8]) -> Result<String, Fault> {
     let text = match String::from_utf8(Vec::from_slice(alloc, written)?) {
         Ok(text) => text,
         Err(_) => hex::encode(alloc, written)?,

@@ -3,13 +3,13 @@
 use crate::count::Count;
 use crate::fault::Fault;
 use crate::pair::Pair;
-use crate::plain::{Judged, admitted, next_match, nth};
+use crate::plain::{FlowRoute, Judged, admitted, next_match, nth};
 use fs_base::Family;
 use fs_nlri::Rule;
 use fs_order::compare;
 use fs_packet::View;
 use fs_rules::{Admitted, HeldFlow, Table};
-use fs_validate::{FlowRoute, Validity};
+use fs_validate::Validity;
 use std::alloc::Global;
 
 fn is_same_rule(rule: &Rule, peer: u16, route: &FlowRoute) -> bool {

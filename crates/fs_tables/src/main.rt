@@ -96,7 +96,7 @@ fn run_drawn<L: Ledger>(
     print_count(rt, "drawn", &drawn.count)?;
     print_seen(rt, &drawn)?;
     let mut wrong = Drawn::new(alloc, pool);
-    wrong.run(configs.get(true, true), 0, true, steps)?;
+    wrong.run_wrong(configs.get(true, true), steps)?;
     print_count(rt, "beside a plain table that is wrong", &wrong.count)
 }
 

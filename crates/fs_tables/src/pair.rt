@@ -3,7 +3,7 @@
 use crate::choice::{draw_one, draw_peer};
 use crate::count::Count;
 use crate::fault::Fault;
-use crate::plain::Plain;
+use crate::plain::{FlowRoute, Plain};
 use crate::pool::Pool;
 use fs_actions::{Actions, from_communities};
 use fs_base::{Config, Path, Steps};
@@ -11,7 +11,6 @@ use fs_draws::Draws;
 use fs_nlri::Rule;
 use fs_order::Ranked;
 use fs_rules::Table;
-use fs_validate::FlowRoute;
 use std::alloc::Global;
 use std::sync::ledger::Ledger;
 

@@ -3,11 +3,12 @@
 ghost use Rattle.std.specs.Prelude.{◌<◌, IfSome, length};
 
 use crate::fault::Fault;
+use fs_actions::Actions;
 use fs_base::{Address, Config, Family, Path, Prefix, Segment};
 use fs_nlri::Rule;
 use fs_order::{compare, precedes};
 use fs_packet::{View, matches};
-use fs_validate::{FlowRoute, Validity};
+use fs_validate::Validity;
 use std::alloc::Global;
 
 /// A unicast route that a peer gave.
@@ -16,6 +17,15 @@ struct UnicastRoute {
     peer: u16,
     prefix: Prefix,
     path: Path,
+}
+
+/// A flow route that a peer gave.
+#[derive(Drop)]
+pub struct FlowRoute {
+    pub peer: u16,
+    pub rule: Rule,
+    pub path: Path,
+    pub actions: Actions,
 }
 
 /// A held flow route, with its validity as it is found from nothing.
