@@ -46,8 +46,8 @@ def frame(value):
     return size + value
 
 
-def attribute(kind, value):
-    return b"\x90" + bytes([kind]) + struct.pack(">H", len(value)) + value
+def attribute(kind, value, flags=0x90):
+    return bytes([flags, kind]) + struct.pack(">H", len(value)) + value
 
 
 def flow(value, peer=1):
@@ -179,10 +179,59 @@ def nothing(count):
     return b"".join(parts) + update(b"", b"", b"") * count, EMPTY_CAPTURE
 
 
+ORIGIN = bytes.fromhex("40010100")
+AS_PATH = bytes.fromhex("400206 02010000fde9")
+
+
+def of_size(part, size):
+    """The part again and again, up to the size."""
+    return part * (size // len(part))
+
+
+WELL_KNOWN = (1, 2, 3, 5, 6)
+# The types that the program reads, and two that it doesn't.
+LONG_TYPES = (1, 2, 3, 5, 8, 9, 14, 15, 16, 255)
+# Types of which a long value can be well formed: with the longest one, and with what stands beside it.
+LONG_VALUES = {
+    2: (of_size(b"\x02\xff" + bytes.fromhex("0000fde9") * 255, 3900), ORIGIN + DROP),
+    8: (bytes(3900), PATH + DROP),
+    14: (bytes.fromhex("0001 85 00 00") + of_size(frame(b"\x03\x81\x06"), 3800), PATH + DROP),
+    15: (bytes.fromhex("0001 85") + of_size(frame(b"\x03\x81\x06"), 3800), PATH + DROP),
+    16: (of_size(bytes.fromhex("8006fde900000000"), 3896), PATH),
+}
+
+
+def long_attribute(kind):
+    """An UPDATE of one rule with an attribute of this type of nearly 4096 octets."""
+    value, beside = LONG_VALUES.get(kind, (bytes(3900), PATH + DROP))
+    reach = b"" if kind == 14 else attribute(14, bytes.fromhex("0001 85 00 00") + frame(b"\x03\x81\x06"))
+    flags = 0x50 if kind in WELL_KNOWN else 0x90
+    return update(b"", reach + beside + attribute(kind, value, flags), b"")
+
+
 def long_attributes(count):
-    """The same rule in UPDATEs of an attribute that isn't known, each of nearly 4096 octets."""
-    reach = attribute(14, bytes.fromhex("0001 85 00 00") + frame(b"\x03\x81\x06"))
-    return up(1) + update(b"", reach + PATH + DROP + attribute(255, bytes(3900)), b"") * count, EMPTY_CAPTURE
+    """The same rule in UPDATEs with a long attribute each, of every type in turn."""
+    return up(1) + b"".join(long_attribute(kind) for kind in range(256)) * (count // 256), EMPTY_CAPTURE
+
+
+def long_attributes_of(kind):
+    return lambda count: (up(1) + long_attribute(kind) * count, EMPTY_CAPTURE)
+
+
+def long_lists(count):
+    """Some hundred admitted rules, each with a list of so many pairs, which are compiled for no packet."""
+    pairs = b"".join(bytes([0x01, number % 251]) for number in range(count - 1)) + b"\x81\xff"
+    parts = [up(1), announce(bytes([8, 10]))]
+    parts += [flow(bytes([1]) + host(number) + b"\x05" + pairs) for number in range(900)]
+    return b"".join(parts), EMPTY_CAPTURE
+
+
+def many_lists(count):
+    """As many admitted rules, each with a list of 64 pairs that are no neighbours."""
+    pairs = b"".join(b"\x11" + struct.pack(">H", 1000 * (number * 37 % 64)) for number in range(63)) + b"\x91\xff\xff"
+    parts = [up(1), announce(bytes([8, 10]))]
+    parts += [flow(bytes([1]) + host(number) + b"\x05" + pairs) for number in range(count)]
+    return b"".join(parts), EMPTY_CAPTURE
 
 
 def empty_records(count):
@@ -209,14 +258,23 @@ SHAPES = [
     ("peers with equal rules", equal_rules, 512),
     ("peers with one network", one_network, 256),
     ("UPDATEs of nothing", nothing, 400000),
-    ("long attributes", long_attributes, 5000),
+    ("long attributes of every type", long_attributes, 5120),
+    *((f"long attributes of type {kind}", long_attributes_of(kind), 5000) for kind in LONG_TYPES),
+    ("lists of many pairs, compiled", long_lists, 1000),
+    ("many lists of pairs, compiled", many_lists, 5000),
     ("records without octets", empty_records, 400000),
     ("the longest records", longest_records, 200),
 ]
 
 
 # Shapes whose twice the size is the largest that there is.
-OF_ONE_SIZE = ("pairs in one group", "headers in a chain", "peers with equal rules", "peers with one network")
+OF_ONE_SIZE = (
+    "pairs in one group",
+    "headers in a chain",
+    "peers with equal rules",
+    "peers with one network",
+    "lists of many pairs, compiled",
+)
 
 
 def seconds_of(program, folder, made, runs):

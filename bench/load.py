@@ -8,6 +8,10 @@ memory of `enforce` over an empty capture, less those with a tape without these 
 for rules to a destination each, beside a unicast route for each destination; for rules to one destination, and rules
 without a destination, that come in no order; and for unicast routes that come and go beside the rules. The peak is
 what GNU time (Debian's package `time`) tells: the one that a script sees of its child begins with the script's own size.
+
+What a rule takes compiled is the peak with rules that are all admitted, by one unicast route that covers them, less
+the peak without this route: then none is admitted, so none is compiled, and the table is the same. It has the list of
+admitted rules in it and what is needed while the matcher is built, beside the matcher itself.
 """
 
 import argparse
@@ -17,7 +21,7 @@ import subprocess
 import sys
 import tempfile
 
-from changes import EMPTY_CAPTURE, START, announce, changes_of, flow, slash24, with_rules
+from changes import EMPTY_CAPTURE, PATH, START, announce, changes_of, flow, slash24, update, with_rules
 from enforce import CONFIG
 
 PORTS = 65536
@@ -42,6 +46,33 @@ def to_one(rules):
 
 def to_none(rules):
     return b"".join(START + [flow(b"\x04" + port_of(number)) for number in range(rules)])
+
+
+def v4_rule(number):
+    return flow(bytes([5, 1]) + slash24(number))
+
+
+def listing_rule(number):
+    """With ports that are no single range, behind the destination."""
+    return flow(bytes([5 + 5, 1]) + slash24(number) + bytes.fromhex("04 01 50 81 bb"))
+
+
+def reach(octets):
+    return update(b"", b"\x80\x0e" + bytes([len(octets)]) + octets + PATH, b"")
+
+
+def v6_rule(number):
+    destination = bytes.fromhex("01 40 00 20010db8") + number.to_bytes(4, "big")
+    return reach(bytes.fromhex("0002 85 00 00") + bytes([len(destination)]) + destination)
+
+
+V4_ROUTE = announce(bytes([7, 10]))
+V6_ROUTE = reach(bytes.fromhex("0002 01 10 20010db8000000000000000000000001 00 20 20010db8"))
+COMPILED = [
+    ("IPv4 rules", V4_ROUTE, v4_rule),
+    ("IPv4 rules with a list", V4_ROUTE, listing_rule),
+    ("IPv6 rules", V6_ROUTE, v6_rule),
+]
 
 
 def spent(program, folder, tape, runs):
@@ -98,6 +129,11 @@ def main():
             changed = measure(with_rules(size) + changes_of(options.changes))
             seconds = max(changed[0] - rules[0], 1e-9)
             print(f"beside these: {options.changes / seconds:,.0f} unicast changes per second", flush=True)
+        for size in sizes:
+            for name, route, rule in COMPILED:
+                rules = b"".join(rule(number) for number in range(size))
+                admitted, none = measure(b"".join(START) + route + rules), measure(b"".join(START) + rules)
+                print(f"{name} {size}: {(admitted[1] - none[1]) / size:,.0f} octets compiled", flush=True)
         for size in groups:
             report("rules to one destination", size, measure(to_one(size)), nothing)
             report("rules without a destination", size, measure(to_none(size)), nothing)

@@ -184,6 +184,13 @@ ANSWERS = [
         ],
     ),
     (
+        "`Deframer::feed` takes less than the piece",
+        "exactly where a message ends there; of octets that aren't none it takes at least one",
+        [
+            "fs_message Deframer::feed some exact",
+        ],
+    ),
+    (
         "no message",
         "exactly where none stands whole",
         [
@@ -308,6 +315,14 @@ ANSWERS = [
         ],
     ),
     (
+        "`NoFamily` of a session",
+        "of the announcing end alone, exactly where the other end's OPEN lacks the family of a rule to send",
+        [
+            "fs_speaker Announcer::feed closed exact",
+            "fs_speaker Announcer::feed_at closed exact",
+        ],
+    ),
+    (
         "no update; no message",
         "exactly where no UPDATE that is taken ends with the call; where it isn't established, or all rules were "
         "said",
@@ -395,11 +410,11 @@ WRONG = [
     ),
     (
         "a unicast change retests all rules",
-        "fs_rules/retests_all_rules fs_rules/retests_each_rule_twice",
+        "fs_rules/retests_all_rules fs_rules/tests_one_rule_more",
     ),
     (
         "a lost or closed session keeps its routes",
-        "fs_rules/lost_peer_keeps_unicast fs_desk/lost_peer_keeps_routes fs_desk/closed_session_keeps_routes",
+        "fs_desk/lost_peer_keeps_routes fs_desk/closed_session_keeps_routes",
     ),
     (
         "the first announcer of a rule wins",
@@ -412,7 +427,7 @@ WRONG = [
     (
         "a run always answers one status, at once or behind the opening of a name that the words don't have",
         "fs_cli/always_answers_1 fs_cli/always_answers_4 fs_cli/always_answers_8 "
-        "fs_convert/answers_10_at_the_limit fs_cli/opens_a_name_that_the_words_do_not_have",
+        "fs_cli/opens_a_name_that_the_words_do_not_have",
     ),
     (
         "a rate with its highest bit set is told",

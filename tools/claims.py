@@ -1,8 +1,8 @@
 #!/usr/bin/env python3
 """Lists the answers of tools/answers.py with the clauses that say when they come, its wrong bodies with what refuses
 each, and every public call of the libraries with the clauses of its contract, the edits that the prover must refuse in
-its body, and the comparing programs in whose text a call of that name stands. Prints the tables of docs/CLAIMS.md; the
-text around them is kept there by hand. A clause, an edit or a call that isn't there ends it. Usage: tools/claims.py >
+its body, and the comparing programs in whose text a call of that name stands, or else whether a run of the whole
+program leads to one. Prints the tables of docs/CLAIMS.md; the text around them is kept there by hand. A clause, an edit or a call that isn't there ends it. Usage: tools/claims.py >
 tables, or tools/claims.py --check docs/CLAIMS.md
 """
 
@@ -14,8 +14,10 @@ from answers import ANSWERS, STATUSES, WRONG
 
 ROOT = os.path.dirname(os.path.dirname(os.path.abspath(__file__)))
 PROGRAMS = ["fs_codecs", "fs_inputs", "fs_tables", "fs_matching", "fs_reading", "desks"]
-# what no program calls: the world that laws of both ends speak of
-UNCALLED = {"fs_joint": "no program"}
+# the programs that run the whole program
+RUNS = ["welgutan", "loopback", "fs_runs"]
+# of what is implemented for a type, the calls of these traits are listed
+TRAITS = "Speaker", "Files", "Sink", "Wire", "Clock", "Ord"
 BEGIN = "<!-- tables by tools/claims.py -->"
 
 
@@ -58,7 +60,8 @@ CLAUSE = re.compile(r"^ *(requires|ensures)(?: ([a-z_]+))? \{")
 
 
 def functions(text):
-    """Each function: its owner, its trait, whether it is public, its name, its lines, its clauses."""
+    """Each function: its owner, its trait, whether it is public, its name, its lines, its clauses, whether it is a law
+    (which is given nothing and gives nothing, or has an empty body)."""
     owner = trait = None
     found = []
     current = None
@@ -79,10 +82,12 @@ def functions(text):
             current = {
                 "owner": owner if inner else None, "trait": trait if inner else None, "public": bool(public),
                 "name": name, "first": number, "last": number, "clauses": [], "indent": inner,
+                "law": line.endswith(f"fn {name}()"),
             }
             found.append(current)
         if current:
             current["last"] = number
+            current["law"] = current["law"] or line.strip() == "{}"
             match = CLAUSE.match(line)
             if match:
                 kind, label = match.groups()
@@ -134,8 +139,74 @@ def is_called(crate, owner, name, text):
         name not in ("new", "read", "of", "begin", "copy", "take") and re.search(rf"\.{name}\(", text) is not None)
 
 
+def body(lines):
+    """The code of a function, from the brace that opens it, without comments."""
+    start = next((n for n, line in enumerate(lines) if line.strip() == "{"), None)
+    if start is None:
+        start = next((n for n, line in enumerate(lines) if line.rstrip().endswith("{")), len(lines))
+    return "\n".join(line.split("//")[0] for line in lines[start + 1:])
+
+
+def library_functions():
+    """The functions of all libraries: by crate, type and name what their bodies have in common, and what calls them."""
+    found = {}
+    for crate in crates():
+        if crate in PROGRAMS or not os.path.exists(os.path.join(ROOT, "crates", crate, "src", "lib.rt")):
+            continue
+        for path in sources(crate):
+            text = read("crates", crate, path)
+            lines = text.split("\n")
+            for function in functions(text):
+                code = body(lines[function["first"]: function["last"] + 1])
+                key = crate, function["owner"], function["name"]
+                of_trait = function["trait"] not in (None, "trait")
+                known = found.setdefault(key, {"code": "", "seed": False})
+                known["code"] += code
+                known["seed"] = known["seed"] or of_trait
+    return found
+
+
+def reached():
+    """The functions to which a run of the whole program may lead, judged by names; those of a trait count as reached."""
+    found = library_functions()
+    below = uses()
+    for name in list(below):
+        below[name] = set(below[name]).union({name}, *(below.get(other, ()) for other in below[name]))
+    by_name = {}
+    for key in found:
+        by_name.setdefault(key[2], []).append(key)
+    for program in RUNS:
+        code = "\n".join(read("crates", program, path) for path in sources(program))
+        found[program, None, "main"] = {"code": code, "seed": True}
+    seen = {key for key, known in found.items() if known["seed"]}
+    todo = list(seen)
+    while todo:
+        caller = todo.pop()
+        code = found[caller]["code"]
+        for name in set(re.findall(r"\b[a-z_0-9]+\b", code)) & set(by_name):
+            for key in by_name[name]:
+                crate, owner, _ = key
+                if key in seen or crate not in below[caller[0]]:
+                    continue
+                plain = re.search(rf"(?<![.:\w]){name}\b(?! *:(?!:))", code)
+                dotted = re.search(rf"\.{name}(::<[^(]*>)?\(", code)
+                typed = re.search(rf"\b({owner}|Self)(::<[^(]*>)?::{name}\b", code)
+                if (plain if owner is None else dotted or typed):
+                    seen.add(key)
+                    todo.append(key)
+    return seen
+
+
+def way_to(crate, path, function, run):
+    """How a call is reached that no comparing program makes."""
+    if function["law"] or os.path.basename(path) == "laws.rt":
+        return "a law"
+    return "`fs_runs`" if (crate, function["owner"], function["name"]) in run else "no program"
+
+
 def tables():
     programs = calls_in_programs()
+    run = reached()
     named = uses()
     out = []
     ensured = {}
@@ -155,7 +226,7 @@ def tables():
                     shown, public = f"{owner}::{function['name']}", owner in names
                 elif owner:
                     shown = f"{owner}::{function['name']}"
-                    public = owner in names and (function["public"] or trait in ("Speaker", "Files", "Sink", "Wire", "Clock"))
+                    public = owner in names and (function["public"] or trait in TRAITS)
                 else:
                     shown, public = function["name"], function["public"] and function["name"] in names
                 if not public:
@@ -165,8 +236,8 @@ def tables():
                         if crate in named[p] and is_called(crate, owner, function["name"], programs[p])]
                 clauses = ", ".join(f"`{c}`" for c in dict.fromkeys(function["clauses"])) or "by its trait's" if trait else ", ".join(
                     f"`{c}`" for c in dict.fromkeys(function["clauses"])) or "none"
-                if os.path.basename(path) == "laws.rt" and not seen:
-                    seen = ["a law"]
+                if not seen:
+                    seen = [way_to(crate, path, function, run)]
                 rows.append((shown, path, clauses, ", ".join(f"`{n}`" for n in inside), ", ".join(seen)))
                 ensured[crate, shown] = function["clauses"] or [] if trait is None else None
         if not rows:
@@ -175,7 +246,7 @@ def tables():
         out.append(f"### `{crate}`\n")
         out.append("| call | clauses | edits in its body | called by |\n|---|---|---|---|")
         for shown, path, clauses, inside, seen in rows:
-            out.append(f"| `{shown}` | {clauses} | {inside or '–'} | {seen or UNCALLED.get(crate, '`fs_runs`')} |")
+            out.append(f"| `{shown}` | {clauses} | {inside or '–'} | {seen} |")
         out.append("")
         rest = [name for where, line, name in edits(crate)]
         listed = {n for row in rows for n in re.findall(r"`([a-z_0-9]+)`", row[3])}
