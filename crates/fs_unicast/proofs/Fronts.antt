@@ -1,6 +1,7 @@
--- The first prefix from another on that has a route: its routes stand in front of the range, and where it covers the
--- prefix under which the range begins, nothing lies under that one.
+-- The first prefix from another on that has a route: its routes stand in front of the range, and where it isn't one under
+-- the prefix under which the range begins, nothing lies under that one.
 use Rattle.std.proofs.Common.{ℕ, ◌≡◌, refl, sym, ap, subst, ◌∙◌, Bool, true, false, true≢false, not, ◌&&◌, List, ◌∷◌, cond, None, filter, map, fold, Ordering, Less, Equal, Greater, is_eq, is_le, Option}
+use Rattle.std.specs.List.{AllByRecursion}
 use Rattle.std.specs.List.Sorted.{IsStrictlySortedBy}
 use Rattle.std.specs.Map.{keys_of}
 use Rattle.std.specs.Ordering.{ordering_reverse}
@@ -10,16 +11,16 @@ use Rattle.std.specs.declared.ops.Bound.TheVariants.{Included, Unbounded}
 use Rattle.fs_base.specs.declared.prefix.Prefix.{Prefix}
 use Rattle.fs_base.specs.Prefix.{covers, prefix_cmp, prefix_total}
 use Rattle.fs_base.specs.Search.{IsFirst, IsLongest}
-use Rattle.fs_base.proofs.Bools.{and_first, and_second, false_of_not, same_tests}
+use Rattle.fs_base.proofs.Bools.{and_both, and_first, and_second, false_from, false_of_not, same_tests}
 use Rattle.fs_base.proofs.Covers.{covered_before}
 use Rattle.fs_base.proofs.Nesting.{covers_self}
 use Rattle.fs_base.proofs.Lists.{each_weaker, each_none, filter_on}
-use Rattle.fs_base.proofs.Seeking.{seeking_starts, seeking_found}
+use Rattle.fs_base.proofs.Seeking.{Seeking, seeking_starts, seeking_ends, seeking_found, seeking_more, seeking_apart}
 use Rattle.fs_base.specs.declared.path.Path.{Path}
 use Rattle.fs_unicast.specs.Preference.{better}
 use Rattle.fs_unicast.specs.Unicast.{Route, place_cmp}
-use Rattle.fs_unicast.specs.Search.{IsFront, candidate, is_same_prefix, is_strictly_under, is_other, best_at, others_under}
-use Rattle.fs_unicast.proofs.Ranges.{place, first_in_range, front_range, best_starts, from_test}
+use Rattle.fs_unicast.specs.Search.{AreCoversOver, IsFront, candidate, is_same_prefix, is_strictly_under, is_other, best_at, best_match_of, others_under}
+use Rattle.fs_unicast.proofs.Ranges.{place, first_in_range, front_range, best_starts, from_test, no_best}
 
 upto_upto : (x y z : Prefix) → is_le (prefix_cmp x y) ≡ true → is_le (prefix_cmp y z) ≡ true → is_le (prefix_cmp x z) ≡ true
 upto_upto x y z h k = at (prefix_cmp x y) refl h (prefix_cmp y z) refl k where
@@ -66,32 +67,78 @@ module _ (low : Prefix) (held : List Route) (sorted : IsStrictlySortedBy place_c
       ∙ ap (λ rs. fold better None (map candidate (filter (λ r. is_same_prefix x.0.prefix r.0.prefix) rs))) (sym k)
       ∙ best_starts x.0.prefix held found range_on
 
-module _ (d low q : Prefix) (held : List Route) (law : (p : Prefix) → covers d p ≡ (is_le (prefix_cmp low p) && is_le (prefix_cmp p d)))
-    (first : IsFirst (λ r. r.0.prefix) held low q) (over : covers q d ≡ true) where
+-- not up to, so behind
+not_upto : (x y : Prefix) → is_le (prefix_cmp x y) ≡ false → is_le (prefix_cmp y x) ≡ true
+not_upto x y h = ap is_le (prefix_total.antisymm y x) ∙ at (prefix_cmp x y) h where
+  at : (o : Ordering) → is_le o ≡ false → is_le (ordering_reverse o) ≡ true
+  at Less l = absurd (true≢false l)
+  at Equal l = absurd (true≢false l)
+  at Greater l = refl
+
+-- what all covers of d are over, as the search for the longest knows it
+pub seeking : (held : List Route) (d low : Prefix) → AreCoversOver held d low → Seeking (λ r. r.0.prefix) held d low
+seeking held d low h = record { over = h.over; each_covers = h.each_covers }
+
+pub covers_over : (held : List Route) (d low : Prefix) → Seeking (λ r. r.0.prefix) held d low → AreCoversOver held d low
+covers_over held d low h = record { over = h.over; each_covers = h.each_covers }
+
+module _ (d low : Prefix) (held : List Route) (law : (p : Prefix) → covers d p ≡ (is_le (prefix_cmp low p) && is_le (prefix_cmp p d))) where
   low_upto : is_le (prefix_cmp low d) ≡ true
   low_upto = and_first (is_le (prefix_cmp low d)) (is_le (prefix_cmp d d)) (sym (law d) ∙ covers_self d)
 
-  pub longest_over : IsLongest (λ r. r.0.prefix) held d q
-  longest_over = seeking_found (λ r. r.0.prefix) held d d q (seeking_starts (λ r. r.0.prefix) held d)
-      (record {
-        there = first.there;
-        from = covered_before q d over;
-        least = each_weaker (λ r. is_le (prefix_cmp low r.0.prefix) ≡ true → is_le (prefix_cmp q r.0.prefix) ≡ true) (λ r. is_le (prefix_cmp d r.0.prefix) ≡ true → is_le (prefix_cmp q r.0.prefix) ≡ true)
-            (λ r h behind. h (upto_upto low d r.0.prefix low_upto behind)) held first.least;
-      })
-      over
+  -- what lies under d lies from low on, and not behind d
+  within : (r : Route) → is_strictly_under d r.0.prefix ≡ true → (is_le (prefix_cmp low r.0.prefix) && is_le (prefix_cmp r.0.prefix d)) ≡ true
+  within r under = sym (law r.0.prefix) ∙ and_first (covers d r.0.prefix) (not (is_same_prefix d r.0.prefix)) under
 
-  pub none_under : (local_as : ℕ) (asn : Option ℕ) → false ≡ others_under held d local_as asn
-  none_under local_as asn = sym (each_none (λ r. is_strictly_under d r.0.prefix && is_other local_as asn r.1) held
-      (each_weaker (λ r. is_le (prefix_cmp low r.0.prefix) ≡ true → is_le (prefix_cmp q r.0.prefix) ≡ true) (λ r. (is_strictly_under d r.0.prefix && is_other local_as asn r.1) ≡ false)
-      (λ r h. at r (is_strictly_under d r.0.prefix) refl (outside r h)) held first.least)) where
-        outside : (r : Route) → (is_le (prefix_cmp low r.0.prefix) ≡ true → is_le (prefix_cmp q r.0.prefix) ≡ true) → is_strictly_under d r.0.prefix ≡ true → true ≡ false
-        outside r h under = sym (both_ways d r.0.prefix (upto_upto d q r.0.prefix (covered_before q d over) (h (and_first (is_le (prefix_cmp low r.0.prefix)) (is_le (prefix_cmp r.0.prefix d)) between)))
-            (and_second (is_le (prefix_cmp low r.0.prefix)) (is_le (prefix_cmp r.0.prefix d)) between))
-            ∙ false_of_not (is_same_prefix d r.0.prefix) (and_second (covers d r.0.prefix) (not (is_same_prefix d r.0.prefix)) under) where
-              between : (is_le (prefix_cmp low r.0.prefix) && is_le (prefix_cmp r.0.prefix d)) ≡ true
-              between = sym (law r.0.prefix) ∙ and_first (covers d r.0.prefix) (not (is_same_prefix d r.0.prefix)) under
-
+  -- a list of routes none of which lies under d
+  none_of : (P : Route → Type 0) → ((r : Route) → P r → is_strictly_under d r.0.prefix ≡ true → true ≡ false) → AllByRecursion P held
+      → (local_as : ℕ) (asn : Option ℕ) → false ≡ others_under held d local_as asn
+  none_of P outside all local_as asn = sym (each_none (λ r. is_strictly_under d r.0.prefix && is_other local_as asn r.1) held
+      (each_weaker P (λ r. (is_strictly_under d r.0.prefix && is_other local_as asn r.1) ≡ false)
+      (λ r h. at r (is_strictly_under d r.0.prefix) refl (outside r h)) held all)) where
         at : (r : Route) (b : Bool) → is_strictly_under d r.0.prefix ≡ b → (is_strictly_under d r.0.prefix ≡ true → true ≡ false) → (is_strictly_under d r.0.prefix && is_other local_as asn r.1) ≡ false
         at r true e f = absurd (true≢false (f e))
         at r false e f = ap (λ b. b && is_other local_as asn r.1) e
+
+  module _ (none : AllByRecursion (λ r. is_le (prefix_cmp low r.0.prefix) ≡ false) held) where
+    -- without a route from low on there is neither a cover nor a route under d
+    pub no_cover : None ≡ best_match_of held d
+    no_cover = no_best held d (seeking_ends (λ r. r.0.prefix) held d d (seeking_starts (λ r. r.0.prefix) held d)
+        (each_weaker (λ r. is_le (prefix_cmp low r.0.prefix) ≡ false) (λ r. is_le (prefix_cmp d r.0.prefix) ≡ false)
+        (λ r no. false_from (is_le (prefix_cmp d r.0.prefix)) (λ yes. true≢false (sym (upto_upto low d r.0.prefix low_upto yes) ∙ no))) held none))
+
+    pub none_left : (local_as : ℕ) (asn : Option ℕ) → false ≡ others_under held d local_as asn
+    none_left = none_of (λ r. is_le (prefix_cmp low r.0.prefix) ≡ false)
+        (λ r no under. sym (and_first (is_le (prefix_cmp low r.0.prefix)) (is_le (prefix_cmp r.0.prefix d)) (within r under)) ∙ no) none
+
+  module _ (q : Prefix) (first : IsFirst (λ r. r.0.prefix) held low q) where
+    -- the first from low on that d doesn't cover lies behind d
+    pub behind : covers d q ≡ false → is_le (prefix_cmp d q) ≡ true
+    behind apart = not_upto q d (false_from (is_le (prefix_cmp q d)) (λ yes. true≢false (sym (law q ∙ and_both (is_le (prefix_cmp low q)) (is_le (prefix_cmp q d)) first.from yes) ∙ apart)))
+
+    -- and so is the first from d on
+    pub first_behind : is_le (prefix_cmp d q) ≡ true → IsFirst (λ r. r.0.prefix) held d q
+    first_behind past = record {
+      there = first.there;
+      from = past;
+      least = each_weaker (λ r. is_le (prefix_cmp low r.0.prefix) ≡ true → is_le (prefix_cmp q r.0.prefix) ≡ true) (λ r. is_le (prefix_cmp d r.0.prefix) ≡ true → is_le (prefix_cmp q r.0.prefix) ≡ true)
+          (λ r h from. h (upto_upto low d r.0.prefix low_upto from)) held first.least;
+    }
+
+    -- then nothing lies under d
+    pub none_under : is_le (prefix_cmp d q) ≡ true → (local_as : ℕ) (asn : Option ℕ) → false ≡ others_under held d local_as asn
+    none_under past = none_of (λ r. is_le (prefix_cmp low r.0.prefix) ≡ true → is_le (prefix_cmp q r.0.prefix) ≡ true)
+        (λ r h under. sym (both_ways d r.0.prefix (upto_upto d q r.0.prefix past (h (and_first (is_le (prefix_cmp low r.0.prefix)) (is_le (prefix_cmp r.0.prefix d)) (within r under))))
+        (and_second (is_le (prefix_cmp low r.0.prefix)) (is_le (prefix_cmp r.0.prefix d)) (within r under)))
+        ∙ false_of_not (is_same_prefix d r.0.prefix) (and_second (covers d r.0.prefix) (not (is_same_prefix d r.0.prefix)) under)) first.least
+
+    -- where the first from low on covers d, it is the longest that does
+    pub longest_over : covers q d ≡ true → IsLongest (λ r. r.0.prefix) held d q
+    longest_over over = seeking_found (λ r. r.0.prefix) held d d q (seeking_starts (λ r. r.0.prefix) held d) (first_behind (covered_before q d over)) over
+
+    -- where neither covers the other, each cover of d covers what they have in common, and without that there is none
+    pub goes_over : covers d q ≡ false → (both : Prefix) → covers both d ≡ true → ((p : Prefix) → covers p d ≡ true → covers p q ≡ true → covers p both ≡ true) → AreCoversOver held d both
+    goes_over apart both over longest = covers_over held d both (seeking_more (λ r. r.0.prefix) held d d q both (seeking_starts (λ r. r.0.prefix) held d) (first_behind (behind apart)) over longest)
+
+    pub nothing_over : covers d q ≡ false → (d.family ≡ q.family → ⊥) → None ≡ best_match_of held d
+    nothing_over apart other = no_best held d (seeking_apart (λ r. r.0.prefix) held d d q (seeking_starts (λ r. r.0.prefix) held d) (first_behind (behind apart)) other)

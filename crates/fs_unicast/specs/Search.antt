@@ -1,6 +1,6 @@
 -- The best route at a prefix, the best match of a prefix, and the routes under it, over one list of held routes.
 use Rattle.std.specs.Prelude.{ℕ, ◌≡◌, Bool, not, ◌&&◌, ◌||◌, ◌==◌, true, false, Option, Some, None, List, [], ◌∷◌, filter, map, nat_le, find, option_map}
-use Rattle.std.specs.List.{list_any, list_all}
+use Rattle.std.specs.List.{AllByRecursion, list_any, list_all}
 use Rattle.std.specs.Ordering.{is_eq, is_le}
 use Rattle.fs_base.specs.Prefix.{covers, prefix_cmp}
 use Rattle.fs_base.specs.declared.prefix.Prefix.{Prefix}
@@ -30,6 +30,11 @@ is_longest held d r =
 -- the most preferred route at the longest prefix that covers d and has one
 abbrev pub best_match_of : List Route → Prefix → Option (ℕ × Path)
 best_match_of held d = best_of (map candidate (filter (is_longest held d) held))
+
+-- low covers d, and each prefix of a route that covers d covers low too
+pub record AreCoversOver (held : List Route) (d low : Prefix) : Type 0 where
+  pub over : covers low d ≡ true
+  pub each_covers : AllByRecursion (λ r. covers r.0.prefix d ≡ true → covers r.0.prefix low ≡ true) held
 
 -- where a route's prefix is another, so is that of each later one
 abbrev pub IsFront : Prefix → List Route → Type 0

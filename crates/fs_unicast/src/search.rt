@@ -1,7 +1,7 @@
 //! Look-ups in the ordered map of routes.
 
 ghost use Rattle.std.specs.Prelude.{◌≡◌, IfSome, filter, fold, map, option_map};
-ghost use Rattle.fs_unicast.specs.Search.{IsFront, candidate, is_same_prefix, best_at, best_match_of, neighbour_of, others_under, held_by, start_of};
+ghost use Rattle.fs_unicast.specs.Search.{AreCoversOver, IsFront, candidate, is_same_prefix, best_at, best_match_of, neighbour_of, others_under, held_by, start_of};
 ghost use Rattle.fs_unicast.specs.Preference.{better, offered};
 ghost use Rattle.fs_unicast.specs.Unicast.{place_cmp};
 ghost use Rattle.std.specs.Option.{option_copied};
@@ -9,7 +9,6 @@ ghost use Rattle.fs_base.specs.Search.{IsFirstFrom};
 ghost use Rattle.std.specs.List.Sorted.{IsStrictlySortedBy};
 ghost use Rattle.std.specs.Map.{keys_of};
 
-use crate::cover::{InOrder, longest_cover};
 use crate::key::PrefixKey;
 use crate::neighbour::neighbour_as;
 use crate::preference::Offer;
@@ -96,7 +95,7 @@ fn better<'a>(best: Option<Offer<'a>>, route: Offer<'a>) -> Offer<'a>
 
 /// The most preferred route at the longest prefix that covers this one and has a route, and whether a route strictly
 /// under this prefix has another neighbouring AS than that one; without it, whether there is any. Mostly nothing lies
-/// under the prefix, and the first route from there on tells both.
+/// under the prefix, which the first route from there on tells: a cover, if it is one, and else a place to go on from.
 pub fn best_and_others<'a>(
     routes: &'a Routes,
     prefix: &Prefix,
@@ -106,16 +105,22 @@ pub fn best_and_others<'a>(
     ensures others { result.1 ≡ others_under routes.now prefix.now local_as
         (neighbour_of local_as (best_match_of routes.now prefix.now)) }
 {
-    if let Some((first, best)) = best_from(routes.paths(), &prefix.first_under())
-        && first.covers(prefix)
-    {
+    let held = routes.paths();
+    let Some((first, best)) = best_from(held, &prefix.first_under()) else {
+        return (None, false);
+    };
+    if first.covers(prefix) {
         return (best, false);
     }
-    let best = best_match(routes.paths(), prefix);
-    (
-        best,
-        others_under(routes, prefix, local_as, neighbour_of(best, local_as)),
-    )
+    if prefix.covers(&first) {
+        let best = best_match(held, prefix);
+        let others = others_under(routes, prefix, local_as, neighbour_of(best, local_as));
+        return (best, others);
+    }
+    match prefix.common(&first) {
+        Some(both) => (best_over(held, prefix, &both), false),
+        None => (None, false),
+    }
 }
 
 /// The neighbouring AS of the route, if there is one.
@@ -132,47 +137,31 @@ fn neighbour_of(route: Option<Offer<'_>>, local_as: u32) -> Option<u32>
 pub fn best_match<'a>(routes: &'a BTreeMap<Place, SharedPath>, prefix: &Prefix) -> Option<Offer<'a>>
     ensures { option_map offered result ≡ best_match_of routes.now.entries prefix.now }
 {
-    match best_from(routes, prefix) {
-        Some((first, best)) if first.covers(prefix) => best,
-        _ => best_over(routes, prefix),
-    }
+    best_over(routes, prefix, prefix)
 }
 
-/// As `best_match`, by a search that goes from prefix to prefix.
-fn best_over<'a>(routes: &'a BTreeMap<Place, SharedPath>, prefix: &Prefix) -> Option<Offer<'a>>
+/// As `best_match`, where each prefix that covers this one and has a route covers `low` too. Where the first from there
+/// on doesn't cover this one, each that does covers what the two have in common: so the search goes on from there.
+fn best_over<'a>(
+    routes: &'a BTreeMap<Place, SharedPath>,
+    prefix: &Prefix,
+    low: &Prefix,
+) -> Option<Offer<'a>>
+    requires { AreCoversOver routes.now.entries prefix.now low.now }
     ensures { option_map offered result ≡ best_match_of routes.now.entries prefix.now }
 {
-    match longest_cover(routes, prefix) {
-        Some(longest) => best_at(routes, &longest),
-        None => None,
-    }
-}
-
-impl InOrder for BTreeMap<Place, SharedPath> {
-    ghost use Rattle.fs_unicast.specs.Unicast.{Route};
-
-    ghost Item = { Route };
-
-    ghost at = { λ r. r.0.prefix };
-
-    ghost items = { λ m. m.entries };
-
-    fn first_from(&self, low: &Prefix) -> Option<Prefix> {
-        first_from(self, low)
-    }
-}
-
-/// The first prefix in order, from `low` on, that has a route.
-fn first_from(routes: &BTreeMap<Place, SharedPath>, low: &Prefix) -> Option<Prefix>
-    ensures { IsFirstFrom (λ r. r.0.prefix) routes.now.entries low.now result }
-{
-    let low = Place {
-        prefix: PrefixKey::of(low),
-        peer: 0,
-    };
-    match routes.range(low..).next() {
-        Some((place, _)) => Some(place.prefix.prefix()),
-        None => None,
+    let mut low = *low;
+    loop {
+        let Some((first, best)) = best_from(routes, &low) else {
+            return None;
+        };
+        if first.covers(prefix) {
+            break best;
+        }
+        let Some(both) = low.common(&first) else {
+            return None;
+        };
+        low = both;
     }
 }
 

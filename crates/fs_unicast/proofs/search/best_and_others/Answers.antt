@@ -1,21 +1,53 @@
 use Rattle.std.proofs.Common.{◌∙◌, sym, ap}
 use Rattle.fs_unicast.specs.Search.{best_match_of, neighbour_of, others_under}
-use Rattle.fs_unicast.proofs.Fronts.{longest_over, none_under}
+use Rattle.fs_unicast.proofs.Fronts.{behind, goes_over, longest_over, no_cover, none_left, none_under, nothing_over}
 use Rattle.fs_unicast.proofs.Ranges.{best_at_longest}
+use Rattle.fs_base.proofs.Covers.{covered_before}
 use Rattle.fs_unicast.proofs.search.best_and_others.Goals as goal
 
-pub returns-clause-best : goal.returns-clause-best
-returns-clause-best c = c.in-Some.ensures.best
-    ∙ best_at_longest c.paths.result.now.entries c.args.prefix.now c.in-Some.first
-    (longest_over c.args.prefix.now c.first_under.result c.in-Some.first c.paths.result.now.entries c.first_under.ensures c.in-Some.ensures.first (sym c.covers.ensures ∙ c.if-covers.true))
-    ∙ ap (λ rs. best_match_of rs c.args.prefix.now) c.paths.ensures
+pub returns-in_default-clause-best : goal.returns-in_default-clause-best
+returns-in_default-clause-best c = no_cover c.args.prefix.now c.first_under.result c.paths-held.result.now.entries c.first_under.ensures c.in_default.ensures.first
+    ∙ ap (λ rs. best_match_of rs c.args.prefix.now) c.paths-held.ensures
 
-pub returns-clause-others : goal.returns-clause-others
-returns-clause-others c = none_under c.args.prefix.now c.first_under.result c.in-Some.first c.paths.result.now.entries c.first_under.ensures c.in-Some.ensures.first (sym c.covers.ensures ∙ c.if-covers.true)
+pub returns-in_default-clause-others : goal.returns-in_default-clause-others
+returns-in_default-clause-others c = none_left c.args.prefix.now c.first_under.result c.paths-held.result.now.entries c.first_under.ensures c.in_default.ensures.first
     c.args.local_as (neighbour_of c.args.local_as (best_match_of c.args.routes.now c.args.prefix.now))
-    ∙ ap (λ rs. others_under rs c.args.prefix.now c.args.local_as (neighbour_of c.args.local_as (best_match_of c.args.routes.now c.args.prefix.now))) c.paths.ensures
+    ∙ ap (λ rs. others_under rs c.args.prefix.now c.args.local_as (neighbour_of c.args.local_as (best_match_of c.args.routes.now c.args.prefix.now))) c.paths-held.ensures
 
-pub returns-2-clause-others : goal.returns-2-clause-others
-returns-2-clause-others c = c.others_under.ensures
+pub returns-then-covers-clause-best : goal.returns-then-covers-clause-best
+returns-then-covers-clause-best c = c.in-Some.ensures.best
+    ∙ best_at_longest c.paths-held.result.now.entries c.args.prefix.now c.in-Some.first
+    (longest_over c.args.prefix.now c.first_under.result c.paths-held.result.now.entries c.first_under.ensures c.in-Some.first c.in-Some.ensures.first (sym c.covers.ensures ∙ c.if-covers.true))
+    ∙ ap (λ rs. best_match_of rs c.args.prefix.now) c.paths-held.ensures
+
+pub returns-then-covers-clause-others : goal.returns-then-covers-clause-others
+returns-then-covers-clause-others c = none_under c.args.prefix.now c.first_under.result c.paths-held.result.now.entries c.first_under.ensures c.in-Some.first c.in-Some.ensures.first
+    (covered_before c.in-Some.first c.args.prefix.now (sym c.covers.ensures ∙ c.if-covers.true))
+    c.args.local_as (neighbour_of c.args.local_as (best_match_of c.args.routes.now c.args.prefix.now))
+    ∙ ap (λ rs. others_under rs c.args.prefix.now c.args.local_as (neighbour_of c.args.local_as (best_match_of c.args.routes.now c.args.prefix.now))) c.paths-held.ensures
+
+pub returns-then-covers-2-clause-others : goal.returns-then-covers-2-clause-others
+returns-then-covers-2-clause-others c = c.others_under-others.ensures
     ∙ ap (others_under c.args.routes.now c.args.prefix.now c.args.local_as)
-    (c.neighbour_of.ensures ∙ ap (neighbour_of c.args.local_as) (c.best_match-best.ensures ∙ ap (λ rs. best_match_of rs c.args.prefix.now) c.paths-2.ensures))
+    (c.neighbour_of.ensures ∙ ap (neighbour_of c.args.local_as) (c.best_match-best.ensures ∙ ap (λ rs. best_match_of rs c.args.prefix.now) c.paths-held.ensures))
+
+pub best_over-requires : goal.best_over-requires
+best_over-requires c = goes_over c.args.prefix.now c.first_under.result c.paths-held.result.now.entries c.first_under.ensures c.in-Some.first c.in-Some.ensures.first
+    (sym c.covers-2.ensures ∙ c.if-covers-2.false) c.in-Some-common.both c.in-Some-common.ensures.over.0 c.in-Some-common.ensures.longest
+
+pub returns-in-Some-common-clause-others : goal.returns-in-Some-common-clause-others
+returns-in-Some-common-clause-others c = none_under c.args.prefix.now c.first_under.result c.paths-held.result.now.entries c.first_under.ensures c.in-Some.first c.in-Some.ensures.first
+    (behind c.args.prefix.now c.first_under.result c.paths-held.result.now.entries c.first_under.ensures c.in-Some.first c.in-Some.ensures.first (sym c.covers-2.ensures ∙ c.if-covers-2.false))
+    c.args.local_as (neighbour_of c.args.local_as (best_match_of c.args.routes.now c.args.prefix.now))
+    ∙ ap (λ rs. others_under rs c.args.prefix.now c.args.local_as (neighbour_of c.args.local_as (best_match_of c.args.routes.now c.args.prefix.now))) c.paths-held.ensures
+
+pub returns-in-None-clause-best : goal.returns-in-None-clause-best
+returns-in-None-clause-best c = nothing_over c.args.prefix.now c.first_under.result c.paths-held.result.now.entries c.first_under.ensures c.in-Some.first c.in-Some.ensures.first
+    (sym c.covers-2.ensures ∙ c.if-covers-2.false) (c.common.ensures.none.0 c.in-None.is)
+    ∙ ap (λ rs. best_match_of rs c.args.prefix.now) c.paths-held.ensures
+
+pub returns-in-None-clause-others : goal.returns-in-None-clause-others
+returns-in-None-clause-others c = none_under c.args.prefix.now c.first_under.result c.paths-held.result.now.entries c.first_under.ensures c.in-Some.first c.in-Some.ensures.first
+    (behind c.args.prefix.now c.first_under.result c.paths-held.result.now.entries c.first_under.ensures c.in-Some.first c.in-Some.ensures.first (sym c.covers-2.ensures ∙ c.if-covers-2.false))
+    c.args.local_as (neighbour_of c.args.local_as (best_match_of c.args.routes.now c.args.prefix.now))
+    ∙ ap (λ rs. others_under rs c.args.prefix.now c.args.local_as (neighbour_of c.args.local_as (best_match_of c.args.routes.now c.args.prefix.now))) c.paths-held.ensures
