@@ -49,12 +49,18 @@ def ends_of_put(routes, turns, place, asn):
         yield changed, turns
         return
     before, after = last_before(routes, place), first_after(routes, place)
-    parted = place in routes or None not in (before, after) and routes[before] != routes[after]
+    parted, there = None not in (before, after) and routes[before] != routes[after], False
     for other, turn in ((before, place), (after, after)):
         if other is not None and routes[other] != asn:
-            turns = turns | {turn}
+            there, turns = there or turn in turns, turns | {turn}
             yield routes, tidied(routes, turns, place)
-    yield changed, tidied(changed, turns, place) if parted else turns
+    # `turns::part`: of a place that is taken a turn beside it may be idle now, of a fresh one only where the routes
+    # beside it were parted and no turn that the put needs was there
+    idle = place in routes or parted and not there
+    if idle and place not in routes and routes[after] == asn:
+        idle, turns = after not in turns, turns - {after}
+    yield routes, tidied(routes, turns, place)
+    yield changed, tidied(changed, turns, place) if idle else turns
 
 
 def end_of_remove(routes, turns, place):

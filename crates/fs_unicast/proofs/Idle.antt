@@ -17,11 +17,11 @@ use Rattle.fs_unicast.proofs.PlaceOrder.{below_upto, upto_below, upto_upto, lt_l
 use Rattle.fs_unicast.proofs.Finding.{found_each, found_passes, none_found, any_found, after_found, last_each, last_passes, no_last, any_last, before_last}
 use Rattle.fs_unicast.proofs.Parting.{same_is, same_itself, turned_off}
 
-falsified : (b : Bool) → (b ≡ true → true ≡ false) → b ≡ false
+pub falsified : (b : Bool) → (b ≡ true → true ≡ false) → b ≡ false
 falsified true h = h refl
 falsified false h = refl
 
-eq_equal : (o : Ordering) → is_eq o ≡ true → o ≡ Equal
+pub eq_equal : (o : Ordering) → is_eq o ≡ true → o ≡ Equal
 eq_equal Less h = absurd (true≢false (sym h))
 eq_equal Equal h = refl
 eq_equal Greater h = absurd (true≢false (sym h))

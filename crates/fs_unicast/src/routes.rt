@@ -111,12 +111,18 @@ impl Routes {
         }
         let after = turns::first_behind(&self.paths, &place, next);
         let before = turns::last_before(&self.paths, &place);
-        let parted = taken || !turns::are_alike(before, after);
         let shared = share_beside(self.alloc, path, before, after)?;
-        turns::part_before(&mut self.turns, before, &place, asn)?;
-        turns::part_after(&mut self.turns, after, asn)?;
+        let idle = turns::part(
+            &self.paths,
+            &mut self.turns,
+            &place,
+            before,
+            next,
+            after,
+            asn,
+        )?;
         self.paths.insert(place, shared)?;
-        Ok(if parted { Change::Untidy } else { Change::Tidy })
+        Ok(if idle { Change::Untidy } else { Change::Tidy })
     }
 
     /// Takes the route at the place away, and tells whether there was one.

@@ -9,7 +9,7 @@ ghost use Rattle.std.specs.List.Sorted.{IsStrictlySortedBy};
 ghost use Rattle.fs_unicast.specs.Search.{is_other};
 ghost use Rattle.fs_unicast.specs.Neighbour.{neighbour};
 ghost use Rattle.fs_unicast.specs.Unicast.{place_cmp};
-ghost use Rattle.fs_unicast.specs.Turns.{entry_now, stands_at, is_alike, is_same, is_within, lies_between, are_parted, find_last, is_alone, is_needed, without_idle, tidied, IsParted, IsPartedAt, StaysParted, PartsAt, is_inside};
+ghost use Rattle.fs_unicast.specs.Turns.{entry_now, stands_at, is_alike, is_same, is_within, lies_between, are_parted, find_last, is_alone, is_needed, without_idle, tidied, IsParted, IsPartedAt, IsPartedBefore, IsPartedAfter, StaysParted, PartsAt, is_inside};
 
 use crate::neighbour::neighbour_as;
 use crate::shared::SharedPath;
@@ -39,46 +39,105 @@ pub fn is_alike(route: Option<(&Place, &SharedPath)>, asn: Option<u32>) -> bool
 }
 
 /// Whether the paths of two routes name the same neighbouring AS, or one of the routes isn't there.
-pub fn are_alike(
-    before: Option<(&Place, &SharedPath)>,
-    after: Option<(&Place, &SharedPath)>,
-) -> bool {
+fn are_alike(before: Option<(&Place, &SharedPath)>, after: Option<(&Place, &SharedPath)>) -> bool {
     match after {
         Some((_, held)) => is_alike(before, held.neighbour()),
         None => true,
     }
 }
 
-/// Puts a turn at the place where the route before it has another neighbouring AS than this.
-pub fn part_before(
+/// Puts the turns at the place and at the route after it that a route of this neighbouring AS at the place needs, where
+/// `next` is the first route from the place on. Tells whether a turn beside the place may be idle once the route is
+/// there: always where it replaces one, else only where the routes beside the place are parted and none of these turns
+/// was there. The turn that parted them is mostly at the route after, and where that is alike it goes at once.
+pub fn part(
+    paths: &BTreeMap<Place, SharedPath>,
+    turns: &mut BTreeSet<Place>,
+    place: &Place,
+    before: Option<(&Place, &SharedPath)>,
+    next: Option<(&Place, &SharedPath)>,
+    after: Option<(&Place, &SharedPath)>,
+    asn: Option<u32>,
+) -> Result<bool, Memory>
+    requires parted { IsParted turns.old.keys paths.now.entries }
+    requires ordered { IsStrictlySortedBy place_cmp (keys_of paths.now.entries) }
+    requires before { option_map entry_now before ≡ find_last (λ r. is_lt (place_cmp r.0 place.now)) paths.now.entries }
+    requires next { option_map entry_now next ≡ find (λ r. is_le (place_cmp place.now r.0)) paths.now.entries }
+    requires after { option_map entry_now after ≡ find (λ r. is_lt (place_cmp place.now r.0)) paths.now.entries }
+    ensures parted { IsParted turns.new.keys paths.now.entries }
+    ensures before { OnOk result (IsPartedBefore turns.new.keys paths.now.entries place.now asn) }
+    ensures after { OnOk result (IsPartedAfter turns.new.keys paths.now.entries place.now asn) }
+{
+    let there = part_beside(paths, turns, place, before, after, asn)?;
+    if stands_at(next, place) {
+        return Ok(true);
+    }
+    if there || are_alike(before, after) {
+        return Ok(false);
+    }
+    match next {
+        Some((turn, path)) if has_neighbour(path, asn) && !is_alike(before, asn) => {
+            Ok(!turns.remove(turn))
+        }
+        _ => Ok(true),
+    }
+}
+
+/// Puts the turns that a route of this neighbouring AS at the place needs, and tells whether one of them was there.
+fn part_beside(
+    paths: &BTreeMap<Place, SharedPath>,
+    turns: &mut BTreeSet<Place>,
+    place: &Place,
+    before: Option<(&Place, &SharedPath)>,
+    after: Option<(&Place, &SharedPath)>,
+    asn: Option<u32>,
+) -> Result<bool, Memory>
+    requires parted { IsParted turns.old.keys paths.now.entries }
+    requires ordered { IsStrictlySortedBy place_cmp (keys_of paths.now.entries) }
+    requires before { option_map entry_now before ≡ find_last (λ r. is_lt (place_cmp r.0 place.now)) paths.now.entries }
+    requires after { option_map entry_now after ≡ find (λ r. is_lt (place_cmp place.now r.0)) paths.now.entries }
+    ensures parted { IsParted turns.new.keys paths.now.entries }
+    ensures before { OnOk result (IsPartedBefore turns.new.keys paths.now.entries place.now asn) }
+    ensures after { OnOk result (IsPartedAfter turns.new.keys paths.now.entries place.now asn) }
+    ensures here { OnOk result
+        (is_alike asn (option_map entry_now before.entry) ≡ false → PartsAt turns.new.keys place.now) }
+{
+    let here = part_before(turns, before, place, asn)?;
+    let behind = part_after(turns, after, asn)?;
+    Ok(here | behind)
+}
+
+/// Puts a turn at the place where the route before it has another neighbouring AS than this, and tells whether it was
+/// there.
+fn part_before(
     turns: &mut BTreeSet<Place>,
     before: Option<(&Place, &SharedPath)>,
     place: &Place,
     asn: Option<u32>,
-) -> Result<(), Memory>
+) -> Result<bool, Memory>
     ensures ok { OnOk result
         (is_alike asn (option_map entry_now before.entry) ≡ false → PartsAt turns.new.keys place.now) }
     ensures stays { StaysParted turns.old.keys turns.new.keys }
 {
     if is_alike(before, asn) {
-        Ok(())
+        Ok(false)
     } else {
         put_turn(turns, *place)
     }
 }
 
-/// Puts a turn at the route after a place where it has another neighbouring AS than this.
-pub fn part_after(
+/// Puts a turn at the route after a place where it has another neighbouring AS than this, and tells whether it was there.
+fn part_after(
     turns: &mut BTreeSet<Place>,
     after: Option<(&Place, &SharedPath)>,
     asn: Option<u32>,
-) -> Result<(), Memory>
+) -> Result<bool, Memory>
     ensures ok { OnOk result (IsPartedAt turns.new.keys asn (option_map entry_now after.entry)) }
     ensures stays { StaysParted turns.old.keys turns.new.keys }
 {
     match after {
         Some((turn, path)) if !has_neighbour(path, asn) => put_turn(turns, *turn),
-        _ => Ok(()),
+        _ => Ok(false),
     }
 }
 
@@ -117,13 +176,13 @@ fn is_other(path: &SharedPath, local_as: u32, asn: Option<u32>) -> bool
     }
 }
 
-/// Puts a turn at the place.
-fn put_turn(turns: &mut BTreeSet<Place>, turn: Place) -> Result<(), Memory>
+/// Puts a turn at the place, and tells whether it was there.
+fn put_turn(turns: &mut BTreeSet<Place>, turn: Place) -> Result<bool, Memory>
     ensures ok { OnOk result (PartsAt turns.new.keys turn) }
     ensures stays { StaysParted turns.old.keys turns.new.keys }
 {
-    turns.insert(turn)?;
-    Ok(())
+    let is_new = turns.insert(turn)?;
+    Ok(!is_new)
 }
 
 /// Whether the path names this neighbouring AS.

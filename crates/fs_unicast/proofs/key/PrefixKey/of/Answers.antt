@@ -1,6 +1,6 @@
 use Rattle.std.proofs.Common.{◌/◌, ◌%◌, ◌^◌, sym, ap, subst, ◌∙◌}
 use Rattle.fs_base.specs.Prefix.{prefix_of}
-use Rattle.fs_unicast.specs.Key.{IsKey, joined}
+use Rattle.fs_unicast.specs.Key.{IsKey}
 use Rattle.fs_unicast.proofs.Keys.{halves, key_again, key_is}
 use Rattle.fs_unicast.proofs.key.PrefixKey.of.Goals as goal
 

@@ -1,12 +1,12 @@
-use Rattle.std.proofs.Common.{◌≡◌, ◌∙◌, List, Option, Some, sym, ap, subst, true, false, true≢false, find, is_le, option_map}
+use Rattle.std.proofs.Common.{◌≡◌, ◌∙◌, List, Some, sym, ap, subst, true, true≢false, find, is_le, option_map}
 use Rattle.std.specs.BTreeMap.{insert_entry}
 use Rattle.fs_unicast.specs.Neighbour.{neighbour}
 use Rattle.fs_base.specs.declared.path.Path.{Path}
 use Rattle.fs_unicast.specs.declared.unicast.Place.{Place}
 use Rattle.fs_unicast.specs.Unicast.{Route, place_cmp}
-use Rattle.fs_unicast.specs.Turns.{IsParted, IsPartedAt, PartsAt, entry_now, is_alike, stands_at}
-use Rattle.fs_unicast.proofs.Parting.{put_again, put_back, stays_all, stays_before, parted_put, parted_replaced, parted_fore, parted_aft}
-use Rattle.fs_unicast.proofs.routes.Routes.keep.Goals.{else-taken-via-then-taken+else-has_path, else-taken-via-else-taken, then-parted, else-parted}
+use Rattle.fs_unicast.specs.Turns.{IsParted, IsPartedAfter, IsPartedBefore, entry_now, is_alike, stands_at}
+use Rattle.fs_unicast.proofs.Parting.{put_again, put_back, parted_put, parted_replaced}
+use Rattle.fs_unicast.proofs.routes.Routes.keep.Goals.{else-taken-via-then-taken+else-has_path, else-taken-via-else-taken, then-idle, else-idle}
 use Rattle.fs_unicast.proofs.routes.Routes.keep.Goals as goal
 
 pub returns-then-has_path-clause-ok : goal.returns-then-has_path-clause-ok
@@ -19,33 +19,13 @@ invariant_of-self-then-is_alike c = subst (IsParted c.self.inside.turns.keys) (s
     (parted_replaced c.self.inside.turns.keys c.self.inside.paths.entries c.args.place c.args.path (option_map entry_now c.first_from-next.result) (sym c.first_from-next.ensures.found) (sym c.stands_at-taken.ensures ∙ c.if-taken-2.true)
     (ap (λ a. is_alike a (option_map entry_now c.first_from-next.result)) (sym (c.neighbour-asn.ensures ∙ ap neighbour c.as_slice.ensures)) ∙ sym c.is_alike.ensures ∙ c.if-is_alike.true) c.self.invariant)
 
-pub invariant_of-self-in_err-part_before : goal.invariant_of-self-in_err-part_before
-invariant_of-self-in_err-part_before c = stays_all c.self.inside.turns.keys c.part_before.new.turns.keys c.self.inside.paths.entries c.part_before.ensures.stays c.self.invariant
-
-pub invariant_of-self-in_err-part_after : goal.invariant_of-self-in_err-part_after
-invariant_of-self-in_err-part_after c = stays_all c.part_before.new.turns.keys c.part_after.new.turns.keys c.self.inside.paths.entries c.part_after.ensures.stays
-    (stays_all c.self.inside.turns.keys c.part_before.new.turns.keys c.self.inside.paths.entries c.part_before.ensures.stays c.self.invariant)
-
-pub invariant_of-self-in_err-insert-2 : goal.invariant_of-self-in_err-insert-2
-invariant_of-self-in_err-insert-2 c = rw c.in_err-insert-2.ensures.err (stays_all c.part_before.new.turns.keys c.part_after.new.turns.keys c.self.inside.paths.entries c.part_after.ensures.stays
-    (stays_all c.self.inside.turns.keys c.part_before.new.turns.keys c.self.inside.paths.entries c.part_before.ensures.stays c.self.invariant))
-
 pub invariant_of-self-2 : goal.invariant_of-self-2
-invariant_of-self-2 c = subst (IsParted c.part_after.new.turns.keys) (sym (c.in_ok-insert-2.ensures.entries ∙ ap (insert_entry place_cmp c.self.inside.paths.entries c.args.place) c.in_ok-shared.ensures))
-    (parted_put c.part_after.new.turns.keys c.self.inside.paths.entries c.args.place c.args.path parted_both
-    (stays_before c.part_before.new.turns.keys c.part_after.new.turns.keys c.self.inside.paths.entries c.args.place (neighbour c.args.path.segments) c.part_after.ensures.stays
-    (parted_fore c.part_before.new.turns.keys c.self.inside.paths.entries c.args.place (neighbour c.args.path.segments) (option_map entry_now c.last_before-before.result) c.last_before-before.ensures.ordered (sym c.last_before-before.ensures.found) parted_one
-    (subst (λ a. is_alike a (option_map entry_now c.last_before-before.result) ≡ false → PartsAt c.part_before.new.turns.keys c.args.place) asn_is c.in_ok-part_before.ensures.ok)))
-    (parted_aft c.part_after.new.turns.keys c.self.inside.paths.entries c.args.place (neighbour c.args.path.segments) (option_map entry_now c.first_behind-after.result) c.last_before-before.ensures.ordered (sym c.first_behind-after.ensures) parted_both
-    (subst (λ a. IsPartedAt c.part_after.new.turns.keys a (option_map entry_now c.first_behind-after.result)) asn_is c.in_ok-part_after.ensures.ok))) where
+invariant_of-self-2 c = subst (IsParted c.part.new.turns.keys) (sym (c.in_ok-insert-2.ensures.entries ∙ ap (insert_entry place_cmp c.self.inside.paths.entries c.args.place) c.in_ok-shared.ensures))
+    (parted_put c.part.new.turns.keys c.self.inside.paths.entries c.args.place c.args.path c.in_ok-idle.ensures.parted
+    (subst (IsPartedBefore c.part.new.turns.keys c.self.inside.paths.entries c.args.place) asn_is c.in_ok-idle.ensures.before)
+    (subst (IsPartedAfter c.part.new.turns.keys c.self.inside.paths.entries c.args.place) asn_is c.in_ok-idle.ensures.after)) where
       asn_is : c.neighbour-asn.result ≡ neighbour c.args.path.segments
       asn_is = c.neighbour-asn.ensures ∙ ap neighbour c.as_slice.ensures
-
-      parted_one : IsParted c.part_before.new.turns.keys c.self.inside.paths.entries
-      parted_one = stays_all c.self.inside.turns.keys c.part_before.new.turns.keys c.self.inside.paths.entries c.part_before.ensures.stays c.self.invariant
-
-      parted_both : IsParted c.part_after.new.turns.keys c.self.inside.paths.entries
-      parted_both = stays_all c.part_before.new.turns.keys c.part_after.new.turns.keys c.self.inside.paths.entries c.part_after.ensures.stays parted_one
 
 pub returns-clause-ok : goal.returns-clause-ok
 returns-clause-ok c = c.in_ok-insert-2.ensures.entries ∙ ap (insert_entry place_cmp c.self.inside.paths.entries c.args.place) c.in_ok-shared.ensures ∙ ap (λ rs. insert_entry place_cmp rs c.args.place c.args.path) c.self.view_is
@@ -70,9 +50,9 @@ returns-then-is_alike-clause-told c = (
 
 pub returns-clause-told : goal.returns-clause-told
 returns-clause-told c = (
-  (λ e. absurd (elim c.if-parted.branch [
-    | then-parted w ↦ (let r = sym w.result-is ∙ e in cc)
-    | else-parted w ↦ (let r = sym w.result-is ∙ e in cc)
+  (λ e. absurd (elim c.if-idle.branch [
+    | then-idle w ↦ (let r = sym w.result-is ∙ e in cc)
+    | else-idle w ↦ (let r = sym w.result-is ∙ e in cc)
   ])),
   (λ same.
       let found = there_before c.self.inside.paths.entries c.insert-2.new.self.entries c.args.self.now c.args.place c.args.path c.self.view_is

@@ -1,0 +1,37 @@
+use Rattle.std.proofs.Common.{◌≡◌, ◌∙◌, sym, ap, option_map, Some, find, true, is_le, is_lt}
+use Rattle.std.specs.BTreeMap.{is_at}
+use Rattle.std.specs.Set.{remove_key}
+use Rattle.fs_unicast.specs.Unicast.{place_cmp}
+use Rattle.fs_unicast.specs.Turns.{entry_now, stands_at, PartsAt, IsParted}
+use Rattle.fs_unicast.proofs.Finding.{found_passes}
+use Rattle.fs_unicast.proofs.Moving.{still_here, still_parted}
+use Rattle.fs_unicast.proofs.Parting.{next_behind, parted_here, parted_on}
+use Rattle.fs_unicast.proofs.turns.part.Goals as goal
+
+module _ (c : goal.After-remove) where
+  next_is : find (λ r. is_le (place_cmp c.args.place.now r.0)) c.args.paths.now.entries ≡ Some (c.in-Some.turn.now, c.in-Some.path.now)
+  next_is = sym c.requires.next ∙ ap (option_map entry_now) c.in-Some.is
+
+  after_is : find (λ r. is_lt (place_cmp c.args.place.now r.0)) c.args.paths.now.entries ≡ Some (c.in-Some.turn.now, c.in-Some.path.now)
+  after_is = sym (next_behind c.args.paths.now.entries c.args.place.now (Some (c.in-Some.turn.now, c.in-Some.path.now)) next_is
+      (ap (λ o. stands_at c.args.place.now (option_map entry_now o)) (sym c.in-Some.is) ∙ sym c.stands_at.ensures ∙ c.if-stands_at.false))
+
+  past : is_lt (place_cmp c.args.place.now c.in-Some.turn.now) ≡ true
+  past = found_passes (λ r. is_lt (place_cmp c.args.place.now r.0)) c.args.paths.now.entries (c.in-Some.turn.now, c.in-Some.path.now) after_is
+
+  here : PartsAt c.part_beside.new.turns.keys c.args.place.now
+  here = c.in_ok-there.ensures.here (sym c.is_alike.ensures ∙ c.if-not-is_alike.true)
+
+  parted : IsParted (remove_key (is_at (place_cmp c.in-Some.turn.now)) c.part_beside.new.turns.keys) c.args.paths.now.entries
+  parted = still_parted c.part_beside.new.turns.keys c.args.paths.now.entries c.args.place.now (c.in-Some.turn.now, c.in-Some.path.now) here next_is past c.requires.ordered c.in_ok-there.ensures.parted
+
+pub returns-in-Some-clause-parted : goal.returns-in-Some-clause-parted
+returns-in-Some-clause-parted c = rw c.remove.ensures.keys (parted c)
+
+pub returns-in-Some-clause-before : goal.returns-in-Some-clause-before
+returns-in-Some-clause-before c = rw c.remove.ensures.keys (parted_here (remove_key (is_at (place_cmp c.in-Some.turn.now)) c.part_beside.new.turns.keys) c.args.paths.now.entries c.args.place.now c.args.asn
+    (still_here c.part_beside.new.turns.keys c.args.paths.now.entries c.args.place.now (c.in-Some.turn.now, c.in-Some.path.now) (here c) (next_is c) (past c)))
+
+pub returns-in-Some-clause-after : goal.returns-in-Some-clause-after
+returns-in-Some-clause-after c = rw c.remove.ensures.keys (parted_on (remove_key (is_at (place_cmp c.in-Some.turn.now)) c.part_beside.new.turns.keys) c.args.paths.now.entries c.args.place.now c.args.asn (c.in-Some.turn.now, c.in-Some.path.now)
+    c.requires.ordered (after_is c) (parted c) (sym c.has_neighbour.ensures ∙ c.if-has_neighbour.true))
