@@ -1,12 +1,14 @@
 -- The last address of a prefix and its length tell the prefix.
-use Rattle.std.proofs.Common.{ℕ, ◌≡◌, ◌+◌, ◌-◌, ◌*◌, ◌/◌, ◌%◌, ◌^◌, ◌<◌, ◌≤◌, refl, sym, ap, ◌∙◌, min, arith}
-use Rattle.std.proofs.lemmas.Nat.{pow_pos, mod_below, shr_split}
+use Rattle.std.proofs.Common.{ℕ, ◌≡◌, ◌+◌, ◌-◌, ◌*◌, ◌/◌, ◌%◌, ◌^◌, ◌<◌, ◌≤◌, refl, sym, ap, subst, ◌∙◌, min, arith}
+use Rattle.std.proofs.lemmas.Nat.{pow_pos, shr_split}
+use Rattle.fs_base.specs.declared.prefix.Family.{Family}
+use Rattle.fs_base.specs.declared.prefix.Family.TheVariants.{V4, V6}
 use Rattle.fs_base.specs.declared.prefix.Prefix.{Prefix}
-use Rattle.fs_base.specs.Bits.{width_of, cleared}
+use Rattle.fs_base.specs.Bits.{width_of, afi_of, cleared}
 use Rattle.fs_base.specs.Prefix.{prefix_of, last_address}
 use Rattle.fs_base.proofs.Blocks.{IsBlock, block_of, block_meeting}
 use Rattle.fs_base.proofs.SamePrefix.{same_prefix}
-use Rattle.fs_unicast.specs.Key.{IsKey, joined, least}
+use Rattle.fs_unicast.specs.Key.{IsKey, family_of, joined, high_of, low_of, last_of, least}
 
 -- the last address of a block is a block by itself
 last_block : (w n b : ℕ) → IsBlock w n b → IsBlock w w (b + 2 ^ (w - n) - 1)
@@ -33,12 +35,29 @@ key_again p = same_prefix (prefix_of p.family (last_address p) p.length) p refl
       short = least p.short
 
 -- a number is its halves
-pub halves : (x : ℕ) → joined (x / 2 ^ 64) (x % 2 ^ 64) ≡ x
+halves : (x : ℕ) → joined (x / 2 ^ 64) (x % 2 ^ 64) ≡ x
 halves x = shr_split x 64
 
-pub key_is : (p : Prefix) → IsKey p.family (last_address p / 2 ^ 64) (last_address p % 2 ^ 64) p.length
+-- an address is read again
+last_again : (f : Family) (x : ℕ) → last_of f (high_of f x) (low_of f x) ≡ x
+last_again V4 x = refl
+last_again V6 x = halves x
+
+family_again : (f : Family) → family_of (afi_of f) ≡ f
+family_again V4 = refl
+family_again V6 = refl
+
+-- what a key of a prefix shows
+pub shown_again : (p : Prefix) → prefix_of (family_of (afi_of p.family)) (last_of (family_of (afi_of p.family)) (high_of p.family (last_address p)) (low_of p.family (last_address p))) p.length ≡ p
+shown_again p = ap (λ f. prefix_of f (last_of f (high_of p.family (last_address p)) (low_of p.family (last_address p))) p.length) (family_again p.family)
+    ∙ ap (λ x. prefix_of p.family x p.length) (last_again p.family (last_address p)) ∙ key_again p
+
+pub key_is : (p : Prefix) → IsKey (afi_of p.family) (high_of p.family (last_address p)) (low_of p.family (last_address p)) p.length
 key_is p = record {
-  short = p.short;
-  small = mod_below (last_address p) (2 ^ 64) (pow_pos 64);
-  is_last = ap (λ k. last_address (prefix_of p.family k p.length)) (halves (last_address p)) ∙ ap last_address (key_again p) ∙ sym (halves (last_address p));
+  known = ap afi_of (family_again p.family);
+  short = subst (λ f. p.length ≤ width_of f) (sym (family_again p.family)) p.short;
+  high_again = ap (λ f. high_of f (last_address (prefix_of (family_of (afi_of p.family)) (last_of (family_of (afi_of p.family)) (high_of p.family (last_address p)) (low_of p.family (last_address p))) p.length))) (family_again p.family)
+      ∙ ap (λ q. high_of p.family (last_address q)) (shown_again p);
+  low_again = ap (λ f. low_of f (last_address (prefix_of (family_of (afi_of p.family)) (last_of (family_of (afi_of p.family)) (high_of p.family (last_address p)) (low_of p.family (last_address p))) p.length))) (family_again p.family)
+      ∙ ap (λ q. low_of p.family (last_address q)) (shown_again p);
 }

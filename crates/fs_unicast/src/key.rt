@@ -2,6 +2,7 @@
 
 ghost use Rattle.std.specs.Prelude.{◌≡◌};
 ghost use Rattle.fs_base.specs.Prefix.{last_address};
+ghost use Rattle.fs_unicast.specs.Key.{high_of, low_of};
 
 use fs_base::{Family, Prefix};
 use std::cmp::Ordering;
@@ -10,39 +11,40 @@ use std::marker::Model;
 /// How many numbers of 64 bits there are.
 const HALF: u128 = 1 << 64;
 
-/// A prefix as a key: its last address, by which prefixes are ordered, stands in it and isn't reckoned at each
-/// comparison. The address stands in halves, so a key takes 24 octets.
+/// A prefix as a key: what prefixes are ordered by stands in it as numbers that are compared one after the other, and
+/// isn't reckoned at each comparison. First the number of the family; then the last address, an IPv4 address in `high`,
+/// one of IPv6 in halves; then the length. A key takes 24 octets.
 #[derive(Clone, Copy)]
 pub struct PrefixKey {
     high: u64,
     low: u64,
-    family: Family,
+    afi: u8,
     length: u8,
 }
 
 impl Model for PrefixKey {
-    ghost use Rattle.std.specs.Prelude.{◌/◌, ◌%◌, ◌^◌};
+    ghost use Rattle.fs_base.specs.Bits.{afi_of};
     ghost use Rattle.fs_base.specs.Prefix.{prefix_of, last_address};
     ghost use Rattle.fs_base.specs.declared.prefix.Prefix.{Prefix};
-    ghost use Rattle.fs_unicast.specs.Key.{IsKey, joined, high_again, low_again, least};
+    ghost use Rattle.fs_unicast.specs.Key.{IsKey, family_of, last_of, high_of, low_of, least};
 
     ghost Value = { Prefix };
 
-    ghost view = { λ a. prefix_of a.family (joined a.high a.low) a.length };
+    ghost view = { λ a. prefix_of (family_of a.afi) (last_of (family_of a.afi) a.high a.low) a.length };
 
-    ghost invariant = { λ a. IsKey a.family a.high a.low a.length };
+    ghost invariant = { λ a. IsKey a.afi a.high a.low a.length };
 
     ghost inverse = { λ p. record {
-      high = last_address p / 2 ^ 64;
-      low = last_address p % 2 ^ 64;
-      family = p.family;
+      high = high_of p.family (last_address p);
+      low = low_of p.family (last_address p);
+      afi = afi_of p.family;
       length = p.length;
     } };
 
     ghost inverse_ok = { λ a h i. record {
-      high = high_again h i;
-      low = low_again h i;
-      family = a.family;
+      high = h.high_again i;
+      low = h.low_again i;
+      afi = h.known i;
       length = least h.short i;
     } };
 }
@@ -52,11 +54,11 @@ impl PrefixKey {
     pub fn of(prefix: &Prefix) -> PrefixKey
         ensures { result ≡ prefix.now }
     {
-        let last = prefix.last();
+        let (high, low) = halves(prefix);
         PrefixKey {
-            high: (last / HALF) as u64,
-            low: (last % HALF) as u64,
-            family: prefix.family,
+            high,
+            low,
+            afi: prefix.family.afi() as u8,
             length: prefix.length,
         }
     }
@@ -65,14 +67,40 @@ impl PrefixKey {
     pub fn prefix(&self) -> Prefix
         ensures { result ≡ self.now }
     {
-        Prefix::of_bits(self.family, self.last(), self.length)
+        Prefix::of_bits(self.family(), self.last(), self.length)
+    }
+
+    fn family(&self) -> Family
+        ensures { result ≡ self.now.family }
+    {
+        if self.afi == 1 {
+            Family::V4
+        } else {
+            Family::V6
+        }
     }
 
     /// The last address, in the low 32 or 128 bits.
     fn last(&self) -> u128
         ensures { result ≡ last_address self.now }
     {
-        self.high as u128 * HALF + self.low as u128
+        if self.afi == 1 {
+            self.high as u128
+        } else {
+            self.high as u128 * HALF + self.low as u128
+        }
+    }
+}
+
+/// The last address, as a key has it.
+fn halves(prefix: &Prefix) -> (u64, u64)
+    ensures high { result.0 ≡ high_of prefix.now.family (last_address prefix.now) }
+    ensures low { result.1 ≡ low_of prefix.now.family (last_address prefix.now) }
+{
+    let last = prefix.last();
+    match prefix.family {
+        Family::V4 => (last as u64, 0),
+        Family::V6 => ((last / HALF) as u64, (last % HALF) as u64),
     }
 }
 
@@ -124,9 +152,12 @@ impl Ord for PrefixKey {
     ghost matches_eq = { λ _ _. refl };
 
     fn cmp(&self, other: &PrefixKey) -> Ordering {
-        match self.family.afi().cmp(&other.family.afi()) {
-            Ordering::Equal => match self.last().cmp(&other.last()) {
-                Ordering::Equal => other.length.cmp(&self.length),
+        match self.afi.cmp(&other.afi) {
+            Ordering::Equal => match self.high.cmp(&other.high) {
+                Ordering::Equal => match self.low.cmp(&other.low) {
+                    Ordering::Equal => other.length.cmp(&self.length),
+                    unlike => unlike,
+                },
                 unlike => unlike,
             },
             unlike => unlike,

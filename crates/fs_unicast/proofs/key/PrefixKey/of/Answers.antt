@@ -1,11 +1,17 @@
-use Rattle.std.proofs.Common.{◌/◌, ◌%◌, ◌^◌, sym, ap, subst, ◌∙◌}
-use Rattle.fs_base.specs.Prefix.{prefix_of}
-use Rattle.fs_unicast.specs.Key.{IsKey}
-use Rattle.fs_unicast.proofs.Keys.{halves, key_again, key_is}
+use Rattle.std.proofs.Common.{sym, ap, ap₂, subst, ◌∙◌}
+use Rattle.fs_base.specs.Bits.{afi_of}
+use Rattle.fs_base.specs.Prefix.{prefix_of, last_address}
+use Rattle.fs_unicast.specs.Key.{IsKey, family_of, high_of, last_of}
+use Rattle.fs_unicast.proofs.Keys.{shown_again, key_is}
 use Rattle.fs_unicast.proofs.key.PrefixKey.of.Goals as goal
 
 pub invariant_of-result : goal.invariant_of-result
-invariant_of-result c = subst (λ last. IsKey c.args.prefix.now.family (last / 2 ^ 64) (last % 2 ^ 64) c.args.prefix.now.length) (sym c.last-last.ensures) (key_is c.args.prefix.now)
+invariant_of-result c = subst (λ a. IsKey a c.halves-high.result.0 c.halves-high.result.1 c.args.prefix.now.length) (sym c.afi.ensures)
+    (subst (λ h. IsKey (afi_of c.args.prefix.now.family) h c.halves-high.result.1 c.args.prefix.now.length) (sym c.halves-high.ensures.high)
+    (subst (λ l. IsKey (afi_of c.args.prefix.now.family) (high_of c.args.prefix.now.family (last_address c.args.prefix.now)) l c.args.prefix.now.length) (sym c.halves-high.ensures.low)
+    (key_is c.args.prefix.now)))
 
 pub returns : goal.returns
-returns c = ap (λ last. prefix_of c.args.prefix.now.family last c.args.prefix.now.length) (halves c.last-last.result ∙ c.last-last.ensures) ∙ key_again c.args.prefix.now
+returns c = ap (λ a. prefix_of (family_of a) (last_of (family_of a) c.halves-high.result.0 c.halves-high.result.1) c.args.prefix.now.length) c.afi.ensures
+    ∙ ap₂ (λ h l. prefix_of (family_of (afi_of c.args.prefix.now.family)) (last_of (family_of (afi_of c.args.prefix.now.family)) h l) c.args.prefix.now.length) c.halves-high.ensures.high c.halves-high.ensures.low
+    ∙ shown_again c.args.prefix.now
