@@ -113,9 +113,9 @@ pub fn best_and_others<'a>(
         return (best, false);
     }
     if prefix.covers(&first) {
-        let best = best_match(held, prefix);
-        let others = others_under(routes, prefix, local_as, neighbour_of(best, local_as));
-        return (best, others);
+        let longest = best_match(held, prefix);
+        let others = others_under(routes, prefix, local_as, neighbour_of(longest, local_as));
+        return (longest, others);
     }
     match prefix.common(&first) {
         Some(both) => (best_over(held, prefix, &both), false),

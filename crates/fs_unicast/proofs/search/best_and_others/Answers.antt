@@ -29,7 +29,7 @@ returns-then-covers-clause-others c = none_under c.args.prefix.now c.first_under
 pub returns-then-covers-2-clause-others : goal.returns-then-covers-2-clause-others
 returns-then-covers-2-clause-others c = c.others_under-others.ensures
     ∙ ap (others_under c.args.routes.now c.args.prefix.now c.args.local_as)
-    (c.neighbour_of.ensures ∙ ap (neighbour_of c.args.local_as) (c.best_match-best.ensures ∙ ap (λ rs. best_match_of rs c.args.prefix.now) c.paths-held.ensures))
+    (c.neighbour_of.ensures ∙ ap (neighbour_of c.args.local_as) (c.best_match-longest.ensures ∙ ap (λ rs. best_match_of rs c.args.prefix.now) c.paths-held.ensures))
 
 pub best_over-requires : goal.best_over-requires
 best_over-requires c = goes_over c.args.prefix.now c.first_under.result c.paths-held.result.now.entries c.first_under.ensures c.in-Some.first c.in-Some.ensures.first
