@@ -71,24 +71,37 @@ put_rest family k [] rest h d placed sound = refl
 put_rest family k (e ∷ es) rest h d placed sound = ap (λ zs. e.1 ++ zs) (put_rest family k es rest h d placed.1 (each_back (IsSound family) e.1 (kept_in es rest) sound))
     ∙ sym (put_right k e.1 (kept_in es rest) (group_before_route family e k None h d refl (each_front (IsSound family) e.1 (kept_in es rest) sound) placed.0))
 
+-- a key that is found stands behind the first
+found_behind : (p q : Prefix) (group : List Kept) (es : List Entry) → AllByRecursion (λ r. prefix_cmp q r ≡ Less) (keys_of es) → lookup (is_at (prefix_cmp p)) es ≡ Some group → prefix_cmp q p ≡ Less
+found_behind p q group [] g f = cc
+found_behind p q group (x ∷ xs) g f = go (is_eq (prefix_cmp p x.0)) refl f (found_behind p q group xs g.1) where
+  go : (b : Bool) → is_eq (prefix_cmp p x.0) ≡ b → cond b (Some x.1) (lookup (is_at (prefix_cmp p)) xs) ≡ Some group → (lookup (is_at (prefix_cmp p)) xs ≡ Some group → prefix_cmp q p ≡ Less) → prefix_cmp q p ≡ Less
+  go true t f ih = subst (λ r. prefix_cmp q r ≡ Less) (sym (same_from_cmp p x.0 t)) g.0
+  go false t f ih = ih f
+
+not_first : (p : Prefix) (e : Entry) (group : List Kept) (es : List Entry) → AreInOrder (e ∷ es) → prefix_cmp p e.0 ≡ Less → lookup (is_at (prefix_cmp p)) es ≡ Some group → ⊥
+not_first p e group es ordered less f = no (sym less ∙ (prefix_total.antisymm p e.0 ∙ ap ordering_reverse (found_behind p e.0 group es (sorted_head prefix_cmp e.0 (keys_of es) ordered) f))) where
+  no : Less ≡ Greater → ⊥
+  no g = cc
+
 -- the entries that the map has after its calls
-pub put_found : (p : Prefix) (k : Kept) (es : List Entry) (group : List Kept) → AreInOrder es → lookup (is_at (prefix_cmp p)) es ≡ Some group → set_value (is_at (prefix_cmp p)) es (put_kept k group) ≡ put_entry p k es
+pub insert_found : (p : Prefix) (v : List Kept) (es : List Entry) (group : List Kept) → AreInOrder es → lookup (is_at (prefix_cmp p)) es ≡ Some group → insert_entry prefix_cmp es p v ≡ set_value (is_at (prefix_cmp p)) es v
+insert_found p v [] group ordered h = cc
+insert_found p v (e ∷ es) group ordered h = at (prefix_cmp p e.0) refl (insert_found p v es group (sorted_tail prefix_cmp e.0 (keys_of es) ordered)) h where
+  at : (o : Ordering) → prefix_cmp p e.0 ≡ o → (lookup (is_at (prefix_cmp p)) es ≡ Some group → insert_entry prefix_cmp es p v ≡ set_value (is_at (prefix_cmp p)) es v)
+      → cond (is_eq o) (Some e.1) (lookup (is_at (prefix_cmp p)) es) ≡ Some group
+      → match_ordering o ((p, v) ∷ e ∷ es) ((e.0, v) ∷ es) (e ∷ insert_entry prefix_cmp es p v) ≡ cond (is_eq o) ((e.0, v) ∷ es) (e ∷ set_value (is_at (prefix_cmp p)) es v)
+  at Less less ih f = absurd (not_first p e group es ordered less f)
+  at Equal same ih f = refl
+  at Greater more ih f = ap (λ fs. e ∷ fs) (ih f)
+
+pub put_found : (p : Prefix) (k : Kept) (es : List Entry) (group : List Kept) → AreInOrder es → lookup (is_at (prefix_cmp p)) es ≡ Some group → insert_entry prefix_cmp es p (put_kept k group) ≡ put_entry p k es
 put_found p k [] group ordered h = cc
 put_found p k (e ∷ es) group ordered h = at (prefix_cmp p e.0) refl (put_found p k es group (sorted_tail prefix_cmp e.0 (keys_of es) ordered)) h where
-  -- a key that is found stands behind the first
-  behind : (es : List Entry) → AllByRecursion (λ q. prefix_cmp e.0 q ≡ Less) (keys_of es) → lookup (is_at (prefix_cmp p)) es ≡ Some group → prefix_cmp e.0 p ≡ Less
-  behind [] g f = cc
-  behind (x ∷ xs) g f = go (is_eq (prefix_cmp p x.0)) refl f (behind xs g.1) where
-    go : (b : Bool) → is_eq (prefix_cmp p x.0) ≡ b → cond b (Some x.1) (lookup (is_at (prefix_cmp p)) xs) ≡ Some group → (lookup (is_at (prefix_cmp p)) xs ≡ Some group → prefix_cmp e.0 p ≡ Less) → prefix_cmp e.0 p ≡ Less
-    go true t f ih = subst (λ q. prefix_cmp e.0 q ≡ Less) (sym (same_from_cmp p x.0 t)) g.0
-    go false t f ih = ih f
-
-  at : (o : Ordering) → prefix_cmp p e.0 ≡ o → (lookup (is_at (prefix_cmp p)) es ≡ Some group → set_value (is_at (prefix_cmp p)) es (put_kept k group) ≡ put_entry p k es)
+  at : (o : Ordering) → prefix_cmp p e.0 ≡ o → (lookup (is_at (prefix_cmp p)) es ≡ Some group → insert_entry prefix_cmp es p (put_kept k group) ≡ put_entry p k es)
       → cond (is_eq o) (Some e.1) (lookup (is_at (prefix_cmp p)) es) ≡ Some group
-      → cond (is_eq o) ((e.0, put_kept k group) ∷ es) (e ∷ set_value (is_at (prefix_cmp p)) es (put_kept k group)) ≡ match_ordering o ((p, k ∷ []) ∷ e ∷ es) ((e.0, put_kept k e.1) ∷ es) (e ∷ put_entry p k es)
-  at Less less ih f = absurd (no (sym less ∙ (prefix_total.antisymm p e.0 ∙ ap ordering_reverse (behind es (sorted_head prefix_cmp e.0 (keys_of es) ordered) f)))) where
-    no : Less ≡ Greater → ⊥
-    no g = cc
+      → match_ordering o ((p, put_kept k group) ∷ e ∷ es) ((e.0, put_kept k group) ∷ es) (e ∷ insert_entry prefix_cmp es p (put_kept k group)) ≡ match_ordering o ((p, k ∷ []) ∷ e ∷ es) ((e.0, put_kept k e.1) ∷ es) (e ∷ put_entry p k es)
+  at Less less ih f = absurd (not_first p e group es ordered less f)
   at Equal same ih f = ap (λ g. (e.0, put_kept k g) ∷ es) (sym (inner f)) where
     inner : Some e.1 ≡ Some group → e.1 ≡ group
     inner g = cc

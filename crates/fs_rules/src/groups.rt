@@ -24,6 +24,7 @@ use fs_packet::View;
 use fs_unicast::{PrefixKey, Unicast};
 use std::alloc::Global;
 use std::collections::BTreeMap;
+use std::collections::btree_map::Entry;
 use std::marker::Model;
 use std::sync::ledger::Ledger;
 
@@ -199,13 +200,15 @@ fn put_at(
         (λ is_new. IsHeldAt destination k.route.rule k.route.peer groups.old.entries (not is_new)) }
     ensures err { OnErr result (groups.new.entries ≡ groups.old.entries) }
 {
-    if let Some(group) = groups.get_mut(&destination) {
-        return group.put(k);
+    match groups.entry(destination)? {
+        Entry::Occupied(entry) => entry.into_mut().put(k),
+        Entry::Vacant(entry) => {
+            let mut group = Group::new(alloc);
+            group.put(k)?;
+            entry.insert(group);
+            Ok(true)
+        }
     }
-    let mut group = Group::new(alloc);
-    group.put(k)?;
-    groups.insert(destination, group)?;
-    Ok(true)
 }
 
 /// Takes the route of the key out of the group of the destination, and tells whether there was one.
