@@ -20,3 +20,4 @@ pub mod Counting
 pub mod Validities
 pub mod Cutting
 pub mod Begun
+pub mod Alone

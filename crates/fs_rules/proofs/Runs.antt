@@ -125,13 +125,13 @@ beaten_from k (x ∷ xs) = at (key_cmp k.route.rule 0 x.route) refl (beaten_from
 abbrev pub NotBefore : Kept → Kept → Type 0
 NotBefore k s = is_after k.route.rule 0 s ≡ false
 
-not_after_later : (k x y : Kept) → NotBefore k x → key_cmp x.route.rule x.route.peer y.route ≡ Less → NotBefore k y
+pub not_after_later : (k x y : Kept) → NotBefore k x → key_cmp x.route.rule x.route.peer y.route ≡ Less → NotBefore k y
 not_after_later k x y h less = at (is_after k.route.rule 0 y) refl where
   at : (b : Bool) → is_after k.route.rule 0 y ≡ b → is_after k.route.rule 0 y ≡ false
   at true e = absurd (true≢false (sym (after_earlier k.route.rule 0 x.route y.route less e) ∙ h))
   at false e = e
 
-each_of_routes : (P : FlowRoute → Type 0) (xs : List Kept) → AllByRecursion P (routes_of xs) → AllByRecursion (λ s. P s.route) xs
+pub each_of_routes : (P : FlowRoute → Type 0) (xs : List Kept) → AllByRecursion P (routes_of xs) → AllByRecursion (λ s. P s.route) xs
 each_of_routes P [] h = tt
 each_of_routes P (x ∷ xs) h = (h.0, each_of_routes P xs h.1)
 

@@ -14,7 +14,7 @@ use Rattle.fs_nlri.specs.Rule.{destination_prefix}
 use Rattle.fs_validate.specs.Validity.{judged, validity, validity_to}
 use Rattle.fs_validate.specs.declared.route.FlowRoute.{FlowRoute}
 use Rattle.fs_rules.specs.Kept.{Kept}
-use Rattle.fs_rules.specs.Table.{key_cmp, is_key, has_related, is_of_family, is_valid, beats}
+use Rattle.fs_rules.specs.Table.{key_cmp, is_key, has_related, is_of_family, is_valid, same_rule, beats}
 
 abbrev pub routes_of : List Kept → List FlowRoute
 routes_of kept = map (λ k. k.route) kept
@@ -112,6 +112,11 @@ is_chosen family kept k = is_of_family family k.route && (is_valid k.validity &&
 abbrev pub is_before_rule : Ruled → Option Kept → Bool
 is_before_rule rule None = false
 is_before_rule rule (Some k) = is_gt (key_cmp rule 0 k.route)
+
+-- of what stands at a place, whether it is a route of another rule, or none
+abbrev pub is_apart : Kept → Option Kept → Bool
+is_apart k None = true
+is_apart k (Some s) = not (same_rule s.route k.route)
 
 abbrev pub has_key_at : Ruled → ℕ → Option Kept → Bool
 has_key_at rule peer None = false

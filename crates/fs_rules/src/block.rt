@@ -5,9 +5,9 @@ ghost use Rattle.std.specs.List.{list_any};
 ghost use Rattle.std.specs.Option.{option_copied};
 ghost use Rattle.fs_rules.specs.Table.{is_key, key_cmp, is_of_family, is_valid, same_rule};
 ghost use Rattle.fs_unicast.specs.Preference.{offered, preferred};
-ghost use Rattle.std.specs.Prelude.{◌∷◌, ◌&&◌, ◌↔◌, true, false};
+ghost use Rattle.std.specs.Prelude.{◌∷◌, ◌&&◌, ◌↔◌, Some, true, false};
 ghost use Rattle.fs_rules.specs.Blocks.{AllBefore, begins_by};
-ghost use Rattle.fs_rules.specs.Group.{put_kept, place_in, rejudged, is_beaten, is_before_rule, is_chosen, has_key, has_key_at, AreSorted, IsJudged, AreJudged, routes_of, is_better};
+ghost use Rattle.fs_rules.specs.Group.{put_kept, place_in, rejudged, is_beaten, is_before_rule, is_apart, is_chosen, has_key, has_key_at, AreSorted, IsJudged, AreJudged, routes_of, is_better};
 
 use crate::kept::Kept;
 use fs_base::{Config, Family, Memory};
@@ -204,6 +204,33 @@ fn is_beaten(kept: &[Kept], place: usize, k: &Kept) -> bool
     false
 }
 
+/// Whether the route at the place, if there is one, is of another rule.
+fn is_apart(kept: &[Kept], place: usize, k: &Kept) -> bool
+    ensures { result ≡ is_apart k.now (slice_get kept.now place) }
+{
+    match kept.get(place) {
+        Some(s) => !is_same_rule(s, k),
+        None => true,
+    }
+}
+
+/// Whether the route, which stands at the place, is known to be the only one of its rule: those beside it are of
+/// others.
+fn is_alone(kept: &[Kept], place: usize, k: &Kept) -> bool
+    requires sorted { AreSorted (routes_of kept.now) }
+    requires inside { place < length kept.now }
+    requires there { slice_get kept.now place ≡ Some k.now }
+    ensures { result ≡ true → is_beaten kept.now k.now ≡ false }
+{
+    if !is_apart(kept, place + 1, k) {
+        return false;
+    }
+    if place == 0 {
+        return true;
+    }
+    is_before(kept, place - 1, &k.route().rule)
+}
+
 /// Whether a valid route of the same rule stands at the place that is preferred.
 fn beats_at(kept: &[Kept], place: usize, k: &Kept) -> bool
     ensures { result ≡ true → is_beaten kept.now k.now ≡ true }
@@ -231,14 +258,18 @@ fn leader_of(kept: &[Kept], place: usize) -> usize
     leader
 }
 
-/// Whether a valid route of the same rule is preferred to the one at the place. The rival, which is tried first, is
-/// the most preferred route of the run that was asked last: so a run is gone through at most three times, however
-/// many of its routes are asked.
+/// Whether a valid route of the same rule is preferred to the one at the place. Most routes are alone. Else the rival,
+/// which is tried first, is the most preferred route of the run that was asked last: so a run is gone through at most
+/// three times, however many of its routes are asked.
 fn has_rival(kept: &[Kept], place: usize, k: &Kept, rival: &mut usize) -> bool
     requires sorted { AreSorted (routes_of kept.now) }
     requires inside { place < length kept.now }
+    requires there { slice_get kept.now place ≡ Some k.now }
     ensures { result ≡ is_beaten kept.now k.now }
 {
+    if is_alone(kept, place, k) {
+        return false;
+    }
     if beats_at(kept, *rival, k) {
         return true;
     }
@@ -261,6 +292,7 @@ pub(crate) fn is_chosen(
 ) -> bool
     requires sorted { AreSorted (routes_of kept.now) }
     requires inside { place < length kept.now }
+    requires there { slice_get kept.now place ≡ Some k.now }
     ensures { result ≡ is_chosen family kept.now k.now }
 {
     is_of_family(family, k.route()) && stands(k.validity()) && !has_rival(kept, place, k, rival)
