@@ -121,6 +121,17 @@ fn place(
         ranges.put(used, range);
         return Ok(used + 1);
     }
+    make_room(tests)?;
     tests.push(test)?;
     Ok(used)
+}
+
+/// Makes room for the first test alone: most rules that have one have no other.
+fn make_room(tests: &mut Vec<Test>) -> Result<(), Memory>
+    ensures { tests.new.items ≡ tests.old.items }
+{
+    if tests.is_empty() {
+        tests.reserve_exact(1)?;
+    }
+    Ok(())
 }
