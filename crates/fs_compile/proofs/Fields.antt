@@ -1,7 +1,6 @@
 -- The test of a list by a field's number, of which an absent one is above all.
-use Rattle.std.proofs.Common.{◌≡◌, ◌==◌, ℕ, ◌-◌, ◌^◌, ◌<◌, ◌≤◌, min, List, [], ◌∷◌, Bool, true, false, true≢false, ◌&&◌, ◌||◌, nat_le, nat_lt, if◌then◌else◌, Option, Some, None, refl, sym, ap, subst, ◌∙◌, arith}
+use Rattle.std.proofs.Common.{◌≡◌, ℕ, ◌-◌, ◌^◌, ◌<◌, ◌≤◌, min, List, [], ◌∷◌, Bool, true, false, true≢false, ◌&&◌, ◌||◌, nat_le, nat_lt, if◌then◌else◌, Option, Some, None, refl, sym, ap, subst, ◌∙◌, arith}
 use Rattle.std.specs.Prelude.{Result, Ok, Err, IfOk}
-use Rattle.std.proofs.lemmas.Bool.Decides.{nat_tests}
 use Rattle.std.proofs.lemmas.Bool.{le-leb, leb-true, lt-leb}
 use Rattle.fs_base.specs.declared.error.Memory.{Memory}
 use Rattle.fs_nlri.specs.Parts.{ListBody, part}
@@ -12,7 +11,7 @@ use Rattle.fs_compile.specs.declared.numbers.Numbers.TheVariants.{Ranges, Pairs}
 use Rattle.fs_compile.specs.declared.tests.Test.{Test}
 use Rattle.fs_compile.specs.declared.tests.Test.TheVariants.{Within, OneOf}
 use Rattle.fs_compile.specs.Facts.{IsSmall, IsSmallField, facts_of, field_number, number_of}
-use Rattle.fs_compile.specs.Numbers.{AreNumbersOf, IsOnlyNumber, has, has_field, numbers_range}
+use Rattle.fs_compile.specs.Numbers.{AreNumbersOf, IsOnlyRange, has, has_field, numbers_range}
 use Rattle.fs_compile.specs.Ranges.{range}
 use Rattle.fs_compile.specs.Spans.{clipped, is_in}
 use Rattle.fs_compile.specs.Tests.{IsFieldTest, IsTestOf}
@@ -72,15 +71,12 @@ in_range pairs numbers r n (Some k) are h e small = ap (λ (k : ℕ). is_in k r)
 pub within_test : (field : ℕ) (pairs : List (ℕ × ℕ)) (numbers : Numbers) (low high : ℕ) → AreNumbersOf pairs numbers → numbers_range numbers ≡ Some (low, high) → IsFieldTest field pairs (Within (range field low high))
 within_test field pairs numbers low high are h = λ facts number e small. in_range pairs numbers (low, high) (number_of facts field) number are (range_of numbers (low, high) h) e small
 
-same_number : (k n : ℕ) → is_in k (n, n) ≡ (k == n)
-same_number k n = grind (arith, nat_tests)
+in_only : (pairs : List (ℕ × ℕ)) (r : ℕ × ℕ) (n : ℕ) (number : Option ℕ) → r.1 < 2 ^ 32 → IsOnlyRange pairs r → n ≡ field_number number → IsSmallField number → is_in n r ≡ holds_of pairs number
+in_only pairs r n None low only e small = ap (λ (k : ℕ). is_in k r) e ∙ and_false (nat_le r.0 (2 ^ 32)) (nat_le (2 ^ 32) r.1) (lt-leb (2 ^ 32) r.1 low)
+in_only pairs r n (Some k) low only e small = ap (λ (k : ℕ). is_in k r) e ∙ only k
 
-in_number : (pairs : List (ℕ × ℕ)) (one n : ℕ) (number : Option ℕ) → one < 2 ^ 32 → IsOnlyNumber pairs one → n ≡ field_number number → IsSmallField number → is_in n (one, one) ≡ holds_of pairs number
-in_number pairs one n None low only e small = ap (λ (k : ℕ). is_in k (one, one)) e ∙ and_false (nat_le one (2 ^ 32)) (nat_le (2 ^ 32) one) (lt-leb (2 ^ 32) one low)
-in_number pairs one n (Some k) low only e small = ap (λ (k : ℕ). is_in k (one, one)) e ∙ same_number k one ∙ sym (only k)
-
-pub number_test : (field : ℕ) (pairs : List (ℕ × ℕ)) (one : ℕ) → one < 2 ^ 32 → IsOnlyNumber pairs one → IsFieldTest field pairs (Within (range field one one))
-number_test field pairs one low only = λ facts number e small. in_number pairs one (number_of facts field) number low only e small
+pub range_test : (field : ℕ) (pairs : List (ℕ × ℕ)) (low high : ℕ) → high < 2 ^ 32 → IsOnlyRange pairs (low, high) → IsFieldTest field pairs (Within (range field low high))
+range_test field pairs low high small only = λ facts number e is_small. in_only pairs (low, high) (number_of facts field) number small only e is_small
 
 pub has_same : (pairs : List (ℕ × ℕ)) (numbers : Numbers) (n : ℕ) (number : Option ℕ) → AreNumbersOf pairs numbers → n ≡ field_number number → IsSmallField number → has_field numbers n ≡ holds_of pairs number
 has_same pairs numbers n None are e small = ap (λ (k : ℕ). has_field numbers k) e ∙ ap (λ (b : Bool). b && has numbers (2 ^ 32)) (not_less (2 ^ 32) (2 ^ 32) (omega arith))

@@ -14,3 +14,4 @@ pub mod Reaching
 pub mod Nesting
 pub mod Indexing
 pub mod Walking
+pub mod Numbering

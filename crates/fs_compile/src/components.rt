@@ -1,12 +1,12 @@
 //! The tests of a rule's components.
 
-ghost use Rattle.std.specs.Prelude.{◌≡◌, IfOk, IfSome};
+ghost use Rattle.std.specs.Prelude.{◌≡◌, ◌<◌, ◌^◌, IfOk, IfSome};
 ghost use Rattle.fs_base.specs.Prefix.{last_address};
 ghost use Rattle.fs_nlri.specs.Component.{body_of, part_of};
 ghost use Rattle.fs_nlri.specs.Parts.{V4Body, V6Body, part};
 ghost use Rattle.fs_nlri.specs.Sound.{IsSoundBody};
 ghost use Rattle.fs_compile.specs.Ranges.{range};
-ghost use Rattle.fs_compile.specs.Numbers.{IsOnlyNumber, is_equality};
+ghost use Rattle.fs_compile.specs.Numbers.{IsOnlyRange, is_equality, is_joined_most, is_least};
 ghost use Rattle.fs_compile.specs.Tests.{IsFieldTest, IsPatternOf, IsTestOf};
 
 use crate::facts::ABSENT;
@@ -97,31 +97,49 @@ fn pattern_of(length: u8, offset: u8, pattern: u128) -> Pattern
 fn field_test(alloc: Global, field: u8, list: &NumList) -> Result<Test, Memory>
     ensures { IfOk result (IsFieldTest field list.now) }
 {
-    match only_number(list.pairs()) {
-        Some(number) => Ok(Test::Within(Range {
-            field,
-            low: number,
-            high: number,
-        })),
+    match only_range(list.pairs()) {
+        Some((low, high)) => Ok(Test::Within(Range { field, low, high })),
         None => numbers_test(alloc, field, list),
     }
 }
 
-/// The number that the list compares with, where it says nothing but that a field is this number.
-fn only_number(pairs: &[(u8, u64)]) -> Option<u32>
-    ensures { IfSome result (IsOnlyNumber pairs.now) }
+/// The first and the last number that the list holds of, where it says nothing but that a field is a number, or that
+/// it isn't below one and not above another.
+fn only_range(pairs: &[(u8, u64)]) -> Option<(u32, u32)>
+    ensures numbers { IfSome result (IsOnlyRange pairs.now) }
+    ensures small { IfSome result (λ range. range.1 < 2 ^ 32) }
 {
     match pairs {
-        [(operator, value)] if is_equality(*operator) && *value < ABSENT => Some(*value as u32),
+        [(operator, value)] if is_equality(*operator) && *value < ABSENT => {
+            Some((*value as u32, *value as u32))
+        }
+        [(least, low), (most, high)]
+            if is_least(*least) && is_joined_most(*most) && *low < ABSENT && *high < ABSENT => {
+            Some((*low as u32, *high as u32))
+        }
         _ => None,
     }
 }
 
 /// Whether the operator says that a number is equal to its value, and no more (RFC 8955 section 4.2.1.1).
-fn is_equality(operator: u8) -> bool
+pub(crate) fn is_equality(operator: u8) -> bool
     ensures { result ≡ is_equality operator }
 {
     operator & 4 == 0 && operator & 2 == 0 && operator & 1 != 0
+}
+
+/// Whether the operator says that a number isn't below its value.
+fn is_least(operator: u8) -> bool
+    ensures { result ≡ is_least operator }
+{
+    operator & 4 == 0 && operator & 2 != 0 && operator & 1 != 0
+}
+
+/// Whether the operator says, with the one before it, that a number isn't above its value.
+fn is_joined_most(operator: u8) -> bool
+    ensures { result ≡ is_joined_most operator }
+{
+    operator & 64 != 0 && operator & 4 != 0 && operator & 2 == 0 && operator & 1 != 0
 }
 
 fn numbers_test(alloc: Global, field: u8, list: &NumList) -> Result<Test, Memory>

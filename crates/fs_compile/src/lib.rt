@@ -17,6 +17,7 @@ mod pattern;
 mod ranges;
 mod runs;
 mod search;
+mod singles;
 mod spans;
 mod tests;
 

@@ -1,6 +1,7 @@
 //! A list of numeric operators as the numbers that it holds of.
 
-ghost use Rattle.std.specs.Prelude.{◌≡◌, ◌↔◌, ℕ, ◌^◌, ◌<◌, IsTrue, IfOk};
+ghost use Rattle.std.specs.Prelude.{◌≡◌, ◌↔◌, ℕ, ◌^◌, ◌<◌, false, IsTrue, IfOk};
+ghost use Rattle.fs_ops.specs.OperatorList.{first_joins};
 ghost use Rattle.std.specs.List.{list_all, list_any};
 ghost use Rattle.fs_ops.specs.Evaluation.{compares, holds};
 ghost use Rattle.fs_compile.specs.Spans.{AreApart, clipped, contains, encloses, field_range};
@@ -8,6 +9,7 @@ ghost use Rattle.fs_compile.specs.Spans.{AreApart, clipped, contains, encloses, 
 use crate::facts::ABSENT;
 use crate::gaps::append_gaps;
 use crate::groups::append_groups;
+use crate::singles::{are_singles, lone_ranges};
 use fs_base::Memory;
 use fs_ops::NumList;
 use std::alloc::Global;
@@ -37,9 +39,24 @@ impl Spans {
             → n < 2 ^ 64
             → contains spans n ≡ holds (compares n) list.now) }
     {
+        let pairs = list.pairs();
+        if are_singles(pairs) {
+            let ranges = lone_ranges(alloc, pairs)?;
+            return Ok(Spans { ranges });
+        }
+        Spans::of_pairs(alloc, pairs)
+    }
+
+    /// The same by the numbers that the groups miss.
+    fn of_pairs(alloc: Global, pairs: &[(u8, u64)]) -> Result<Spans, Memory>
+        requires { first_joins pairs.now ≡ false }
+        ensures { IfOk result (λ spans. (n : ℕ)
+            → n < 2 ^ 64
+            → contains spans n ≡ holds (compares n) pairs.now) }
+    {
         let mut missed = Vec::new(alloc);
         let mut held = Vec::new(alloc);
-        append_groups(list.pairs(), &mut missed, &mut held)?;
+        append_groups(pairs, &mut missed, &mut held)?;
         missed.clear();
         append_gaps(&mut held, &mut missed)?;
         held.clear();
