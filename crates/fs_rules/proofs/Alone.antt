@@ -7,7 +7,6 @@ use Rattle.std.proofs.lemmas.Bool.Decides.{nat_tests}
 use Rattle.std.proofs.lemmas.Option.{get_or_from_slice_get}
 use Rattle.fs_base.proofs.Lists.{each_weaker}
 use Rattle.fs_order.specs.Ranked.{rule_total}
-use Rattle.fs_order.specs.Comparison.{rule_cmp}
 use Rattle.fs_unicast.specs.Preference.{preferred}
 use Rattle.fs_unicast.proofs.Best.{preference_total}
 use Rattle.fs_rules.specs.Kept.{Kept}

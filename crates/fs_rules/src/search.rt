@@ -161,6 +161,9 @@ pub(crate) fn retest_related<L: Ledger>(
     ensures mended { Mended unicast.now config.now (is_related prefix.now) groups.old groups.new steps.old steps.new }
     ensures told { Tells unicast.now config.now (is_related prefix.now) groups.old.entries result }
 {
+    if groups.is_empty() {
+        return false;
+    }
     let under = retest_under(groups, prefix, unicast, config, steps);
     if prefix.length == 0 {
         return under;
