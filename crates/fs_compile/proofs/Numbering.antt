@@ -1,72 +1,36 @@
--- Lists that are read without their groups: one range, and single numbers.
+-- Lists of single numbers.
 use Rattle.std.proofs.Common.{◌≡◌, ◌==◌, ℕ, suc, ◌+◌, ◌<◌, List, [], ◌∷◌, ◌++◌, map, length, get_or, drop, drop-cons, Bool, true, false, true≢false, not, ◌&&◌, ◌||◌, nat_le, nat_lt, if◌then◌else◌, refl, sym, ap, ◌∙◌, arith}
 use Rattle.std.specs.List.{All, list_any, list_all}
 use Rattle.std.proofs.lemmas.Bool.{leb-true}
 use Rattle.std.proofs.lemmas.Bool.Decides.{nat_tests}
 use Rattle.std.proofs.lemmas.List.Elements.{All-head, All-tail}
+use Rattle.fs_base.proofs.Bools.{and_first, and_second}
 use Rattle.fs_ops.specs.Evaluation.{compares, groups_of, has_bit, holds, onto_group}
-use Rattle.fs_compile.specs.Numbers.{IsOnlyRange, are_singles, is_equality, is_joined_most, is_least, is_single, lone}
+use Rattle.fs_compile.specs.Numbers.{are_singles, is_equality, is_single, lone}
 use Rattle.fs_compile.specs.Spans.{AreApart, IsRange, contains, is_in}
 use Rattle.fs_compile.proofs.Truths.{and_true}
-
-first_of : (a b : Bool) → (a && b) ≡ true → a ≡ true
-first_of true b h = refl
-first_of false b h = absurd (true≢false (sym h))
-
-second_of : (a b : Bool) → (a && b) ≡ true → b ≡ true
-second_of true b h = h
-second_of false b h = absurd (true≢false (sym h))
 
 negated : (b : Bool) → not b ≡ true → b ≡ false
 negated true h = absurd (true≢false (sym h))
 negated false h = refl
 
-both_true : (a : Bool) → ((a && true) || false) ≡ a
-both_true true = refl
-both_true false = refl
-
--- which numbers a pair holds of, by the bits of its operator
+-- which number a pair holds of, by the bits of its operator
 equal_bits : (less greater equal : Bool) (v n : ℕ) → (not less && (not greater && equal)) ≡ true → ((less && nat_lt n v) || ((greater && nat_lt v n) || (equal && (n == v)))) ≡ is_in n (v, v)
 equal_bits true greater equal v n h = absurd (true≢false (sym h))
 equal_bits false true equal v n h = absurd (true≢false (sym h))
 equal_bits false false false v n h = absurd (true≢false (sym h))
 equal_bits false false true v n h = grind (arith, nat_tests)
 
-least_bits : (less greater equal : Bool) (v n : ℕ) → (not less && (greater && equal)) ≡ true → ((less && nat_lt n v) || ((greater && nat_lt v n) || (equal && (n == v)))) ≡ nat_le v n
-least_bits true greater equal v n h = absurd (true≢false (sym h))
-least_bits false false equal v n h = absurd (true≢false (sym h))
-least_bits false true false v n h = absurd (true≢false (sym h))
-least_bits false true true v n h = grind (arith, nat_tests)
-
-most_bits : (less greater equal : Bool) (v n : ℕ) → (less && (not greater && equal)) ≡ true → ((less && nat_lt n v) || ((greater && nat_lt v n) || (equal && (n == v)))) ≡ nat_le n v
-most_bits false greater equal v n h = absurd (true≢false (sym h))
-most_bits true true equal v n h = absurd (true≢false (sym h))
-most_bits true false false v n h = absurd (true≢false (sym h))
-most_bits true false true v n h = grind (arith, nat_tests)
-
 compares_equal : (pair : ℕ × ℕ) (n : ℕ) → is_equality pair.0 ≡ true → compares n pair ≡ is_in n (lone pair)
 compares_equal pair n h = equal_bits (has_bit pair.0 4) (has_bit pair.0 2) (has_bit pair.0 1) pair.1 n h
 
-pub only_one : (pair : ℕ × ℕ) → is_equality pair.0 ≡ true → IsOnlyRange (pair ∷ []) (pair.1, pair.1)
-only_one pair h = λ n. sym (both_true (compares n pair) ∙ compares_equal pair n h)
-
-pub only_between : (least most : ℕ × ℕ) → is_least least.0 ≡ true → is_joined_most most.0 ≡ true → IsOnlyRange (least ∷ most ∷ []) (least.1, most.1)
-only_between least most h k = λ n. sym (ap (λ (b : Bool). list_any (λ group. list_all (compares n) group) (if b then (least ∷ most ∷ []) ∷ [] else (least ∷ []) ∷ (most ∷ []) ∷ [])) (first_of (has_bit most.0 64) (has_bit most.0 4 && (not (has_bit most.0 2) && has_bit most.0 1)) k)
-    ∙ pair_true (compares n least) (compares n most)
-    ∙ (λ i. least_bits (has_bit least.0 4) (has_bit least.0 2) (has_bit least.0 1) least.1 n h i && most_bits (has_bit most.0 4) (has_bit most.0 2) (has_bit most.0 1) most.1 n (second_of (has_bit most.0 64) (has_bit most.0 4 && (not (has_bit most.0 2) && has_bit most.0 1)) k) i))
-  where
-    pair_true : (a b : Bool) → ((a && (b && true)) || false) ≡ (a && b)
-    pair_true true true = refl
-    pair_true true false = refl
-    pair_true false b = refl
-
 single_parts : (low : ℕ) (pair : ℕ × ℕ) (pairs : List (ℕ × ℕ)) → are_singles low (pair ∷ pairs) ≡ true → (is_single pair.0 ≡ true) × (nat_le low pair.1 ≡ true) × (are_singles (pair.1 + 2) pairs ≡ true)
-single_parts low pair pairs h = (first_of (is_single pair.0) (nat_le low pair.1 && are_singles (pair.1 + 2) pairs) h, first_of (nat_le low pair.1) (are_singles (pair.1 + 2) pairs) rest, second_of (nat_le low pair.1) (are_singles (pair.1 + 2) pairs) rest) where
+single_parts low pair pairs h = (and_first (is_single pair.0) (nat_le low pair.1 && are_singles (pair.1 + 2) pairs) h, and_first (nat_le low pair.1) (are_singles (pair.1 + 2) pairs) rest, and_second (nat_le low pair.1) (are_singles (pair.1 + 2) pairs) rest) where
   rest : (nat_le low pair.1 && are_singles (pair.1 + 2) pairs) ≡ true
-  rest = second_of (is_single pair.0) (nat_le low pair.1 && are_singles (pair.1 + 2) pairs) h
+  rest = and_second (is_single pair.0) (nat_le low pair.1 && are_singles (pair.1 + 2) pairs) h
 
 single_equal : (pair : ℕ × ℕ) (n : ℕ) → is_single pair.0 ≡ true → compares n pair ≡ is_in n (lone pair)
-single_equal pair n h = compares_equal pair n (first_of (is_equality pair.0) (not (has_bit pair.0 64)) h)
+single_equal pair n h = compares_equal pair n (and_first (is_equality pair.0) (not (has_bit pair.0 64)) h)
 
 pub singles_apart : (low : ℕ) (pairs : List (ℕ × ℕ)) → are_singles low pairs ≡ true → All IsRange (map lone pairs) → AreApart low (map lone pairs)
 singles_apart low [] h all = tt
@@ -90,7 +54,7 @@ singles_same low (pair ∷ next ∷ pairs) n h = sym (ap (λ (b : Bool). list_an
   alone = (pair ∷ []) ∷ groups_of (next ∷ pairs)
 
   apart : has_bit next.0 64 ≡ false
-  apart = negated (has_bit next.0 64) (second_of (is_equality next.0) (not (has_bit next.0 64)) (single_parts (pair.1 + 2) next pairs parts.2).0)
+  apart = negated (has_bit next.0 64) (and_second (is_equality next.0) (not (has_bit next.0 64)) (single_parts (pair.1 + 2) next pairs parts.2).0)
 
   first : (compares n pair && true) ≡ is_in n (lone pair)
   first = and_true (compares n pair) ∙ single_equal pair n parts.0
