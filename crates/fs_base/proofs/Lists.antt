@@ -1,10 +1,10 @@
 -- Lists: what holds of each element, filters, and an ordered map's entries after a change.
-use Rattle.std.proofs.Common.{◌≡◌, refl, sym, ap, subst, ◌∙◌, Bool, true, false, cond, ◌&&◌, ◌||◌, List, [], ◌∷◌, ◌++◌, filter, map, true≢false, Some, is_some, Ordering, Less, Equal, Greater, is_eq, is_le}
+use Rattle.std.proofs.Common.{◌≡◌, refl, sym, ap, subst, ◌∙◌, Bool, true, false, cond, ◌&&◌, ◌||◌, List, [], ◌∷◌, ◌++◌, filter, map, true≢false, Some, Ordering, Less, Equal, Greater, is_eq, is_le}
 use Rattle.std.specs.List.{AllByRecursion, list_any, list_all, find}
 use Rattle.std.specs.List.Sorted.{IsStrictlySortedBy}
 use Rattle.std.specs.Ordering.{match_ordering}
 use Rattle.std.specs.BTreeMap.{insert_entry}
-use Rattle.std.specs.Map.{keys_of, lookup, remove_entry}
+use Rattle.std.specs.Map.{keys_of, remove_entry}
 use Rattle.std.proofs.lemmas.Map.Keys.{sorted_head, sorted_tail}
 use Rattle.fs_base.proofs.Bools.{or_false, or_first, or_second}
 
@@ -159,14 +159,6 @@ filter-remove_other {K} {X} test out h (e ∷ es) = at (out e.0) refl (filter-re
       → filter (λ e. test e.0) (cond b es (e ∷ remove_entry out es)) ≡ filter (λ e. test e.0) (e ∷ es)
   at true f ih = gone (test e.0) (h e.0 f) (filter (λ e. test e.0) es)
   at false f ih = on (test e.0) (filter (λ e. test e.0) (remove_entry out es)) (filter (λ e. test e.0) es) ih
-
--- a look-up hits where a key is there
-pub lookup_any : {K X : Type 0} (test : K → Bool) (es : List (K × X)) → is_some (lookup test es) ≡ list_any (λ e. test e.0) es
-lookup_any test [] = refl
-lookup_any test (e ∷ es) = at (test e.0) (lookup_any test es) where
-  at : (b : Bool) → is_some (lookup test es) ≡ list_any (λ e. test e.0) es → is_some (cond b (Some e.1) (lookup test es)) ≡ (b || list_any (λ e. test e.0) es)
-  at true ih = refl
-  at false ih = ih
 
 less_is_le : (o : Ordering) → o ≡ Less → is_le o ≡ true
 less_is_le Less h = refl

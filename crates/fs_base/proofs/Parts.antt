@@ -1,12 +1,10 @@
 -- Laws of the parts of an octet list.
-use Rattle.std.proofs.Common.{◌≡◌, ℕ, zero, suc, Bool, List, [], ◌∷◌, ◌++◌, Option, Some, None, ◌<◌, ◌≤◌, ◌+◌, ◌-◌, ◌⊎◌, inl, inr, length, take, drop, refl, ap, sym, ◌∙◌, arith, append_assoc, length-drop, subst}
+use Rattle.std.proofs.Common.{◌≡◌, ℕ, zero, suc, Bool, List, [], ◌∷◌, ◌++◌, Option, Some, None, ◌<◌, ◌≤◌, ◌+◌, ◌-◌, ◌⊎◌, inl, inr, length, take, drop, refl, ap, sym, ◌∙◌, arith, length-drop}
 use Rattle.std.specs.Prelude.{flat_map, nat_le}
 use Rattle.std.proofs.lemmas.List.{drop-take, length-take}
 use Rattle.std.proofs.lemmas.Bool.Decides.{nat_tests}
 use Rattle.std.specs.List.{AllByRecursion}
-use Rattle.fs_base.specs.Language.{IsOctets}
-use Rattle.fs_base.proofs.Octets.{octets_right}
-use Rattle.fs_base.specs.Parts.{with_part, parts_within, parts_of, parts_then, Shrinks, Stable, ReadsText, SpellsText, window, at_limit, to_come}
+use Rattle.fs_base.specs.Parts.{with_part, parts_within, parts_of, parts_then, Shrinks, Stable, ReadsText, window, at_limit, to_come}
 
 abbrev Reading : {A : Type 0} → (List ℕ → Option (A × List ℕ)) → List ℕ → Type 0
 Reading {A} next octets = (next octets ≡ None) ⊎ ((found : A × List ℕ) × (next octets ≡ Some found))
@@ -99,40 +97,6 @@ parts_spelled next text Fits shrinks none reads [] all = parts_end next [] none
 parts_spelled next text Fits shrinks none reads (item ∷ items) all =
     parts_step next shrinks (text item ++ flat_map text items) (item, flat_map text items) (reads item (flat_map text items) all.0)
     ∙ ap (with_part item) (parts_spelled next text Fits shrinks none reads items all.1)
-
--- the octets are the texts of these parts, each of which fits, and what is left
-abbrev pub AreRead : {A : Type 0} → (A → List ℕ) → (A → Type 0) → List ℕ → List A × List ℕ → Type 0
-AreRead text Fits octets parts = (octets ≡ flat_map text parts.0 ++ parts.1) × AllByRecursion Fits parts.0
-
-none_read : {A : Type 0} (next : List ℕ → Option (A × List ℕ)) (text : A → List ℕ) (Fits : A → Type 0) (octets : List ℕ)
-    → next octets ≡ None → AreRead text Fits octets (parts_of next octets)
-none_read next text Fits octets h = rw (parts_end next octets h) (refl, tt)
-
-one_read : {A : Type 0} (text : A → List ℕ) (Fits : A → Type 0) (octets : List ℕ) (found : A × List ℕ) (parts : List A × List ℕ)
-    → (octets ≡ text found.0 ++ found.1) × Fits found.0 → AreRead text Fits found.1 parts
-    → AreRead text Fits octets (with_part found.0 parts)
-one_read text Fits octets found parts first later = (
-  first.0 ∙ ap (λ rest. text found.0 ++ rest) later.0 ∙ sym (append_assoc (text found.0) (flat_map text parts.0) parts.1),
-  (first.1, later.1),
-)
-
-spelled_by : {A : Type 0} (next : List ℕ → Option (A × List ℕ)) (text : A → List ℕ) (Fits : A → Type 0)
-    → Shrinks next → SpellsText next text Fits → (n : ℕ) (octets : List ℕ) → IsOctets octets → length octets ≤ n
-    → AreRead text Fits octets (parts_of next octets)
-spelled_by next text Fits shrinks spells zero octets are a = elim (either (next octets)) [
-  | inl h ↦ none_read next text Fits octets h
-  | inr found ↦ absurd (no_room next shrinks octets found.0 found.1 a)
-]
-spelled_by next text Fits shrinks spells (suc n) octets are a = elim (either (next octets)) [
-  | inl h ↦ none_read next text Fits octets h
-  | inr found ↦
-      let s : length found.0.1 < length octets = shrinks octets found.0 found.1 in
-      let first = spells octets found.0 are found.1 in
-      let behind : IsOctets found.0.1 = octets_right (text found.0.0) found.0.1 (subst IsOctets first.0 are) in
-      rw (parts_step next shrinks octets found.0 found.1)
-      (one_read text Fits octets found.0 (parts_of next found.0.1) first
-      (spelled_by next text Fits shrinks spells n found.0.1 behind (omega arith)))
-]
 
 -- the window and the limit behind the first n octets of what is judged
 pub window_behind : (limit taken n : ℕ) (left : List ℕ) → n ≤ limit - taken

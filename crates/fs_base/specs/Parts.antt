@@ -2,7 +2,6 @@
 -- messages are said by this. `next` reads one part from the front and gives it with what follows, or
 -- nothing where no whole part stands there.
 use Rattle.std.specs.Prelude.{ℕ, suc, zero, Bool, List, [], ◌∷◌, ◌++◌, Option, Some, None, ◌≡◌, ◌<◌, ◌+◌, ◌-◌, length, take, nat_le}
-use Rattle.fs_base.specs.Language.{IsOctets}
 
 abbrev pub with_part : {A B : Type 0} → A → List A × B → List A × B
 with_part part parts = (part ∷ parts.0, parts.1)
@@ -33,12 +32,6 @@ Stable {A} next =
 -- what was written of a part is read back as that part
 abbrev pub ReadsText : {A : Type 0} → (List ℕ → Option (A × List ℕ)) → (A → List ℕ) → (A → Type 0) → Type 0
 ReadsText {A} next text Fits = (a : A) (rest : List ℕ) → Fits a → next (text a ++ rest) ≡ Some (a, rest)
-
--- each part that is read of octets fits, and its text is what was read
-abbrev pub SpellsText : {A : Type 0} → (List ℕ → Option (A × List ℕ)) → (A → List ℕ) → (A → Type 0) → Type 0
-SpellsText {A} next text Fits =
-    (octets : List ℕ) (found : A × List ℕ) → IsOctets octets → next octets ≡ Some found
-    → (octets ≡ text found.0 ++ found.1) × Fits found.0
 
 -- An input is judged by its first `limit` octets alone. Of `left`, what stands behind the first `taken`:
 -- the octets that are judged, and whether the limit lies within them or at their end.

@@ -141,52 +141,6 @@ module _ {X K : Type 0} (key : X → K) (R : K → K → Ordering) where
         by true later = (above_filter p (key x) xs s.0, later)
         by false later = later
 
-    none_above : (k : K) (xs : List X) → AllByRecursion (λ q. R k q ≡ Less) (map key xs) → at_key k xs ≡ None
-    none_above k [] a = refl
-    none_above k (x ∷ xs) a = ap (λ r. cond (is_eq r) (Some x) (at_key k xs)) a.0 ∙ none_above k xs a.1
-
-    at_own : (x : X) (xs : List X) → at_key (key x) (x ∷ xs) ≡ Some x
-    at_own x xs = ap (λ r. cond (is_eq r) (Some x) (at_key (key x) xs)) (tied_itself o (key x))
-
-    at_equal : (k : K) (x : X) (xs : List X) → R k (key x) ≡ Equal → at_key k (x ∷ xs) ≡ Some x
-    at_equal k x xs h = ap (λ r. cond (is_eq r) (Some x) (at_key k xs)) h
-
-    at_less : (k : K) (x : X) (xs : List X) → IsListed (x ∷ xs) → R k (key x) ≡ Less → at_key k (x ∷ xs) ≡ None
-    at_less k x xs s h =
-        ap (λ r. cond (is_eq r) (Some x) (at_key k xs)) h ∙ none_above k xs (above_less k (key x) xs h (sorted_head R (key x) (map key xs) s))
-
-    behind_equal : (k : K) (x : X) (xs : List X) → IsListed (x ∷ xs) → R k (key x) ≡ Equal → at_key k xs ≡ None
-    behind_equal k x xs s h = none_above k xs (above_same k (key x) xs h (sorted_head R (key x) (map key xs) s))
-
-    something : (x : X) → None ≡ Some x → ⊥
-    something x e = true≢false (sym (ap (λ p. elim p [ None ↦ false | Some y ↦ true ]) e))
-
-    stripped : (b c : Bool) (x y : X) (p q : Option X) → b ≡ c → (b ≡ true → p ≡ None) → (b ≡ true → q ≡ None)
-        → cond b (Some x) p ≡ cond c (Some y) q → p ≡ q
-    stripped true true x y p q e f g h = f refl ∙ sym (g refl)
-    stripped true false x y p q e f g h = absurd (true≢false e)
-    stripped false true x y p q e f g h = absurd (true≢false (sym e))
-    stripped false false x y p q e f g h = h
-
-    -- a list of that order is known by its elements
-    pub same_listed : (xs ys : List X) → IsListed xs → IsListed ys → ((k : K) → at_key k xs ≡ at_key k ys) → xs ≡ ys
-    same_listed [] [] s t h = refl
-    same_listed [] (y ∷ ys) s t h = absurd (something y (h (key y) ∙ at_own y ys))
-    same_listed (x ∷ xs) [] s t h = absurd (something x (sym (h (key x)) ∙ at_own x xs))
-    same_listed (x ∷ xs) (y ∷ ys) s t h =
-        by (R (key x) (key y)) refl (same_listed xs ys (sorted_tail R (key x) (map key xs) s) (sorted_tail R (key y) (map key ys) t))
-      where
-        by : (r : Ordering) → R (key x) (key y) ≡ r → (((k : K) → at_key k xs ≡ at_key k ys) → xs ≡ ys) → x ∷ xs ≡ y ∷ ys
-        by Less e later = absurd (something x (sym (at_less (key x) y ys t e) ∙ sym (h (key x)) ∙ at_own x xs))
-        by Greater e later = absurd (something y (sym (at_less (key y) x xs s (less_back (key x) (key y) e)) ∙ h (key y) ∙ at_own y ys))
-        by Equal e later =
-            let first : x ≡ y = ap (λ p. unwrap_or p x) (sym (at_own x xs) ∙ h (key x) ∙ at_equal (key x) y ys e) in
-            let rest : xs ≡ ys = later (λ k. stripped (is_eq (R k (key x))) (is_eq (R k (key y))) x y (at_key k xs) (at_key k ys) (same_side k x y e)
-            (λ b. behind_equal k x xs s (is_equal (R k (key x)) b))
-            (λ b. behind_equal k y ys t (sym (alike_right o (key x) (key y) k e) ∙ is_equal (R k (key x)) b))
-            (h k)) in
-            ap (λ z. z ∷ xs) first ∙ ap (λ zs. y ∷ zs) rest
-
     kept_out : (b c d : Bool) (x : X) (rest old : Option X) → (c ≡ true → b ≡ d) → rest ≡ (if b then old else None)
         → cond d (cond c (Some x) rest) rest ≡ (if b then cond c (Some x) old else None)
     kept_out true true true x rest old f h = refl

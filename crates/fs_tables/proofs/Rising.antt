@@ -59,15 +59,3 @@ sum_held peer k path old new ds n put few is =
   where
     enough : (a b c d e : ℕ) → a ≤ b + c → c ≤ d → e ≡ d → a ≤ b + e
     enough a b c d e h i j = omega (arith, h, i, j)
-
--- one destination more at the end
-pub filter_end : {X : Type 0} (p : X → Bool) (x : X) (xs : List X) → length (filter p (xs ++ x ∷ [])) ≡ length (filter p xs) + cond (p x) 1 0
-filter_end p x [] = at (p x) where
-  at : (b : Bool) → length (cond b (x ∷ []) []) ≡ 0 + cond b 1 0
-  at true = refl
-  at false = refl
-filter_end p x (y ∷ ys) = at (p y) (filter_end p x ys) where
-  at : (b : Bool) → length (filter p (ys ++ x ∷ [])) ≡ length (filter p ys) + cond (p x) 1 0
-      → length (cond b (y ∷ filter p (ys ++ x ∷ [])) (filter p (ys ++ x ∷ []))) ≡ length (cond b (y ∷ filter p ys) (filter p ys)) + cond (p x) 1 0
-  at true ih = omega arith
-  at false ih = ih

@@ -1,4 +1,4 @@
-use Rattle.std.proofs.Common.{rules, arith, sym, inl, inr, refl, ◌≡◌, ◌≤◌, ◌+◌, ◌-◌}
+use Rattle.std.proofs.Common.{rules, arith, sym, inl, inr, refl, ◌≡◌, ◌≤◌, ◌+◌}
 use Rattle.fs_base.proofs.Filled.{dropped_more, filled_more, none_read}
 use Rattle.fs_base.proofs.filling.fill.Goals as goal
 
