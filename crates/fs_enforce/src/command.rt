@@ -14,9 +14,11 @@ use fs_base::{Files, Sink};
 use fs_stages::{Refusal, load_config, play_whole};
 use fs_tape::Version;
 use std::alloc::Global;
+use std::mem::forget;
 
 /// Plays the tape, and writes a line for each packet of the capture: by the rules that a tape of the first version
 /// leaves admitted, and by those that one of the second version admits at the packet's moment. That one is read twice.
+/// The table of the first one's routes isn't freed: the program ends behind it.
 ///
 /// # Errors
 ///
@@ -45,7 +47,11 @@ pub fn enforce<F: Files, S: Sink>(
     let config = load_config(alloc, files, names.config, limit)?;
     let whole = play_whole(alloc, files, &config, names.tape, limit)?;
     match whole.version {
-        Version::One => judge(alloc, files, sink, whole.desk.table(), names.capture, limit),
+        Version::One => {
+            let judged = judge(alloc, files, sink, whole.desk.table(), names.capture, limit);
+            forget(whole); // the program ends here: no route is given back by itself
+            judged
+        }
         Version::Two => judge_moments(alloc, files, sink, &config, names, limit),
     }
 }

@@ -25,7 +25,7 @@ pub returns-in-One-clause-enforces : goal.returns-in-One-clause-enforces
 returns-in-One-clause-enforces g c = λ told.
     capture_judged c.args.limit (g.F.Files.holds c.args.files.now) (g.F.Files.holds c.load_config.new.files) (g.F.Files.holds c.play_whole.new.files) c.args.names.now.config.now c.args.names.now.tape.now c.args.names.now.capture.now _ c.in_ok-whole.whole.version c.in_ok-whole.whole.desk c.table.result.now _ _ _ _ _
     (c.in_ok-config.ensures.reaches told) (c.in_ok-config.ensures.holds told) (c.in_ok-whole.ensures.holds told) (c.in_ok-whole.ensures.played told) c.in-One.is
-    c.table.ensures.table (c.judge.ensures.answers told) (kept_at_six g.S.Sink.written c.args.sink.now c.judge.new.sink _ c.judge.ensures.unwritten)
+    c.table.ensures.table (c.judge-judged.ensures.answers told) (kept_at_six g.S.Sink.written c.args.sink.now c.judge-judged.new.sink _ c.judge-judged.ensures.unwritten)
     (either_rose _ _ _ _ (le_trans c.in_ok-config.ensures.later c.in_ok-whole.ensures.later))
 
 pub returns-clause-enforces : goal.returns-clause-enforces
