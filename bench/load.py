@@ -6,7 +6,8 @@
 A tape holds the routes of one peer, one in each UPDATE. What is reported is the user and system time and the peak of
 memory of `enforce` over an empty capture, less those with a tape without these routes: for unicast routes;
 for rules to a destination each, beside a unicast route for each destination; for rules to one destination, and rules
-without a destination, that come in no order; and for unicast routes that come and go beside the rules. The peak is
+without a destination, that come in no order; and for unicast routes that come and go beside the rules. With
+`--sizes 1000000` it tells whether the rate is the same at a million. The peak is
 what GNU time (Debian's package `time`) tells: the one that a script sees of its child begins with the script's own size.
 
 What a rule takes compiled is the peak with rules that are all admitted, by one unicast route that covers them, less

@@ -49,14 +49,14 @@ def exported(crate):
     root = read("crates", crate, "src", "lib.rt")
     names = set()
     for group in re.findall(r"^pub use ([^;]*);", root, re.M):
-        names.update(re.findall(r"\b([A-Za-z_][A-Za-z_0-9]*)\b", group))
+        names.update(re.findall(r"\b([A-Za-z_][A-Za-z_0-9]*)\b(?!::)", group))
     return names
 
 
 FN = re.compile(r"^( *)(?:pub\([a-z]+\) )?(pub )?(?:const )?fn ([a-z_0-9]+)")
 IMPL = re.compile(r"^impl(?:<[^>]*>)? (?:([A-Z]\w*)(?:<.*>)? for )?([A-Z]\w*)")
 TRAIT = re.compile(r"^pub trait ([A-Z]\w*)")
-CLAUSE = re.compile(r"^ *(requires|ensures)(?: ([a-z_]+))? \{")
+CLAUSE = re.compile(r"^ *(requires|ensures)(?: ([a-z_0-9]+))? \{")
 
 
 def functions(text):
