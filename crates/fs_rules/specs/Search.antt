@@ -7,6 +7,7 @@ use Rattle.fs_base.specs.declared.config.Config.{Config}
 use Rattle.fs_base.specs.declared.prefix.Prefix.{Prefix}
 use Rattle.fs_base.specs.Prefix.{prefix_cmp}
 use Rattle.fs_unicast.specs.Unicast.{Route}
+use Rattle.fs_validate.specs.Laws.{is_related}
 use Rattle.fs_rules.specs.Kept.{Kept}
 use Rattle.fs_rules.specs.Group.{AreRightTo, retested_to}
 use Rattle.fs_rules.specs.Groups.{Entry}
@@ -48,3 +49,9 @@ pub record IsNextAfter (groups : List Entry) (low : Prefix) (next : Option Prefi
   pub there : MatchOption next (Unit {0}) (λ n. list_any (λ e. is_eq (prefix_cmp n e.0)) groups ≡ true)
   pub from : MatchOption next (Unit {0}) (λ n. is_lt (prefix_cmp low n) ≡ true)
   pub before : AllByRecursion (λ e. is_before next e.0 ≡ is_le (prefix_cmp e.0 low)) groups
+
+-- the next key after `low`, as far as those go that are related to the prefix
+pub record IsNextRelated (groups : List Entry) (prefix low : Prefix) (next : Option Prefix) : Type 0 where
+  pub there : MatchOption next (Unit {0}) (λ n. list_any (λ e. is_eq (prefix_cmp n e.0)) groups ≡ true)
+  pub from : MatchOption next (Unit {0}) (λ n. is_lt (prefix_cmp low n) ≡ true)
+  pub before : AllByRecursion (λ e. is_related prefix e.0 ≡ true → is_before next e.0 ≡ is_le (prefix_cmp e.0 low)) groups

@@ -1,14 +1,18 @@
-use Rattle.std.proofs.Common.{◌≡◌, ℕ, List, [], ◌∷◌, Bool, false, map, length, refl, ◌||◌, arith}
+use Rattle.std.proofs.Common.{◌≡◌, ◌<◌, ◌||◌, Some, None, sym, ◌∙◌, subst, ℕ, true, is_le, List, [], ◌∷◌, Bool, false, map, length, refl, arith}
+use Rattle.std.specs.Map.{keys_of}
+use Rattle.std.specs.BTreeMap.{is_at}
+use Rattle.std.specs.List.{AllByRecursion}
 use Rattle.fs_base.specs.declared.config.Config.{Config}
 use Rattle.fs_base.specs.declared.prefix.Prefix.{Prefix}
-use Rattle.fs_base.specs.Prefix.{covers}
-use Rattle.fs_validate.specs.Laws.{is_related}
-use Rattle.fs_rules.proofs.Mending.{mends_on, mends_both}
-use Rattle.fs_rules.proofs.Searching.{apart_parent, related_parent, related_whole}
-use Rattle.fs_rules.proofs.Telling.{told_on, told_both}
+use Rattle.fs_base.specs.Prefix.{covers, prefix_cmp}
+use Rattle.fs_base.proofs.Bools.{or_false}
 use Rattle.fs_unicast.specs.Unicast.{Route}
+use Rattle.fs_validate.specs.Laws.{is_related}
 use Rattle.fs_rules.specs.Groups.{Entry}
-use Rattle.fs_rules.specs.Search.{Mends, Tells, touched}
+use Rattle.fs_rules.specs.Search.{Mends, Tells, touched, IsNextRelated}
+use Rattle.fs_rules.proofs.Mending.{Same, mends_none, mends_on, mends_both, mends_keys, along_keys}
+use Rattle.fs_rules.proofs.Searching.{done, none_done, from_first, first_there, all_done, apart_now, one_more_done, none_between, behind_now, next_from, next_there, left, left_falls, IsFrom, IsThere}
+use Rattle.fs_rules.proofs.Telling.{told_none, told_on, told_both}
 use Rattle.fs_rules.proofs.search.retest_related.Goals as goal
 
 -- where there is no group nothing is to do
@@ -28,22 +32,84 @@ returns-then-is_empty-clause-mended g c = none_mended c.args.unicast.now c.args.
 pub returns-then-is_empty-clause-told : goal.returns-then-is_empty-clause-told
 returns-then-is_empty-clause-told g c = none_told c.args.unicast.now c.args.config.now (is_related c.args.prefix.now) c.args.groups.now.entries (c.is_empty.ensures.0 c.if-is_empty.true)
 
-pub returns-clause-mended : goal.returns-clause-mended
-returns-clause-mended g c = mends_on c.args.unicast.now c.args.config.now (λ q. covers c.args.prefix.now q || covers q c.parent.result) (is_related c.args.prefix.now) c.args.groups.now.entries c.retest_over-over.new.groups.entries c.args.steps.now c.retest_over-over.new.steps
-    (related_parent c.args.prefix.now c.parent.result c.args.groups.now.entries c.parent.ensures.length c.parent.ensures.over)
-    (mends_both c.args.unicast.now c.args.config.now (covers c.args.prefix.now) (λ q. covers q c.parent.result) c.args.groups.now.entries c.retest_under-under.new.groups.entries c.retest_over-over.new.groups.entries c.args.steps.now c.retest_under-under.new.steps c.retest_over-over.new.steps
-    (apart_parent c.args.prefix.now c.parent.result c.args.groups.now.entries c.parent.ensures.length) c.retest_under-under.ensures.mended c.retest_over-over.ensures.mended)
+pub loop-next-init : goal.loop-next-init
+loop-next-init g c = record {
+  mends = mends_none c.args.unicast.now c.args.config.now (done c.args.prefix.now c.first_from-next.result) c.args.groups.now.entries c.args.steps.now none;
+  told = told_none c.args.unicast.now c.args.config.now (done c.args.prefix.now c.first_from-next.result) c.args.groups.now.entries none;
+  from = from_first c.args.prefix.now c.first_under.result c.first_from-next.result c.args.groups.now.entries c.first_under.ensures c.first_from-next.ensures;
+  there = first_there c.first_under.result c.first_from-next.result c.args.groups.now.entries c.first_from-next.ensures;
+} where
+  none : AllByRecursion (λ e. done c.args.prefix.now c.first_from-next.result e.0 ≡ false) c.args.groups.now.entries
+  none = none_done c.args.prefix.now c.first_under.result c.first_from-next.result c.args.groups.now.entries c.first_under.ensures c.first_from-next.ensures
 
-pub returns-then-prefix-eq0-clause-mended : goal.returns-then-prefix-eq0-clause-mended
-returns-then-prefix-eq0-clause-mended g c = mends_on c.args.unicast.now c.args.config.now (covers c.args.prefix.now) (is_related c.args.prefix.now) c.args.groups.now.entries c.retest_under-under.new.groups.entries c.args.steps.now c.retest_under-under.new.steps
-    (related_whole c.args.prefix.now c.args.groups.now.entries (λ h. absurd (omega arith))) c.retest_under-under.ensures.mended
+pub returns-clause-mended : goal.returns-clause-mended
+returns-clause-mended g c = mends_on c.args.unicast.now c.args.config.now (done c.args.prefix.now None) (is_related c.args.prefix.now) c.args.groups.now.entries c.loop-next.groups.entries c.args.steps.now c.loop-next.steps
+    (all_done c.args.prefix.now c.args.groups.now.entries)
+    (subst (λ m. Mends c.args.unicast.now c.args.config.now (done c.args.prefix.now m) c.args.groups.now.entries c.loop-next.groups.entries c.args.steps.now c.loop-next.steps) c.in_default.is c.loop-next.invariant.mends)
 
 pub returns-clause-told : goal.returns-clause-told
-returns-clause-told g c = told_on c.args.unicast.now c.args.config.now (λ q. covers c.args.prefix.now q || covers q c.parent.result) (is_related c.args.prefix.now) c.args.groups.now.entries _
-    (related_parent c.args.prefix.now c.parent.result c.args.groups.now.entries c.parent.ensures.length c.parent.ensures.over)
-    (told_both c.args.unicast.now c.args.config.now (covers c.args.prefix.now) (λ q. covers q c.parent.result) c.args.groups.now.entries c.retest_under-under.new.groups.entries _ _
-    (apart_parent c.args.prefix.now c.parent.result c.args.groups.now.entries c.parent.ensures.length) c.retest_under-under.ensures.mended.entries c.retest_under-under.ensures.told c.retest_over-over.ensures.told)
+returns-clause-told g c = told_on c.args.unicast.now c.args.config.now (done c.args.prefix.now None) (is_related c.args.prefix.now) c.args.groups.now.entries _
+    (all_done c.args.prefix.now c.args.groups.now.entries)
+    (subst (λ m. Tells c.args.unicast.now c.args.config.now (done c.args.prefix.now m) c.args.groups.now.entries c.loop-next.changed) c.in_default.is c.loop-next.invariant.told)
 
-pub returns-then-prefix-eq0-clause-told : goal.returns-then-prefix-eq0-clause-told
-returns-then-prefix-eq0-clause-told g c = told_on c.args.unicast.now c.args.config.now (covers c.args.prefix.now) (is_related c.args.prefix.now) c.args.groups.now.entries _
-    (related_whole c.args.prefix.now c.args.groups.now.entries (λ h. absurd (omega arith))) c.retest_under-under.ensures.told
+pub first_over-next-requires-clause-behind : goal.first_over-next-requires-clause-behind
+first_over-next-requires-clause-behind g c = subst (λ d. is_le (prefix_cmp c.args.prefix.now d) ≡ true) (sym c.prefix-destination.ensures)
+    (behind_now c.args.prefix.now c.in-Some.key (subst (IsFrom c.args.prefix.now) c.in-Some.is c.loop-next.invariant.from)
+    (subst (λ d. covers c.args.prefix.now d ≡ false) c.prefix-destination.ensures
+    (or_false (covers c.prefix-destination.result c.args.prefix.now) (covers c.args.prefix.now c.prefix-destination.result) (sym c.is_related.ensures ∙ c.if-is_related.false)).1))
+
+pub loop-next-preserved-then-is_related : goal.loop-next-preserved-then-is_related
+loop-next-preserved-then-is_related g c = record {
+  mends = mends_on c.args.unicast.now c.args.config.now (λ q. done c.args.prefix.now (Some c.in-Some.key) q || is_at (prefix_cmp c.in-Some.key) q) (done c.args.prefix.now c.first_after-next.result) c.args.groups.now.entries c.retest_group-changed.new.groups.entries c.args.steps.now c.retest_group-changed.new.steps more mended;
+  told = told_on c.args.unicast.now c.args.config.now (λ q. done c.args.prefix.now (Some c.in-Some.key) q || is_at (prefix_cmp c.in-Some.key) q) (done c.args.prefix.now c.first_after-next.result) c.args.groups.now.entries _ more
+      (told_both c.args.unicast.now c.args.config.now (done c.args.prefix.now (Some c.in-Some.key)) (is_at (prefix_cmp c.in-Some.key)) c.args.groups.now.entries c.loop-next.groups.entries _ _
+      (apart_now c.args.prefix.now c.in-Some.key c.args.groups.now.entries) mends.entries
+      (subst (λ m. Tells c.args.unicast.now c.args.config.now (done c.args.prefix.now m) c.args.groups.now.entries c.loop-next.changed) c.in-Some.is c.loop-next.invariant.told) c.retest_group-changed.ensures.told);
+  from = next_from c.args.prefix.now c.in-Some.key c.first_after-next.result (subst (IsFrom c.args.prefix.now) c.in-Some.is c.loop-next.invariant.from) c.first_after-next.ensures.from;
+  there = next_there c.first_after-next.result c.retest_group-changed.new.groups.entries c.first_after-next.ensures.there;
+} where
+  mends : Mends c.args.unicast.now c.args.config.now (done c.args.prefix.now (Some c.in-Some.key)) c.args.groups.now.entries c.loop-next.groups.entries c.args.steps.now c.loop-next.steps
+  mends = subst (λ m. Mends c.args.unicast.now c.args.config.now (done c.args.prefix.now m) c.args.groups.now.entries c.loop-next.groups.entries c.args.steps.now c.loop-next.steps) c.in-Some.is c.loop-next.invariant.mends
+
+  mended : Mends c.args.unicast.now c.args.config.now (λ q. done c.args.prefix.now (Some c.in-Some.key) q || is_at (prefix_cmp c.in-Some.key) q) c.args.groups.now.entries c.retest_group-changed.new.groups.entries c.args.steps.now c.retest_group-changed.new.steps
+  mended = mends_both c.args.unicast.now c.args.config.now (done c.args.prefix.now (Some c.in-Some.key)) (is_at (prefix_cmp c.in-Some.key)) c.args.groups.now.entries c.loop-next.groups.entries c.retest_group-changed.new.groups.entries c.args.steps.now c.loop-next.steps c.retest_group-changed.new.steps
+      (apart_now c.args.prefix.now c.in-Some.key c.args.groups.now.entries) mends c.retest_group-changed.ensures.mended
+
+  more : AllByRecursion (Same (λ q. done c.args.prefix.now (Some c.in-Some.key) q || is_at (prefix_cmp c.in-Some.key) q) (done c.args.prefix.now c.first_after-next.result)) c.args.groups.now.entries
+  more = along_keys c.args.unicast.now c.args.config.now (λ q. (done c.args.prefix.now (Some c.in-Some.key) q || is_at (prefix_cmp c.in-Some.key) q) ≡ done c.args.prefix.now c.first_after-next.result q) c.args.groups.now.entries c.retest_group-changed.new.groups.entries
+      (mends_keys c.args.unicast.now c.args.config.now (λ q. done c.args.prefix.now (Some c.in-Some.key) q || is_at (prefix_cmp c.in-Some.key) q) c.args.groups.now.entries c.retest_group-changed.new.groups.entries c.args.steps.now c.retest_group-changed.new.steps mended)
+      (one_more_done c.args.prefix.now c.in-Some.key c.first_after-next.result c.retest_group-changed.new.groups.entries
+      (subst (λ d. is_related c.args.prefix.now d ≡ true) c.prefix-destination.ensures (sym c.is_related.ensures ∙ c.if-is_related.true)) c.first_after-next.ensures)
+
+pub loop-next-preserved : goal.loop-next-preserved
+loop-next-preserved g c = record {
+  mends = mends_on c.args.unicast.now c.args.config.now (done c.args.prefix.now (Some c.in-Some.key)) (done c.args.prefix.now c.first_over-next.result) c.args.groups.now.entries c.loop-next.groups.entries c.args.steps.now c.loop-next.steps none mends;
+  told = told_on c.args.unicast.now c.args.config.now (done c.args.prefix.now (Some c.in-Some.key)) (done c.args.prefix.now c.first_over-next.result) c.args.groups.now.entries _ none
+      (subst (λ m. Tells c.args.unicast.now c.args.config.now (done c.args.prefix.now m) c.args.groups.now.entries c.loop-next.changed) c.in-Some.is c.loop-next.invariant.told);
+  from = next_from c.args.prefix.now c.in-Some.key c.first_over-next.result (subst (IsFrom c.args.prefix.now) c.in-Some.is c.loop-next.invariant.from) over.from;
+  there = next_there c.first_over-next.result c.loop-next.groups.entries over.there;
+} where
+  mends : Mends c.args.unicast.now c.args.config.now (done c.args.prefix.now (Some c.in-Some.key)) c.args.groups.now.entries c.loop-next.groups.entries c.args.steps.now c.loop-next.steps
+  mends = subst (λ m. Mends c.args.unicast.now c.args.config.now (done c.args.prefix.now m) c.args.groups.now.entries c.loop-next.groups.entries c.args.steps.now c.loop-next.steps) c.in-Some.is c.loop-next.invariant.mends
+
+  over : IsNextRelated c.loop-next.groups.entries c.args.prefix.now c.in-Some.key c.first_over-next.result
+  over = subst (λ d. IsNextRelated c.loop-next.groups.entries c.args.prefix.now d c.first_over-next.result) c.prefix-destination.ensures c.first_over-next.ensures
+
+  none : AllByRecursion (Same (done c.args.prefix.now (Some c.in-Some.key)) (done c.args.prefix.now c.first_over-next.result)) c.args.groups.now.entries
+  none = along_keys c.args.unicast.now c.args.config.now (λ q. done c.args.prefix.now (Some c.in-Some.key) q ≡ done c.args.prefix.now c.first_over-next.result q) c.args.groups.now.entries c.loop-next.groups.entries
+      (mends_keys c.args.unicast.now c.args.config.now (done c.args.prefix.now (Some c.in-Some.key)) c.args.groups.now.entries c.loop-next.groups.entries c.args.steps.now c.loop-next.steps mends)
+      (none_between c.args.prefix.now c.in-Some.key c.first_over-next.result c.loop-next.groups.entries
+      (subst (λ d. is_related c.args.prefix.now d ≡ false) c.prefix-destination.ensures (sym c.is_related.ensures ∙ c.if-is_related.false)) over)
+
+pub loop-next-smaller-then-is_related : goal.loop-next-smaller-then-is_related
+loop-next-smaller-then-is_related g c = subst (λ m. left c.first_after-next.result (keys_of c.retest_group-changed.new.groups.entries) < left m (keys_of c.loop-next.groups.entries)) (sym c.in-Some.is)
+    (subst (λ ks. left c.first_after-next.result ks < left (Some c.in-Some.key) (keys_of c.loop-next.groups.entries))
+    (sym (mends_keys c.args.unicast.now c.args.config.now (is_at (prefix_cmp c.in-Some.key)) c.loop-next.groups.entries c.retest_group-changed.new.groups.entries c.loop-next.steps c.retest_group-changed.new.steps c.retest_group-changed.ensures.mended))
+    (left_falls c.in-Some.key c.first_after-next.result (keys_of c.loop-next.groups.entries) c.first_after-next.ensures.from
+    (subst (IsThere (keys_of c.loop-next.groups.entries)) c.in-Some.is c.loop-next.invariant.there)))
+
+pub loop-next-smaller : goal.loop-next-smaller
+loop-next-smaller g c = subst (λ m. left c.first_over-next.result (keys_of c.loop-next.groups.entries) < left m (keys_of c.loop-next.groups.entries)) (sym c.in-Some.is)
+    (left_falls c.in-Some.key c.first_over-next.result (keys_of c.loop-next.groups.entries)
+    (subst (λ d. IsNextRelated c.loop-next.groups.entries c.args.prefix.now d c.first_over-next.result) c.prefix-destination.ensures c.first_over-next.ensures).from
+    (subst (IsThere (keys_of c.loop-next.groups.entries)) c.in-Some.is c.loop-next.invariant.there))

@@ -1,7 +1,7 @@
 use Rattle.std.specs.Map.{keys_of}
 use Rattle.fs_rules.specs.Search.{Mends, Tells}
 use Rattle.fs_rules.proofs.Searching.{done, IsFrom, IsThere, left}
-use Rattle.fs_rules.proofs.search.retest_under.Given as goal
+use Rattle.fs_rules.proofs.search.retest_related.Given as goal
 
 abbrev pub invariant-loop-next : goal.invariant-loop-next
 invariant-loop-next g l = record {
