@@ -14,11 +14,11 @@ use Rattle.fs_base.specs.declared.prefix.Prefix.{Prefix}
 use Rattle.fs_base.specs.Prefix.{covers, prefix_cmp, prefix_total}
 use Rattle.fs_base.specs.Search.{IsFirst, IsFirstFrom}
 use Rattle.fs_base.proofs.Covers.{covers_fact, covered_before, between_covered, same_family}
-use Rattle.fs_base.proofs.Nesting.{covers_self, alike_covers}
+use Rattle.fs_base.proofs.Nesting.{covers_self, alike_covers, covers_same_length}
 use Rattle.fs_base.proofs.SamePrefix.{same_from_cmp}
 use Rattle.fs_base.proofs.Lists.{each, each_weaker, filter_first, filter_empty, IsLeast}
 use Rattle.fs_validate.specs.Laws.{is_related}
-use Rattle.fs_rules.specs.Groups.{Entry, AreInOrder}
+use Rattle.fs_rules.specs.Groups.{Entry, AreInOrder, AreNoShorter}
 use Rattle.fs_rules.specs.Search.{is_before, IsNextAfter, IsNextRelated}
 use Rattle.fs_rules.proofs.Mending.{Same}
 
@@ -191,16 +191,18 @@ equal_upto p q h = subst (λ r. is_le (prefix_cmp r p) ≡ true) (same_from_cmp 
 equal_back : (p q : Prefix) → is_eq (prefix_cmp p q) ≡ true → is_eq (prefix_cmp q p) ≡ true
 equal_back p q h = subst (λ r. is_eq (prefix_cmp r p) ≡ true) (same_from_cmp p q h) (ap is_eq (itself p))
 
-pub one_more_done : (p n : Prefix) (next : Option Prefix) (es : List Entry) → is_related p n ≡ true → IsNextAfter es n next → AllByRecursion (Same (λ q. done p (Some n) q || is_at (prefix_cmp n) q) (done p next)) es
-one_more_done p n next es inside h = each_weaker (λ e. is_before next e.0 ≡ is_le (prefix_cmp e.0 n)) (Same (λ q. done p (Some n) q || is_at (prefix_cmp n) q) (done p next)) (λ e f. same_tests (done p (Some n) e.0 || is_at (prefix_cmp n) e.0) (done p next e.0) (there e f) (back e f)) es h.before where
-  there : (e : Entry) → is_before next e.0 ≡ is_le (prefix_cmp e.0 n) → (done p (Some n) e.0 || is_at (prefix_cmp n) e.0) ≡ true → done p next e.0 ≡ true
+pub one_more_done : (p n : Prefix) (next : Option Prefix) (es : List Entry) → is_related p n ≡ true → IsNextRelated es p n next → AllByRecursion (Same (λ q. done p (Some n) q || is_at (prefix_cmp n) q) (done p next)) es
+one_more_done p n next es inside h = each_weaker (λ e. is_related p e.0 ≡ true → is_before next e.0 ≡ is_le (prefix_cmp e.0 n)) (Same (λ q. done p (Some n) q || is_at (prefix_cmp n) q) (done p next)) (λ e f. same_tests (done p (Some n) e.0 || is_at (prefix_cmp n) e.0) (done p next e.0) (there e f) (back e f)) es h.before where
+  there : (e : Entry) → (is_related p e.0 ≡ true → is_before next e.0 ≡ is_le (prefix_cmp e.0 n)) → (done p (Some n) e.0 || is_at (prefix_cmp n) e.0) ≡ true → done p next e.0 ≡ true
   there e f g = at (or_either (done p (Some n) e.0) (is_at (prefix_cmp n) e.0) g) where
     at : (done p (Some n) e.0 ≡ true) ⊎ (is_at (prefix_cmp n) e.0 ≡ true) → done p next e.0 ≡ true
-    at (inl d) = and_both (is_related p e.0) (is_before next e.0) (and_first (is_related p e.0) (is_lt (prefix_cmp e.0 n)) d) (f ∙ lt_le e.0 n (and_second (is_related p e.0) (is_lt (prefix_cmp e.0 n)) d))
-    at (inr d) = and_both (is_related p e.0) (is_before next e.0) (subst (λ q. is_related p q ≡ true) (same_from_cmp n e.0 d) inside) (f ∙ equal_upto n e.0 d)
+    at (inl d) = let related = and_first (is_related p e.0) (is_lt (prefix_cmp e.0 n)) d in
+        and_both (is_related p e.0) (is_before next e.0) related (f related ∙ lt_le e.0 n (and_second (is_related p e.0) (is_lt (prefix_cmp e.0 n)) d))
+    at (inr d) = let related = subst (λ q. is_related p q ≡ true) (same_from_cmp n e.0 d) inside in
+        and_both (is_related p e.0) (is_before next e.0) related (f related ∙ equal_upto n e.0 d)
 
-  back : (e : Entry) → is_before next e.0 ≡ is_le (prefix_cmp e.0 n) → done p next e.0 ≡ true → (done p (Some n) e.0 || is_at (prefix_cmp n) e.0) ≡ true
-  back e f g = at (le_cases e.0 n (sym f ∙ and_second (is_related p e.0) (is_before next e.0) g)) where
+  back : (e : Entry) → (is_related p e.0 ≡ true → is_before next e.0 ≡ is_le (prefix_cmp e.0 n)) → done p next e.0 ≡ true → (done p (Some n) e.0 || is_at (prefix_cmp n) e.0) ≡ true
+  back e f g = at (le_cases e.0 n (sym (f (and_first (is_related p e.0) (is_before next e.0) g)) ∙ and_second (is_related p e.0) (is_before next e.0) g)) where
     at : (is_lt (prefix_cmp e.0 n) ≡ true) ⊎ (is_eq (prefix_cmp e.0 n) ≡ true) → (done p (Some n) e.0 || is_at (prefix_cmp n) e.0) ≡ true
     at (inl d) = or_first (done p (Some n) e.0) (is_at (prefix_cmp n) e.0) (and_both (is_related p e.0) (is_lt (prefix_cmp e.0 n)) (and_first (is_related p e.0) (is_before next e.0) g) d)
     at (inr d) = or_second (done p (Some n) e.0) (is_at (prefix_cmp n) e.0) (equal_back e.0 n d)
@@ -221,6 +223,11 @@ none_between p n next es apart h = each_weaker (λ e. is_related p e.0 ≡ true 
     at : (is_lt (prefix_cmp e.0 n) ≡ true) ⊎ (is_eq (prefix_cmp e.0 n) ≡ true) → done p (Some n) e.0 ≡ true
     at (inl d) = and_both (is_related p e.0) (is_lt (prefix_cmp e.0 n)) related d
     at (inr d) = absurd (true≢false (sym (subst (λ q. is_related p q ≡ true) (same_from_cmp e.0 n d) related) ∙ apart))
+
+-- of the keys, so of the entries
+entries_of_keys : (P : Prefix → Type 0) (es : List Entry) → AllByRecursion P (keys_of es) → AllByRecursion (λ e. P e.0) es
+entries_of_keys P [] h = tt
+entries_of_keys P (e ∷ es) h = (h.0, entries_of_keys P es h.1)
 
 -- Where the walk goes on behind a key that isn't related to p: such a key stands behind p.
 pub behind_now : (p n : Prefix) → IsFrom p (Some n) → covers p n ≡ false → is_le (prefix_cmp p n) ≡ true
@@ -258,9 +265,24 @@ module _ (p n : Prefix) (behind : is_le (prefix_cmp p n) ≡ true) where
 
   module _ (both : Prefix) (over : covers both n ≡ true) (apart : covers n p ≡ false) (up : covers both p ≡ true)
       (longest : (q : Prefix) → covers q p ≡ true → covers q n ≡ true → covers q both ≡ true) where
-    -- so it stands from what they have in common on
+    -- so it covers what they have in common
+    common_covered : (q : Prefix) → is_related p q ≡ true → is_le (prefix_cmp q n) ≡ false → covers q both ≡ true
+    common_covered q related past = let covered = both_covered q related (le_or_lt q n past) in longest q covered.0 covered.1
+
+    -- where that is too short nothing does
+    pub short_over : (shortest : ℕ) (es : List Entry) → both.length < shortest → AreNoShorter shortest es → IsNextRelated es p n None
+    short_over shortest es short none = record {
+      there = tt;
+      from = tt;
+      before = each_weaker (λ e. shortest ≤ e.0.length) (λ e. is_related p e.0 ≡ true → true ≡ is_le (prefix_cmp e.0 n)) (λ e long related. sym (at e long related (is_le (prefix_cmp e.0 n)) refl)) es (entries_of_keys (λ q. shortest ≤ q.length) es none);
+    } where
+      at : (e : Entry) → shortest ≤ e.0.length → is_related p e.0 ≡ true → (b : Bool) → is_le (prefix_cmp e.0 n) ≡ b → is_le (prefix_cmp e.0 n) ≡ true
+      at e long related true f = f
+      at e long related false f = absurd (let a : e.0.length ≤ both.length = (covers_fact e.0 both (common_covered e.0 related f)).longer in omega (arith, short, long))
+
+    -- and stands from there on
     common_before : (q : Prefix) → is_related p q ≡ true → is_le (prefix_cmp q n) ≡ false → is_le (prefix_cmp both q) ≡ true
-    common_before q related past = let covered = both_covered q related (le_or_lt q n past) in covered_before q both (longest q covered.0 covered.1)
+    common_before q related past = covered_before q both (common_covered q related past)
 
     -- which stands behind n
     common_behind : is_le (prefix_cmp both n) ≡ false
@@ -294,6 +316,28 @@ module _ (p n : Prefix) (behind : is_le (prefix_cmp p n) ≡ true) where
         at : (b : Bool) → is_le (prefix_cmp e.0 n) ≡ b → is_le (prefix_cmp e.0 n) ≡ true
         at true f = f
         at false f = absurd (lt_not_le m e.0 less (least (common_before e.0 related f)))
+
+-- Behind a key that covers p, where none is shorter, nothing is related to p.
+pub last_related : (p n : Prefix) (shortest : ℕ) (es : List Entry) → covers n p ≡ true → n.length ≤ shortest → AreNoShorter shortest es → IsNextRelated es p n None
+last_related p n shortest es over short none = record {
+  there = tt;
+  from = tt;
+  before = each_weaker (λ e. shortest ≤ e.0.length) (λ e. is_related p e.0 ≡ true → true ≡ is_le (prefix_cmp e.0 n)) (λ e long related. sym (at e long related (is_le (prefix_cmp e.0 n)) refl)) es (entries_of_keys (λ q. shortest ≤ q.length) es none);
+} where
+  at : (e : Entry) → shortest ≤ e.0.length → is_related p e.0 ≡ true → (b : Bool) → is_le (prefix_cmp e.0 n) ≡ b → is_le (prefix_cmp e.0 n) ≡ true
+  at e long related true f = f
+  at e long related false f = let past = le_or_lt e.0 n f in
+      let covered = (both_covered p n (covered_before n p over) e.0 related past).1 in
+      let same : e.0.length ≡ n.length = omega (arith, short, long, (covers_fact e.0 n covered).longer) in
+      absurd (lt_not_le e.0 n past (eq_le e.0 n (covers_same_length e.0 n covered same)))
+
+-- the next key is one that may be related
+pub after_related : (p n : Prefix) (next : Option Prefix) (es : List Entry) → IsNextAfter es n next → IsNextRelated es p n next
+after_related p n next es h = record {
+  there = h.there;
+  from = h.from;
+  before = each_weaker (λ e. is_before next e.0 ≡ is_le (prefix_cmp e.0 n)) (λ e. is_related p e.0 ≡ true → is_before next e.0 ≡ is_le (prefix_cmp e.0 n)) (λ e f related. f) es h.before;
+}
 
 -- how many keys are still to come
 abbrev pub left : Option Prefix → List Prefix → ℕ

@@ -54,12 +54,16 @@ each_with : (P : Prefix → Type 0) (p : Prefix) (ks : List Kept) (es : List Ent
 each_with P p [] es h all = all
 each_with P p (k ∷ ks) es h all = (h, all)
 
-each_at : (P : Prefix → Type 0) (p : Prefix) (keeps : Kept → Bool) (es : List Entry) → AllByRecursion P (keys_of es) → AllByRecursion P (keys_of (keep_at p keeps es))
+pub each_at : (P : Prefix → Type 0) (p : Prefix) (keeps : Kept → Bool) (es : List Entry) → AllByRecursion P (keys_of es) → AllByRecursion P (keys_of (keep_at p keeps es))
 each_at P p keeps [] h = tt
 each_at P p keeps (e ∷ es) h = at (is_eq (prefix_cmp p e.0)) (each_at P p keeps es h.1) where
   at : (b : Bool) → AllByRecursion P (keys_of (keep_at p keeps es)) → AllByRecursion P (keys_of (cond b (with_group e.0 (filter keeps e.1) es) (e ∷ keep_at p keeps es)))
   at true ih = each_with P e.0 (filter keeps e.1) es h.0 h.1
   at false ih = (h.0, ih)
+
+pub each_left : (P : Prefix → Type 0) (keeps : Kept → Bool) (es : List Entry) → AllByRecursion P (keys_of es) → AllByRecursion P (keys_of (keep_each keeps es))
+each_left P keeps [] h = tt
+each_left P keeps (e ∷ es) h = each_with P e.0 (filter keeps e.1) (keep_each keeps es) h.0 (each_left P keeps es h.1)
 
 -- by the parts of an order
 pub parts_sorted : (p : Prefix) (ps : List Prefix) → AllByRecursion (λ q. prefix_cmp p q ≡ Less) ps → IsStrictlySortedBy prefix_cmp ps → IsStrictlySortedBy prefix_cmp (p ∷ ps)

@@ -33,6 +33,10 @@ ArePlaced groups = AllByRecursion (λ e. AllByRecursion (IsTo (Some e.0)) e.1) g
 abbrev pub AreInOrder : List Entry → Type 0
 AreInOrder groups = IsStrictlySortedBy prefix_cmp (keys_of groups)
 
+-- no destination is shorter
+abbrev pub AreNoShorter : ℕ → List Entry → Type 0
+AreNoShorter shortest groups = AllByRecursion (λ q. shortest ≤ q.length) (keys_of groups)
+
 pub record IsGrouped (groups : List Entry) (rest : List Kept) (bound : ℕ) : Type 0 where
   pub ordered : AreInOrder groups
   pub placed : ArePlaced groups

@@ -8,7 +8,7 @@ ghost use Rattle.fs_base.specs.Prefix.{prefix_cmp};
 ghost use Rattle.fs_nlri.specs.Rule.{IsRule};
 ghost use Rattle.fs_rules.specs.Table.{is_key};
 ghost use Rattle.fs_rules.specs.Group.{has_key, put_kept, mended, IsRightAt, related_kept, AreSorted, routes_of, chosen, is_other_key};
-ghost use Rattle.fs_rules.specs.Groups.{IsSound, HasSortedGroups, AreInOrder, put_entry, keep_at, keep_each, IsHeldAt};
+ghost use Rattle.fs_rules.specs.Groups.{IsSound, HasSortedGroups, AreInOrder, AreNoShorter, put_entry, keep_at, keep_each, IsHeldAt};
 ghost use Rattle.fs_rules.specs.Lent.{listed, shown_admitted, shown_held, all_admitted, all_held};
 ghost use Rattle.fs_rules.specs.Lists.{judgement, routes_chosen, listing, listings, judgements, nth_listing};
 ghost use Rattle.fs_rules.specs.Walk.{next_match};
@@ -36,18 +36,20 @@ pub(crate) struct Groups {
     rest: Group,
     /// No more routes than this are held.
     most: usize,
+    /// No destination is shorter than this.
+    shortest: u8,
 }
 
 impl Model for Groups {
     ghost use Rattle.std.specs.Prelude.{List};
     ghost use Rattle.fs_rules.specs.Kept.{Kept};
-    ghost use Rattle.fs_rules.specs.Groups.{kept_in, IsGrouped};
+    ghost use Rattle.fs_rules.specs.Groups.{kept_in, IsGrouped, AreNoShorter};
 
     ghost Value = { List Kept };
 
     ghost view = { λ a. kept_in a.groups.entries a.rest };
 
-    ghost invariant = { λ a. IsGrouped a.groups.entries a.rest a.most };
+    ghost invariant = { λ a. IsGrouped a.groups.entries a.rest a.most × AreNoShorter a.shortest a.groups.entries };
 }
 
 impl Groups {
@@ -58,6 +60,7 @@ impl Groups {
             groups: BTreeMap::new(alloc),
             rest: Group::new(alloc),
             most: 0,
+            shortest: 0,
         }
     }
 
@@ -81,7 +84,9 @@ impl Groups {
         };
         match destination {
             Some(destination) => {
+                let shortest = shortest_with(&self.groups, self.shortest, &destination);
                 let is_new = put_at(&mut self.groups, destination, k, self.rest.allocator())?;
+                self.shortest = shortest;
                 self.most = most;
                 Ok(is_new)
             }
@@ -129,7 +134,14 @@ impl Groups {
         ensures later { steps.old ≤ steps.new }
         ensures steps { steps.new ≤ steps.old + related_kept prefix.now self.old }
     {
-        retest_related(&mut self.groups, prefix, unicast, config, steps)
+        retest_related(
+            &mut self.groups,
+            self.shortest,
+            prefix,
+            unicast,
+            config,
+            steps,
+        )
     }
 
     /// The admitted rules, in order.
@@ -185,6 +197,19 @@ impl Groups {
     {
         reading::next_match(&self.groups, &self.rest, family, view, n)
     }
+}
+
+/// A length that no destination is shorter than, the new one neither, where none is shorter than `shortest`.
+fn shortest_with(groups: &BTreeMap<PrefixKey, Group>, shortest: u8, destination: &PrefixKey) -> u8
+    requires { AreNoShorter shortest groups.now.entries }
+    ensures held { AreNoShorter result groups.now.entries }
+    ensures put { result ≤ destination.now.length }
+{
+    let length = destination.prefix().length;
+    if groups.is_empty() {
+        return length;
+    }
+    shortest.min(length)
 }
 
 /// Keeps the route in the group of the destination, and tells whether there was none of its key.

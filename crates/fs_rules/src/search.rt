@@ -7,7 +7,7 @@ ghost use Rattle.std.specs.Prelude.{MatchOption};
 ghost use Rattle.fs_base.specs.Prefix.{covers, prefix_cmp};
 ghost use Rattle.fs_base.specs.Search.{IsFirstFrom};
 ghost use Rattle.fs_rules.specs.Search.{Mended, Tells, IsNextAfter, IsNextRelated};
-ghost use Rattle.fs_rules.specs.Groups.{AreInOrder};
+ghost use Rattle.fs_rules.specs.Groups.{AreInOrder, AreNoShorter};
 ghost use Rattle.fs_validate.specs.Laws.{is_related};
 ghost use Rattle.fs_unicast.specs.Search.{is_same_prefix};
 
@@ -41,22 +41,45 @@ fn first_after(groups: &BTreeMap<PrefixKey, Group>, low: &PrefixKey) -> Option<P
     }
 }
 
-/// The next destination that may be related to the prefix, where `apart` stands behind the prefix and doesn't cover it:
-/// nothing behind `apart` lies under the prefix, and what covers the prefix from there on covers what the two have in
-/// common, so the search goes on from that.
+/// The next destination behind this one that may be related to the prefix. Behind one that covers the prefix and is as
+/// short as any there is none.
+fn next_related(
+    groups: &BTreeMap<PrefixKey, Group>,
+    prefix: &Prefix,
+    destination: &PrefixKey,
+    shortest: u8,
+) -> Option<PrefixKey>
+    requires { AreNoShorter shortest groups.now.entries }
+    ensures { IsNextRelated groups.now.entries prefix.now destination.now result }
+{
+    let here = destination.prefix();
+    if here.length <= shortest && here.covers(prefix) {
+        return None;
+    }
+    first_after(groups, destination)
+}
+
+/// The same where `apart` stands behind the prefix and doesn't cover it: nothing behind `apart` lies under the prefix,
+/// and what covers the prefix from there on covers what the two have in common, so the search goes on from that, unless
+/// that is too short.
 fn first_over(
     groups: &BTreeMap<PrefixKey, Group>,
     prefix: &Prefix,
     apart: &Prefix,
+    shortest: u8,
 ) -> Option<PrefixKey>
     requires behind { is_le (prefix_cmp prefix.now apart.now) ≡ true }
     requires apart { covers apart.now prefix.now ≡ false }
+    requires shortest { AreNoShorter shortest groups.now.entries }
     ensures { IsNextRelated groups.now.entries prefix.now apart.now result }
 {
-    match prefix.common(apart) {
-        Some(both) => first_from(groups, &both),
-        None => None,
+    let Some(both) = prefix.common(apart) else {
+        return None;
+    };
+    if both.length < shortest {
+        return None;
     }
+    first_from(groups, &both)
 }
 
 /// Whether one of the two covers the other.
@@ -86,14 +109,16 @@ fn retest_group<L: Ledger>(
 
 /// Validates the routes anew whose destination covers the prefix or lies under it, and tells whether a validity is
 /// another than before. In order those under the prefix come first, from the lowest on, and behind them those that
-/// cover it, so one walk meets all of them.
+/// cover it, so one walk meets all of them. No destination is shorter than `shortest`.
 pub(crate) fn retest_related<L: Ledger>(
     groups: &mut BTreeMap<PrefixKey, Group>,
+    shortest: u8,
     prefix: &Prefix,
     unicast: &Unicast,
     config: &Config,
     steps: &mut Steps<L>,
 ) -> bool
+    requires { AreNoShorter shortest groups.old.entries }
     ensures mended { Mended unicast.now config.now (is_related prefix.now) groups.old groups.new steps.old steps.new }
     ensures told { Tells unicast.now config.now (is_related prefix.now) groups.old.entries result }
 {
@@ -106,9 +131,9 @@ pub(crate) fn retest_related<L: Ledger>(
         let destination = key.prefix();
         if is_related(prefix, &destination) {
             changed |= retest_group(groups, &key, unicast, config, steps);
-            next = first_after(groups, &key);
+            next = next_related(groups, prefix, &key, shortest);
         } else {
-            next = first_over(groups, prefix, &destination);
+            next = first_over(groups, prefix, &destination, shortest);
         }
     }
     changed

@@ -1,4 +1,4 @@
-use Rattle.std.proofs.Common.{◌≡◌, ◌<◌, ◌||◌, Some, None, sym, ◌∙◌, subst, ℕ, true, is_le, List, [], ◌∷◌, Bool, false, map, length, refl, arith}
+use Rattle.std.proofs.Common.{◌≡◌, ◌<◌, ◌≤◌, ◌||◌, Some, None, sym, ◌∙◌, subst, ℕ, true, is_le, List, [], ◌∷◌, Bool, false, map, length, refl, arith}
 use Rattle.std.specs.Map.{keys_of}
 use Rattle.std.specs.BTreeMap.{is_at}
 use Rattle.std.specs.List.{AllByRecursion}
@@ -60,13 +60,13 @@ first_over-next-requires-clause-behind g c = subst (λ d. is_le (prefix_cmp c.ar
 
 pub loop-next-preserved-then-is_related : goal.loop-next-preserved-then-is_related
 loop-next-preserved-then-is_related g c = record {
-  mends = mends_on c.args.unicast.now c.args.config.now (λ q. done c.args.prefix.now (Some c.in-Some.key) q || is_at (prefix_cmp c.in-Some.key) q) (done c.args.prefix.now c.first_after-next.result) c.args.groups.now.entries c.retest_group-changed.new.groups.entries c.args.steps.now c.retest_group-changed.new.steps more mended;
-  told = told_on c.args.unicast.now c.args.config.now (λ q. done c.args.prefix.now (Some c.in-Some.key) q || is_at (prefix_cmp c.in-Some.key) q) (done c.args.prefix.now c.first_after-next.result) c.args.groups.now.entries _ more
+  mends = mends_on c.args.unicast.now c.args.config.now (λ q. done c.args.prefix.now (Some c.in-Some.key) q || is_at (prefix_cmp c.in-Some.key) q) (done c.args.prefix.now c.next_related-next.result) c.args.groups.now.entries c.retest_group-changed.new.groups.entries c.args.steps.now c.retest_group-changed.new.steps more mended;
+  told = told_on c.args.unicast.now c.args.config.now (λ q. done c.args.prefix.now (Some c.in-Some.key) q || is_at (prefix_cmp c.in-Some.key) q) (done c.args.prefix.now c.next_related-next.result) c.args.groups.now.entries _ more
       (told_both c.args.unicast.now c.args.config.now (done c.args.prefix.now (Some c.in-Some.key)) (is_at (prefix_cmp c.in-Some.key)) c.args.groups.now.entries c.loop-next.groups.entries _ _
       (apart_now c.args.prefix.now c.in-Some.key c.args.groups.now.entries) mends.entries
       (subst (λ m. Tells c.args.unicast.now c.args.config.now (done c.args.prefix.now m) c.args.groups.now.entries c.loop-next.changed) c.in-Some.is c.loop-next.invariant.told) c.retest_group-changed.ensures.told);
-  from = next_from c.args.prefix.now c.in-Some.key c.first_after-next.result (subst (IsFrom c.args.prefix.now) c.in-Some.is c.loop-next.invariant.from) c.first_after-next.ensures.from;
-  there = next_there c.first_after-next.result c.retest_group-changed.new.groups.entries c.first_after-next.ensures.there;
+  from = next_from c.args.prefix.now c.in-Some.key c.next_related-next.result (subst (IsFrom c.args.prefix.now) c.in-Some.is c.loop-next.invariant.from) c.next_related-next.ensures.from;
+  there = next_there c.next_related-next.result c.retest_group-changed.new.groups.entries c.next_related-next.ensures.there;
 } where
   mends : Mends c.args.unicast.now c.args.config.now (done c.args.prefix.now (Some c.in-Some.key)) c.args.groups.now.entries c.loop-next.groups.entries c.args.steps.now c.loop-next.steps
   mends = subst (λ m. Mends c.args.unicast.now c.args.config.now (done c.args.prefix.now m) c.args.groups.now.entries c.loop-next.groups.entries c.args.steps.now c.loop-next.steps) c.in-Some.is c.loop-next.invariant.mends
@@ -75,11 +75,11 @@ loop-next-preserved-then-is_related g c = record {
   mended = mends_both c.args.unicast.now c.args.config.now (done c.args.prefix.now (Some c.in-Some.key)) (is_at (prefix_cmp c.in-Some.key)) c.args.groups.now.entries c.loop-next.groups.entries c.retest_group-changed.new.groups.entries c.args.steps.now c.loop-next.steps c.retest_group-changed.new.steps
       (apart_now c.args.prefix.now c.in-Some.key c.args.groups.now.entries) mends c.retest_group-changed.ensures.mended
 
-  more : AllByRecursion (Same (λ q. done c.args.prefix.now (Some c.in-Some.key) q || is_at (prefix_cmp c.in-Some.key) q) (done c.args.prefix.now c.first_after-next.result)) c.args.groups.now.entries
-  more = along_keys c.args.unicast.now c.args.config.now (λ q. (done c.args.prefix.now (Some c.in-Some.key) q || is_at (prefix_cmp c.in-Some.key) q) ≡ done c.args.prefix.now c.first_after-next.result q) c.args.groups.now.entries c.retest_group-changed.new.groups.entries
+  more : AllByRecursion (Same (λ q. done c.args.prefix.now (Some c.in-Some.key) q || is_at (prefix_cmp c.in-Some.key) q) (done c.args.prefix.now c.next_related-next.result)) c.args.groups.now.entries
+  more = along_keys c.args.unicast.now c.args.config.now (λ q. (done c.args.prefix.now (Some c.in-Some.key) q || is_at (prefix_cmp c.in-Some.key) q) ≡ done c.args.prefix.now c.next_related-next.result q) c.args.groups.now.entries c.retest_group-changed.new.groups.entries
       (mends_keys c.args.unicast.now c.args.config.now (λ q. done c.args.prefix.now (Some c.in-Some.key) q || is_at (prefix_cmp c.in-Some.key) q) c.args.groups.now.entries c.retest_group-changed.new.groups.entries c.args.steps.now c.retest_group-changed.new.steps mended)
-      (one_more_done c.args.prefix.now c.in-Some.key c.first_after-next.result c.retest_group-changed.new.groups.entries
-      (subst (λ d. is_related c.args.prefix.now d ≡ true) c.prefix-destination.ensures (sym c.is_related.ensures ∙ c.if-is_related.true)) c.first_after-next.ensures)
+      (one_more_done c.args.prefix.now c.in-Some.key c.next_related-next.result c.retest_group-changed.new.groups.entries
+      (subst (λ d. is_related c.args.prefix.now d ≡ true) c.prefix-destination.ensures (sym c.is_related.ensures ∙ c.if-is_related.true)) c.next_related-next.ensures)
 
 pub loop-next-preserved : goal.loop-next-preserved
 loop-next-preserved g c = record {
@@ -102,10 +102,10 @@ loop-next-preserved g c = record {
       (subst (λ d. is_related c.args.prefix.now d ≡ false) c.prefix-destination.ensures (sym c.is_related.ensures ∙ c.if-is_related.false)) over)
 
 pub loop-next-smaller-then-is_related : goal.loop-next-smaller-then-is_related
-loop-next-smaller-then-is_related g c = subst (λ m. left c.first_after-next.result (keys_of c.retest_group-changed.new.groups.entries) < left m (keys_of c.loop-next.groups.entries)) (sym c.in-Some.is)
-    (subst (λ ks. left c.first_after-next.result ks < left (Some c.in-Some.key) (keys_of c.loop-next.groups.entries))
+loop-next-smaller-then-is_related g c = subst (λ m. left c.next_related-next.result (keys_of c.retest_group-changed.new.groups.entries) < left m (keys_of c.loop-next.groups.entries)) (sym c.in-Some.is)
+    (subst (λ ks. left c.next_related-next.result ks < left (Some c.in-Some.key) (keys_of c.loop-next.groups.entries))
     (sym (mends_keys c.args.unicast.now c.args.config.now (is_at (prefix_cmp c.in-Some.key)) c.loop-next.groups.entries c.retest_group-changed.new.groups.entries c.loop-next.steps c.retest_group-changed.new.steps c.retest_group-changed.ensures.mended))
-    (left_falls c.in-Some.key c.first_after-next.result (keys_of c.loop-next.groups.entries) c.first_after-next.ensures.from
+    (left_falls c.in-Some.key c.next_related-next.result (keys_of c.loop-next.groups.entries) c.next_related-next.ensures.from
     (subst (IsThere (keys_of c.loop-next.groups.entries)) c.in-Some.is c.loop-next.invariant.there)))
 
 pub loop-next-smaller : goal.loop-next-smaller
@@ -113,3 +113,14 @@ loop-next-smaller g c = subst (λ m. left c.first_over-next.result (keys_of c.lo
     (left_falls c.in-Some.key c.first_over-next.result (keys_of c.loop-next.groups.entries)
     (subst (λ d. IsNextRelated c.loop-next.groups.entries c.args.prefix.now d c.first_over-next.result) c.prefix-destination.ensures c.first_over-next.ensures).from
     (subst (IsThere (keys_of c.loop-next.groups.entries)) c.in-Some.is c.loop-next.invariant.there))
+
+pub next_related-next-requires : goal.next_related-next-requires
+next_related-next-requires g c = subst (AllByRecursion (λ q. c.args.shortest ≤ q.length))
+    (sym (mends_keys c.args.unicast.now c.args.config.now (is_at (prefix_cmp c.in-Some.key)) c.loop-next.groups.entries c.retest_group-changed.new.groups.entries c.loop-next.steps c.retest_group-changed.new.steps c.retest_group-changed.ensures.mended
+    ∙ mends_keys c.args.unicast.now c.args.config.now (done c.args.prefix.now c.loop-next.next) c.args.groups.now.entries c.loop-next.groups.entries c.args.steps.now c.loop-next.steps c.loop-next.invariant.mends))
+    c.requires
+
+pub first_over-next-requires-clause-shortest : goal.first_over-next-requires-clause-shortest
+first_over-next-requires-clause-shortest g c = subst (AllByRecursion (λ q. c.args.shortest ≤ q.length))
+    (sym (mends_keys c.args.unicast.now c.args.config.now (done c.args.prefix.now c.loop-next.next) c.args.groups.now.entries c.loop-next.groups.entries c.args.steps.now c.loop-next.steps c.loop-next.invariant.mends))
+    c.requires

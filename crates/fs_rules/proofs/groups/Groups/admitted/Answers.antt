@@ -13,4 +13,4 @@ pub push_admitted-requires-clause-rest : goal.push_admitted-requires-clause-rest
 push_admitted-requires-clause-rest c = sorted_rest c.self.inside.groups.entries c.self.inside.rest (subst (λ ks. AreSorted (routes_of ks)) (sym c.self.view_is) c.requires.sorted)
 
 pub returns : goal.returns
-returns c = c.in_ok-push_admitted.ensures ∙ ap (λ items. map shown_admitted items ++ map (λ k. listed k.route) (chosen_in c.args.family c.self.inside.groups.entries c.self.inside.rest)) c.new-list.ensures.items ∙ ap (map (λ k. listed k.route)) (chosen_now c.args.family c.args.family c.self.inside.groups.entries c.self.inside.rest c.args.self.now c.self.inside.most c.self.invariant c.self.view_is c.requires.sound)
+returns c = c.in_ok-push_admitted.ensures ∙ ap (λ items. map shown_admitted items ++ map (λ k. listed k.route) (chosen_in c.args.family c.self.inside.groups.entries c.self.inside.rest)) c.new-list.ensures.items ∙ ap (map (λ k. listed k.route)) (chosen_now c.args.family c.args.family c.self.inside.groups.entries c.self.inside.rest c.args.self.now c.self.inside.most c.self.invariant.0 c.self.view_is c.requires.sound)

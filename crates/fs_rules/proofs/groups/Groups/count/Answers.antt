@@ -11,7 +11,7 @@ pub count-requires-clause-rest : goal.count-requires-clause-rest
 count-requires-clause-rest c = sorted_rest c.self.inside.groups.entries c.self.inside.rest (subst (λ ks. AreSorted (routes_of ks)) (sym c.self.view_is) c.requires.sorted)
 
 pub count-requires-clause-most : goal.count-requires-clause-most
-count-requires-clause-most c = few_chosen c.args.family c.args.family c.self.inside.groups.entries c.self.inside.rest c.args.self.now c.self.inside.most c.self.invariant c.self.view_is c.requires.sound
+count-requires-clause-most c = few_chosen c.args.family c.args.family c.self.inside.groups.entries c.self.inside.rest c.args.self.now c.self.inside.most c.self.invariant.0 c.self.view_is c.requires.sound
 
 pub returns : goal.returns
-returns c = c.count.ensures ∙ ap length (chosen_now c.args.family c.args.family c.self.inside.groups.entries c.self.inside.rest c.args.self.now c.self.inside.most c.self.invariant c.self.view_is c.requires.sound)
+returns c = c.count.ensures ∙ ap length (chosen_now c.args.family c.args.family c.self.inside.groups.entries c.self.inside.rest c.args.self.now c.self.inside.most c.self.invariant.0 c.self.view_is c.requires.sound)

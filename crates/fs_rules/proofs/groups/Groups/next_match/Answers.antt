@@ -12,7 +12,7 @@ pub next_match-requires-clause-rest : goal.next_match-requires-clause-rest
 next_match-requires-clause-rest c = sorted_rest c.self.inside.groups.entries c.self.inside.rest (subst (λ ks. AreSorted (routes_of ks)) (sym c.self.view_is) c.requires.sorted)
 
 pub next_match-requires-clause-most : goal.next_match-requires-clause-most
-next_match-requires-clause-most c = few_chosen c.args.family c.args.family c.self.inside.groups.entries c.self.inside.rest c.args.self.now c.self.inside.most c.self.invariant c.self.view_is c.requires.sound
+next_match-requires-clause-most c = few_chosen c.args.family c.args.family c.self.inside.groups.entries c.self.inside.rest c.args.self.now c.self.inside.most c.self.invariant.0 c.self.view_is c.requires.sound
 
 pub returns : goal.returns
-returns c = c.next_match.ensures ∙ ap (λ ks. next_match c.args.view.now c.args.n (routes_of ks)) (chosen_now c.args.family c.args.family c.self.inside.groups.entries c.self.inside.rest c.args.self.now c.self.inside.most c.self.invariant c.self.view_is c.requires.sound)
+returns c = c.next_match.ensures ∙ ap (λ ks. next_match c.args.view.now c.args.n (routes_of ks)) (chosen_now c.args.family c.args.family c.self.inside.groups.entries c.self.inside.rest c.args.self.now c.self.inside.most c.self.invariant.0 c.self.view_is c.requires.sound)
