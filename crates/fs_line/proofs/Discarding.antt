@@ -1,5 +1,5 @@
 -- What is printed of actions that discard and say no more.
-use Rattle.std.proofs.Common.{◌≡◌, ℕ, ◌+◌, ◌==◌, Bool, true, false, List, [], ◌∷◌, ◌++◌, length, get_or, Option, Some, None, refl, sym, ◌∙◌, ap, subst, arith, append-nil, append_assoc, IsTrue, not, true≢false, ◌<◌, ◌||◌, Result, Ok, Err, IsOk}
+use Rattle.std.proofs.Common.{◌≡◌, ℕ, ◌==◌, Bool, true, false, List, [], ◌∷◌, ◌++◌, length, get_or, Option, Some, None, refl, sym, ◌∙◌, ap, subst, arith, append-nil, append_assoc, IsTrue, not, true≢false, ◌<◌, ◌||◌}
 use Rattle.std.specs.Prelude.{codes, decimal, if◌then◌else◌}
 use Rattle.std.specs.List.{AllByRecursion, list_any}
 use Rattle.std.specs.Option.{option_map_or}
@@ -8,7 +8,6 @@ use Rattle.fs_actions.specs.Actions.{first_of}
 use Rattle.fs_actions.specs.Community.{has_flag, is_discard, limit_of, mark_of, redirect_of}
 use Rattle.fs_line.specs.declared.walked.Walked.{Walked}
 use Rattle.fs_line.specs.Line.{SaysDiscard, discarded_line, effects_text, line_of, mark_text, rates_text, redirect_text, sample_text, verdict_text}
-use Rattle.fs_line.specs.Output.{Sent}
 use Rattle.fs_line.specs.Walked.{entries}
 use Rattle.fs_line.proofs.Walks.{rates_text-append, rates_text-none}
 
@@ -52,21 +51,6 @@ silent actions all =
 
 pub joined : (o a w b e : List ℕ) → (((o ++ a) ++ w) ++ b) ++ e ≡ o ++ (a ++ (w ++ (b ++ e)))
 joined o a w b e = append_assoc ((o ++ a) ++ w) b e ∙ append_assoc (o ++ a) w (b ++ e) ∙ append_assoc o a (w ++ (b ++ e))
-
--- a line behind nothing
-pub sent_kept : {T U E F : Type 0} {f g : ℕ} {a b : Option (List ℕ)} {p q r xs : List ℕ} {value : T} (result : Result U F)
-    → IsOk result → Sent {T = T} {E = E} f g a b p q [] (Ok value) → r ≡ q ++ xs → Sent f g a b p r xs result
-sent_kept (Err error) fine first is = absurd (true≢false (sym fine))
-sent_kept {p = p} {q = q} {xs = xs} (Ok value) fine first is = record {
-  later = first.later;
-  ok = record {
-    flushed = first.ok.flushed;
-    grew = first.ok.grew;
-    whole = ap (λ (front : List ℕ). front ++ xs) (sym (append-nil p)) ∙ ap (λ (front : List ℕ). front ++ xs) first.ok.whole
-        ∙ append_assoc first.ok.flushed q xs ∙ ap (λ (rest : List ℕ). first.ok.flushed ++ rest) (sym is);
-  };
-  err = tt;
-}
 
 -- some actions, each of which discards
 pub says_discard : (actions : List (List ℕ)) → AllDiscard actions → 0 < length actions → SaysDiscard actions

@@ -1,3 +1,4 @@
 pub mod Discarding
 pub mod Outputs
+pub mod Parts
 pub mod Walks

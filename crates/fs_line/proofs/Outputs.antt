@@ -1,5 +1,5 @@
 -- How what became of a text follows from what became of its parts.
-use Rattle.std.proofs.Common.{◌≡◌, ◌⊎◌, inl, inr, ℕ, ◌+◌, ◌<◌, List, [], ◌∷◌, ◌++◌, length, take, drop, get_or, Option, Result, Ok, Err, OnOk, OnErr, IsErrAnd, ◌≤◌, arith, sym, ◌∙◌, ap, subst, append_assoc, append-nil}
+use Rattle.std.proofs.Common.{◌≡◌, inl, inr, ℕ, ◌+◌, ◌<◌, List, [], ◌∷◌, ◌++◌, length, take, drop, get_or, Option, Result, Ok, Err, OnOk, OnErr, IsErrAnd, ◌≤◌, arith, sym, ◌∙◌, ap, subst, append_assoc, append-nil}
 use Rattle.std.proofs.lemmas.Grind.{common_steps}
 use Rattle.std.proofs.lemmas.List.{take_more, take-append-drop}
 use Rattle.fs_base.specs.Outside.{HasCause, Rose}
@@ -59,6 +59,25 @@ pub sends_stopped : {T U E F : Type 0} {f g : ℕ} {a b : Option (List ℕ)} {p 
     → IsErrAnd result R → Sent {T = T} {E = E} f g a b p q xs (Err error) → Sent f g a b p q (xs ++ ys) result
 sends_stopped ys R (Ok value) on first = absurd on
 sends_stopped ys R (Err error) on first = record { later = first.later; ok = tt; err = (stops_more ys first.err.0, first.err.1) }
+
+-- the sink failed before a text
+pub sends_none : {T E : Type 0} {f g : ℕ} {a b : Option (List ℕ)} {p q : List ℕ} {error : E} (xs : List ℕ)
+    → Sent {T = T} {E = E} f g a b p q [] (Err error) → Sent {T = T} {E = E} f g a b p q xs (Err error)
+sends_none xs room = record { later = room.later; ok = tt; err = (stops_more xs room.err.0, room.err.1) }
+
+-- a text kept back where room was made for it
+pub sends_kept : {T E : Type 0} {f g : ℕ} {a b : Option (List ℕ)} {p q r xs : List ℕ} {value : T}
+    → Sent {T = T} {E = E} f g a b p q [] (Ok value) → r ≡ q ++ xs → Sent {T = T} {E = E} f g a b p r xs (Ok value)
+sends_kept {p = p} {q = q} {xs = xs} room is = record {
+  later = room.later;
+  ok = record {
+    flushed = room.ok.flushed;
+    grew = room.ok.grew;
+    whole = ap (λ (front : List ℕ). front ++ xs) (sym (append-nil p)) ∙ ap (λ (front : List ℕ). front ++ xs) room.ok.whole
+        ∙ append_assoc room.ok.flushed q xs ∙ ap (λ (rest : List ℕ). room.ok.flushed ++ rest) (sym is);
+  };
+  err = tt;
+}
 
 -- a text that is equal
 pub sends_as : {T E : Type 0} {f g : ℕ} {a b : Option (List ℕ)} {p q xs ys : List ℕ} {result : Result T E} → xs ≡ ys → Sent f g a b p q xs result → Sent f g a b p q ys result
@@ -175,3 +194,21 @@ sends_within text adds xs i d below R (Err error) on first then = record {
     rose_later first.later then.err.1,
   );
 }
+
+-- a piece kept back behind another
+kept_then : (p xs ys : List ℕ) {q r : List ℕ} → q ≡ p ++ xs → r ≡ q ++ ys → r ≡ p ++ (xs ++ ys)
+kept_then p xs ys first then = then ∙ ap (λ (front : List ℕ). front ++ ys) first ∙ append_assoc p xs ys
+
+-- one more item kept back, behind those that were
+pub kept_more : {X : Type 0} (text : List X → List ℕ) → ((xs ys : List X) → text (xs ++ ys) ≡ text xs ++ text ys)
+    → (xs : List X) (i : ℕ) (d : X) → i < length xs → (p : List ℕ) {q r : List ℕ}
+    → q ≡ p ++ text (take i xs) → r ≡ q ++ text (get_or xs i d ∷ []) → r ≡ p ++ text (take (i + 1) xs)
+kept_more text adds xs i d below p first then =
+    kept_then p (text (take i xs)) (text (get_or xs i d ∷ [])) first then ∙ ap (λ (all : List ℕ). p ++ all) (text_more text adds xs i d below)
+
+-- one more item, of which nothing is kept back
+pub kept_nothing : {X : Type 0} (text : List X → List ℕ) → ((xs ys : List X) → text (xs ++ ys) ≡ text xs ++ text ys)
+    → (xs : List X) (i : ℕ) (d : X) → i < length xs → (p : List ℕ) {q : List ℕ}
+    → [] ≡ text (get_or xs i d ∷ []) → q ≡ p ++ text (take i xs) → q ≡ p ++ text (take (i + 1) xs)
+kept_nothing text adds xs i d below p {q} none first =
+    kept_more text adds xs i d below p first (sym (append-nil q) ∙ ap (λ (more : List ℕ). q ++ more) none)

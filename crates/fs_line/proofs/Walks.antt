@@ -1,7 +1,7 @@
 -- What the actions of a walk say, rule by rule.
-use Rattle.std.proofs.Common.{◌≡◌, ℕ, ◌+◌, ◌-◌, ◌<◌, ◌≤◌, List, [], ◌∷◌, ◌++◌, length, map, take, drop, get_or, Option, Some, None, refl, sym, ◌∙◌, ap, arith, append_assoc, add-one, drop-cons}
+use Rattle.std.proofs.Common.{◌≡◌, ℕ, ◌+◌, ◌-◌, ◌<◌, ◌≤◌, List, [], ◌∷◌, ◌++◌, length, take, drop, get_or, Option, Some, None, refl, sym, ◌∙◌, ap, arith, append_assoc, add-one, drop-cons}
 use Rattle.std.specs.Prelude.{flat_map, filter_map, codes}
-use Rattle.std.proofs.lemmas.List.{append-nil, map-append}
+use Rattle.std.proofs.lemmas.List.{append-nil, length-append}
 use Rattle.std.proofs.lemmas.List.Elements.{filter_map-append}
 use Rattle.std.proofs.lemmas.Grind.{common_steps, flat_map-append}
 use Rattle.fs_actions.specs.declared.community.Rate.{Rate}
@@ -19,6 +19,13 @@ acting walked = actions_walked (entries walked)
 pub acting_from : (walked : List Walked) (i : ℕ) (rule : Walked) → i < length walked
     → acting (drop i walked) ≡ (get_or walked i rule).actions.now ++ acting (drop (i + 1) walked)
 acting_from walked i rule below = rw (drop-cons walked i rule, add-one) refl
+
+-- so many are they
+pub acting_left : (walked : List Walked) (i : ℕ) (rule : Walked) → i < length walked → rule ≡ get_or walked i rule
+    → length (acting (drop i walked)) ≡ length rule.actions.now + length (acting (drop (i + 1) walked))
+acting_left walked i rule below is =
+    ap length (acting_from walked i rule below) ∙ length-append (get_or walked i rule).actions.now (acting (drop (i + 1) walked))
+    ∙ ap (λ (w : Walked). length w.actions.now + length (acting (drop (i + 1) walked))) (sym is)
 
 pub first_of-found : {A : Type 0} (meaning : List ℕ → Option A) (xs ys : List (List ℕ)) (said : A)
     → first_of meaning xs ≡ Some said → first_of meaning (xs ++ ys) ≡ Some said

@@ -2,6 +2,7 @@
 //! of all printed texts.
 #![tactic(auto)]
 
+mod kept;
 mod line;
 mod output;
 mod pieces;

@@ -11,7 +11,7 @@ use std::alloc::Global;
 use std::marker::Model;
 
 /// How many octets an `Output` keeps back.
-const CAPACITY: usize = 65536;
+pub(crate) const CAPACITY: usize = 65536;
 
 /// The longest number that is printed: 40 digits.
 pub(crate) const LONGEST_NUMBER: usize = 40;

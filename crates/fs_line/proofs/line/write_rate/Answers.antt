@@ -1,7 +1,6 @@
-use Rattle.std.proofs.Common.{ap, sym}
 use Rattle.fs_line.specs.Line.{rate_text}
-use Rattle.fs_line.proofs.Outputs.{sends_as}
+use Rattle.fs_line.proofs.Outputs.{sends_stopped}
 use Rattle.fs_line.proofs.line.write_rate.Goals as goal
 
-pub returns-in-Packets : goal.returns-in-Packets
-returns-in-Packets g c = sends_as (ap rate_text (sym c.in-Packets.is)) c.write_figure-in-Packets.ensures
+pub returns-in_err-make_room : goal.returns-in_err-make_room
+returns-in_err-make_room g c = sends_stopped (rate_text c.args.rate) _ c.from_residual.result c.from_residual.ensures.1 c.in_err-make_room.ensures.sends

@@ -1,7 +1,7 @@
 use Rattle.std.proofs.Common.{◌∙◌, ◌++◌, List, ℕ, ap}
 use Rattle.std.specs.Prelude.{codes, decimal}
 use Rattle.fs_line.proofs.Discarding.{joined}
-use Rattle.fs_line.proofs.line.keep_discarded.Goals as goal
+use Rattle.fs_line.proofs.kept.keep_discarded.Goals as goal
 
 pub returns : goal.returns
 returns c =

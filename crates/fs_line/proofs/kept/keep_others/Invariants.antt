@@ -1,0 +1,8 @@
+use Rattle.std.proofs.Common.{◌≡◌, ◌≤◌, ◌+◌, ◌*◌, ◌++◌, length, take}
+use Rattle.fs_line.specs.declared.kept.TheConstants.{RULE}
+use Rattle.fs_line.proofs.Walks.{others_of}
+use Rattle.fs_line.proofs.kept.keep_others.Given as goal
+
+abbrev pub invariant-loop-rule : goal.invariant-loop-rule
+invariant-loop-rule l =
+    (l.output ≡ l.fn.output ++ others_of (take l.rule-index l.others)) × (length l.output ≤ length l.fn.output + RULE * l.rule-index)

@@ -1,0 +1,8 @@
+use Rattle.std.proofs.Common.{◌≡◌, ◌≤◌, ◌+◌, ◌*◌, ◌++◌, length, take}
+use Rattle.fs_line.specs.declared.kept.TheConstants.{RATE}
+use Rattle.fs_line.specs.Line.{rates_text}
+use Rattle.fs_line.proofs.kept.keep_rates_of.Given as goal
+
+abbrev pub invariant-loop-action : goal.invariant-loop-action
+invariant-loop-action l =
+    (l.output ≡ l.fn.output ++ rates_text (take l.action-index l.action-items)) × (length l.output ≤ length l.fn.output + RATE * l.action-index)

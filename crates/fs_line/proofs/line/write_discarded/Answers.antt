@@ -1,0 +1,7 @@
+use Rattle.fs_line.specs.Line.{discarded_line}
+use Rattle.fs_line.proofs.Outputs.{sends_stopped}
+use Rattle.fs_line.proofs.line.write_discarded.Goals as goal
+
+pub returns-in_err-make_room : goal.returns-in_err-make_room
+returns-in_err-make_room g c =
+    sends_stopped (discarded_line c.args.number c.args.rule) _ c.from_residual.result c.from_residual.ensures.1 c.in_err-make_room.ensures.sends

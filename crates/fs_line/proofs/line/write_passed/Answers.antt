@@ -1,0 +1,8 @@
+use Rattle.std.proofs.Common.{[]}
+use Rattle.fs_line.specs.Line.{line_of}
+use Rattle.fs_line.proofs.Outputs.{sends_stopped}
+use Rattle.fs_line.proofs.line.write_passed.Goals as goal
+
+pub returns-in_err-make_room : goal.returns-in_err-make_room
+returns-in_err-make_room g c =
+    sends_stopped (line_of c.args.number []) _ c.from_residual.result c.from_residual.ensures.1 c.in_err-make_room.ensures.sends
