@@ -1,5 +1,5 @@
 -- The search through buckets, from one to its parent: what it passes holds no rule that matches, and what it tests is near.
-use Rattle.std.proofs.Common.{◌≡◌, ℕ, ◌+◌, ◌-◌, ◌<◌, ◌≤◌, ◌⊎◌, inl, inr, max, refl, sym, subst, ◌∙◌, Bool, true, false, true≢false, Option, Some, None, MatchOption, is_some, cond, map, List, length, get_or, count_by, arith}
+use Rattle.std.proofs.Common.{◌≡◌, ℕ, ◌+◌, ◌-◌, ◌<◌, ◌≤◌, ◌⊎◌, inl, inr, max, refl, sym, subst, ◌∙◌, Bool, true, false, true≢false, Option, Some, None, MatchOption, IfSome, cond, map, List, length, get_or, count_by, arith}
 use Rattle.std.proofs.lemmas.Bool.{cases_lt}
 use Rattle.std.proofs.lemmas.List.{get_or-map}
 use Rattle.std.proofs.lemmas.List.Sums.{sum_by-take-le}
@@ -243,14 +243,8 @@ missed_more hits lo n missed fails k above below = at (cases_lt k n) where
   at (inr behind) = let same : n ≡ k = omega (arith, behind, below) in subst (λ i. get_or hits i false ≡ false) same fails
 
 -- what was missed, where nothing was found
-pub none_missed : {A : Type 0} (P : Type 0) (Q : A → Type 0) (r : Option A) (b : Bool) → MatchOption r P Q → b ≡ is_some r → b ≡ false → P
-none_missed P Q None b h e f = h
-none_missed P Q (Some x) b h e f = absurd (true≢false (sym e ∙ f))
-
--- what was found
-pub some_found : {A : Type 0} (P : Type 0) (P' : Type 0) (Q : A → Type 0) (r : Option A) (b : Bool) → MatchOption r P Q → b ≡ is_some r → b ≡ true → MatchOption r P' Q
-some_found P P' Q None b h e f = absurd (true≢false (sym f ∙ e))
-some_found P P' Q (Some x) b h e f = h
+pub missed_none : {A : Type 0} (P : Type 0) (Q : A → Type 0) (r : Option A) → MatchOption r P Q → r ≡ None → P
+missed_none P Q r h e = subst (λ (o : Option _). MatchOption o P Q) e h
 
 -- the parent of a bucket that doesn't end below the address
 pub parent_ends : (lasts : List ℕ) (nodes : List (Node ℕ)) (homes : List ℕ) (count d at : ℕ) → AreBuckets lasts nodes homes count → at < length lasts → d ≤ get_or lasts at 0
@@ -265,3 +259,17 @@ marked_most n near = sum_by-take-le (λ (b : Bool). cond b 1 0) near n
 -- a test that fails is a rule that doesn't match
 pub test_fails : {X : Type 0} (test : X → Bool) (xs : List X) (i : ℕ) (d : X) (r : Bool) → i < length xs → r ≡ test (get_or xs i d) → r ≡ false → get_or (map test xs) i false ≡ false
 test_fails test xs i d r below e f = get_or-map test xs i d false below ∙ sym e ∙ f
+
+-- what was found lies from the bucket's start on
+pub found_inside : (hits : List Bool) (low to start count : ℕ) (r : Option ℕ) → start ≤ low → to ≤ count → MatchOption r (Missed hits low to) (Found hits low to)
+    → IfSome r (λ number. (start ≤ number) × (number < count))
+found_inside hits low to start count None above below found = tt
+found_inside hits low to start count (Some k) above below found = let a : low ≤ k = found.above in let b : k < to = found.below in (omega (arith, above, a), omega (arith, below, b))
+
+-- what is tested behind the last bucket
+pub climbed_cost : (lasts : List ℕ) (nodes : List (Node ℕ)) (homes : List ℕ) (count d at lo low before between after : ℕ) (near : List Bool) → AreBuckets lasts nodes homes count
+    → AreNear lasts nodes homes d count near → at ≡ length lasts → low ≡ max lo (length homes)
+    → between ≤ before + marked (node_at nodes at).start near → after ≤ between + (count - low) → after ≤ before + count_by (λ b. b) near
+climbed_cost lasts nodes homes count d at lo low before between after near sound n last least inv own =
+    let rest : marked (node_at nodes at).start near + (count - low) ≤ count_by (λ b. b) near = tail_cost lasts nodes homes count d at lo low near sound n last least in
+    omega (arith, inv, own, rest)

@@ -12,15 +12,17 @@ use Rattle.fs_rules.specs.Walk.{first_from}
 use Rattle.fs_compile.specs.declared.buckets.Buckets.{Buckets}
 use Rattle.fs_compile.specs.declared.fast.Fast.{Fast}
 use Rattle.fs_compile.specs.declared.nodes.Node.{Node}
+use Rattle.fs_compile.specs.declared.search.Hit.{Hit}
 use Rattle.fs_compile.specs.Addresses.{numbers_in, nodes_in}
 use Rattle.fs_compile.specs.Buckets.{node_at}
-use Rattle.fs_compile.specs.Facts.{IsSmall}
+use Rattle.fs_compile.specs.Facts.{AreFacts, Facts, IsSmall}
 use Rattle.fs_compile.specs.Fast.{StandsFor}
 use Rattle.fs_compile.specs.Index.{AreHoused, Indexed, IsIndexOf, IsOfFamily, StandForEach, spans_of}
 use Rattle.fs_compile.specs.Matcher.{next_from}
 use Rattle.fs_compile.specs.Reach.{number_of, reaches, reaching}
 use Rattle.fs_compile.specs.Runs.{AreNesting, AreNodes, AreRuns}
-use Rattle.fs_compile.specs.Search.{Found, IsNear, Missed, Within, hits}
+use Rattle.fs_compile.specs.Search.{Found, IsNear, Missed, Within, hit_number, hits}
+use Rattle.fs_compile.proofs.Placing.{held_of}
 use Rattle.fs_compile.proofs.Reaching.{bare_reaches, match_reaches, reaches_span, span_reaches}
 
 none_some : {X : Type 0} (x : X) → None ≡ Some x → ⊥
@@ -56,11 +58,11 @@ matches_size : (view : Viewed) (rules : List Listed) → length (matches_of view
 matches_size view [] = refl
 matches_size view (r ∷ rs) = ap suc (matches_size view rs)
 
-hits_are : (view : Viewed) (rules : List Listed) (fasts : List Fast) → IsSmall view → StandForEach rules fasts → hits view fasts ≡ matches_of view rules
-hits_are view [] [] small h = refl
-hits_are view [] (f ∷ fs) small h = absurd h
-hits_are view (r ∷ rs) [] small h = absurd h
-hits_are view (r ∷ rs) (f ∷ fs) small h = ap₂ (λ (b : Bool) (bs : List Bool). b ∷ bs) (h.0 view small) (hits_are view rs fs small h.1)
+hits_are : (view : Viewed) (facts : Facts) (rules : List Listed) (fasts : List Fast) → AreFacts view facts → StandForEach rules fasts → hits facts fasts ≡ matches_of view rules
+hits_are view facts [] [] are h = refl
+hits_are view facts [] (f ∷ fs) are h = absurd h
+hits_are view facts (r ∷ rs) [] are h = absurd h
+hits_are view facts (r ∷ rs) (f ∷ fs) are h = ap₂ (λ (b : Bool) (bs : List Bool). b ∷ bs) (held_of view facts f are ∙ h.0 view are.small) (hits_are view facts rs fs are h.1)
 
 -- Of the rule of a number: whether it is near.
 near_held : (view : Viewed) (rules : List Listed) (k : ℕ) (p : ℕ × ℕ) → AllByRecursion (IsOfFamily view.family) rules → family_of view.destination ≡ view.family → IsSmall view
@@ -143,34 +145,39 @@ next_is view rules n (Some k) found = sym (from_some view (drop n rules) n (k - 
   before : (i : ℕ) → i < k - n → get_or (matches_of view (drop n rules)) i false ≡ false
   before i less = behind view rules n i ∙ found.before (n + i) (omega arith) (omega (arith, less))
 
+numbered : (P : Type 0) (Q : ℕ → Type 0) (r : Option Hit) → MatchOption r P (λ hit. Q hit.number) → MatchOption (hit_number r) P Q
+numbered P Q None h = h
+numbered P Q (Some hit) h = h
+
+near_at : (view : Viewed) (facts : Facts) (rules : List Listed) (index : Indexed) (lent : List Fast) (address : ℕ) → lent ≡ index.rules → AreFacts view facts → address ≡ number_of facts.destination
+    → IsIndexOf view.family rules index → IsNear index.buckets address (length lent) (near_of view rules)
+near_at view facts rules index lent address e are at h =
+    subst (λ (fs : List Fast). IsNear index.buckets address (length fs) (near_of view rules)) (sym e)
+    (subst (λ (a : ℕ). IsNear index.buckets a (length index.rules) (near_of view rules)) (sym (at ∙ ap number_of are.destination)) (are_near view rules index h are.small are.same_family))
+
 -- What a search over the index says, by what it says of any list of tests that are near.
-pub search_is : (view : Viewed) (rules : List Listed) (index : Indexed) (lent : List Fast) (n : ℕ) (r : Option ℕ) → lent ≡ index.rules → IsIndexOf view.family rules index → IsSmall view
-    → family_of view.destination ≡ view.family
-    → ((near : List Bool) → IsNear index.buckets (number_of view.destination) (length lent) near → Within (hits view lent) near → MatchOption r (Missed (hits view lent) n (length lent)) (Found (hits view lent) n (length lent)))
-    → r ≡ next_from n view rules
-search_is view rules index lent n r e h small f found =
-    next_is view rules n r (subst (λ (m : ℕ). MatchOption r (Missed (matches_of view rules) n m) (Found (matches_of view rules) n m)) size
-    (subst (λ (bs : List Bool). MatchOption r (Missed bs n (length index.rules)) (Found bs n (length index.rules))) same own)) where
-      size : length index.rules ≡ length rules
-      size = stand_size rules index.rules h.stands
+pub search_is : (view : Viewed) (facts : Facts) (rules : List Listed) (index : Indexed) (lent : List Fast) (address n : ℕ) (r : Option Hit) → lent ≡ index.rules → AreFacts view facts
+    → address ≡ number_of facts.destination → IsIndexOf view.family rules index
+    → ((near : List Bool) → IsNear index.buckets address (length lent) near → Within (hits facts lent) near → MatchOption r (Missed (hits facts lent) n (length lent)) (λ hit. Found (hits facts lent) n (length lent) hit.number))
+    → hit_number r ≡ next_from n view rules
+search_is view facts rules index lent address n r e are at h found =
+    next_is view rules n (hit_number r) (numbered (Missed (matches_of view rules) n (length rules)) (Found (matches_of view rules) n (length rules)) r
+    (subst (λ (m : ℕ). MatchOption r (Missed (matches_of view rules) n m) (λ hit. Found (matches_of view rules) n m hit.number)) size
+    (subst (λ (bs : List Bool). MatchOption r (Missed bs n (length lent)) (λ hit. Found bs n (length lent) hit.number)) same own))) where
+      size : length lent ≡ length rules
+      size = ap length e ∙ stand_size rules index.rules h.stands
 
-      same : hits view index.rules ≡ matches_of view rules
-      same = hits_are view rules index.rules small h.stands
+      same : hits facts lent ≡ matches_of view rules
+      same = ap (hits facts) e ∙ hits_are view facts rules index.rules are h.stands
 
-      within : Within (hits view index.rules) (near_of view rules)
-      within = subst (λ (bs : List Bool). Within bs (near_of view rules)) (sym same) (near_matched view rules h.each)
+      own : MatchOption r (Missed (hits facts lent) n (length lent)) (λ hit. Found (hits facts lent) n (length lent) hit.number)
+      own = found (near_of view rules) (near_at view facts rules index lent address e are at h) (subst (λ (bs : List Bool). Within bs (near_of view rules)) (sym same) (near_matched view rules h.each))
 
-      own : MatchOption r (Missed (hits view index.rules) n (length index.rules)) (Found (hits view index.rules) n (length index.rules))
-      own = subst (λ (fs : List Fast). MatchOption r (Missed (hits view fs) n (length fs)) (Found (hits view fs) n (length fs))) e
-          (found (near_of view rules) (subst (λ (fs : List Fast). IsNear index.buckets (number_of view.destination) (length fs) (near_of view rules)) (sym e) (are_near view rules index h small f))
-          (subst (λ (fs : List Fast). Within (hits view fs) (near_of view rules)) (sym e) within))
-
-pub steps_are : (view : Viewed) (rules : List Listed) (index : Indexed) (lent : List Fast) (before after : ℕ) → lent ≡ index.rules → IsIndexOf view.family rules index → IsSmall view
-    → family_of view.destination ≡ view.family
-    → ((near : List Bool) → IsNear index.buckets (number_of view.destination) (length lent) near → after ≤ before + count_by (λ b. b) near) → after ≤ before + reaching view rules
-steps_are view rules index lent before after e h small f bound =
-    subst (λ (n : ℕ). after ≤ before + n) (near_count view rules)
-    (bound (near_of view rules) (subst (λ (fs : List Fast). IsNear index.buckets (number_of view.destination) (length fs) (near_of view rules)) (sym e) (are_near view rules index h small f)))
+pub steps_are : (view : Viewed) (facts : Facts) (rules : List Listed) (index : Indexed) (lent : List Fast) (address before after : ℕ) → lent ≡ index.rules → AreFacts view facts
+    → address ≡ number_of facts.destination → IsIndexOf view.family rules index
+    → ((near : List Bool) → IsNear index.buckets address (length lent) near → after ≤ before + count_by (λ b. b) near) → after ≤ before + reaching view rules
+steps_are view facts rules index lent address before after e are at h bound =
+    subst (λ (n : ℕ). after ≤ before + n) (near_count view rules) (bound (near_of view rules) (near_at view facts rules index lent address e are at h))
 
 -- behind the last rule nothing is found
 pub none_behind : (view : Viewed) (rules : List Listed) (index : Indexed) (family : Family) (n : ℕ) → IsIndexOf family rules index → length index.rules ≤ n → None ≡ next_from n view rules

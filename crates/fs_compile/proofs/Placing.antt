@@ -8,12 +8,13 @@ use Rattle.fs_nlri.specs.Component.{part_of, parts_of}
 use Rattle.fs_nlri.specs.Sound.{AreSound}
 use Rattle.fs_packet.specs.Fields.{Viewed}
 use Rattle.fs_packet.specs.Matching.{part_matches}
+use Rattle.fs_compile.specs.declared.fast.Fast.{Fast}
 use Rattle.fs_compile.specs.declared.ranges.Range.{Range}
 use Rattle.fs_compile.specs.declared.ranges.Ranges.{Ranges}
 use Rattle.fs_compile.specs.declared.tests.Test.{Test}
 use Rattle.fs_compile.specs.declared.tests.Test.TheVariants.{Within, OneOf, Ports, TcpFlags, Fragment, Destination, Source}
 use Rattle.fs_compile.specs.Facts.{Facts, AreFacts, IsSmall, facts_of, number_of}
-use Rattle.fs_compile.specs.Fast.{AreFree, AreTestsOf, IsPlaced, all_pass}
+use Rattle.fs_compile.specs.Fast.{AreFree, AreTestsOf, IsPlaced, all_pass, facts_hold, fast_holds}
 use Rattle.fs_compile.specs.Ranges.{bounds_at, field_at, free_ranges, is_in_range, range_at, range_holds, ranges_hold, with_range}
 use Rattle.fs_compile.specs.Tests.{IsTestOf, passes, test_range}
 use Rattle.fs_compile.proofs.Truths.{and_assoc, and_flip, and_swap, and_true}
@@ -116,6 +117,11 @@ compiled_all components i used ranges tests end h = λ view small.
 
 pub facts_are : (view : Viewed) (facts : Facts) → AreFacts view facts → facts ≡ facts_of view
 facts_are view facts h = λ i. record { family = h.family i; destination = h.destination i; source = h.source i; tcp_octets = h.tcp_octets i; fragment = h.fragment i; numbers = h.numbers i }
+
+-- by a packet's own facts
+pub held_of : (view : Viewed) (facts : Facts) (fast : Fast) → AreFacts view facts → facts_hold facts fast ≡ fast_holds view fast
+unfolding fast_holds
+held_of view facts fast h = ap (λ (x : Facts). facts_hold x fast) (facts_are view facts h)
 
 all_free : (k : ℕ) → 0 ≤ k → k < 4 → (field_at free_ranges k ≡ 0) × (bounds_at free_ranges k ≡ (0, 0))
 all_free zero low high = (refl, refl)

@@ -1,11 +1,12 @@
 -- How the walk goes on from one matching rule to the next.
-use Rattle.std.proofs.Common.{◌≡◌, ℕ, ◌+◌, ◌<◌, List, [], ◌∷◌, Bool, true, false, Some, if◌then◌else◌, length, drop, get_or, refl, ap, ◌∙◌, arith, add-one, drop-cons}
+use Rattle.std.proofs.Common.{◌≡◌, ℕ, ◌+◌, ◌<◌, ◌≤◌, List, [], ◌∷◌, Bool, true, false, Option, Some, None, IfSome, if◌then◌else◌, length, drop, get_or, refl, ap, ◌∙◌, arith, add-one, drop-cons}
 use Rattle.std.proofs.lemmas.Grind.{common_steps}
+use Rattle.std.proofs.lemmas.List.{length-drop}
 use Rattle.fs_packet.specs.Fields.{Viewed}
 use Rattle.fs_packet.specs.Matching.{is_match}
 use Rattle.fs_rules.specs.Lent.{Listed}
 use Rattle.fs_rules.specs.Walk.{first_from, goes_on, walk_from}
-use Rattle.fs_compile.specs.Matcher.{WalksByNext, WalksOn}
+use Rattle.fs_compile.specs.Matcher.{WalksByNext, WalksOn, next_from}
 
 heads : (x y : Listed) (xs ys : List Listed) → x ∷ xs ≡ y ∷ ys → (x ≡ y) × (xs ≡ ys)
 heads x y xs ys e = (cc, cc)
@@ -42,3 +43,36 @@ seek view rules (x ∷ xs) place e = by_match view rules place x xs (is_match x.
 -- the law of the walk
 pub walks_by_next_law : WalksByNext
 walks_by_next_law view rules n = seek view rules (drop n rules) n refl
+
+-- what is found is one of the rules, and none of those before
+
+chosen : {A : Type 0} (b : Bool) (x y : A) → b ≡ true → (if b then x else y) ≡ x
+chosen true x y h = refl
+chosen false x y h = absurd cc
+
+not_chosen : {A : Type 0} (b : Bool) (x y : A) → b ≡ false → (if b then x else y) ≡ y
+not_chosen true x y h = absurd cc
+not_chosen false x y h = refl
+
+found_within : (view : Viewed) (rules : List Listed) (place : ℕ) (found : Option ℕ) → found ≡ first_from place view rules
+    → IfSome found (λ k. (place ≤ k) × (k < place + length rules))
+found_within view rules place None e = tt
+found_within view [] place (Some k) e = absurd cc
+found_within view (rule ∷ rules) place (Some k) e = by (is_match rule.rule view) refl (found_within view rules (place + 1) (Some k))
+  where
+    by : (b : Bool) → is_match rule.rule view ≡ b
+        → (Some k ≡ first_from (place + 1) view rules → (place + 1 ≤ k) × (k < place + 1 + length rules))
+        → (place ≤ k) × (k < place + length (rule ∷ rules))
+    by true m later =
+        let same : Some k ≡ Some place = e ∙ chosen (is_match rule.rule view) _ _ m in
+        let k_is : k ≡ place = cc in
+        (omega (arith, k_is), omega (arith, k_is))
+    by false m later =
+        let rest : (place + 1 ≤ k) × (k < place + 1 + length rules) = later (e ∙ not_chosen (is_match rule.rule view) _ _ m) in
+        (omega (arith, rest.0), omega (arith, rest.1))
+
+pub next_inside : (view : Viewed) (rules : List Listed) (n : ℕ) (found : Option ℕ) → found ≡ next_from n view rules → IfSome found (λ k. (n ≤ k) × (k < length rules))
+next_inside view rules n None e = tt
+next_inside view rules n (Some k) e =
+    let within : (n ≤ k) × (k < n + length (drop n rules)) = found_within view (drop n rules) n (Some k) e in
+    (within.0, omega (arith, within.0, within.1, length-drop n rules))

@@ -2,7 +2,7 @@
 use Rattle.std.specs.Prelude.{◌≡◌, ℕ, ◌%◌, ◌^◌, ◌<◌, List, [], ◌∷◌, slice_index, Option, Some, None}
 use Rattle.fs_base.specs.declared.config.Address.{Address}
 use Rattle.fs_base.specs.declared.config.Address.TheVariants.{V4, V6}
-use Rattle.fs_packet.specs.Fields.{Viewed}
+use Rattle.fs_packet.specs.Fields.{Viewed, family_of}
 use Rattle.fs_base.specs.declared.prefix.Family.{Family}
 
 -- what a rule is tested on
@@ -91,3 +91,4 @@ pub record AreFacts (view : Viewed) (facts : Facts) : Type 0 where
   pub fragment : facts.fragment ≡ view.fragment
   pub numbers : facts.numbers ≡ numbers_of view
   pub small : IsSmall view
+  pub same_family : family_of view.destination ≡ view.family

@@ -20,8 +20,11 @@ abbrev pub holds_of_facts : Facts → Fast → Bool
 holds_of_facts facts fast =
     (afi_of fast.family == afi_of facts.family) && all_pass facts fast.ranges fast.tests.items
 
+unfoldable pub facts_hold : Facts → Fast → Bool
+facts_hold facts fast = holds_of_facts facts fast
+
 unfoldable pub fast_holds : Viewed → Fast → Bool
-fast_holds view fast = holds_of_facts (facts_of view) fast
+fast_holds view fast = facts_hold (facts_of view) fast
 
 -- it holds of exactly the packets that the rule matches
 abbrev pub StandsFor : Ruled → Fast → Type 0

@@ -12,4 +12,5 @@ pub mod Search
 pub mod Runs
 pub mod Reach
 pub mod Index
+pub mod Matches
 pub mod Matcher

@@ -1,17 +1,18 @@
 -- The search for an address through buckets.
-use Rattle.std.specs.Prelude.{◌≡◌, ℕ, ◌<◌, ◌≤◌, Bool, true, false, List, length, take, get_or, map}
+use Rattle.std.specs.Prelude.{◌≡◌, ℕ, ◌+◌, ◌<◌, ◌≤◌, Bool, true, false, Option, option_map, List, length, take, get_or, map}
 use Rattle.std.specs.List.{count_by}
 use Rattle.fs_compile.specs.declared.buckets.Buckets.{Buckets}
-use Rattle.fs_packet.specs.Fields.{Viewed}
 use Rattle.fs_compile.specs.declared.fast.Fast.{Fast}
 use Rattle.fs_compile.specs.declared.nodes.Node.{Node}
+use Rattle.fs_compile.specs.declared.search.Hit.{Hit}
 use Rattle.fs_compile.specs.declared.search.Place.{Place}
 use Rattle.fs_compile.specs.Addresses.{numbers_in, nodes_in}
 use Rattle.fs_compile.specs.Buckets.{AreBuckets, node_at}
-use Rattle.fs_compile.specs.Fast.{fast_holds}
+use Rattle.fs_compile.specs.Facts.{Facts}
+use Rattle.fs_compile.specs.Fast.{facts_hold}
 
-abbrev pub hits : Viewed → List Fast → List Bool
-hits view rules = map (fast_holds view) rules
+abbrev pub hits : Facts → List Fast → List Bool
+hits facts rules = map (facts_hold facts) rules
 
 -- none in a stretch
 abbrev pub Missed : List Bool → (lo to : ℕ) → Type 0
@@ -60,6 +61,13 @@ pub record IsStart (lasts : List ℕ) (nodes : List (Node ℕ)) (homes : List �
 
 abbrev pub Starts : Buckets → Place → Type 0
 Starts b place = IsStart (numbers_in b.lasts) (nodes_in b.nodes) b.homes.items place
+
+abbrev pub hit_number : Option Hit → Option ℕ
+hit_number found = option_map (λ hit. hit.number) found
+
+-- where a search for the address goes on behind what was found
+abbrev pub behind_hit : (address : ℕ) → Hit → Place
+behind_hit address hit = record { address = address; bucket = hit.bucket; from = hit.number + 1 }
 
 abbrev pub start_at : Buckets → ℕ → ℕ
 start_at b i = (node_at (nodes_in b.nodes) i).start

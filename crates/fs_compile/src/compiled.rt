@@ -6,9 +6,11 @@ ghost use Rattle.fs_base.specs.declared.prefix.Family.TheVariants.{V4, V6};
 ghost use Rattle.fs_rules.specs.Lent.{Listed, all_admitted};
 ghost use Rattle.fs_compile.specs.Index.{IsIndexOf};
 ghost use Rattle.fs_compile.specs.Matcher.{StandsForLists, WalksByNext, admitted_in, next_from};
+ghost use Rattle.fs_compile.specs.Matches.{AreMatchesOf};
 ghost use Rattle.fs_compile.specs.Reach.{reaching};
 
 use crate::index::Index;
+use crate::matches::Matches;
 use fs_base::{Family, Memory, Steps};
 use fs_packet::View;
 use fs_rules::{Admitted, Table};
@@ -55,10 +57,7 @@ impl Compiled {
             → StandsForLists rules self.now
             → steps.new ≤ steps.old + reaching view.now (rules view.now.family) }
     {
-        match view.family() {
-            Family::V4 => self.v4.first(view, steps),
-            Family::V6 => self.v6.first(view, steps),
-        }
+        self.matches(view).next(steps)
     }
 
     /// The least number above `n`, which may be any, of a rule of the packet's family that matches it. As many steps as
@@ -72,9 +71,34 @@ impl Compiled {
             → StandsForLists rules self.now
             → steps.new ≤ steps.old + reaching view.now (rules view.now.family) }
     {
-        match view.family() {
-            Family::V4 => self.v4.next(view, n, steps),
-            Family::V6 => self.v6.next(view, n, steps),
+        let index = self.index(view.family());
+        if n >= index.len() {
+            return None;
+        }
+        Matches::behind(index, view, n).next(steps)
+    }
+
+    /// The rules of the packet's family that match it, to be asked for one after the other.
+    #[inline(always)]
+    pub fn matches<'a>(&'a self, view: &'a View<'a>) -> Matches<'a>
+        ensures matches { (rules : Family → List Listed)
+            → StandsForLists rules self.now
+            → AreMatchesOf view.now (rules view.now.family) result }
+        ensures from { result.from ≡ 0 }
+    {
+        Matches::of(self.index(view.family()), view)
+    }
+
+    /// The rules of a family.
+    #[inline(always)]
+    fn index(&self, family: Family) -> &Index
+        ensures { (rules : Family → List Listed)
+            → StandsForLists rules self.now
+            → IsIndexOf family (rules family) result.now }
+    {
+        match family {
+            Family::V4 => &self.v4,
+            Family::V6 => &self.v6,
         }
     }
 }

@@ -6,8 +6,8 @@ ghost use Rattle.fs_nlri.specs.Component.{parts_of};
 ghost use Rattle.fs_nlri.specs.Parts.{Ruled};
 ghost use Rattle.fs_nlri.specs.Sound.{AreSound};
 ghost use Rattle.fs_packet.specs.Matching.{is_match};
-ghost use Rattle.fs_compile.specs.Facts.{AreFacts, IsSmall};
-ghost use Rattle.fs_compile.specs.Fast.{AreFree, AreTestsOf, IsPlaced, StandsFor, fast_holds, holds_of_facts};
+ghost use Rattle.fs_compile.specs.Facts.{IsSmall};
+ghost use Rattle.fs_compile.specs.Fast.{AreFree, AreTestsOf, IsPlaced, StandsFor, facts_hold, fast_holds, holds_of_facts};
 ghost use Rattle.fs_compile.specs.Tests.{passes};
 
 use crate::components::test_of;
@@ -48,19 +48,13 @@ impl Fast {
         ensures matches { (rule : Ruled) → StandsFor rule self.now → result ≡ is_match rule view.now }
         ensures step { steps.new ≡ steps.old + 1 }
     {
-        self.test_facts(view, &Facts::of(view), steps)
+        self.test_facts(&Facts::of(view), steps)
     }
 
     /// The same over the packet's fields, so that they are read once for all rules.
     #[inline(always)]
-    pub(crate) fn test_facts<L: Ledger>(
-        &self,
-        _view: &View<'_>,
-        facts: &Facts<'_>,
-        steps: &mut Steps<L>,
-    ) -> bool
-        requires { AreFacts _view.now facts.now }
-        ensures holds { result ≡ fast_holds _view.now self.now }
+    pub(crate) fn test_facts<L: Ledger>(&self, facts: &Facts<'_>, steps: &mut Steps<L>) -> bool
+        ensures holds { result ≡ facts_hold facts.now self.now }
         ensures step { steps.new ≡ steps.old + 1 }
     {
         steps.take();

@@ -1,21 +1,23 @@
 //! The rules of a family, compiled, and found by the destination of a packet.
 
-ghost use Rattle.std.specs.Prelude.{◌≡◌, ◌≤◌, ◌+◌, ◌<◌, ◌^◌, IfOk, List, length};
+ghost use Rattle.std.specs.Prelude.{◌≡◌, ◌≤◌, ◌+◌, ◌<◌, ◌^◌, IfOk, IfSome, List, length};
 ghost use Rattle.std.specs.List.{AllByRecursion};
+ghost use Rattle.fs_packet.specs.Fields.{Viewed};
 ghost use Rattle.fs_rules.specs.Lent.{Listed, all_admitted};
 ghost use Rattle.fs_compile.specs.Addresses.{nodes_in, numbers_in};
+ghost use Rattle.fs_compile.specs.Facts.{AreFacts};
 ghost use Rattle.fs_compile.specs.Index.{AreHoused, IsIndexOf, IsOfFamily, StandForEach, spans_of};
 ghost use Rattle.fs_compile.specs.Matcher.{next_from};
-ghost use Rattle.fs_compile.specs.Reach.{reaching};
+ghost use Rattle.fs_compile.specs.Reach.{number_of, reaching};
 ghost use Rattle.fs_compile.specs.Runs.{AreNesting};
-ghost use Rattle.fs_compile.specs.Search.{AreSound};
+ghost use Rattle.fs_compile.specs.Search.{AreSound, Starts, behind_hit, hit_number};
 
 use crate::buckets::Buckets;
+use crate::facts::Facts;
 use crate::fast::Fast;
 use crate::runs::{nodes_of, parents_of, runs_of};
-use crate::search::{search_behind, search_first};
+use crate::search::{Hit, Place, climb, place_behind, place_from};
 use fs_base::{Family, Memory, Steps};
-use fs_packet::View;
 use fs_rules::Admitted;
 use std::alloc::Global;
 use std::marker::Model;
@@ -58,38 +60,56 @@ impl Index {
         Ok(Index { buckets, rules })
     }
 
-    /// The least number of a rule that matches the packet, which is of the family.
-    pub(crate) fn first<L: Ledger>(&self, view: &View<'_>, steps: &mut Steps<L>) -> Option<usize>
-        ensures first { (rules : List Listed)
-            → IsIndexOf view.now.family rules self.now
-            → result ≡ next_from 0 view.now rules }
-        ensures later { steps.old ≤ steps.new }
-        ensures steps { (rules : List Listed)
-            → IsIndexOf view.now.family rules self.now
-            → steps.new ≤ steps.old + reaching view.now rules }
+    /// How many rules there are.
+    pub(crate) fn len(&self) -> usize
+        ensures { result ≡ length self.now.rules }
     {
-        search_first(&self.buckets, &self.rules, view, steps)
+        self.rules.len()
     }
 
-    /// The least number above `n` of a rule that matches the packet, which is of the family.
-    pub(crate) fn next<L: Ledger>(
-        &self,
-        view: &View<'_>,
-        n: usize,
-        steps: &mut Steps<L>,
-    ) -> Option<usize>
-        ensures next { (rules : List Listed)
-            → IsIndexOf view.now.family rules self.now
-            → result ≡ next_from (n + 1) view.now rules }
-        ensures later { steps.old ≤ steps.new }
-        ensures steps { (rules : List Listed)
-            → IsIndexOf view.now.family rules self.now
-            → steps.new ≤ steps.old + reaching view.now rules }
+    /// Where a search for the address begins.
+    #[inline(always)]
+    pub(crate) fn start(&self, address: u128) -> Place
+        ensures starts { Starts self.now.buckets result }
+        ensures address { result.address ≡ address }
+        ensures from { result.from ≡ 0 }
     {
-        if n >= self.rules.len() {
-            return None;
-        }
-        search_behind(&self.buckets, &self.rules, view, n, steps)
+        place_from(&self.buckets, address, 0)
+    }
+
+    /// Where a search for the address goes on behind the rule of the number.
+    pub(crate) fn behind(&self, address: u128, n: usize) -> Place
+        requires { n < length self.now.rules }
+        ensures starts { Starts self.now.buckets result }
+        ensures address { result.address ≡ address }
+        ensures from { result.from ≡ n + 1 }
+    {
+        place_behind(&self.buckets, address, n)
+    }
+
+    /// The least number, from that of the place on, of a rule that matches the packet, which is of the family.
+    #[inline(always)]
+    pub(crate) fn search<L: Ledger>(
+        &self,
+        facts: &Facts<'_>,
+        start: Place,
+        steps: &mut Steps<L>,
+    ) -> Option<Hit>
+        requires starts { Starts self.now.buckets start }
+        requires address { start.address ≡ number_of facts.now.destination }
+        ensures found { (view : Viewed) (rules : List Listed)
+            → AreFacts view facts.now
+            → IsIndexOf view.family rules self.now
+            → hit_number result ≡ next_from start.from view rules }
+        ensures starts { IfSome result (λ hit. Starts self.now.buckets (behind_hit start.address hit)) }
+        ensures fits { IfSome result (λ hit. hit.number + 1 < 2 ^ 64) }
+        ensures later { steps.old ≤ steps.new }
+        ensures steps { (view : Viewed) (rules : List Listed)
+            → AreFacts view facts.now
+            → IsIndexOf view.family rules self.now
+            → steps.new ≤ steps.old + reaching view rules }
+    {
+        climb(&self.buckets, &self.rules, facts, start, steps)
     }
 }
 

@@ -11,6 +11,7 @@ mod fast;
 mod gaps;
 mod groups;
 mod index;
+mod matches;
 mod nodes;
 mod numbers;
 mod pattern;
@@ -23,4 +24,5 @@ mod tests;
 
 pub use compiled::{Compiled, Rules, rules_of, walks_by_next};
 pub use fast::Fast;
+pub use matches::Matches;
 pub use spans::Spans;

@@ -1,20 +1,16 @@
-//! The search for the rules that match a packet: through the buckets that hold its destination, then through the rules
+//! The search for a rule that matches a packet: through the buckets that hold its destination, then through the rules
 //! without a destination.
 
-ghost use Rattle.std.specs.Prelude.{◌≡◌, ◌<◌, ◌≤◌, ◌+◌, ◌-◌, ◌^◌, List, Bool, ℕ, get_or, length, take, MatchOption};
+ghost use Rattle.std.specs.Prelude.{◌≡◌, ◌<◌, ◌≤◌, ◌+◌, ◌-◌, ◌^◌, List, Bool, ℕ, get_or, length, take, IfSome, MatchOption};
 ghost use Rattle.std.specs.List.{count_by};
 ghost use Rattle.fs_compile.specs.Addresses.{numbers_in, nodes_in};
 ghost use Rattle.fs_compile.specs.Buckets.{node_at};
-ghost use Rattle.fs_compile.specs.Facts.{AreFacts, IsSmall};
-ghost use Rattle.fs_compile.specs.Reach.{number_of};
-ghost use Rattle.fs_packet.specs.Fields.{family_of};
-ghost use Rattle.fs_compile.specs.Search.{AreSound, Found, IsNear, Missed, Starts, Within, hits, marked, parent_at, start_at};
+ghost use Rattle.fs_compile.specs.Search.{AreSound, Found, IsNear, Missed, Starts, Within, behind_hit, hits, marked, parent_at, start_at};
 
 use crate::buckets::Buckets;
 use crate::facts::Facts;
 use crate::fast::Fast;
-use fs_base::{Address, Steps};
-use fs_packet::View;
+use fs_base::Steps;
 use std::sync::ledger::Ledger;
 
 /// Where a search for an address goes on: at a bucket, among the rules from a number on.
@@ -25,25 +21,30 @@ pub(crate) struct Place {
     pub(crate) from: usize,
 }
 
+/// A rule that matches, by its number, and its bucket; where it has none, how many there are.
+#[derive(Clone, Copy, Drop)]
+pub(crate) struct Hit {
+    pub(crate) number: usize,
+    pub(crate) bucket: usize,
+}
+
 /// The first rule that matches of those from `from` on before `to`. As many steps as these are.
 fn scan<L: Ledger>(
     rules: &[Fast],
-    view: &View<'_>,
     facts: &Facts<'_>,
     from: usize,
     to: usize,
     steps: &mut Steps<L>,
 ) -> Option<usize>
-    requires facts { AreFacts view.now facts.now }
-    requires within { to ≤ length rules.now }
+    requires { to ≤ length rules.now }
     ensures found { MatchOption result
-        (Missed (hits view.now rules.now) from to)
-        (Found (hits view.now rules.now) from to) }
+        (Missed (hits facts.now rules.now) from to)
+        (Found (hits facts.now rules.now) from to) }
     ensures later { steps.old ≤ steps.new }
     ensures steps { steps.new ≤ steps.old + (to - from) }
 {
     for number in from..to {
-        if rules[number].test_facts(view, facts, steps) {
+        if rules[number].test_facts(facts, steps) {
             return Some(number);
         }
     }
@@ -55,22 +56,22 @@ fn scan<L: Ledger>(
 fn scan_bucket<L: Ledger>(
     buckets: &Buckets,
     rules: &[Fast],
-    view: &View<'_>,
     facts: &Facts<'_>,
     place: Place,
     steps: &mut Steps<L>,
 ) -> Option<usize>
-    requires facts { AreFacts view.now facts.now }
     requires sound { AreSound buckets.now (length rules.now) }
     requires within { place.bucket < length (numbers_in buckets.now.lasts) }
     requires ends { place.address ≤ get_or (numbers_in buckets.now.lasts) place.bucket 0 }
     ensures found { (near : List Bool)
         → IsNear buckets.now place.address (length rules.now) near
-        → Within (hits view.now rules.now) near
-        → Missed (hits view.now rules.now) place.from (start_at buckets.now place.bucket)
+        → Within (hits facts.now rules.now) near
+        → Missed (hits facts.now rules.now) place.from (start_at buckets.now place.bucket)
         → MatchOption result
-        (Missed (hits view.now rules.now) place.from (start_at buckets.now (parent_at buckets.now place.bucket)))
-        (Found (hits view.now rules.now) place.from (length rules.now)) }
+        (Missed (hits facts.now rules.now) place.from (start_at buckets.now (parent_at buckets.now place.bucket)))
+        (Found (hits facts.now rules.now) place.from (length rules.now)) }
+    ensures inside { IfSome result (λ number.
+        (start_at buckets.now place.bucket ≤ number) × (number < length rules.now)) }
     ensures later { steps.old ≤ steps.new }
     ensures steps { (near : List Bool)
         → IsNear buckets.now place.address (length rules.now) near
@@ -84,7 +85,6 @@ fn scan_bucket<L: Ledger>(
     let end = buckets.nodes.at(place.bucket + 1).start;
     scan(
         rules,
-        view,
         facts,
         place.from.max(node.start as usize),
         end as usize,
@@ -98,20 +98,20 @@ fn scan_bucket<L: Ledger>(
 pub(crate) fn climb<L: Ledger>(
     buckets: &Buckets,
     rules: &[Fast],
-    view: &View<'_>,
     facts: &Facts<'_>,
     start: Place,
     steps: &mut Steps<L>,
-) -> Option<usize>
-    requires facts { AreFacts view.now facts.now }
+) -> Option<Hit>
     requires sound { AreSound buckets.now (length rules.now) }
     requires starts { Starts buckets.now start }
     ensures found { (near : List Bool)
         → IsNear buckets.now start.address (length rules.now) near
-        → Within (hits view.now rules.now) near
+        → Within (hits facts.now rules.now) near
         → MatchOption result
-        (Missed (hits view.now rules.now) start.from (length rules.now))
-        (Found (hits view.now rules.now) start.from (length rules.now)) }
+        (Missed (hits facts.now rules.now) start.from (length rules.now))
+        (λ hit. Found (hits facts.now rules.now) start.from (length rules.now) hit.number) }
+    ensures starts { IfSome result (λ hit. Starts buckets.now (behind_hit start.address hit)) }
+    ensures inside { IfSome result (λ hit. hit.number < length rules.now) }
     ensures later { steps.old ≤ steps.new }
     ensures steps { (near : List Bool)
         → IsNear buckets.now start.address (length rules.now) near
@@ -119,33 +119,21 @@ pub(crate) fn climb<L: Ledger>(
 {
     let mut bucket = start.bucket;
     while bucket < buckets.lasts.len() {
-        let found = scan_bucket(
-            buckets,
-            rules,
-            view,
-            facts,
-            Place { bucket, ..start },
-            steps,
-        );
-        if found.is_some() {
-            return found;
+        let place = Place { bucket, ..start };
+        if let Some(number) = scan_bucket(buckets, rules, facts, place, steps) {
+            return Some(Hit { number, bucket });
         }
         bucket = buckets.nodes.at(bucket).parent as usize;
     }
-    scan(
-        rules,
-        view,
-        facts,
-        start.from.max(buckets.homes.len()),
-        rules.len(),
-        steps,
-    )
+    let tail = start.from.max(buckets.homes.len());
+    let number = scan(rules, facts, tail, rules.len(), steps)?;
+    Some(Hit { number, bucket })
 }
 
 /// Where a search for an address begins, among all rules from a number on: at the first bucket that doesn't end below
 /// the address.
 #[inline(always)]
-fn place_from(buckets: &Buckets, address: u128, from: usize) -> Place
+pub(crate) fn place_from(buckets: &Buckets, address: u128, from: usize) -> Place
     requires { AreSound buckets.now (length buckets.now.homes.items) }
     ensures starts { Starts buckets.now result }
     ensures address { result.address ≡ address }
@@ -159,8 +147,7 @@ fn place_from(buckets: &Buckets, address: u128, from: usize) -> Place
 }
 
 /// Where a search for an address goes on behind a rule: in its bucket, unless that ends below the address.
-#[inline(always)]
-fn place_behind(buckets: &Buckets, address: u128, n: usize) -> Place
+pub(crate) fn place_behind(buckets: &Buckets, address: u128, n: usize) -> Place
     requires sound { AreSound buckets.now (length buckets.now.homes.items) }
     requires fits { n + 1 < 2 ^ 64 }
     ensures starts { Starts buckets.now result }
@@ -183,70 +170,4 @@ fn place_behind(buckets: &Buckets, address: u128, n: usize) -> Place
         bucket,
         from: n + 1,
     }
-}
-
-#[inline(always)]
-fn address_of(view: &View<'_>) -> u128
-    ensures number { result ≡ number_of view.now.destination }
-    ensures family { family_of view.now.destination ≡ view.now.family }
-{
-    match view.destination() {
-        Address::V4(address) => address.into(),
-        Address::V6(address) => address,
-    }
-}
-
-/// The first rule that matches the packet.
-#[inline(always)]
-pub(crate) fn search_first<L: Ledger>(
-    buckets: &Buckets,
-    rules: &[Fast],
-    view: &View<'_>,
-    steps: &mut Steps<L>,
-) -> Option<usize>
-    requires { AreSound buckets.now (length rules.now) }
-    ensures found { (near : List Bool)
-        → IsNear buckets.now (number_of view.now.destination) (length rules.now) near
-        → Within (hits view.now rules.now) near
-        → MatchOption result
-        (Missed (hits view.now rules.now) 0 (length rules.now))
-        (Found (hits view.now rules.now) 0 (length rules.now)) }
-    ensures later { steps.old ≤ steps.new }
-    ensures steps { (near : List Bool)
-        → IsNear buckets.now (number_of view.now.destination) (length rules.now) near
-        → steps.new ≤ steps.old + count_by (λ b. b) near }
-    ensures small { IsSmall view.now }
-    ensures family { family_of view.now.destination ≡ view.now.family }
-{
-    let facts = Facts::of(view);
-    let start = place_from(buckets, address_of(view), 0);
-    climb(buckets, rules, view, &facts, start, steps)
-}
-
-/// The first rule behind that of number `n` that matches the packet.
-pub(crate) fn search_behind<L: Ledger>(
-    buckets: &Buckets,
-    rules: &[Fast],
-    view: &View<'_>,
-    n: usize,
-    steps: &mut Steps<L>,
-) -> Option<usize>
-    requires sound { AreSound buckets.now (length rules.now) }
-    requires fits { n + 1 < 2 ^ 64 }
-    ensures found { (near : List Bool)
-        → IsNear buckets.now (number_of view.now.destination) (length rules.now) near
-        → Within (hits view.now rules.now) near
-        → MatchOption result
-        (Missed (hits view.now rules.now) (n + 1) (length rules.now))
-        (Found (hits view.now rules.now) (n + 1) (length rules.now)) }
-    ensures later { steps.old ≤ steps.new }
-    ensures steps { (near : List Bool)
-        → IsNear buckets.now (number_of view.now.destination) (length rules.now) near
-        → steps.new ≤ steps.old + count_by (λ b. b) near }
-    ensures small { IsSmall view.now }
-    ensures family { family_of view.now.destination ≡ view.now.family }
-{
-    let facts = Facts::of(view);
-    let start = place_behind(buckets, address_of(view), n);
-    climb(buckets, rules, view, &facts, start, steps)
 }

@@ -14,7 +14,7 @@ use Rattle.fs_rules.specs.declared.lent.Admitted.{Admitted}
 use Rattle.fs_rules.specs.Walk.{goes_on, walk_from, walk_of}
 use Rattle.fs_enforce.specs.Judge.{AdmittedRules, rules_for}
 use Rattle.fs_enforce.specs.Snapshot.{StandsFor, WalksWith, all_actions, lent_actions}
-use Rattle.fs_enforce.specs.Matcher.{FindsFrom}
+use Rattle.fs_enforce.proofs.Walking.{FindsFrom}
 
 abbrev Walk : Type 0
 Walk = List (ℕ × List (List ℕ))

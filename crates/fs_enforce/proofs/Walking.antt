@@ -1,12 +1,13 @@
 -- How the walk goes on from one matching rule to the next.
-use Rattle.std.proofs.Common.{◌≡◌, ◌+◌, ◌<◌, ◌≤◌, ℕ, List, [], ◌∷◌, ◌++◌, Bool, true, false, Option, Some, None, if◌then◌else◌, length, map, drop, get_or, refl, ap, sym, ◌∙◌, IfSome, arith, append_assoc, append-nil, add-one, drop-cons, rules}
-use Rattle.std.proofs.lemmas.List.{drop-map, length-drop, length-map, map-append}
+use Rattle.std.proofs.Common.{◌≡◌, ◌+◌, ◌<◌, ◌≤◌, ℕ, List, [], ◌∷◌, ◌++◌, Bool, true, false, Option, Some, None, if◌then◌else◌, length, map, drop, get_or, refl, ap, sym, subst, ◌∙◌, IfSome, arith, append_assoc, append-nil, add-one, drop-cons, rules}
+use Rattle.std.proofs.lemmas.List.{drop-map, length-map, map-append}
 use Rattle.std.proofs.lemmas.Grind.{common_steps}
 use Rattle.fs_base.specs.declared.prefix.Family.{Family}
 use Rattle.fs_base.specs.declared.prefix.Family.TheVariants.{V4, V6}
 use Rattle.fs_enforce.specs.Judge.{lent_rules, rules_for}
-use Rattle.fs_enforce.specs.Matcher.{FindsFrom, WalksBy}
+use Rattle.fs_enforce.specs.Matcher.{WalksBy}
 use Rattle.fs_compile.specs.Matcher.{StandsForLists}
+use Rattle.fs_compile.specs.Matches.{AreMatchesOf, Matching, behind}
 use Rattle.fs_compile.specs.declared.compiled.Compiled.{Compiled}
 use Rattle.fs_line.specs.declared.walked.Walked.{Walked}
 use Rattle.fs_line.specs.Walked.{entry_of, entries}
@@ -134,37 +135,18 @@ walking_ends view rules place found walked next d w n e g =
     ∙ ap (λ (more : List (ℕ × List (List ℕ))). (found + 1, (get_or rules found d).actions.now) ∷ more)
     (not_chosen (goes_on (get_or rules found d).actions.now) _ _ g)) e
 
--- what a search from a place on gives is a place among the rules
+-- a search from a place on finds the first match, which is one of the rules
+abbrev pub FindsFrom : ℕ → Viewed → List Listed → Option ℕ → Type 0
+FindsFrom from view rules found =
+    (found ≡ first_from from view (drop from rules)) × IfSome found (λ place. (from ≤ place) × (place < length rules))
 
-found_within : (view : Viewed) (rules : List Listed) (place : ℕ) (found : Option ℕ) → found ≡ first_from place view rules
-    → IfSome found (λ k. (place ≤ k) × (k < place + length rules))
-found_within view rules place None e = tt
-found_within view [] place (Some k) e = absurd cc
-found_within view (rule ∷ rules) place (Some k) e = by (is_match rule.rule view) refl (found_within view rules (place + 1) (Some k))
-  where
-    by : (b : Bool) → is_match rule.rule view ≡ b
-        → (Some k ≡ first_from (place + 1) view rules → (place + 1 ≤ k) × (k < place + 1 + length rules))
-        → (place ≤ k) × (k < place + length (rule ∷ rules))
-    by true m later =
-        let same : Some k ≡ Some place = e ∙ chosen (is_match rule.rule view) _ _ m in
-        let k_is : k ≡ place = cc in
-        (omega (arith, k_is), omega (arith, k_is))
-    by false m later =
-        let rest : (place + 1 ≤ k) × (k < place + 1 + length rules) = later (e ∙ not_chosen (is_match rule.rule view) _ _ m) in
-        (omega (arith, rest.0), omega (arith, rest.1))
+pub finds : (view : Viewed) (rules : List Listed) (place : ℕ) (found : Option ℕ) → found ≡ first_from place view (drop place rules) → IfSome found (λ k. (place ≤ k) × (k < length rules))
+    → FindsFrom place view rules found
+finds view rules place found e inside = (e, inside)
 
-finds_from : (view : Viewed) (rules : List Listed) (place : ℕ) (found : Option ℕ) → found ≡ first_from place view (drop place rules) → FindsFrom place view rules found
-finds_from view rules place None e = (e, tt)
-finds_from view rules place (Some k) e =
-    let within : (place ≤ k) × (k < place + length (drop place rules)) = found_within view (drop place rules) place (Some k) e in
-    (e, (within.0, omega (arith, within.0, within.1, length-drop place rules)))
-
--- a search of the compiled rules is one of the list that they stand for
-pub finds_by : (view : Viewed) (rules : List Listed) (compiled : Compiled) (place : ℕ) (found : Option ℕ)
-    → ((lists : Family → List Listed) → StandsForLists lists compiled → found ≡ first_from place view (drop place (lists view.family)))
-    → WalksBy view rules compiled → FindsFrom place view rules found
-finds_by view rules compiled place found search w =
-    finds_from view rules place found (search w.lists w.stands ∙ ap (λ (list : List Listed). first_from place view (drop place list)) w.rules_are)
+-- behind a rule that was found they are the same matches
+pub matches_on : (view : Viewed) (rules : List Listed) (old new : Matching) (n : ℕ) → new ≡ behind (Some n) old → AreMatchesOf view rules old → AreMatchesOf view rules new
+matches_on view rules old new n e m = subst (AreMatchesOf view rules) (sym e) (record { facts = m.facts; rules_are = m.rules_are })
 
 -- of the rules as the table lends them
 

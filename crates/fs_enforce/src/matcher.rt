@@ -1,16 +1,16 @@
 //! The rules that a packet walks.
 
-ghost use Rattle.std.specs.Prelude.{◌≡◌, ◌≤◌, ◌<◌, IfOk, List, length, map, vec_capacity};
+ghost use Rattle.std.specs.Prelude.{◌≡◌, ◌≤◌, ◌<◌, IfOk, length, map, vec_capacity};
 ghost use Rattle.std.specs.List.{list_any};
 ghost use Rattle.fs_actions.specs.Community.{is_discard};
 ghost use Rattle.fs_base.specs.declared.prefix.Family.TheVariants.{V4, V6};
 ghost use Rattle.fs_enforce.specs.Judge.{admitted_rules, lent_rules, rules_for};
-ghost use Rattle.fs_enforce.specs.Matcher.{FindsFrom, WalksBy};
+ghost use Rattle.fs_enforce.specs.Matcher.{WalksBy};
 ghost use Rattle.fs_compile.specs.Matcher.{StandsForLists};
 ghost use Rattle.fs_line.specs.Line.{line_of};
 ghost use Rattle.fs_line.specs.Output.{Sends};
 ghost use Rattle.fs_line.specs.Walked.{actions_walked, entries};
-ghost use Rattle.fs_rules.specs.Lent.{Listed, shown_admitted};
+ghost use Rattle.fs_rules.specs.Lent.{shown_admitted};
 ghost use Rattle.fs_rules.specs.Walk.{walk_of};
 
 use fs_base::{Failed, Family, Memory, Sink, Steps};
@@ -149,8 +149,8 @@ fn walk<'t, L: Ledger>(
     ensures walk { entries walked.new.items ≡ walk_of view.now (map shown_admitted rules.now) }
 {
     walked.clear();
-    let mut place = 0;
-    'rules: while let Some(found) = first_match(compiled, view, place, steps) {
+    let mut matches = compiled.matches(view);
+    'rules: while let Some(found) = matches.next(steps) {
         let actions = rules[found].actions;
         walked.push_reserved(Walked {
             number: found + 1,
@@ -159,24 +159,5 @@ fn walk<'t, L: Ledger>(
         if !actions.more() {
             return;
         }
-        place = found + 1;
-    }
-}
-
-/// The first place from `from` on of a rule that matches the packet.
-pub(crate) fn first_match<L: Ledger>(
-    compiled: &Compiled,
-    view: &View<'_>,
-    from: usize,
-    steps: &mut Steps<L>,
-) -> Option<usize>
-    ensures finds { (rules : List Listed)
-        → WalksBy view.now rules compiled.now
-        → FindsFrom from view.now rules result }
-{
-    if from == 0 {
-        compiled.first(view, steps)
-    } else {
-        compiled.next(view, from - 1, steps)
     }
 }

@@ -11,7 +11,6 @@ ghost use Rattle.fs_rules.specs.Lent.{Listed, listed};
 ghost use Rattle.fs_rules.specs.Table.{admitted};
 ghost use Rattle.fs_rules.specs.Walk.{walk_of};
 
-use crate::matcher::first_match;
 use fs_actions::Actions;
 use fs_base::{Family, Memory, Sink, Steps};
 use fs_compile::Compiled;
@@ -137,8 +136,8 @@ fn walk<'r, L: Ledger>(
         → WalksWith view.now list compiled.now rules.now
         → entries walked.new.items ≡ walk_of view.now list) }
 {
-    let mut place = 0;
-    'rules: while let Some(found) = first_match(compiled, view, place, steps) {
+    let mut matches = compiled.matches(view);
+    'rules: while let Some(found) = matches.next(steps) {
         let actions = &rules[found];
         walked.push(Walked {
             number: found + 1,
@@ -147,7 +146,6 @@ fn walk<'r, L: Ledger>(
         if !actions.more() {
             return Ok(());
         }
-        place = found + 1;
     }
     Ok(())
 }

@@ -112,6 +112,23 @@ fn compare<L: Ledger>(
     }
 }
 
+/// The matches of a packet one after the other, and that there is none behind them.
+fn compare_in_turn<L: Ledger>(
+    table: &Table<'_>,
+    compiled: &Compiled,
+    view: &View<'_>,
+    count: &mut Count,
+    steps: &mut Steps<L>,
+) {
+    let mut matches = compiled.matches(view);
+    for n in 0..table.count(view.family()) {
+        if table.walk(view, n) == Some(n) {
+            count.note(matches.next(steps), Some(n));
+        }
+    }
+    count.note(matches.next(steps), None);
+}
+
 /// Tries drawn packets of the family.
 fn try_packets<L: Ledger>(
     draws: &mut Draws,
@@ -125,7 +142,10 @@ fn try_packets<L: Ledger>(
     for _ in 0..PACKETS {
         let packet = draw_packet(draws, family);
         match view(Link::Raw, &packet) {
-            Ok(view) => compare(table, compiled, &view, wrong, &mut count, steps),
+            Ok(view) => {
+                compare(table, compiled, &view, wrong, &mut count, steps);
+                compare_in_turn(table, compiled, &view, &mut count, steps);
+            }
             Err(_) => return None,
         }
     }

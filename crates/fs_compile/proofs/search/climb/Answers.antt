@@ -1,14 +1,14 @@
-use Rattle.std.proofs.Common.{◌≡◌, ◌+◌, ◌-◌, ◌<◌, ◌≤◌, ℕ, length, get_or, count_by, max, sym, subst, arith}
+use Rattle.std.proofs.Common.{◌≡◌, ◌+◌, ◌<◌, ◌≤◌, ℕ, length, get_or, count_by, max, sym, subst, arith}
 use Rattle.fs_compile.specs.declared.nodes.Node.{Node}
 use Rattle.fs_compile.specs.Addresses.{numbers_in, nodes_in}
 use Rattle.fs_compile.specs.Search.{Missed, hits, marked, parent_at, start_at}
-use Rattle.fs_compile.proofs.Climbing.{marked_most, none_missed, parent_ends, tail_cost}
+use Rattle.fs_compile.proofs.Climbing.{climbed_cost, marked_most, missed_none, parent_ends}
 use Rattle.fs_compile.proofs.search.climb.Goals as goal
 
-pub returns-then-is_some-clause-steps : goal.returns-then-is_some-clause-steps
-returns-then-is_some-clause-steps g c = λ near n.
+pub returns-in-Some-clause-steps : goal.returns-in-Some-clause-steps
+returns-in-Some-clause-steps g c = λ near n.
     let inv = c.loop-bucket.invariant.steps near n in
-    let own = c.scan_bucket-found.ensures.steps near n in
+    let own = c.scan_bucket.ensures.steps near n in
     let most : marked (start_at c.args.buckets.now (parent_at c.args.buckets.now c.loop-bucket.bucket)) near ≤ count_by (λ b. b) near = marked_most (start_at c.args.buckets.now (parent_at c.args.buckets.now c.loop-bucket.bucket)) near in
     omega (arith, inv, own, most)
 
@@ -18,28 +18,33 @@ loop-bucket-preserved g c = record {
   ends = subst (λ (x : Node ℕ). x.parent < length (numbers_in c.args.buckets.now.lasts) → c.args.start.address ≤ get_or (numbers_in c.args.buckets.now.lasts) x.parent 0) (sym c.at-bucket.ensures)
       (parent_ends (numbers_in c.args.buckets.now.lasts) (nodes_in c.args.buckets.now.nodes) c.args.buckets.now.homes.items (length c.args.rules.now) c.args.start.address c.loop-bucket.bucket c.requires.sound inside
       (c.loop-bucket.invariant.ends inside));
-  later = let a = c.loop-bucket.invariant.later in let b = c.scan_bucket-found.ensures.later in omega (arith, a, b);
+  later = let a = c.loop-bucket.invariant.later in let b = c.scan_bucket.ensures.later in omega (arith, a, b);
   missed = λ near n w.
-      subst (λ (x : Node ℕ). Missed (hits c.args.view.now c.args.rules.now) c.args.start.from (start_at c.args.buckets.now x.parent)) (sym c.at-bucket.ensures)
-      (none_missed _ _ c.scan_bucket-found.result c.is_some.result (c.scan_bucket-found.ensures.found near n w (c.loop-bucket.invariant.missed near n w)) c.is_some.ensures c.if-is_some.false);
+      subst (λ (x : Node ℕ). Missed (hits c.args.facts.now c.args.rules.now) c.args.start.from (start_at c.args.buckets.now x.parent)) (sym c.at-bucket.ensures)
+      (missed_none _ _ c.scan_bucket.result (c.scan_bucket.ensures.found near n w (c.loop-bucket.invariant.missed near n w)) c.in_default.is);
   steps = λ near n.
-      subst (λ (x : Node ℕ). c.scan_bucket-found.new.steps ≤ c.args.steps.now + marked (start_at c.args.buckets.now x.parent) near) (sym c.at-bucket.ensures)
-      (let inv = c.loop-bucket.invariant.steps near n in let own = c.scan_bucket-found.ensures.steps near n in omega (arith, inv, own));
+      subst (λ (x : Node ℕ). c.scan_bucket.new.steps ≤ c.args.steps.now + marked (start_at c.args.buckets.now x.parent) near) (sym c.at-bucket.ensures)
+      (let inv = c.loop-bucket.invariant.steps near n in let own = c.scan_bucket.ensures.steps near n in omega (arith, inv, own));
 } where
   inside : c.loop-bucket.bucket < length (numbers_in c.args.buckets.now.lasts)
   inside = let t = c.loop-bucket-test.true in let l = c.len.ensures in omega (arith, t, l)
 
+pub returns-in_err-number-clause-steps : goal.returns-in_err-number-clause-steps
+returns-in_err-number-clause-steps g c = λ near n.
+    climbed_cost (numbers_in c.args.buckets.now.lasts) (nodes_in c.args.buckets.now.nodes) c.args.buckets.now.homes.items (length c.args.rules.now) c.args.start.address c.loop-bucket.bucket c.args.start.from c.max-tail.result
+    c.args.steps.now c.loop-bucket.steps c.scan.new.steps near c.requires.sound n last low (c.loop-bucket.invariant.steps near n) c.scan.ensures.steps where
+      last : c.loop-bucket.bucket ≡ length (numbers_in c.args.buckets.now.lasts)
+      last = let t = c.loop-bucket-test.false in let l = c.len.ensures in let w = c.loop-bucket.invariant.within in omega (arith, t, l, w)
+
+      low : c.max-tail.result ≡ max c.args.start.from (length c.args.buckets.now.homes.items)
+      low = let m = c.max-tail.ensures in let e = c.len-2.ensures in let o = c.args.buckets.now.homes.ok in omega (arith, m, e, o)
+
 pub returns-clause-steps : goal.returns-clause-steps
 returns-clause-steps g c = λ near n.
-    let inv = c.loop-bucket.invariant.steps near n in
-    let own = c.scan.ensures.steps in
-    let t = c.loop-bucket-test.false in
-    let l = c.len.ensures in
-    let w = c.loop-bucket.invariant.within in
-    let last : c.loop-bucket.bucket ≡ length (numbers_in c.args.buckets.now.lasts) = omega (arith, t, l, w) in
-    let rest : marked (start_at c.args.buckets.now c.loop-bucket.bucket) near + (length c.args.rules.now - c.max.result) ≤ count_by (λ b. b) near =
-    tail_cost (numbers_in c.args.buckets.now.lasts) (nodes_in c.args.buckets.now.nodes) c.args.buckets.now.homes.items (length c.args.rules.now) c.args.start.address c.loop-bucket.bucket c.args.start.from c.max.result near
-    c.requires.sound n last low in
-    omega (arith, inv, own, rest) where
-      low : c.max.result ≡ max c.args.start.from (length c.args.buckets.now.homes.items)
-      low = let m = c.max.ensures in let e = c.len-2.ensures in let o = c.args.buckets.now.homes.ok in omega (arith, m, e, o)
+    climbed_cost (numbers_in c.args.buckets.now.lasts) (nodes_in c.args.buckets.now.nodes) c.args.buckets.now.homes.items (length c.args.rules.now) c.args.start.address c.loop-bucket.bucket c.args.start.from c.max-tail.result
+    c.args.steps.now c.loop-bucket.steps c.scan.new.steps near c.requires.sound n last low (c.loop-bucket.invariant.steps near n) c.scan.ensures.steps where
+      last : c.loop-bucket.bucket ≡ length (numbers_in c.args.buckets.now.lasts)
+      last = let t = c.loop-bucket-test.false in let l = c.len.ensures in let w = c.loop-bucket.invariant.within in omega (arith, t, l, w)
+
+      low : c.max-tail.result ≡ max c.args.start.from (length c.args.buckets.now.homes.items)
+      low = let m = c.max-tail.ensures in let e = c.len-2.ensures in let o = c.args.buckets.now.homes.ok in omega (arith, m, e, o)

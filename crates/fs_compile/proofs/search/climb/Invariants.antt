@@ -8,8 +8,8 @@ invariant-loop-bucket g l = record {
   within : l.bucket ≤ length (numbers_in l.buckets.lasts);
   ends : l.bucket < length (numbers_in l.buckets.lasts) → l.start.address ≤ get_or (numbers_in l.buckets.lasts) l.bucket 0;
   later : l.initial.steps ≤ l.steps;
-  missed : (near : List Bool) → IsNear l.buckets l.start.address (length l.rules) near → Within (hits l.view l.rules) near
-      → Missed (hits l.view l.rules) l.start.from (start_at l.buckets l.bucket);
+  missed : (near : List Bool) → IsNear l.buckets l.start.address (length l.rules) near → Within (hits l.facts l.rules) near
+      → Missed (hits l.facts l.rules) l.start.from (start_at l.buckets l.bucket);
   steps : (near : List Bool) → IsNear l.buckets l.start.address (length l.rules) near
       → l.steps ≤ l.initial.steps + marked (start_at l.buckets l.bucket) near;
 }

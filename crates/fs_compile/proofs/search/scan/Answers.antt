@@ -1,12 +1,12 @@
 use Rattle.std.proofs.Common.{◌<◌, ◌≤◌, length, ap, ◌∙◌, arith}
-use Rattle.fs_compile.specs.Fast.{fast_holds}
+use Rattle.fs_compile.specs.Fast.{facts_hold}
 use Rattle.fs_compile.specs.Search.{hits}
 use Rattle.fs_compile.proofs.Climbing.{missed_more, test_fails}
 use Rattle.fs_compile.proofs.search.scan.Goals as goal
 
 pub loop-number-preserved : goal.loop-number-preserved
 loop-number-preserved g c = record {
-  missed = missed_more (hits c.args.view.now c.args.rules.now) c.args.from c.loop-number.number c.loop-number.invariant.missed (test_fails (fast_holds c.args.view.now) c.args.rules.now c.loop-number.number c.index-rules-number.result c.test_facts.result inside (c.test_facts.ensures.holds ∙ ap (fast_holds c.args.view.now) c.index-rules-number.is) c.if-test_facts.false);
+  missed = missed_more (hits c.args.facts.now c.args.rules.now) c.args.from c.loop-number.number c.loop-number.invariant.missed (test_fails (facts_hold c.args.facts.now) c.args.rules.now c.loop-number.number c.index-rules-number.result c.test_facts.result inside (c.test_facts.ensures.holds ∙ ap (facts_hold c.args.facts.now) c.index-rules-number.is) c.if-test_facts.false);
   later = let a : c.args.steps.now ≤ c.loop-number.steps = c.loop-number.invariant.later in let b = c.test_facts.ensures.step in omega (arith, a, b);
   steps =
       let a = c.loop-number.invariant.steps in
@@ -15,4 +15,4 @@ loop-number-preserved g c = record {
       omega (arith, a, b, d, c.loop-number-test.true);
 } where
   inside : c.loop-number.number < length c.args.rules.now
-  inside = omega (arith, c.loop-number-test.true, c.requires.within)
+  inside = omega (arith, c.loop-number-test.true, c.requires)

@@ -1,14 +1,14 @@
-use Rattle.std.proofs.Common.{◌<◌, ◌≤◌, ℕ, length, subst, arith}
+use Rattle.std.proofs.Common.{◌<◌, ◌≤◌, ℕ, length, ap, subst, arith}
 use Rattle.fs_compile.specs.declared.nodes.Node.{Node}
 use Rattle.fs_compile.specs.Addresses.{numbers_in, nodes_in}
 use Rattle.fs_compile.specs.Search.{hits, marked, parent_at, start_at}
-use Rattle.fs_compile.proofs.Climbing.{searched_found, searched_steps, skipped_cost, skipped_up}
+use Rattle.fs_compile.proofs.Climbing.{found_inside, next_starts, searched_found, searched_steps, skipped_cost, skipped_up}
 use Rattle.fs_compile.proofs.search.scan_bucket.Goals as goal
 
 pub returns-then-place-node-clause-found : goal.returns-then-place-node-clause-found
 returns-then-place-node-clause-found g c = λ near n w missed.
     skipped_up (numbers_in c.args.buckets.now.lasts) (nodes_in c.args.buckets.now.nodes) c.args.buckets.now.homes.items (length c.args.rules.now) c.args.place.address c.args.place.bucket c.args.place.from
-    (hits c.args.view.now c.args.rules.now) near c.requires.sound n w c.requires.within (subst (λ (x : Node ℕ). c.args.place.address < x.first) c.at-node.ensures c.if-place-node.true) missed
+    (hits c.args.facts.now c.args.rules.now) near c.requires.sound n w c.requires.within (subst (λ (x : Node ℕ). c.args.place.address < x.first) c.at-node.ensures c.if-place-node.true) missed
 
 pub returns-then-place-node-clause-steps : goal.returns-then-place-node-clause-steps
 returns-then-place-node-clause-steps g c = λ near n.
@@ -19,9 +19,19 @@ returns-then-place-node-clause-steps g c = λ near n.
 pub returns-clause-found : goal.returns-clause-found
 returns-clause-found g c = λ near n w missed.
     searched_found (numbers_in c.args.buckets.now.lasts) (nodes_in c.args.buckets.now.nodes) c.args.buckets.now.homes.items (length c.args.rules.now) c.args.place.address c.args.place.bucket c.args.place.from c.max.result
-    c.at-node.result c.at-end.result (hits c.args.view.now c.args.rules.now) near c.scan.result c.requires.sound n w c.requires.within c.requires.ends c.at-node.ensures c.at-end.ensures c.max.ensures missed c.scan.ensures.found
+    c.at-node.result c.at-end.result (hits c.args.facts.now c.args.rules.now) near c.scan.result c.requires.sound n w c.requires.within c.requires.ends c.at-node.ensures c.at-end.ensures c.max.ensures missed c.scan.ensures.found
 
 pub returns-clause-steps : goal.returns-clause-steps
 returns-clause-steps g c = λ near n.
     searched_steps (numbers_in c.args.buckets.now.lasts) (nodes_in c.args.buckets.now.nodes) c.args.buckets.now.homes.items (length c.args.rules.now) c.args.place.address c.args.place.bucket c.args.place.from c.max.result
     c.args.steps.now c.scan.new.steps c.at-node.result c.at-end.result near c.requires.sound n c.requires.within c.requires.ends c.at-node.ensures c.at-end.ensures c.max.ensures c.if-place-node.false c.scan.ensures.steps
+
+pub returns-clause-inside : goal.returns-clause-inside
+returns-clause-inside g c =
+    found_inside (hits c.args.facts.now c.args.rules.now) c.max.result c.at-end.result.start (start_at c.args.buckets.now c.args.place.bucket) (length c.args.rules.now) c.scan.result low high c.scan.ensures.found where
+      low : start_at c.args.buckets.now c.args.place.bucket ≤ c.max.result
+      low = let m = c.max.ensures in let s = ap (λ (node : Node ℕ). node.start) c.at-node.ensures in omega (arith, m, s)
+
+      high : c.at-end.result.start ≤ length c.args.rules.now
+      high = let n = next_starts (numbers_in c.args.buckets.now.lasts) (nodes_in c.args.buckets.now.nodes) c.args.buckets.now.homes.items (length c.args.rules.now) c.args.place.bucket c.requires.sound c.requires.within in
+          let s = ap (λ (node : Node ℕ). node.start) c.at-end.ensures in omega (arith, n.2, s)

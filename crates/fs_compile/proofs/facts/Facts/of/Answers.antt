@@ -1,4 +1,5 @@
-use Rattle.std.proofs.Common.{ℕ, ◌^◌, ◌<◌, ◌∙◌, [], ◌∷◌, refl, subst, ap, arith}
+use Rattle.std.proofs.Common.{ℕ, ◌^◌, ◌<◌, ◌∙◌, [], ◌∷◌, refl, sym, subst, ap, arith}
+use Rattle.fs_packet.specs.Fields.{family_of}
 use Rattle.fs_compile.specs.Facts.{IsSmallAddress, IsSmallField, address_number, field_number}
 use Rattle.fs_compile.proofs.facts.Facts.of.Goals as goal
 
@@ -39,4 +40,5 @@ returns c = record {
     length = subst (λ (n : ℕ). n < 2 ^ 32) c.length.ensures c.length.type_inv;
     dscp = (let low : c.dscp.result < 2 ^ 32 = omega arith in subst (λ (n : ℕ). n < 2 ^ 32) c.dscp.ensures low);
   };
+  same_family = sym (ap family_of c.destination-destination.ensures.value) ∙ c.destination-destination.ensures.family;
 }

@@ -1,0 +1,102 @@
+//! The rules that match a packet, one after the other.
+
+ghost use Rattle.std.specs.Prelude.{◌≡◌, ◌≤◌, ◌+◌, ◌<◌, IfSome, List, length};
+ghost use Rattle.fs_packet.specs.Fields.{Viewed};
+ghost use Rattle.fs_rules.specs.Lent.{Listed};
+ghost use Rattle.fs_compile.specs.Facts.{AreFacts};
+ghost use Rattle.fs_compile.specs.Matcher.{next_from};
+ghost use Rattle.fs_compile.specs.Matches.{AreMatchesOf, behind};
+ghost use Rattle.fs_compile.specs.Reach.{number_of, reaching};
+
+use crate::facts::Facts;
+use crate::index::Index;
+use crate::search::Place;
+use fs_base::{Address, Steps};
+use fs_packet::View;
+use std::marker::Model;
+use std::sync::ledger::Ledger;
+
+/// The rules of a packet's family that match it, in order. The packet's fields are read once, and each search goes on
+/// where the last one ended.
+#[derive(Drop)]
+pub struct Matches<'a> {
+    index: &'a Index,
+    facts: Facts<'a>,
+    place: Place,
+}
+
+impl<'a> Model for Matches<'a> {
+    ghost use Rattle.std.specs.Prelude.{◌≡◌};
+    ghost use Rattle.fs_compile.specs.Matches.{Matching};
+    ghost use Rattle.fs_compile.specs.Reach.{number_of};
+    ghost use Rattle.fs_compile.specs.Search.{Starts};
+
+    ghost Value = { Matching };
+
+    ghost view = { λ a. record { index = a.index.now; facts = a.facts; from = a.place.from } };
+
+    ghost invariant = { λ a.
+        Starts a.index.now.buckets a.place × (a.place.address ≡ number_of a.facts.destination) };
+}
+
+impl<'a> Matches<'a> {
+    /// From the first rule on.
+    #[inline(always)]
+    pub(crate) fn of(index: &'a Index, view: &'a View<'a>) -> Matches<'a>
+        ensures index { result.index ≡ index.now }
+        ensures facts { AreFacts view.now result.facts }
+        ensures from { result.from ≡ 0 }
+    {
+        Matches {
+            index,
+            facts: Facts::of(view),
+            place: index.start(address_of(view)),
+        }
+    }
+
+    /// From the rule behind that of number `n` on.
+    pub(crate) fn behind(index: &'a Index, view: &'a View<'a>, n: usize) -> Matches<'a>
+        requires { n < length index.now.rules }
+        ensures index { result.index ≡ index.now }
+        ensures facts { AreFacts view.now result.facts }
+        ensures from { result.from ≡ n + 1 }
+    {
+        Matches {
+            index,
+            facts: Facts::of(view),
+            place: index.behind(address_of(view), n),
+        }
+    }
+
+    /// The number, from 0, of the next rule that matches. At most as many steps as the family has rules whose
+    /// destination covers the packet's, or that have none (of IPv6 none with offset 0). Takes no memory.
+    #[inline(always)]
+    pub fn next<L: Ledger>(&mut self, steps: &mut Steps<L>) -> Option<usize>
+        ensures next { (view : Viewed) (rules : List Listed)
+            → AreMatchesOf view rules self.old
+            → result ≡ next_from self.old.from view rules }
+        ensures inside { (view : Viewed) (rules : List Listed)
+            → AreMatchesOf view rules self.old
+            → IfSome result (λ n. (self.old.from ≤ n) × (n < length rules)) }
+        ensures behind { self.new ≡ behind result self.old }
+        ensures later { steps.old ≤ steps.new }
+        ensures steps { (view : Viewed) (rules : List Listed)
+            → AreMatchesOf view rules self.old
+            → steps.new ≤ steps.old + reaching view rules }
+    {
+        let hit = self.index.search(&self.facts, self.place, steps)?;
+        self.place.bucket = hit.bucket;
+        self.place.from = hit.number + 1;
+        Some(hit.number)
+    }
+}
+
+#[inline(always)]
+fn address_of(view: &View<'_>) -> u128
+    ensures { result ≡ number_of view.now.destination }
+{
+    match view.destination() {
+        Address::V4(address) => address.into(),
+        Address::V6(address) => address,
+    }
+}
