@@ -349,8 +349,9 @@ impl Runner {
         Ok(())
     }
 
-    /// How many calls can fail: with each of them the run ends with 1 and has written a front of what it must write,
-    /// and behind the last it ends with the status that is due and has written all. None where a run ends otherwise.
+    /// How many calls can fail: with each of them the run ends with 1 and has written a front of what it must write, of
+    /// whole lines where a call of the files fails, and behind the last it ends with the status that is due and has
+    /// written all. None where a run ends otherwise.
     fn calls(&mut self, called: Called) -> Result<Option<u64>, Fault> {
         for call in 0..CALLS {
             self.terms.fail_none();
@@ -365,11 +366,28 @@ impl Runner {
             if outcome.status == self.due && written == whole {
                 return Ok(Some(call));
             }
-            if outcome.status != 1 || !whole.starts_with(written) {
+            if outcome.status != 1 || !may_stop(called, written, whole) {
                 return Ok(None);
             }
         }
         Ok(None)
+    }
+}
+
+/// Whether a run that must write the whole may have stopped behind this, as a call of these failed.
+fn may_stop(called: Called, written: &[u8], whole: &[u8]) -> bool {
+    let within = match called {
+        Called::Files => is_of_lines(whole) && !is_of_lines(written),
+        Called::Output | Called::Wire => false,
+    };
+    whole.starts_with(written) && !within
+}
+
+/// Whether this is lines, each with its end; none too.
+fn is_of_lines(octets: &[u8]) -> bool {
+    match octets.last() {
+        Some(octet) => *octet == b'\n',
+        None => true,
     }
 }
 
