@@ -1,5 +1,5 @@
-//! The compiled rules beside the plain walk over them: drawn rules of all types and drawn packets of both families; and
-//! a few that were worked out by hand.
+//! The compiled rules beside the plain walk over them: drawn rules of all types and drawn packets of both families; a
+//! few that were worked out by hand; and the report of rules that can never act beside the check of each pair.
 #![tactic(auto)]
 
 mod addresses;
@@ -7,6 +7,7 @@ mod fault;
 mod frames;
 mod octets;
 mod packets;
+mod shadows;
 mod trying;
 mod worked;
 
@@ -14,6 +15,7 @@ ghost use Rattle.std.specs.Prelude.{◌≡◌, ◌<◌};
 
 use fault::Fault;
 use fs_base::{Config, Family, Peers, Steps};
+use shadows::try_shadows;
 use std::marker::Brand;
 use std::process::ExitCode;
 use std::sync::ledger::{Blank, Ledger};
@@ -87,6 +89,10 @@ fn run<L: Ledger>(blank: Blank, rt: &HostRuntime) -> Result<(), Fault>
     print_count(rt, "v4", &v4)?;
     let v6 = try_family(rt, &config, Family::V6, TABLES, false, &mut steps)?;
     print_count(rt, "v6", &v6)?;
+    let v4 = try_shadows(rt.alloc(), &config, Family::V4, 0, &mut steps)?;
+    print_count(rt, "v4, earlier rules that contain a rule", &v4)?;
+    let v6 = try_shadows(rt.alloc(), &config, Family::V6, 0, &mut steps)?;
+    print_count(rt, "v6, earlier rules that contain a rule", &v6)?;
     let wrong = try_family(rt, &config, Family::V4, 1, true, &mut steps)?;
     print_count(rt, "beside a walk that is wrong", &wrong)
 }

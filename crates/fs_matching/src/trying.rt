@@ -45,7 +45,7 @@ impl Count {
     }
 
     /// Counts two answers to one question.
-    fn note(&mut self, compiled: Option<usize>, plain: Option<usize>) {
+    pub fn note(&mut self, compiled: Option<usize>, plain: Option<usize>) {
         self.compared = self.compared.wrapping_add(1);
         if plain.is_some() {
             self.found = self.found.wrapping_add(1);
@@ -77,17 +77,18 @@ fn rule_of(alloc: Global, family: Family, frame: &Octets) -> Result<Rule, Fault>
     }
 }
 
-/// Puts drawn rules of the family into the table.
-fn put_rules<L: Ledger>(
+/// Puts so many drawn rules of the family into the table.
+pub fn put_rules<L: Ledger>(
     alloc: Global,
     draws: &mut Draws,
     family: Family,
+    rules: u32,
     table: &mut Table<'_>,
     steps: &mut Steps<L>,
 ) -> Result<(), Fault> {
     let mut body = Octets::new(alloc);
     let mut frame = Octets::new(alloc);
-    for _ in 0..RULES {
+    for _ in 0..rules {
         draw_frame(draws, family, &mut body, &mut frame);
         let rule = rule_of(alloc, family, &frame)?;
         table.put_flow(1, rule, own_path(alloc), Actions::none(alloc), steps)?;
@@ -163,7 +164,7 @@ pub fn try_table<L: Ledger>(
 ) -> Result<Count, Fault> {
     let mut draws = Draws::new(seed);
     let mut table = Table::new(alloc, config);
-    put_rules(alloc, &mut draws, family, &mut table, steps)?;
+    put_rules(alloc, &mut draws, family, RULES, &mut table, steps)?;
     let compiled = Compiled::build(alloc, &table)?;
     match try_packets(&mut draws, family, &table, &compiled, wrong, steps) {
         Some(count) => Ok(count),
