@@ -478,6 +478,10 @@ WRONG = [
         "fs_unicast/turn_at_the_place_goes fs_unicast/needed_turn_goes fs_unicast/other_as_without_a_turn",
     ),
     (
+        "a turn stays that parts no two routes",
+        "fs_unicast/removal_leaves_an_idle_turn fs_unicast/no_look_for_idle_turns",
+    ),
+    (
         "the check of a shadowed rule always says yes",
         "fs_shadow/confirm_always_answers_true",
     ),

@@ -2,10 +2,13 @@
 use Rattle.std.specs.Prelude.{ℕ, ◌≡◌, ◌==◌, Bool, not, ◌&&◌, ◌||◌, true, false, Option, Some, None, List, [], ◌∷◌, find, if◌then◌else◌}
 use Rattle.std.specs.Borrow.{Bor}
 use Rattle.fs_base.specs.declared.path.Path.{Path}
-use Rattle.std.specs.BTreeMap.{is_at}
+use Rattle.std.specs.BTreeMap.{insert_entry, is_at}
+use Rattle.std.specs.BTreeSet.{insert_key}
 use Rattle.std.specs.List.{AllByRecursion, list_any, list_all}
+use Rattle.std.specs.List.Sorted.{IsStrictlySortedBy}
 use Rattle.std.specs.Option.{option_eq}
 use Rattle.std.specs.Ordering.{is_eq, is_le, is_lt}
+use Rattle.std.specs.Map.{keys_of}
 use Rattle.std.specs.Set.{remove_key}
 use Rattle.fs_unicast.specs.declared.unicast.Place.{Place}
 use Rattle.fs_unicast.specs.Neighbour.{neighbour}
@@ -47,6 +50,11 @@ stands_at z (Some r) = is_eq (place_cmp z r.0)
 abbrev pub is_alike : Option ℕ → Option Route → Bool
 is_alike asn None = true
 is_alike asn (Some r) = is_same (neighbour_of r) asn
+
+-- the two routes have the same neighbouring AS, or one of them isn't there
+abbrev pub are_alike : Option Route → Option Route → Bool
+are_alike before None = true
+are_alike before (Some r) = is_alike (neighbour_of r) before
 
 -- the places are parted at the route, if one is there whose neighbouring AS isn't this
 abbrev pub IsPartedAt : List Place → Option ℕ → Option Route → Type 0
@@ -91,6 +99,23 @@ abbrev pub parts_alone : List Place → Place → Route → Route → Bool
 parts_alone turns t x y =
     lies_between x.0 y.0 t && (not (is_same (neighbour_of x) (neighbour_of y)) && is_alone turns x.0 y.0 t)
 
+-- the turns, with one at the place unless the route before it has this neighbouring AS
+abbrev pub put_before : Option ℕ → Option Route → Place → List Place → List Place
+put_before asn before z turns = if is_alike asn before then turns else insert_key place_cmp turns z
+
+-- the turns, with one at the route after a place unless it has this neighbouring AS
+abbrev pub put_after : Option ℕ → Option Route → List Place → List Place
+put_after asn None turns = turns
+put_after asn (Some r) turns = if is_same (neighbour_of r) asn then turns else insert_key place_cmp turns r.0
+
+-- a turn that these put is there already
+abbrev pub was_before : Option ℕ → Option Route → Place → List Place → Bool
+was_before asn before z turns = not (is_alike asn before) && list_any (is_at (place_cmp z)) turns
+
+abbrev pub was_after : Option ℕ → Option Route → List Place → Bool
+was_after asn None turns = false
+was_after asn (Some r) turns = not (is_same (neighbour_of r) asn) && list_any (is_at (place_cmp r.0)) turns
+
 -- some two routes are parted by t alone; else it is idle
 abbrev pub is_needed : List Place → List Route → Place → Bool
 is_needed turns held t = list_any (λ x. list_any (parts_alone turns t x) held) held
@@ -105,6 +130,32 @@ abbrev pub tidied : List Route → List Place → Place → List Place
 tidied held turns z =
     let rest = without_idle held turns (find_last (λ t. is_le (place_cmp t z)) turns) in
     without_idle held rest (find (λ t. is_lt (place_cmp z t)) rest)
+
+-- no turn is idle
+abbrev pub NoneIdle : List Place → List Route → Type 0
+NoneIdle turns held = AllByRecursion (λ t. is_needed turns held t ≡ true) turns
+
+-- The routes are in order, and between two of other neighbouring AS lies a turn. No turn is idle, so between two that
+-- stand beside one another lies one turn at most.
+pub record AreKept (turns : List Place) (held : List Route) : Type 0 where
+  pub ordered : IsStrictlySortedBy place_cmp (keys_of held)
+  pub parted : IsParted turns held
+  pub needed : NoneIdle turns held
+
+-- only turns beside the place may be idle: without the idle ones of the two beside it none is
+abbrev pub NoneIdleBut : List Place → List Route → Place → Type 0
+NoneIdleBut turns held z = IsStrictlySortedBy place_cmp turns → NoneIdle (tidied held turns z) held
+
+-- no turn is idle once a path that names this neighbouring AS stands at the place
+abbrev pub IsSettled : List Place → List Route → Place → Option ℕ → Type 0
+IsSettled turns held z asn =
+    (path : Path) → neighbour path.segments ≡ asn → NoneIdle turns (insert_entry place_cmp held z path)
+
+-- only turns beside the place may be idle then
+abbrev pub Settles : List Place → List Route → Place → Option ℕ → Type 0
+Settles turns held z asn =
+    (path : Path) → neighbour path.segments ≡ asn → IsStrictlySortedBy place_cmp (keys_of (insert_entry place_cmp held z path))
+    → NoneIdleBut turns (insert_entry place_cmp held z path) z
 
 -- a route of the map, as it is lent
 abbrev pub entry_now : Bor Place × Bor Path → Route

@@ -3,11 +3,11 @@
 ghost use Rattle.std.specs.Prelude.{◌≡◌, ◌↔◌, [], false, IfOk, OnOk, OnErr, is_some, ◌&&◌};
 ghost use Rattle.std.specs.BTreeMap.{insert_entry, is_at};
 ghost use Rattle.std.specs.List.{list_any};
-ghost use Rattle.std.specs.Map.{remove_entry, lookup};
+ghost use Rattle.std.specs.List.Sorted.{IsStrictlySortedBy};
+ghost use Rattle.std.specs.Map.{keys_of, remove_entry, lookup};
 ghost use Rattle.fs_unicast.specs.Search.{is_other};
 ghost use Rattle.fs_unicast.specs.Unicast.{place_cmp};
-ghost use Rattle.fs_unicast.specs.Turns.{is_within};
-ghost use Rattle.fs_unicast.specs.declared.routes.Change.TheVariants.{Same};
+ghost use Rattle.fs_unicast.specs.Turns.{is_within, IsParted, NoneIdle, NoneIdleBut};
 
 use crate::neighbour::neighbour;
 use crate::shared::{SharedPath, has_path, share_beside};
@@ -20,7 +20,8 @@ use std::marker::Model;
 
 /// The routes by their places. Between two routes of other neighbouring AS lies a turn, so a search for another
 /// neighbouring AS goes from turn to turn and not from route to route. A turn may stay where no route is left,
-/// so to take a route away takes no memory. Routes beside one another share an equal path.
+/// so to take a route away takes no memory, but none stays that parts no two routes. Routes beside one another share
+/// an equal path.
 #[derive(Drop)]
 pub struct Routes {
     alloc: Global,
@@ -32,24 +33,13 @@ impl Model for Routes {
     ghost use Rattle.std.specs.Prelude.{List};
     ghost use Rattle.fs_base.specs.declared.path.Path.{Path};
     ghost use Rattle.fs_unicast.specs.declared.unicast.Place.{Place};
-    ghost use Rattle.fs_unicast.specs.Turns.{IsParted};
+    ghost use Rattle.fs_unicast.specs.Turns.{AreKept};
 
     ghost Value = { List (Place × Path) };
 
     ghost view = { λ a. a.paths.entries };
 
-    ghost invariant = { λ a. IsParted a.turns.keys a.paths.entries };
-}
-
-/// What a path that is kept changes.
-#[derive(Clone, Copy, Drop)]
-enum Change {
-    /// Nothing: the path was there.
-    Same,
-    /// The route, and no turn is idle for that.
-    Tidy,
-    /// The route, and a turn beside it may be idle now.
-    Untidy,
+    ghost invariant = { λ a. AreKept a.turns.keys a.paths.entries };
 }
 
 impl Routes {
@@ -78,51 +68,13 @@ impl Routes {
         ensures told { IfOk result (λ changed. (changed ≡ false) ↔ self.new ≡ self.old) }
         ensures err { OnErr result (self.new ≡ self.old) }
     {
-        match self.keep(place, path) {
-            Ok(Change::Same) => Ok(false),
-            Ok(Change::Tidy) => Ok(true),
-            Ok(Change::Untidy) => {
-                turns::tidy(&self.paths, &mut self.turns, &place);
-                Ok(true)
-            }
+        match keep(self.alloc, &mut self.paths, &mut self.turns, place, path) {
+            Ok(changed) => Ok(changed),
             Err(refused) => {
                 turns::tidy(&self.paths, &mut self.turns, &place);
                 Err(refused)
             }
         }
-    }
-
-    /// Keeps the path at the place, with turns beside it. Turns that were put before memory is refused stay.
-    fn keep(&mut self, place: Place, path: Path) -> Result<Change, Memory>
-        ensures ok { OnOk result (self.new ≡ insert_entry place_cmp self.old place path) }
-        ensures told { IfOk result (λ change. (change ≡ Same) ↔ self.new ≡ self.old) }
-        ensures err { OnErr result (self.new ≡ self.old) }
-    {
-        let asn = neighbour(path.segments.as_slice());
-        let next = turns::first_from(&self.paths, &place);
-        let taken = turns::stands_at(next, &place);
-        if taken && has_path(next, &path) {
-            return Ok(Change::Same);
-        }
-        if taken && turns::is_alike(next, asn) {
-            self.paths
-                .insert(place, SharedPath::new(self.alloc, path)?)?;
-            return Ok(Change::Tidy);
-        }
-        let after = turns::first_behind(&self.paths, &place, next);
-        let before = turns::last_before(&self.paths, &place);
-        let shared = share_beside(self.alloc, path, before, after)?;
-        let idle = turns::part(
-            &self.paths,
-            &mut self.turns,
-            &place,
-            before,
-            next,
-            after,
-            asn,
-        )?;
-        self.paths.insert(place, shared)?;
-        Ok(if idle { Change::Untidy } else { Change::Tidy })
     }
 
     /// Takes the route at the place away, and tells whether there was one.
@@ -142,4 +94,44 @@ impl Routes {
     {
         turns::others_within(&self.paths, &self.turns, low, high, local_as, asn)
     }
+}
+
+/// Keeps the path at the place, with turns beside it, and tells whether that changes anything. Turns that were put
+/// before memory is refused stay.
+fn keep(
+    alloc: Global,
+    paths: &mut BTreeMap<Place, SharedPath>,
+    turns: &mut BTreeSet<Place>,
+    place: Place,
+    path: Path,
+) -> Result<bool, Memory>
+    requires parted { IsParted turns.old.keys paths.old.entries }
+    requires needed { NoneIdle turns.old.keys paths.old.entries }
+    ensures ok { OnOk result (paths.new.entries ≡ insert_entry place_cmp paths.old.entries place path) }
+    ensures told { IfOk result (λ changed. (changed ≡ false) ↔ paths.new.entries ≡ paths.old.entries) }
+    ensures err { OnErr result (paths.new.entries ≡ paths.old.entries) }
+    ensures ordered { IsStrictlySortedBy place_cmp (keys_of paths.new.entries) }
+    ensures parted { IsParted turns.new.keys paths.new.entries }
+    ensures needed { OnOk result (NoneIdle turns.new.keys paths.new.entries) }
+    ensures left { OnErr result (NoneIdleBut turns.new.keys paths.new.entries place) }
+{
+    let asn = neighbour(path.segments.as_slice());
+    let next = turns::first_from(paths, &place);
+    let taken = turns::stands_at(next, &place);
+    if taken && has_path(next, &path) {
+        return Ok(false);
+    }
+    if taken && turns::is_alike(next, asn) {
+        paths.insert(place, SharedPath::new(alloc, path)?)?;
+        return Ok(true);
+    }
+    let after = turns::first_behind(paths, &place, next);
+    let before = turns::last_before(paths, &place);
+    let shared = share_beside(alloc, path, before, after)?;
+    let idle = turns::part(paths, turns, &place, before, next, after, asn)?;
+    paths.insert(place, shared)?;
+    if idle {
+        turns::tidy(paths, turns, &place);
+    }
+    Ok(true)
 }

@@ -1,15 +1,18 @@
 //! The turns among the routes, and the routes beside a place.
 
-ghost use Rattle.std.specs.Prelude.{◌≡◌, true, false, OnOk, option_map, find, ◌&&◌};
+ghost use Rattle.std.specs.Prelude.{◌≡◌, true, false, IfOk, OnOk, OnErr, option_map, find, ◌&&◌, ◌||◌};
 ghost use Rattle.std.specs.Option.{option_copied};
 ghost use Rattle.std.specs.Ordering.{is_le, is_lt};
+ghost use Rattle.std.specs.BTreeMap.{insert_entry, is_at};
+ghost use Rattle.std.specs.BTreeSet.{insert_key};
 ghost use Rattle.std.specs.List.{list_any};
 ghost use Rattle.std.specs.Map.{keys_of};
 ghost use Rattle.std.specs.List.Sorted.{IsStrictlySortedBy};
 ghost use Rattle.fs_unicast.specs.Search.{is_other};
 ghost use Rattle.fs_unicast.specs.Neighbour.{neighbour};
 ghost use Rattle.fs_unicast.specs.Unicast.{place_cmp};
-ghost use Rattle.fs_unicast.specs.Turns.{entry_now, stands_at, is_alike, is_same, is_within, lies_between, are_parted, find_last, is_alone, is_needed, without_idle, tidied, IsParted, IsPartedAt, IsPartedBefore, IsPartedAfter, StaysParted, PartsAt, is_inside};
+ghost use Rattle.fs_base.specs.declared.path.Path.{Path};
+ghost use Rattle.fs_unicast.specs.Turns.{entry_now, stands_at, is_alike, are_alike, is_same, is_within, lies_between, are_parted, find_last, is_alone, is_needed, without_idle, tidied, put_before, put_after, was_before, was_after, IsParted, IsPartedAt, IsPartedBefore, IsPartedAfter, StaysParted, PartsAt, NoneIdle, NoneIdleBut, IsSettled, Settles, is_inside};
 
 use crate::neighbour::neighbour_as;
 use crate::shared::SharedPath;
@@ -39,7 +42,9 @@ pub fn is_alike(route: Option<(&Place, &SharedPath)>, asn: Option<u32>) -> bool
 }
 
 /// Whether the paths of two routes name the same neighbouring AS, or one of the routes isn't there.
-fn are_alike(before: Option<(&Place, &SharedPath)>, after: Option<(&Place, &SharedPath)>) -> bool {
+fn are_alike(before: Option<(&Place, &SharedPath)>, after: Option<(&Place, &SharedPath)>) -> bool
+    ensures { result ≡ are_alike (option_map entry_now before.entry) (option_map entry_now after.entry) }
+{
     match after {
         Some((_, held)) => is_alike(before, held.neighbour()),
         None => true,
@@ -64,9 +69,13 @@ pub fn part(
     requires before { option_map entry_now before ≡ find_last (λ r. is_lt (place_cmp r.0 place.now)) paths.now.entries }
     requires next { option_map entry_now next ≡ find (λ r. is_le (place_cmp place.now r.0)) paths.now.entries }
     requires after { option_map entry_now after ≡ find (λ r. is_lt (place_cmp place.now r.0)) paths.now.entries }
+    requires needed { NoneIdle turns.old.keys paths.now.entries }
     ensures parted { IsParted turns.new.keys paths.now.entries }
     ensures before { OnOk result (IsPartedBefore turns.new.keys paths.now.entries place.now asn) }
     ensures after { OnOk result (IsPartedAfter turns.new.keys paths.now.entries place.now asn) }
+    ensures settled { IfOk result (λ look. look ≡ false → IsSettled turns.new.keys paths.now.entries place.now asn) }
+    ensures settles { OnOk result (Settles turns.new.keys paths.now.entries place.now asn) }
+    ensures left { NoneIdleBut turns.new.keys paths.now.entries place.now }
 {
     let there = part_beside(paths, turns, place, before, after, asn)?;
     if stands_at(next, place) {
@@ -96,11 +105,19 @@ fn part_beside(
     requires ordered { IsStrictlySortedBy place_cmp (keys_of paths.now.entries) }
     requires before { option_map entry_now before ≡ find_last (λ r. is_lt (place_cmp r.0 place.now)) paths.now.entries }
     requires after { option_map entry_now after ≡ find (λ r. is_lt (place_cmp place.now r.0)) paths.now.entries }
+    requires needed { NoneIdle turns.old.keys paths.now.entries }
     ensures parted { IsParted turns.new.keys paths.now.entries }
     ensures before { OnOk result (IsPartedBefore turns.new.keys paths.now.entries place.now asn) }
     ensures after { OnOk result (IsPartedAfter turns.new.keys paths.now.entries place.now asn) }
     ensures here { OnOk result
         (is_alike asn (option_map entry_now before.entry) ≡ false → PartsAt turns.new.keys place.now) }
+    ensures put { OnOk result (turns.new.keys ≡ put_after asn (option_map entry_now after.entry)
+        (put_before asn (option_map entry_now before.entry) place.now turns.old.keys)) }
+    ensures there { IfOk result (λ there. there
+        ≡ (was_before asn (option_map entry_now before.entry) place.now turns.old.keys
+        || was_after asn (option_map entry_now after.entry)
+        (put_before asn (option_map entry_now before.entry) place.now turns.old.keys))) }
+    ensures left { NoneIdleBut turns.new.keys paths.now.entries place.now }
 {
     let here = part_before(turns, before, place, asn)?;
     let behind = part_after(turns, after, asn)?;
@@ -118,6 +135,11 @@ fn part_before(
     ensures ok { OnOk result
         (is_alike asn (option_map entry_now before.entry) ≡ false → PartsAt turns.new.keys place.now) }
     ensures stays { StaysParted turns.old.keys turns.new.keys }
+    ensures put { OnOk result (turns.new.keys
+        ≡ put_before asn (option_map entry_now before.entry) place.now turns.old.keys) }
+    ensures there { IfOk result (λ there. there
+        ≡ was_before asn (option_map entry_now before.entry) place.now turns.old.keys) }
+    ensures err { OnErr result (turns.new.keys ≡ turns.old.keys) }
 {
     if is_alike(before, asn) {
         Ok(false)
@@ -134,6 +156,9 @@ fn part_after(
 ) -> Result<bool, Memory>
     ensures ok { OnOk result (IsPartedAt turns.new.keys asn (option_map entry_now after.entry)) }
     ensures stays { StaysParted turns.old.keys turns.new.keys }
+    ensures put { OnOk result (turns.new.keys ≡ put_after asn (option_map entry_now after.entry) turns.old.keys) }
+    ensures there { IfOk result (λ there. there ≡ was_after asn (option_map entry_now after.entry) turns.old.keys) }
+    ensures err { OnErr result (turns.new.keys ≡ turns.old.keys) }
 {
     match after {
         Some((turn, path)) if !has_neighbour(path, asn) => put_turn(turns, *turn),
@@ -180,6 +205,9 @@ fn is_other(path: &SharedPath, local_as: u32, asn: Option<u32>) -> bool
 fn put_turn(turns: &mut BTreeSet<Place>, turn: Place) -> Result<bool, Memory>
     ensures ok { OnOk result (PartsAt turns.new.keys turn) }
     ensures stays { StaysParted turns.old.keys turns.new.keys }
+    ensures put { OnOk result (turns.new.keys ≡ insert_key place_cmp turns.old.keys turn) }
+    ensures there { IfOk result (λ there. there ≡ list_any (is_at (place_cmp turn)) turns.old.keys) }
+    ensures err { OnErr result (turns.new.keys ≡ turns.old.keys) }
 {
     let is_new = turns.insert(turn)?;
     Ok(!is_new)
@@ -286,17 +314,20 @@ fn next_turn(turns: &BTreeSet<Place>, place: &Place) -> Option<Place>
 
 /// The last turn up to the place.
 fn last_turn(turns: &BTreeSet<Place>, place: &Place) -> Option<Place>
-    ensures { result ≡ find_last (λ t. is_le (place_cmp t place.now)) turns.now.keys }
+    ensures found { result ≡ find_last (λ t. is_le (place_cmp t place.now)) turns.now.keys }
+    ensures ordered { IsStrictlySortedBy place_cmp turns.now.keys }
 {
     turns.range(..=*place).next_back().copied()
 }
 
 /// Takes the turns beside the place away that are idle: the last one up to it, and then the first one after it. To
-/// be called after a change at the place. Takes no memory.
+/// be called after a change at the place, which leaves no other turn idle. Takes no memory.
 pub fn tidy(paths: &BTreeMap<Place, SharedPath>, turns: &mut BTreeSet<Place>, place: &Place)
-    requires { IsParted turns.old.keys paths.now.entries }
+    requires parted { IsParted turns.old.keys paths.now.entries }
+    requires beside { NoneIdleBut turns.old.keys paths.now.entries place.now }
     ensures tidied { turns.new.keys ≡ tidied paths.now.entries turns.old.keys place.now }
     ensures parted { IsParted turns.new.keys paths.now.entries }
+    ensures needed { NoneIdle turns.new.keys paths.now.entries }
 {
     drop_idle(paths, turns, last_turn(turns, place));
     drop_idle(paths, turns, next_turn(turns, place));
