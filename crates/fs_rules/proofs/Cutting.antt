@@ -106,13 +106,6 @@ around_block rule (b ∷ bs) h cut sorted = around_begun rule b bs cut.apart cut
 pub around_from : (rule r : Ruled) (bs ds : List (List Kept)) (n : ℕ) → n ≡ block_of r ds → r ≡ rule → ds ≡ bs → 0 < length bs → IsCut bs → AreSorted (routes_of (flat bs)) → Around rule n bs
 around_from rule r bs ds n e f g h cut sorted = subst (λ m. Around rule m bs) (sym (e ∙ ap₂ block_of f g)) (around_block rule bs h cut sorted)
 
-pub inside_begun : (rule : Ruled) (bs : List (List Kept)) → begun rule bs ≤ length bs
-inside_begun rule [] = omega arith
-inside_begun rule (b ∷ bs) = at (begins_by rule b) (inside_begun rule bs) where
-  at : (o : Bool) → begun rule bs ≤ length bs → cond o (1 + begun rule bs) 0 ≤ suc (length bs)
-  at true ih = omega (arith, ih)
-  at false ih = omega arith
-
 -- A route put into the block in which its rule has its place.
 pub flat_put : (k : Kept) (bs : List (List Kept)) (n : ℕ) (b : List Kept) → b ≡ get_or bs n b → Around k.route.rule n bs → flat (set bs n (put_kept k b)) ≡ put_kept k (flat bs)
 flat_put k [] n b e h = absurd h

@@ -1,7 +1,6 @@
 //! The unicast routes that peers gave, and which of them is best for a prefix or for what lies under it.
 #![tactic(auto)]
 
-mod cover;
 mod key;
 mod laws;
 mod neighbour;
@@ -12,7 +11,6 @@ mod shared;
 mod turns;
 mod unicast;
 
-pub use cover::{InOrder, longest_cover};
 pub use key::PrefixKey;
 pub use laws::best_is_preferred;
 pub use neighbour::{first_as, neighbour_as};
