@@ -11,8 +11,10 @@ without a destination, that come in no order; and for unicast routes that come a
 what GNU time (Debian's package `time`) tells: the one that a script sees of its child begins with the script's own size.
 
 What a rule takes compiled is the peak with rules that are all admitted, by one unicast route that covers them, less
-the peak without this route: then none is admitted, so none is compiled, and the table is the same. It has the list of
-admitted rules in it and what is needed while the matcher is built, beside the matcher itself.
+the peak without this route: then none is admitted, so none is compiled, and the table is the same. Beside the matcher
+stands the list of admitted rules, whose entries are two references and a peer's number each: what is left without it is
+told as the matcher's own, with what its vectors have touched of their growth. At most 100 octets are wanted for a rule of
+IPv4 whose tests are four ranges.
 """
 
 import argparse
@@ -27,6 +29,7 @@ from enforce import CONFIG
 
 PORTS = 65536
 TIME = "/usr/bin/time"
+LISTED = 24  # octets of an entry in the list of admitted rules
 ODD = 40503  # multiplied by it, the ports come once each and in no order
 
 
@@ -53,6 +56,11 @@ def v4_rule(number):
     return flow(bytes([5, 1]) + slash24(number))
 
 
+def full_rule(number):
+    """With a protocol, a destination port and a length beside the destination: four ranges."""
+    return flow(bytes([5 + 11, 1]) + slash24(number) + bytes.fromhex("03 81 06 05 91 0019 0a 91 0028"))
+
+
 def listing_rule(number):
     """With ports that are no single range, behind the destination."""
     return flow(bytes([5 + 5, 1]) + slash24(number) + bytes.fromhex("04 01 50 81 bb"))
@@ -71,6 +79,7 @@ V4_ROUTE = announce(bytes([7, 10]))
 V6_ROUTE = reach(bytes.fromhex("0002 01 10 20010db8000000000000000000000001 00 20 20010db8"))
 COMPILED = [
     ("IPv4 rules", V4_ROUTE, v4_rule),
+    ("IPv4 rules of four ranges", V4_ROUTE, full_rule),
     ("IPv4 rules with a list", V4_ROUTE, listing_rule),
     ("IPv6 rules", V6_ROUTE, v6_rule),
 ]
@@ -134,7 +143,8 @@ def main():
             for name, route, rule in COMPILED:
                 rules = b"".join(rule(number) for number in range(size))
                 admitted, none = measure(b"".join(START) + route + rules), measure(b"".join(START) + rules)
-                print(f"{name} {size}: {(admitted[1] - none[1]) / size:,.0f} octets compiled", flush=True)
+                octets = (admitted[1] - none[1]) / size
+                print(f"{name} {size}: {octets:,.0f} octets compiled, {octets - LISTED:,.0f} in the matcher", flush=True)
         for size in groups:
             report("rules to one destination", size, measure(to_one(size)), nothing)
             report("rules without a destination", size, measure(to_none(size)), nothing)

@@ -1,15 +1,21 @@
 // Refuses growths of a program: the call of malloc, calloc, realloc, posix_memalign or aligned_alloc of the number
-// REFUSE, counted from 1; where LASTING is set, each one behind it too. With TELL the count of calls goes to that file.
+// REFUSE, counted from 1; where LASTING is set, each one behind it too. With TELL the count of calls goes to that file,
+// and behind it, a line each, the count at each opening of a file: the growth of that number came last before that.
 #define _GNU_SOURCE
 #include <dlfcn.h>
 #include <errno.h>
 #include <fcntl.h>
+#include <stdarg.h>
 #include <stddef.h>
 #include <stdio.h>
 #include <stdlib.h>
 #include <unistd.h>
 
+enum { OPENINGS = 64 };
+
 static long calls, refuse, lasting;
+static long openings[OPENINGS];
+static int opened;
 
 __attribute__((constructor)) static void begin(void) {
     const char *number = getenv("REFUSE");
@@ -20,9 +26,13 @@ __attribute__((constructor)) static void begin(void) {
 
 __attribute__((destructor)) static void end(void) {
     const char *name = getenv("TELL");
+    int told = opened;
     int out = name ? open(name, O_WRONLY | O_CREAT | O_TRUNC, 0644) : -1;
     if (0 <= out) {
         dprintf(out, "%ld\n", calls);
+        for (int number = 0; number < told; number++) {
+            dprintf(out, "%ld\n", openings[number]);
+        }
         close(out);
     }
 }
@@ -74,4 +84,16 @@ void *aligned_alloc(size_t alignment, size_t size) {
         return NULL;
     }
     return NEXT(aligned_alloc)(alignment, size);
+}
+
+int open(const char *name, int flags, ...) {
+    static int (*real)(const char *, int, ...);
+    va_list rest;
+    va_start(rest, flags);
+    int mode = flags & O_CREAT ? va_arg(rest, int) : 0;
+    va_end(rest);
+    if (opened < OPENINGS) {
+        openings[opened++] = calls;
+    }
+    return NEXT(open)(name, flags, mode);
 }

@@ -3,11 +3,12 @@
 
     bench/refusals.py PROGRAM [--only WORD]
 
-A run in which the machine refuses memory ends with status 6, or with 1 where an adapter of the real files or of the
-wire was refused; what it wrote is a front of what it writes otherwise, and `enforce` over a tape of version 1 writes
-nothing at 6. Once each growth behind the refused one is refused too, and once it alone: then a run may also end as if
-nothing had been refused, since a vector that is refused the room for all that an iterator promises asks for the room of
-one element. The preload is built from refusals.c by `cc`. The script ends with 1 where a run ended otherwise.
+A run in which the machine refuses memory ends with status 6; with 1 exactly where the adapter of the real files was
+refused what it asks for first behind the opening of a file. What it wrote is a front of what it writes otherwise, and
+`enforce` over a tape of version 1 writes nothing at 6. Once each growth behind the refused one is refused too, and once
+it alone: then a run may also end as if nothing had been refused, since a vector that is refused the room for all that an
+iterator promises asks for the room of one element. The preload is built from refusals.c by `cc`. The script ends with 1
+where a run ended otherwise.
 """
 
 import argparse
@@ -155,18 +156,21 @@ class Runs:
         return ran.returncode, ran.stdout, ran.stderr
 
     def growths(self, words):
-        """How many growths a run has, its status and what it wrote."""
-        count = self.folder / "count"
-        status, written, _ = self.once(words, TELL=str(count))
-        return int(count.read_text()), status, written
+        """How many growths a run has, which come first behind an opening, its status and what it wrote."""
+        told = self.folder / "told"
+        status, written, _ = self.once(words, TELL=str(told))
+        count, *openings = map(int, told.read_text().split())
+        return count, {opening + 1 for opening in openings}, status, written
 
-    def faults(self, words, status, whole, number, lasting):
+    def faults(self, words, status, whole, number, lasting, openings):
         """How a run with a refused growth ended, and what is wrong with that."""
         variables = {"REFUSE": str(number), **({"LASTING": "1"} if lasting else {})}
         came, written, said = self.once(words, **variables)
         wrong = []
         if came not in (1, 6) and (lasting or (came, written) != (status, whole)):
             wrong.append(f"status {came}")
+        if (came == 1) != (number in openings):
+            wrong.append(f"status {came} where {'a' if number in openings else 'no'} file was opened")
         if not whole.startswith(written):
             wrong.append(f"wrote {written!r}")
         if said:
@@ -207,7 +211,7 @@ def main():
             if options.only not in line:
                 continue
             words = line.split() + ([TEXT] if line == "check text" else [])
-            count, status, whole = runs.growths(words)
+            count, openings, status, whole = runs.growths(words)
             if status != due:
                 print(f"{line}: status {status} where no growth is refused")
                 is_wrong = True
@@ -216,7 +220,7 @@ def main():
                 ended = collections.Counter()
                 wrote = 0
                 for number in range(1, count + 1):
-                    came, written, wrong = runs.faults(words, status, whole, number, lasting)
+                    came, written, wrong = runs.faults(words, status, whole, number, lasting, openings)
                     ended[came] += 1
                     wrote += written
                     for fault in wrong:
