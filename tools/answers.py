@@ -251,6 +251,7 @@ ANSWERS = [
             "fs_rules Table::walk result",
             "fs_compile Compiled::first first",
             "fs_compile Compiled::next next",
+            "fs_compile Matches::next next",
         ],
     ),
     (
