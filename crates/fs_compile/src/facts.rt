@@ -1,6 +1,7 @@
-//! The fields of a packet, read once.
+//! The fields of a packet on which rules are tested.
 
 ghost use Rattle.std.specs.Prelude.{◌≡◌, ◌<◌, ◌^◌};
+ghost use Rattle.fs_packet.specs.Fields.{family_of};
 ghost use Rattle.fs_compile.specs.Facts.{AreFacts, IsSmallAddress, IsSmallField, address_number, field_number, number_of};
 
 use fs_base::Address;
@@ -29,12 +30,13 @@ impl<'a> Model for Facts<'a> {
 }
 
 impl<'a> Facts<'a> {
-    /// Reads them.
+    /// Reads them, but for the packet's destination, which the caller has read.
     #[inline(always)]
-    pub(crate) fn of(view: &'a View<'a>) -> Facts<'a>
+    pub(crate) fn of(view: &'a View<'a>, destination: Address) -> Facts<'a>
+        requires value { destination ≡ view.now.destination }
+        requires family { family_of destination ≡ view.now.family }
         ensures { AreFacts view.now result }
     {
-        let destination = view.destination();
         let source = view.source();
         Facts {
             view,

@@ -48,7 +48,7 @@ impl Fast {
         ensures matches { (rule : Ruled) → StandsFor rule self.now → result ≡ is_match rule view.now }
         ensures step { steps.new ≡ steps.old + 1 }
     {
-        self.test_facts(&Facts::of(view), steps)
+        self.test_facts(&Facts::of(view, view.destination()), steps)
     }
 
     /// The same over the packet's fields, so that they are read once for all rules.

@@ -16,8 +16,8 @@ use fs_packet::View;
 use std::marker::Model;
 use std::sync::ledger::Ledger;
 
-/// The rules of a packet's family that match it, in order. The packet's fields are read once, and each search goes on
-/// where the last one ended.
+/// The rules of a packet's family that match it, in order. The fields that are numbers are read once, and each search
+/// goes on where the last one ended.
 #[derive(Drop)]
 pub struct Matches<'a> {
     index: &'a Index,
@@ -47,10 +47,11 @@ impl<'a> Matches<'a> {
         ensures facts { AreFacts view.now result.facts }
         ensures from { result.from ≡ 0 }
     {
+        let destination = view.destination();
         Matches {
             index,
-            facts: Facts::of(view),
-            place: index.start(address_of(view)),
+            facts: Facts::of(view, destination),
+            place: index.start(number(destination)),
         }
     }
 
@@ -61,10 +62,11 @@ impl<'a> Matches<'a> {
         ensures facts { AreFacts view.now result.facts }
         ensures from { result.from ≡ n + 1 }
     {
+        let destination = view.destination();
         Matches {
             index,
-            facts: Facts::of(view),
-            place: index.behind(address_of(view), n),
+            facts: Facts::of(view, destination),
+            place: index.behind(number(destination), n),
         }
     }
 
@@ -91,11 +93,10 @@ impl<'a> Matches<'a> {
     }
 }
 
-#[inline(always)]
-fn address_of(view: &View<'_>) -> u128
-    ensures { result ≡ number_of view.now.destination }
+fn number(address: Address) -> u128
+    ensures { result ≡ number_of address }
 {
-    match view.destination() {
+    match address {
         Address::V4(address) => address.into(),
         Address::V6(address) => address,
     }

@@ -19,7 +19,7 @@ use fs_desk::Desk;
 use fs_enforce::Matcher;
 use fs_gen::{Draws, keepalive, open_message, three_peers};
 use fs_line::{append, append_decimal};
-use fs_packet::view;
+use fs_packet::{View, read_view};
 use fs_pcap::Link;
 use fs_rules::Table;
 use fs_stages::{Refusal, write_text};
@@ -150,12 +150,13 @@ fn count_packet(matcher: &mut Matcher<'_>, octets: &[u8], tally: Tally) -> Tally
     ensures passed { result.passed ≡ tally.passed + one_if (is_passed matcher.old (view_of Raw octets.now)) }
     ensures dropped { result.dropped ≡ tally.dropped + one_if (is_dropped matcher.old (view_of Raw octets.now)) }
 {
-    match view(Link::Raw, octets) {
-        Ok(view) if matcher.drops(&view) => Tally {
+    let mut view = View::blank();
+    match read_view(Link::Raw, octets, &mut view) {
+        Ok(()) if matcher.drops(&view) => Tally {
             dropped: tally.dropped + 1,
             ..tally
         },
-        Ok(_) => Tally {
+        Ok(()) => Tally {
             passed: tally.passed + 1,
             ..tally
         },

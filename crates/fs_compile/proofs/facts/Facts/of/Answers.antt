@@ -12,7 +12,7 @@ returns c = record {
   fragment = refl;
   numbers = λ i.
       0
-      ∷ (c.address_number.ensures.value ∙ ap address_number c.destination-destination.ensures.value) i
+      ∷ (c.address_number.ensures.value ∙ ap address_number c.requires.value) i
       ∷ (c.address_number-2.ensures.value ∙ ap address_number c.source-source.ensures.value) i
       ∷ (c.octet.ensures.value ∙ ap field_number c.protocol.ensures) i
       ∷ 2 ^ 32
@@ -29,7 +29,7 @@ returns c = record {
       ∷ 2 ^ 32
       ∷ [];
   small = record {
-    destination = subst IsSmallAddress c.destination-destination.ensures.value c.address_number.ensures.small;
+    destination = subst IsSmallAddress c.requires.value c.address_number.ensures.small;
     source = subst IsSmallAddress c.source-source.ensures.value c.address_number-2.ensures.small;
     protocol = subst IsSmallField c.protocol.ensures c.octet.ensures.small;
     icmp_type = subst IsSmallField c.icmp_type.ensures c.octet-2.ensures.small;
@@ -40,5 +40,5 @@ returns c = record {
     length = subst (λ (n : ℕ). n < 2 ^ 32) c.length.ensures c.length.type_inv;
     dscp = (let low : c.dscp.result < 2 ^ 32 = omega arith in subst (λ (n : ℕ). n < 2 ^ 32) c.dscp.ensures low);
   };
-  same_family = sym (ap family_of c.destination-destination.ensures.value) ∙ c.destination-destination.ensures.family;
+  same_family = sym (ap family_of c.requires.value) ∙ c.requires.family;
 }
