@@ -59,9 +59,9 @@ fn next_related(
     first_after(groups, destination)
 }
 
-/// The same where `apart` stands behind the prefix and doesn't cover it: nothing behind `apart` lies under the prefix,
-/// and what covers the prefix from there on covers what the two have in common, so the search goes on from that, unless
-/// that is too short.
+/// The next destination behind `apart` that may be related to the prefix, where `apart` stands behind the prefix and
+/// doesn't cover it. Nothing there lies under the prefix, and what covers the prefix covers what it has in common with
+/// `apart`: so the search goes on from that, unless that is too short.
 fn first_over(
     groups: &BTreeMap<PrefixKey, Group>,
     prefix: &Prefix,
