@@ -141,10 +141,29 @@ def never_held(count):
     return b"".join(parts), EMPTY_CAPTURE
 
 
+def prefixes_never_held(count):
+    """Unicast prefixes that are withdrawn and were never announced, beside some that are held."""
+    parts = [up(1)] + [announce(bytes([24, 11, number // 256, number % 256])) for number in range(1000)]
+    prefixes = [host(number) for number in range(count)]
+    for start in range(0, count, 800):
+        parts.append(update(b"".join(prefixes[start : start + 800]), b"", b""))
+    return b"".join(parts), EMPTY_CAPTURE
+
+
 def up_and_lost(count):
     """A peer that comes up and is lost in turn, beside as many rules of another."""
     parts = [up(1)] + [flow(bytes([1]) + host(number)) for number in range(count)]
     parts += [up(2) + lost(2)] * count
+    return b"".join(parts), EMPTY_CAPTURE
+
+
+def peers_in_turn(count):
+    """Peers that come up, give a network and a rule, and are lost, one after the other, beside as many rules of another."""
+    parts = [up(1)] + [flow(bytes([1]) + host(number)) for number in range(count)]
+    for number in range(count):
+        peer = 2 + number % 1023
+        network = bytes([24, 192, number // 256 % 256, number % 256])
+        parts.append(up(peer) + announce(network, peer) + flow(bytes([1]) + network, peer) + lost(peer))
     return b"".join(parts), EMPTY_CAPTURE
 
 
@@ -252,11 +271,13 @@ SHAPES = [
     ("no destination", no_destination, 30000),
     ("pairs in one group", and_group, 1000),
     ("headers in a chain", header_chains, 4000),
-    ("withdrawn, never held", never_held, 50000),
+    ("rules withdrawn, never held", never_held, 50000),
+    ("prefixes withdrawn, never held", prefixes_never_held, 100000),
     ("a peer up and lost", up_and_lost, 5000),
+    ("peers up and lost in turn", peers_in_turn, 5000),
     ("a peer down, lost again", down_and_lost, 5000),
     ("peers with equal rules", equal_rules, 512),
-    ("peers with one network", one_network, 256),
+    ("peers with one network", one_network, 512),
     ("UPDATEs of nothing", nothing, 400000),
     ("long attributes of every type", long_attributes, 5120),
     *((f"long attributes of type {kind}", long_attributes_of(kind), 5000) for kind in LONG_TYPES),

@@ -75,7 +75,7 @@ def v6_rule(number):
     return reach(bytes.fromhex("0002 85 00 00") + bytes([len(destination)]) + destination)
 
 
-V4_ROUTE = announce(bytes([7, 10]))
+V4_ROUTE = announce(bytes([3, 0]))  # up to 31.255.255.255
 V6_ROUTE = reach(bytes.fromhex("0002 01 10 20010db8000000000000000000000001 00 20 20010db8"))
 COMPILED = [
     ("IPv4 rules", V4_ROUTE, v4_rule),
