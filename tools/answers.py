@@ -1,5 +1,6 @@
 """What tools/claims.py tells beside the tables of calls: each answer that isn't the wanted value with the clauses that
-say when it comes, both ways, and the wrong bodies that a contract must refuse with the edits that try them."""
+say when it comes, both ways, what stands after a refusal, and the wrong bodies that a contract must refuse with the
+edits that try them."""
 
 # A status of a run, when it comes, and the fields of `Promises` of `fs_cli` that say so.
 STATUSES = [
@@ -43,14 +44,15 @@ STATUSES = [
     ),
     (
         "7",
-        "exactly where an input, or what an end of the wire heard, reaches the limit, with no fault and no "
-        "closing before it",
+        "exactly where an input whose turn comes reaches the limit with no fault before it, or what an end of the "
+        "wire heard reaches it and closes no session, for a missing family neither; where an agreed hold time has "
+        "passed, 8 may come in its place",
         "runs causes",
     ),
     (
         "8",
         "exactly where the octets of an end close its session, end before it is established, or lack the family "
-        "of a rule, or where an agreed hold time has passed",
+        "of a rule; beside that only where an agreed hold time has passed",
         "runs causes announced listened paired",
     ),
     (
@@ -378,6 +380,171 @@ ANSWERS = [
     ),
 ]
 
+# A status of a run, what it has written then, and the fields of `Promises` of `fs_cli` that say so.
+LEFT = [
+    (
+        "2",
+        "nothing; no file is opened, and neither the wire nor the clock is used",
+        "nothing_done",
+    ),
+    (
+        "3",
+        "nothing, and neither the wire nor the clock is used",
+        "config_writes_nothing",
+    ),
+    (
+        "4",
+        "by `enforce` nothing, where the files tell; by `rules`, `list` and `shadow` the line of the fault",
+        "tape_writes_nothing runs",
+    ),
+    (
+        "6",
+        "nothing, but by `enforce` over a tape of version 2, which wrote a front of its text; of `enforce` where the "
+        "files tell",
+        "memory_writes_nothing runs",
+    ),
+    (
+        "1",
+        "a front of its text",
+        "runs",
+    ),
+    (
+        "8",
+        "the line of how the session ended, and nothing else to the output; by `pair`, a front of the rules to the "
+        "wire",
+        "announced listened paired",
+    ),
+    (
+        "any other",
+        "the whole text that is defined for it",
+        "runs",
+    ),
+]
+
+# A refusal of a layer, what stands then, and clauses: crate, call, names.
+STANDS = [
+    (
+        "`put` or `push` wants memory",
+        "the table, the routes or the list is as it was",
+        [
+            "fs_rules Table::put_flow err",
+            "fs_rules Table::put_unicast err",
+            "fs_rules Table::put_unicast_telling err",
+            "fs_unicast Unicast::put err",
+            "fs_unicast Unicast::put_telling err",
+            "fs_actions Actions::push err",
+            "fs_joint EventList::push err",
+        ],
+    ),
+    (
+        "a rule, a list, actions, a text or a part of a line isn't written for want of memory",
+        "what it was to be appended to is as it was",
+        [
+            "fs_nlri encode err",
+            "fs_ops NumList::encode err",
+            "fs_ops MaskList::encode err",
+            "fs_actions Actions::to_communities err",
+            "fs_text print err",
+            "fs_line append err",
+            "fs_line append_decimal err",
+            "fs_line append_hex err",
+        ],
+    ),
+    (
+        "a message isn't written for want of memory, or as `TooLong`",
+        "what it was to be appended to is as it was",
+        [
+            "fs_message write_open result",
+            "fs_message write_update_frame result",
+            "fs_message write_notice result",
+            "fs_message write_keepalive result",
+            "fs_attrs write_update written",
+        ],
+    ),
+    (
+        "a fault of `Feed`, or want of memory",
+        "the rules before it are appended; each later call answers the same and appends nothing",
+        [
+            "fs_nlri Feed::feed err",
+        ],
+    ),
+    (
+        "a deframer's fault",
+        "each later call answers the same, takes nothing and leaves it as it was",
+        [
+            "fs_message Deframer::feed again",
+        ],
+    ),
+    (
+        "a session closes by a fault, by the clock, by `cease`, or for want of memory",
+        "the NOTIFICATION of that is appended, for want of memory nothing",
+        [
+            "fs_speaker Session::feed exact",
+            "fs_speaker Session::feed_at exact",
+            "fs_speaker Session::tick exact",
+            "fs_speaker Session::cease exact",
+            "fs_speaker Announcer::start exact",
+            "fs_speaker Announcer::feed exact",
+            "fs_speaker Announcer::feed_at exact",
+            "fs_speaker Announcer::tick exact",
+            "fs_speaker Announcer::next_message exact",
+        ],
+    ),
+    (
+        "a session has closed",
+        "each later call answers how, takes and appends nothing, and leaves it as it was",
+        [
+            "fs_speaker Session::feed again",
+            "fs_speaker Session::feed_at again",
+            "fs_speaker Session::tick again",
+            "fs_speaker Session::cease again",
+            "fs_speaker Announcer::start again",
+            "fs_speaker Announcer::feed again",
+            "fs_speaker Announcer::feed_at again",
+            "fs_speaker Announcer::tick again",
+            "fs_speaker Announcer::next_message again",
+        ],
+    ),
+    (
+        "a fault, `Limit`, `Read` or the end of an input",
+        "each later call answers the same, reads nothing and leaves the reader as it was",
+        [
+            "fs_tape Tape::next again stays unread",
+            "fs_pcap Capture::next again stays unread",
+            "fs_pcapng Ng::next again stays unread",
+            "fs_mrt Dump::next again stays unread",
+            "fs_capture Capture::next again stays unread",
+        ],
+    ),
+    (
+        "a desk wants memory",
+        "the replies are as they were, and of sessions and table nothing is said; by `up` the peer is lost",
+        [
+            "fs_desk Desk::octets err",
+            "fs_desk Desk::octets_telling err",
+            "fs_desk Desk::tick err",
+            "fs_desk Desk::tick_telling err",
+            "fs_desk Desk::up lost",
+            "fs_desk Desk::up_telling lost",
+        ],
+    ),
+    (
+        "a step of both ends wants memory",
+        "each later one answers so, and changes nothing",
+        [
+            "fs_joint Joint::step spent again",
+        ],
+    ),
+    (
+        "a write fails",
+        "a front of what was to go is written; of an `Output` nothing is pending any more",
+        [
+            "fs_base write_all err",
+            "fs_line Output::flush err empty",
+        ],
+    ),
+]
+
 # A body that is wrong in a way that a contract must not let through, and the edits that write it.
 WRONG = [
     (
@@ -385,8 +552,8 @@ WRONG = [
         "fs_nlri/takes_unordered_types fs_nlri/refuses_long_length_form",
     ),
     (
-        "a deframer takes no octet of any piece",
-        "fs_message/takes_no_octet",
+        "a deframer or a session takes no octet of any piece",
+        "fs_message/takes_no_octet fs_speaker/session_takes_no_octet",
     ),
     (
         "a list is evaluated from left to right, AND and OR alike",
@@ -411,6 +578,16 @@ WRONG = [
     (
         "a unicast change retests only rules under the prefix",
         "fs_rules/retests_only_rules_under",
+    ),
+    (
+        "a unicast change passes related rules over: behind the first that covers the prefix, or behind one that isn't "
+        "related",
+        "fs_rules/forgets_covers_behind_the_first fs_rules/stops_at_an_unrelated_group",
+    ),
+    (
+        "a length's count isn't lowered (no count is kept, as `WRONG_BODIES.md` says: there is one length that no "
+        "destination is shorter than, and it isn't lowered where a shorter one comes)",
+        "fs_rules/shortest_isnt_lowered",
     ),
     (
         "a unicast change retests all rules",
@@ -449,6 +626,10 @@ WRONG = [
         "fs_compile/forgets_the_parent fs_compile/tail_before_buckets",
     ),
     (
+        "a walk of the matcher answers a rule twice, or passes over the other rules of a bucket in which it found one",
+        "fs_compile/finds_a_rule_again fs_compile/goes_on_at_the_next_bucket",
+    ),
+    (
         "a range of numbers ends one off, two with a gap between them are joined, or AND is read as OR",
         "fs_compile/a_pair_misses_its_value fs_compile/at_least_is_equal fs_compile/joins_ranges_that_do_not_meet "
         "fs_compile/joined_numbers_stand_alone fs_compile/every_pair_is_a_group",
@@ -456,6 +637,12 @@ WRONG = [
     (
         "a port rule is tested on one port alone; a test isn't counted",
         "fs_compile/tests_one_port_alone fs_compile/test_is_not_counted",
+    ),
+    (
+        "the room of a line is asked without its rules, for one rate of each rule alone, or with rates one octet too "
+        "short",
+        "fs_line/makes_room_for_a_line_of_no_rules fs_line/makes_room_for_one_rate_of_a_rule "
+        "fs_line/takes_a_rate_for_shorter",
     ),
     (
         "`gen` counts an unread packet as passed",

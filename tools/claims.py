@@ -1,16 +1,18 @@
 #!/usr/bin/env python3
-"""Lists the answers of tools/answers.py with the clauses that say when they come, its wrong bodies with what refuses
-each, and every public call of the libraries with the clauses of its contract, the edits that the prover must refuse in
-its body, and the comparing programs in whose text a call of that name stands, or else whether a run of the whole
-program leads to one. Prints the tables of docs/CLAIMS.md; the text around them is kept there by hand. A clause, an edit or a call that isn't there ends it. Usage: tools/claims.py >
-tables, or tools/claims.py --check docs/CLAIMS.md
+"""Lists the answers of tools/answers.py with the clauses that say when they come, what stands after a refusal, its
+wrong bodies with what refuses each, and every public call of the libraries with the clauses of its contract, the edits
+that the prover must refuse in its body, and the comparing programs that make the call, or else whether a run of the
+whole program leads to it. Prints the tables of docs/CLAIMS.md; the text around them is kept there by hand. A clause, an
+edit or a call that isn't there ends it.
+
+Usage: tools/claims.py > tables, or tools/claims.py --check docs/CLAIMS.md
 """
 
 import os
 import re
 import sys
 
-from answers import ANSWERS, STATUSES, WRONG
+from answers import ANSWERS, LEFT, STANDS, STATUSES, WRONG
 
 ROOT = os.path.dirname(os.path.dirname(os.path.abspath(__file__)))
 PROGRAMS = ["fs_codecs", "fs_inputs", "fs_tables", "fs_matching", "fs_reading", "desks"]
@@ -18,6 +20,8 @@ PROGRAMS = ["fs_codecs", "fs_inputs", "fs_tables", "fs_matching", "fs_reading", 
 RUNS = ["welgutan", "loopback", "fs_runs"]
 # of what is implemented for a type, the calls of these traits are listed
 TRAITS = "Speaker", "Files", "Sink", "Wire", "Clock", "Ord"
+# methods that types of the standard library have too
+COMMON = "as_slice", "begin", "copy", "is_empty", "len", "new", "next", "of", "push", "read", "remove", "take"
 BEGIN = "<!-- tables by tools/claims.py -->"
 
 
@@ -59,13 +63,32 @@ TRAIT = re.compile(r"^pub trait ([A-Z]\w*)")
 CLAUSE = re.compile(r"^ *(requires|ensures)(?: ([a-z_0-9]+))? \{")
 
 
+def head(lines):
+    """The signature of the function in front of these lines."""
+    text = ""
+    for line in lines:
+        if CLAUSE.match(line) or line.strip() == "{":
+            break
+        text += line.split("//")[0] + "\n"
+        if line.rstrip().endswith(("{", ";")):
+            break
+    return text
+
+
+def answer(lines, owner):
+    """The types that the answer of the function in front of these lines names."""
+    named = set(re.findall(r"\b[A-Z]\w*", head(lines).partition("->")[2]))
+    return named | {owner} if owner and "Self" in named else named
+
+
 def functions(text):
-    """Each function: its owner, its trait, whether it is public, its name, its lines, its clauses, whether it is a law
-    (which is given nothing and gives nothing, or has an empty body)."""
+    """Each function: its owner, its trait, whether it is public, its name, its lines, its clauses, the types that its
+    answer names, whether it is a law (which is given nothing and gives nothing, or has an empty body)."""
     owner = trait = None
     found = []
     current = None
-    for number, line in enumerate(text.split("\n")):
+    lines = text.split("\n")
+    for number, line in enumerate(lines):
         if IMPL.match(line):
             trait, owner = IMPL.match(line).groups()
         elif TRAIT.match(line):
@@ -84,6 +107,7 @@ def functions(text):
                 "name": name, "first": number, "last": number, "clauses": [], "indent": inner,
                 "law": line.endswith(f"fn {name}()"),
             }
+            current["answer"] = answer(lines[number:], current["owner"])
             found.append(current)
         if current:
             current["last"] = number
@@ -93,6 +117,8 @@ def functions(text):
                 kind, label = match.groups()
                 if kind == "ensures":
                     current["clauses"].append(label or "result")
+            if line == ("    }" if current["indent"] else "}"):
+                current = None
     return found
 
 
@@ -123,20 +149,85 @@ def uses():
     return named
 
 
-def calls_in_programs():
-    """The text of each comparing program, by name."""
-    texts = {}
-    for program in PROGRAMS:
-        texts[program] = "\n".join(read("crates", program, path) for path in sources(program))
-    return texts
+def libraries():
+    """The crates that are listed, from the bottom up."""
+    return [crate for crate in crates()
+            if crate not in PROGRAMS and os.path.exists(os.path.join(ROOT, "crates", crate, "src", "lib.rt"))]
 
 
-def is_called(crate, owner, name, text):
-    """Whether the program's text calls it: a method by a dot or by its type's name, a function by its name."""
-    if owner is None:
-        return re.search(rf"(?<![.:\w]){name}\(", text) is not None
-    return re.search(rf"\b{owner}::{name}\b", text) is not None or (
-        name not in ("new", "read", "of", "begin", "copy", "take") and re.search(rf"\.{name}\(", text) is not None)
+def public_fields():
+    """The types that the public fields of each public type name, by the fields' names; of an enum, by no name."""
+    found = {}
+    for crate in libraries():
+        for path in sources(crate):
+            text = read("crates", crate, path)
+            for kind, owner, inside in re.findall(r"^pub (struct|enum) (\w+)[^{;]*\{(.*?)^\}", text, re.M | re.S):
+                fields = found.setdefault(owner, {})
+                named = re.findall(r"^    pub (\w+): (.*)", inside, re.M) if kind == "struct" else [("", inside)]
+                for name, types in named:
+                    fields.setdefault(name, set()).update(re.findall(r"\b[A-Z]\w*", types))
+    return found
+
+
+def words_of(name):
+    """The words that a name is made of, in the singular."""
+    return {re.sub(r"(?<=[sx])es$|s$", "", word.lower()) for word in re.findall(r"[A-Z]?[a-z0-9]+", name)}
+
+
+def snake(name):
+    return re.sub(r"(?<!^)(?=[A-Z])", "_", name).lower()
+
+
+class Program:
+    """What a comparing program calls, judged by its text."""
+
+    def __init__(self, name, known, found, fields):
+        self.text = "\n".join(read("crates", name, path) for path in sources(name))
+        self.own = {snake(owner) for owner in re.findall(r"\b(?:struct|enum) (\w+)", self.text)}
+        self.imported = {crate: " ".join(re.findall(rf"\b{crate}::(\{{[^}}]*\}}|\w+)", self.text)) for crate in known}
+        found = [(crate, function) for crate, function in found if crate in known]
+        self.in_hand = set(re.findall(r"\b[A-Z]\w*", " ".join(self.imported.values())))
+        while True:
+            self.methods = {}
+            for crate, function in found:
+                if function["owner"] in self.in_hand:
+                    self.methods.setdefault(function["name"], {})[function["owner"]] = function["trait"] == "trait"
+            self.fields = {}
+            for owner in self.in_hand & set(fields):
+                for field, types in fields[owner].items():
+                    self.fields.setdefault(field, set()).update(types)
+            more = set().union(*self.fields.values(), *(f["answer"] for crate, f in found if self.calls(crate, f)))
+            if more <= self.in_hand:
+                break
+            self.in_hand |= more
+
+    def calls(self, crate, function):
+        """A function, where it is imported, by its name. A method by its type's name, or by a dot behind a value that
+        may be of the type."""
+        owner, name = function["owner"], function["name"]
+        if owner is None:
+            return bool(re.search(rf"\b{name}\b", self.imported.get(crate, ""))
+                        and re.search(rf"(?<![.:\w]){name}\(", self.text))
+        if crate not in self.imported or owner not in self.in_hand:
+            return False
+        return bool(re.search(rf"\b{owner}::{name}\b", self.text)) or any(
+            owner in self.types_of(self.text[: match.start()].rsplit("\n", 1)[-1], name)
+            for match in re.finditer(rf"\s*\.{name}\(", self.text))
+
+    def types_of(self, line, name):
+        """The types in hand of which the value at the line's end may be, of those with a method of that name: the one
+        of its name, or of a public field of its name, or those with a word of it. A value whose name says nothing may
+        be of each, but for a method that the standard library's types have too."""
+        methods = self.methods[name]
+        last = re.search(r"[a-z_]\w*$", line)
+        last = last.group() if last else ""
+        named = (
+            {owner for owner, is_trait in methods.items() if snake(owner) == last and not is_trait}
+            or (self.fields.get(last, set()) & set(methods) if line.endswith("." + last) else None)
+            or {owner for owner in methods if words_of(owner) & words_of(last or line)}
+        )
+        is_own = last in self.own or re.search(r"(?<!\.)\bself$", line)
+        return named or (set() if is_own or name in COMMON else set(methods))
 
 
 def body(lines):
@@ -147,73 +238,104 @@ def body(lines):
     return "\n".join(line.split("//")[0] for line in lines[start + 1:])
 
 
-def library_functions():
-    """The functions of all libraries: by crate, type and name what their bodies have in common, and what calls them."""
-    found = {}
-    for crate in crates():
-        if crate in PROGRAMS or not os.path.exists(os.path.join(ROOT, "crates", crate, "src", "lib.rt")):
-            continue
+class Text:
+    """The names that a text of code has: words, functions that it may call, methods behind a dot, methods of a type."""
+
+    def __init__(self, code):
+        self.words = set(re.findall(r"\b\w+\b", code))
+        self.plain = set(re.findall(r"(?<![.:\w])(\w+)\b(?! *:(?!:))", code))
+        self.dotted = set(re.findall(r"\.(\w+)(?:::<[^(]*>)?\(", code))
+        self.typed = set(re.findall(r"(?=\b(\w+)(?:::<[^(]*>)?::(\w+)\b)", code))
+
+    def may_call(self, owner, name):
+        if owner is None:
+            return name in self.plain
+        return name in self.dotted or (owner, name) in self.typed or ("Self", name) in self.typed
+
+
+TYPE = re.compile(r"^(?:pub(?:\(\w+\))? )?(?:struct|enum|trait) (\w+)(.*(?:\n .*)*)", re.M)
+
+
+def library_graph():
+    """The texts of all functions of the libraries, by crate, type and name, and of all types, with no name; and the
+    functions of traits that are implemented, by the types."""
+    codes, implemented = {}, {}
+    for crate in libraries():
         for path in sources(crate):
             text = read("crates", crate, path)
             lines = text.split("\n")
+            codes.update({(crate, owner, ""): code for owner, code in TYPE.findall(text)})
             for function in functions(text):
-                code = body(lines[function["first"]: function["last"] + 1])
                 key = crate, function["owner"], function["name"]
-                of_trait = function["trait"] not in (None, "trait")
-                known = found.setdefault(key, {"code": "", "seed": False})
-                known["code"] += code
-                known["seed"] = known["seed"] or of_trait
-    return found
+                own = lines[function["first"]: function["last"] + 1]
+                codes[key] = codes.get(key, "") + head(own) + body(own)
+                if function["trait"] not in (None, "trait"):
+                    implemented.setdefault(function["owner"], set()).add(key)
+    return {key: Text(code) for key, code in codes.items()}, implemented
 
 
-def reached():
-    """The functions to which a run of the whole program may lead, judged by names; those of a trait count as reached."""
-    found = library_functions()
+def reached(programs, graph):
+    """The functions to which a run of these programs may lead, judged by names. A method is one where its type is named
+    too, and one of a trait where the type is that it is implemented for."""
+    texts, implemented = graph
+    starts = {(name, None, "main"): Text("\n".join(read("crates", name, path) for path in sources(name)))
+              for name in programs}
+    texts = {**texts, **starts}
     below = uses()
     for name in list(below):
         below[name] = set(below[name]).union({name}, *(below.get(other, ()) for other in below[name]))
-    by_name = {}
-    for key in found:
-        by_name.setdefault(key[2], []).append(key)
-    for program in RUNS:
-        code = "\n".join(read("crates", program, path) for path in sources(program))
-        found[program, None, "main"] = {"code": code, "seed": True}
-    seen = {key for key, known in found.items() if known["seed"]}
-    todo = list(seen)
+    allowed = set().union(*(below[name] for name in programs))
+    by_word, waiting = {}, {}
+    for key in texts:
+        by_word.setdefault(key[2] or key[1], []).append(key)
+    seen, todo = set(starts), list(starts)
+
+    def reach(key):
+        if key not in seen and key[0] in allowed:
+            seen.add(key)
+            todo.append(key)
+
     while todo:
         caller = todo.pop()
-        code = found[caller]["code"]
-        for name in set(re.findall(r"\b[a-z_0-9]+\b", code)) & set(by_name):
-            for key in by_name[name]:
-                crate, owner, _ = key
-                if key in seen or crate not in below[caller[0]]:
+        text = texts[caller]
+        if caller[2] == "":
+            for key in [*implemented.get(caller[1], []), *waiting.pop(caller, [])]:
+                reach(key)
+        for word in text.words & set(by_word):
+            for key in by_word[word]:
+                crate, owner, name = key
+                if key in seen or crate not in below[caller[0]] or name and not text.may_call(owner, name):
                     continue
-                plain = re.search(rf"(?<![.:\w]){name}\b(?! *:(?!:))", code)
-                dotted = re.search(rf"\.{name}(::<[^(]*>)?\(", code)
-                typed = re.search(rf"\b({owner}|Self)(::<[^(]*>)?::{name}\b", code)
-                if (plain if owner is None else dotted or typed):
-                    seen.add(key)
-                    todo.append(key)
+                if name and owner and (crate, owner, "") not in seen:
+                    waiting.setdefault((crate, owner, ""), []).append(key)
+                else:
+                    reach(key)
     return seen
 
 
-def way_to(crate, path, function, run):
+def way_to(crate, path, function, ways):
     """How a call is reached that no comparing program makes."""
     if function["law"] or os.path.basename(path) == "laws.rt":
         return "a law"
-    return "`fs_runs`" if (crate, function["owner"], function["name"]) in run else "no program"
+    key = crate, function["owner"], function["name"]
+    if key in ways["fs_runs"]:
+        return "`fs_runs`"
+    return ", ".join(f"through `{program}`" for program in PROGRAMS if key in ways[program]) or "no program"
 
 
 def tables():
-    programs = calls_in_programs()
-    run = reached()
     named = uses()
+    every = [(crate, function) for crate in libraries() for path in sources(crate)
+             for function in functions(read("crates", crate, path))]
+    fields = public_fields()
+    programs = {name: Program(name, named[name], every, fields) for name in PROGRAMS}
+    graph = library_graph()
+    ways = {name: reached([name], graph) for name in PROGRAMS}
+    ways["fs_runs"] = reached(RUNS, graph)
     out = []
     ensured = {}
     total = 0
-    for crate in crates():
-        if crate in PROGRAMS or not os.path.exists(os.path.join(ROOT, "crates", crate, "src", "lib.rt")):
-            continue
+    for crate in libraries():
         names = exported(crate)
         rows = []
         for path in sources(crate):
@@ -232,12 +354,11 @@ def tables():
                 if not public:
                     continue
                 inside = [name for line, name in placed if function["first"] <= line <= function["last"]]
-                seen = [f"`{p}`" for p in PROGRAMS
-                        if crate in named[p] and is_called(crate, owner, function["name"], programs[p])]
+                seen = [f"`{p}`" for p in PROGRAMS if programs[p].calls(crate, function)]
                 clauses = ", ".join(f"`{c}`" for c in dict.fromkeys(function["clauses"])) or "by its trait's" if trait else ", ".join(
                     f"`{c}`" for c in dict.fromkeys(function["clauses"])) or "none"
                 if not seen:
-                    seen = [way_to(crate, path, function, run)]
+                    seen = [way_to(crate, path, function, ways)]
                 rows.append((shown, path, clauses, ", ".join(f"`{n}`" for n in inside), ", ".join(seen)))
                 ensured[crate, shown] = function["clauses"] or [] if trait is None else None
         if not rows:
@@ -263,28 +384,42 @@ def promises():
     return set(re.findall(r"^  pub ([a-z_]+) :", spec, re.M))
 
 
-def answers(ensured):
-    """The tables of answers. Each clause that they name has to stand at its call."""
-    out = ["## Answers and their causes\n", "Of a run; the clauses are fields of `Promises`, which `PROMISES.md` tells:\n",
-           "| status | comes | clauses |\n|---|---|---|"]
+def of_promises(rows):
+    """Rows of a table: a status, what is said of it, and the fields of `Promises` that say so. Each has to be there."""
     fields = promises()
-    for status, when, names in STATUSES:
+    for status, said, names in rows:
         missing = set(names.split()) - fields
         if missing:
             sys.exit(f"status {status}: no field {missing} of Promises")
-        out.append(f"| {status} | {when} | {', '.join(f'`{name}`' for name in names.split())} |")
-    out += ["", "Of the layers; `Memory` is free wherever it can be answered:\n"]
-    out.append("| answer | comes | clauses |\n|---|---|---|")
-    for answer, when, calls in ANSWERS:
+        yield f"| {status} | {said} | {', '.join(f'`{name}`' for name in names.split())} |"
+
+
+def of_clauses(rows, ensured):
+    """Rows of a table: an answer, what is said of it, and the clauses that say so. Each has to stand at its call."""
+    for answered, said, calls in rows:
         cells = []
         for place in calls:
             crate, call, *names = place.split()
             known = ensured.get((crate, call))
             if (crate, call) not in ensured or (known is not None and not set(names) <= set(known)):
-                sys.exit(f"{answer}: no clause {names} of {call} in {crate}")
+                sys.exit(f"{answered}: no clause {names} of {call} in {crate}")
             cells.append(f"`{call}` of `{crate}` (" + ", ".join(f"`{name}`" for name in names) + ")")
-        out.append(f"| {answer} | {when} | {'; '.join(cells)} |")
-    return [*out, ""]
+        yield f"| {answered} | {said} | {'; '.join(cells)} |"
+
+
+def answers(ensured):
+    """The tables of answers, and of what stands after a refusal."""
+    return [
+        "## Answers and their causes\n", "Of a run; the clauses are fields of `Promises`, which `PROMISES.md` tells:\n",
+        "| status | comes | clauses |\n|---|---|---|", *of_promises(STATUSES), "",
+        "Of the layers; `Memory` is free wherever it can be answered:\n",
+        "| answer | comes | clauses |\n|---|---|---|", *of_clauses(ANSWERS, ensured), "",
+        "## What stands after a refusal\n",
+        "Of a run, what it has written to the output; where the files have to tell for that, `PROMISES.md` says:\n",
+        "| status | written | clauses |\n|---|---|---|", *of_promises(LEFT), "",
+        "Of the layers:\n",
+        "| after | stands | clauses |\n|---|---|---|", *of_clauses(STANDS, ensured), "",
+    ]
 
 
 def wrong_bodies():
