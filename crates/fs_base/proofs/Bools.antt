@@ -57,14 +57,10 @@ pub or_implied : (a b : Bool) → (not a || b) ≡ true → a ≡ true → b ≡
 or_implied true b h k = h
 or_implied false b h k = absurd (true≢false (sym k))
 
--- The four ways across `not`.
+-- Ways across `not`.
 pub not_of_true : (a : Bool) → a ≡ true → not a ≡ false
 not_of_true true h = refl
 not_of_true false h = absurd (true≢false (sym h))
-
-pub not_of_false : (a : Bool) → a ≡ false → not a ≡ true
-not_of_false true h = absurd (true≢false h)
-not_of_false false h = refl
 
 pub true_of_not : (a : Bool) → not a ≡ false → a ≡ true
 true_of_not true h = refl

@@ -21,7 +21,3 @@ module _ {X : Type 0} (at : X → Prefix) (held : List X) where
     pub there : list_any (λ x. is_eq (prefix_cmp q (at x))) held ≡ true
     pub over : covers q d ≡ true
     pub longest : AllByRecursion (λ x. covers (at x) d ≡ true → (at x).length ≤ q.length) held
-
-  -- the longest prefix that covers d
-  abbrev pub IsLongestCover : Prefix → Option Prefix → Type 0
-  IsLongestCover d found = MatchOption found (AllByRecursion (λ x. covers (at x) d ≡ false) held) (IsLongest d)

@@ -96,15 +96,6 @@ impl Prefix {
         self.lowest()
     }
 
-    /// The prefix that is shorter by one bit and covers this one.
-    pub fn parent(&self) -> Prefix
-        requires { 0 < self.now.length }
-        ensures length { result.length + 1 ≡ self.now.length }
-        ensures over { covers result self.now ≡ true }
-    {
-        self.shortened(self.length - 1)
-    }
-
     /// The longest prefix that covers both; None exactly where the families differ.
     pub fn common(&self, other: &Prefix) -> Option<Prefix>
         ensures none { result ≡ None ↔ self.now.family ≢ other.now.family }
