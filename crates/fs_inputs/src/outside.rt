@@ -6,7 +6,7 @@ use crate::fields::{count, had, pair, slot};
 use crate::tapes::buffer;
 use fs_base::{Clock, Counted, Files, Opening, Sink, Wire, fill, read_whole, write_all};
 use fs_cases::{Fault, number};
-use fs_outside::{CalmFiles, CalmSink, CalmWire, MemClock, MemFiles, MemSink, MemWire};
+use fs_outside::{CalmFiles, CalmSink, CalmWire, MemClock, MemFiles, MemSink, MemWire, StillClock};
 use std::alloc::Global;
 
 /// Numbers with spaces between them.
@@ -198,7 +198,15 @@ pub fn calm_wire_text(alloc: Global, fields: &str) -> Result<String, Fault> {
 
 /// What four calls of a clock in memory answer that has these moments.
 pub fn clock_text(alloc: Global, fields: &str) -> Result<String, Fault> {
-    let mut clock = MemClock::new(numbers(alloc, fields)?);
+    moments_text(alloc, &mut MemClock::new(numbers(alloc, fields)?))
+}
+
+/// What four calls of a clock answer that stands still.
+pub fn still_clock_text(alloc: Global) -> Result<String, Fault> {
+    moments_text(alloc, &mut StillClock::new())
+}
+
+fn moments_text<C: Clock>(alloc: Global, clock: &mut C) -> Result<String, Fault> {
     let moments = [clock.now(), clock.now(), clock.now(), clock.now()];
     Ok(format!(in alloc; "{moments:?}")?)
 }

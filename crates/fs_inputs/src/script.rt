@@ -5,7 +5,7 @@ use crate::configurations::{address_text, said_text, taken_text};
 use crate::fields::{count, pair, sides};
 use crate::given::Given;
 use crate::outside::{
-    calm_sink_text, calm_wire_text, clock_text, files_text, sink_text, wire_text,
+    calm_sink_text, calm_wire_text, clock_text, files_text, sink_text, still_clock_text, wire_text,
 };
 use crate::packets::{link_text, match_text, view_text};
 use crate::paths::copy_text;
@@ -112,6 +112,7 @@ impl Script {
             "wire" => wire_text(self.alloc, said),
             "calm_wire" => calm_wire_text(self.alloc, said),
             "clock" => clock_text(self.alloc, said),
+            "still_clock" => still_clock_text(self.alloc),
             _ => self.configuration(word, said),
         }
     }
