@@ -3,7 +3,7 @@ use Rattle.std.proofs.Common.{ℕ, ◌≡◌, ◌⊎◌, inl, inr, refl, sym, ap
 use Rattle.std.specs.List.{list_any}
 use Rattle.std.specs.List.Sorted.{IsStrictlySortedBy}
 use Rattle.std.specs.BTreeMap.{insert_entry, is_at}
-use Rattle.std.specs.Map.{keys_of, remove_entry}
+use Rattle.std.specs.Map.{keys_of}
 use Rattle.std.specs.Cmp.{tied_itself}
 use Rattle.std.proofs.Math.Path.{ap₂}
 use Rattle.fs_base.proofs.Bools.{false_from}
@@ -16,13 +16,13 @@ use Rattle.fs_unicast.specs.Turns.{neighbour_of, is_same, lies_between, is_alone
 use Rattle.fs_unicast.proofs.PlaceOrder.{place_total, below_upto, upto_below, upto_upto, lt_le, upto_itself}
 use Rattle.fs_unicast.proofs.Finding.{found_passes, last_passes, none_found, no_last, after_found, before_last}
 use Rattle.fs_unicast.proofs.Parting.{same_is, same_itself}
-use Rattle.fs_unicast.proofs.Members.{In, in_each, in_any, any_in, found_in, last_in, exact_place, put_from, put_new, put_other, removed_from, removed_other, one_route}
+use Rattle.fs_unicast.proofs.Members.{In, in_each, in_any, any_in, found_in, last_in, exact_place, put_from, put_new, put_other, one_route}
 use Rattle.fs_unicast.proofs.Needed.{lt, le, apart, never, both, le_from, Beside, IsNeededBut, AreNeededBut, Nobody, IsIt, IsNext, last_upto, first_past}
 
 pub equal_itself : (z : Place) → is_eq (place_cmp z z) ≡ true
 equal_itself z = ap is_eq (tied_itself place_total z)
 
-map_same : (ts : List Place) → map (λ t. t) ts ≡ ts
+pub map_same : (ts : List Place) → map (λ t. t) ts ≡ ts
 map_same [] = refl
 map_same (t ∷ ts) = ap (λ us. t ∷ us) (map_same ts)
 
@@ -102,49 +102,6 @@ module _ (held : List Route) (sorted : IsStrictlySortedBy place_cmp (keys_of hel
     least = λ s i k. in_each (λ s. is_lt (place_cmp z s.0) ≡ true → le r.0 s.0) held s (after_found place_cmp (λ r. r.0) (λ r. is_lt (place_cmp z r.0)) (λ s. le r.0 s.0) held sorted r e (upto_itself r.0) (λ y less. ap is_le less)) i k;
   }
 
--- A route goes.
-module _ (turns : List Place) (held : List Route) (z : Place) (sorted : IsStrictlySortedBy place_cmp turns) (u : Place) (i : In turns u) (n : IsNeededBut Nobody turns held u) where
-  abbrev left : List Route
-  left = remove_entry (is_at (place_cmp z)) held
-
-  one : (w : Place) → In turns w → lt n.fore.0 w → le w n.aft.0 → u ≡ w
-  one w j l k = at (n.alone w j l k) where
-    at : (w ≡ u) ⊎ ⊥ → u ≡ w
-    at (inl e) = sym e
-    at (inr x) = absurd x
-
-  went_aft : z ≡ n.aft.0 → IsNext turns z u
-  went_aft e = let l : IsLast turns z u = last_of turns sorted z u i (subst (le u) (sym e) n.upto) in
-      is_last turns sorted z u i l (one l.turn l.there (below_upto n.fore.0 u l.turn n.below l.over) (subst (le l.turn) e l.upto))
-
-  went_fore : z ≡ n.fore.0 → IsNext turns z u
-  went_fore e = let f : IsFirst turns z u = first_of turns sorted z u i (subst (λ x. lt x u) (sym e) n.below) in
-      is_first turns sorted z u i f (one f.turn f.there (subst (λ x. lt x f.turn) e f.past) (upto_upto f.turn u n.aft.0 f.under n.upto))
-
-  remains : is_at (place_cmp z) n.fore.0 ≡ false → is_at (place_cmp z) n.aft.0 ≡ false → IsNeededBut (IsNext turns z) turns left u
-  remains e f = record {
-    fore = n.fore;
-    aft = n.aft;
-    beside = record { first = removed_other (is_at (place_cmp z)) held n.fore e n.beside.first; second = removed_other (is_at (place_cmp z)) held n.aft f n.beside.second; none = λ r j. n.beside.none r (removed_from (is_at (place_cmp z)) held r j) };
-    below = n.below;
-    upto = n.upto;
-    other = n.other;
-    alone = λ w j l k. inl (sym (one w j l k));
-  }
-
-  route_goes : IsNext turns z u ⊎ IsNeededBut (IsNext turns z) turns left u
-  route_goes = at (is_at (place_cmp z) n.fore.0) refl (is_at (place_cmp z) n.aft.0) refl where
-    at : (a : Bool) → is_at (place_cmp z) n.fore.0 ≡ a → (b : Bool) → is_at (place_cmp z) n.aft.0 ≡ b → IsNext turns z u ⊎ IsNeededBut (IsNext turns z) turns left u
-    at true e b f = inl (went_fore (exact_place z n.fore.0 e))
-    at false e true f = inl (went_aft (exact_place z n.aft.0 f))
-    at false e false f = inr (remains e f)
-
-pub all_removed : (turns : List Place) (held : List Route) (z : Place) → IsStrictlySortedBy place_cmp turns → AreNeededBut Nobody turns held → AreNeededBut (IsNext turns z) turns (remove_entry (is_at (place_cmp z)) held)
-all_removed turns held z sorted all u i = at (all u i) where
-  at : ⊥ ⊎ IsNeededBut Nobody turns held u → IsNext turns z u ⊎ IsNeededBut (IsNext turns z) turns (remove_entry (is_at (place_cmp z)) held) u
-  at (inl x) = absurd x
-  at (inr n) = route_goes turns held z sorted u i n
-
 -- The turns that a route of a neighbouring AS at a place needs.
 pub record IsHere (held : List Route) (z : Place) (asn : Option ℕ) (u : Place) : Type 0 where
   pub is : u ≡ z
@@ -170,7 +127,7 @@ pub record IsBetween (held : List Route) (z u : Place) : Type 0 where
   pub before : (r : Route) → In held r → lt r.0 z → lt r.0 u
   pub after : (r : Route) → In held r → lt z r.0 → le u r.0
 
-other_way : (a b : Option ℕ) → is_same a b ≡ false → is_same b a ≡ false
+pub other_way : (a b : Option ℕ) → is_same a b ≡ false → is_same b a ≡ false
 other_way a b h = false_from (is_same b a) (λ k. true≢false (sym (subst (λ c. is_same c b ≡ true) (same_is b a k) (same_itself b)) ∙ h))
 
 pub first_once : (held : List Route) (z : Place) (a b : Route) → IsFirstAfter held z a → IsFirstAfter held z b → a.0 ≡ b.0
@@ -576,7 +533,7 @@ is_free held z (Some s) sorted e away r i same = true≢false (sym (subst (λ p.
   here : z ≡ s.0
   here = both z s.0 (found_passes (λ r. is_le (place_cmp z r.0)) held s e) (subst (le s.0) (sym same) under)
 
-module _ (old : List Place) (held : List Route) (z : Place) (all : AreNeededBut Nobody old held) (free : IsFree held z) where
+module _ (old : List Place) (held : List Route) (z : Place) (free : IsFree held z) where
   -- The turn between the routes beside the place, and these.
   module _ (v : Place) (n : IsNeededBut Nobody old held v) (b : IsBetween held z v) where
     fore_below : lt n.fore.0 z
@@ -593,41 +550,43 @@ module _ (old : List Place) (held : List Route) (z : Place) (all : AreNeededBut 
       at (inr l) (inl k) = absurd (never n.aft.0 v (b.before n.aft n.beside.second k) n.upto)
       at (inr l) (inr k) = absurd (free n.aft n.beside.second (both z n.aft.0 k l))
 
-    one_between : (w : Place) → In old w → IsBetween held z w → w ≡ v
+    pub one_between : (w : Place) → In old w → IsBetween held z w → w ≡ v
     one_between w i c = at (n.alone w i (c.before n.fore n.beside.first fore_below) (c.after n.aft n.beside.second aft_above)) where
       at : (w ≡ v) ⊎ ⊥ → w ≡ v
       at (inl e) = e
       at (inr x) = absurd x
 
-  pub same_between : (v w : Place) → In old v → IsBetween held z v → In old w → IsBetween held z w → w ≡ v
-  same_between v w i b j c = at (all v i) where
+  pub same_between : AreNeededBut Nobody old held → (v w : Place) → In old v → IsBetween held z v → In old w → IsBetween held z w → w ≡ v
+  same_between all v w i b j c = at (all v i) where
     at : ⊥ ⊎ IsNeededBut Nobody old held v → w ≡ v
     at (inl x) = absurd x
     at (inr n) = one_between v n b w j c
 
   -- the routes beside the place are alike
-  pub none_between : (o p : Option Route) → IsStrictlySortedBy place_cmp (keys_of held) → find_last (λ r. is_lt (place_cmp r.0 z)) held ≡ o → find (λ r. is_lt (place_cmp z r.0)) held ≡ p → are_alike o p ≡ true
-      → (v : Place) → In old v → IsBetween held z v → ⊥
-  none_between o p sorted e f alike v i b = at (all v i) where
-    differ : (n : IsNeededBut Nobody old held v) (x a : Route) → IsLastBefore held z x → IsFirstAfter held z a → is_same (neighbour_of x) (neighbour_of a) ≡ true → ⊥
-    differ n x a l g same = true≢false (sym same ∙ ap₂ (λ r s. is_same (neighbour_of r) (neighbour_of s)) (one_route held x n.fore sorted l.there n.beside.first (both x.0 n.fore.0 (low (n.beside.none x l.there)) (l.most n.fore n.beside.first (fore_below v n b))))
-        (one_route held a n.aft sorted g.there n.beside.second (both a.0 n.aft.0 (g.least n.aft n.beside.second (aft_above v n b)) (high (n.beside.none a g.there)))) ∙ n.other) where
-          low : le x.0 n.fore.0 ⊎ le n.aft.0 x.0 → le x.0 n.fore.0
-          low (inl k) = k
-          low (inr k) = absurd (never x.0 z l.below (lt_le (place_cmp z x.0) (below_upto z n.aft.0 x.0 (aft_above v n b) k)))
+  module _ (o p : Option Route) (sorted : IsStrictlySortedBy place_cmp (keys_of held)) (e : find_last (λ r. is_lt (place_cmp r.0 z)) held ≡ o) (f : find (λ r. is_lt (place_cmp z r.0)) held ≡ p) (alike : are_alike o p ≡ true) (v : Place) (b : IsBetween held z v) where
+    pub none_needed : IsNeededBut Nobody old held v → ⊥
+    none_needed n = by o p e f alike where
+      differ : (x a : Route) → IsLastBefore held z x → IsFirstAfter held z a → is_same (neighbour_of x) (neighbour_of a) ≡ true → ⊥
+      differ x a l g same = true≢false (sym same ∙ ap₂ (λ r s. is_same (neighbour_of r) (neighbour_of s)) (one_route held x n.fore sorted l.there n.beside.first (both x.0 n.fore.0 (low (n.beside.none x l.there)) (l.most n.fore n.beside.first (fore_below v n b))))
+          (one_route held a n.aft sorted g.there n.beside.second (both a.0 n.aft.0 (g.least n.aft n.beside.second (aft_above v n b)) (high (n.beside.none a g.there)))) ∙ n.other) where
+            low : le x.0 n.fore.0 ⊎ le n.aft.0 x.0 → le x.0 n.fore.0
+            low (inl k) = k
+            low (inr k) = absurd (never x.0 z l.below (lt_le (place_cmp z x.0) (below_upto z n.aft.0 x.0 (aft_above v n b) k)))
 
-          high : le a.0 n.fore.0 ⊎ le n.aft.0 a.0 → le n.aft.0 a.0
-          high (inl k) = absurd (never z a.0 g.above (lt_le (place_cmp a.0 z) (upto_below a.0 n.fore.0 z k (fore_below v n b))))
-          high (inr k) = k
+            high : le a.0 n.fore.0 ⊎ le n.aft.0 a.0 → le n.aft.0 a.0
+            high (inl k) = absurd (never z a.0 g.above (lt_le (place_cmp a.0 z) (upto_below a.0 n.fore.0 z k (fore_below v n b))))
+            high (inr k) = k
 
-    by : (n : IsNeededBut Nobody old held v) (o p : Option Route) → find_last (λ r. is_lt (place_cmp r.0 z)) held ≡ o → find (λ r. is_lt (place_cmp z r.0)) held ≡ p → are_alike o p ≡ true → ⊥
-    by n o None e f k = true≢false (sym (aft_above v n b) ∙ in_each (λ r. is_lt (place_cmp z r.0) ≡ false) held n.aft (none_found (λ r. is_lt (place_cmp z r.0)) held f) n.beside.second)
-    by n None (Some a) e f k = true≢false (sym (fore_below v n b) ∙ in_each (λ r. is_lt (place_cmp r.0 z) ≡ false) held n.fore (no_last (λ r. is_lt (place_cmp r.0 z)) held e) n.beside.first)
-    by n (Some x) (Some a) e f k = differ n x a (last_before held sorted z x e) (first_after held sorted z a f) k
+      by : (o p : Option Route) → find_last (λ r. is_lt (place_cmp r.0 z)) held ≡ o → find (λ r. is_lt (place_cmp z r.0)) held ≡ p → are_alike o p ≡ true → ⊥
+      by o None e f k = true≢false (sym (aft_above v n b) ∙ in_each (λ r. is_lt (place_cmp z r.0) ≡ false) held n.aft (none_found (λ r. is_lt (place_cmp z r.0)) held f) n.beside.second)
+      by None (Some a) e f k = true≢false (sym (fore_below v n b) ∙ in_each (λ r. is_lt (place_cmp r.0 z) ≡ false) held n.fore (no_last (λ r. is_lt (place_cmp r.0 z)) held e) n.beside.first)
+      by (Some x) (Some a) e f k = differ x a (last_before held sorted z x e) (first_after held sorted z a f) k
 
-    at : ⊥ ⊎ IsNeededBut Nobody old held v → ⊥
-    at (inl x) = x
-    at (inr n) = by n o p e f alike
+    pub none_between : AreNeededBut Nobody old held → In old v → ⊥
+    none_between all i = at (all v i) where
+      at : ⊥ ⊎ IsNeededBut Nobody old held v → ⊥
+      at (inl x) = x
+      at (inr n) = none_needed n
 
 -- a turn that is put lies between the routes beside the place
 pub put_between : (held : List Route) (z : Place) (asn : Option ℕ) (u : Place) → IsPut held z asn u → IsBetween held z u

@@ -5,7 +5,7 @@ use Rattle.std.specs.List.Sorted.{IsStrictlySortedBy}
 use Rattle.std.specs.Ordering.{match_ordering, ordering_then, nat_cmp}
 use Rattle.std.specs.BTreeMap.{insert_entry, is_at}
 use Rattle.std.specs.BTreeSet.{insert_key}
-use Rattle.std.specs.Map.{keys_of, remove_entry}
+use Rattle.std.specs.Map.{keys_of}
 use Rattle.std.specs.Set.{remove_key}
 use Rattle.std.proofs.Math.Path.{ap₂}
 use Rattle.std.proofs.lemmas.Map.Keys.{sorted_head, sorted_tail}
@@ -62,6 +62,12 @@ any_in {X} q (y ∷ ys) h = at (q y) refl (any_in q ys) h where
   at true e ih k = (y, inl refl, e)
   at false e ih k = later (ih k)
 
+-- a place that is listed
+pub there : (t : Place) (ts : List Place) → list_any (is_at (place_cmp t)) ts ≡ true → In ts t
+there t ts h = at (any_in (is_at (place_cmp t)) ts h) where
+  at : (u : Place) × In ts u × (is_at (place_cmp t) u ≡ true) → In ts t
+  at f = subst (In ts) (sym (exact_place t f.0 f.2)) f.1
+
 pub found_in : {X : Type 0} (test : X → Bool) (xs : List X) (x : X) → find test xs ≡ Some x → In xs x
 found_in test xs x h = found_each test (In xs) xs x h (each_in (In xs) xs (λ y k. k))
 
@@ -102,6 +108,15 @@ kept e (x ∷ xs) u h = at (e x) (kept e xs u) h where
   at true ih l = inr l
   at false ih (inl s) = inl s
   at false ih (inr l) = inr (ih l)
+
+pub other_kept : (e : Place → Bool) (ks : List Place) (u : Place) → e u ≡ false → In ks u → In (remove_key e ks) u
+other_kept e [] u away h = absurd h
+other_kept e (x ∷ xs) u away h = at (e x) refl (other_kept e xs u away) h where
+  at : (b : Bool) → e x ≡ b → (In xs u → In (remove_key e xs) u) → In (x ∷ xs) u → In (cond b xs (x ∷ remove_key e xs)) u
+  at true f ih (inl s) = absurd (true≢false (sym f ∙ ap e s ∙ away))
+  at true f ih (inr l) = l
+  at false f ih (inl s) = inl s
+  at false f ih (inr l) = inr (ih l)
 
 -- the one that is removed is gone
 pub gone : (k : Place) (ks : List Place) (u : Place) → IsStrictlySortedBy place_cmp ks → In (remove_key (is_at (place_cmp k)) ks) u → u ≡ k → ⊥
@@ -162,20 +177,3 @@ put_other (x ∷ held) z path r apart h = at (place_cmp z x.0) refl (put_other h
   at Equal f ih (inr l) = inr l
   at Greater f ih (inl e) = inl e
   at Greater f ih (inr l) = inr (ih l)
-
-pub removed_from : (e : Place → Bool) (held : List Route) (r : Route) → In (remove_entry e held) r → In held r
-removed_from e [] r h = absurd h
-removed_from e (x ∷ held) r h = at (e x.0) (removed_from e held r) h where
-  at : (b : Bool) → (In (remove_entry e held) r → In held r) → In (cond b held (x ∷ remove_entry e held)) r → In (x ∷ held) r
-  at true ih l = inr l
-  at false ih (inl s) = inl s
-  at false ih (inr l) = inr (ih l)
-
-pub removed_other : (e : Place → Bool) (held : List Route) (r : Route) → e r.0 ≡ false → In held r → In (remove_entry e held) r
-removed_other e [] r apart h = absurd h
-removed_other e (x ∷ held) r apart h = at (e x.0) refl (removed_other e held r apart) h where
-  at : (b : Bool) → e x.0 ≡ b → (In held r → In (remove_entry e held) r) → In (x ∷ held) r → In (cond b held (x ∷ remove_entry e held)) r
-  at true f ih (inl s) = absurd (true≢false (sym f ∙ ap (λ t. e t.0) s ∙ apart))
-  at true f ih (inr l) = l
-  at false f ih (inl s) = inl s
-  at false f ih (inr l) = inr (ih l)

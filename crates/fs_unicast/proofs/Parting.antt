@@ -6,10 +6,10 @@ use Rattle.std.specs.Ordering.{match_ordering}
 use Rattle.std.specs.BTreeMap.{insert_entry}
 use Rattle.std.specs.BTreeSet.{insert_key}
 use Rattle.std.specs.Cmp.{tied_itself}
-use Rattle.std.specs.Map.{keys_of, remove_entry}
+use Rattle.std.specs.Map.{keys_of}
 use Rattle.std.proofs.lemmas.Bool.Decides.{nat_tests}
 use Rattle.fs_base.proofs.Bools.{and_both, and_first, and_second, or_first, or_second}
-use Rattle.fs_base.proofs.Lists.{each, each_weaker, each_both, each_remove, any_weaker}
+use Rattle.fs_base.proofs.Lists.{each, each_weaker, each_both, any_weaker}
 use Rattle.fs_base.specs.declared.path.Path.{Path}
 use Rattle.fs_unicast.specs.declared.unicast.Place.{Place}
 use Rattle.fs_unicast.specs.Neighbour.{neighbour}
@@ -71,12 +71,6 @@ stays_before old new held y asn stays h = each_weaker (λ r. is_lt (place_cmp r.
 
 pub stays_all : (old new : List Place) (held : List Route) → StaysParted old new → IsParted old held → IsParted new held
 stays_all old new held stays h = each_weaker (λ r. IsPartedAfter old held r.0 (neighbour_of r)) (λ r. IsPartedAfter new held r.0 (neighbour_of r)) (λ r. stays_after old new held r.0 (neighbour_of r) stays) held h
-
--- a route goes
-pub parted_removed : (turns : List Place) (test : Place → Bool) (held : List Route) → IsParted turns held → IsParted turns (remove_entry test held)
-parted_removed turns test held h = each_remove (λ r. IsPartedAfter turns (remove_entry test held) r.0 (neighbour_of r)) test held
-    (each_weaker (λ r. IsPartedAfter turns held r.0 (neighbour_of r)) (λ r. IsPartedAfter turns (remove_entry test held) r.0 (neighbour_of r))
-    (λ r. each_remove (λ s. is_lt (place_cmp r.0 s.0) ≡ true → is_same (neighbour_of r) (neighbour_of s) ≡ false → are_parted turns r.0 s.0 ≡ true) test held) held h)
 
 -- what holds of each entry and of the new one, at each place that is equal to its own, holds after an insertion
 each_put : (P : Route → Type 0) (z : Place) (path : Path) → ((q : Place) → place_cmp z q ≡ Equal → P (q, path)) → P (z, path) → (held : List Route) → AllByRecursion P held → AllByRecursion P (insert_entry place_cmp held z path)

@@ -4,33 +4,24 @@ use Rattle.std.specs.List.{list_any}
 use Rattle.std.specs.List.Sorted.{IsStrictlySortedBy}
 use Rattle.std.specs.BTreeMap.{insert_entry, is_at}
 use Rattle.std.specs.BTreeSet.{insert_key}
-use Rattle.std.specs.Map.{keys_of, remove_entry}
+use Rattle.std.specs.Map.{keys_of}
 use Rattle.std.specs.Set.{remove_key}
 use Rattle.fs_base.proofs.Bools.{and_first, and_second, or_either, false_of_not}
 use Rattle.fs_unicast.specs.declared.unicast.Place.{Place}
 use Rattle.fs_unicast.specs.Unicast.{Route, place_cmp}
 use Rattle.fs_unicast.specs.Turns.{neighbour_of, is_same, is_alike, are_alike, put_before, put_after, was_before, was_after, IsParted, IsPartedBefore, IsPartedAfter, NoneIdle, NoneIdleBut, IsSettled, Settles, find_last}
 use Rattle.fs_unicast.proofs.PlaceOrder.{below_upto, lt_le}
-use Rattle.fs_unicast.proofs.Parting.{parted_put, parted_removed}
-use Rattle.fs_unicast.proofs.Members.{In, inserted, kept, any_in, exact_place, in_any, one_route}
+use Rattle.fs_unicast.proofs.Parting.{parted_put}
+use Rattle.fs_unicast.proofs.Members.{In, inserted, kept, there, in_any, one_route}
 use Rattle.fs_unicast.proofs.Needed.{never, le_from, Nobody, IsNext, all_from, all_back, all_tidied, looser}
-use Rattle.fs_unicast.proofs.Changes.{IsHere, IsBehind, IsPut, AreGrown, IsFree, IsFirstAfter, IsBetween, equal_itself, last_before, first_after, first_once, all_removed, all_put, all_refused, all_settled, same_between, none_between, put_between}
+use Rattle.fs_unicast.proofs.Changes.{IsHere, IsBehind, IsPut, AreGrown, IsFree, IsFirstAfter, IsBetween, equal_itself, last_before, first_after, first_once, all_put, all_refused, all_settled, same_between, none_between, put_between}
 
 -- none is idle, so none is beside a place
 pub none_but : (turns : List Place) (held : List Route) (z : Place) → IsStrictlySortedBy place_cmp (keys_of held) → IsParted turns held → NoneIdle turns held → NoneIdleBut turns held z
 none_but turns held z sorted parted needed places = all_tidied held turns z (record { routes = sorted; places = places; parted = parted }) (looser Nobody (IsNext turns z) (λ v x. absurd x) turns held (all_from turns held sorted parted needed))
 
--- a route goes
-pub removed_but : (turns : List Place) (held : List Route) (z : Place) → IsStrictlySortedBy place_cmp (keys_of held) → IsStrictlySortedBy place_cmp (keys_of (remove_entry (is_at (place_cmp z)) held)) → IsParted turns held → NoneIdle turns held → NoneIdleBut turns (remove_entry (is_at (place_cmp z)) held) z
-removed_but turns held z sorted left parted needed places = all_tidied (remove_entry (is_at (place_cmp z)) held) turns z (record { routes = left; places = places; parted = parted_removed turns (is_at (place_cmp z)) held parted }) (all_removed turns held z places (all_from turns held sorted parted needed))
-
 not_both : (a : Bool) → a ≡ true → a ≡ false → ⊥
 not_both a h k = true≢false (sym h ∙ k)
-
-there : (t : Place) (ts : List Place) → list_any (is_at (place_cmp t)) ts ≡ true → In ts t
-there t ts h = at (any_in (is_at (place_cmp t)) ts h) where
-  at : (u : Place) × In ts u × (is_at (place_cmp t) u ≡ true) → In ts t
-  at f = subst (In ts) (sym (exact_place t f.0 f.2)) f.1
 
 either_before : (old : List Place) (z : Place) (asn : Option ℕ) (before : Option Route) (u : Place) → In (put_before asn before z old) u → In old u ⊎ (u ≡ z)
 either_before old z asn before u h = at (is_alike asn before) h where
@@ -102,7 +93,7 @@ module _ (old : List Place) (held : List Route) (z : Place) (before after : Opti
   -- one of the turns was there: it is the one between the routes beside the place
   module _ (free : IsFree held z) where
     known : (t : Place) → In old t → IsPut held z asn t → (u : Place) → In old u → IsBetween held z u → IsPut held z asn u
-    known t i p u j b = subst (IsPut held z asn) (sym (same_between old held z (all_from old held sorted was needed) free t u i (put_between held z asn t p) j b)) p
+    known t i p u j b = subst (IsPut held z asn) (sym (same_between old held z free (all_from old held sorted was needed) t u i (put_between held z asn t p) j b)) p
 
     was_put : (o : Option Route) → o ≡ find (λ r. is_lt (place_cmp z r.0)) held → was_after asn o (put_before asn before z old) ≡ true → (t : Place) × In old t × IsPut held z asn t
     was_put None e h = absurd (true≢false (sym h))
@@ -136,7 +127,7 @@ module _ (old : List Place) (held : List Route) (z : Place) (before after : Opti
     -- the routes beside the place are alike, so no turn was between them
     pub settled_alike : (new : List Place) → new ≡ put_after asn after (put_before asn before z old) → are_alike before after ≡ true → IsSettled new held z asn
     settled_alike new is h = grown_settled old new held z asn sorted was needed (subst (λ ts. AreGrown old ts held z asn) (sym is) grown_put)
-        (λ u i j b. absurd (none_between old held z (all_from old held sorted was needed) free before after sorted (sym last) (sym first) h u j b))
+        (λ u i j b. absurd (none_between old held z free before after sorted (sym last) (sym first) h u b (all_from old held sorted was needed) j))
 
     -- the turn at the route after the place is no longer wanted, and was the one between the routes beside it
     module _ (put new : List Place) (a : Route) (is : put ≡ put_after asn after (put_before asn before z old)) (at_a : after ≡ Some a) (alike : is_same (neighbour_of a) asn ≡ true)
@@ -161,6 +152,6 @@ module _ (old : List Place) (held : List Route) (z : Place) (before after : Opti
       grown_left = grown_less old put new held z asn (is_at (place_cmp a.0)) left (subst (λ ts. AreGrown old ts held z asn) (sym is) grown_put)
 
       pub settled_moved : list_any (is_at (place_cmp a.0)) new ≡ false → IsSettled new held z asn
-      settled_moved out = grown_settled old new held z asn sorted was needed grown_left (λ u i j b. absurd (gone_a u i (same_between old held z (all_from old held sorted was needed) free a.0 u was_old between_a j b))) where
+      settled_moved out = grown_settled old new held z asn sorted was needed grown_left (λ u i j b. absurd (gone_a u i (same_between old held z free (all_from old held sorted was needed) a.0 u was_old between_a j b))) where
         gone_a : (u : Place) → In new u → u ≡ a.0 → ⊥
         gone_a u i e = not_both (list_any (is_at (place_cmp a.0)) new) (in_any (is_at (place_cmp a.0)) new u i (subst (λ p. is_at (place_cmp p) u ≡ true) e (equal_itself u))) out

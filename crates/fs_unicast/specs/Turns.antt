@@ -56,6 +56,11 @@ abbrev pub are_alike : Option Route → Option Route → Bool
 are_alike before None = true
 are_alike before (Some r) = is_alike (neighbour_of r) before
 
+-- a route is there whose path names this neighbouring AS
+abbrev pub names : Option ℕ → Option Route → Bool
+names asn None = false
+names asn (Some r) = is_same (neighbour_of r) asn
+
 -- the places are parted at the route, if one is there whose neighbouring AS isn't this
 abbrev pub IsPartedAt : List Place → Option ℕ → Option Route → Type 0
 IsPartedAt turns asn None = Unit {0}
@@ -115,6 +120,18 @@ was_before asn before z turns = not (is_alike asn before) && list_any (is_at (pl
 abbrev pub was_after : Option ℕ → Option Route → List Place → Bool
 was_after asn None turns = false
 was_after asn (Some r) turns = not (is_same (neighbour_of r) asn) && list_any (is_at (place_cmp r.0)) turns
+
+-- without this turn, if there is one
+abbrev pub without : List Place → Option Place → List Place
+without turns None = turns
+without turns (Some t) = remove_key (is_at (place_cmp t)) turns
+
+-- the last turn up to the place, or None where all lie after it
+abbrev pub IsLastUpto : List Place → Place → Option Place → Type 0
+IsLastUpto turns z None = AllByRecursion (λ t. is_le (place_cmp t z) ≡ false) turns
+IsLastUpto turns z (Some t) =
+    (list_any (is_at (place_cmp t)) turns ≡ true) × (is_le (place_cmp t z) ≡ true)
+    × AllByRecursion (λ u. is_le (place_cmp u z) ≡ true → is_le (place_cmp u t) ≡ true) turns
 
 -- some two routes are parted by t alone; else it is idle
 abbrev pub is_needed : List Place → List Route → Place → Bool

@@ -82,9 +82,11 @@ impl Routes {
         ensures removed { self.new ≡ remove_entry (is_at (place_cmp place.now)) self.old }
         ensures held { result ≡ is_some (lookup (is_at (place_cmp place.now)) self.old) }
     {
-        let held = self.paths.remove(place).is_some();
-        turns::tidy(&self.paths, &mut self.turns, place);
-        held
+        let Some(gone) = self.paths.remove(place) else {
+            return false;
+        };
+        turns::close_gap(&self.paths, &mut self.turns, place, &gone);
+        true
     }
 
     /// Whether a route from `low` on and before `high` has another neighbouring AS than `asn`; of None, whether

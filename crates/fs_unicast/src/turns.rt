@@ -1,18 +1,18 @@
 //! The turns among the routes, and the routes beside a place.
 
-ghost use Rattle.std.specs.Prelude.{◌≡◌, true, false, IfOk, OnOk, OnErr, option_map, find, ◌&&◌, ◌||◌};
+ghost use Rattle.std.specs.Prelude.{◌≡◌, true, false, None, IfOk, IfSome, OnOk, OnErr, option_map, find, ◌&&◌, ◌||◌};
 ghost use Rattle.std.specs.Option.{option_copied};
 ghost use Rattle.std.specs.Ordering.{is_le, is_lt};
 ghost use Rattle.std.specs.BTreeMap.{insert_entry, is_at};
 ghost use Rattle.std.specs.BTreeSet.{insert_key};
 ghost use Rattle.std.specs.List.{list_any};
-ghost use Rattle.std.specs.Map.{keys_of};
+ghost use Rattle.std.specs.Map.{keys_of, lookup};
 ghost use Rattle.std.specs.List.Sorted.{IsStrictlySortedBy};
 ghost use Rattle.fs_unicast.specs.Search.{is_other};
 ghost use Rattle.fs_unicast.specs.Neighbour.{neighbour};
 ghost use Rattle.fs_unicast.specs.Unicast.{place_cmp};
 ghost use Rattle.fs_base.specs.declared.path.Path.{Path};
-ghost use Rattle.fs_unicast.specs.Turns.{entry_now, stands_at, is_alike, are_alike, is_same, is_within, lies_between, are_parted, find_last, is_alone, is_needed, without_idle, tidied, put_before, put_after, was_before, was_after, IsParted, IsPartedAt, IsPartedBefore, IsPartedAfter, StaysParted, PartsAt, NoneIdle, NoneIdleBut, IsSettled, Settles, is_inside};
+ghost use Rattle.fs_unicast.specs.Turns.{entry_now, stands_at, is_alike, are_alike, is_same, is_within, lies_between, are_parted, find_last, is_alone, is_needed, without_idle, tidied, names, without, put_before, put_after, was_before, was_after, IsParted, IsPartedAt, IsPartedBefore, IsPartedAfter, StaysParted, PartsAt, NoneIdle, NoneIdleBut, IsSettled, Settles, IsLastUpto, AreKept, is_inside};
 
 use crate::neighbour::neighbour_as;
 use crate::shared::SharedPath;
@@ -320,8 +320,75 @@ fn last_turn(turns: &BTreeSet<Place>, place: &Place) -> Option<Place>
     turns.range(..=*place).next_back().copied()
 }
 
+/// Takes the turns away that are idle without the route that stood at the place. Where a route beside the place names
+/// the same neighbouring AS none is. Else a turn lies on each side where a route is: one of them is enough to part the
+/// routes beside the place, and where these are alike or one is missing none is wanted. Takes no memory.
+pub fn close_gap(
+    paths: &BTreeMap<Place, SharedPath>,
+    turns: &mut BTreeSet<Place>,
+    place: &Place,
+    gone: &SharedPath,
+)
+    requires ordered { IsStrictlySortedBy place_cmp (keys_of paths.now.entries) }
+    requires free { lookup (is_at (place_cmp place.now)) paths.now.entries ≡ None }
+    requires kept { AreKept turns.old.keys (insert_entry place_cmp paths.now.entries place.now gone.now) }
+    ensures { AreKept turns.new.keys paths.now.entries }
+{
+    if turns.is_empty() {
+        return;
+    }
+    let asn = gone.neighbour();
+    let before = last_before(paths, place);
+    if names(before, asn) {
+        return;
+    }
+    let after = first_after(paths, place);
+    if names(after, asn) {
+        return;
+    }
+    take_last(turns, place);
+    if are_alike(before, after) {
+        take_next(turns, place);
+    }
+}
+
+/// Whether there is a route whose path names this neighbouring AS.
+fn names(route: Option<(&Place, &SharedPath)>, asn: Option<u32>) -> bool
+    ensures { result ≡ names asn (option_map entry_now route.entry) }
+{
+    match route {
+        Some((_, held)) => has_neighbour(held, asn),
+        None => false,
+    }
+}
+
+/// Takes the last turn up to the place away, which mostly stands at the place itself.
+fn take_last(turns: &mut BTreeSet<Place>, place: &Place) -> Option<Place>
+    ensures last { IsLastUpto turns.old.keys place.now result }
+    ensures taken { turns.new.keys ≡ without turns.old.keys result }
+    ensures gone { IfSome result (λ t. list_any (is_at (place_cmp t)) turns.new.keys ≡ false) }
+{
+    if turns.remove(place) {
+        return Some(*place);
+    }
+    let turn = last_turn(turns, place)?;
+    turns.remove(&turn);
+    Some(turn)
+}
+
+/// Takes the first turn after the place away.
+fn take_next(turns: &mut BTreeSet<Place>, place: &Place) -> Option<Place>
+    ensures found { result ≡ find (λ t. is_lt (place_cmp place.now t)) turns.old.keys }
+    ensures taken { turns.new.keys ≡ without turns.old.keys result }
+    ensures ordered { IsStrictlySortedBy place_cmp turns.old.keys }
+{
+    let turn = next_turn(turns, place)?;
+    turns.remove(&turn);
+    Some(turn)
+}
+
 /// Takes the turns beside the place away that are idle: the last one up to it, and then the first one after it. To
-/// be called after a change at the place, which leaves no other turn idle. Takes no memory.
+/// be called after a put at the place, which leaves no other turn idle. Takes no memory.
 pub fn tidy(paths: &BTreeMap<Place, SharedPath>, turns: &mut BTreeSet<Place>, place: &Place)
     requires parted { IsParted turns.old.keys paths.now.entries }
     requires beside { NoneIdleBut turns.old.keys paths.now.entries place.now }
