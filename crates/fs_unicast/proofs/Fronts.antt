@@ -1,6 +1,6 @@
 -- The first prefix from another on that has a route: its routes stand in front of the range, and where it isn't one under
 -- the prefix under which the range begins, nothing lies under that one.
-use Rattle.std.proofs.Common.{ℕ, ◌≡◌, refl, sym, ap, subst, ◌∙◌, Bool, true, false, true≢false, not, ◌&&◌, List, ◌∷◌, cond, None, filter, map, fold, Ordering, Less, Equal, Greater, is_eq, is_le, Option}
+use Rattle.std.proofs.Common.{ℕ, ◌≡◌, refl, sym, ap, subst, ◌∙◌, Bool, true, false, true≢false, not, ◌&&◌, List, ◌∷◌, cond, None, filter, map, fold, Ordering, Less, Equal, Greater, is_eq, is_le, Option, Some, [], IfSome}
 use Rattle.std.specs.List.{AllByRecursion}
 use Rattle.std.specs.List.Sorted.{IsStrictlySortedBy}
 use Rattle.std.specs.Map.{keys_of}
@@ -13,13 +13,14 @@ use Rattle.fs_base.specs.Prefix.{covers, prefix_cmp, prefix_total}
 use Rattle.fs_base.specs.Search.{IsFirst, IsLongest}
 use Rattle.fs_base.proofs.Bools.{and_both, and_first, and_second, false_from, false_of_not, same_tests}
 use Rattle.fs_base.proofs.Covers.{covered_before}
-use Rattle.fs_base.proofs.Nesting.{covers_self}
-use Rattle.fs_base.proofs.Lists.{each_weaker, each_none, filter_on}
+use Rattle.fs_base.proofs.Nesting.{alike_covers, covers_self}
+use Rattle.fs_base.proofs.Lists.{each_weaker, each_none, none_each, filter_on}
+use Rattle.fs_base.proofs.SamePrefix.{same_from_cmp}
 use Rattle.fs_base.proofs.Seeking.{Seeking, seeking_starts, seeking_ends, seeking_found, seeking_more, seeking_apart}
 use Rattle.fs_base.specs.declared.path.Path.{Path}
-use Rattle.fs_unicast.specs.Preference.{better}
+use Rattle.fs_unicast.specs.Preference.{better, preferred}
 use Rattle.fs_unicast.specs.Unicast.{Route, place_cmp}
-use Rattle.fs_unicast.specs.Search.{AreCoversOver, IsFront, candidate, is_same_prefix, is_strictly_under, is_other, best_at, best_match_of, others_under}
+use Rattle.fs_unicast.specs.Search.{AreCoversOver, IsFront, candidate, is_same_prefix, is_strictly_under, is_other, is_other_offer, best_at, best_match_of, others_under}
 use Rattle.fs_unicast.proofs.Ranges.{place, first_in_range, front_range, best_starts, from_test, no_best}
 
 upto_upto : (x y z : Prefix) → is_le (prefix_cmp x y) ≡ true → is_le (prefix_cmp y z) ≡ true → is_le (prefix_cmp x z) ≡ true
@@ -142,3 +143,46 @@ module _ (d low : Prefix) (held : List Route) (law : (p : Prefix) → covers d p
 
     pub nothing_over : covers d q ≡ false → (d.family ≡ q.family → ⊥) → None ≡ best_match_of held d
     nothing_over apart other = no_best held d (seeking_apart (λ r. r.0.prefix) held d d q (seeking_starts (λ r. r.0.prefix) held d) (first_behind (behind apart)) other)
+
+-- what holds of each of some routes holds of their best
+best_keeps : (P : ℕ × Path → Type 0) (rs : List (ℕ × Path)) (best : Option (ℕ × Path)) → IfSome best P → AllByRecursion P rs → IfSome (fold better best rs) P
+best_keeps P [] best h all = h
+best_keeps P (r ∷ rs) None h all = best_keeps P rs (Some r) all.0 all.1
+best_keeps P (r ∷ rs) (Some s) h all = at (preferred r s) (best_keeps P rs (Some r) all.0 all.1) (best_keeps P rs (Some s) h all.1) where
+  at : (b : Bool) → IfSome (fold better (Some r) rs) P → IfSome (fold better (Some s) rs) P → IfSome (fold better (cond b (Some r) (Some s)) rs) P
+  at true f g = f
+  at false f g = g
+
+-- of the routes that pass
+kept_each : (P : ℕ × Path → Type 0) (test : Route → Bool) (held : List Route) → AllByRecursion (λ r. test r ≡ true → P (candidate r)) held → AllByRecursion P (map candidate (filter test held))
+kept_each P test [] all = tt
+kept_each P test (r ∷ held) all = at (test r) refl (kept_each P test held all.1) where
+  at : (b : Bool) → test r ≡ b → AllByRecursion P (map candidate (filter test held)) → AllByRecursion P (map candidate (cond b (r ∷ filter test held) (filter test held)))
+  at true e rest = (all.0 e, rest)
+  at false e rest = rest
+
+-- The best route at a prefix under d, where it has another neighbouring AS, tells that there is one.
+pub best_tells : (held : List Route) (d q : Prefix) (local_as : ℕ) (asn : Option ℕ) (best : Option (ℕ × Path)) → best ≡ best_at held q → is_strictly_under d q ≡ true
+    → is_other_offer local_as asn best ≡ true → true ≡ others_under held d local_as asn
+best_tells held d q local_as asn best is under other = at (others_under held d local_as asn) refl where
+  unlike : (b : Option (ℕ × Path)) → IfSome b (λ r. is_other local_as asn r.1 ≡ false) → is_other_offer local_as asn b ≡ false
+  unlike None h = refl
+  unlike (Some r) h = h
+
+  same : (r : Route) → (is_strictly_under d r.0.prefix && is_other local_as asn r.1) ≡ false → is_same_prefix q r.0.prefix ≡ true → is_other local_as asn r.1 ≡ false
+  same r none e = sym (ap (λ b. b && is_other local_as asn r.1) (subst (λ p. is_strictly_under d p ≡ true) (same_from_cmp q r.0.prefix e) under)) ∙ none
+
+  at : (b : Bool) → others_under held d local_as asn ≡ b → true ≡ b
+  at true e = refl
+  at false e = absurd (true≢false (sym other ∙ ap (is_other_offer local_as asn) is ∙ unlike (best_at held q)
+      (best_keeps (λ r. is_other local_as asn r.1 ≡ false) (map candidate (filter (λ r. is_same_prefix q r.0.prefix) held)) None tt
+      (kept_each (λ r. is_other local_as asn r.1 ≡ false) (λ r. is_same_prefix q r.0.prefix) held
+      (each_weaker (λ r. (is_strictly_under d r.0.prefix && is_other local_as asn r.1) ≡ false) (λ r. is_same_prefix q r.0.prefix ≡ true → is_other local_as asn r.1 ≡ false) same held
+      (none_each (λ r. is_strictly_under d r.0.prefix && is_other local_as asn r.1) held e))))))
+
+-- what d covers and what doesn't cover d lies strictly under d
+pub strictly : (d q : Prefix) → covers d q ≡ true → covers q d ≡ false → is_strictly_under d q ≡ true
+strictly d q over apart = and_both (covers d q) (not (is_same_prefix d q)) over (at (is_same_prefix d q) refl) where
+  at : (b : Bool) → is_same_prefix d q ≡ b → not b ≡ true
+  at false e = refl
+  at true e = absurd (true≢false (sym (covers_self d) ∙ alike_covers d q d e ∙ apart))

@@ -1,7 +1,7 @@
 //! Look-ups in the ordered map of routes.
 
-ghost use Rattle.std.specs.Prelude.{◌≡◌, IfSome, filter, fold, map, option_map};
-ghost use Rattle.fs_unicast.specs.Search.{AreCoversOver, IsFront, candidate, is_same_prefix, best_at, best_match_of, neighbour_of, others_under, held_by, start_of};
+ghost use Rattle.std.specs.Prelude.{◌≡◌, true, IfSome, filter, fold, map, option_map};
+ghost use Rattle.fs_unicast.specs.Search.{AreCoversOver, IsFront, candidate, is_same_prefix, is_strictly_under, is_other_offer, best_at, best_match_of, neighbour_of, others_under, held_by, start_of};
 ghost use Rattle.fs_unicast.specs.Preference.{better, offered};
 ghost use Rattle.fs_unicast.specs.Unicast.{place_cmp};
 ghost use Rattle.std.specs.Option.{option_copied};
@@ -96,6 +96,7 @@ fn better<'a>(best: Option<Offer<'a>>, route: Offer<'a>) -> Offer<'a>
 /// The most preferred route at the longest prefix that covers this one and has a route, and whether a route strictly
 /// under this prefix has another neighbouring AS than that one; without it, whether there is any. Mostly nothing lies
 /// under the prefix, which the first route from there on tells: a cover, if it is one, and else a place to go on from.
+/// Where one lies under the prefix, it is asked first.
 pub fn best_and_others<'a>(
     routes: &'a Routes,
     prefix: &Prefix,
@@ -114,7 +115,8 @@ pub fn best_and_others<'a>(
     }
     if prefix.covers(&first) {
         let longest = best_match(held, prefix);
-        let others = others_under(routes, prefix, local_as, neighbour_of(longest, local_as));
+        let asn = neighbour_of(longest, local_as);
+        let others = others_from(routes, prefix, local_as, asn, &first, best);
         return (longest, others);
     }
     match prefix.common(&first) {
@@ -178,6 +180,37 @@ pub fn others_under(routes: &Routes, prefix: &Prefix, local_as: u32, asn: Option
         peer: 0,
     };
     routes.others_within(low, &high, local_as, asn)
+}
+
+/// As `others_under`, where `best` is the most preferred route at `first`, which lies strictly under the prefix: if that
+/// route has another neighbouring AS, no other one is looked up.
+fn others_from(
+    routes: &Routes,
+    prefix: &Prefix,
+    local_as: u32,
+    asn: Option<u32>,
+    first: &Prefix,
+    best: Option<Offer<'_>>,
+) -> bool
+    requires best { option_map offered best ≡ best_at routes.now first.now }
+    requires under { is_strictly_under prefix.now first.now ≡ true }
+    ensures { result ≡ others_under routes.now prefix.now local_as asn }
+{
+    if is_other(best, local_as, asn) {
+        return true;
+    }
+    others_under(routes, prefix, local_as, asn)
+}
+
+/// Whether there is a route, and it has another neighbouring AS.
+fn is_other(route: Option<Offer<'_>>, local_as: u32, asn: Option<u32>) -> bool
+    ensures { result ≡ is_other_offer local_as asn (option_map offered route.entry) }
+{
+    match (route, asn) {
+        (Some(route), Some(asn)) => neighbour_as(route.path.segments.as_slice(), local_as) != asn,
+        (Some(_), None) => true,
+        (None, _) => false,
+    }
 }
 
 /// The first prefix in order, from `from` on or from the start, at which the peer holds a route.

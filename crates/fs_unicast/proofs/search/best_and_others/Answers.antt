@@ -1,6 +1,6 @@
 use Rattle.std.proofs.Common.{◌∙◌, sym, ap}
-use Rattle.fs_unicast.specs.Search.{best_match_of, neighbour_of, others_under}
-use Rattle.fs_unicast.proofs.Fronts.{behind, goes_over, longest_over, no_cover, none_left, none_under, nothing_over}
+use Rattle.fs_unicast.specs.Search.{best_at, best_match_of, neighbour_of, others_under}
+use Rattle.fs_unicast.proofs.Fronts.{behind, goes_over, longest_over, no_cover, none_left, none_under, nothing_over, strictly}
 use Rattle.fs_unicast.proofs.Ranges.{best_at_longest}
 use Rattle.fs_base.proofs.Covers.{covered_before}
 use Rattle.fs_unicast.proofs.search.best_and_others.Goals as goal
@@ -27,9 +27,9 @@ returns-then-covers-clause-others c = none_under c.args.prefix.now c.first_under
     ∙ ap (λ rs. others_under rs c.args.prefix.now c.args.local_as (neighbour_of c.args.local_as (best_match_of c.args.routes.now c.args.prefix.now))) c.paths-held.ensures
 
 pub returns-then-covers-2-clause-others : goal.returns-then-covers-2-clause-others
-returns-then-covers-2-clause-others c = c.others_under-others.ensures
+returns-then-covers-2-clause-others c = c.others_from-others.ensures
     ∙ ap (others_under c.args.routes.now c.args.prefix.now c.args.local_as)
-    (c.neighbour_of.ensures ∙ ap (neighbour_of c.args.local_as) (c.best_match-longest.ensures ∙ ap (λ rs. best_match_of rs c.args.prefix.now) c.paths-held.ensures))
+    (c.neighbour_of-asn.ensures ∙ ap (neighbour_of c.args.local_as) (c.best_match-longest.ensures ∙ ap (λ rs. best_match_of rs c.args.prefix.now) c.paths-held.ensures))
 
 pub best_over-requires : goal.best_over-requires
 best_over-requires c = goes_over c.args.prefix.now c.first_under.result c.paths-held.result.now.entries c.first_under.ensures c.in-Some.first c.in-Some.ensures.first
@@ -51,3 +51,9 @@ returns-in-None-clause-others c = none_under c.args.prefix.now c.first_under.res
     (behind c.args.prefix.now c.first_under.result c.paths-held.result.now.entries c.first_under.ensures c.in-Some.first c.in-Some.ensures.first (sym c.covers-2.ensures ∙ c.if-covers-2.false))
     c.args.local_as (neighbour_of c.args.local_as (best_match_of c.args.routes.now c.args.prefix.now))
     ∙ ap (λ rs. others_under rs c.args.prefix.now c.args.local_as (neighbour_of c.args.local_as (best_match_of c.args.routes.now c.args.prefix.now))) c.paths-held.ensures
+
+pub others_from-others-requires-clause-best : goal.others_from-others-requires-clause-best
+others_from-others-requires-clause-best c = c.in-Some.ensures.best ∙ ap (λ rs. best_at rs c.in-Some.first) c.paths-held.ensures
+
+pub others_from-others-requires-clause-under : goal.others_from-others-requires-clause-under
+others_from-others-requires-clause-under c = strictly c.args.prefix.now c.in-Some.first (sym c.covers-2.ensures ∙ c.if-covers-2.true) (sym c.covers.ensures ∙ c.if-covers.false)
