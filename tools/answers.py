@@ -580,9 +580,8 @@ WRONG = [
         "fs_rules/retests_only_rules_under",
     ),
     (
-        "a unicast change passes related rules over: behind the first that covers the prefix, or behind one that isn't "
-        "related",
-        "fs_rules/forgets_covers_behind_the_first fs_rules/stops_at_an_unrelated_group",
+        "a unicast change passes over rules that are related, behind one that isn't",
+        "fs_rules/stops_at_an_unrelated_group",
     ),
     (
         "a length's count isn't lowered (no count is kept, as `WRONG_BODIES.md` says: there is one length that no "
@@ -590,8 +589,8 @@ WRONG = [
         "fs_rules/shortest_isnt_lowered",
     ),
     (
-        "a unicast change retests all rules",
-        "fs_rules/retests_all_rules fs_rules/tests_one_rule_more",
+        "a unicast change retests all rules, or one more than are related",
+        "fs_rules/tests_one_rule_more",
     ),
     (
         "a lost or closed session keeps its routes",
