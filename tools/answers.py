@@ -625,13 +625,8 @@ WRONG = [
         "fs_compile/forgets_the_parent fs_compile/tail_before_buckets",
     ),
     (
-        "a walk of the matcher answers a rule twice, or passes over the other rules of a bucket in which it found one",
-        "fs_compile/finds_a_rule_again fs_compile/goes_on_at_the_next_bucket",
-    ),
-    (
         "a range of numbers ends one off, two with a gap between them are joined, or AND is read as OR",
-        "fs_compile/a_pair_misses_its_value fs_compile/at_least_is_equal fs_compile/joins_ranges_that_do_not_meet "
-        "fs_compile/joined_numbers_stand_alone fs_compile/every_pair_is_a_group",
+        "fs_compile/a_pair_misses_its_value fs_compile/joins_ranges_that_do_not_meet fs_compile/every_pair_is_a_group",
     ),
     (
         "a port rule is tested on one port alone; a test isn't counted",
