@@ -644,8 +644,7 @@ WRONG = [
     ),
     (
         "a best match that is stale: a changed path tells no change, or the first prefix found is taken for the longest",
-        "fs_unicast/replaced_path_tells_nothing fs_unicast/holds_another_path fs_unicast/first_under_is_best "
-        "fs_unicast/next_prefix_is_best",
+        "fs_unicast/replaced_path_tells_nothing fs_unicast/first_under_is_best",
     ),
     (
         "a change of one family in the other's map (of flow routes: the unicast routes of both are one map)",
@@ -657,7 +656,7 @@ WRONG = [
     ),
     (
         "a turn between routes of other neighbouring ASes is missing, or goes though it is needed",
-        "fs_unicast/turn_at_the_place_goes fs_unicast/needed_turn_goes fs_unicast/other_as_without_a_turn",
+        "fs_unicast/turn_at_the_place_goes fs_unicast/needed_turn_goes",
     ),
     (
         "a turn stays that parts no two routes",
