@@ -14,6 +14,7 @@ ghost use Rattle.fs_packet.specs.Reading.{view_of};
 ghost use Rattle.fs_pcap.specs.declared.link.Link.TheVariants.{Raw};
 ghost use Rattle.fs_tape.specs.Tape.{Item};
 
+use crate::tally::{Fate, Tally};
 use fs_base::{Config, Family, Memory, Sink};
 use fs_desk::Desk;
 use fs_enforce::Matcher;
@@ -25,13 +26,6 @@ use fs_rules::Table;
 use fs_stages::{Refusal, write_text};
 use itoa::Integer;
 use std::alloc::Global;
-
-/// How many packets pass, and how many are dropped.
-#[derive(Clone, Copy, Drop)]
-struct Tally {
-    passed: u32,
-    dropped: u32,
-}
 
 /// Plays the generator's tape, counts what becomes of its packets, so many of each, and writes the counts. Neither the
 /// tape nor the packets are ever held whole.
@@ -142,7 +136,7 @@ fn count_packets(matcher: &mut Matcher<'_>, draws: &mut Draws, count: u32) -> Ta
     tally
 }
 
-/// Counts one packet more, which has no link header. One that can't be read neither passes nor is dropped.
+/// Counts one packet more, which has no link header.
 fn count_packet(matcher: &mut Matcher<'_>, octets: &[u8], tally: Tally) -> Tally
     requires passed { tally.passed < 2 ^ 32 - 1 }
     requires dropped { tally.dropped < 2 ^ 32 - 1 }
@@ -151,17 +145,12 @@ fn count_packet(matcher: &mut Matcher<'_>, octets: &[u8], tally: Tally) -> Tally
     ensures dropped { result.dropped ≡ tally.dropped + one_if (is_dropped matcher.old (view_of Raw octets.now)) }
 {
     let mut view = View::blank();
-    match read_view(Link::Raw, octets, &mut view) {
-        Ok(()) if matcher.drops(&view) => Tally {
-            dropped: tally.dropped + 1,
-            ..tally
-        },
-        Ok(()) => Tally {
-            passed: tally.passed + 1,
-            ..tally
-        },
-        Err(_) => tally,
-    }
+    let fate = match read_view(Link::Raw, octets, &mut view) {
+        Ok(()) if matcher.drops(&view) => Fate::Dropped,
+        Ok(()) => Fate::Passed,
+        Err(_) => Fate::Unread,
+    };
+    tally.with(fate)
 }
 
 /// The line of these counts.

@@ -2,5 +2,6 @@
 #![tactic(auto)]
 
 mod command;
+mod tally;
 
 pub use command::generate;
