@@ -590,7 +590,7 @@ WRONG = [
     ),
     (
         "a unicast change retests all rules, or one more than are related",
-        "fs_rules/tests_one_rule_more",
+        "fs_rules/retests_all_rules fs_rules/tests_one_rule_more",
     ),
     (
         "a lost or closed session keeps its routes",
