@@ -3,8 +3,9 @@
 ghost use Rattle.std.specs.Prelude.{◌≡◌};
 ghost use Rattle.std.specs.Option.{option_copied};
 ghost use Rattle.fs_unicast.specs.Neighbour.{is_confederation, leading, first_number, first_as, neighbour, neighbour_as};
+ghost use Rattle.fs_unicast.specs.Search.{is_other};
 
-use fs_base::{AS_CONFED_SEQUENCE, AS_CONFED_SET, AS_SEQUENCE, Segment};
+use fs_base::{AS_CONFED_SEQUENCE, AS_CONFED_SET, AS_SEQUENCE, Path, Segment};
 
 /// The leftmost AS of a path: the first number of its leading sequence, where confederation segments don't
 /// count. None for a path that has no other segment or begins with a set.
@@ -29,6 +30,16 @@ pub fn neighbour(segments: &[Segment]) -> Option<u32>
 {
     let first = leading(segments)?;
     Some(first_number(first).unwrap_or(0))
+}
+
+/// Whether the path has another neighbouring AS than this; each path has, where there is none.
+pub fn is_other(path: &Path, local_as: u32, asn: Option<u32>) -> bool
+    ensures { result ≡ is_other local_as asn path.now }
+{
+    match asn {
+        Some(asn) => neighbour_as(path.segments.as_slice(), local_as) != asn,
+        None => true,
+    }
 }
 
 /// The first segment that isn't a confederation's.

@@ -10,7 +10,7 @@ ghost use Rattle.std.specs.List.Sorted.{IsStrictlySortedBy};
 ghost use Rattle.std.specs.Map.{keys_of};
 
 use crate::key::PrefixKey;
-use crate::neighbour::neighbour_as;
+use crate::neighbour::{is_other, neighbour_as};
 use crate::preference::Offer;
 use crate::routes::Routes;
 use crate::shared::SharedPath;
@@ -196,20 +196,19 @@ fn others_from(
     requires under { is_strictly_under prefix.now first.now ≡ true }
     ensures { result ≡ others_under routes.now prefix.now local_as asn }
 {
-    if is_other(best, local_as, asn) {
+    if is_other_offer(best, local_as, asn) {
         return true;
     }
     others_under(routes, prefix, local_as, asn)
 }
 
 /// Whether there is a route, and it has another neighbouring AS.
-fn is_other(route: Option<Offer<'_>>, local_as: u32, asn: Option<u32>) -> bool
+fn is_other_offer(route: Option<Offer<'_>>, local_as: u32, asn: Option<u32>) -> bool
     ensures { result ≡ is_other_offer local_as asn (option_map offered route.entry) }
 {
-    match (route, asn) {
-        (Some(route), Some(asn)) => neighbour_as(route.path.segments.as_slice(), local_as) != asn,
-        (Some(_), None) => true,
-        (None, _) => false,
+    match route {
+        Some(route) => is_other(route.path, local_as, asn),
+        None => false,
     }
 }
 

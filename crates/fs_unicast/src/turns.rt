@@ -14,7 +14,7 @@ ghost use Rattle.fs_unicast.specs.Unicast.{place_cmp};
 ghost use Rattle.fs_base.specs.declared.path.Path.{Path};
 ghost use Rattle.fs_unicast.specs.Turns.{entry_now, stands_at, is_alike, are_alike, is_same, is_within, lies_between, are_parted, find_last, is_alone, is_needed, without_idle, tidied, names, without, put_before, put_after, was_before, was_after, IsParted, IsPartedAt, IsPartedBefore, IsPartedAfter, StaysParted, PartsAt, NoneIdle, NoneIdleBut, IsSettled, Settles, IsLastUpto, AreKept, is_inside};
 
-use crate::neighbour::neighbour_as;
+use crate::neighbour::is_other;
 use crate::shared::SharedPath;
 use crate::unicast::Place;
 use fs_base::Memory;
@@ -181,7 +181,7 @@ pub fn others_within(
 {
     let mut from = low;
     while let Some((place, path)) = first_within(paths, &from, high) {
-        if is_other(path, local_as, asn) {
+        if is_other(path.path(), local_as, asn) {
             return true;
         }
         match first_turn(turns, place, high) {
@@ -190,15 +190,6 @@ pub fn others_within(
         }
     }
     false
-}
-
-fn is_other(path: &SharedPath, local_as: u32, asn: Option<u32>) -> bool
-    ensures { result ≡ is_other local_as asn path.now }
-{
-    match asn {
-        None => true,
-        Some(asn) => neighbour_as(path.path().segments.as_slice(), local_as) != asn,
-    }
 }
 
 /// Puts a turn at the place, and tells whether it was there.
