@@ -42,8 +42,7 @@ pub fn apply<L: Ledger>(
         withdraw(table, peer, &classic_in, reach, steps);
         return Ok(());
     };
-    give_prefixes(table, peer, &classic_in, &path, steps)?;
-    give_routes(table, peer, reach, path, actions, steps)
+    give(table, peer, &classic_in, reach, path, actions, steps)
 }
 
 /// The path of the routes that an update gives. It gives none where its routes are to be treated as withdrawn.
@@ -86,23 +85,44 @@ fn withdraw_routes<L: Ledger>(
     }
 }
 
-fn give_routes<L: Ledger>(
+/// Gives the peer these prefixes, and behind them the routes, if there are any.
+fn give<L: Ledger>(
     table: &mut WatchedTable<'_>,
     peer: u16,
+    prefixes: &PrefixList,
     routes: Option<Routes>,
     path: Path,
     actions: Actions,
     steps: &mut Steps<L>,
 ) -> Result<(), Memory>
-    ensures changes { OnOk result
-        (Announces peer (unicast_in routes) (flows_in routes) path actions table.old.held table.new.held) }
-    ensures prefixes { OnOk result (AllByRecursion IsPrefix (unicast_in routes)) }
+    ensures changes { OnOk result (Announces peer (prefixes.now ++ unicast_in routes) (flows_in routes) path actions
+        table.old.held table.new.held) }
+    ensures prefixes { OnOk result (AllByRecursion IsPrefix (prefixes.now ++ unicast_in routes)) }
+    ensures told { OnOk result (Tells table.old table.new) }
+{
+    let Some(routes) = routes else {
+        return give_prefixes(table, peer, prefixes, path, steps);
+    };
+    give_copies_of_path(table, peer, prefixes, &path, steps)?;
+    give_routes(table, peer, routes, path, actions, steps)
+}
+
+fn give_routes<L: Ledger>(
+    table: &mut WatchedTable<'_>,
+    peer: u16,
+    routes: Routes,
+    path: Path,
+    actions: Actions,
+    steps: &mut Steps<L>,
+) -> Result<(), Memory>
+    ensures changes { OnOk result (Announces peer (unicast_in (Some routes)) (flows_in (Some routes)) path actions
+        table.old.held table.new.held) }
+    ensures prefixes { OnOk result (AllByRecursion IsPrefix (unicast_in (Some routes))) }
     ensures told { OnOk result (Tells table.old table.new) }
 {
     match routes {
-        Some(Routes::Unicast(_, prefixes)) => give_prefixes(table, peer, &prefixes, &path, steps),
-        Some(Routes::Flow(_, rules)) => give_rules(table, peer, rules, path, actions, steps),
-        None => Ok(()),
+        Routes::Unicast(_, prefixes) => give_prefixes(table, peer, &prefixes, path, steps),
+        Routes::Flow(_, rules) => give_rules(table, peer, rules, path, actions, steps),
     }
 }
 
@@ -134,6 +154,40 @@ fn withdraw_each<L: Ledger>(
 }
 
 fn give_prefixes<L: Ledger>(
+    table: &mut WatchedTable<'_>,
+    peer: u16,
+    prefixes: &PrefixList,
+    path: Path,
+    steps: &mut Steps<L>,
+) -> Result<(), Memory>
+    ensures changes { OnOk result (Changes peer (given_at prefixes.now path) same table.old.held table.new.held) }
+    ensures prefixes { OnOk result (AllByRecursion IsPrefix prefixes.now) }
+    ensures told { OnOk result (Tells table.old table.new) }
+{
+    give_all(table, peer, prefixes.as_slice(), path, steps)
+}
+
+/// Gives the peer the prefixes. The last one takes the path itself: for one prefix nothing is copied.
+fn give_all<L: Ledger>(
+    table: &mut WatchedTable<'_>,
+    peer: u16,
+    prefixes: &[Prefix],
+    path: Path,
+    steps: &mut Steps<L>,
+) -> Result<(), Memory>
+    ensures changes { OnOk result
+        (Changes peer (given_at (map shown prefixes.now) path) same table.old.held table.new.held) }
+    ensures told { OnOk result (Tells table.old table.new) }
+{
+    let Some((last, front)) = prefixes.split_last() else {
+        return Ok(());
+    };
+    give_each(table, peer, front, &path, steps)?;
+    table.put_unicast(peer, *last, path, steps)
+}
+
+/// Gives the peer the prefixes, each with a copy of the path.
+fn give_copies_of_path<L: Ledger>(
     table: &mut WatchedTable<'_>,
     peer: u16,
     prefixes: &PrefixList,

@@ -1,6 +1,4 @@
-use Rattle.fs_attrs.specs.Update.{unicast_in, flows_in}
-use Rattle.fs_desk.specs.Apply.{rules_given}
-use Rattle.fs_desk.proofs.ChangesJoined.{on_ok, path_back, path_there, told_back, told_given, given_join}
+use Rattle.fs_desk.proofs.ChangesJoined.{on_ok, path_back, path_there, told_back, told_given}
 use Rattle.fs_desk.proofs.Telling.{tells_then}
 use Rattle.fs_desk.proofs.apply.apply.Goals as goal
 
@@ -12,18 +10,12 @@ returns-in_default-clause-applied g c =
 pub returns-clause-applied : goal.returns-clause-applied
 returns-clause-applied g c =
     let there = path_there c.args.update.as_withdraw c.args.update.path c.path_given.result c.in-Some.path c.path_given.ensures c.in-Some.is in
-    on_ok c.give_routes.result
-    (λ gave. told_given c.args.peer c.args.update c.in-Some.path c.args.table.now.held c.withdraw.new.table.held c.give_routes.new.table.held there.0 there.1 c.withdraw.ensures.changes
-    (given_join c.args.peer c.in-Some.path c.args.update.classic_in (unicast_in c.args.update.reach) (rules_given (flows_in c.args.update.reach) c.in-Some.path c.args.update.actions)
-    c.withdraw.new.table.held c.give_prefixes.new.table.held c.give_routes.new.table.held c.in_ok-give_prefixes.ensures.changes gave))
-    c.give_routes.ensures.changes
+    on_ok c.give.result
+    (told_given c.args.peer c.args.update c.in-Some.path c.args.table.now.held c.withdraw.new.table.held c.give.new.table.held there.0 there.1 c.withdraw.ensures.changes)
+    c.give.ensures.changes
 
 pub returns-in_default-clause-told : goal.returns-in_default-clause-told
 returns-in_default-clause-told g c = tells_then c.args.table.now c.withdraw.new.table c.withdraw-in_default.new.table c.withdraw.ensures.told c.withdraw-in_default.ensures.told
 
 pub returns-clause-told : goal.returns-clause-told
-returns-clause-told g c =
-    on_ok c.give_routes.result
-    (λ told. tells_then c.args.table.now c.withdraw.new.table c.give_routes.new.table c.withdraw.ensures.told
-    (tells_then c.withdraw.new.table c.give_prefixes.new.table c.give_routes.new.table c.in_ok-give_prefixes.ensures.told told))
-    c.give_routes.ensures.told
+returns-clause-told g c = on_ok c.give.result (tells_then c.args.table.now c.withdraw.new.table c.give.new.table c.withdraw.ensures.told) c.give.ensures.told
