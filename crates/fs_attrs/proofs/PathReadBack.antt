@@ -15,7 +15,7 @@ use Rattle.fs_actions.specs.Actions.{are_communities, IsActions, actions_of}
 use Rattle.fs_actions.proofs.ReadBack.{read_back as actions_back, whole_joined}
 use Rattle.fs_attrs.specs.declared.update.Terms.{Terms}
 use Rattle.fs_attrs.specs.declared.update.Update.{Update}
-use Rattle.fs_attrs.specs.Attributes.{value_of}
+use Rattle.fs_attrs.specs.Attributes.{value_of, values_of}
 use Rattle.fs_attrs.specs.Segments.{is_confederation, is_written_segment, AreNumbers, are_low}
 use Rattle.fs_attrs.specs.Paths.{four_octets, path_of, withdraws}
 use Rattle.fs_attrs.specs.Write.{written_attributes, IsPath}
@@ -161,7 +161,7 @@ pub record IsGiven (terms : Terms) (actions : List (List ℕ)) (path : Path) : T
   pub sound : IsPath actions path
   pub kept : (terms.four || list_all are_low path.segments) ≡ true
 
-pub path_read : (terms : Terms) (update : Update) (path : Path) → update.path ≡ Some path → IsGiven terms update.actions path → path_of terms (written_attributes terms update) ≡ path
+pub path_read : (terms : Terms) (update : Update) (path : Path) → update.path ≡ Some path → IsGiven terms update.actions path → path_of terms (values_of (written_attributes terms update)) ≡ path
 path_read terms update path there given =
     let fits = fit_segments terms.four terms.external path.segments given.written (recursion_from_All AreNumbers path.segments given.sound.segments) given.kept in
     rw (
@@ -175,7 +175,7 @@ path_read terms update path there given =
       same_kind terms.external path.external (path.local_pref == 100) (is_none path.originator) given.session,
     ) refl
 
-pub path_given : (terms : Terms) (update : Update) (path : Path) → update.path ≡ Some path → IsGiven terms update.actions path → withdraws terms (written_attributes terms update) true ≡ false
+pub path_given : (terms : Terms) (update : Update) (path : Path) → update.path ≡ Some path → IsGiven terms update.actions path → withdraws terms (values_of (written_attributes terms update)) true ≡ false
 path_given terms update path there given =
     let fits = fit_segments terms.four terms.external path.segments given.written (recursion_from_All AreNumbers path.segments given.sound.segments) given.kept in
     rw (
@@ -193,7 +193,7 @@ path_given terms update path there given =
       communities_at (length update.actions == 0) update.actions refl given.sound.actions,
     ) refl
 
-pub none_given : (terms : Terms) (update : Update) → update.path ≡ None → withdraws terms (written_attributes terms update) false ≡ false
+pub none_given : (terms : Terms) (update : Update) → update.path ≡ None → withdraws terms (values_of (written_attributes terms update)) false ≡ false
 none_given terms update none =
     rw (
       none_value 1 terms update none refl refl,

@@ -1,6 +1,6 @@
 -- The body that is written is read as the update that it was written of.
 use Rattle.std.proofs.Common.{◌≡◌, ℕ, suc, ◌+◌, ◌<◌, ◌≤◌, ◌==◌, Bool, true, false, not, ◌&&◌, ◌||◌, nat_le, nat_lt, List, [], ◌∷◌, ◌++◌, length, drop, Option, Some, None, Result, Ok, Err, refl, sym, ap, subst, ◌∙◌, arith, length-append, append_assoc}
-use Rattle.std.specs.Prelude.{bit_or, option_map, flat_map, IfSome}
+use Rattle.std.specs.Prelude.{bit_or, option_map, if◌then◌else◌, flat_map, IfSome}
 use Rattle.std.specs.Option.{is_some}
 use Rattle.std.specs.List.{AllByRecursion, list_all}
 use Rattle.std.proofs.lemmas.List.Elements.{recursion_from_All}
@@ -26,7 +26,7 @@ use Rattle.fs_attrs.specs.declared.update.Routes.TheVariants.{Unicast, Flow}
 use Rattle.fs_attrs.specs.declared.update.Update.{Update}
 use Rattle.fs_attrs.specs.declared.update.UpdateFault.{UpdateFault}
 use Rattle.fs_attrs.specs.declared.update.UpdateFault.TheVariants.{List as ListFault}
-use Rattle.fs_attrs.specs.Attributes.{Attribute, attribute, Body, body, body_of, value_of, stands_before}
+use Rattle.fs_attrs.specs.Attributes.{Attribute, attribute, Body, body, body_of, value_of, stands_before, routes_doubled, Valued, values_of}
 use Rattle.fs_attrs.specs.Prefixes.{Shown, prefixes_of}
 use Rattle.fs_attrs.specs.Paths.{withdraws}
 use Rattle.fs_attrs.specs.Routes.{Wrong, reach_of, unreach_of, routes_of, is_read, unicast_routes, if_there, both_of, optional_of, has_routes}
@@ -43,11 +43,15 @@ use Rattle.fs_attrs.proofs.WrittenAttributes.{reach_value, unreach_value, reach_
 
 -- the fields
 
-fields_read : (out announced : List ℕ) (list : List Attribute) → length out < 65536 → length (flat_map attribute_text list) < 65536
-    → body_of (long_text out ++ (long_text (flat_map attribute_text list) ++ announced)) ≡ Some (body out list announced)
-fields_read out announced list a b =
-    rw (long_read out (long_text (flat_map attribute_text list) ++ announced) a, long_read (flat_map attribute_text list) announced b, attributes_read list b)
-    (ap (λ (z : List Attribute × List ℕ). Some (body out z.0 announced)) (attributes_read list b))
+abbrev body_at : List ℕ → List ℕ → Bool → Bool → Valued → Option Body
+body_at out announced whole doubled values = option_map (λ values. body out values announced) (if whole && not doubled then Some values else None)
+
+fields_read : (out announced : List ℕ) (list : List Attribute) → length out < 65536 → length (flat_map attribute_text list) < 65536 → routes_doubled list ≡ false
+    → body_of (long_text out ++ (long_text (flat_map attribute_text list) ++ announced)) ≡ Some (body out (values_of list) announced)
+fields_read out announced list a b once =
+    rw (long_read out (long_text (flat_map attribute_text list) ++ announced) a, long_read (flat_map attribute_text list) announced b)
+    (ap (λ (z : List Attribute × List ℕ). body_at out announced (length z.1 == 0) (routes_doubled z.0) (values_of z.0)) (attributes_read list b)
+    ∙ ap (λ (doubled : Bool). body_at out announced true doubled (values_of list)) once)
 
 -- families
 
@@ -193,7 +197,7 @@ unreach_octets terms update small = by update.unreach (behind update.reach (attr
       (value_octets (nat_lt 255 (length given.value)) given (octets_left (attribute_text given) (flat_map attribute_text rest) octets))
 
 optional_read : (terms : Terms) (update : Update) → if_routes update.reach ≡ true → if_routes update.unreach ≡ true → IsSound update → IsOctets (update_text terms update)
-    → optional_of (written_attributes terms update) ≡ Ok (update.reach, update.unreach)
+    → optional_of (values_of (written_attributes terms update)) ≡ Ok (update.reach, update.unreach)
 optional_read terms update r u sound small =
     let attributes : List Attribute = written_attributes terms update in
     let first : Bool = stands_before 15 14 attributes in
@@ -219,7 +223,7 @@ same_update : (update : Update) (out announced : List Shown) (unreach reach : Op
 same_update update out announced unreach reach path actions withdrawn a b c d e f g = rw (a, b, c, d, e, f, g) refl
 
 abbrev fields : Terms → Update → Body
-fields terms update = body (prefixes_text update.classic_out) (written_attributes terms update) (prefixes_text update.classic_in)
+fields terms update = body (prefixes_text update.classic_out) (values_of (written_attributes terms update)) (prefixes_text update.classic_in)
 
 -- the parts of the test
 pub record IsWritten (terms : Terms) (update : Update) : Type 0 where
@@ -244,12 +248,13 @@ written_parts terms update h =
     let one = and_parts plain out two.0 in
     record { plain = not-true update.as_withdraw one.0; out = one.1; announced = two.1; reach = three.1; unreach = four.1; path = five.1 }
 
+routes_once : (terms : Terms) (update : Update) → routes_doubled (written_attributes terms update) ≡ false
+routes_once terms update = rw (reach_once terms update, unreach_once terms update) refl
+
 body_read : (terms : Terms) (update : Update) → IsWritten terms update → IsSound update → IsOctets (update_text terms update)
     → read_body terms (fields terms update) ≡ Ok (updated terms (fields terms update) (update.reach, update.unreach))
 body_read terms update is sound small =
     rw (
-      reach_once terms update,
-      unreach_once terms update,
       prefixes_whole V4 update.classic_out (shown_in V4 update.classic_out is.out (recursion_from_All IsPrefix update.classic_out sound.classic_out)),
       prefixes_whole V4 update.classic_in (shown_in V4 update.classic_in is.announced (recursion_from_All IsPrefix update.classic_in sound.classic_in)),
       optional_read terms update is.reach is.unreach sound small,
@@ -276,35 +281,35 @@ given_of terms actions path h sound kept =
     record { session = first.0; origin = first.1; written = last.1; sound = sound; kept = kept }
 
 with_path : (terms : Terms) (update : Update) (path : Path) → update.path ≡ Some path → IsWritten terms update → IsSound update → keeps_numbers terms update ≡ true
-    → updated_at terms update (announces update) (withdraws terms (written_attributes terms update) (announces update)) ≡ update
+    → updated_at terms update (announces update) (withdraws terms (values_of (written_attributes terms update)) (announces update)) ≡ update
 with_path terms update path there is sound kept =
     let parts = and_parts (announces update) (is_written_path terms path) (subst (λ (z : Option Path). has_its_path terms update z ≡ true) there is.path) in
     let given = given_of terms update.actions path parts.1 (subst (λ (z : Option Path). IfSome z (IsPath update.actions)) there sound.path)
     (subst (λ (z : Option Path). (terms.four || path_kept z) ≡ true) there kept) in
-    ap (λ (g : Bool). updated_at terms update g (withdraws terms (written_attributes terms update) g)) parts.0
+    ap (λ (g : Bool). updated_at terms update g (withdraws terms (values_of (written_attributes terms update)) g)) parts.0
     ∙ ap (λ (w : Bool). updated_at terms update true w) (path_given terms update path there given)
     ∙ same_update update _ _ update.unreach update.reach _ _ false (out_read terms update is sound) refl refl (announced_read terms update is sound)
     (ap (λ (p : Path). Some p) (path_read terms update path there given) ∙ sym there) (actions_read terms update path there given.sound.actions) (sym is.plain)
 
 without_path : (terms : Terms) (update : Update) → update.path ≡ None → IsWritten terms update → IsSound update
-    → updated_at terms update (announces update) (withdraws terms (written_attributes terms update) (announces update)) ≡ update
+    → updated_at terms update (announces update) (withdraws terms (values_of (written_attributes terms update)) (announces update)) ≡ update
 without_path terms update none is sound =
     let parts = and_parts (not (announces update)) (length update.actions == 0) (subst (λ (z : Option Path). has_its_path terms update z ≡ true) none is.path) in
     let empty : update.actions ≡ [] = nil_from_length update.actions (eqb-true (length update.actions) 0 parts.1) in
-    ap (λ (g : Bool). updated_at terms update g (withdraws terms (written_attributes terms update) g)) (not-true (announces update) parts.0)
+    ap (λ (g : Bool). updated_at terms update g (withdraws terms (values_of (written_attributes terms update)) g)) (not-true (announces update) parts.0)
     ∙ ap (λ (w : Bool). updated_at terms update false w) (none_given terms update none)
     ∙ same_update update _ _ update.unreach update.reach None [] false (out_read terms update is sound) refl refl (announced_read terms update is sound)
     (sym none) (sym empty) (sym is.plain)
 
 by_path : (terms : Terms) (update : Update) (path : Option Path) → update.path ≡ path → IsWritten terms update → IsSound update → keeps_numbers terms update ≡ true
-    → updated_at terms update (announces update) (withdraws terms (written_attributes terms update) (announces update)) ≡ update
+    → updated_at terms update (announces update) (withdraws terms (values_of (written_attributes terms update)) (announces update)) ≡ update
 by_path terms update None there is sound kept = without_path terms update there is sound
 by_path terms update (Some path) there is sound kept = with_path terms update path there is sound kept
 
 updated_is : (terms : Terms) (update : Update) → IsWritten terms update → IsSound update → keeps_numbers terms update ≡ true
     → updated terms (fields terms update) (update.reach, update.unreach) ≡ update
 updated_is terms update is sound kept =
-    ap (λ (g : Bool). updated_at terms update g (withdraws terms (written_attributes terms update) g)) (gives_is terms update is sound)
+    ap (λ (g : Bool). updated_at terms update g (withdraws terms (values_of (written_attributes terms update)) g)) (gives_is terms update is sound)
     ∙ by_path terms update update.path refl is sound kept
 
 abbrev body_result : Terms → Option Body → Result Update UpdateFault
@@ -320,6 +325,6 @@ read_back terms update h sound octets small kept =
     let b : length (long_text list ++ announced) ≡ length (long_text list) + length announced = length-append (long_text list) announced in
     let c : length (long_text out) ≡ length (big_bytes 2 (length out)) + length out = length-append (big_bytes 2 (length out)) out in
     let d : length (long_text list) ≡ length (big_bytes 2 (length list)) + length list = length-append (big_bytes 2 (length list)) list in
-    ap (body_result terms) (fields_read out announced (written_attributes terms update) (omega arith) (omega arith))
+    ap (body_result terms) (fields_read out announced (written_attributes terms update) (omega arith) (omega arith) (routes_once terms update))
     ∙ body_read terms update is sound octets
     ∙ ap (λ (u : Update). Ok u) (updated_is terms update is sound kept)

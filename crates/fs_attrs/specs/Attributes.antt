@@ -1,9 +1,12 @@
 -- The fields of an UPDATE's body and its path attributes (RFC 4271, section 4.3).
-use Rattle.std.specs.Prelude.{ℕ, ◌==◌, Bool, false, ◌||◌, bit_and, nat_le, nat_lt, if◌then◌else◌, List, [], ◌∷◌, length, take, drop, Option, Some, None, option_map, option_and_then, find, filter}
+use Rattle.std.specs.Prelude.{ℕ, ◌==◌, Bool, false, ◌&&◌, ◌||◌, not, bit_and, nat_le, nat_lt, if◌then◌else◌, List, [], ◌∷◌, length, take, drop, Option, Some, None, option_map, option_and_then, find, filter}
+use Rattle.std.specs.Option.{option_or, is_some, is_none}
+use Rattle.std.specs.Borrow.{Bor}
 use Rattle.byteorder.specs.Endian.{big_number}
 use Rattle.fs_base.specs.Parts.{parts_of}
 use Rattle.fs_attrs.specs.declared.attributes.Fields.{Fields}
 use Rattle.fs_attrs.specs.declared.attributes.Lent.{Lent}
+use Rattle.fs_attrs.specs.declared.attributes.Values.{Values}
 
 -- A path attribute: its type and its value. Of its flags only that of the longer length is read.
 pub record Attribute : Type 0 where
@@ -50,25 +53,94 @@ abbrev pub stands_before : ℕ → ℕ → List Attribute → Bool
 stands_before a b attributes =
     elim (find (λ attribute. (attribute.kind == a) || (attribute.kind == b)) attributes) [ Some first ↦ first.kind == a | None ↦ false ]
 
+-- of the two attributes with routes, MP_REACH_NLRI 14 and MP_UNREACH_NLRI 15, one stands twice
+abbrev pub routes_doubled : List Attribute → Bool
+routes_doubled attributes = is_doubled 14 attributes || is_doubled 15 attributes
+
+-- The values that are read, each that of the first attribute of its type; and whether MP_UNREACH_NLRI stands
+-- before MP_REACH_NLRI.
+pub record Valued : Type 0 where
+  pub origin : Option (List ℕ)
+  pub as_path : Option (List ℕ)
+  pub local_pref : Option (List ℕ)
+  pub originator : Option (List ℕ)
+  pub reach : Option (List ℕ)
+  pub unreach : Option (List ℕ)
+  pub communities : Option (List ℕ)
+  pub unreach_first : Bool
+
+abbrev pub values_of : List Attribute → Valued
+values_of attributes = record {
+  origin = value_of 1 attributes;
+  as_path = value_of 2 attributes;
+  local_pref = value_of 5 attributes;
+  originator = value_of 9 attributes;
+  reach = value_of 14 attributes;
+  unreach = value_of 15 attributes;
+  communities = value_of 16 attributes;
+  unreach_first = stands_before 15 14 attributes;
+}
+
+-- None where the octets are not whole attributes, or an attribute with routes stands twice
+abbrev pub values_in : List ℕ → Option Valued
+values_in octets =
+    if are_attributes octets && not (routes_doubled (attributes_of octets)) then Some (values_of (attributes_of octets)) else None
+
 -- A body: withdrawn IPv4 routes, path attributes, and IPv4 routes to the end.
 pub record Body : Type 0 where
   pub withdrawn : List ℕ
-  pub attributes : List Attribute
+  pub values : Valued
   pub announced : List ℕ
 
-abbrev pub body : List ℕ → List Attribute → List ℕ → Body
-body withdrawn attributes announced = record { withdrawn = withdrawn; attributes = attributes; announced = announced }
+abbrev pub body : List ℕ → Valued → List ℕ → Body
+body withdrawn values announced = record { withdrawn = withdrawn; values = values; announced = announced }
 
 abbrev pub body_with : List ℕ → List ℕ × List ℕ → Option Body
-body_with withdrawn rest = if are_attributes rest.0 then Some (body withdrawn (attributes_of rest.0) rest.1) else None
+body_with withdrawn rest = option_map (λ values. body withdrawn values rest.1) (values_in rest.0)
 
--- None where a length or an attribute passes the end of what holds it
+-- None where a length or an attribute passes the end of what holds it, or an attribute with routes stands twice
 abbrev pub body_of : List ℕ → Option Body
 body_of octets = option_and_then (λ first. option_and_then (λ rest. body_with first.0 rest) (long_field first.1)) (long_field octets)
 
--- an attribute, and a body, that are lent
+-- an attribute, values and a body that are lent
 abbrev pub lent : Lent → Attribute
 lent given = attribute given.kind given.value.now
 
+abbrev pub lent_value : Option (Bor (List ℕ)) → Option (List ℕ)
+lent_value value = option_map (λ octets. octets.now) value
+
+abbrev pub lent_values : Values → Valued
+lent_values values = record {
+  origin = lent_value values.origin;
+  as_path = lent_value values.as_path;
+  local_pref = lent_value values.local_pref;
+  originator = lent_value values.originator;
+  reach = lent_value values.reach;
+  unreach = lent_value values.unreach;
+  communities = lent_value values.communities;
+  unreach_first = values.unreach_first;
+}
+
 abbrev pub lent_body : Fields → Body
-lent_body fields = body fields.withdrawn.now (attributes_of fields.attributes.now) fields.announced.now
+lent_body fields = body fields.withdrawn.now (lent_values fields.values) fields.announced.now
+
+-- what is kept of a type behind one attribute more, which is of the type or not
+abbrev pub kept_of : Bool → Option (List ℕ) → List ℕ → Option (List ℕ)
+kept_of here kept value = if here then option_or kept (Some value) else kept
+
+-- the values behind one attribute more
+abbrev pub values_with : Valued → Attribute → Valued
+values_with values next = record {
+  origin = kept_of (next.kind == 1) values.origin next.value;
+  as_path = kept_of (next.kind == 2) values.as_path next.value;
+  local_pref = kept_of (next.kind == 5) values.local_pref next.value;
+  originator = kept_of (next.kind == 9) values.originator next.value;
+  reach = kept_of (next.kind == 14) values.reach next.value;
+  unreach = kept_of (next.kind == 15) values.unreach next.value;
+  communities = kept_of (next.kind == 16) values.communities next.value;
+  unreach_first = if next.kind == 15 then is_none values.reach else values.unreach_first;
+}
+
+-- an attribute of this type with routes has been kept
+abbrev pub has_kept : Valued → ℕ → Bool
+has_kept values kind = ((kind == 14) && is_some values.reach) || ((kind == 15) && is_some values.unreach)

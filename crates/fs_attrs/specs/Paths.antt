@@ -5,7 +5,7 @@ use Rattle.std.specs.List.{list_any}
 use Rattle.byteorder.specs.Endian.{big_number}
 use Rattle.fs_base.specs.declared.path.Path.{Path}
 use Rattle.fs_actions.specs.Actions.{are_communities}
-use Rattle.fs_attrs.specs.Attributes.{Attribute, value_of}
+use Rattle.fs_attrs.specs.Attributes.{Valued}
 use Rattle.fs_attrs.specs.Segments.{segments_of, are_segments, is_confederation}
 use Rattle.fs_attrs.specs.declared.update.Terms.{Terms}
 
@@ -23,33 +23,33 @@ abbrev pub number_wrong : Terms → List ℕ → Bool
 number_wrong terms value = not terms.external && not (length value == 4)
 
 -- the attribute of a type is there and wrong
-abbrev pub is_wrong : (List ℕ → Bool) → ℕ → List Attribute → Bool
-is_wrong wrong kind attributes = option_map_or wrong (value_of kind attributes) false
+abbrev pub is_wrong : (List ℕ → Bool) → Option (List ℕ) → Bool
+is_wrong wrong value = option_map_or wrong value false
 
 -- ORIGIN 1, AS_PATH 2, LOCAL_PREF 5, ORIGINATOR_ID 9 or extended communities 16 are malformed; or ORIGIN or
 -- AS_PATH is missing where routes are given. Then the given routes are withdrawn (RFC 7606, sections 2 and 7).
-abbrev pub withdraws : Terms → List Attribute → Bool → Bool
-withdraws terms attributes gives =
-    is_wrong origin_wrong 1 attributes || (is_wrong (path_wrong terms) 2 attributes
-    || (is_wrong (number_wrong terms) 5 attributes || (is_wrong (number_wrong terms) 9 attributes
-    || (is_wrong (λ value. not (are_communities value)) 16 attributes
-    || (gives && (is_none (value_of 1 attributes) || is_none (value_of 2 attributes)))))))
+abbrev pub withdraws : Terms → Valued → Bool → Bool
+withdraws terms values gives =
+    is_wrong origin_wrong values.origin || (is_wrong (path_wrong terms) values.as_path
+    || (is_wrong (number_wrong terms) values.local_pref || (is_wrong (number_wrong terms) values.originator
+    || (is_wrong (λ value. not (are_communities value)) values.communities
+    || (gives && (is_none values.origin || is_none values.as_path))))))
 
 abbrev pub four_octets : List ℕ → Option ℕ
 four_octets value = if length value == 4 then Some (big_number 4 value) else None
 
-abbrev pub number_of : Terms → ℕ → List Attribute → Option ℕ
-number_of terms kind attributes = if terms.external then None else option_and_then four_octets (value_of kind attributes)
+abbrev pub number_of : Terms → Option (List ℕ) → Option ℕ
+number_of terms value = if terms.external then None else option_and_then four_octets value
 
-abbrev pub origin_of : List Attribute → ℕ
-origin_of attributes = get_or (unwrap_or (value_of 1 attributes) []) 0 0
+abbrev pub origin_of : Option (List ℕ) → ℕ
+origin_of value = get_or (unwrap_or value []) 0 0
 
 -- The path of the routes. A missing LOCAL_PREF counts as 100.
-abbrev pub path_of : Terms → List Attribute → Path
-path_of terms attributes = record {
-  origin = origin_of attributes;
-  segments = segments_of terms.four (unwrap_or (value_of 2 attributes) []);
-  local_pref = unwrap_or (number_of terms 5 attributes) 100;
-  originator = number_of terms 9 attributes;
+abbrev pub path_of : Terms → Valued → Path
+path_of terms values = record {
+  origin = origin_of values.origin;
+  segments = segments_of terms.four (unwrap_or values.as_path []);
+  local_pref = unwrap_or (number_of terms values.local_pref) 100;
+  originator = number_of terms values.originator;
   external = terms.external;
 }

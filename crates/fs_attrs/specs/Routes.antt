@@ -11,7 +11,7 @@ use Rattle.fs_attrs.specs.declared.update.Routes.{Routes}
 use Rattle.fs_attrs.specs.declared.update.Routes.TheVariants.{Unicast, Flow}
 use Rattle.fs_attrs.specs.declared.update.UpdateFault.{UpdateFault}
 use Rattle.fs_attrs.specs.declared.update.UpdateFault.TheVariants.{Optional, Memory}
-use Rattle.fs_attrs.specs.Attributes.{Attribute, value_of, stands_before}
+use Rattle.fs_attrs.specs.Attributes.{Valued}
 use Rattle.fs_attrs.specs.Prefixes.{are_prefixes, prefixes_of}
 use Rattle.fs_attrs.specs.Rules.{rules_of}
 
@@ -67,9 +67,8 @@ both_of reach unreach unreach_first =
     then elim unreach [ Err wrong ↦ Err wrong | Ok out ↦ elim reach [ Err wrong ↦ Err wrong | Ok routes ↦ Ok (routes, out) ] ]
     else elim reach [ Err wrong ↦ Err wrong | Ok routes ↦ elim unreach [ Err wrong ↦ Err wrong | Ok out ↦ Ok (routes, out) ] ]
 
-abbrev pub optional_of : List Attribute → Result (Option Routes × Option Routes) Wrong
-optional_of attributes =
-    both_of (if_there reach_of (value_of 14 attributes)) (if_there unreach_of (value_of 15 attributes)) (stands_before 15 14 attributes)
+abbrev pub optional_of : Valued → Result (Option Routes × Option Routes) Wrong
+optional_of values = both_of (if_there reach_of values.reach) (if_there unreach_of values.unreach) values.unreach_first
 
 -- some route is given
 abbrev pub has_routes : Option Routes → Bool

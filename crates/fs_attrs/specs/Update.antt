@@ -11,21 +11,21 @@ use Rattle.fs_attrs.specs.declared.update.Routes.TheVariants.{Unicast, Flow}
 use Rattle.fs_attrs.specs.declared.update.Update.{Update}
 use Rattle.fs_attrs.specs.declared.update.UpdateFault.{UpdateFault}
 use Rattle.fs_attrs.specs.declared.update.UpdateFault.TheVariants.{List as ListFault, Network, Optional, Memory}
-use Rattle.fs_attrs.specs.Attributes.{Attribute, Body, body_of, value_of, is_doubled}
+use Rattle.fs_attrs.specs.Attributes.{Valued, Body, body_of}
 use Rattle.fs_attrs.specs.Prefixes.{Shown, are_prefixes, prefixes_of}
 use Rattle.fs_attrs.specs.Paths.{withdraws, path_of}
 use Rattle.fs_attrs.specs.Routes.{has_routes, optional_of}
 
 -- the extended communities, none where they are missing
-abbrev pub communities_in : List Attribute → List ℕ
-communities_in attributes = unwrap_or (value_of 16 attributes) []
+abbrev pub communities_in : Valued → List ℕ
+communities_in values = unwrap_or values.communities []
 
 -- the path of what is given, and the actions; none under treat-as-withdraw
-abbrev pub given_path : Terms → List Attribute → (gives withdrawn : Bool) → Option Path
-given_path terms attributes gives withdrawn = if gives && not withdrawn then Some (path_of terms attributes) else None
+abbrev pub given_path : Terms → Valued → (gives withdrawn : Bool) → Option Path
+given_path terms values gives withdrawn = if gives && not withdrawn then Some (path_of terms values) else None
 
-abbrev pub given_actions : List Attribute → (gives withdrawn : Bool) → List (List ℕ)
-given_actions attributes gives withdrawn = if gives && not withdrawn then actions_of (communities_in attributes) else []
+abbrev pub given_actions : Valued → (gives withdrawn : Bool) → List (List ℕ)
+given_actions values gives withdrawn = if gives && not withdrawn then actions_of (communities_in values) else []
 
 abbrev pub unicast_in : Option Routes → List Shown
 unicast_in (Some (Unicast family prefixes)) = prefixes
@@ -41,8 +41,8 @@ updated_with terms fields routes gives withdrawn = record {
   unreach = routes.1;
   reach = routes.0;
   classic_in = prefixes_of V4 fields.announced;
-  path = given_path terms fields.attributes gives withdrawn;
-  actions = given_actions fields.attributes gives withdrawn;
+  path = given_path terms fields.values gives withdrawn;
+  actions = given_actions fields.values gives withdrawn;
   as_withdraw = withdrawn;
 }
 
@@ -51,20 +51,15 @@ gives_routes fields reach = has_routes reach || not (length (prefixes_of V4 fiel
 
 abbrev pub updated : Terms → Body → Option Routes × Option Routes → Update
 updated terms fields routes =
-    updated_with terms fields routes (gives_routes fields routes.0) (withdraws terms fields.attributes (gives_routes fields routes.0))
-
--- Of the two attributes with routes none may stand twice.
-abbrev pub list_wrong : Body → Bool
-list_wrong fields = is_doubled 14 fields.attributes || is_doubled 15 fields.attributes
+    updated_with terms fields routes (gives_routes fields routes.0) (withdraws terms fields.values (gives_routes fields routes.0))
 
 abbrev pub network_wrong : Body → Bool
 network_wrong fields = not (are_prefixes V4 fields.withdrawn) || not (are_prefixes V4 fields.announced)
 
 abbrev pub read_body : Terms → Body → Result Update UpdateFault
 read_body terms fields =
-    if list_wrong fields then Err ListFault
-    else if network_wrong fields then Err Network
-    else elim (optional_of fields.attributes) [ Err wrong ↦ Err (Optional wrong) | Ok routes ↦ Ok (updated terms fields routes) ]
+    if network_wrong fields then Err Network
+    else elim (optional_of fields.values) [ Err wrong ↦ Err (Optional wrong) | Ok routes ↦ Ok (updated terms fields routes) ]
 
 -- The update of a body, or its first fault.
 abbrev pub update_of : Terms → List ℕ → Result Update UpdateFault

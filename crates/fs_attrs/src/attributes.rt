@@ -1,7 +1,8 @@
 //! The fields of an UPDATE's body and its path attributes (RFC 4271, section 4.3).
 
-ghost use Rattle.std.specs.Prelude.{◌≡◌, option_map};
-ghost use Rattle.fs_attrs.specs.Attributes.{short_field, long_field, first_attribute, attributes_of, are_attributes, value_of, is_doubled, stands_before, body_of, lent, lent_body};
+ghost use Rattle.std.specs.Prelude.{◌≡◌, Some, option_map};
+ghost use Rattle.std.specs.Option.{option_or};
+ghost use Rattle.fs_attrs.specs.Attributes.{short_field, long_field, first_attribute, values_in, body_of, lent, lent_value, lent_values, lent_body, values_with, has_kept};
 
 use byteorder::{BigEndian, ByteOrder};
 
@@ -29,7 +30,7 @@ pub(crate) const EXTENDED_LENGTH: u8 = 0x10;
 #[derive(Clone, Copy, Drop)]
 pub(crate) struct Fields<'a> {
     pub(crate) withdrawn: &'a [u8],
-    pub(crate) attributes: &'a [u8],
+    pub(crate) values: Values<'a>,
     pub(crate) announced: &'a [u8],
 }
 
@@ -40,18 +41,32 @@ pub(crate) struct Lent<'a> {
     pub(crate) value: &'a [u8],
 }
 
-/// The fields, or None where a length or an attribute passes its end.
+/// The value of each type that is read: that of the first attribute of the type, since later ones are discarded
+/// (RFC 7606, section 3(g)).
+#[derive(Clone, Copy, Drop)]
+pub(crate) struct Values<'a> {
+    pub(crate) origin: Option<&'a [u8]>,
+    pub(crate) as_path: Option<&'a [u8]>,
+    pub(crate) local_pref: Option<&'a [u8]>,
+    pub(crate) originator: Option<&'a [u8]>,
+    pub(crate) reach: Option<&'a [u8]>,
+    pub(crate) unreach: Option<&'a [u8]>,
+    pub(crate) communities: Option<&'a [u8]>,
+    /// Whether MP_UNREACH_NLRI stands before MP_REACH_NLRI.
+    pub(crate) unreach_first: bool,
+}
+
+/// The fields, or None where a length or an attribute passes its end, or where MP_REACH_NLRI or MP_UNREACH_NLRI
+/// stands twice.
 pub(crate) fn split(body: &[u8]) -> Option<Fields<'_>>
     ensures { option_map lent_body result ≡ body_of body.now }
 {
     let (withdrawn, rest) = first_long_field(body)?;
     let (attributes, announced) = first_long_field(rest)?;
-    if !is_whole(attributes) {
-        return None;
-    }
+    let values = read_values(attributes)?;
     Some(Fields {
         withdrawn,
-        attributes,
+        values,
         announced,
     })
 }
@@ -89,58 +104,68 @@ fn next_attribute(octets: &[u8]) -> Option<(Lent<'_>, &[u8])>
     Some((Lent { kind: *kind, value }, behind))
 }
 
-/// Whether the octets are whole attributes.
-fn is_whole(octets: &[u8]) -> bool
-    ensures { result ≡ are_attributes octets.now }
+/// The values, or None where the octets aren't whole attributes, or where MP_REACH_NLRI or MP_UNREACH_NLRI stands
+/// twice (RFC 7606, section 3(g)).
+fn read_values(octets: &[u8]) -> Option<Values<'_>>
+    ensures { option_map lent_values result ≡ values_in octets.now }
 {
-    let mut rest = octets;
-    while let Some((_, behind)) = next_attribute(rest) {
-        rest = behind;
-    }
-    rest.is_empty()
-}
-
-/// The value of the first attribute of a type.
-pub(crate) fn value(octets: &[u8], kind: u8) -> Option<&[u8]>
-    ensures { option_map (λ found. found.now) result ≡ value_of kind (attributes_of octets.now) }
-{
-    let mut rest = octets;
-    while let Some((attribute, behind)) = next_attribute(rest) {
-        if attribute.kind == kind {
-            return Some(attribute.value);
-        }
-        rest = behind;
-    }
-    None
-}
-
-/// Whether a type stands twice.
-pub(crate) fn is_twice(octets: &[u8], kind: u8) -> bool
-    ensures { result ≡ is_doubled kind (attributes_of octets.now) }
-{
+    let mut values = Values {
+        origin: None,
+        as_path: None,
+        local_pref: None,
+        originator: None,
+        reach: None,
+        unreach: None,
+        communities: None,
+        unreach_first: false,
+    };
     let mut rest = octets;
     while let Some((attribute, behind)) = next_attribute(rest) {
-        if attribute.kind == kind {
-            return value(behind, kind).is_some();
+        if has_routes_of(&values, attribute.kind) {
+            return None;
         }
+        keep(&mut values, attribute);
         rest = behind;
     }
-    false
+    if rest.is_empty() { Some(values) } else { None }
 }
 
-/// Whether an attribute of type `a` stands before all of type `b`.
-pub(crate) fn is_before(octets: &[u8], a: u8, b: u8) -> bool
-    ensures { result ≡ stands_before a b (attributes_of octets.now) }
+/// Whether an attribute of this type with routes has been kept.
+fn has_routes_of(values: &Values<'_>, kind: u8) -> bool
+    ensures { result ≡ has_kept (lent_values values.now) kind }
 {
-    let mut rest = octets;
-    while let Some((attribute, behind)) = next_attribute(rest) {
-        if attribute.kind == a {
-            return true;
-        }
-        if attribute.kind == b {
-            return false;
-        }
-        rest = behind;
+    match kind {
+        MP_REACH => values.reach.is_some(),
+        MP_UNREACH => values.unreach.is_some(),
+        _ => false,
     }
-    false
+}
+
+/// Keeps the value of an attribute, if its type is read.
+fn keep<'a>(values: &mut Values<'a>, attribute: Lent<'a>)
+    ensures { lent_values values.new ≡ values_with (lent_values values.old) (lent attribute.entry) }
+{
+    let value = attribute.value;
+    match attribute.kind {
+        ORIGIN => keep_first(&mut values.origin, value),
+        AS_PATH => keep_first(&mut values.as_path, value),
+        LOCAL_PREF => keep_first(&mut values.local_pref, value),
+        ORIGINATOR_ID => keep_first(&mut values.originator, value),
+        MP_REACH => keep_first(&mut values.reach, value),
+        MP_UNREACH => {
+            values.unreach_first = values.reach.is_none();
+            keep_first(&mut values.unreach, value);
+        }
+        EXTENDED_COMMUNITIES => keep_first(&mut values.communities, value),
+        _ => {}
+    }
+}
+
+/// Keeps a value where none is kept yet.
+fn keep_first<'a>(kept: &mut Option<&'a [u8]>, value: &'a [u8])
+    ensures { lent_value kept.new ≡ option_or (lent_value kept.old) (Some value.now) }
+{
+    if kept.is_none() {
+        *kept = Some(value);
+    }
 }

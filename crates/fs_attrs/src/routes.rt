@@ -2,10 +2,10 @@
 
 ghost use Rattle.std.specs.Prelude.{◌≡◌, IfOk, IfErr};
 ghost use Rattle.fs_nlri.specs.Feed.{Frames};
-ghost use Rattle.fs_attrs.specs.Attributes.{attributes_of, value_of};
+ghost use Rattle.fs_attrs.specs.Attributes.{lent_value, lent_values};
 ghost use Rattle.fs_attrs.specs.Routes.{unicast_routes, flow_routes, routes_of, is_read, reach_of, unreach_of, if_there, optional_of, has_routes, ReadsAs, field_fault, IsFieldFault};
 
-use crate::attributes::{MP_REACH, MP_UNREACH, is_before, value};
+use crate::attributes::Values;
 use crate::lists::RuleList;
 use crate::prefixes::read_prefixes;
 use crate::update::{Routes, UpdateFault};
@@ -22,33 +22,33 @@ pub(crate) const FLOW: u8 = 133;
 /// The routes that are reached and those that are withdrawn. The attribute that stands first is judged first.
 pub(crate) fn read_optional(
     alloc: Global,
-    attributes: &[u8],
+    values: &Values<'_>,
 ) -> Result<(Option<Routes>, Option<Routes>), UpdateFault>
-    ensures { ReadsAs result (optional_of (attributes_of attributes.now)) }
+    ensures { ReadsAs result (optional_of (lent_values values.now)) }
 {
-    if is_before(attributes, MP_UNREACH, MP_REACH) {
-        let unreach = read_unreach_in(alloc, attributes)?;
-        let reach = read_reach_in(alloc, attributes)?;
+    if values.unreach_first {
+        let unreach = read_unreach_in(alloc, values.unreach)?;
+        let reach = read_reach_in(alloc, values.reach)?;
         return Ok((reach, unreach));
     }
-    let reach = read_reach_in(alloc, attributes)?;
-    let unreach = read_unreach_in(alloc, attributes)?;
+    let reach = read_reach_in(alloc, values.reach)?;
+    let unreach = read_unreach_in(alloc, values.unreach)?;
     Ok((reach, unreach))
 }
 
-fn read_reach_in(alloc: Global, attributes: &[u8]) -> Result<Option<Routes>, UpdateFault>
-    ensures { ReadsAs result (if_there reach_of (value_of 14 (attributes_of attributes.now))) }
+fn read_reach_in(alloc: Global, value: Option<&[u8]>) -> Result<Option<Routes>, UpdateFault>
+    ensures { ReadsAs result (if_there reach_of (lent_value value.entry)) }
 {
-    match value(attributes, MP_REACH) {
+    match value {
         Some(value) => read_reach(alloc, value),
         None => Ok(None),
     }
 }
 
-fn read_unreach_in(alloc: Global, attributes: &[u8]) -> Result<Option<Routes>, UpdateFault>
-    ensures { ReadsAs result (if_there unreach_of (value_of 15 (attributes_of attributes.now))) }
+fn read_unreach_in(alloc: Global, value: Option<&[u8]>) -> Result<Option<Routes>, UpdateFault>
+    ensures { ReadsAs result (if_there unreach_of (lent_value value.entry)) }
 {
-    match value(attributes, MP_UNREACH) {
+    match value {
         Some(value) => read_unreach(alloc, value),
         None => Ok(None),
     }

@@ -1,12 +1,12 @@
 //! What an UPDATE says, and reading its body.
 
-ghost use Rattle.std.specs.Prelude.{◌≡◌, false, IfOk, not};
+ghost use Rattle.std.specs.Prelude.{◌≡◌, false, IfOk, not, unwrap_or, []};
 ghost use Rattle.fs_actions.specs.Actions.{actions_of, are_communities};
-ghost use Rattle.fs_attrs.specs.Attributes.{attributes_of};
+ghost use Rattle.fs_attrs.specs.Attributes.{lent_value, lent_values};
 ghost use Rattle.fs_attrs.specs.Paths.{is_wrong, withdraws};
-ghost use Rattle.fs_attrs.specs.Update.{communities_in, given_path, given_actions, update_of, Reads};
+ghost use Rattle.fs_attrs.specs.Update.{given_path, given_actions, update_of, Reads};
 
-use crate::attributes::{EXTENDED_COMMUNITIES, MP_REACH, MP_UNREACH, is_twice, split, value};
+use crate::attributes::{Values, split};
 use crate::lists::{PrefixList, RuleList};
 use crate::paths::{is_withdrawal, read_path};
 use crate::prefixes::read_prefixes;
@@ -105,19 +105,16 @@ pub fn read_update(alloc: Global, body: &[u8], terms: &Terms) -> Result<Update, 
     let Some(fields) = split(body) else {
         return Err(UpdateFault::List);
     };
-    if is_twice(fields.attributes, MP_REACH) || is_twice(fields.attributes, MP_UNREACH) {
-        return Err(UpdateFault::List);
-    }
     let Some(classic_out) = read_prefixes(alloc, Family::V4, fields.withdrawn)? else {
         return Err(UpdateFault::Network);
     };
     let Some(classic_in) = read_prefixes(alloc, Family::V4, fields.announced)? else {
         return Err(UpdateFault::Network);
     };
-    let (reach, unreach) = read_optional(alloc, fields.attributes)?;
+    let (reach, unreach) = read_optional(alloc, &fields.values)?;
     let gives = are_given(&reach) || !classic_in.is_empty();
-    let as_withdraw = is_withdrawal(fields.attributes, terms, gives);
-    let (path, actions) = read_given(alloc, fields.attributes, terms, gives, as_withdraw)?;
+    let as_withdraw = is_withdrawal(&fields.values, terms, gives);
+    let (path, actions) = read_given(alloc, &fields.values, terms, gives, as_withdraw)?;
     Ok(Update {
         classic_out,
         unreach,
@@ -132,29 +129,29 @@ pub fn read_update(alloc: Global, body: &[u8], terms: &Terms) -> Result<Update, 
 /// The path and the actions of what is given, if anything is.
 fn read_given(
     alloc: Global,
-    attributes: &[u8],
+    values: &Values<'_>,
     terms: &Terms,
     gives: bool,
     as_withdraw: bool,
 ) -> Result<(Option<Path>, Actions), Memory>
-    requires { as_withdraw ≡ withdraws terms.now (attributes_of attributes.now) gives }
-    ensures path { IfOk result (λ got. got.0 ≡ given_path terms.now (attributes_of attributes.now) gives as_withdraw) }
-    ensures actions { IfOk result (λ got. got.1 ≡ given_actions (attributes_of attributes.now) gives as_withdraw) }
+    requires { as_withdraw ≡ withdraws terms.now (lent_values values.now) gives }
+    ensures path { IfOk result (λ got. got.0 ≡ given_path terms.now (lent_values values.now) gives as_withdraw) }
+    ensures actions { IfOk result (λ got. got.1 ≡ given_actions (lent_values values.now) gives as_withdraw) }
 {
     if gives && !as_withdraw {
-        let path = read_path(alloc, attributes, terms)?;
-        let actions = read_actions(alloc, attributes)?;
+        let path = read_path(alloc, values, terms)?;
+        let actions = read_actions(alloc, values.communities)?;
         return Ok((Some(path), actions));
     }
     Ok((None, Actions::none(alloc)))
 }
 
 /// The actions of the extended communities.
-fn read_actions(alloc: Global, attributes: &[u8]) -> Result<Actions, Memory>
-    requires { is_wrong (λ value. not (are_communities value)) 16 (attributes_of attributes.now) ≡ false }
-    ensures { IfOk result (λ actions. actions ≡ actions_of (communities_in (attributes_of attributes.now))) }
+fn read_actions(alloc: Global, value: Option<&[u8]>) -> Result<Actions, Memory>
+    requires { is_wrong (λ value. not (are_communities value)) (lent_value value) ≡ false }
+    ensures { IfOk result (λ actions. actions ≡ actions_of (unwrap_or (lent_value value.entry) [])) }
 {
-    let Some(value) = value(attributes, EXTENDED_COMMUNITIES) else {
+    let Some(value) = value else {
         return Ok(Actions::none(alloc));
     };
     match from_communities(alloc, value) {

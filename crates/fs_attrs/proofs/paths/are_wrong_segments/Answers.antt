@@ -1,7 +1,7 @@
 use Rattle.std.proofs.Common.{not, sym, ap, ◌∙◌}
 use Rattle.fs_attrs.specs.Segments.{lent_segment}
 use Rattle.fs_attrs.proofs.AttributeScans.{wrong_found, wrong_more, wrong_end}
-use Rattle.fs_attrs.proofs.paths.is_wrong_path.Goals as goal
+use Rattle.fs_attrs.proofs.paths.are_wrong_segments.Goals as goal
 
 pub returns-then-is_barred : goal.returns-then-is_barred
 returns-then-is_barred c =

@@ -1,6 +1,6 @@
 use Rattle.std.proofs.Common.{◌≡◌, length}
 use Rattle.fs_attrs.specs.Paths.{path_wrong}
-use Rattle.fs_attrs.proofs.paths.is_wrong_path.Given as goal
+use Rattle.fs_attrs.proofs.paths.are_wrong_segments.Given as goal
 
 abbrev pub invariant-loop-segment : goal.invariant-loop-segment
 invariant-loop-segment l = path_wrong l.terms l.rest ≡ path_wrong l.terms l.octets
