@@ -115,7 +115,7 @@ def and_group(count):
     pairs = b"".join(bytes([0x46, number % 200]) for number in range(count - 1))
     value = bytes([1, 24, 192, 0, 2]) + b"\x05" + b"\x06\xff" + pairs[2:] + bytes([0xC1, 7])
     octets = packet(bytes([192, 0, 2, 1]), 250)
-    capture = [EMPTY_CAPTURE] + [struct.pack("<IIII", 0, 0, len(octets), len(octets)) + octets] * 2000
+    capture = [EMPTY_CAPTURE] + [struct.pack("<IIII", 0, 0, len(octets), len(octets)) + octets] * 200000
     return b"".join([up(1), announce(bytes([24, 192, 0, 2])), flow(value)]), b"".join(capture)
 
 
@@ -208,7 +208,7 @@ def of_size(part, size):
 
 
 WELL_KNOWN = (1, 2, 3, 5, 6)
-# The types that the program reads, and two that it doesn't.
+# The types that the program reads, and three that it doesn't.
 LONG_TYPES = (1, 2, 3, 5, 8, 9, 14, 15, 16, 255)
 # Types of which a long value can be well formed: with the longest one, and with what stands beside it.
 LONG_VALUES = {

@@ -269,15 +269,15 @@ ANSWERS = [
         "exactly where its octets, or the first `limit` of them, have it; it stays",
         [
             "fs_tape Tape::begin opens",
-            "fs_tape Tape::next again unread",
+            "fs_tape Tape::next advances again unread",
             "fs_pcap Capture::begin opens",
-            "fs_pcap Capture::next again unread",
+            "fs_pcap Capture::next advances again unread",
             "fs_pcapng Ng::begin begins",
-            "fs_pcapng Ng::next again unread",
-            "fs_mrt Dump::begin begun",
-            "fs_mrt Dump::next again unread",
+            "fs_pcapng Ng::next advances again unread",
+            "fs_mrt Dump::begin never",
+            "fs_mrt Dump::next advances again unread",
             "fs_capture Capture::begin begins",
-            "fs_capture Capture::next again unread",
+            "fs_capture Capture::next advances again unread",
         ],
     ),
     (
@@ -299,11 +299,11 @@ ANSWERS = [
         "an input ends",
         "exactly where it ends where a record would begin",
         [
-            "fs_tape Tape::next ended",
-            "fs_pcap Capture::next ended",
-            "fs_pcapng Ng::next ended",
-            "fs_mrt Dump::next ended",
-            "fs_capture Capture::next ended",
+            "fs_tape Tape::next advances ended",
+            "fs_pcap Capture::next advances ended",
+            "fs_pcapng Ng::next advances ended",
+            "fs_mrt Dump::next advances ended",
+            "fs_capture Capture::next advances ended",
         ],
     ),
     (
@@ -518,7 +518,7 @@ STANDS = [
     ),
     (
         "a desk wants memory",
-        "the replies are as they were, and of sessions and table nothing is said; by `up` the peer is lost",
+        "the replies are as they were; what sessions and table then hold isn't said, but the table's validities are right for it (its invariant); by `up` the peer is lost",
         [
             "fs_desk Desk::octets err",
             "fs_desk Desk::octets_telling err",
@@ -560,7 +560,7 @@ WRONG = [
         "fs_ops/evaluates_left_to_right",
     ),
     (
-        "a port rule matches a later fragment by its first octets",
+        "ports are matched in a later fragment, which has none",
         "fs_packet/matches_ports_of_later_fragments fs_packet/matches_ports_of_later_v6_fragments",
     ),
     (
@@ -572,11 +572,11 @@ WRONG = [
         "fs_enforce/terminal_bit_stops",
     ),
     (
-        "a flow route is validated once, when it arrives",
+        "a flow route's validity is found once, on its arrival",
         "fs_rules/validated_once_on_arrival",
     ),
     (
-        "a unicast change retests only rules under the prefix",
+        "behind a unicast change only the rules under its prefix are judged anew",
         "fs_rules/retests_only_rules_under",
     ),
     (
