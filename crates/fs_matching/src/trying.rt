@@ -57,7 +57,7 @@ impl Count {
 }
 
 /// A path that began in the local AS.
-fn own_path(alloc: Global) -> Path {
+pub fn own_path(alloc: Global) -> Path {
     Path {
         origin: 0,
         segments: Segments::new(Vec::new(alloc)),

@@ -6,10 +6,9 @@ ghost use Rattle.fs_compile.specs.Matcher.{StandsForLists, admitted_in};
 ghost use Rattle.fs_compile.specs.Reach.{number_of, reaches};
 
 use crate::fault::Fault;
+use crate::trying::own_path;
 use fs_actions::Actions;
-use fs_base::{
-    Address, Config, Family, Numbers, Path, Peer, Peers, Prefix, Segment, Segments, Steps,
-};
+use fs_base::{Address, Config, Family, Peer, Peers, Prefix, Steps};
 use fs_compile::{Compiled, Fast};
 use fs_nlri::{Rule, decode};
 use fs_packet::{Link, View, view};
@@ -55,28 +54,15 @@ pub fn config(alloc: Global) -> Result<Config, Fault> {
         asn: 65001,
         max_routes: None,
     };
+    let mut peers = Vec::new(alloc);
+    peers.push(peer)?;
     Ok(Config {
         local_as: 65000,
         local_id: 0xc000_02fe,
         allow_no_destination: true,
         empty_path_valid: true,
         hold_time: 0,
-        peers: Peers::new(vec![in alloc; peer]?),
-    })
-}
-
-/// The path that the peer announces.
-fn path(alloc: Global) -> Result<Path, Fault> {
-    let segment = Segment {
-        form: 2,
-        numbers: Numbers::new(vec![in alloc; 65001u32]?),
-    };
-    Ok(Path {
-        origin: 0,
-        segments: Segments::new(vec![in alloc; segment]?),
-        local_pref: 100,
-        originator: None,
-        external: true,
+        peers: Peers::new(peers),
     })
 }
 
@@ -89,12 +75,12 @@ fn table<'a, L: Ledger>(
     steps: &mut Steps<L>,
 ) -> Result<Table<'a>, Fault> {
     let mut table = Table::new(alloc, config);
-    table.put_unicast(PEER, net, path(alloc)?, steps)?;
+    table.put_unicast(PEER, net, own_path(alloc), steps)?;
     for frame in frames {
         let Ok((rule, _)) = decode(alloc, net.family, frame) else {
             return Err(Fault::Drawn);
         };
-        table.put_flow(PEER, rule, path(alloc)?, Actions::none(alloc), steps)?;
+        table.put_flow(PEER, rule, own_path(alloc), Actions::none(alloc), steps)?;
     }
     Ok(table)
 }
