@@ -21,20 +21,11 @@ pub fn sending(alloc: Global, names: &Names, id: u32) -> Result<Sending, Stop> {
     let Ok(actions) = from_communities(alloc, &names.octets("8006fde900000000")?) else {
         return Err(Stop::Line);
     };
-    let mut rules = Vec::new(alloc);
-    rules.push(Sent { rule, actions })?;
     Ok(Sending {
         id,
-        as_path: as_path(alloc)?,
-        rules: SentList::new(rules),
+        as_path: Numbers::new(vec![in alloc; 65001u32]?),
+        rules: SentList::new(vec![in alloc; Sent { rule, actions }]?),
     })
-}
-
-/// The path of AS 65001.
-fn as_path(alloc: Global) -> Result<Numbers, Stop> {
-    let mut numbers = Vec::new(alloc);
-    numbers.push(65001u32)?;
-    Ok(Numbers::new(numbers))
 }
 
 /// Both ends, what each wrote, and how much of it the other has heard.

@@ -12,14 +12,12 @@ pub fn configuration(alloc: Global, hold_time: u16) -> Result<Config, Stop> {
         asn: 65001,
         max_routes: None,
     };
-    let mut peers = Vec::new(alloc);
-    peers.push(peer)?;
     Ok(Config {
         local_as: 65000,
         local_id: 0xc000_02fe,
         allow_no_destination: false,
         empty_path_valid: true,
         hold_time,
-        peers: Peers::new(peers),
+        peers: Peers::new(vec![in alloc; peer]?),
     })
 }
