@@ -1,0 +1,139 @@
+//! A line of the table: the words that a call is given, and what is told of its answer.
+
+use fs_base::{Family, Prefix};
+use fs_nlri::{Rule, decode, encode};
+use std::alloc::Global;
+use std::fmt;
+use std::str::FromStr;
+
+/// The words that are still to be read, and what is told so far. That a word says nothing where it stands, or that
+/// memory was refused for what is told, is remembered, so that neither reading nor telling answers a `Result`.
+#[derive(Drop)]
+pub struct Call<'a> {
+    pub alloc: Global,
+    rest: &'a str,
+    told: String,
+    faulty: bool,
+}
+
+impl<'a> Call<'a> {
+    pub fn new(alloc: Global, words: &'a str) -> Call<'a> {
+        Call {
+            alloc,
+            rest: words,
+            told: String::new(alloc),
+            faulty: false,
+        }
+    }
+
+    pub fn told(&self) -> &str {
+        if self.faulty {
+            "a faulty line"
+        } else {
+            self.told.as_str()
+        }
+    }
+
+    pub fn word(&mut self) -> &'a str {
+        let (word, rest) = self.rest.split_once(' ').unwrap_or((self.rest, ""));
+        self.rest = rest;
+        word
+    }
+
+    /// A number in decimal digits; 0 where none is there.
+    pub fn number<T: FromStr + Default>(&mut self) -> T
+    where
+        T::Err: Drop,
+    {
+        let number = self.word().parse::<T>().ok();
+        self.faulty |= number.is_none();
+        number.unwrap_or_default()
+    }
+
+    /// The octets of a word in hexadecimal; `-` has none.
+    pub fn octets(&mut self) -> Vec<u8> {
+        let word = self.word();
+        let digits = word.strip_prefix("-").unwrap_or(word);
+        let octets = hex::decode(self.alloc, digits.as_bytes()).ok();
+        self.faulty |= octets.is_none();
+        octets.unwrap_or(Vec::new(self.alloc))
+    }
+
+    pub fn tell(&mut self, word: &str) {
+        let space = if self.told.is_empty() { "" } else { " " };
+        if self.told.push_str(space).is_err() || self.told.push_str(word).is_err() {
+            self.faulty = true;
+        }
+    }
+
+    /// Tells a value as `Debug` prints it.
+    pub fn show<T: fmt::Debug>(&mut self, value: &T) {
+        match format!(in self.alloc; "{value:?}") {
+            Ok(text) => self.tell(text.as_str()),
+            Err(_) => self.faulty = true,
+        }
+    }
+
+    /// Tells octets in hexadecimal, `-` where there are none.
+    pub fn show_octets(&mut self, octets: &[u8]) {
+        match hex::encode(self.alloc, octets) {
+            Ok(text) if text.is_empty() => self.tell("-"),
+            Ok(text) => self.tell(text.as_str()),
+            Err(_) => self.faulty = true,
+        }
+    }
+
+    /// What an answer has; its fault is told.
+    pub fn good<T: Drop, E: fmt::Debug + Drop>(&mut self, answer: Result<T, E>) -> Option<T> {
+        match answer {
+            Ok(value) => Some(value),
+            Err(fault) => {
+                self.show(&fault);
+                None
+            }
+        }
+    }
+
+    /// `v4`, else IPv6.
+    pub fn family(&mut self) -> Family {
+        if self.word() == "v4" {
+            Family::V4
+        } else {
+            Family::V6
+        }
+    }
+
+    /// `FAMILY ADDRESS LENGTH`, the address in hexadecimal.
+    pub fn prefix(&mut self) -> Option<Prefix> {
+        let family = self.family();
+        let mut bits = 0u128;
+        for octet in &self.octets() {
+            bits = bits << 8 | u128::from(*octet);
+        }
+        Prefix::new(family, bits, self.number())
+    }
+
+    /// `FAMILY NLRI`
+    pub fn rule(&mut self) -> Option<Rule> {
+        let family = self.family();
+        let decoded = decode(self.alloc, family, &self.octets());
+        Some(self.good(decoded)?.0)
+    }
+
+    /// `N`, and so many rules.
+    pub fn rules(&mut self) -> Option<Vec<Rule>> {
+        let mut rules = Vec::new(self.alloc);
+        for _ in 0..self.number::<u64>() {
+            let rule = self.rule()?;
+            self.good(rules.push(rule));
+        }
+        Some(rules)
+    }
+
+    /// The rule's canonical NLRI.
+    pub fn show_rule(&mut self, rule: &Rule) {
+        let mut out = Vec::new(self.alloc);
+        self.good(encode(rule, &mut out));
+        self.show_octets(&out);
+    }
+}

@@ -1,0 +1,117 @@
+//! Public calls, each made once over ample memory, and its answer compared. The first argument names the table, whose
+//! head says how its lines are written, the second one the configuration.
+#![tactic(auto)]
+
+mod call;
+mod compiled;
+mod counter;
+mod grammar;
+mod sessions;
+mod updates;
+
+ghost use Rattle.std.specs.Prelude.{◌≡◌, ◌<◌, IsSome};
+ghost use Rattle.fs_base.specs.Config.{peer_of};
+
+use call::Call;
+use compiled::{confirmed, first, held, spans, test};
+use counter::bounds;
+use fs_base::{Config, Steps};
+use fs_conf::read_config;
+use sessions::Ends;
+use std::marker::Brand;
+use std::process::ExitCode;
+use std::sync::ledger::{Blank, Ledger};
+use std::{env, fs, io};
+use updates::{message, update, withdraw};
+
+/// Makes the call of a line. The calls of `session` and of `joint` follow one another.
+fn answer<L: Ledger>(
+    call: &mut Call<'_>,
+    config: &Config,
+    ends: &mut Ends<'_>,
+    steps: &mut Steps<L>,
+) -> Option<()> {
+    match call.word() {
+        "numbers" => grammar::numbers(call),
+        "masks" => grammar::masks(call),
+        "rule" => grammar::rule(call),
+        "feed" => grammar::feed(call),
+        "long" => grammar::long(call),
+        "order" => grammar::order(call),
+        "prefixes" => grammar::prefixes(call),
+        "actions" => grammar::actions(call),
+        "bounds" => bounds(call, config, steps),
+        "held" => held(call, config, steps),
+        "first" => first(call, config, steps),
+        "test" => test(call, steps),
+        "spans" => spans(call),
+        "confirm" => confirmed(call),
+        "message" => message(call),
+        "update" => update(call),
+        "withdraw" => withdraw(call),
+        "session" => ends.ask_session(call),
+        "joint" => ends.ask_joint(call),
+        _ => None,
+    }
+}
+
+/// Whether a call's answer isn't the one that is due; the call is printed then.
+fn differs<L: Ledger>(
+    rt: &HostRuntime,
+    words: &str,
+    due: &str,
+    config: &Config,
+    ends: &mut Ends<'_>,
+    steps: &mut Steps<L>,
+) -> io::Result<bool> {
+    let mut call = Call::new(rt.alloc(), words);
+    let _ = answer(&mut call, config, ends, steps);
+    let came = call.told();
+    if came != due {
+        println!(rt; "{words}: expected {due}, came {came}")?;
+    }
+    Ok(came != due)
+}
+
+/// Follows the table, and prints how many calls it has, and how many of them differ.
+fn run<L: Ledger>(blank: Blank, rt: &HostRuntime, text: &str, config: &Config) -> io::Result<()>
+    requires name { blank.name ≡ L.name }
+    requires parts { blank.parts ≡ L.parts }
+    requires some { 0 < L.parts }
+    requires peer { IsSome (peer_of 1 config.now.peers) }
+{
+    let mut steps = Steps::<L>::new(blank);
+    let mut ends = Ends::new(rt.alloc(), config);
+    let (mut calls, mut differ) = (0u64, 0u64);
+    for line in text.lines() {
+        if let (false, Some((words, due))) = (line.starts_with('#'), line.split_once(" = ")) {
+            calls = calls.saturating_add(1);
+            if differs(rt, words, due, config, &mut ends, &mut steps)? {
+                differ = differ.saturating_add(1);
+            }
+        }
+    }
+    println!(rt; "{calls} calls, {differ} differ")
+}
+
+/// The file that the argument of that number names.
+fn file(rt: &HostRuntime, number: usize) -> Option<String> {
+    let name = env::args(rt).ok()?.nth(number)?;
+    fs::read_to_string(rt, name.as_str()).ok()
+}
+
+fn main(rt: HostRuntime) -> ExitCode {
+    let (Some(text), Some(peers)) = (file(&rt, 1), file(&rt, 2)) else {
+        return ExitCode::FAILURE;
+    };
+    let Ok(config) = read_config(rt.alloc(), peers.as_bytes()) else {
+        return ExitCode::FAILURE;
+    };
+    if config.peer(1).is_none() {
+        return ExitCode::FAILURE;
+    }
+    match run::<Brand>(Blank::new(1), &rt, text.as_str(), &config) {
+        Ok(()) => ExitCode::SUCCESS,
+        Err(_) => ExitCode::FAILURE,
+    }
+}

@@ -1,0 +1,44 @@
+//! Runs of the whole program, as case files name them: what a run must write and its status stand there, and are compared
+//! with what came. Its files, output, wire and clock lie in memory, or are those of the system. Each argument is the name
+//! of a case file; the head of the first one says how such a file is written.
+#![tactic(auto)]
+
+mod case_files;
+mod fault;
+mod fields;
+mod making;
+mod message;
+mod named;
+mod octets;
+mod outcome;
+mod records;
+mod runner;
+mod shape;
+mod tally;
+mod terms;
+
+use case_files::CaseFiles;
+use fault::Fault;
+use std::process::ExitCode;
+use std::{env, fs};
+
+/// Reads the case files that the arguments name, one after the other.
+fn read_all(rt: &HostRuntime) -> Result<(), Fault> {
+    let mut case_files = CaseFiles::new(rt.alloc());
+    for name in env::args(rt)?.skip(1) {
+        read_one(rt, &mut case_files, name.as_str())?;
+    }
+    Ok(())
+}
+
+fn read_one(rt: &HostRuntime, case_files: &mut CaseFiles, name: &str) -> Result<(), Fault> {
+    let text = fs::read_to_string(rt, name)?;
+    case_files.read(rt, name, text.as_str())
+}
+
+fn main(rt: HostRuntime) -> ExitCode {
+    match read_all(&rt) {
+        Ok(()) => ExitCode::SUCCESS,
+        Err(_) => ExitCode::FAILURE,
+    }
+}

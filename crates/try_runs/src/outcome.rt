@@ -1,0 +1,158 @@
+//! One run, and how it ended.
+
+use crate::fault::Fault;
+use crate::fields::size;
+use crate::named::NamedFiles;
+use crate::octets::Octets;
+use crate::terms::Terms;
+use fs_outside::{MemClock, MemFiles, MemSink, MemWire, RealClock, RealFiles, RealOut, RealWire};
+use std::alloc::Global;
+use std::fs;
+
+/// More than any run writes through an end of the wire.
+const ROOM: usize = 1 << 20;
+
+/// The file that a run over the real outside writes.
+const WRITTEN: &str = "written";
+
+/// How a run ended: its status, what it wrote, and what it wrote through each end of the wire.
+#[derive(Drop)]
+pub struct Outcome {
+    pub status: u8,
+    pub written: Octets,
+    pub first: Octets,
+    pub second: Octets,
+}
+
+/// Adds the files that the words name.
+fn add_files(
+    alloc: Global,
+    named: &NamedFiles,
+    words: &[String],
+    files: &mut MemFiles,
+) -> Result<(), Fault> {
+    for word in words {
+        if let Some(content) = named.content(word.as_str()) {
+            let content = Vec::from_slice(alloc, content)?;
+            if files.add(word.as_str(), content).is_err() {
+                return Err(Fault::Memory);
+            }
+        }
+    }
+    Ok(())
+}
+
+/// Runs the words over the files that they name, with output, a wire and a clock in memory.
+pub fn run_in_memory(
+    alloc: Global,
+    named: &NamedFiles,
+    words: &[String],
+    terms: &Terms,
+) -> Result<Outcome, Fault> {
+    let mut files = MemFiles::new(alloc, Vec::from_slice(alloc, &terms.failing.files)?);
+    files.narrow(size(terms.most.read).max(1));
+    add_files(alloc, named, words, &mut files)?;
+    run_over_files(alloc, words, terms, &mut files)
+}
+
+fn run_over_files(
+    alloc: Global,
+    words: &[String],
+    terms: &Terms,
+    files: &mut MemFiles,
+) -> Result<Outcome, Fault> {
+    let failing = Vec::from_slice(alloc, &terms.failing.output)?;
+    let Ok(mut sink) = MemSink::new(alloc, size(terms.room), failing) else {
+        return Err(Fault::Memory);
+    };
+    sink.narrow(size(terms.most.written).max(1));
+    run_into_sink(alloc, words, terms, files, &mut sink)
+}
+
+fn run_into_sink(
+    alloc: Global,
+    words: &[String],
+    terms: &Terms,
+    files: &mut MemFiles,
+    sink: &mut MemSink,
+) -> Result<Outcome, Fault> {
+    let failing = Vec::from_slice(alloc, &terms.failing.wire)?;
+    let Ok(mut wire) = MemWire::new(alloc, ROOM, failing) else {
+        return Err(Fault::Memory);
+    };
+    wire.narrow(size(terms.most.moved).max(1));
+    wire.give(0, Vec::from_slice(alloc, terms.first.given.as_slice())?);
+    wire.give(1, Vec::from_slice(alloc, terms.second.given.as_slice())?);
+    run_over_wire(alloc, words, terms, files, sink, &mut wire)
+}
+
+fn run_over_wire(
+    alloc: Global,
+    words: &[String],
+    terms: &Terms,
+    files: &mut MemFiles,
+    sink: &mut MemSink,
+    wire: &mut MemWire,
+) -> Result<Outcome, Fault> {
+    let mut clock = MemClock::new(Vec::from_slice(alloc, &terms.moments)?);
+    let limit = terms.limit.max(1);
+    let status = fs_cli::run_within(alloc, words, limit, files, sink, wire, &mut clock);
+    let mut outcome = Outcome::new(alloc, status);
+    outcome.written.append(sink.text());
+    outcome.first.append(wire.written(0));
+    outcome.second.append(wire.written(1));
+    Ok(outcome)
+}
+
+impl Outcome {
+    /// A run that ended with this status and wrote nothing.
+    fn new(alloc: Global, status: u8) -> Outcome {
+        Outcome {
+            status,
+            written: Octets::new(alloc),
+            first: Octets::new(alloc),
+            second: Octets::new(alloc),
+        }
+    }
+}
+
+/// Writes the files that the words name to the folder that the program runs in.
+fn write_files(rt: &HostRuntime, named: &NamedFiles, words: &[String]) -> Result<(), Fault> {
+    for word in words {
+        if let Some(content) = named.content(word.as_str()) {
+            fs::write(rt, word.as_str(), content)?;
+        }
+    }
+    Ok(())
+}
+
+/// Runs the words over the files of the system, into a file, with connections and the clock of the system.
+fn run_for_real(rt: &HostRuntime, words: &[String]) -> Result<u8, Fault> {
+    let mut out = RealOut::new(fs::create(rt, WRITTEN)?);
+    let mut files = RealFiles::new(rt.alloc(), rt);
+    let mut wire = RealWire::new(rt);
+    let mut clock = RealClock::new(rt);
+    Ok(fs_cli::run(
+        rt.alloc(),
+        words,
+        &mut files,
+        &mut out,
+        &mut wire,
+        &mut clock,
+    ))
+}
+
+/// Runs the words over the real outside, in which the files that they name stand. What goes through a connection isn't
+/// seen.
+pub fn run_outside(
+    rt: &HostRuntime,
+    named: &NamedFiles,
+    words: &[String],
+) -> Result<Outcome, Fault> {
+    write_files(rt, named, words)?;
+    let status = run_for_real(rt, words)?;
+    let written = fs::read(rt, WRITTEN)?;
+    let mut outcome = Outcome::new(rt.alloc(), status);
+    outcome.written.append(&written);
+    Ok(outcome)
+}

@@ -1,0 +1,122 @@
+//! What a run is given beside its words and files, and what it must answer.
+
+use crate::fault::Fault;
+use crate::fields::number;
+use crate::octets::Octets;
+use std::alloc::Global;
+
+/// A limit above each file.
+const AMPLE: u64 = 1 << 40;
+
+/// More than any run writes to its output.
+const ROOM: u64 = 200_000;
+
+/// The numbers of the calls that fail.
+#[derive(Drop)]
+pub struct Failing {
+    pub files: Vec<u64>,
+    pub output: Vec<u64>,
+    pub wire: Vec<u64>,
+}
+
+/// How many octets a call moves at most.
+#[derive(Clone, Copy, Drop)]
+pub struct Most {
+    pub read: u64,
+    pub written: u64,
+    pub moved: u64,
+}
+
+/// An end of the wire: what it gives, and what must be written through it, if that is said.
+#[derive(Drop)]
+pub struct End {
+    pub given: Octets,
+    pub said: Octets,
+    pub is_said: bool,
+}
+
+/// What a run is given: the limit, the room of its output, the calls that fail, the most octets of a call, what the clock
+/// answers and the ends of the wire. And what it must write, and the status that is due where calls fail in turn.
+#[derive(Drop)]
+pub struct Terms {
+    pub limit: u64,
+    pub room: u64,
+    pub due: u64,
+    pub most: Most,
+    pub failing: Failing,
+    pub moments: Vec<u64>,
+    pub first: End,
+    pub second: End,
+    pub written: Octets,
+}
+
+impl Failing {
+    /// No call fails.
+    pub fn new(alloc: Global) -> Failing {
+        Failing {
+            files: Vec::new(alloc),
+            output: Vec::new(alloc),
+            wire: Vec::new(alloc),
+        }
+    }
+}
+
+impl End {
+    /// It gives nothing, and what is written through it isn't said.
+    fn new(alloc: Global) -> End {
+        End {
+            given: Octets::new(alloc),
+            said: Octets::new(alloc),
+            is_said: false,
+        }
+    }
+}
+
+impl Terms {
+    /// An ample limit and room, no call that fails, ends that give nothing, and a clock that stands at 0; nothing is to be
+    /// written.
+    pub fn new(alloc: Global) -> Terms {
+        Terms {
+            limit: AMPLE,
+            room: ROOM,
+            due: 0,
+            most: Most {
+                read: u64::MAX,
+                written: u64::MAX,
+                moved: u64::MAX,
+            },
+            failing: Failing::new(alloc),
+            moments: Vec::new(alloc),
+            first: End::new(alloc),
+            second: End::new(alloc),
+            written: Octets::new(alloc),
+        }
+    }
+
+    /// Sets the number of this word, or adds it to those of the word.
+    pub fn set(&mut self, word: &str, digits: &str) -> Result<(), Fault> {
+        let value = number(digits)?;
+        match word {
+            "limit" => self.limit = value,
+            "room" => self.room = value,
+            "due" => self.due = value,
+            "narrow" => self.most.moved = value,
+            "narrow_files" => self.most.read = value,
+            "narrow_output" => self.most.written = value,
+            "fail_file" => self.failing.files.push(value)?,
+            "fail_write" => self.failing.output.push(value)?,
+            "fail_wire" => self.failing.wire.push(value)?,
+            _ => self.moments.push(value)?,
+        }
+        Ok(())
+    }
+
+    /// The end of this number, 0 or 1.
+    pub fn end(&mut self, digits: &str) -> Result<&mut End, Fault> {
+        match digits {
+            "0" => Ok(&mut self.first),
+            "1" => Ok(&mut self.second),
+            _ => Err(Fault::NoName),
+        }
+    }
+}
