@@ -144,4 +144,5 @@ def main():
             print(f"{(changed - alone) / items * 1000:.3f} ms a change", flush=True)
 
 
-main()
+if __name__ == "__main__":
+    main()

@@ -1,0 +1,67 @@
+#!/usr/bin/env python3
+"""Times tools/verdicts.py on the packets of bench/enforce.py, and tells its peak of memory beside that of ten packets.
+
+    bench/verdicts.py PROGRAM [--packets N] [--rules N] [--runs N]
+
+Reported are packets per processor second, start and end included, and the peak, as GNU time tells them.
+"""
+
+import argparse
+import pathlib
+import subprocess
+import sys
+import tempfile
+
+from enforce import CONFIG, tape, write_capture
+
+TOOL = str(pathlib.Path(__file__).resolve().parent.parent / "tools" / "verdicts.py")
+TIME = "/usr/bin/time"
+
+
+def spent(words, folder, runs):
+    """The least processor seconds of some runs, and the peak of memory in kilobytes."""
+    told = folder / "told"
+    seconds, peak = [], 0
+    for _ in range(runs):
+        if subprocess.run([TIME, "-f", "%U %S %M", "-o", told, *words], stdout=subprocess.DEVNULL).returncode != 0:
+            sys.exit(f"{words[0]} ended with another status than 0")
+        user, system, kilobytes = told.read_text().split()
+        seconds.append(float(user) + float(system))
+        peak = max(peak, int(kilobytes))
+    return min(seconds), peak
+
+
+def measure(program, packets, options, folder):
+    capture, lines = folder / "capture", folder / "lines"
+    write_capture(capture, packets, options.rules)
+    with open(lines, "wb") as out:
+        subprocess.run([program, "enforce", folder / "config", folder / "tape", capture], stdout=out, check=True)
+    ways = {
+        "report": [TOOL, capture, lines],
+        "report and split": [TOOL, capture, lines, "--split", folder / "parts"],
+        "json": [TOOL, capture, lines, "--json"],
+        "join": [TOOL, "--join", lines],
+    }
+    for name, words in ways.items():
+        seconds, peak = spent(words, folder, options.runs)
+        print(f"{name}: {packets} packets, {seconds:.2f} s, {packets / seconds:,.0f} a second, {peak / 1024:.1f} MB",
+              flush=True)
+
+
+def main():
+    parser = argparse.ArgumentParser(description=__doc__.split("\n", 1)[0])
+    parser.add_argument("program", type=pathlib.Path)
+    parser.add_argument("--packets", type=int, default=1_000_000)
+    parser.add_argument("--rules", type=int, default=100)
+    parser.add_argument("--runs", type=int, default=1)
+    options = parser.parse_args()
+    with tempfile.TemporaryDirectory() as made:
+        folder = pathlib.Path(made)
+        (folder / "config").write_text(CONFIG)
+        (folder / "tape").write_bytes(tape(options.rules))
+        for packets in (10, options.packets):
+            measure(str(options.program.resolve()), packets, options, folder)
+
+
+if __name__ == "__main__":
+    main()
