@@ -1,9 +1,8 @@
 #!/usr/bin/env python3
-"""Lists the answers of tools/answers.py with the clauses that say when they come, what stands after a refusal, its
-wrong bodies with what refuses each, and every public call of the libraries with the clauses of its contract, the edits
-that the prover must refuse in its body, and the comparing programs that make the call, or else whether a run of the
-whole program leads to it. Prints the tables of docs/CLAIMS.md; the text around them is kept there by hand. A clause, an
-edit or a call that isn't there ends it.
+"""Lists the answers of tools/answers.py with the clauses that say when they come, what stands after a refusal, and
+every public call of the libraries with the clauses of its contract, the edits that the prover must refuse in its body,
+and whether the program of single calls makes it, or else whether a run of the whole program leads to it. Prints the
+tables of docs/CLAIMS.md; the text around them is kept there by hand. A clause or a call that isn't there ends it.
 
 Usage: tools/claims.py > tables, or tools/claims.py --check docs/CLAIMS.md
 """
@@ -12,12 +11,13 @@ import os
 import re
 import sys
 
-from answers import ANSWERS, LEFT, STANDS, STATUSES, WRONG
+from answers import ANSWERS, LEFT, STANDS, STATUSES
 
 ROOT = os.path.dirname(os.path.dirname(os.path.abspath(__file__)))
-PROGRAMS = ["fs_codecs", "fs_inputs", "fs_tables", "fs_matching", "fs_reading", "desks"]
+# the program that makes single calls
+PROGRAMS = ["try_calls"]
 # the programs that run the whole program
-RUNS = ["welgutan", "loopback", "fs_runs"]
+RUNS = ["welgutan", "try_runs"]
 # of what is implemented for a type, the calls of these traits are listed
 TRAITS = "Speaker", "Files", "Sink", "Wire", "Clock", "Ord"
 # methods that types of the standard library have too
@@ -318,8 +318,8 @@ def way_to(crate, path, function, ways):
     if function["law"] or os.path.basename(path) == "laws.rt":
         return "a law"
     key = crate, function["owner"], function["name"]
-    if key in ways["fs_runs"]:
-        return "`fs_runs`"
+    if key in ways["try_runs"]:
+        return "`try_runs`"
     return ", ".join(f"through `{program}`" for program in PROGRAMS if key in ways[program]) or "no program"
 
 
@@ -331,7 +331,7 @@ def tables():
     programs = {name: Program(name, named[name], every, fields) for name in PROGRAMS}
     graph = library_graph()
     ways = {name: reached([name], graph) for name in PROGRAMS}
-    ways["fs_runs"] = reached(RUNS, graph)
+    ways["try_runs"] = reached(RUNS, graph)
     out = []
     ensured = {}
     total = 0
@@ -374,8 +374,7 @@ def tables():
         hidden = [name for name in rest if name not in listed]
         if hidden:
             out.append("In functions below these calls: " + ", ".join(f"`{n}`" for n in hidden) + ".\n")
-    above = answers(ensured) + wrong_bodies()
-    return total, "\n".join([*above, "## The calls\n", *out])
+    return total, "\n".join([*answers(ensured), "## The calls\n", *out])
 
 
 def promises():
@@ -420,30 +419,6 @@ def answers(ensured):
         "Of the layers:\n",
         "| after | stands | clauses |\n|---|---|---|", *of_clauses(STANDS, ensured), "",
     ]
-
-
-def wrong_bodies():
-    """The table of wrong bodies. Each edit has to be there, and docs/WRONG_BODIES.md has to say what refuses it."""
-    page = {}
-    crate = None
-    for line in read("docs", "WRONG_BODIES.md").split("\n"):
-        head = re.match(r"\*\*`(\w+)`\*\*", line)
-        row = re.match(r"\| `(\w+)` \| (.*) \|$", line)
-        crate = head.group(1) if head else crate
-        if row:
-            page[f"{crate}/{row.group(1)}"] = row.group(2)
-    out = ["## Wrong bodies that a contract must refuse\n", "| body | edits, and what refuses each |\n|---|---|"]
-    for body, edits_of_it in WRONG:
-        cells = []
-        for edit in edits_of_it.split():
-            crate, name = edit.split("/")
-            path = os.path.join(ROOT, "crates", crate, "must-fail", f"{name}.edit")
-            if not os.path.exists(path) or edit not in page:
-                sys.exit(f"{body}: no edit {edit}, or docs/WRONG_BODIES.md doesn't have it")
-            cells.append(f"`{name}` of `{crate}`: {page[edit]}")
-        out.append(f"| {body} | {'; '.join(cells)} |")
-    out.append("| a run always answers 6 | refused by the runs alone: the first case of `fs_runs` |")
-    return [*out, ""]
 
 
 def main():
