@@ -1,11 +1,11 @@
 #!/usr/bin/env python3
 """Times `pair` over the host's loopback on rules files of growing size, and measures the memory that it takes.
 
-    bench/pair.py PROGRAM [--rules N,N,..] [--runs N] [--memory FS_RUNS]
+    bench/pair.py PROGRAM [--rules N,N,..] [--runs N] [--memory TRY_RUNS]
 
 Each rule is TCP to one destination of /24 and one port, with a rate of no bytes. Reported are the rules a second from
 the rules file to the listing, the same without the seconds that a file of no rules takes, and the most memory that was
-resident. With the built program `fs_runs` the same is run over a wire in memory too, as a case whose listing is
+resident. With the built program `try_runs` the same is run over a wire in memory too, as a case whose listing is
 compared; its ends have room for about ten thousand rules.
 """
 
@@ -40,7 +40,7 @@ def best_of(program, folder, rules, runs):
 
 
 def case_of(rules):
-    """A case of `fs_runs`: the files, the words, and what is to be listed, since no route makes a rule valid."""
+    """A case of `try_runs`: the files, the words, and what is to be listed, since no route makes a rule valid."""
     parts = [f"room {200 + 80 * rules}", "file config.toml"] + [f"  line {line}" for line in CONFIG.split("\n") if line]
     parts += ["file rules.toml"] + [f"  line {line}" for line in HEAD.split("\n") if line]
     for number in range(rules):
@@ -69,7 +69,7 @@ def main():
     parser.add_argument("program")
     parser.add_argument("--rules", default="1000,10000")
     parser.add_argument("--runs", type=int, default=3)
-    parser.add_argument("--memory", help="the built program fs_runs")
+    parser.add_argument("--memory", help="the built program try_runs")
     options = parser.parse_args()
     with tempfile.TemporaryDirectory() as name:
         folder = pathlib.Path(name)
