@@ -9,8 +9,7 @@ mod grammar;
 mod sessions;
 mod updates;
 
-ghost use Rattle.std.specs.Prelude.{◌≡◌, ◌<◌, IsSome};
-ghost use Rattle.fs_base.specs.Config.{peer_of};
+ghost use Rattle.std.specs.Prelude.{◌≡◌, ◌<◌};
 
 use call::Call;
 use compiled::{confirmed, first, held, spans, test};
@@ -74,19 +73,18 @@ fn differs<L: Ledger>(
 }
 
 /// Follows the table, and prints how many calls it has, and how many of them differ.
-fn run<L: Ledger>(blank: Blank, rt: &HostRuntime, text: &str, config: &Config) -> io::Result<()>
-    requires name { blank.name ≡ L.name }
-    requires parts { blank.parts ≡ L.parts }
-    requires some { 0 < L.parts }
-    requires peer { IsSome (peer_of 1 config.now.peers) }
-{
-    let mut steps = Steps::<L>::new(blank);
-    let mut ends = Ends::new(rt.alloc(), config);
+fn follow<L: Ledger>(
+    rt: &HostRuntime,
+    text: &str,
+    config: &Config,
+    ends: &mut Ends<'_>,
+    steps: &mut Steps<L>,
+) -> io::Result<()> {
     let (mut calls, mut differ) = (0u64, 0u64);
     for line in text.lines() {
         if let (false, Some((words, due))) = (line.starts_with('#'), line.split_once(" = ")) {
             calls = calls.saturating_add(1);
-            if differs(rt, words, due, config, &mut ends, &mut steps)? {
+            if differs(rt, words, due, config, ends, steps)? {
                 differ = differ.saturating_add(1);
             }
         }
@@ -100,18 +98,23 @@ fn file(rt: &HostRuntime, number: usize) -> Option<String> {
     fs::read_to_string(rt, name.as_str()).ok()
 }
 
+fn run<L: Ledger>(blank: Blank, rt: &HostRuntime) -> Option<()>
+    requires name { blank.name ≡ L.name }
+    requires parts { blank.parts ≡ L.parts }
+    requires some { 0 < L.parts }
+{
+    let mut steps = Steps::<L>::new(blank);
+    let text = file(rt, 1)?;
+    let peers = file(rt, 2)?;
+    let config = read_config(rt.alloc(), peers.as_bytes()).ok()?;
+    config.peer(1)?;
+    let mut ends = Ends::new(rt.alloc(), &config);
+    follow(rt, text.as_str(), &config, &mut ends, &mut steps).ok()
+}
+
 fn main(rt: HostRuntime) -> ExitCode {
-    let (Some(text), Some(peers)) = (file(&rt, 1), file(&rt, 2)) else {
-        return ExitCode::FAILURE;
-    };
-    let Ok(config) = read_config(rt.alloc(), peers.as_bytes()) else {
-        return ExitCode::FAILURE;
-    };
-    if config.peer(1).is_none() {
-        return ExitCode::FAILURE;
-    }
-    match run::<Brand>(Blank::new(1), &rt, text.as_str(), &config) {
-        Ok(()) => ExitCode::SUCCESS,
-        Err(_) => ExitCode::FAILURE,
+    match run::<Brand>(Blank::new(1), &rt) {
+        Some(()) => ExitCode::SUCCESS,
+        None => ExitCode::FAILURE,
     }
 }
