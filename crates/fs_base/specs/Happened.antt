@@ -3,9 +3,9 @@
 use Rattle.std.specs.Prelude.{ℕ, List, Option, ◌≡◌, ◌<◌, ◌-◌, ◌^◌}
 use Rattle.fs_base.specs.Outside.{Rose}
 use Rattle.fs_base.specs.Sink.{Grew}
-use Rattle.fs_base.specs.declared.outside.files.Files as files
-use Rattle.fs_base.specs.declared.outside.sink.Sink as sink
-use Rattle.fs_base.specs.declared.outside.wire.Wire as wire
+use Rattle.fs_outside.specs.declared.files.Files as files
+use Rattle.fs_outside.specs.declared.sink.Sink as sink
+use Rattle.fs_outside.specs.declared.wire.Wire as wire
 
 -- the outside at one moment: the faults so far of each object, and what the sink tells of what was written
 pub record Seen : Type 0 where

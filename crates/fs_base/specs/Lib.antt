@@ -5,10 +5,10 @@ pub mod Prefix
 pub mod Search
 pub mod Laws
 pub mod Config
-pub mod Outside
-pub mod Files
-pub mod Sink
-pub mod Wire
+pub use Rattle.fs_outside.specs.Outside
+pub use Rattle.fs_outside.specs.Files
+pub use Rattle.fs_outside.specs.Sink
+pub use Rattle.fs_outside.specs.Wire
 pub mod Happened
 pub mod Counted
 pub mod Filling

@@ -2,7 +2,7 @@
 
 ghost use Rattle.std.specs.Prelude.{◌≡◌, IfOk};
 
-use crate::error::Memory;
+use crate::Memory;
 use std::alloc::Global;
 use std::marker::Model;
 

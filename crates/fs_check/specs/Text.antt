@@ -5,10 +5,10 @@ use Rattle.hex.specs.Hex.{encode_lower}
 use Rattle.fs_base.specs.Sink.{Grew, GrewPart}
 use Rattle.fs_nlri.specs.Parts.{Ruled}
 use Rattle.fs_nlri.specs.Rule.{IsRule, canonical_frame}
-use Rattle.fs_text.specs.Text.{text_of}
-use Rattle.fs_parse.specs.declared.fault.TextFault.{TextFault}
-use Rattle.fs_parse.specs.declared.fault.TextFault.TheVariants.{Bad, TooLong, Memory as NoMemory}
-use Rattle.fs_parse.specs.Text.{AreActions, IsTextFault}
+use Rattle.fs_text.specs.Printed.{text_of}
+use Rattle.fs_text.specs.declared.fault.TextFault.{TextFault}
+use Rattle.fs_text.specs.declared.fault.TextFault.TheVariants.{Bad, TooLong, Memory as NoMemory}
+use Rattle.fs_text.specs.Text.{AreActions, IsTextFault}
 use Rattle.fs_check.specs.declared.command.CheckFault.{CheckFault}
 use Rattle.fs_check.specs.declared.command.CheckFault.TheVariants.{Failed, Memory}
 

@@ -5,7 +5,7 @@ ghost use Rattle.hex.specs.Hex.{encode_lower};
 ghost use Rattle.fs_base.specs.Outside.{Rose};
 ghost use Rattle.fs_nlri.specs.Rule.{canonical_frame};
 ghost use Rattle.fs_check.specs.Text.{ReportsText, WroteText, actions_word, pair_line, text_fault_line};
-ghost use Rattle.fs_parse.specs.declared.fault.TextFault.TheVariants.{TooLong};
+ghost use Rattle.fs_text.specs.declared.fault.TextFault.TheVariants.{TooLong};
 
 use crate::command::CheckFault;
 use crate::report::Report;
@@ -13,7 +13,7 @@ use fs_actions::Actions;
 use fs_base::{Memory, Sink, write_all};
 use fs_line::{append, append_decimal, append_hex};
 use fs_nlri::{Rule, encode};
-use fs_parse::{TextFault, read};
+use fs_text::{TextFault, read};
 use std::alloc::Global;
 
 /// Appends the octets of the actions' communities in hexadecimal, or `-` where there are none.

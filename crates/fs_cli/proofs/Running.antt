@@ -3,10 +3,10 @@ use Rattle.std.proofs.Common.{◌≡◌, ◌≢◌, ◌⊎◌, ◌++◌, append-
 use Rattle.std.proofs.lemmas.Bool.Decides.{nat_tests}
 use Rattle.fs_base.specs.Happened.{Happened, happened, with_wire, FilesFailed, SinkFailed, WireFailed, FilesStood, SinkStood, WireStood}
 use Rattle.fs_base.specs.Sink.{Grew}
-use Rattle.fs_base.specs.declared.outside.files.Files as files
-use Rattle.fs_base.specs.declared.outside.sink.Sink as sink
-use Rattle.fs_base.specs.declared.outside.wire.Wire as wire
-use Rattle.fs_base.specs.declared.outside.clock.Clock as clock
+use Rattle.fs_base.specs.declared.Files as files
+use Rattle.fs_base.specs.declared.Sink as sink
+use Rattle.fs_base.specs.declared.Wire as wire
+use Rattle.fs_base.specs.declared.Clock as clock
 use Rattle.fs_base.proofs.Grew.{Grew-refl}
 use Rattle.fs_records.specs.Records.{End, done, limited, bad}
 use Rattle.fs_base.specs.declared.config.Config.{Config}

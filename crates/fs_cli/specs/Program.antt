@@ -24,10 +24,10 @@ use Rattle.fs_cli.specs.Survey.{Lists, Surveyed, listed_status, text_for}
 use Rattle.fs_cli.specs.declared.command.Subject.{Subject}
 use Rattle.fs_cli.specs.declared.command.Subject.TheVariants.{Nlri, Text}
 use Rattle.fs_cli.specs.declared.survey.Survey.{Survey}
-use Rattle.fs_base.specs.declared.outside.files.Files as files
-use Rattle.fs_base.specs.declared.outside.sink.Sink as sink
-use Rattle.fs_base.specs.declared.outside.wire.Wire as wire
-use Rattle.fs_base.specs.declared.outside.clock.Clock as clock
+use Rattle.fs_base.specs.declared.Files as files
+use Rattle.fs_base.specs.declared.Sink as sink
+use Rattle.fs_base.specs.declared.Wire as wire
+use Rattle.fs_base.specs.declared.Clock as clock
 
 -- what `check` answers and writes
 abbrev pub report_verdict : Bool → List ℕ → Verdict

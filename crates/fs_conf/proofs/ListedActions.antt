@@ -14,10 +14,10 @@ use Rattle.fs_actions.proofs.Listed.{are_listed as are_the_listed}
 use Rattle.fs_actions.proofs.ReadBack.{communities_joined, each_length, read_back, whole_joined}
 use Rattle.fs_actions.specs.Actions.{actions_of, are_communities, communities, with_action, with_actions}
 use Rattle.fs_actions.specs.Community.{IsAction, cleared, kind_of, listed, normal_form}
-use Rattle.fs_parse.proofs.Found.{IsEight, each, eight, masked, normal_at}
-use Rattle.fs_parse.proofs.Greatest.{octets_eight}
-use Rattle.fs_parse.proofs.Led.{no_actions}
-use Rattle.fs_parse.specs.Text.{AreActions}
+use Rattle.fs_text.proofs.Found.{IsEight, each, eight, masked, normal_at}
+use Rattle.fs_text.proofs.Greatest.{octets_eight}
+use Rattle.fs_text.proofs.Led.{no_actions}
+use Rattle.fs_text.specs.Text.{AreActions}
 use Rattle.fs_conf.proofs.Sought.{all_filter}
 use Rattle.fs_conf.specs.Sent.{are_listed, listed_actions}
 

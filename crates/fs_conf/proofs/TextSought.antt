@@ -17,12 +17,12 @@ use Rattle.fs_nlri.specs.Spelling.{IsFrame}
 use Rattle.fs_nlri.proofs.Again.{canonical_is_frame, frame_is_rule}
 use Rattle.fs_attrs.specs.Laws.{IsTheOutcome}
 use Rattle.fs_attrs.specs.Rules.{rules_of}
-use Rattle.fs_parse.specs.Laws.{EachHasOnePair}
-use Rattle.fs_parse.specs.Text.{AreActions, ReadsAs}
-use Rattle.fs_parse.specs.declared.fault.TextFault.{TextFault}
-use Rattle.fs_parse.specs.declared.fault.TextFault.TheVariants.{Bad, TooLong, Memory}
+use Rattle.fs_text.specs.Laws.{EachHasOnePair}
+use Rattle.fs_text.specs.Text.{AreActions, ReadsAs}
+use Rattle.fs_text.specs.declared.fault.TextFault.{TextFault}
+use Rattle.fs_text.specs.declared.fault.TextFault.TheVariants.{Bad, TooLong, Memory}
 use Rattle.fs_speaker.specs.declared.sending.Sent.{Sent}
-use Rattle.fs_text.specs.Text.{action_words, component_words, family_word, spaced, text_of, then_words}
+use Rattle.fs_text.specs.Printed.{action_words, component_words, family_word, spaced, text_of, then_words}
 use Rattle.fs_text.proofs.Spaces.{join_spaced}
 use Rattle.fs_conf.specs.Sent.{actions_among, if_ok, listed_actions, only, rule_of, rules_among, sent_of_text, sents_among}
 use Rattle.fs_conf.specs.Worded.{has_text, octet_lists, sent}

@@ -5,7 +5,7 @@ use Rattle.std.specs.List.{flat_map, range_with_len}
 use Rattle.std.specs.Str.{bytes_eq}
 use Rattle.fs_nlri.specs.Parts.{Ruled}
 use Rattle.fs_speaker.specs.declared.sending.Sent.{Sent}
-use Rattle.fs_text.specs.Text.{text_of}
+use Rattle.fs_text.specs.Printed.{text_of}
 
 -- the lists of at most so many numbers, each below a bound
 unfoldable pub lists_below : (bound most : ℕ) → List (List ℕ)

@@ -6,8 +6,8 @@ ghost use Rattle.fs_conf.specs.WordedLaw.{SaysItsOwn};
 
 use crate::config::ConfFault;
 use fs_attrs::rules_are_the_outcome;
-use fs_parse::{TextFault, each_text_has_one_pair, read};
 use fs_speaker::Sent;
+use fs_text::{TextFault, each_text_has_one_pair, read};
 use std::alloc::Global;
 
 /// In a rules file a text says a rule and actions exactly where it is their text, the rule is one, and the actions are

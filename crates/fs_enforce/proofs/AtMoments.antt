@@ -5,7 +5,7 @@ use Rattle.std.proofs.lemmas.Bool.Decides.{nat_tests}
 use Rattle.fs_base.specs.Outside.{Rose}
 use Rattle.fs_base.specs.Parts.{with_part}
 use Rattle.fs_base.specs.declared.config.Config.{Config}
-use Rattle.fs_base.specs.declared.outside.sink.Sink as sink
+use Rattle.fs_base.specs.declared.Sink as sink
 use Rattle.fs_records.specs.Records.{End, done}
 use Rattle.fs_desk.specs.Laws.{LeaveSame}
 use Rattle.fs_desk.specs.Leaves.{Leaves}

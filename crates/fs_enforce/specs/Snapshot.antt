@@ -1,7 +1,7 @@
 -- The admitted rules as they are kept apart from the table, and the line of a packet by them.
 use Rattle.std.specs.Prelude.{ℕ, ◌≡◌, ◌⊎◌, List, map}
 use Rattle.fs_base.specs.Outside.{Rose}
-use Rattle.fs_base.specs.declared.outside.sink.Sink as sink
+use Rattle.fs_base.specs.declared.Sink as sink
 use Rattle.fs_compile.specs.Matcher.{StandsForLists}
 use Rattle.fs_compile.specs.declared.compiled.Compiled.{Compiled}
 use Rattle.fs_line.specs.Output.{Stops}

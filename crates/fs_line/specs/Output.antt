@@ -2,7 +2,7 @@
 use Rattle.std.specs.Prelude.{◌≡◌, ◌≤◌, ◌⊎◌, ℕ, List, [], ◌++◌, Option, Result, OnOk, OnErr}
 use Rattle.fs_base.specs.Outside.{Rose}
 use Rattle.fs_base.specs.Sink.{Grew, GrewPart}
-use Rattle.fs_base.specs.declared.outside.sink.Sink as sink
+use Rattle.fs_base.specs.declared.Sink as sink
 
 -- What was pending and then the text have gone on: a front of them to the sink, and the rest is pending now.
 pub record Goes (before now : Option (List ℕ)) (pending pending_now text : List ℕ) : Type 0 where

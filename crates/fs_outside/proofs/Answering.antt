@@ -3,7 +3,7 @@ use Rattle.std.proofs.Common.{◌≡◌, ℕ, List, [], ◌∷◌, ◌++◌, Boo
 use Rattle.std.specs.Prelude.{if◌then◌else◌, replicate, get_or}
 use Rattle.std.proofs.lemmas.List.{replicate-append-replicate, take_all, take_more}
 use Rattle.std.proofs.lemmas.Bool.Decides.{nat_tests}
-use Rattle.fs_base.specs.Sink.{Grew}
+use Rattle.fs_outside.specs.Sink.{Grew}
 use Rattle.fs_outside.specs.Moments.{answer_at, answers_to, last_of}
 
 one_more : (n x : ℕ) → replicate (n + 1) x ≡ replicate n x ++ x ∷ []

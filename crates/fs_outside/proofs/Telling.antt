@@ -3,8 +3,8 @@ use Rattle.std.proofs.Common.{◌≡◌, ℕ, List, [], ◌++◌, ◌<◌, Bool,
 use Rattle.std.specs.Prelude.{if◌then◌else◌}
 use Rattle.std.proofs.lemmas.List.{length-drop, take-append-drop}
 use Rattle.std.proofs.lemmas.Grind.{common_steps}
-use Rattle.fs_base.specs.Files.{ReadTakes}
-use Rattle.fs_base.specs.Wire.{Told, WireEnds}
+use Rattle.fs_outside.specs.Files.{ReadTakes}
+use Rattle.fs_outside.specs.Wire.{Told, WireEnds}
 
 -- what a step did is told where the wire tells
 pub told_kept : (b : Bool) (step : WireEnds → WireEnds → Type 0) (before now : WireEnds) → step before now

@@ -1,6 +1,6 @@
 -- What an end in memory has left, and what it shows.
 use Rattle.std.specs.Prelude.{ℕ, List, [], Bool, true, false, drop}
-use Rattle.fs_base.specs.Wire.{WireEnd}
+use Rattle.fs_outside.specs.Wire.{WireEnd}
 use Rattle.fs_outside.specs.declared.cable.Origin.{Origin}
 use Rattle.fs_outside.specs.declared.cable.Origin.TheVariants.{Nothing, Own, Other}
 use Rattle.fs_outside.specs.declared.cable.MemEnd.{MemEnd}

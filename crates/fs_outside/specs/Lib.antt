@@ -1,3 +1,7 @@
+pub mod Outside
+pub mod Files
+pub mod Sink
+pub mod Wire
 pub mod MemoryFiles
 pub mod MemorySinks
 pub mod Cabled

@@ -1,6 +1,6 @@
 -- What sinks in memory show.
 use Rattle.std.specs.Prelude.{ℕ, List, ◌++◌, Option, Some, None, Bool, ◌+◌, ◌||◌, nat_lt, min, length, if◌then◌else◌, option_and_then}
-use Rattle.fs_base.specs.Outside.{fails_at}
+use Rattle.fs_outside.specs.Outside.{fails_at}
 use Rattle.fs_outside.specs.declared.memory_sinks.MemSink.{MemSink}
 use Rattle.fs_outside.specs.declared.memory_sinks.CalmSink.{CalmSink}
 

@@ -1,7 +1,7 @@
 -- What wires in memory show.
 use Rattle.std.specs.Prelude.{ℕ, List, [], Option, Some, None, Bool, false, ◌+◌, ◌||◌, ◌==◌, nat_lt, min, length, if◌then◌else◌}
-use Rattle.fs_base.specs.Outside.{fails_at}
-use Rattle.fs_base.specs.Wire.{WireEnd, WireEnds, end_at}
+use Rattle.fs_outside.specs.Outside.{fails_at}
+use Rattle.fs_outside.specs.Wire.{WireEnd, WireEnds, end_at}
 use Rattle.fs_outside.specs.Cabled.{end_of}
 use Rattle.fs_outside.specs.declared.cable.Cable.{Cable}
 use Rattle.fs_outside.specs.declared.memory_wires.MemWire.{MemWire}

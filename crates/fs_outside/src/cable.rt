@@ -4,7 +4,7 @@ ghost use Rattle.std.specs.Prelude.{◌≡◌, ◌≤◌, ◌+◌, ◌++◌, [],
 ghost use Rattle.fs_outside.specs.Cabled.{end_of, source_of};
 
 use crate::shelf::copy_behind;
-use fs_base::{Memory, Opening};
+use crate::{Memory, Opening};
 use std::alloc::Global;
 
 /// Where the octets of an end come from.
@@ -116,7 +116,7 @@ fn append(written: &mut Vec<u8>, room: usize, piece: &[u8]) -> bool
 }
 
 impl Cable {
-    ghost use Rattle.fs_base.specs.Wire.{TakesIn, end_at, opened, other_than};
+    ghost use Rattle.fs_outside.specs.Wire.{TakesIn, end_at, opened, other_than};
     ghost use Rattle.fs_outside.specs.MemoryWires.{ends_of, fresh_end, new_ends, passes, with_end};
 
     /// Ends that aren't open.

@@ -1,10 +1,10 @@
 //! Clocks in memory.
 
 ghost use Rattle.std.specs.Prelude.{◌≡◌, ◌+◌, ◌-◌, ◌^◌, ◌∷◌, [], min};
-ghost use Rattle.fs_base.specs.Sink.{Grew};
+ghost use Rattle.fs_outside.specs.Sink.{Grew};
 ghost use Rattle.fs_outside.specs.Moments.{answer_at, told_answers};
 
-use fs_base::Clock;
+use crate::Clock;
 
 /// A clock that answers the moments of a list in turn, and then the last of them again and again; 0 where there is
 /// none. It tells its answers for the first 2^64 - 1 of them.

@@ -1,8 +1,11 @@
-//! The outside of the traits of `fs_base`: in memory, and as the system has it.
+//! The traits by which the program meets the outside, and what implements them: in memory, and as the system has it.
 #![tactic(auto)]
 
 mod cable;
+mod clock;
 mod clocks;
+mod files;
+mod memory;
 mod memory_files;
 mod memory_sinks;
 mod memory_wires;
@@ -10,11 +13,18 @@ mod real;
 mod real_clock;
 mod real_wire;
 mod shelf;
+mod sink;
+mod wire;
 
+pub use clock::Clock;
 pub use clocks::{MemClock, StillClock};
+pub use files::{Failed, Files};
+pub use memory::Memory;
 pub use memory_files::{CalmFiles, MemFiles};
 pub use memory_sinks::{CalmSink, MemSink};
 pub use memory_wires::{CalmWire, MemWire};
 pub use real::{RealFiles, RealOut};
 pub use real_clock::RealClock;
 pub use real_wire::RealWire;
+pub use sink::Sink;
+pub use wire::{Opening, Wire};

@@ -2,11 +2,11 @@
 
 ghost use Rattle.std.specs.Prelude.{◌≡◌, ◌≢◌, ◌↔◌, false, ◌-◌, ◌≤◌, ◌<◌, ◌+◌, ◌^◌, ◌++◌, ◌∷◌, [], ℕ, List, Option, None, IsTrue, IsSome, IfOk, OnOk, OnErr, is_err, is_some, min, unwrap_or, drop, take, length, slice_set, string_bytes};
 ghost use Rattle.std.specs.Io.{ReadsAtMost};
-ghost use Rattle.fs_base.specs.Files.{OnlySlot, ReadTakes, opened_content};
-ghost use Rattle.fs_base.specs.Outside.{HasCause, Rose, fails_at};
+ghost use Rattle.fs_outside.specs.Files.{OnlySlot, ReadTakes, opened_content};
+ghost use Rattle.fs_outside.specs.Outside.{HasCause, Rose, fails_at};
 
 use crate::shelf::Shelf;
-use fs_base::{Failed, Files, Memory};
+use crate::{Failed, Files, Memory};
 use std::alloc::Global;
 
 /// Files in memory. Calls of `open_file` and `read` are counted together from 0, and those that a list names fail.

@@ -1,10 +1,10 @@
 //! Sinks in memory: one whose writes can be made to fail, and one that never fails.
 
 ghost use Rattle.std.specs.Prelude.{◌≡◌, ◌≤◌, ◌<◌, ◌+◌, ◌-◌, ◌^◌, ◌++◌, ◌||◌, [], ℕ, List, Option, Some, None, true, IfOk, is_err, min, nat_lt, length, option_copied, vec_len, vec_capacity};
-ghost use Rattle.fs_base.specs.Outside.{HasCause, fails_at};
-ghost use Rattle.fs_base.specs.Sink.{WriteGrew};
+ghost use Rattle.fs_outside.specs.Outside.{HasCause, fails_at};
+ghost use Rattle.fs_outside.specs.Sink.{WriteGrew};
 
-use fs_base::{Failed, Memory, Sink};
+use crate::{Failed, Memory, Sink};
 use std::alloc::Global;
 
 /// A sink in memory with room for a stated count of octets. Its writes are counted from 0, and those that a list

@@ -2,11 +2,11 @@
 
 ghost use Rattle.std.specs.Prelude.{◌≡◌, ◌≤◌, ◌<◌, ◌+◌, ◌-◌, ◌^◌, [], ℕ, List, Option, Some, None, IsTrue, false, IfOk, is_err, min, length, option_copied, option_map};
 ghost use Rattle.std.specs.Io.{ReadsAtMost};
-ghost use Rattle.fs_base.specs.Outside.{HasCause, Rose, fails_at};
-ghost use Rattle.fs_base.specs.Wire.{EndCloses, EndOpens, EndReads, EndWrites, Told, WireEnds, end_at};
+ghost use Rattle.fs_outside.specs.Outside.{HasCause, Rose, fails_at};
+ghost use Rattle.fs_outside.specs.Wire.{EndCloses, EndOpens, EndReads, EndWrites, Told, WireEnds, end_at};
 
 use crate::cable::Cable;
-use fs_base::{Failed, Memory, Opening, Wire};
+use crate::{Failed, Memory, Opening, Wire};
 use std::alloc::Global;
 
 /// A wire in memory. Its calls are counted from 0, and those that a list names fail, as does a write past the room. An

@@ -1,9 +1,9 @@
 //! The real outside: files of the system, and a writer for the program's lines.
 ghost use Rattle.std.specs.Prelude.{◌≡◌, ◌≤◌, IfOk};
 ghost use Rattle.std.specs.Io.{ReadsAtMost};
-ghost use Rattle.fs_base.specs.Outside.{HasCause, Rose};
+ghost use Rattle.fs_outside.specs.Outside.{HasCause, Rose};
 
-use fs_base::{Failed, Files, Sink};
+use crate::{Failed, Files, Sink};
 use std::alloc::Global;
 use std::io::{BufReader, ErrorKind, Read, Write};
 use std::{fs, io, rt};

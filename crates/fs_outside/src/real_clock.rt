@@ -2,7 +2,7 @@
 
 ghost use Rattle.std.specs.Prelude.{◌≡◌};
 
-use fs_base::Clock;
+use crate::Clock;
 use std::time;
 
 /// The monotonic clock of the system, in whole milliseconds. Where it can't be read, its last answer stands.

@@ -2,10 +2,10 @@
 
 ghost use Rattle.std.specs.Prelude.{◌≡◌, ◌≤◌, ◌<◌, IfOk, length};
 ghost use Rattle.std.specs.Io.{ReadsAtMost};
-ghost use Rattle.fs_base.specs.Outside.{HasCause};
+ghost use Rattle.fs_outside.specs.Outside.{HasCause};
 
 use crate::real::fault;
-use fs_base::{Failed, Opening, Wire};
+use crate::{Failed, Opening, Wire};
 use std::io;
 use std::io::{Read, Write};
 use std::net::{Net, OpenListener, OpenStream, Shutdown, TcpListener, TcpStream};

@@ -3,7 +3,7 @@
 ghost use Rattle.std.specs.Prelude.{◌≡◌, ◌≢◌, ◌↔◌, ◌≤◌, ◌<◌, ◌+◌, ◌^◌, [], ℕ, IsTrue, IsSome, OnOk, OnErr, min, unwrap_or, drop, take, length};
 ghost use Rattle.fs_outside.specs.MemoryFiles.{AddsFile, content_named, place_of};
 
-use fs_base::Memory;
+use crate::Memory;
 use std::alloc::Global;
 
 /// A file in memory.

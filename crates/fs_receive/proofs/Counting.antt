@@ -5,7 +5,7 @@ use Rattle.std.proofs.lemmas.List.{drop_all}
 use Rattle.std.proofs.lemmas.Option.{none-some}
 use Rattle.fs_ends.specs.Opening.{opened_by}
 use Rattle.fs_ends.proofs.OpenSteps.{opened_takes, opened_waits}
-use Rattle.fs_joint.specs.End.{IsAt}
+use Rattle.fs_speaker.specs.End.{IsAt}
 use Rattle.fs_message.specs.Deframer.{Framing, pending}
 use Rattle.fs_speaker.specs.Announcer.{Announcing, FeedsEnd, SaysText, StaysEnded, TicksEnd, is_established, machine_in}
 use Rattle.fs_speaker.specs.Handed.{Point}

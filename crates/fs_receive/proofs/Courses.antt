@@ -1,7 +1,7 @@
 -- One piece more.
 use Rattle.std.proofs.Common.{◌≡◌, ◌⊎◌, inl, inr, ℕ, List, [], ◌∷◌, ◌++◌, Option, Some, None, refl, ap, sym, ◌∙◌, subst, append_assoc, append-nil}
 use Rattle.std.proofs.lemmas.Option.{none-some}
-use Rattle.fs_joint.specs.End.{first_point, ticked, ticks}
+use Rattle.fs_speaker.specs.End.{first_point, ticked, ticks}
 use Rattle.fs_speaker.specs.Handed.{Handed, Point, hand, handed, point, runs_by}
 use Rattle.fs_speaker.specs.Times.{at_moment, tick_at, written_now}
 use Rattle.fs_speaker.specs.Transition.{Machine}

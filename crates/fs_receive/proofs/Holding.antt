@@ -20,7 +20,7 @@ use Rattle.fs_speaker.specs.declared.times.Times.{Times}
 use Rattle.fs_speaker.specs.declared.transition.Phase.{Phase}
 use Rattle.fs_speaker.proofs.Handing.{ran, runs_none, runs_step}
 use Rattle.fs_speaker.proofs.SessionSteps.{going, plays_none, plays_step}
-use Rattle.fs_joint.proofs.Lasting.{last_update}
+use Rattle.fs_speaker.proofs.Lasting.{last_update}
 use Rattle.fs_receive.proofs.Answering.{awaits_open}
 
 abbrev Made : Type 0

@@ -7,7 +7,7 @@ use Rattle.fs_message.specs.Stream.{Message, first_message, wrong_at}
 use Rattle.fs_attrs.specs.declared.update.Update.{Update}
 use Rattle.fs_ends.specs.HoldTime.{AreTimely, IsTakenAt, Spans, most}
 use Rattle.fs_ends.proofs.Moments.{most_more, spans_now, taken_later, taken_now, expires_far, expires_timed, positive}
-use Rattle.fs_joint.specs.End.{ticked, ticks}
+use Rattle.fs_speaker.specs.End.{ticked, ticks}
 use Rattle.fs_speaker.specs.Handed.{Handed, Point, hand, handed, point, runs, runs_by, shuts}
 use Rattle.fs_speaker.specs.Session.{at_start}
 use Rattle.fs_speaker.specs.Times.{at_moment, taken_in, tick_at, written_now}

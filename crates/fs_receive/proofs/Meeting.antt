@@ -30,7 +30,7 @@ use Rattle.fs_speaker.proofs.SessionSteps.{machine_waits}
 use Rattle.fs_ends.specs.Teller.{keepalives}
 use Rattle.fs_talk.specs.Round.{Pieces}
 use Rattle.fs_receive.specs.Hearer.{course_of}
-use Rattle.fs_joint.specs.Laws.{CanArrive}
+use Rattle.fs_speaker.specs.JointLaws.{CanArrive}
 use Rattle.fs_receive.specs.Sender.{TookOpen, rules_in, woven}
 use Rattle.fs_receive.proofs.Replying.{replies}
 

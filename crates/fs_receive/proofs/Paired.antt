@@ -35,11 +35,11 @@ use Rattle.fs_talk.specs.declared.joined.Talk.TheVariants.{Done as AllSaid, Firs
 use Rattle.fs_talk.proofs.Telling.{told_as}
 use Rattle.fs_receive.specs.Hearer.{HasClosed, Receives, bare, is_ended, course_of}
 use Rattle.fs_receive.specs.Listen.{IsReceiving}
-use Rattle.fs_joint.specs.Laws.{CanArrive}
+use Rattle.fs_speaker.specs.JointLaws.{CanArrive}
 use Rattle.fs_receive.specs.Pair.{Arrives, ComesUp, EndsEarly, IsUnhindered, Pairs, PairsOver, PairsSo, RunsLate, SaysFront, told_by, EndsTalk}
 use Rattle.fs_receive.specs.Sender.{Began, Speaks, SpeaksUpTo, TookOpen, is_settled, rules_in, text_in, woven}
 use Rattle.fs_receive.specs.Course.{course}
-use Rattle.fs_joint.specs.End.{IsAt}
+use Rattle.fs_speaker.specs.End.{IsAt}
 use Rattle.fs_receive.proofs.Apart.{late_first, late_second}
 use Rattle.fs_receive.proofs.Counting.{Opens, opens_so}
 use Rattle.fs_receive.proofs.Listened.{receiving}

@@ -7,7 +7,7 @@ use Rattle.fs_base.specs.Config.{peer_of}
 use Rattle.fs_base.specs.declared.config.Config.{Config}
 use Rattle.fs_base.specs.declared.config.Peer.{Peer}
 use Rattle.fs_message.specs.Deframer.{pending}
-use Rattle.fs_joint.specs.End.{ticked, ticks}
+use Rattle.fs_speaker.specs.End.{ticked, ticks}
 use Rattle.fs_speaker.specs.Handed.{Handed, Point, handed, hand, point, runs_by}
 use Rattle.fs_speaker.specs.Line.{fresh}
 use Rattle.fs_speaker.specs.Session.{Live, begins, live}

@@ -6,7 +6,7 @@ use Rattle.std.proofs.lemmas.Option.{none-some}
 use Rattle.fs_base.specs.declared.config.Config.{Config}
 use Rattle.fs_message.specs.Write.{message_text}
 use Rattle.fs_message.proofs.StreamLaws.{message_stable}
-use Rattle.fs_joint.specs.End.{HandsOver, IsAt, StandsAt, TicksOver, ticked, ticks}
+use Rattle.fs_speaker.specs.End.{HandsOver, IsAt, StandsAt, TicksOver, ticked, ticks}
 use Rattle.fs_speaker.specs.Announcer.{Announcing, SaysText, StartsWith, first_text, has_started, is_established, machine_in, next_text, one_sent, open_sent, with_line}
 use Rattle.fs_speaker.specs.Handed.{Handed, Point, hand, handed, point, runs_by}
 use Rattle.fs_speaker.specs.Line.{Lined}

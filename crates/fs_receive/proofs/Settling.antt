@@ -2,8 +2,8 @@
 use Rattle.std.proofs.Common.{◌≡◌, ◌||◌, ℕ, ◌+◌, ◌-◌, ◌≤◌, List, [], ◌++◌, length, take, drop, length-drop, Bool, true, false, Option, Some, None, Result, Ok, Err, IfSome, refl, ap, sym, ◌∙◌, subst, arith}
 use Rattle.std.specs.Option.{is_some}
 use Rattle.std.proofs.lemmas.List.{take_rest}
-use Rattle.fs_joint.specs.End.{HandsOver}
-use Rattle.fs_joint.proofs.Handover.{Going, going_more, hands_all, hands_closed}
+use Rattle.fs_speaker.specs.End.{HandsOver}
+use Rattle.fs_speaker.proofs.Handover.{Going, going_more, hands_all, hands_closed}
 use Rattle.fs_message.specs.Deframer.{pending}
 use Rattle.fs_speaker.specs.Announcer.{Announcing, FeedsEnd, StaysEnded, TicksEnd, is_established, machine_in, with_line, without_update}
 use Rattle.fs_speaker.specs.Line.{Advanced, FeedsOpen, Lined, StaysOver, Step, closed_after, moved, state_in, step_by, stops, takes, waits}

@@ -34,11 +34,11 @@ use Rattle.fs_ends.specs.HoldTime.{Spans, most}
 use Rattle.fs_ends.specs.Teller.{keepalives}
 use Rattle.fs_talk.specs.Round.{Pieces, moments_in, octets_in}
 use Rattle.fs_receive.specs.Hearer.{course_of}
-use Rattle.fs_joint.specs.Laws.{CanArrive}
+use Rattle.fs_speaker.specs.JointLaws.{CanArrive}
 use Rattle.fs_receive.specs.Pair.{IsTimely, told_by}
 use Rattle.fs_receive.specs.Course.{course}
 use Rattle.fs_receive.proofs.Answering.{awaits_open}
-use Rattle.fs_joint.proofs.Lasting.{goes_by, goes_on, last_by, last_update}
+use Rattle.fs_speaker.proofs.Lasting.{goes_by, goes_on, last_by, last_update}
 use Rattle.fs_receive.proofs.Holding.{Unheld, closed_still, hold_is, hold_kept, runs_unheld, same_still}
 use Rattle.fs_receive.proofs.Lasting.{expires_late}
 use Rattle.fs_speaker.proofs.Arriving.{one_message, open_fits}

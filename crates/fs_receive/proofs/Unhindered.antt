@@ -11,8 +11,8 @@ use Rattle.fs_message.specs.Stream.{Message, first_message, wrong_at}
 use Rattle.fs_message.specs.declared.fault.MessageFault.{MessageFault}
 use Rattle.fs_message.proofs.StreamLaws.{fault_stays, message_stable}
 use Rattle.fs_attrs.specs.declared.update.Update.{Update}
-use Rattle.fs_joint.specs.End.{ticked, ticks}
-use Rattle.fs_joint.specs.Laws.{CanArrive}
+use Rattle.fs_speaker.specs.End.{ticked, ticks}
+use Rattle.fs_speaker.specs.JointLaws.{CanArrive}
 use Rattle.fs_speaker.specs.Announcer.{open_sent}
 use Rattle.fs_speaker.specs.Handed.{Handed, Point, handed}
 use Rattle.fs_speaker.specs.Laws.{ComesBack}
@@ -36,7 +36,7 @@ use Rattle.fs_receive.specs.Pair.{IsTimely, MayHold}
 use Rattle.fs_receive.specs.Sender.{TookOpen, rules_in, woven}
 use Rattle.fs_receive.proofs.Limits.{within}
 use Rattle.fs_receive.proofs.Answering.{awaits_open}
-use Rattle.fs_joint.proofs.Lasting.{last_update}
+use Rattle.fs_speaker.proofs.Lasting.{last_update}
 use Rattle.fs_receive.proofs.Holding.{Keeps, closed_still, keeps, same_still}
 use Rattle.fs_receive.proofs.Meeting.{answers, meets, open_first, own_message, parts_arrive, peer_opens}
 use Rattle.fs_receive.proofs.Replying.{waits_silent}

@@ -3,7 +3,7 @@ use Rattle.std.specs.Prelude.{◌≡◌, ◌⊎◌, ℕ, List, [], ◌∷◌, �
 use Rattle.fs_base.specs.Config.{peer_of}
 use Rattle.fs_base.specs.declared.config.Config.{Config}
 use Rattle.fs_base.specs.declared.config.Peer.{Peer}
-use Rattle.fs_joint.specs.End.{ticked}
+use Rattle.fs_speaker.specs.End.{ticked}
 use Rattle.fs_speaker.specs.Handed.{Handed}
 use Rattle.fs_speaker.specs.Session.{Live}
 use Rattle.fs_speaker.specs.Side.{notice_text, receiver}

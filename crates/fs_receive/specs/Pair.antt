@@ -20,7 +20,7 @@ use Rattle.fs_speaker.specs.declared.state.Standing.{Standing}
 use Rattle.fs_speaker.specs.declared.state.Standing.TheVariants.{Ended as HasEnded}
 use Rattle.fs_speaker.specs.declared.state.State.TheVariants.{Established}
 use Rattle.fs_speaker.specs.declared.transition.Phase.{Phase}
-use Rattle.fs_joint.specs.Laws.{CanArrive}
+use Rattle.fs_speaker.specs.JointLaws.{CanArrive}
 use Rattle.fs_desk.specs.Desk.{Desked}
 use Rattle.fs_desk.specs.Limit.{bounded_session}
 use Rattle.fs_ends.specs.Opening.{opened_by}

@@ -7,7 +7,7 @@ use Rattle.fs_message.specs.Open.{open_of}
 use Rattle.fs_message.specs.Stream.{Message, first_message}
 use Rattle.fs_message.specs.Write.{message_text}
 use Rattle.fs_message.specs.declared.open_.Open.{Open}
-use Rattle.fs_joint.specs.End.{StandsAt}
+use Rattle.fs_speaker.specs.End.{StandsAt}
 use Rattle.fs_speaker.specs.Announcer.{Announcing, is_established, machine_in, with_line}
 use Rattle.fs_speaker.specs.Line.{Lined, state_in}
 use Rattle.fs_speaker.specs.Sending.{text_sent}

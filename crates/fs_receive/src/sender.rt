@@ -1,7 +1,7 @@
 //! The announcing end that hears all that comes.
 
 ghost use Rattle.std.specs.Prelude.{◌≡◌, ◌≤◌, ◌<◌, [], true, false, length, IfOk, IfSome, OnOk};
-ghost use Rattle.fs_joint.specs.End.{HandsOver, TicksOver};
+ghost use Rattle.fs_speaker.specs.End.{HandsOver, TicksOver};
 ghost use Rattle.fs_speaker.specs.Announcer.{machine_in};
 ghost use Rattle.fs_ends.specs.Teller.{ahead_of, before_all};
 ghost use Rattle.fs_receive.specs.Sender.{CountsOn, KeepsHand, KeepsSettled, Speaks, SpeaksUpTo, is_settled};

@@ -1,49 +1,380 @@
--- A message that closes the session.
-use Rattle.std.proofs.Common.{◌≡◌, ℕ, Bool, true, false, List, ◌++◌, drop, Option, Some, None, Result, Ok, Err, ap, sym, ◌∙◌, subst, if◌then◌else◌}
-use Rattle.std.proofs.lemmas.List.{append-nil}
-use Rattle.fs_message.specs.Stream.{Message, message_of, first_message, wrong_at}
-use Rattle.fs_message.specs.Deframer.{Framing, Feeds, standing_message}
-use Rattle.fs_attrs.specs.declared.update.Update.{Update}
-use Rattle.fs_speaker.specs.declared.state.Closed.{Closed}
-use Rattle.fs_speaker.specs.declared.state.Closed.TheVariants.{Fault, Notified, NoFamily, Memory}
-use Rattle.fs_speaker.specs.Transition.{Machine, Phase, transition_by, IsTransition}
-use Rattle.fs_speaker.specs.Line.{stops, step_at, rest_step, step_by, CloseIs}
-use Rattle.fs_speaker.specs.Side.{at_fault, ClosesAs}
+-- How both ends close, whatever happens between them.
+use Rattle.std.proofs.Common.{◌≡◌, inl, inr, ℕ, ◌==◌, Bool, true, false, if◌then◌else◌, List, [], ◌∷◌, ◌++◌, take, drop, Option, Some, None, refl, ap, sym, ◌∙◌, subst, append_assoc, append-nil}
+use Rattle.fs_base.specs.declared.config.Config.{Config}
+use Rattle.fs_base.specs.declared.config.Peer.{Peer}
+use Rattle.fs_session.specs.Handed.{Point, Handed, hand}
+use Rattle.fs_session.specs.Session.{Last, at_start, closed, session_by}
+use Rattle.fs_session.specs.Times.{at_moment, tick_at}
+use Rattle.fs_session.specs.Transition.{Machine}
+use Rattle.fs_session.specs.declared.sending.Sending.{Sending}
+use Rattle.fs_session.specs.declared.state.Closed.{Closed}
+use Rattle.fs_session.specs.declared.state.Closed.TheVariants.{Fault, Notified, NoFamily, Memory}
+use Rattle.fs_session.specs.declared.times.Tick.{Tick}
+use Rattle.fs_session.specs.declared.times.Tick.TheVariants.{Quiet, Keeps, Expires}
+use Rattle.fs_speaker.specs.declared.event.Event.{Event}
+use Rattle.fs_speaker.specs.declared.event.Event.TheVariants.{Send, Deliver, Tick as TickEvent, Cut}
+use Rattle.fs_speaker.specs.End.{ticks, ticked}
+use Rattle.fs_speaker.specs.JointLaws.{CanArrive, ClosesSo, IsDue, handed_over, point_of, taken_in}
+use Rattle.fs_speaker.specs.World.{World, sent, taker_of, teller_of, taker_comes, teller_comes, says, next_said, happens, at_first, runs_on, run}
+use Rattle.fs_speaker.proofs.Fronting.{Holds, Lines, holds_first, holds_on, lines_cut, lines_delivered, lines_said, lines_same, open_not}
+use Rattle.fs_speaker.proofs.Handover.{closed_hand}
+use Rattle.fs_speaker.proofs.Lasting.{Follows, closes_for, follows_first, follows_none, follows_piece, follows_tick}
+use Rattle.fs_speaker.proofs.Reading.{IsCalm}
+use Rattle.fs_speaker.proofs.Running.{run_more}
+use Rattle.fs_speaker.proofs.Telling.{Says, says_first, says_piece, says_tick}
+use Rattle.fs_speaker.proofs.Waking.{ticked_by}
 
--- A message stands, and it is the first of the octets in hand.
-pub record StandsIn (begun piece : List ℕ) (count : ℕ) (stands : Bool) (framing : Framing) (message : Message) : Type 0 where
-  pub fed : Feeds begun piece framing.begun (Ok (count, stands))
-  pub stands_is : framing.stands ≡ stands
-  pub message_is : Some message ≡ standing_message framing
+-- an end that was closed stays as it is
+pub hand_opens : (machine : Machine) (moment : ℕ) (now : Point) (piece : List ℕ) → (hand machine moment now piece).point.closed ≡ None → now.closed ≡ None
+hand_opens machine moment now piece o = by now.closed refl
+  where
+    by : (how : Option Closed) → now.closed ≡ how → now.closed ≡ None
+    by None e = e
+    by (Some why) e = absurd (open_not why (sym e ∙ sym (ap (λ (m : Handed). m.point.closed) (closed_hand machine moment now piece why e)) ∙ o))
 
-first_is : (begun piece : List ℕ) (count : ℕ) (stands : Bool) (framing : Framing) (message : Message) → StandsIn begun piece count stands framing message
-    → first_message (begun ++ piece) ≡ Some (message, drop count piece)
-first_is begun piece count true framing message s =
-    let at : Some message ≡ Some (message_of framing.begun) =
-    s.message_is ∙ ap (λ (b : Bool). if b then Some (message_of framing.begun) else None) s.stands_is in
-    let same : message ≡ message_of framing.begun = cc in
-    let pair : Message → Option (Message × List ℕ) = λ m. Some (m, drop count piece) in
-    s.fed.2 ∙ sym (ap pair same)
-first_is begun piece count false framing message s =
-    let at : Some message ≡ None = s.message_is ∙ ap (λ (b : Bool). if b then Some (message_of framing.begun) else None) s.stands_is in
-    absurd cc
+pub tick_opens : (moment : ℕ) (now : Point) → (ticked moment now).point.closed ≡ None → now.closed ≡ None
+tick_opens moment now o = by now.closed refl o
+  where
+    by : (how : Option Closed) → now.closed ≡ how → (ticked_by moment now how).point.closed ≡ None → now.closed ≡ None
+    by None e f = e
+    by (Some why) e f = f
 
-refused : (machine : Machine) (now : Phase) (octets behind : List ℕ) (message : Message) (why : Closed) → first_message octets ≡ Some (message, behind)
-    → transition_by machine now message ≡ Err why → step_by machine now octets ≡ stops why
-refused machine now octets behind message why first going =
-    ap (λ (o : Option (Message × List ℕ)). elim o [ Some f ↦ step_at (transition_by machine now f.0) f.1 | None ↦ rest_step (wrong_at octets) ]) first
-    ∙ ap (λ (t : Result (Phase × Option Update) Closed). step_at t behind) going
+module _ (config : Config) (peer : Peer) (sending : Sending) where
+  abbrev taker : Machine
+  taker = taker_of config peer sending
 
-pub closes : (machine : Machine) (now : Phase) (begun piece : List ℕ) (count : ℕ) (stands : Bool) (framing : Framing) (message : Message)
-    (why closed : Closed) (replies replies' : List ℕ) → StandsIn begun piece count stands framing message → IsTransition (Err why) (transition_by machine now message)
-    → ClosesAs machine why replies replies' closed → CloseIs (step_by machine now (begun ++ piece)) closed × (replies' ≡ replies ++ at_fault machine.farewell closed)
-closes machine now begun piece count stands framing message why Memory replies replies' s going ends = (tt, ends ∙ sym (append-nil replies))
-closes machine now begun piece count stands framing message why (Fault code subcode) replies replies' s going ends =
-    let t : transition_by machine now message ≡ Err (Fault code subcode) = subst (λ (w : Closed). IsTransition (Err w) (transition_by machine now message)) (sym ends.0) going in
-    (refused machine now (begun ++ piece) (drop count piece) message (Fault code subcode) (first_is begun piece count stands framing message s) t, ends.1)
-closes machine now begun piece count stands framing message why (Notified code subcode) replies replies' s going ends =
-    let t : transition_by machine now message ≡ Err (Notified code subcode) = subst (λ (w : Closed). IsTransition (Err w) (transition_by machine now message)) (sym ends.0) going in
-    (refused machine now (begun ++ piece) (drop count piece) message (Notified code subcode) (first_is begun piece count stands framing message s) t, ends.1)
-closes machine now begun piece count stands framing message why NoFamily replies replies' s going ends =
-    let t : transition_by machine now message ≡ Err NoFamily = subst (λ (w : Closed). IsTransition (Err w) (transition_by machine now message)) (sym ends.0) going in
-    (refused machine now (begun ++ piece) (drop count piece) message NoFamily (first_is begun piece count stands framing message s) t, ends.1)
+  abbrev teller : Machine
+  teller = teller_of config peer sending
+
+  -- AN END WITH A TICK THAT WAS DUE
+  -- what closed an end stays, whatever happens then
+  pub hand_stays : (machine : Machine) (moment : ℕ) (now : Point) (piece : List ℕ) (why : Closed) → now.closed ≡ Some why
+      → (hand machine moment now piece).point.closed ≡ Some why
+  hand_stays machine moment now piece why e = ap (λ (m : Handed). m.point.closed) (closed_hand machine moment now piece why e) ∙ e
+
+  pub tick_stays : (moment : ℕ) (now : Point) (why : Closed) → now.closed ≡ Some why → (ticked moment now).point.closed ≡ Some why
+  tick_stays moment now why e = by now.closed e
+    where
+      by : (how : Option Closed) → how ≡ Some why → (ticked_by moment now how).point.closed ≡ Some why
+      by None f = absurd cc
+      by (Some other) f = e
+
+  said_stays : (first : Bool) (text : Option (List ℕ)) (w : World) → (point_of first (says text w)).closed ≡ (point_of first w).closed
+  said_stays true None w = refl
+  said_stays true (Some text) w = refl
+  said_stays false None w = refl
+  said_stays false (Some text) w = refl
+
+  happened_stays : (first : Bool) (event : Event) (w : World) (why : Closed) → (point_of first w).closed ≡ Some why
+      → (point_of first (happens config peer sending event w)).closed ≡ Some why
+  happened_stays first Send w why e = said_stays first (next_said config peer sending w.teller w.appended) w ∙ e
+  happened_stays first (Deliver to count moment) w why e = by first (to == 0) e
+    where
+      by : (first zeroth : Bool) → (point_of first w).closed ≡ Some why
+          → (point_of first (if zeroth then taker_comes (hand taker moment w.taker (take count w.to_taker)) (drop count w.to_taker) w
+          else teller_comes (hand teller moment w.teller (take count w.to_teller)) (drop count w.to_teller) w)).closed ≡ Some why
+      by true true e = hand_stays taker moment w.taker (take count w.to_taker) why e
+      by true false e = e
+      by false true e = e
+      by false false e = hand_stays teller moment w.teller (take count w.to_teller) why e
+  happened_stays first (TickEvent end moment) w why e = by first (end == 0) e
+    where
+      by : (first zeroth : Bool) → (point_of first w).closed ≡ Some why
+          → (point_of first (if zeroth then taker_comes (ticked moment w.taker) w.to_taker w else teller_comes (ticked moment w.teller) w.to_teller w)).closed ≡ Some why
+      by true true e = tick_stays moment w.taker why e
+      by true false e = e
+      by false true e = e
+      by false false e = tick_stays moment w.teller why e
+  happened_stays true Cut w why e = e
+  happened_stays false Cut w why e = e
+
+  all_stay : (first : Bool) (events : List Event) (w : World) (why : Closed) → (point_of first w).closed ≡ Some why
+      → (point_of first (runs_on config peer sending w events)).closed ≡ Some why
+  all_stay first [] w why e = e
+  all_stay first (event ∷ events) w why e = all_stay first events (happens config peer sending event w) why (happened_stays first event w why e)
+
+  runs_joined : (w : World) (earlier later : List Event) → runs_on config peer sending w (earlier ++ later) ≡ runs_on config peer sending (runs_on config peer sending w earlier) later
+  runs_joined w [] later = refl
+  runs_joined w (event ∷ earlier) later = runs_joined (happens config peer sending event w) earlier later
+
+  due_closes : (moment : ℕ) (now : Point) → now.closed ≡ None → tick_at now.phase.hold (at_moment moment now.times) ≡ Expires → (ticked moment now).point.closed ≡ Some (Fault 4 0)
+  due_closes moment now o d =
+      ap (λ (how : Option Closed). (ticked_by moment now how).point.closed) o
+      ∙ ap (λ (t : Tick). (ticks t now.waiting now.phase (at_moment moment now.times)).point.closed) d
+
+  pub closes_where_due : (events : List Event) (first : Bool) → IsDue config peer sending first events → (point_of first (run config peer sending events)).closed ≡ Some (Fault 4 0)
+  closes_where_due events first d =
+      ap (λ (z : List Event). (point_of first (run config peer sending z)).closed) d.split
+      ∙ ap (λ (w : World). (point_of first w).closed) (runs_joined (at_first config peer sending) d.earlier (TickEvent d.end d.moment ∷ d.later))
+      ∙ all_stay first d.later (happens config peer sending (TickEvent d.end d.moment) w) (Fault 4 0) (by first (d.end == 0) d.whose d.opened d.due)
+    where
+      w : World
+      w = run config peer sending d.earlier
+
+      by : (first zeroth : Bool) → zeroth ≡ first → (point_of first w).closed ≡ None
+          → tick_at (point_of first w).phase.hold (at_moment d.moment (point_of first w).times) ≡ Expires
+          → (point_of first (if zeroth then taker_comes (ticked d.moment w.taker) w.to_taker w else teller_comes (ticked d.moment w.teller) w.to_teller w)).closed ≡ Some (Fault 4 0)
+      by true true e o u = due_closes d.moment w.taker o u
+      by true false e o u = absurd cc
+      by false true e o u = absurd cc
+      by false false e o u = due_closes d.moment w.teller o u
+
+  -- HOW AN END CLOSES
+  abbrev pub So : Bool → List Event → Option Closed → Type 0
+  So first events how = ClosesSo config peer sending first events how
+
+  pub so_later : (first : Bool) (events : List Event) (event : Event) (how : Option Closed) → So first events how → So first (events ++ event ∷ []) how
+  so_later first events event how (inl o) = inl o
+  so_later first events event how (inr (inl d)) = inr (inl (
+    d.0,
+    record {
+      earlier = d.1.earlier;
+      end = d.1.end;
+      moment = d.1.moment;
+      later = d.1.later ++ event ∷ [];
+      split = ap (λ (z : List Event). z ++ event ∷ []) d.1.split ∙ append_assoc d.1.earlier (TickEvent d.1.end d.1.moment ∷ d.1.later) (event ∷ []);
+      whose = d.1.whose;
+      opened = d.1.opened;
+      due = d.1.due;
+    },
+  ))
+  so_later first events event how (inr (inr n)) = inr (inr n)
+
+  -- of a piece: what closes it closes the session of all that the other said
+  so_piece : (first : Bool) (events : List Event) (event : Event) (machine : Machine) (octets behind all : List ℕ) (now : Point) (moment : ℕ) (piece : List ℕ)
+      → So first events now.closed → Follows machine octets now → (octets ++ taken_in now.closed piece) ++ behind ≡ all → IsCalm (session_by machine at_start all).1
+      → So first (events ++ event ∷ []) (hand machine moment now piece).point.closed
+  so_piece first events event machine octets behind all now moment piece so f front calm = by now.closed refl
+    where
+      calm_closes : (why : Closed) (made : Option Closed) → made ≡ Some why → IsCalm (closed why) → So first (events ++ event ∷ []) made
+      calm_closes (Notified code subcode) made e c = inr (inr (code, subcode, e))
+      calm_closes (Fault code subcode) made e c = absurd c
+      calm_closes NoFamily made e c = absurd c
+      calm_closes Memory made e c = absurd c
+
+      made_by : now.closed ≡ None → (made : Option Closed) → (hand machine moment now piece).point.closed ≡ made
+          → So first (events ++ event ∷ []) (hand machine moment now piece).point.closed
+      made_by o None e = inl e
+      made_by o (Some why) e =
+          calm_closes why (hand machine moment now piece).point.closed e
+          (subst (λ (l : Last). IsCalm l)
+          (ap (λ (z : List ℕ). (session_by machine at_start z).1) (sym front ∙ ap (λ (how : Option Closed). (octets ++ taken_in how piece) ++ behind) o)
+          ∙ closes_for machine octets piece behind now moment why o f e)
+          calm)
+
+      by : (how : Option Closed) → now.closed ≡ how → So first (events ++ event ∷ []) (hand machine moment now piece).point.closed
+      by None o = made_by o (hand machine moment now piece).point.closed refl
+      by (Some why) e =
+          subst (λ (how : Option Closed). So first (events ++ event ∷ []) how) (e ∙ sym (hand_stays machine moment now piece why e))
+          (so_later first events event now.closed so)
+
+  -- of the clock
+  pub so_tick : (first : Bool) (events : List Event) (end moment : ℕ) → (end == 0) ≡ first → (now : Point) → now ≡ point_of first (run config peer sending events)
+      → So first events now.closed → So first (events ++ TickEvent end moment ∷ []) (ticked moment now).point.closed
+  so_tick first events end moment whose now is so = by now.closed refl
+    where
+      due : now.closed ≡ None → (tick : Tick) → tick_at now.phase.hold (at_moment moment now.times) ≡ tick
+          → So first (events ++ TickEvent end moment ∷ []) (ticks tick now.waiting now.phase (at_moment moment now.times)).point.closed
+      due o Quiet d = inl refl
+      due o Keeps d = inl refl
+      due o Expires d = inr (inl (
+        refl,
+        record {
+          earlier = events;
+          end = end;
+          moment = moment;
+          later = [];
+          split = refl;
+          whose = whose;
+          opened = subst (λ (p : Point). p.closed ≡ None) is o;
+          due = subst (λ (p : Point). tick_at p.phase.hold (at_moment moment p.times) ≡ Expires) is d;
+        },
+      ))
+
+      by : (how : Option Closed) → now.closed ≡ how → So first (events ++ TickEvent end moment ∷ []) (ticked_by moment now how).point.closed
+      by None o = due o (tick_at now.phase.hold (at_moment moment now.times)) refl
+      by (Some why) e = so_later first events (TickEvent end moment) now.closed so
+
+  -- BOTH ENDS
+  -- the octets that an event hands to the announcing end while it is open
+  abbrev told_over : Event → World → List ℕ
+  told_over (Deliver to count moment) w = if to == 0 then [] else taken_in w.teller.closed (take count w.to_teller)
+  told_over _ w = []
+
+  -- the receiving end follows what was delivered
+  pub takes_on : (octets : List ℕ) (w : World) (event : Event) → Follows (taker_of config peer sending) octets w.taker
+      → Follows (taker_of config peer sending) (octets ++ handed_over event w) (happens config peer sending event w).taker
+  takes_on octets w Send f = by (next_said config peer sending w.teller w.appended)
+    where
+      by : (text : Option (List ℕ)) → Follows taker (octets ++ []) (says text w).taker
+      by None = follows_none taker octets w.taker f
+      by (Some text) = follows_none taker octets w.taker f
+  takes_on octets w (Deliver to count moment) f = by (to == 0)
+    where
+      by : (zeroth : Bool) → Follows taker (octets ++ (if zeroth then taken_in w.taker.closed (take count w.to_taker) else []))
+          (if zeroth then taker_comes (hand taker moment w.taker (take count w.to_taker)) (drop count w.to_taker) w
+          else teller_comes (hand teller moment w.teller (take count w.to_teller)) (drop count w.to_teller) w).taker
+      by true = follows_piece taker octets (take count w.to_taker) w.taker moment w.taker.closed refl f
+      by false = follows_none taker octets w.taker f
+  takes_on octets w (TickEvent end moment) f = by (end == 0)
+    where
+      by : (zeroth : Bool) → Follows taker (octets ++ [])
+          (if zeroth then taker_comes (ticked moment w.taker) w.to_taker w else teller_comes (ticked moment w.teller) w.to_teller w).taker
+      by true = follows_tick taker octets w.taker moment f
+      by false = follows_none taker octets w.taker f
+  takes_on octets w Cut f = follows_none taker octets w.taker f
+
+  module _ (can : CanArrive config peer sending) where
+    -- what the announcing end was handed, of all that the receiving end said
+    record Told (heard all : List ℕ) (w : World) : Type 0 where
+      lines : Lines heard all w.to_teller w.cut w.teller.closed
+      says : Says config peer sending can all w.taker
+      first : Follows (teller_of config peer sending) heard w.teller
+
+    record Knows (octets heard all : List ℕ) (w : World) : Type 0 where
+      holds : Holds config peer sending can octets w
+      told : Told heard all w
+      takes : Follows (taker_of config peer sending) octets w.taker
+
+    abbrev KnowsAll : List ℕ → List ℕ → World → Type 0
+    KnowsAll octets heard w = (all : List ℕ) × Knows octets heard all w
+
+    abbrev ToldAll : List ℕ → World → Type 0
+    ToldAll heard w = (all : List ℕ) × Told heard all w
+
+    kept : (heard all flying : List ℕ) (cut : Bool) (how : Option Closed) → Lines heard all flying cut how → Lines (heard ++ []) all flying cut how
+    kept heard all flying cut how l = lines_same heard all flying cut how how (λ o. o) l
+
+    told_on : (heard all : List ℕ) (w : World) (event : Event) → Told heard all w → ToldAll (heard ++ told_over event w) (happens config peer sending event w)
+    told_on heard all w Send t = by (next_said config peer sending w.teller w.appended)
+      where
+        by : (text : Option (List ℕ)) → ToldAll (heard ++ []) (says text w)
+        by None = (all, record { lines = kept heard all w.to_teller w.cut w.teller.closed t.lines; says = t.says; first = follows_none teller heard w.teller t.first })
+        by (Some text) = (all, record { lines = kept heard all w.to_teller w.cut w.teller.closed t.lines; says = t.says; first = follows_none teller heard w.teller t.first })
+    told_on heard all w (Deliver to count moment) t = by (to == 0)
+      where
+        by : (zeroth : Bool) → ToldAll (heard ++ (if zeroth then [] else taken_in w.teller.closed (take count w.to_teller)))
+            (if zeroth then taker_comes (hand taker moment w.taker (take count w.to_taker)) (drop count w.to_taker) w
+            else teller_comes (hand teller moment w.teller (take count w.to_teller)) (drop count w.to_teller) w)
+        by true =
+            let text : List ℕ = (hand taker moment w.taker (take count w.to_taker)).text in (
+              all ++ text,
+              record {
+                lines = kept heard (all ++ text) (sent w.cut w.to_teller text) w.cut w.teller.closed (lines_said heard all w.to_teller w.cut w.teller.closed text t.lines);
+                says = says_piece config peer sending can all w.taker moment (take count w.to_taker) t.says;
+                first = follows_none teller heard w.teller t.first;
+              },
+            )
+        by false = (
+          all,
+          record {
+            lines = lines_delivered heard all w.to_teller w.cut w.teller.closed (hand teller moment w.teller (take count w.to_teller)).point.closed count
+                (hand_opens teller moment w.teller (take count w.to_teller)) t.lines;
+            says = t.says;
+            first = follows_piece teller heard (take count w.to_teller) w.teller moment w.teller.closed refl t.first;
+          },
+        )
+    told_on heard all w (TickEvent end moment) t = by (end == 0)
+      where
+        by : (zeroth : Bool) → ToldAll (heard ++ [])
+            (if zeroth then taker_comes (ticked moment w.taker) w.to_taker w else teller_comes (ticked moment w.teller) w.to_teller w)
+        by true =
+            let text : List ℕ = (ticked moment w.taker).text in (
+              all ++ text,
+              record {
+                lines = kept heard (all ++ text) (sent w.cut w.to_teller text) w.cut w.teller.closed (lines_said heard all w.to_teller w.cut w.teller.closed text t.lines);
+                says = says_tick config peer sending can all w.taker moment t.says;
+                first = follows_none teller heard w.teller t.first;
+              },
+            )
+        by false = (
+          all,
+          record {
+            lines = lines_same heard all w.to_teller w.cut w.teller.closed (ticked moment w.teller).point.closed (tick_opens moment w.teller) t.lines;
+            says = t.says;
+            first = follows_tick teller heard w.teller moment t.first;
+          },
+        )
+    told_on heard all w Cut t = (
+      all,
+      record { lines = lines_cut heard all w.to_teller w.cut w.teller.closed t.lines; says = t.says; first = follows_none teller heard w.teller t.first },
+    )
+
+    knows_on : (octets heard all : List ℕ) (w : World) (event : Event) → Knows octets heard all w
+        → KnowsAll (octets ++ handed_over event w) (heard ++ told_over event w) (happens config peer sending event w)
+    knows_on octets heard all w event k =
+        let next = told_on heard all w event k.told in
+        (next.0, record { holds = holds_on config peer sending can octets w event k.holds; told = next.1; takes = takes_on octets w event k.takes })
+
+    -- how both ends have closed
+    abbrev Both : List Event → World → Type 0
+    Both events w = So true events w.taker.closed × So false events w.teller.closed
+
+    both_on : (events : List Event) (octets heard all all' : List ℕ) (w : World) (event : Event) → w ≡ run config peer sending events → Knows octets heard all w
+        → Knows (octets ++ handed_over event w) (heard ++ told_over event w) all' (happens config peer sending event w)
+        → Both events w → Both (events ++ event ∷ []) (happens config peer sending event w)
+    both_on events octets heard all all' w Send is k next b = by (next_said config peer sending w.teller w.appended)
+      where
+        by : (text : Option (List ℕ)) → Both (events ++ Send ∷ []) (says text w)
+        by None = (so_later true events Send w.taker.closed b.0, so_later false events Send w.teller.closed b.1)
+        by (Some text) = (so_later true events Send w.taker.closed b.0, so_later false events Send w.teller.closed b.1)
+    both_on events octets heard all all' w (Deliver to count moment) is k next b = by (to == 0) next
+      where
+        event : Event
+        event = Deliver to count moment
+
+        by : (zeroth : Bool) → Knows (octets ++ (if zeroth then taken_in w.taker.closed (take count w.to_taker) else []))
+            (heard ++ (if zeroth then [] else taken_in w.teller.closed (take count w.to_teller))) all'
+            (if zeroth then taker_comes (hand taker moment w.taker (take count w.to_taker)) (drop count w.to_taker) w
+            else teller_comes (hand teller moment w.teller (take count w.to_teller)) (drop count w.to_teller) w)
+            → Both (events ++ event ∷ [])
+            (if zeroth then taker_comes (hand taker moment w.taker (take count w.to_taker)) (drop count w.to_taker) w
+            else teller_comes (hand teller moment w.teller (take count w.to_teller)) (drop count w.to_teller) w)
+        by true n = (
+          so_piece true events event taker octets n.holds.lines.behind n.holds.all w.taker moment (take count w.to_taker) b.0 k.takes n.holds.lines.front n.holds.tells.gives.1,
+          so_later false events event w.teller.closed b.1,
+        )
+        by false n = (
+          so_later true events event w.taker.closed b.0,
+          so_piece false events event teller heard n.told.lines.behind all' w.teller moment (take count w.to_teller) b.1 k.told.first n.told.lines.front n.told.says.calm,
+        )
+    both_on events octets heard all all' w (TickEvent end moment) is k next b = by (end == 0) refl
+      where
+        event : Event
+        event = TickEvent end moment
+
+        by : (zeroth : Bool) → (end == 0) ≡ zeroth → Both (events ++ event ∷ [])
+            (if zeroth then taker_comes (ticked moment w.taker) w.to_taker w else teller_comes (ticked moment w.teller) w.to_teller w)
+        by true e = (so_tick true events end moment e w.taker (ap (λ (v : World). v.taker) is) b.0, so_later false events event w.teller.closed b.1)
+        by false e = (so_later true events event w.taker.closed b.0, so_tick false events end moment e w.teller (ap (λ (v : World). v.teller) is) b.1)
+    both_on events octets heard all all' w Cut is k next b = (so_later true events Cut w.taker.closed b.0, so_later false events Cut w.teller.closed b.1)
+
+    all_close : (events before : List Event) (octets heard all : List ℕ) (w : World) → w ≡ run config peer sending before → Knows octets heard all w → Both before w
+        → Both (before ++ events) (runs_on config peer sending w events)
+    all_close [] before octets heard all w is k b = rw (append-nil before) b
+    all_close (event ∷ events) before octets heard all w is k b =
+        let made : World = happens config peer sending event w in
+        let next = knows_on octets heard all w event k in
+        let run_is : made ≡ run config peer sending (before ++ event ∷ []) =
+        ap (happens config peer sending event) is ∙ sym (run_more config peer sending (at_first config peer sending) before event) in
+        rw (← append_assoc before (event ∷ []) events)
+        (all_close events (before ++ event ∷ []) (octets ++ handed_over event w) (heard ++ told_over event w) next.0 made run_is next.1
+        (both_on before octets heard all next.0 w event is k next.1 b))
+
+    knows_first : Knows [] [] [] (at_first config peer sending)
+    knows_first = record {
+      holds = holds_first config peer sending can;
+      told = record {
+        lines = record { behind = []; front = refl; flows = λ o c. refl; gone = λ c. refl };
+        says = says_first config peer sending can (at_first config peer sending).taker refl;
+        first = follows_first teller (at_first config peer sending).teller refl refl;
+      };
+      takes = follows_first taker (at_first config peer sending).taker refl refl;
+    }
+
+    pub closes_only_so : (events : List Event) (first : Bool) → ClosesSo config peer sending first events (point_of first (run config peer sending events)).closed
+    closes_only_so events first = by first (all_close events [] [] [] [] (at_first config peer sending) refl knows_first (inl refl, inl refl))
+      where
+        by : (first : Bool) → Both events (run config peer sending events) → ClosesSo config peer sending first events (point_of first (run config peer sending events)).closed
+        by true b = b.0
+        by false b = b.1

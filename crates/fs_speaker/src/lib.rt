@@ -1,20 +1,18 @@
-//! BGP sessions over octets that come in pieces, at either end (RFC 4271, sections 6 and 8).
+//! Both ends of a session, joined: what is delivered between them, and what their clocks do; and all of `fs_session`.
 #![tactic(auto)]
 
-mod announcer;
+mod end;
+mod ends;
+mod event;
+mod flight;
+mod joint;
 mod laws;
-mod line;
-mod sending;
-mod session;
-mod side;
-mod state;
-mod times;
-mod transition;
 
-pub use announcer::Announcer;
-pub use laws::{
-    pieces_join, rules_arrive, rules_come_back, steps_make_the_session, steps_make_what_is_handed,
+pub use end::{End, hand, tick};
+pub use event::{Event, EventList};
+pub use fs_session::{
+    Announcer, Closed, Sending, Sent, SentList, Session, Standing, State, pieces_join,
+    rules_arrive, rules_come_back, sender, steps_make_the_session, steps_make_what_is_handed,
 };
-pub use sending::{Sending, Sent, SentList, sender};
-pub use session::Session;
-pub use state::{Closed, Standing, State};
+pub use joint::Joint;
+pub use laws::{closes_only_so, takes_a_front, takes_none_unnamed, takes_what_was_delivered};

@@ -6,7 +6,7 @@ ghost use Rattle.std.specs.Io.{ReadsAtMost};
 ghost use Rattle.fs_base.specs.Outside.{HasCause, Rose};
 ghost use Rattle.fs_base.specs.Sink.{Grew};
 ghost use Rattle.fs_base.specs.Wire.{EndReads, TakesIn, Told};
-ghost use Rattle.fs_base.specs.declared.outside.files.Failed.{Failed};
+ghost use Rattle.fs_base.specs.declared.Failed.{Failed};
 ghost use Rattle.fs_talk.specs.Round.{Speech, Spoken, Round};
 
 use crate::fault::TalkFault;

@@ -6,7 +6,7 @@ use Rattle.fs_conf.specs.Config.{config_of}
 use Rattle.fs_conf.specs.Rules.{rules_of}
 use Rattle.fs_speaker.specs.Sending.{sender_of}
 use Rattle.fs_speaker.specs.declared.sending.Sending.{Sending}
-use Rattle.fs_joint.specs.Laws.{CanArrive}
+use Rattle.fs_speaker.specs.JointLaws.{CanArrive}
 use Rattle.fs_stages.specs.Load.{Names, config_stage, fetch, rules_stage, sending_stage}
 use Rattle.fs_stages.specs.Refusal.{Found, Stage, Stopped, and_then, or_stop}
 use Rattle.fs_stages.specs.declared.refusal.Refusal.{Refusal}

@@ -28,7 +28,7 @@ use Rattle.fs_wires.specs.Conversation.{Conversation}
 use Rattle.fs_wires.specs.Listed.{IsListing, ListsDesk, TellsListing, verdict_by}
 use Rattle.fs_wires.specs.Pairing.{BothBegin, Joined, JoinsSo, Meets}
 use Rattle.fs_wires.proofs.FromStages.{config_early, rules_early, sending_found, wire_early}
-use Rattle.fs_joint.proofs.Lowest.{sender_told}
+use Rattle.fs_speaker.proofs.Lowest.{sender_told}
 use Rattle.fs_wires.specs.Listening.{Begins}
 use Rattle.std.specs.Result.{IfErr, IsErrAnd}
 use Rattle.fs_stages.specs.declared.refusal.Refusal.TheVariants.{Config as Refused}

@@ -30,7 +30,7 @@ use Rattle.fs_wires.specs.Announcing.{IsBrokenOff}
 use Rattle.fs_wires.specs.Conversation.{Conversation}
 use Rattle.fs_wires.specs.Listening.{Begins, HasExpired, Heard, Hears, IsHeard, ListenedSo, ListensThrough, ending_by, ending_of, hearing_stage, listening, with_peer}
 use Rattle.fs_wires.specs.Listed.{ListsDesk, TellsListing, verdict_by}
-use Rattle.fs_joint.proofs.Lowest.{sender_told}
+use Rattle.fs_speaker.proofs.Lowest.{sender_told}
 use Rattle.fs_wires.proofs.FromStages.{is_below, is_reached}
 
 -- the octets up to a piece, and those behind it

@@ -13,9 +13,9 @@ use Rattle.fs_speaker.specs.declared.sending.Sending.{Sending}
 use Rattle.fs_speaker.specs.declared.state.Closed.{Closed}
 use Rattle.fs_speaker.specs.declared.state.Closed.TheVariants.{Fault}
 use Rattle.fs_speaker.specs.declared.transition.Phase.{Phase}
-use Rattle.fs_joint.specs.Laws.{CanArrive, IsUnnamed}
-use Rattle.fs_joint.proofs.Lowest.{sender_told}
-use Rattle.fs_joint.proofs.Unnamed.{refused}
+use Rattle.fs_speaker.specs.JointLaws.{CanArrive, IsUnnamed}
+use Rattle.fs_speaker.proofs.Lowest.{sender_told}
+use Rattle.fs_speaker.proofs.Unnamed.{refused}
 use Rattle.fs_desk.specs.Desk.{Desked}
 use Rattle.fs_desk.specs.Limit.{bounded, bounded_from, bounded_session}
 use Rattle.fs_receive.specs.Pair.{Arrives}

@@ -28,7 +28,7 @@ use Rattle.fs_wires.specs.PromisedHearing.{HasHeardStatus, HasListenStatus, Hear
 use Rattle.fs_wires.proofs.Hearing.{closes_behind, expired_so, session_is}
 use Rattle.fs_wires.proofs.Promising.{IsOfFiles, config_stops, never_session, or_stops, then_stops}
 use Rattle.fs_wires.proofs.Statuses.{differs, due_status, early_status, late_status, never_early, never_zero, none_failed, only_done, same_found, served_early, served_late}
-use Rattle.fs_joint.proofs.Lowest.{sender_told}
+use Rattle.fs_speaker.proofs.Lowest.{sender_told}
 
 -- the configuration alone ends a run before the wire is opened
 

@@ -1,8 +1,8 @@
 -- What the wire and the clock tell before a call and behind it. Clauses take it as one argument.
 use Rattle.std.specs.Prelude.{ℕ, List, Option}
 use Rattle.fs_base.specs.Wire.{WireEnds}
-use Rattle.fs_base.specs.declared.outside.wire.Wire as wire
-use Rattle.fs_base.specs.declared.outside.clock.Clock as clock
+use Rattle.fs_base.specs.declared.Wire as wire
+use Rattle.fs_base.specs.declared.Clock as clock
 
 pub record Conversation : Type 0 where
   pub ends : Option WireEnds

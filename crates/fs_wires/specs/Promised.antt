@@ -15,7 +15,7 @@ use Rattle.fs_ends.specs.declared.tell.Ending.{Ending}
 use Rattle.fs_ends.specs.declared.tell.Ending.TheVariants.{Done}
 use Rattle.fs_ends.specs.Opening.{opened_by}
 use Rattle.fs_ends.specs.Teller.{HasExpired}
-use Rattle.fs_joint.specs.Laws.{CanArrive}
+use Rattle.fs_speaker.specs.JointLaws.{CanArrive}
 use Rattle.fs_receive.specs.Pair.{IsTimely, MayHold}
 use Rattle.fs_stages.specs.Load.{Names, sending_stage}
 use Rattle.fs_stages.specs.Refusal.{Found, Stage, Stopped, status_of}

@@ -6,7 +6,7 @@ use Rattle.fs_base.specs.declared.prefix.Family.TheVariants.{V4, V6}
 use Rattle.fs_rules.specs.Table.{Held, admitted}
 use Rattle.fs_rules.specs.Lent.{Listed, listed}
 use Rattle.fs_tape.specs.Tape.{Item}
-use Rattle.fs_text.specs.Text.{text_of}
+use Rattle.fs_text.specs.Printed.{text_of}
 
 -- the text of a rule and its actions
 abbrev pub rule_line : Listed → List ℕ

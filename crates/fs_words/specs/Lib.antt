@@ -3,3 +3,4 @@ pub mod Operators
 pub mod Prefixes
 pub mod Actions
 pub mod Values
+pub mod Printed

@@ -1,11 +1,14 @@
-//! The words in which rules and actions are written: the name and the value of each component and of each action.
+//! Rules and actions in words: the name and the value of each component and of each action, and the one text of a rule
+//! and its actions.
 #![tactic(auto)]
 
 mod actions;
 mod operators;
 mod pieces;
 mod prefixes;
+mod printing;
 mod values;
 
 pub use actions::{action_name, print_action};
+pub use printing::print;
 pub use values::{component_name, print_value};

@@ -2,13 +2,12 @@
 
 ghost use Rattle.std.specs.Prelude.{IsSome};
 ghost use Rattle.fs_base.specs.Config.{peer_of};
-ghost use Rattle.fs_joint.specs.Joint.{IsEnd};
+ghost use Rattle.fs_speaker.specs.Joint.{IsEnd};
 
 use crate::call::Call;
 use fs_base::Config;
 use fs_conf::read_rules;
-use fs_joint::{Event, Joint};
-use fs_speaker::{Session, sender};
+use fs_speaker::{Event, Joint, Session, sender};
 use std::alloc::Global;
 
 /// The ends that the lines speak of; none where memory was refused.

@@ -5,7 +5,7 @@ use crate::fields::size;
 use crate::named::NamedFiles;
 use crate::octets::Octets;
 use crate::terms::Terms;
-use fs_outside::{MemClock, MemFiles, MemSink, MemWire, RealClock, RealFiles, RealOut, RealWire};
+use fs_base::{MemClock, MemFiles, MemSink, MemWire, RealClock, RealFiles, RealOut, RealWire};
 use std::alloc::Global;
 use std::fs;
 

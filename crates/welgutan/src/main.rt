@@ -1,8 +1,8 @@
 //! Welgutan: a controller and packet enforcer for BGP Flow Specification.
 #![tactic(auto)]
 
+use fs_base::{RealClock, RealFiles, RealOut, RealWire};
 use fs_cli::status;
-use fs_outside::{RealClock, RealFiles, RealOut, RealWire};
 use std::env;
 use std::io::ErrorKind;
 use std::process::ExitCode;

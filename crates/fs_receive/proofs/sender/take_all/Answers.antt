@@ -1,6 +1,6 @@
 use Rattle.std.proofs.Common.{◌≡◌, ℕ, List, subst, rules, arith, [], length, true, false, Bool}
 use Rattle.std.proofs.lemmas.List.{take_rest}
-use Rattle.fs_joint.proofs.Handover.{going_start, rest_none}
+use Rattle.fs_speaker.proofs.Handover.{going_start, rest_none}
 use Rattle.fs_speaker.specs.Announcer.{machine_in}
 use Rattle.fs_receive.specs.Sender.{CountsOn}
 use Rattle.fs_receive.proofs.Counting.{counts_fed, counts_shut, counts_start}

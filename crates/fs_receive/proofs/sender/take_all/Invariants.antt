@@ -1,5 +1,5 @@
 use Rattle.std.proofs.Common.{◌≤◌, ◌+◌, [], length}
-use Rattle.fs_joint.proofs.Handover.{Going}
+use Rattle.fs_speaker.proofs.Handover.{Going}
 use Rattle.fs_speaker.specs.Announcer.{machine_in}
 use Rattle.fs_receive.specs.Sender.{CountsOn, KeepsSettled}
 use Rattle.fs_receive.proofs.sender.take_all.Given as goal

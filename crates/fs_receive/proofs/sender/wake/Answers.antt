@@ -1,6 +1,6 @@
 use Rattle.std.proofs.Common.{rules}
 use Rattle.std.proofs.lemmas.Result.{on_ok_weaker}
-use Rattle.fs_joint.proofs.Waking.{ticks_on, ticks_shut}
+use Rattle.fs_speaker.proofs.Waking.{ticks_on, ticks_shut}
 use Rattle.fs_speaker.specs.Announcer.{machine_in}
 use Rattle.fs_receive.proofs.Counting.{woke_hand}
 use Rattle.fs_receive.proofs.Settling.{woke_over, woke_settled}

@@ -1,5 +1,5 @@
 use Rattle.std.proofs.Common.{sym}
-use Rattle.fs_joint.proofs.Lowest.{is_told}
+use Rattle.fs_speaker.proofs.Lowest.{is_told}
 use Rattle.fs_wires.proofs.listening.lowest.Goals as goal
 
 pub new-requires : goal.new-requires

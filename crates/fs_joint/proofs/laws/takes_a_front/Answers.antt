@@ -1,5 +1,0 @@
-use Rattle.fs_joint.proofs.Fronting.{takes_front}
-use Rattle.fs_joint.proofs.laws.takes_a_front.Goals as goal
-
-pub returns : goal.returns
-returns c = λ config peer sending events can. takes_front config peer sending can events

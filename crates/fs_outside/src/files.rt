@@ -1,0 +1,54 @@
+//! The files of the outside, as a trait.
+
+ghost use Rattle.std.specs.Prelude.{◌≡◌, ◌≢◌, ◌↔◌, ◌≤◌, ℕ, Bool, List, Option, IsTrue, IsSome, IfOk};
+ghost use Rattle.std.specs.Io.{ReadsAtMost};
+ghost use Rattle.fs_outside.specs.Files.{OnlySlot, ReadTakes, opened_content};
+ghost use Rattle.fs_outside.specs.Outside.{HasCause};
+
+/// A call on the outside failed. It took and gave nothing where the content is known, and the fault is counted.
+#[derive(Clone, Copy, Debug, PartialEq, Eq, Drop)]
+pub struct Failed;
+
+/// Files that are opened by name in one of the slots 0 to 2 and read from their front.
+///
+/// No call changes what a name holds, and a call on one slot leaves the others alone. A slot that was never
+/// opened, or whose last opening found nothing or failed, is at its end.
+pub trait Files {
+    /// Whether this type says what its files hold: memory does, a real file system doesn't.
+    ghost tells: { Bool };
+
+    /// What a name holds.
+    ghost holds: { Self → List ℕ → Option (List ℕ) };
+
+    /// What a slot has left to be read.
+    ghost left: { Self → ℕ → List ℕ };
+
+    /// The faults so far, at most 2^64 - 1.
+    ghost faults: { Self → ℕ };
+
+    /// Opens the file `name` in `slot`, at its front. `false`: no file has that name.
+    ///
+    /// # Errors
+    ///
+    /// `Failed` where the outside failed, which is counted.
+    fn open_file(&mut self, slot: u8, name: &str) -> Result<bool, Failed>
+        requires { slot ≤ 2 }
+        ensures cause { HasCause (faults self.old) (faults self.new) result }
+        ensures answered { IfOk result (λ _. faults self.new ≡ faults self.old) }
+        ensures found { IsTrue tells → IfOk result (λ found. IsTrue found ↔ IsSome (holds self.old name.now)) }
+        ensures left { IsTrue tells → left self.new slot ≡ opened_content result (holds self.old name.now) }
+        ensures others { OnlySlot tells left holds slot self.old self.new };
+
+    /// Reads octets of `slot` into the front of `into` and answers how many: 0 only at the end of the input or
+    /// where `into` has no room.
+    ///
+    /// # Errors
+    ///
+    /// `Failed` where the outside failed, which is counted; nothing was taken then.
+    fn read(&mut self, slot: u8, into: &mut [u8]) -> Result<usize, Failed>
+        requires { slot ≤ 2 }
+        ensures bound { ReadsAtMost result into.new }
+        ensures cause { HasCause (faults self.old) (faults self.new) result }
+        ensures left { IsTrue tells → ReadTakes (left self.old slot) (left self.new slot) result into.new }
+        ensures others { OnlySlot tells left holds slot self.old self.new };
+}

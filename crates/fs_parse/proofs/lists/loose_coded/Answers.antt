@@ -1,5 +1,0 @@
-use Rattle.fs_parse.proofs.Wide.{width_high}
-use Rattle.fs_parse.proofs.lists.loose_coded.Goals as goal
-
-pub loose_octets-requires-clause-high : goal.loose_octets-requires-clause-high
-loose_octets-requires-clause-high c = width_high c.args.code c.requires

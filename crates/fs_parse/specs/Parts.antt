@@ -1,8 +1,0 @@
--- The parts of the code.
-use Rattle.fs_parse.specs.declared.parts.Piece.{Piece}
-use Rattle.fs_parse.specs.declared.parts.Piece.TheVariants.{Run as RunPiece, Delimiter as MarkPiece}
-use Rattle.fs_parse.specs.Pieces.{Part, Run, Delimiter}
-
-abbrev pub as_part : Piece → Part
-as_part (RunPiece run) = Run run.now
-as_part (MarkPiece mark) = Delimiter mark

@@ -1,0 +1,36 @@
+-- What a call on the octets and moments of an end says of the whole end.
+use Rattle.std.proofs.Common.{◌≡◌, ℕ, Bool, List, Option, Result, sym, subst}
+use Rattle.fs_base.specs.declared.config.Config.{Config}
+use Rattle.fs_base.specs.declared.config.Peer.{Peer}
+use Rattle.fs_attrs.specs.declared.update.Update.{Update}
+use Rattle.fs_session.specs.declared.state.State.{State}
+use Rattle.fs_session.specs.declared.state.Closed.{Closed}
+use Rattle.fs_session.specs.declared.sending.Sending.{Sending}
+use Rattle.fs_session.specs.declared.side.Needs.{Needs}
+use Rattle.fs_session.specs.Announcer.{Announcing, announcing, counted, without_update, FeedsEnd}
+use Rattle.fs_session.specs.Line.{Lined, state_in, FeedsAt, FeedsOpen}
+use Rattle.fs_session.specs.Sending.{needs_of}
+use Rattle.fs_session.specs.Session.{Live, live, state_of, GoesOnAt}
+use Rattle.fs_session.specs.Side.{receiver, announcer}
+use Rattle.fs_session.proofs.Quiet.{fed_counted}
+
+pub state_is : (config : Config) (peer : Peer) (line : Lined) (session : Live) (state : State) → live config peer line ≡ session → state ≡ state_in line
+    → state ≡ state_of session
+state_is config peer line session state e h = subst (λ (o : Live). state ≡ state_of o) e h
+
+pub session_goes : (config : Config) (peer : Peer) (moment : ℕ) (line line' : Lined) (old : Live) (piece out out' : List ℕ) (result : Result (ℕ × Option Update) Closed)
+    → live config peer line ≡ old → FeedsOpen (receiver config peer) moment line line' piece out out' result
+    → GoesOnAt moment old (live config peer line') piece out out' result
+session_goes config peer moment line line' old piece out out' result e f =
+    subst (λ (o : Live). GoesOnAt moment o (live config peer line') piece out out' result) e (λ h. f h)
+
+pub announcer_goes : (config : Config) (peer : Peer) (sending : Sending) (needs : Needs) (line line' : Lined) (started : Bool) (appended moment : ℕ) (old : Announcing)
+    (piece out out' : List ℕ) (fed : Result (ℕ × Option Update) Closed) (result : Result ℕ Closed) → announcing config peer sending line started appended ≡ old
+    → needs ≡ needs_of sending.rules → result ≡ counted fed → FeedsOpen (announcer config needs) moment line line' piece out out' fed
+    → FeedsEnd moment old (announcing config peer sending line' started appended) piece out out' result
+announcer_goes config peer sending needs line line' started appended moment old piece out out' fed result e n k f =
+    let own : Needs = needs_of sending.rules in
+    subst (λ (o : Announcing). FeedsEnd moment o (announcing config peer sending line' started appended) piece out out' result) e
+    (λ h. subst (λ (r : Result ℕ Closed). FeedsAt (announcer config own) moment line line' piece out out' (without_update r)) (sym k)
+    (fed_counted config own moment line line' piece out out' fed
+    (subst (λ (m : Needs). FeedsAt (announcer config m) moment line line' piece out out' fed) n (f h))))

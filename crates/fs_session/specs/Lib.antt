@@ -1,0 +1,11 @@
+pub mod Transition
+pub mod Side
+pub mod Times
+pub mod Line
+pub mod Session
+pub mod Replies
+pub mod Handed
+pub mod Laws
+pub mod State
+pub mod Sending
+pub mod Announcer

@@ -1,0 +1,20 @@
+//! BGP sessions over octets that come in pieces, at either end (RFC 4271, sections 6 and 8).
+#![tactic(auto)]
+
+mod announcer;
+mod laws;
+mod line;
+mod sending;
+mod session;
+mod side;
+mod state;
+mod times;
+mod transition;
+
+pub use announcer::Announcer;
+pub use laws::{
+    pieces_join, rules_arrive, rules_come_back, steps_make_the_session, steps_make_what_is_handed,
+};
+pub use sending::{Sending, Sent, SentList, sender};
+pub use session::Session;
+pub use state::{Closed, Standing, State};

@@ -1,0 +1,172 @@
+-- What each event makes of both ends.
+use Rattle.std.proofs.Common.{◌≡◌, ℕ, Bool, if◌then◌else◌, List, [], ◌++◌, take, drop, Option, Some, None, refl, ap, sym, ◌∙◌, subst, append-nil, unwrap_or}
+use Rattle.fs_base.specs.declared.config.Config.{Config}
+use Rattle.fs_base.specs.declared.config.Peer.{Peer}
+use Rattle.fs_attrs.specs.declared.update.Update.{Update}
+use Rattle.fs_session.specs.declared.state.Closed.{Closed}
+use Rattle.fs_session.specs.declared.times.Tick.{Tick}
+use Rattle.fs_session.specs.declared.times.Tick.TheVariants.{Quiet, Keeps, Expires}
+use Rattle.fs_session.specs.declared.times.Times.{Times}
+use Rattle.fs_session.specs.declared.sending.Sending.{Sending}
+use Rattle.fs_session.specs.Announcer.{Announcing, machine_in, is_established, first_text, next_text}
+use Rattle.fs_session.specs.Handed.{Point, Handed, hand}
+use Rattle.fs_session.specs.declared.state.State.TheVariants.{Closed as IsClosed}
+use Rattle.fs_session.specs.Sending.{needs_of, text_sent}
+use Rattle.fs_session.specs.Session.{Live, line_of}
+use Rattle.fs_session.specs.Side.{receiver, announcer}
+use Rattle.fs_session.specs.Times.{at_moment, tick_at}
+use Rattle.fs_session.specs.declared.transition.Phase.{Phase}
+use Rattle.fs_session.specs.Transition.{Machine}
+use Rattle.fs_speaker.specs.End.{Own, own_of_taker, own_of_teller, ticks, ticked, StandsAt, HandsOver, TicksOver}
+use Rattle.fs_speaker.specs.Ends.{Both, both, IsTaker, IsTeller, AreIn}
+use Rattle.fs_speaker.specs.Flight.{Flying, flying}
+use Rattle.fs_speaker.specs.World.{World, sent, taker_of, teller_of, next_said, says, delivers, wakes}
+use Rattle.fs_speaker.proofs.Waking.{ticked_by}
+
+-- no update comes of the clock
+no_update : (tick : Tick) (waiting : List ℕ) (phase : Phase) (times : Times) → (ticks tick waiting phase times).updates ≡ []
+no_update Quiet waiting phase times = refl
+no_update Keeps waiting phase times = refl
+no_update Expires waiting phase times = refl
+
+nothing_taken : (moment : ℕ) (now : Point) → (ticked moment now).updates ≡ []
+nothing_taken moment now = by now.closed
+  where
+    by : (how : Option Closed) → (ticked_by moment now how).updates ≡ []
+    by (Some why) = refl
+    by None = no_update (tick_at now.phase.hold (at_moment moment now.times)) now.waiting now.phase (at_moment moment now.times)
+
+module _ (config : Config) (peer : Peer) (sending : Sending) (w : World) (old : Both) (here : AreIn config peer sending old w) where
+  takes_as : receiver old.taker.config old.taker.peer ≡ taker_of config peer sending
+  takes_as = ap (λ (c : Config). receiver c old.taker.peer) here.first.config_is ∙ ap (λ (p : Peer). receiver config p) here.first.peer_is
+
+  tells_as : machine_in old.teller ≡ teller_of config peer sending
+  tells_as = ap (λ (c : Config). announcer c (needs_of old.teller.sending.rules)) here.second.config_is
+      ∙ ap (λ (s : Sending). announcer config (needs_of s.rules)) here.second.sending_is
+
+  -- the receiving end is another one's, and stands elsewhere
+  taker_is : (taker : Live) (now : Point) → own_of_taker taker ≡ own_of_taker old.taker → StandsAt (taker_of config peer sending) (line_of taker) now
+      → IsTaker config peer sending taker now
+  taker_is taker now own stands = record {
+    config_is = ap (λ (o : Own). o.config) own ∙ here.first.config_is;
+    peer_is = ap (λ (o : Own). o.peer) own ∙ here.first.peer_is;
+    stands = stands;
+  }
+
+  said_of : (teller : Announcing) → own_of_teller teller ≡ own_of_teller old.teller
+      → (teller.sending ≡ old.teller.sending) × ((teller.started ≡ old.teller.started) × (teller.appended ≡ old.teller.appended))
+  said_of teller own =
+      let said : Sending × Bool × ℕ = (old.teller.sending, old.teller.started, old.teller.appended) in
+      let same : Some (teller.sending, teller.started, teller.appended) ≡ Some said = ap (λ (o : Own). o.says) own in (
+        ap (λ (o : Option (Sending × Bool × ℕ)). (unwrap_or o said).0) same,
+        (ap (λ (o : Option (Sending × Bool × ℕ)). (unwrap_or o said).1) same, ap (λ (o : Option (Sending × Bool × ℕ)). (unwrap_or o said).2) same),
+      )
+
+  teller_is : (teller : Announcing) (now : Point) → own_of_teller teller ≡ own_of_teller old.teller → StandsAt (teller_of config peer sending) teller.line now
+      → IsTeller config peer sending teller now w.appended
+  teller_is teller now own stands =
+      let said = said_of teller own in
+      record {
+        config_is = ap (λ (o : Own). o.config) own ∙ here.second.config_is;
+        peer_is = ap (λ (o : Own). o.peer) own ∙ here.second.peer_is;
+        sending_is = said.0 ∙ here.second.sending_is;
+        started = said.1.0 ∙ here.second.started;
+        appended_is = said.1.1 ∙ here.second.appended_is;
+        stands = stands;
+      }
+
+  -- what is said is in flight
+  flies : (cut : Bool) (octets said text : List ℕ) (flying : List ℕ) → cut ≡ w.cut → octets ≡ flying → said ≡ text → sent cut octets said ≡ sent w.cut flying text
+  flies cut octets said text flying c o s = ap (λ (b : Bool). sent b octets said) c ∙ ap (λ (z : List ℕ). sent w.cut z said) o ∙ ap (λ (z : List ℕ). sent w.cut flying z) s
+
+  pub taker_delivered : (taker : Live) (flight1 flight : Flying) (taken : List Update) (piece said : List ℕ) (count moment : ℕ) → piece ≡ take count old.flight.to_taker
+      → flight1 ≡ flying (drop count old.flight.to_taker) old.flight.to_teller old.flight.cut → own_of_taker taker ≡ own_of_taker old.taker
+      → HandsOver (receiver old.taker.config old.taker.peer) moment (line_of old.taker) (line_of taker) piece old.taken taken [] said
+      → flight ≡ flying flight1.to_taker (sent flight1.cut flight1.to_teller said) flight1.cut
+      → AreIn config peer sending (both taker old.teller flight taken) (delivers config peer sending 0 count moment w)
+  taker_delivered taker flight1 flight taken piece said count moment front left own hands put =
+      let machine : Machine = taker_of config peer sending in
+      let whole : piece ≡ take count w.to_taker = front ∙ ap (take count) here.to_taker_is in
+      let made : Handed = hand machine moment w.taker (take count w.to_taker) in
+      let came = subst (λ (z : List ℕ). StandsAt machine (line_of taker) (hand machine moment w.taker z).point
+      × ((taken ≡ old.taken ++ (hand machine moment w.taker z).updates) × (said ≡ [] ++ (hand machine moment w.taker z).text))) whole
+      (subst (λ (m : Machine). HandsOver m moment (line_of old.taker) (line_of taker) piece old.taken taken [] said) takes_as hands w.taker here.first.stands) in
+      record {
+        first = taker_is taker made.point own came.0;
+        second = here.second;
+        to_taker_is = ap (λ (f : Flying). f.to_taker) put ∙ ap (λ (f : Flying). f.to_taker) left ∙ ap (drop count) here.to_taker_is;
+        to_teller_is = ap (λ (f : Flying). f.to_teller) put
+            ∙ flies flight1.cut flight1.to_teller said made.text w.to_teller (ap (λ (f : Flying). f.cut) left ∙ here.cut_is) (ap (λ (f : Flying). f.to_teller) left ∙ here.to_teller_is) came.1.1;
+        cut_is = ap (λ (f : Flying). f.cut) put ∙ ap (λ (f : Flying). f.cut) left ∙ here.cut_is;
+        taken_is = came.1.0 ∙ ap (λ (u : List Update). u ++ made.updates) here.taken_is;
+      }
+
+  pub teller_delivered : (teller : Announcing) (flight1 flight : Flying) (none : List Update) (piece said : List ℕ) (count moment : ℕ) → piece ≡ take count old.flight.to_teller
+      → flight1 ≡ flying old.flight.to_taker (drop count old.flight.to_teller) old.flight.cut → own_of_teller teller ≡ own_of_teller old.teller
+      → HandsOver (machine_in old.teller) moment old.teller.line teller.line piece [] none [] said
+      → flight ≡ flying (sent flight1.cut flight1.to_taker said) flight1.to_teller flight1.cut
+      → AreIn config peer sending (both old.taker teller flight old.taken) (delivers config peer sending 1 count moment w)
+  teller_delivered teller flight1 flight none piece said count moment front left own hands put =
+      let machine : Machine = teller_of config peer sending in
+      let whole : piece ≡ take count w.to_teller = front ∙ ap (take count) here.to_teller_is in
+      let made : Handed = hand machine moment w.teller (take count w.to_teller) in
+      let came = subst (λ (z : List ℕ). StandsAt machine teller.line (hand machine moment w.teller z).point
+      × ((none ≡ [] ++ (hand machine moment w.teller z).updates) × (said ≡ [] ++ (hand machine moment w.teller z).text))) whole
+      (subst (λ (m : Machine). HandsOver m moment old.teller.line teller.line piece [] none [] said) tells_as hands w.teller here.second.stands) in
+      record {
+        first = here.first;
+        second = teller_is teller made.point own came.0;
+        to_taker_is = ap (λ (f : Flying). f.to_taker) put
+            ∙ flies flight1.cut flight1.to_taker said made.text w.to_taker (ap (λ (f : Flying). f.cut) left ∙ here.cut_is) (ap (λ (f : Flying). f.to_taker) left ∙ here.to_taker_is) came.1.1;
+        to_teller_is = ap (λ (f : Flying). f.to_teller) put ∙ ap (λ (f : Flying). f.to_teller) left ∙ ap (drop count) here.to_teller_is;
+        cut_is = ap (λ (f : Flying). f.cut) put ∙ ap (λ (f : Flying). f.cut) left ∙ here.cut_is;
+        taken_is = here.taken_is;
+      }
+
+  pub taker_woke : (taker : Live) (flight : Flying) (said : List ℕ) (moment : ℕ) → own_of_taker taker ≡ own_of_taker old.taker
+      → TicksOver (receiver old.taker.config old.taker.peer) moment (line_of old.taker) (line_of taker) [] said
+      → flight ≡ flying old.flight.to_taker (sent old.flight.cut old.flight.to_teller said) old.flight.cut
+      → AreIn config peer sending (both taker old.teller flight old.taken) (wakes config peer sending 0 moment w)
+  taker_woke taker flight said moment own ticks put =
+      let machine : Machine = taker_of config peer sending in
+      let made : Handed = ticked moment w.taker in
+      let came = subst (λ (m : Machine). TicksOver m moment (line_of old.taker) (line_of taker) [] said) takes_as ticks w.taker here.first.stands in
+      record {
+        first = taker_is taker made.point own came.0;
+        second = here.second;
+        to_taker_is = ap (λ (f : Flying). f.to_taker) put ∙ here.to_taker_is;
+        to_teller_is = ap (λ (f : Flying). f.to_teller) put ∙ flies old.flight.cut old.flight.to_teller said made.text w.to_teller here.cut_is here.to_teller_is came.1;
+        cut_is = ap (λ (f : Flying). f.cut) put ∙ here.cut_is;
+        taken_is = here.taken_is ∙ sym (append-nil w.taken) ∙ ap (λ (u : List Update). w.taken ++ u) (sym (nothing_taken moment w.taker));
+      }
+
+  pub teller_woke : (teller : Announcing) (flight : Flying) (said : List ℕ) (moment : ℕ) → own_of_teller teller ≡ own_of_teller old.teller
+      → TicksOver (machine_in old.teller) moment old.teller.line teller.line [] said
+      → flight ≡ flying (sent old.flight.cut old.flight.to_taker said) old.flight.to_teller old.flight.cut
+      → AreIn config peer sending (both old.taker teller flight old.taken) (wakes config peer sending 1 moment w)
+  teller_woke teller flight said moment own ticks put =
+      let machine : Machine = teller_of config peer sending in
+      let made : Handed = ticked moment w.teller in
+      let came = subst (λ (m : Machine). TicksOver m moment old.teller.line teller.line [] said) tells_as ticks w.teller here.second.stands in
+      record {
+        first = here.first;
+        second = teller_is teller made.point own came.0;
+        to_taker_is = ap (λ (f : Flying). f.to_taker) put ∙ flies old.flight.cut old.flight.to_taker said made.text w.to_taker here.cut_is here.to_taker_is came.1;
+        to_teller_is = ap (λ (f : Flying). f.to_teller) put ∙ here.to_teller_is;
+        cut_is = ap (λ (f : Flying). f.cut) put ∙ here.cut_is;
+        taken_is = here.taken_is;
+      }
+
+  -- what an opened end says next
+  next_is : w.teller.closed ≡ None → next_text old.teller ≡ next_said config peer sending w.teller w.appended
+  next_is opened =
+      let at = here.second.stands.open_is opened in
+      let line_open : old.teller.line.closed ≡ None = here.second.stands.closed_is ∙ opened in
+      let text : Config → Peer → Sending → Bool → ℕ → Option (List ℕ) = λ c p s four n. first_text (text_sent c p four s) (drop n s.rules) in
+      ap (λ (o : Option Closed). if is_established (elim o [ Some why ↦ IsClosed | None ↦ old.teller.line.phase.state ]) then text old.teller.config old.teller.peer old.teller.sending old.teller.line.phase.four old.teller.appended else None) line_open
+      ∙ ap (λ (p : Phase). if is_established p.state then text old.teller.config old.teller.peer old.teller.sending p.four old.teller.appended else None) at.phase_is
+      ∙ ap (λ (c : Config). if is_established w.teller.phase.state then text c old.teller.peer old.teller.sending w.teller.phase.four old.teller.appended else None) here.second.config_is
+      ∙ ap (λ (p : Peer). if is_established w.teller.phase.state then text config p old.teller.sending w.teller.phase.four old.teller.appended else None) here.second.peer_is
+      ∙ ap (λ (s : Sending). if is_established w.teller.phase.state then text config peer s w.teller.phase.four old.teller.appended else None) here.second.sending_is
+      ∙ ap (λ (n : ℕ). if is_established w.teller.phase.state then text config peer sending w.teller.phase.four n else None) here.second.appended_is
+      ∙ sym (ap (λ (o : Option Closed). elim o [ Some why ↦ None | None ↦ if is_established w.teller.phase.state then text config peer sending w.teller.phase.four w.appended else None ]) opened)

@@ -1,0 +1,185 @@
+-- What the receiving end takes of what an announcing end says, message by message.
+use Rattle.std.proofs.Common.{◌≡◌, ℕ, zero, suc, ◌+◌, ◌≤◌, true, List, [], ◌∷◌, ◌++◌, length, min, take, drop, map, Option, Some, None, Result, Ok, Err, refl, sym, ap, ◌∙◌, subst, arith, append_assoc, append-nil}
+use Rattle.std.specs.List.{AllByRecursion}
+use Rattle.fs_base.specs.declared.config.Config.{Config}
+use Rattle.fs_base.specs.declared.config.Peer.{Peer}
+use Rattle.fs_message.specs.declared.fault.MessageFault.{MessageFault}
+use Rattle.fs_message.specs.declared.open_.Open.{Open}
+use Rattle.fs_message.specs.Notice.{notice_of}
+use Rattle.fs_message.specs.Write.{message_text, open_body}
+use Rattle.fs_message.proofs.TextFirst.{text_first}
+use Rattle.fs_message.proofs.OpenReadBack.{open_read}
+use Rattle.fs_attrs.specs.declared.update.Update.{Update}
+use Rattle.fs_attrs.specs.declared.update.UpdateFault.{UpdateFault}
+use Rattle.fs_session.specs.declared.state.State.TheVariants.{WaitKeep, Established}
+use Rattle.fs_session.specs.declared.state.Closed.{Closed}
+use Rattle.fs_session.specs.declared.state.Closed.TheVariants.{Notified}
+use Rattle.fs_session.specs.declared.sending.Sent.{Sent}
+use Rattle.fs_session.specs.declared.sending.Sending.{Sending}
+use Rattle.fs_session.specs.Announcer.{open_sent}
+use Rattle.fs_session.specs.Laws.{ComesBack}
+use Rattle.fs_session.specs.Line.{step_by}
+use Rattle.fs_session.specs.Sending.{body_by, update_sent, text_sent}
+use Rattle.fs_session.specs.Session.{Last, at_start, closed, session_by, still, with_update}
+use Rattle.fs_session.specs.Side.{receiver, as_update, notice_text}
+use Rattle.fs_session.specs.declared.transition.Phase.{Phase}
+use Rattle.fs_session.specs.Transition.{Machine, phase, opened, notified, updates, transition_by, terms_of}
+use Rattle.fs_session.proofs.Arriving.{at_most, body_long, one_message, open_fits, update_fits}
+use Rattle.fs_session.proofs.SessionSteps.{machine_stops, machine_waits, step_found}
+use Rattle.fs_speaker.specs.JointLaws.{CanArrive}
+
+pub least : (n : ℕ) → min n n ≡ n
+least n = omega arith
+
+-- the first of the rules that are left
+one_rule : (P : Sent → Type 0) (n : ℕ) (rules : List Sent) (sent : Sent) (rest : List Sent) → AllByRecursion P rules → drop n rules ≡ sent ∷ rest
+    → (take (suc n) rules ≡ take n rules ++ sent ∷ []) × P sent
+one_rule P zero [] sent rest all h = absurd cc
+one_rule P zero (other ∷ rules) sent rest all h =
+    let same : other ≡ sent = cc in
+    (ap (λ (s : Sent). s ∷ []) same, subst P same all.0)
+one_rule P (suc n) [] sent rest all h = absurd cc
+one_rule P (suc n) (other ∷ rules) sent rest all h =
+    let r = one_rule P n rules sent rest all.1 h in
+    (ap (λ (z : List Sent). other ∷ z) r.0, r.1)
+
+map_joined : (f : Sent → Update) (xs ys : List Sent) → map f (xs ++ ys) ≡ map f xs ++ map f ys
+map_joined f [] ys = refl
+map_joined f (x ∷ xs) ys = ap (λ (z : List Update). f x ∷ z) (map_joined f xs ys)
+
+-- a front of the first ones is as many of all
+pub front_of : (f : Sent → Update) (xs rest : List Update) (k : ℕ) (rules : List Sent) → map f (take k rules) ≡ xs ++ rest → xs ≡ take (length xs) (map f rules)
+front_of f [] rest k rules h = refl
+front_of f (x ∷ xs) rest zero rules h = absurd cc
+front_of f (x ∷ xs) rest (suc k) [] h = absurd cc
+front_of f (x ∷ xs) rest (suc k) (sent ∷ rules) h =
+    let first : f sent ≡ x = cc in
+    let later : map f (take k rules) ≡ xs ++ rest = cc in
+    ap (λ (z : Update). z ∷ xs) (sym first) ∙ ap (λ (z : List Update). f sent ∷ z) (front_of f xs rest k rules later)
+
+-- a session that goes on, or that a NOTIFICATION closed
+abbrev pub IsCalm : Last → Type 0
+IsCalm (still now) = Unit {0}
+IsCalm (closed (Notified code subcode)) = Unit {0}
+IsCalm (closed other) = ⊥
+
+module _ (config : Config) (peer : Peer) (sending : Sending) where
+  abbrev machine : Machine
+  machine = receiver config peer
+
+  abbrev pub up : Phase
+  up = phase Established true config.hold_time
+
+  abbrev pub met : Phase
+  met = phase WaitKeep true config.hold_time
+
+  -- Of all that was said it takes the updates of so many rules, and is then in this phase.
+  pub record Reads (all : List ℕ) (appended : ℕ) (now : Phase) : Type 0 where
+    pub goes : (more : List ℕ) → (session_by (receiver config peer) at_start (all ++ more)).0
+        ≡ map (update_sent config peer sending) (take appended sending.rules) ++ (session_by (receiver config peer) now more).0
+    pub ends : (more : List ℕ) → (session_by (receiver config peer) at_start (all ++ more)).1 ≡ (session_by (receiver config peer) now more).1
+
+  -- And it closes by nothing but a NOTIFICATION.
+  abbrev pub Gives : List ℕ → ℕ → Type 0
+  Gives all appended =
+      ((session_by (receiver config peer) at_start all).0 ≡ map (update_sent config peer sending) (take appended sending.rules))
+      × IsCalm (session_by (receiver config peer) at_start all).1
+
+  pub reads_gives : (all : List ℕ) (appended : ℕ) (now : Phase) → Reads all appended now → Gives all appended
+  reads_gives all appended now r =
+      let taken : List Update = map (update_sent config peer sending) (take appended sending.rules) in
+      let rests = machine_waits machine now [] refl in (
+        ap (λ (z : List ℕ). (session_by machine at_start z).0) (sym (append-nil all)) ∙ r.goes []
+            ∙ ap (λ (s : List Update × Last). taken ++ s.0) rests ∙ append-nil taken,
+        subst (λ (l : Last). IsCalm l)
+            (sym (ap (λ (z : List ℕ). (session_by machine at_start z).1) (sym (append-nil all)) ∙ r.ends [] ∙ ap (λ (s : List Update × Last). s.1) rests))
+            tt,
+      )
+
+  -- nothing more is said
+  pub reads_none : (all : List ℕ) (appended : ℕ) (now : Phase) → Reads all appended now → Reads (all ++ []) appended now
+  reads_none all appended now r = rw (append-nil all) r
+
+  pub gives_none : (all : List ℕ) (appended : ℕ) → Gives all appended → Gives (all ++ []) appended
+  gives_none all appended r = rw (append-nil all) r
+
+  reads_more : (all text : List ℕ) (appended : ℕ) (now next : Phase) → Reads all appended now
+      → ((more : List ℕ) → session_by machine now (text ++ more) ≡ session_by machine next more) → Reads (all ++ text) appended next
+  reads_more all text appended now next r h = record {
+    goes = λ more.
+        ap (λ (z : List ℕ). (session_by machine at_start z).0) (append_assoc all text more) ∙ r.goes (text ++ more)
+        ∙ ap (λ (s : List Update × Last). map (update_sent config peer sending) (take appended sending.rules) ++ s.0) (h more);
+    ends = λ more.
+        ap (λ (z : List ℕ). (session_by machine at_start z).1) (append_assoc all text more) ∙ r.ends (text ++ more)
+        ∙ ap (λ (s : List Update × Last). s.1) (h more);
+  }
+
+  -- the OPEN
+  pub reads_open : CanArrive config peer sending → Reads (open_sent config peer sending) 0 met
+  reads_open can =
+      let body : List ℕ = open_body peer.asn config.hold_time sending.id in
+      let fits = open_fits (length body) refl in
+      let opening : transition_by machine at_start (record { kind = 1; body = body }) ≡ Ok (met, None) =
+      ap (λ (r : Result Open MessageFault). opened machine r)
+      (open_read peer.asn config.hold_time sending.id can.peer_as can.hold_time can.id can.some_peer can.not_one can.not_two can.named)
+      ∙ ap (λ (n : ℕ). Ok (phase WaitKeep true n, None)) (least config.hold_time) in
+      record {
+        goes = λ more.
+            ap (λ (s : List Update × Last). s.0)
+            (one_message machine at_start met None 1 body more (omega arith) (omega arith) fits.0 fits.1 opening);
+        ends = λ more.
+            ap (λ (s : List Update × Last). s.1)
+            (one_message machine at_start met None 1 body more (omega arith) (omega arith) fits.0 fits.1 opening);
+      }
+
+  -- a KEEPALIVE
+  pub reads_first_alive : (all : List ℕ) (appended : ℕ) → Reads all appended met → Reads (all ++ message_text 4 []) appended up
+  reads_first_alive all appended r =
+      reads_more all (message_text 4 []) appended met up r (λ more. one_message machine met up None 4 [] more (omega arith) (omega arith) refl (omega arith) refl)
+
+  pub reads_alive : (all : List ℕ) (appended : ℕ) → Reads all appended up → Reads (all ++ message_text 4 []) appended up
+  reads_alive all appended r =
+      reads_more all (message_text 4 []) appended up up r (λ more. one_message machine up up None 4 [] more (omega arith) (omega arith) refl (omega arith) refl)
+
+  -- the UPDATE of the next rule
+  pub reads_rule : CanArrive config peer sending → (all : List ℕ) (appended : ℕ) (sent : Sent) (rest : List Sent) → drop appended sending.rules ≡ sent ∷ rest
+      → Reads all appended up → Reads (all ++ text_sent config peer true sending sent) (appended + 1) up
+  reads_rule can all appended sent rest h r =
+      let next = one_rule (ComesBack config peer sending) appended sending.rules sent rest can.read h in
+      let body : List ℕ = body_by (terms_of config peer true) sending.as_path sent in
+      let text : List ℕ = text_sent config peer true sending sent in
+      let update : Update = update_sent config peer sending sent in
+      let before : List Update = map (update_sent config peer sending) (take appended sending.rules) in
+      let one : appended + 1 ≡ suc appended = omega arith in
+      let all_now : map (update_sent config peer sending) (take (appended + 1) sending.rules) ≡ before ++ update ∷ [] =
+      ap (λ (n : ℕ). map (update_sent config peer sending) (take n sending.rules)) one ∙ ap (map (update_sent config peer sending)) next.0 ∙ map_joined (update_sent config peer sending) (take appended sending.rules) (sent ∷ []) in
+      let is_taken : (more : List ℕ) → session_by machine up (text ++ more) ≡ with_update (Some update) (session_by machine up more) = λ more.
+      one_message machine up up (Some update) 2 body more (omega arith) (omega arith) (update_fits (length body) (body_long config peer sending sent))
+      (at_most (length body) next.1.short) (ap (λ (q : Result Update UpdateFault). updates up (as_update q)) next.1.read) in
+      record {
+        ends = λ more.
+            ap (λ (z : List ℕ). (session_by machine at_start z).1) (append_assoc all text more) ∙ r.ends (text ++ more)
+            ∙ ap (λ (s : List Update × Last). s.1) (is_taken more);
+        goes = λ more.
+            ap (λ (z : List ℕ). (session_by machine at_start z).0) (append_assoc all text more) ∙ r.goes (text ++ more)
+            ∙ ap (λ (s : List Update × Last). before ++ s.0) (is_taken more)
+            ∙ sym (append_assoc before (update ∷ []) (session_by machine up more).0)
+            ∙ ap (λ (u : List Update). u ++ (session_by machine up more).0) (sym all_now);
+      }
+
+  -- a NOTIFICATION
+  pub gives_notice : (all : List ℕ) (appended code subcode : ℕ) (now : Phase) → Reads all appended now → Gives (all ++ notice_text code subcode) appended
+  gives_notice all appended code subcode now r =
+      let body : List ℕ = code ∷ subcode ∷ [] in
+      let text : List ℕ = notice_text code subcode in
+      let taken : List Update = map (update_sent config peer sending) (take appended sending.rules) in
+      let why : Closed = notified (notice_of body) in
+      let shut : session_by machine now text ≡ ([], closed why) =
+      ap (λ (z : List ℕ). session_by machine now z) (sym (append-nil text))
+      ∙ machine_stops machine now why text []
+      (ap (λ (z : List ℕ). step_by machine now z) (sym (append-nil text))
+      ∙ step_found machine now (text ++ []) (record { kind = 3; body = body }, []) (Err why)
+      (text_first 3 body [] (omega arith) (omega arith) refl (omega arith)) refl) in (
+        r.goes text ∙ ap (λ (s : List Update × Last). taken ++ s.0) shut ∙ append-nil taken,
+        subst (λ (l : Last). IsCalm l) (sym (r.ends text ∙ ap (λ (s : List Update × Last). s.1) shut)) tt,
+      )

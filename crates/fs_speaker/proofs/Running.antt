@@ -1,0 +1,102 @@
+-- A list of events, and one event more.
+use Rattle.std.proofs.Common.{◌≡◌, ℕ, true, false, List, [], ◌∷◌, ◌++◌, Option, Some, Ok, option_map, unwrap_or, refl, ap, sym, ◌∙◌, subst, IfSome}
+use Rattle.fs_base.specs.declared.config.Config.{Config}
+use Rattle.fs_base.specs.declared.config.Peer.{Peer}
+use Rattle.fs_session.specs.declared.sending.Sending.{Sending}
+use Rattle.fs_session.specs.Announcer.{Announcing, announcing, open_sent, StartsOpen}
+use Rattle.fs_session.specs.Line.{fresh, step_by, waits}
+use Rattle.fs_session.specs.Sending.{sender_of}
+use Rattle.fs_session.specs.Session.{Live, live, begins, at_start}
+use Rattle.fs_session.specs.Transition.{Machine}
+use Rattle.fs_speaker.specs.declared.event.Event.{Event}
+use Rattle.fs_speaker.specs.Ends.{Both, both, AreIn, Becomes}
+use Rattle.fs_speaker.specs.Flight.{flying}
+use Rattle.fs_speaker.specs.Joint.{Jointed, jointed, one_more, IsRun}
+use Rattle.fs_speaker.specs.World.{World, taker_of, teller_of, happens, runs_on, run}
+use Rattle.fs_speaker.proofs.Lowest.{sender_told}
+
+pub run_more : (config : Config) (peer : Peer) (sending : Sending) (w : World) (events : List Event) (event : Event)
+    → runs_on config peer sending w (events ++ event ∷ []) ≡ happens config peer sending event (runs_on config peer sending w events)
+run_more config peer sending w [] event = refl
+run_more config peer sending w (first ∷ events) event = run_more config peer sending (happens config peer sending first w) events event
+
+-- whose ends they are
+pub record SameOnes (old new : Both) : Type 0 where
+  pub config_is : new.teller.config ≡ old.teller.config
+  pub peer_is : new.teller.peer ≡ old.teller.peer
+  pub sending_is : new.teller.sending ≡ old.teller.sending
+
+-- an event happened
+pub one_happened : (old new : Both) (events events' : List Event) (event : Event) → IsRun old events false → events' ≡ events ++ event ∷ []
+    → Becomes (λ config peer sending. happens config peer sending event) old new → SameOnes old new × IsRun new events' false
+one_happened old new events events' event run_is more becomes =
+    let config : Config = old.teller.config in
+    let peer : Peer = old.teller.peer in
+    let sending : Sending = old.teller.sending in
+    let here = becomes config peer sending (run config peer sending events) (run_is refl) in
+    let there : AreIn config peer sending new (run config peer sending events') =
+    subst (λ (w : World). AreIn config peer sending new w) (sym (ap (run config peer sending) more ∙ run_more config peer sending _ events event)) here in (
+      record { config_is = here.second.config_is; peer_is = here.second.peer_is; sending_is = here.second.sending_is },
+      λ e.
+          subst (λ (c : Config). AreIn c new.teller.peer new.teller.sending new (run c new.teller.peer new.teller.sending events')) (sym here.second.config_is)
+          (subst (λ (p : Peer). AreIn config p new.teller.sending new (run config p new.teller.sending events')) (sym here.second.peer_is)
+          (subst (λ (s : Sending). AreIn config peer s new (run config peer s events')) (sym here.second.sending_is) there)),
+    )
+
+pub same_joint : (old new : Both) (events events' : List Event) (event : Event) (was : Jointed) → jointed old.teller.config old.teller.peer old.teller.sending events false ≡ was
+    → events' ≡ events ++ event ∷ [] → SameOnes old new → jointed new.teller.config new.teller.peer new.teller.sending events' false ≡ one_more event was
+same_joint old new events events' event was e more same =
+    ap (λ (c : Config). jointed c new.teller.peer new.teller.sending events' false) same.config_is
+    ∙ ap (λ (p : Peer). jointed old.teller.config p new.teller.sending events' false) same.peer_is
+    ∙ ap (λ (s : Sending). jointed old.teller.config old.teller.peer s events' false) same.sending_is
+    ∙ ap (λ (l : List Event). jointed old.teller.config old.teller.peer old.teller.sending l false) more
+    ∙ ap (one_more event) e
+
+nothing_waits : (machine : Machine) → step_by machine at_start [] ≡ waits
+nothing_waits machine = refl
+
+first_ends : (config : Config) (peer : Peer) (sending : Sending)
+    → AreIn config peer sending (both (live config peer fresh) (announcing config peer sending fresh true 0) (flying (open_sent config peer sending) [] false) []) (run config peer sending [])
+first_ends config peer sending = record {
+  first = record {
+    config_is = refl;
+    peer_is = refl;
+    stands = record { closed_is = refl; open_is = λ e. record { waiting_is = refl; phase_is = refl; times_is = refl; waits_is = nothing_waits (taker_of config peer sending) } };
+  };
+  second = record {
+    config_is = refl;
+    peer_is = refl;
+    sending_is = refl;
+    started = refl;
+    appended_is = refl;
+    stands = record { closed_is = refl; open_is = λ e. record { waiting_is = refl; phase_is = refl; times_is = refl; waits_is = nothing_waits (teller_of config peer sending) } };
+  };
+  to_taker_is = refl;
+  to_teller_is = refl;
+  cut_is = refl;
+  taken_is = refl;
+}
+
+-- before the first event
+pub joint_begins : (config : Config) (peer : Peer) (sending : Sending) (taker : Live) (teller teller' : Announcing) (said : List ℕ) (ends : Both) (events : List Event)
+    → sender_of config.peers ≡ Some peer → begins config peer.number ≡ Some taker
+    → IfSome (sender_of config.peers) (λ (p : Peer). teller ≡ announcing config p sending fresh false 0) → StartsOpen teller teller' [] said (Ok tt)
+    → ends ≡ both taker teller' (flying said [] false) [] → events ≡ []
+    → (ends.teller ≡ announcing config peer sending fresh true 0) × IsRun ends events false
+joint_begins config peer sending taker teller teller' said ends events sender begin made starts is none =
+    let own : teller ≡ announcing config peer sending fresh false 0 =
+    subst (λ (o : Option Peer). IfSome o (λ (p : Peer). teller ≡ announcing config p sending fresh false 0)) sender made in
+    let started = subst (λ (t : Announcing). StartsOpen t teller' [] said (Ok tt)) own starts refl in
+    let fed : live config peer fresh ≡ taker =
+    ap (λ (o : Option Live). unwrap_or o (live config peer fresh))
+    (sym (ap (λ (o : Option Peer). option_map (λ (p : Peer). live config p fresh) o) (sender_told config.peers peer sender)) ∙ begin) in
+    let new : both (live config peer fresh) (announcing config peer sending fresh true 0) (flying (open_sent config peer sending) [] false) [] ≡ ends =
+    ap (λ (t : Live). both t (announcing config peer sending fresh true 0) (flying (open_sent config peer sending) [] false) []) fed
+    ∙ ap (λ (t : Announcing). both taker t (flying (open_sent config peer sending) [] false) []) (sym started.0)
+    ∙ ap (λ (z : List ℕ). both taker teller' (flying z [] false) []) (sym started.1)
+    ∙ sym is in (
+      sym (ap (λ (b : Both). b.teller) new),
+      λ e.
+          subst (λ (l : List Event). AreIn ends.teller.config ends.teller.peer ends.teller.sending ends (run ends.teller.config ends.teller.peer ends.teller.sending l)) (sym none)
+          (subst (λ (b : Both). AreIn b.teller.config b.teller.peer b.teller.sending b (run b.teller.config b.teller.peer b.teller.sending [])) new (first_ends config peer sending)),
+    )

@@ -1,0 +1,27 @@
+use Rattle.std.proofs.Common.{ℕ, List, [], ap, ◌∙◌, subst}
+use Rattle.std.proofs.lemmas.Result.{on_ok_weaker}
+use Rattle.fs_attrs.specs.declared.update.Update.{Update}
+use Rattle.fs_session.specs.Announcer.{Announcing, machine_in}
+use Rattle.fs_speaker.specs.End.{HandsOver}
+use Rattle.fs_speaker.specs.Ends.{Both, both, Becomes}
+use Rattle.fs_speaker.specs.Flight.{Flying, flying}
+use Rattle.fs_speaker.specs.World.{sent, delivers}
+use Rattle.fs_speaker.proofs.Happening.{teller_delivered}
+use Rattle.fs_speaker.proofs.ends.Ends.deliver_teller.Goals as goal
+
+pub returns : goal.returns
+returns c =
+    let teller : Announcing = c.self.inside.teller in
+    let flight : Flying = c.take_teller.new.self in
+    let old : Both = both c.self.inside.taker teller c.self.inside.flight c.self.inside.taken.items in
+    let new : Both = both c.self.inside.taker c.hand.new.end c.tell_taker.new.self c.self.inside.taken.items in
+    on_ok_weaker c.tell_taker.result
+    (λ put. subst (λ (o : Both). Becomes (λ config peer sending. delivers config peer sending 1 c.args.count c.args.moment) o new) c.self.view_is
+    (λ config peer sending w here. teller_delivered config peer sending w old here c.hand.new.end flight c.tell_taker.new.self c.hand.new.taken.items c.deref.result.now c.hand.new.out.items
+    c.args.count c.args.moment (c.deref.ensures.value ∙ c.in_ok-piece.ensures.0) c.in_ok-piece.ensures.1 c.in_ok-hand.ensures.own
+    (subst (λ (z : List ℕ). HandsOver (machine_in teller) c.args.moment teller.line c.hand.new.end.line c.deref.result.now [] c.hand.new.taken.items z c.hand.new.out.items)
+    c.new-said.ensures.items
+    (subst (λ (u : List Update). HandsOver (machine_in teller) c.args.moment teller.line c.hand.new.end.line c.deref.result.now u c.hand.new.taken.items c.new-said.result.items c.hand.new.out.items)
+    c.new-none.ensures.items c.in_ok-hand.ensures.hands))
+    (put ∙ ap (λ (z : List ℕ). flying (sent flight.cut flight.to_taker z) flight.to_teller flight.cut) c.deref-2.ensures.value)))
+    c.tell_taker.ensures

@@ -1,0 +1,23 @@
+use Rattle.std.proofs.Common.{ℕ, List, ap, ◌∙◌, subst}
+use Rattle.std.proofs.lemmas.Result.{on_ok_weaker}
+use Rattle.fs_session.specs.Session.{Live, line_of}
+use Rattle.fs_session.specs.Side.{receiver}
+use Rattle.fs_speaker.specs.End.{TicksOver}
+use Rattle.fs_speaker.specs.Ends.{Both, both, Becomes}
+use Rattle.fs_speaker.specs.Flight.{Flying, flying}
+use Rattle.fs_speaker.specs.World.{sent, wakes}
+use Rattle.fs_speaker.proofs.Happening.{taker_woke}
+use Rattle.fs_speaker.proofs.ends.Ends.wake_taker.Goals as goal
+
+pub returns : goal.returns
+returns c =
+    let taker : Live = c.self.inside.taker in
+    let flight : Flying = c.self.inside.flight in
+    let old : Both = both taker c.self.inside.teller flight c.self.inside.taken.items in
+    let new : Both = both c.tick.new.end c.self.inside.teller c.tell_teller.new.self c.self.inside.taken.items in
+    on_ok_weaker c.tell_teller.result
+    (λ put. subst (λ (o : Both). Becomes (λ config peer sending. wakes config peer sending 0 c.args.moment) o new) c.self.view_is
+    (λ config peer sending w here. taker_woke config peer sending w old here c.tick.new.end c.tell_teller.new.self c.tick.new.out.items c.args.moment c.in_ok-tick.ensures.own
+    (subst (λ (z : List ℕ). TicksOver (receiver taker.config taker.peer) c.args.moment (line_of taker) (line_of c.tick.new.end) z c.tick.new.out.items) c.new-said.ensures.items c.in_ok-tick.ensures.ticks)
+    (put ∙ ap (λ (z : List ℕ). flying flight.to_taker (sent flight.cut flight.to_teller z) flight.cut) c.deref.ensures.value)))
+    c.tell_teller.ensures

@@ -1,5 +1,0 @@
-use Rattle.fs_speaker.proofs.Ends.{state_is}
-use Rattle.fs_speaker.proofs.session.Session.state.Goals as goal
-
-pub returns : goal.returns
-returns c = state_is c.self.inside.config.now c.self.inside.peer c.self.inside.line c.args.self.now c.state.result c.self.view_is c.state.ensures

@@ -1,0 +1,278 @@
+-- The texts of pairs, cut and read.
+use Rattle.std.proofs.Common.{append_assoc, ◌≡◌, ℕ, ◌+◌, ◌*◌, ◌/◌, ◌^◌, ◌<◌, ◌≤◌, ◌==◌, zero, suc, List, [], ◌∷◌, ◌++◌, Option, Some, None, Bool, true, false, not, ◌||◌, if◌then◌else◌, length, bit_and, refl, sym, ap, subst, ◌∙◌, arith}
+use Rattle.std.specs.Prelude.{codes, decimal, flat_map}
+use Rattle.std.specs.List.{AllByRecursion}
+use Rattle.std.proofs.lemmas.Nat.{and_le_r}
+use Rattle.std.proofs.lemmas.Bool.Decides.{nat_tests}
+use Rattle.std.proofs.lemmas.List.{append-nil}
+use Rattle.fs_base.proofs.Digits.{big_octets}
+use Rattle.fs_ops.specs.declared.kind.Kind.{Kind}
+use Rattle.fs_ops.specs.declared.kind.Kind.TheVariants.{Numeric, Bitmask}
+use Rattle.fs_ops.specs.Operator.{joins, ends, meant_bits, width_code, width_of}
+use Rattle.fs_ops.specs.OperatorList.{AreNormal, IsNormal, IsNormalPair}
+use Rattle.fs_words.specs.Figures.{octets_text}
+use Rattle.fs_words.specs.Operators.{joined_text, least_code, list_text, mask_sign, number_sign, operand_text, pair_text, sign, width_word}
+use Rattle.fs_text.specs.ListWord.{is_sign, is_within, joined_bit, plain_of, relation_of}
+use Rattle.fs_text.specs.Pieces.{Ends, is_plain}
+use Rattle.fs_text.proofs.Words.{IsRun, run_decimal, run_octets}
+use Rattle.fs_text.proofs.Made.{made}
+
+-- a choice keeps what both have
+chosen : (P : List ℕ → Type 0) (b : Bool) (x y : List ℕ) → P x → P y → P (if b then x else y)
+chosen P true x y p q = p
+chosen P false x y p q = q
+
+abbrev AreSigns : List ℕ → Type 0
+AreSigns text = AllByRecursion (λ o. is_sign o ≡ true) text
+
+abbrev AreWithin : List ℕ → Type 0
+AreWithin text = AllByRecursion (λ o. is_within o ≡ true) text
+
+abbrev IsSigns : List ℕ → Type 0
+IsSigns text = AreSigns text × AreWithin text
+
+number_signs : (n : ℕ) → IsSigns (number_sign n)
+number_signs n =
+    chosen IsSigns (n == 0) _ _ ((refl, tt), (refl, tt))
+    (chosen IsSigns (n == 1) _ _ ((refl, tt), (refl, tt))
+    (chosen IsSigns (n == 2) _ _ ((refl, tt), (refl, tt))
+    (chosen IsSigns (n == 3) _ _ ((refl, (refl, tt)), (refl, (refl, tt)))
+    (chosen IsSigns (n == 4) _ _ ((refl, tt), (refl, tt))
+    (chosen IsSigns (n == 5) _ _ ((refl, (refl, tt)), (refl, (refl, tt)))
+    (chosen IsSigns (n == 6) _ _ ((refl, (refl, tt)), (refl, (refl, tt))) ((refl, tt), (refl, tt))))))))
+
+mask_signs : (n : ℕ) → IsSigns (mask_sign n)
+mask_signs n =
+    chosen IsSigns (n == 0) _ _ ((refl, tt), (refl, tt))
+    (chosen IsSigns (n == 1) _ _ ((refl, tt), (refl, tt))
+    (chosen IsSigns (n == 2) _ _ ((refl, (refl, tt)), (refl, (refl, tt))) ((refl, (refl, tt)), (refl, (refl, tt)))))
+
+signs : (kind : Kind) (operator : ℕ) → IsSigns (sign kind operator)
+signs Numeric operator = number_signs (bit_and operator 7)
+signs Bitmask operator = mask_signs (bit_and operator 3)
+
+pub are_signs : (kind : Kind) (operator : ℕ) → AllByRecursion (λ o. is_sign o ≡ true) (sign kind operator)
+are_signs kind operator = (signs kind operator).0
+
+pub width_ends : (value code : ℕ) → Ends is_plain (width_word value code)
+width_ends value code =
+    chosen (Ends is_plain) (code == least_code value) _ _ tt
+    (chosen (Ends is_plain) (code == 0) _ _ refl (chosen (Ends is_plain) (code == 1) _ _ refl (chosen (Ends is_plain) (code == 2) _ _ refl refl)))
+
+width_within : (value code : ℕ) → AreWithin (width_word value code)
+width_within value code =
+    chosen AreWithin (code == least_code value) _ _ tt
+    (chosen AreWithin (code == 0) _ _ (refl, (refl, tt)) (chosen AreWithin (code == 1) _ _ (refl, (refl, tt)) (chosen AreWithin (code == 2) _ _ (refl, (refl, tt)) (refl, (refl, tt)))))
+
+within_append : (a b : List ℕ) → AreWithin a → AreWithin b → AreWithin (a ++ b)
+within_append [] b p q = q
+within_append (x ∷ a) b p q = (p.0, within_append a b p.1 q)
+
+plain_within : (o : ℕ) → is_plain o ≡ true → is_within o ≡ true
+plain_within o h = by (o == 38) refl (o == 44) refl
+  where
+    by : (b : Bool) → (o == 38) ≡ b → (c : Bool) → (o == 44) ≡ c → not (b || c) ≡ true
+    by false p false q = refl
+    by true p c q = absurd (let e : o ≡ 38 = grind (arith, nat_tests, p) in let k : is_plain 38 ≡ true = subst (λ (x : ℕ). is_plain x ≡ true) e h in cc)
+    by false p true q = absurd (let e : o ≡ 44 = grind (arith, nat_tests, q) in let k : is_plain 44 ≡ true = subst (λ (x : ℕ). is_plain x ≡ true) e h in cc)
+
+run_within : (run : List ℕ) → AllByRecursion (λ o. is_plain o ≡ true) run → AreWithin run
+run_within [] all = tt
+run_within (x ∷ run) all = (plain_within x all.0, run_within run all.1)
+
+pub code_small : (operator : ℕ) → width_code operator < 4
+code_small operator = let le : bit_and (operator / 2 ^ 4) 3 ≤ 3 = and_le_r (operator / 2 ^ 4) 3 in omega arith
+
+wide : (code value : ℕ) → code < 4 → value < 256 ^ (2 ^ code) → value < 2 ^ 64
+wide zero value small h = omega (arith, h)
+wide (suc zero) value small h = omega (arith, h)
+wide (suc (suc zero)) value small h = omega (arith, h)
+wide (suc (suc (suc zero))) value small h = omega (arith, h)
+wide (suc (suc (suc (suc code)))) value small h = absurd (omega arith)
+
+pub value_small : (operator value : ℕ) → value < 256 ^ width_of operator → value < 2 ^ 64
+value_small operator value h = wide (width_code operator) value (code_small operator) h
+
+coded_run : (code value : ℕ) → code < 4 → IsRun (octets_text (2 ^ code) value)
+coded_run zero value small = run_octets _ _ (big_octets 1 value)
+coded_run (suc zero) value small = run_octets _ _ (big_octets 2 value)
+coded_run (suc (suc zero)) value small = run_octets _ _ (big_octets 4 value)
+coded_run (suc (suc (suc zero))) value small = run_octets _ _ (big_octets 8 value)
+coded_run (suc (suc (suc (suc code)))) value small = absurd (omega arith)
+
+pub octets_run : (operator value : ℕ) → IsRun (octets_text (width_of operator) value)
+octets_run operator value = coded_run (width_code operator) value (code_small operator)
+
+operand_within : (kind : Kind) (operator value : ℕ) → value < 256 ^ width_of operator → AreWithin (operand_text kind operator value)
+operand_within Numeric operator value h =
+    within_append (decimal value) (width_word value (width_code operator)) (run_within (decimal value) (run_decimal value (value_small operator value h)).1)
+    (width_within value (width_code operator))
+operand_within Bitmask operator value h = run_within (octets_text (width_of operator) value) (octets_run operator value).1
+
+pub pair_within : (kind : Kind) (pair : ℕ × ℕ) → pair.1 < 256 ^ width_of pair.0 → AllByRecursion (λ o. is_within o ≡ true) (pair_text kind pair)
+pair_within kind pair h =
+    within_append (sign kind pair.0) (operand_text kind pair.0 pair.1) (signs kind pair.0).1 (operand_within kind pair.0 pair.1 h)
+
+abbrev joiner_by : Bool → List ℕ
+joiner_by b = if b then codes "&" else codes ","
+
+pub others_end : (kind : Kind) (others : List (ℕ × ℕ)) → Ends is_within (flat_map (joined_text kind) others)
+others_end kind [] = tt
+others_end kind (pair ∷ others) = by (joins pair.0)
+  where
+    by : (b : Bool) → Ends is_within ((joiner_by b ++ pair_text kind pair) ++ flat_map (joined_text kind) others)
+    by true = refl
+    by false = refl
+
+-- the pairs that are still to be read
+pub record IsLeft (kind : Kind) (pairs list : List (ℕ × ℕ)) (joined : ℕ) (rest : List ℕ) : Type 0 where
+  pub pair : ℕ × ℕ
+  pub others : List (ℕ × ℕ)
+  pub normal : AreNormal (meant_bits kind) (pair ∷ others)
+  pub split : pairs ≡ list ++ pair ∷ others
+  pub joins : joined ≡ joined_bit pair.0
+  pub spelled : rest ≡ pair_text kind pair ++ flat_map (joined_text kind) others
+
+abbrev bit_if : Bool → ℕ
+bit_if b = if b then 64 else 0
+
+abbrev pub Left : Kind → List ℕ → List (ℕ × ℕ) → ℕ → List ℕ → Type 0
+Left kind word list joined rest =
+    (pairs : List (ℕ × ℕ)) → IsNormal kind pairs → word ≡ list_text kind pairs → IsLeft kind pairs list joined rest
+
+pub first_normal : (bits : ℕ) (pair : ℕ × ℕ) (others : List (ℕ × ℕ)) → AreNormal bits (pair ∷ others) → IsNormalPair bits pair
+first_normal bits pair [] is = is.0
+first_normal bits pair (next ∷ others) is = is.0
+
+made_by : (kind : Kind) (operator : ℕ) (b : Bool) → bit_and operator (meant_bits kind) ≡ operator → ends operator ≡ b
+    → plain_of kind operator + joined_bit operator + (if b then 128 else 0) ≡ operator
+made_by kind operator b clear e =
+    sym (made kind operator clear ∙ ap (λ (c : Bool). plain_of kind operator + joined_bit operator + (if c then 128 else 0)) e)
+
+pair_is : (pair : ℕ × ℕ) (operator value : ℕ) → operator ≡ pair.0 → value ≡ pair.1 → (operator, value) ≡ pair
+pair_is pair operator value p q = ap (λ (o : ℕ). let made : ℕ × ℕ = (o, value) in made) p ∙ ap (λ (v : ℕ). let made : ℕ × ℕ = (pair.0, v) in made) q
+
+-- behind the last pair nothing is left
+pub last_read : (kind : Kind) (pairs list : List (ℕ × ℕ)) (joined : ℕ) (plain value : ℕ) (pair : ℕ × ℕ) (others : List (ℕ × ℕ))
+    → AreNormal (meant_bits kind) (pair ∷ others) → pairs ≡ list ++ pair ∷ others → joined ≡ joined_bit pair.0
+    → flat_map (joined_text kind) others ≡ [] → plain ≡ plain_of kind pair.0 → value ≡ pair.1
+    → list ++ (plain + joined + 128, value) ∷ [] ≡ pairs
+last_read kind pairs list joined plain value pair [] normal split joins none p v =
+    let told : plain_of kind pair.0 + joined_bit pair.0 + 128 ≡ pair.0 = made_by kind pair.0 true normal.0.clear normal.1 in
+    ap (λ (q : ℕ × ℕ). list ++ q ∷ []) (pair_is pair (plain + joined + 128) value (omega (arith, told, p, joins)) v) ∙ sym split
+last_read kind pairs list joined plain value pair (next ∷ others) normal split joined_is none p v = by (joins next.0) none
+  where
+    by : (b : Bool) → (joiner_by b ++ pair_text kind next) ++ flat_map (joined_text kind) others ≡ []
+        → list ++ (plain + joined + 128, value) ∷ [] ≡ pairs
+    by true e = absurd cc
+    by false e = absurd cc
+
+-- the pair behind this one is left
+pub next_left : (kind : Kind) (pairs list new : List (ℕ × ℕ)) (joined bit plain value delimiter : ℕ) (tail : List ℕ) (pair : ℕ × ℕ) (others : List (ℕ × ℕ))
+    → AreNormal (meant_bits kind) (pair ∷ others) → pairs ≡ list ++ pair ∷ others → joined ≡ joined_bit pair.0
+    → flat_map (joined_text kind) others ≡ delimiter ∷ tail → plain ≡ plain_of kind pair.0 → value ≡ pair.1
+    → new ≡ list ++ (plain + joined, value) ∷ [] → bit ≡ bit_if (delimiter == 38)
+    → IsLeft kind pairs new bit tail
+next_left kind pairs list new joined bit plain value delimiter tail pair [] normal split joined_is some p v new_is bit_is = absurd cc
+next_left kind pairs list new joined bit plain value delimiter tail pair (next ∷ others) normal split joined_is some p v new_is bit_is = record {
+  pair = next;
+  others = others;
+  normal = normal.2;
+  split =
+      split ∙ ap (λ (q : ℕ × ℕ). list ++ q ∷ next ∷ others) (sym (pair_is pair (plain + joined) value (omega (arith, told, p, joined_is)) v))
+      ∙ sym (append_assoc list ((plain + joined, value) ∷ []) (next ∷ others)) ∙ ap (λ (l : List (ℕ × ℕ)). l ++ next ∷ others) (sym new_is);
+  joins = bit_is ∙ (by (joins next.0) refl some).0;
+  spelled = (by (joins next.0) refl some).1;
+}
+  where
+    told : plain_of kind pair.0 + joined_bit pair.0 + 0 ≡ pair.0
+    told = made_by kind pair.0 false normal.0.clear normal.1
+
+    by : (b : Bool) → joins next.0 ≡ b → (joiner_by b ++ pair_text kind next) ++ flat_map (joined_text kind) others ≡ delimiter ∷ tail
+        → (bit_if (delimiter == 38) ≡ bit_if b) × (tail ≡ pair_text kind next ++ flat_map (joined_text kind) others)
+    by true e h =
+        let m : 38 ≡ delimiter = cc in (ap (λ (o : ℕ). bit_if (o == 38)) (sym m), cc)
+    by false e h =
+        let m : 44 ≡ delimiter = cc in (ap (λ (o : ℕ). bit_if (o == 38)) (sym m), cc)
+
+abbrev Cuts : (text a b c : List ℕ) → Type 0
+Cuts text a b c =
+    (front digits behind : List ℕ) → AllByRecursion (λ o. is_sign o ≡ true) front → 0 < length digits
+    → AllByRecursion (λ o. is_plain o ≡ true) digits → Ends is_plain behind → text ≡ front ++ (digits ++ behind)
+    → (a ≡ front) × (b ≡ digits) × (c ≡ behind)
+
+abbrev Numbers : (b c : List ℕ) → Option (ℕ × ℕ) → Type 0
+Numbers b c r = (code value : ℕ) → code < 4 → value < 2 ^ 64 → b ≡ decimal value → c ≡ width_word value code → r ≡ Some (code, value)
+
+abbrev Octets : List ℕ → Option (ℕ × ℕ) → Type 0
+Octets b r = (code value : ℕ) → code < 4 → value < 256 ^ (2 ^ code) → b ≡ octets_text (2 ^ code) value → r ≡ Some (code, value)
+
+pub pair_read : (kind : Kind) (text a b c : List ℕ) (s : Option ℕ) (r : Option (ℕ × ℕ)) → Cuts text a b c
+    → ((operator : ℕ) → a ≡ sign kind operator → s ≡ Some (relation_of kind operator))
+    → (kind ≡ Numeric → Numbers b c r) → (kind ≡ Bitmask → Octets b r)
+    → (operator value : ℕ) → value < 256 ^ width_of operator → text ≡ pair_text kind (operator, value)
+    → (s ≡ Some (relation_of kind operator)) × (r ≡ Some (width_code operator, value))
+pair_read Numeric text a b c s r cuts signed numbers bits operator value small is =
+    let run : IsRun (decimal value) = run_decimal value (value_small operator value small) in
+    let t : (a ≡ sign Numeric operator) × (b ≡ decimal value) × (c ≡ width_word value (width_code operator)) =
+    cuts (sign Numeric operator) (decimal value) (width_word value (width_code operator)) (are_signs Numeric operator) run.0 run.1
+    (width_ends value (width_code operator)) is in
+    (signed operator t.0, numbers refl (width_code operator) value (code_small operator) (value_small operator value small) t.1 t.2)
+pair_read Bitmask text a b c s r cuts signed numbers bits operator value small is =
+    let run : IsRun (octets_text (width_of operator) value) = octets_run operator value in
+    let nothing : List ℕ = [] in
+    let whole : text ≡ sign Bitmask operator ++ (octets_text (width_of operator) value ++ nothing) =
+    is ∙ ap (λ (l : List ℕ). sign Bitmask operator ++ l) (sym (append-nil (octets_text (width_of operator) value))) in
+    let t : (a ≡ sign Bitmask operator) × (b ≡ octets_text (width_of operator) value) × (c ≡ nothing) =
+    cuts (sign Bitmask operator) (octets_text (width_of operator) value) nothing (are_signs Bitmask operator) run.0 run.1 tt whole in
+    (signed operator t.0, bits refl (width_code operator) value (code_small operator) small t.1)
+
+abbrev made_pair : (a b : ℕ) → Option (ℕ × ℕ)
+made_pair a b = Some (a, b)
+
+abbrev first_in : Option (ℕ × ℕ) → ℕ
+first_in None = 0
+first_in (Some pair) = pair.0
+
+abbrev second_in : Option (ℕ × ℕ) → ℕ
+second_in None = 0
+second_in (Some pair) = pair.1
+
+some_one : {a b : ℕ} → Some a ≡ Some b → a ≡ b
+some_one e = cc
+
+pub pair_made : (s : Option ℕ) (r : Option (ℕ × ℕ)) (x code value relation width number : ℕ) → s ≡ Some x → r ≡ Some (code, value)
+    → (s ≡ Some relation) × (r ≡ Some (width, number)) → made_pair (16 * code + x) value ≡ made_pair (16 * width + relation) number
+pair_made s r x code value relation width number p q is =
+    let same : x ≡ relation = some_one (sym p ∙ is.0) in
+    let both : made_pair code value ≡ made_pair width number = sym q ∙ is.1 in
+    let codes_are : code ≡ width = ap first_in both in
+    ap (λ (n : ℕ). made_pair n value) {x = 16 * code + x} {y = 16 * width + relation} (omega (arith, same, codes_are))
+    ∙ ap (λ (v : ℕ). made_pair (16 * width + relation) v) (ap second_in both)
+
+abbrev FirstPair : (text a b : List ℕ) → Type 0
+FirstPair text a b =
+    (front behind : List ℕ) → AllByRecursion (λ o. is_within o ≡ true) front → Ends is_within behind → text ≡ front ++ behind
+    → (a ≡ front) × (b ≡ behind)
+
+abbrev Loose : Kind → List ℕ → Option (ℕ × ℕ) → Type 0
+Loose kind text r =
+    (operator value : ℕ) → value < 256 ^ width_of operator → text ≡ pair_text kind (operator, value) → r ≡ Some (plain_of kind operator, value)
+
+-- the next pair is read
+pub taken : (kind : Kind) (pairs list : List (ℕ × ℕ)) (joined : ℕ) (rest a b : List ℕ) (r : Option (ℕ × ℕ))
+    → (left : IsLeft kind pairs list joined rest) → FirstPair rest a b → Loose kind a r
+    → (b ≡ flat_map (joined_text kind) left.others) × (r ≡ Some (plain_of kind left.pair.0, left.pair.1))
+taken kind pairs list joined rest a b r left split loose =
+    let fits : left.pair.1 < 256 ^ width_of left.pair.0 = (first_normal (meant_bits kind) left.pair left.others left.normal).fits in
+    let t : (a ≡ pair_text kind left.pair) × (b ≡ flat_map (joined_text kind) left.others) =
+    split (pair_text kind left.pair) (flat_map (joined_text kind) left.others) (pair_within kind left.pair fits) (others_end kind left.others) left.spelled in
+    (t.1, loose left.pair.0 left.pair.1 fits t.0)
+
+pub said_first : (r : Option (ℕ × ℕ)) (plain value x y : ℕ) → r ≡ Some (plain, value) → r ≡ Some (x, y) → (plain ≡ x) × (value ≡ y)
+said_first r plain value x y p q =
+    let both : made_pair plain value ≡ made_pair x y = sym p ∙ q in (ap first_in both, ap second_in both)
+
+pub nil_of : (l : List ℕ) → length l ≡ 0 → l ≡ []
+nil_of [] e = refl
+nil_of (x ∷ l) e = absurd (omega arith)

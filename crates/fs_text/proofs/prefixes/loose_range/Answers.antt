@@ -1,0 +1,7 @@
+use Rattle.std.proofs.Common.{map}
+use Rattle.fs_text.specs.Parts.{as_part}
+use Rattle.fs_text.proofs.Prefixed.{range_read}
+use Rattle.fs_text.proofs.prefixes.loose_range.Goals as goal
+
+pub returns : goal.returns
+returns c = range_read (map as_part c.args.parts.now) c.loose_ends.result c.loose_ends.ensures.whole c.loose_ends.ensures.part
