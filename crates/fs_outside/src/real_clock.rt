@@ -5,10 +5,12 @@ ghost use Rattle.std.specs.Prelude.{◌≡◌};
 use crate::Clock;
 use std::time;
 
-/// The monotonic clock of the system, in whole milliseconds. Where it can't be read, its last answer stands.
+/// The monotonic clock of the system, in whole milliseconds from the first time that it can be read. Where it can't be
+/// read, its last answer stands, which is 0 at first.
 #[derive(Drop)]
 pub struct RealClock<'a, R: time::Clock> {
     runtime: &'a R,
+    start: Option<u64>,
     last: u64,
 }
 
@@ -17,7 +19,11 @@ impl<'a, R: time::Clock> RealClock<'a, R> {
     pub fn new(runtime: &'a R) -> RealClock<'a, R>
         ensures { result.last ≡ 0 }
     {
-        RealClock { runtime, last: 0 }
+        RealClock {
+            runtime,
+            start: None,
+            last: 0,
+        }
     }
 }
 
@@ -29,7 +35,8 @@ impl<'a, R: time::Clock> Clock for RealClock<'a, R> {
     fn now(&mut self) -> u64 {
         if let Ok(elapsed) = self.runtime.monotonic() {
             if let Ok(moment) = u64::try_from(elapsed.as_millis()) {
-                self.last = moment;
+                let start = *self.start.get_or_insert(moment);
+                self.last = moment.saturating_sub(start);
             }
         }
         self.last

@@ -7,64 +7,148 @@ ghost use Rattle.fs_outside.specs.Outside.{HasCause};
 use crate::real::fault;
 use crate::{Failed, Opening, Wire};
 use std::io;
-use std::io::{Read, Write};
+use std::io::{ErrorKind, Read, Write};
 use std::net::{Net, OpenListener, OpenStream, Shutdown, TcpListener, TcpStream};
-use std::time::Duration;
+use std::time::{Clock, Duration};
 
-/// An end that closes waits so many seconds for each piece that its peer still sends.
-const PATIENCE: u64 = 5;
+/// So many seconds an end that closes waits for its peer to close too, and a write for room: a router may be slow to read
+/// what it was sent.
+const PATIENCE: u64 = 180;
 
 /// An end that closes reads at most so many pieces of 4096 octets that its peer still sends.
-const DRAINS: u32 = 65536;
+const DRAINS: u32 = 1 << 30;
+
+/// So many connections of others to the port of joined ends are turned away.
+const STRANGERS: u32 = 1 << 16;
+
+/// Each piece leaves at once, and a write waits for room no longer than `PATIENCE`.
+fn prepare<S: OpenStream>(stream: &S) -> io::Result<()> {
+    stream.set_nodelay(true)?;
+    stream.set_write_timeout(Some(Duration::from_secs(PATIENCE)))
+}
 
 /// Takes one connection at an address.
 fn listen<R: Net>(runtime: &R, address: &str) -> io::Result<R::Stream> {
     let listener = TcpListener::bind(runtime, address)?;
     let (stream, _) = listener.accept()?;
-    stream.set_nodelay(true)?;
+    prepare(&stream)?;
     Ok(stream)
 }
 
 /// Connects to an address.
 fn dial<R: Net>(runtime: &R, address: &str) -> io::Result<R::Stream> {
     let stream = TcpStream::connect(runtime, address)?;
-    stream.set_nodelay(true)?;
+    prepare(&stream)?;
     Ok(stream)
 }
 
-/// Two ends of one connection, over a free port of 127.0.0.1.
+/// Two ends of one connection, over a free port of 127.0.0.1. Whoever else connects to it is turned away.
 fn both<R: Net>(runtime: &R) -> io::Result<(R::Stream, R::Stream)> {
     let listener = TcpListener::bind(runtime, "127.0.0.1:0")?;
     let second = TcpStream::connect(runtime, listener.local_addr()?)?;
-    let (first, _) = listener.accept()?;
-    first.set_nodelay(true)?;
-    second.set_nodelay(true)?;
-    Ok((first, second))
+    let address = second.local_addr()?;
+    for _ in 0..STRANGERS {
+        let (first, from) = listener.accept()?;
+        if from == address {
+            prepare(&first)?;
+            prepare(&second)?;
+            return Ok((first, second));
+        }
+    }
+    Err(io::Error::from(ErrorKind::ConnectionRefused))
 }
 
-/// Ends the writing side. Then, where `drains` says so, reads what the peer still sends: octets that are unread when a
-/// socket is dropped make the system reset the connection, and the peer may lose what it hadn't read yet.
-fn shut<S: Read + OpenStream>(stream: &mut S, drains: bool) -> io::Result<()> {
-    stream.shutdown(Shutdown::Write)?;
-    if !drains {
-        return Ok(());
-    }
-    stream.set_read_timeout(Some(Duration::from_secs(PATIENCE)))?;
+/// Whether the peer, or the system in its place, has torn the connection down. For BGP that is the end of the connection as
+/// a close is (RFC 4271 section 8.1.4, TcpConnectionFails).
+fn is_torn_down(error: &io::Error) -> bool {
+    matches!(
+        error.kind(),
+        ErrorKind::ConnectionReset
+            | ErrorKind::ConnectionAborted
+            | ErrorKind::BrokenPipe
+            | ErrorKind::NotConnected
+    )
+}
+
+/// Reads what the peer still sends until it closes, for `PATIENCE` in all: octets that are unread when a socket is dropped
+/// make the system reset the connection, and the peer may lose what it hadn't read yet.
+fn drain<R: Clock, S: Read + OpenStream>(runtime: &R, stream: &mut S) -> io::Result<()> {
+    let patience = Duration::from_secs(PATIENCE);
+    let begun = runtime.monotonic()?;
     let mut unread = [0u8; 4096];
     for _ in 0..DRAINS {
-        match stream.read(&mut unread) {
-            Ok(0) | Err(_) => return Ok(()),
-            Ok(_) => {}
+        let rest = patience.saturating_sub(runtime.monotonic()?.saturating_sub(begun));
+        if rest.is_zero() {
+            return Ok(());
+        }
+        stream.set_read_timeout(Some(rest))?;
+        if stream.read(&mut unread)? == 0 {
+            return Ok(());
         }
     }
     Ok(())
 }
 
-/// The streams of the ends that are open, and the faults so far. Ends that are joined are each other's peer: the one
-/// that closes can't wait for what the other still sends.
+/// An end that is open, and whether it was written behind its last read: then nothing shows that the peer has read it.
+#[derive(Drop)]
+struct End<S: Read + Write + OpenStream + Drop> {
+    stream: S,
+    unheard: bool,
+}
+
+impl<S: Read + Write + OpenStream + Drop> End<S> {
+    fn new(stream: S) -> End<S> {
+        End {
+            stream,
+            unheard: false,
+        }
+    }
+
+    /// A connection that was torn down has ended.
+    fn read(&mut self, into: &mut [u8]) -> io::Result<usize>
+        ensures { ReadsAtMost result into.new }
+    {
+        self.unheard = false;
+        match self.stream.read(into) {
+            Err(error) if is_torn_down(&error) => Ok(0),
+            read => read,
+        }
+    }
+
+    /// What is written to a connection that was torn down is lost. Whether that matters shows at the closing: what the
+    /// peer said before may still be read.
+    fn write(&mut self, piece: &[u8]) -> io::Result<usize>
+        ensures { IfOk result (λ n. n ≤ length piece.now) }
+    {
+        self.unheard = true;
+        match self.stream.write(piece) {
+            Err(error) if is_torn_down(&error) => Ok(piece.len()),
+            written => written,
+        }
+    }
+
+    /// Ends the writing side and, where `drains` says so, waits for the peer's close. Where the connection was torn down,
+    /// nothing is left to be closed; what was written behind the last read is lost then, which is a fault where it
+    /// `matters`.
+    fn close<R: Clock>(&mut self, runtime: &R, matters: bool, drains: bool) -> io::Result<()> {
+        match self.stream.shutdown(Shutdown::Write) {
+            Ok(()) => {}
+            Err(error) if is_torn_down(&error) && !(matters && self.unheard) => return Ok(()),
+            Err(error) => return Err(error),
+        }
+        if drains {
+            // however the waiting ends, what was written has left
+            let _ = drain(runtime, &mut self.stream);
+        }
+        Ok(())
+    }
+}
+
+/// The ends that are open, and the faults so far. Ends that are joined are each other's peer: the one that closes can't
+/// wait for what the other still sends.
 #[derive(Drop)]
 struct Streams<S: Read + Write + OpenStream + Drop> {
-    ends: [Option<S>; 2],
+    ends: [Option<End<S>>; 2],
     joined: bool,
     faults: u64,
 }
@@ -78,7 +162,7 @@ impl<S: Read + Write + OpenStream + Drop> Streams<S> {
         self.joined = false;
         match opened {
             Ok(stream) => {
-                self.ends[end as usize] = Some(stream);
+                self.ends[end as usize] = Some(End::new(stream));
                 Ok(())
             }
             Err(_) => Err(fault(&mut self.faults)),
@@ -90,7 +174,7 @@ impl<S: Read + Write + OpenStream + Drop> Streams<S> {
     {
         match opened {
             Ok((first, second)) => {
-                self.ends = [Some(first), Some(second)];
+                self.ends = [Some(End::new(first)), Some(End::new(second))];
                 self.joined = true;
                 Ok(())
             }
@@ -104,10 +188,10 @@ impl<S: Read + Write + OpenStream + Drop> Streams<S> {
         ensures cause { HasCause self.old.faults self.new.faults result }
         ensures bound { ReadsAtMost result into.new }
     {
-        let Some(stream) = &mut self.ends[end as usize] else {
+        let Some(open) = &mut self.ends[end as usize] else {
             return Ok(0);
         };
-        match stream.read(into) {
+        match open.read(into) {
             Ok(count) => Ok(count),
             Err(_) => Err(fault(&mut self.faults)),
         }
@@ -120,25 +204,26 @@ impl<S: Read + Write + OpenStream + Drop> Streams<S> {
         ensures bound { IfOk result (λ n. n ≤ length piece.now) }
         ensures taken { 0 < length piece.now → IfOk result (λ n. 0 < n) }
     {
-        let Some(stream) = &mut self.ends[end as usize] else {
+        let Some(open) = &mut self.ends[end as usize] else {
             return Err(fault(&mut self.faults));
         };
-        match stream.write(piece) {
+        match open.write(piece) {
             Ok(count) if 0 < count || piece.is_empty() => Ok(count),
             _ => Err(fault(&mut self.faults)),
         }
     }
 
-    /// Closes an end for writing.
-    fn close(&mut self, end: u8) -> Result<(), Failed>
+    /// Closes an end for writing. What end 0 writes are answers to what it has read, and are of no more use once the peer
+    /// has gone.
+    fn close<R: Clock>(&mut self, runtime: &R, end: u8) -> Result<(), Failed>
         requires { end ≤ 1 }
         ensures cause { HasCause self.old.faults self.new.faults result }
     {
         let drains = !self.joined;
-        let Some(stream) = &mut self.ends[end as usize] else {
+        let Some(open) = &mut self.ends[end as usize] else {
             return Ok(());
         };
-        match shut(stream, drains) {
+        match open.close(runtime, end == 1, drains) {
             Ok(()) => Ok(()),
             Err(_) => Err(fault(&mut self.faults)),
         }
@@ -148,12 +233,12 @@ impl<S: Read + Write + OpenStream + Drop> Streams<S> {
 /// A wire of TCP connections. An address is `host:port`; one that can't be read is a fault. Each end sends at once what
 /// is written to it.
 #[derive(Drop)]
-pub struct RealWire<'a, R: Net> {
+pub struct RealWire<'a, R: Net + Clock> {
     runtime: &'a R,
     streams: Streams<R::Stream>,
 }
 
-impl<'a, R: Net> RealWire<'a, R> {
+impl<'a, R: Net + Clock> RealWire<'a, R> {
     /// No end is open, and no call has failed.
     pub fn new(runtime: &'a R) -> RealWire<'a, R>
         ensures faults { result.streams.faults ≡ 0 }
@@ -167,7 +252,7 @@ impl<'a, R: Net> RealWire<'a, R> {
     }
 }
 
-impl<'a, R: Net> Wire for RealWire<'a, R> {
+impl<'a, R: Net + Clock> Wire for RealWire<'a, R> {
     ghost use Rattle.std.specs.Prelude.{None};
 
     ghost tells = { λ wire. None };
@@ -201,6 +286,6 @@ impl<'a, R: Net> Wire for RealWire<'a, R> {
 
     /// The peer's octets are read to its end, as long as it goes on, before the connection goes; not of joined ends.
     fn close(&mut self, end: u8) -> Result<(), Failed> {
-        self.streams.close(end)
+        self.streams.close(self.runtime, end)
     }
 }
