@@ -1,0 +1,270 @@
+#!/usr/bin/env python3
+"""peer.py PROGRAM: a BGP speaker on loopback that PROGRAM listens to and announces to, in ways that a router may take.
+
+Each case lasts some seconds at most, on a port that was free, and checks what the program wrote, its status, and what
+reached the peer. A listing has to be that of `rules` on a tape of the same octets. The last line counts the cases.
+"""
+import pathlib
+import socket
+import struct
+import subprocess
+import sys
+import tempfile
+import threading
+import time
+
+from draws import MARKER, message, record
+
+PROGRAM = str(pathlib.Path(sys.argv[1] if len(sys.argv) > 1 else "crates/welgutan/out/welgutan").resolve())
+PATIENCE = 40
+CONFIG = """local_as = 65000
+local_id = "192.0.2.254"
+allow_no_destination = true
+hold_time = {}
+[[peer]]
+number = 1
+address = "198.51.100.1"
+as = 65001
+"""
+RULES = 'id = "198.51.100.1"\nas_path = [65001]\n'
+KEEPALIVE, CEASE = message(4, b""), message(3, bytes([6, 2]))
+
+
+def open_message(asn, hold_time=0):
+    """OPEN with the four families (RFC 4271 section 4.2, RFC 5492)."""
+    capabilities = b"".join(bytes([1, 4, 0, afi, 0, safi]) for afi in (1, 2) for safi in (1, 133))
+    body = struct.pack(">BHH4sBBB", 4, asn, hold_time, bytes([198, 51, 100, 1]), len(capabilities) + 2, 2, len(capabilities))
+    return message(1, body + capabilities)
+
+
+def rule_update(port):
+    """UPDATE of one rule, UDP to a port, by MP_REACH_NLRI (RFC 4760 section 3, RFC 8955 section 4)."""
+    rule = bytes.fromhex("0381110591") + struct.pack(">H", port)
+    reach = struct.pack(">HBBB", 1, 133, 0, 0) + bytes([len(rule)]) + rule
+    attributes = bytes.fromhex("400101004002040201fde9") + bytes([0x80, 14, len(reach)]) + reach
+    return message(2, struct.pack(">HH", 0, len(attributes)) + attributes)
+
+
+UPDATES = b"".join(rule_update(port) for port in (53, 123, 389))
+
+
+class Run:
+    """The program with these words, in a folder of its own with a configuration and rules."""
+
+    def __init__(self, words, hold_time=0, rules=1):
+        self.folder = tempfile.TemporaryDirectory()
+        path = pathlib.Path(self.folder.name)
+        (path / "config").write_text(CONFIG.format(hold_time))
+        said = [f'[[rule]]\nfamily = "v4"\nnlri = "070381110591{port:04x}"\n' for port in range(rules)]
+        (path / "rules").write_text(RULES + "".join(said))
+        self.process = subprocess.Popen([PROGRAM, *words], cwd=path, stdout=subprocess.PIPE, stdin=subprocess.DEVNULL)
+
+    def end(self):
+        """What it wrote, and its status."""
+        written, _ = self.process.communicate(timeout=PATIENCE)
+        self.folder.cleanup()
+        return written.decode(), self.process.returncode
+
+
+def listing(octets, hold_time=0):
+    """What `rules` writes of a tape on which the peer sends these octets."""
+    with tempfile.TemporaryDirectory() as folder:
+        path = pathlib.Path(folder)
+        (path / "config").write_text(CONFIG.format(hold_time))
+        (path / "tape").write_bytes(b"FSTAPE1\n" + record(1, 1, b"") + record(2, 1, octets))
+        run = subprocess.run([PROGRAM, "rules", "config", "tape"], cwd=path, capture_output=True, timeout=PATIENCE)
+        return run.stdout.decode(), run.returncode
+
+
+def free_port(family, host):
+    with socket.socket(family) as probe:
+        probe.bind((host, 0))
+        return probe.getsockname()[1]
+
+
+def connect(port, host="127.0.0.1", family=socket.AF_INET):
+    """A connection to the program, once it listens."""
+    for _ in range(200):
+        end = socket.socket(family)
+        try:
+            end.connect((host, port))
+            end.settimeout(PATIENCE)
+            return end
+        except OSError:
+            end.close()
+            time.sleep(0.05)
+    raise TimeoutError("the program doesn't listen")
+
+
+def reset(end):
+    """Closes a connection by RST."""
+    end.setsockopt(socket.SOL_SOCKET, socket.SO_LINGER, struct.pack("ii", 1, 0))
+    end.close()
+
+
+def heard(end, count=None):
+    """What comes, up to the stream's end, or until so many octets are there."""
+    came = b""
+    while count is None or len(came) < count:
+        piece = end.recv(65536)
+        if not piece:
+            break
+        came += piece
+    return came
+
+
+def listened(behave, hold_time=0, host="127.0.0.1", family=socket.AF_INET):
+    """What the program says that listens, while the peer behaves so."""
+    port = free_port(family, host)
+    run = Run(["listen", "config", f"[{host}]:{port}" if ":" in host else f"{host}:{port}"], hold_time)
+    behave(connect(port, host, family))
+    return run.end()
+
+
+def announced(behave, rules=1, hold_time=0):
+    """What the program says that announces, and what the peer answers that behaves so."""
+    with socket.create_server(("127.0.0.1", 0)) as server:
+        server.settimeout(PATIENCE)
+        server.setsockopt(socket.SOL_SOCKET, socket.SO_RCVBUF, 4096)  # so that the rules don't all fit on the way
+        run = Run(["announce", "config", "rules", f"127.0.0.1:{server.getsockname()[1]}"], hold_time, rules)
+        end, _ = server.accept()
+        end.settimeout(PATIENCE)
+        seen = behave(end)
+        end.close()
+        return run.end(), seen
+
+
+def updates_in(octets):
+    """How many UPDATEs stand in these octets, which have to be whole messages."""
+    count = 0
+    while octets:
+        assert octets[:16] == MARKER, "no message"
+        length, kind = struct.unpack(">HB", octets[16:19])
+        assert length <= len(octets), "no whole message"
+        count, octets = count + (kind == 2), octets[length:]
+    return count
+
+
+HELLO = open_message(65001) + KEEPALIVE
+REPLY = open_message(65000) + KEEPALIVE
+
+
+def says(octets, close=socket.socket.close, wait=True):
+    """A peer that says this, hears the program's answer to its OPEN, and closes so."""
+    def behave(end):
+        end.sendall(octets)
+        if wait:
+            heard(end, 19)
+        close(end)
+    return behave
+
+
+def ends(end):
+    """Ends its own side, and hears the program out."""
+    end.shutdown(socket.SHUT_WR)
+    heard(end)
+    end.close()
+
+
+def slowly(end):
+    """Takes the session up, reads nothing for longer than most timeouts, and then all."""
+    end.sendall(REPLY)
+    time.sleep(7)
+    end.sendall(KEEPALIVE)
+    return updates_in(heard(end))
+
+
+def dripping(end):
+    """Reads all, and goes on sending an octet at a time for some seconds."""
+    end.sendall(REPLY)
+    count = updates_in(heard(end))
+    for octet in KEEPALIVE:
+        end.sendall(bytes([octet]))
+        time.sleep(0.1)
+    return count
+
+
+def tears_down(end):
+    """Takes the session up, and resets the connection before it has read all."""
+    end.sendall(REPLY)
+    heard(end, 200)
+    reset(end)
+
+
+def refuses(end):
+    """Answers the OPEN with a NOTIFICATION of a wrong AS, and leaves what comes unread."""
+    end.sendall(open_message(65000) + message(3, bytes([2, 2])))
+    time.sleep(0.3)
+
+
+def case_silent():
+    """A peer that is silent for longer than the hold time, and says something then (RFC 4271 section 6.5)."""
+    def behave(end):
+        end.sendall(open_message(65001, 3) + KEEPALIVE)
+        time.sleep(4)
+        end.sendall(KEEPALIVE)
+        heard(end)
+        end.close()
+    return listened(behave, hold_time=3) == ("session 4/0\n", 8)
+
+
+def case_refused():
+    run = Run(["announce", "config", "rules", f"127.0.0.1:{free_port(socket.AF_INET, '127.0.0.1')}"])
+    return run.end() == ("", 1)
+
+
+def case_keepalive_due():
+    """A close more than a third of the hold time behind the last KEEPALIVE: the answer that is due meets no reader."""
+    octets = open_message(65001, 3) + KEEPALIVE + UPDATES
+
+    def behave(end):
+        end.sendall(octets)
+        heard(end, 60)
+        time.sleep(1.5)
+        end.close()
+    return listened(behave, hold_time=3) == listing(octets, 3)
+
+
+CASES = {
+    "rules, then the end of the stream": lambda: listened(says(HELLO + UPDATES, ends)) == listing(HELLO + UPDATES),
+    "Cease, the program's KEEPALIVE unread": lambda: listened(says(HELLO + CEASE)) == ("session notified 6/2\n", 8),
+    "a reset behind the last UPDATE": lambda: listened(says(HELLO + UPDATES, reset)) == listing(HELLO + UPDATES),
+    "a close before the program's answer":
+        lambda: listened(says(HELLO + UPDATES, wait=False)) == listing(HELLO + UPDATES),
+    "a close where a KEEPALIVE is due": case_keepalive_due,
+    "IPv6": lambda: listened(says(HELLO + UPDATES, ends), host="::1", family=socket.AF_INET6) == listing(HELLO + UPDATES),
+    "a peer that is silent past the hold time": case_silent,
+    "nobody listens": case_refused,
+    "3,000 rules to a peer that is slow": lambda: announced(slowly, 3000) == (("sent 3000\n", 0), 3000),
+    "a peer that sends on behind the end": lambda: announced(dripping) == (("sent 1\n", 0), 1),
+    "a reset among the rules": lambda: announced(tears_down, 3000)[0] == ("", 1),
+    "a reset in answer to the OPEN": lambda: announced(reset)[0] == ("session ended\n", 8),
+    "a wrong AS": lambda: announced(refuses)[0] == ("session notified 2/2\n", 8),
+}
+
+
+def tried(name, case, outcomes):
+    try:
+        outcomes[name] = case()
+    except (OSError, AssertionError, subprocess.TimeoutExpired) as fault:
+        outcomes[name] = False
+        print(f"{name}: {fault!r}")
+
+
+def main():
+    outcomes = {}
+    threads = [threading.Thread(target=tried, args=(name, case, outcomes)) for name, case in CASES.items()]
+    for thread in threads:
+        thread.start()
+    for thread in threads:
+        thread.join()
+    for name in CASES:
+        if not outcomes[name]:
+            print(f"not as it should be: {name}")
+    passed = sum(outcomes.values())
+    print(f"{passed} passed, {len(CASES) - passed} failed")
+    return 0 if passed == len(CASES) else 1
+
+
+if __name__ == "__main__":
+    sys.exit(main())
