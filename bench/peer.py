@@ -191,10 +191,12 @@ def tears_down(end):
     reset(end)
 
 
-def refuses(end):
-    """Answers the OPEN with a NOTIFICATION of a wrong AS, and leaves what comes unread."""
-    end.sendall(open_message(65000) + message(3, bytes([2, 2])))
-    time.sleep(0.3)
+def refuses(asn):
+    """A peer of this AS that finds the program's wrong: OPEN, NOTIFICATION, and a reset, with the program's OPEN unread."""
+    def behave(end):
+        end.sendall(open_message(asn) + message(3, bytes([2, 2])))
+        reset(end)
+    return behave
 
 
 def case_silent():
@@ -239,7 +241,8 @@ CASES = {
     "a peer that sends on behind the end": lambda: announced(dripping) == (("sent 1\n", 0), 1),
     "a reset among the rules": lambda: announced(tears_down, 3000)[0] == ("", 1),
     "a reset in answer to the OPEN": lambda: announced(reset)[0] == ("session ended\n", 8),
-    "a wrong AS": lambda: announced(refuses)[0] == ("session notified 2/2\n", 8),
+    "a wrong AS": lambda: announced(refuses(65000))[0] == ("session notified 2/2\n", 8),
+    "a wrong AS at both ends": lambda: announced(refuses(65009))[0] == ("session 2/2\n", 8),
 }
 
 

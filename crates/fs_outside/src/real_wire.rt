@@ -21,6 +21,12 @@ const DRAINS: u32 = 1 << 30;
 /// So many connections of others to the port of joined ends are turned away.
 const STRANGERS: u32 = 1 << 16;
 
+/// A message has its type in this octet (RFC 4271 section 4.1).
+const TYPE: usize = 18;
+
+/// The type of an UPDATE.
+const UPDATE: u8 = 2;
+
 /// Each piece leaves at once, and a write waits for room no longer than `PATIENCE`.
 fn prepare<S: OpenStream>(stream: &S) -> io::Result<()> {
     stream.set_nodelay(true)?;
@@ -58,8 +64,8 @@ fn both<R: Net>(runtime: &R) -> io::Result<(R::Stream, R::Stream)> {
     Err(io::Error::from(ErrorKind::ConnectionRefused))
 }
 
-/// Whether the peer, or the system in its place, has torn the connection down. For BGP that is the end of the connection as
-/// a close is (RFC 4271 section 8.1.4, TcpConnectionFails).
+/// Whether the connection was torn down: by the peer, or by the system, which has had no answer for long. For BGP that is
+/// the end of the connection as a close is (RFC 4271 section 8.1.4, TcpConnectionFails).
 fn is_torn_down(error: &io::Error) -> bool {
     matches!(
         error.kind(),
@@ -67,6 +73,9 @@ fn is_torn_down(error: &io::Error) -> bool {
             | ErrorKind::ConnectionAborted
             | ErrorKind::BrokenPipe
             | ErrorKind::NotConnected
+            | ErrorKind::TimedOut
+            | ErrorKind::HostUnreachable
+            | ErrorKind::NetworkUnreachable
     )
 }
 
@@ -89,18 +98,24 @@ fn drain<R: Clock, S: Read + OpenStream>(runtime: &R, stream: &mut S) -> io::Res
     Ok(())
 }
 
-/// An end that is open, and whether it was written behind its last read: then nothing shows that the peer has read it.
+/// Whether a piece begins with an UPDATE.
+fn begins_update(piece: &[u8]) -> bool {
+    TYPE < piece.len() && piece[TYPE] == UPDATE
+}
+
+/// An end that is open, and whether UPDATEs were written to it. All else that an end writes opens the session or answers
+/// what it has read, and is of no more use once its peer has gone.
 #[derive(Drop)]
 struct End<S: Read + Write + OpenStream + Drop> {
     stream: S,
-    unheard: bool,
+    announced: bool,
 }
 
 impl<S: Read + Write + OpenStream + Drop> End<S> {
     fn new(stream: S) -> End<S> {
         End {
             stream,
-            unheard: false,
+            announced: false,
         }
     }
 
@@ -108,7 +123,6 @@ impl<S: Read + Write + OpenStream + Drop> End<S> {
     fn read(&mut self, into: &mut [u8]) -> io::Result<usize>
         ensures { ReadsAtMost result into.new }
     {
-        self.unheard = false;
         match self.stream.read(into) {
             Err(error) if is_torn_down(&error) => Ok(0),
             read => read,
@@ -120,7 +134,7 @@ impl<S: Read + Write + OpenStream + Drop> End<S> {
     fn write(&mut self, piece: &[u8]) -> io::Result<usize>
         ensures { IfOk result (λ n. n ≤ length piece.now) }
     {
-        self.unheard = true;
+        self.announced = self.announced || begins_update(piece);
         match self.stream.write(piece) {
             Err(error) if is_torn_down(&error) => Ok(piece.len()),
             written => written,
@@ -128,12 +142,11 @@ impl<S: Read + Write + OpenStream + Drop> End<S> {
     }
 
     /// Ends the writing side and, where `drains` says so, waits for the peer's close. Where the connection was torn down,
-    /// nothing is left to be closed; what was written behind the last read is lost then, which is a fault where it
-    /// `matters`.
-    fn close<R: Clock>(&mut self, runtime: &R, matters: bool, drains: bool) -> io::Result<()> {
+    /// nothing is left to be closed; that UPDATEs may be lost then is a fault.
+    fn close<R: Clock>(&mut self, runtime: &R, drains: bool) -> io::Result<()> {
         match self.stream.shutdown(Shutdown::Write) {
             Ok(()) => {}
-            Err(error) if is_torn_down(&error) && !(matters && self.unheard) => return Ok(()),
+            Err(error) if is_torn_down(&error) && !self.announced => return Ok(()),
             Err(error) => return Err(error),
         }
         if drains {
@@ -213,8 +226,7 @@ impl<S: Read + Write + OpenStream + Drop> Streams<S> {
         }
     }
 
-    /// Closes an end for writing. What end 0 writes are answers to what it has read, and are of no more use once the peer
-    /// has gone.
+    /// Closes an end for writing.
     fn close<R: Clock>(&mut self, runtime: &R, end: u8) -> Result<(), Failed>
         requires { end ≤ 1 }
         ensures cause { HasCause self.old.faults self.new.faults result }
@@ -223,7 +235,7 @@ impl<S: Read + Write + OpenStream + Drop> Streams<S> {
         let Some(open) = &mut self.ends[end as usize] else {
             return Ok(());
         };
-        match open.close(runtime, end == 1, drains) {
+        match open.close(runtime, drains) {
             Ok(()) => Ok(()),
             Err(_) => Err(fault(&mut self.faults)),
         }
