@@ -6,12 +6,12 @@ use Rattle.std.proofs.lemmas.Grind.{common_steps}
 use Rattle.fs_base.specs.Sink.{Grew, GrewPart}
 
 -- nothing was written
-pub Grew-refl : (a : Option (List ℕ)) → Grew a a []
+pub Grew-refl : {A : Type 0} (a : Option (List A)) → Grew a a []
 Grew-refl None = tt
 Grew-refl (Some octets) = grind (arith, common_steps)
 
 -- one piece, and then another
-pub Grew-trans : (a b c : Option (List ℕ)) (xs ys : List ℕ) → Grew a b xs → Grew b c ys → Grew a c (xs ++ ys)
+pub Grew-trans : {A : Type 0} (a b c : Option (List A)) (xs ys : List A) → Grew a b xs → Grew b c ys → Grew a c (xs ++ ys)
 Grew-trans a b None xs ys first later = tt
 Grew-trans a None (Some now) xs ys first later = absurd later
 Grew-trans None (Some before) (Some now) xs ys first later = absurd first

@@ -5,6 +5,8 @@ pub mod Parts
 pub mod Blocks
 pub mod Grew
 pub mod Writing
+pub mod Backs
+pub mod Drawing
 pub mod Filled
 pub mod Covers
 pub mod Nesting

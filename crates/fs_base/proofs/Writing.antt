@@ -1,5 +1,5 @@
 -- The loop that writes a whole piece: so much was written, and so much is left.
-use Rattle.std.proofs.Common.{◌≡◌, ℕ, List, [], ◌++◌, Option, take, drop, ap, sym, ◌∙◌, append_assoc}
+use Rattle.std.proofs.Common.{◌≡◌, ◌<◌, ◌+◌, ℕ, List, [], ◌++◌, Option, length, take, drop, ap, sym, ◌∙◌, arith, append_assoc, length-append}
 use Rattle.std.proofs.lemmas.List.{take-append-drop}
 use Rattle.fs_base.specs.Sink.{Grew, GrewPart}
 use Rattle.fs_base.proofs.Grew.{Grew-trans, part_then, part_none}
@@ -16,6 +16,13 @@ writing_more piece rest before now later n w grew = record {
   split = w.split ∙ ap (λ octets. w.done ++ octets) (sym (take-append-drop n rest)) ∙ sym (append_assoc w.done (take n rest) (drop n rest));
   grew = Grew-trans before now later w.done (take n rest) w.grew grew;
 }
+
+-- what is still to be written is of the piece
+pub writing_some : (piece rest : List ℕ) (before now : Option (List ℕ)) → Writing piece rest before now → 0 < length rest
+    → length piece ≡ 0 → ⊥
+writing_some piece rest before now w some none =
+    let size : length piece ≡ length w.done + length rest = ap length w.split ∙ length-append w.done rest in
+    omega (arith, size, some, none)
 
 pub writing_part : (piece rest : List ℕ) (before now later : Option (List ℕ))
     → Writing piece rest before now → Grew now later [] → GrewPart before later piece

@@ -5,11 +5,14 @@ pub mod Prefix
 pub mod Search
 pub mod Laws
 pub mod Config
+pub mod Link
 pub use Rattle.fs_outside.specs.Outside
 pub use Rattle.fs_outside.specs.Files
 pub use Rattle.fs_outside.specs.Sink
 pub use Rattle.fs_outside.specs.Wire
 pub mod Happened
+pub mod Back
 pub mod Counted
+pub mod Draws
 pub mod Filling
 pub mod Whole

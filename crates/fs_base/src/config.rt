@@ -25,7 +25,7 @@ pub struct Peer {
 }
 
 /// The peers in the order of the configuration.
-#[derive(Drop)]
+#[derive(Debug, Drop)]
 pub struct Peers {
     items: Vec<Peer>,
 }
@@ -62,12 +62,34 @@ impl Peers {
     }
 }
 
+impl PartialEq for Peers {
+    ghost use Rattle.std.specs.Cmp.Lexicographic.{pointwise, lists_equiv};
+    ghost use Rattle.std.specs.Cmp.{partial_equiv_from_equiv};
+    ghost use Rattle.fs_base.specs.contracts.config.PeerPartialEq.TheImpl.{ghosts};
+    ghost use Rattle.fs_base.specs.contracts.config.PeerEq.TheImpl.Laws.{laws-law};
+
+    ghost eq = { pointwise ghosts.eq };
+
+    ghost laws = { partial_equiv_from_equiv (lists_equiv laws-law) };
+
+    fn eq(&self, other: &Peers) -> bool {
+        self.items == other.items
+    }
+}
+
+impl Eq for Peers {
+    ghost use Rattle.std.specs.Cmp.Lexicographic.{lists_equiv};
+    ghost use Rattle.fs_base.specs.contracts.config.PeerEq.TheImpl.Laws.{laws-law};
+
+    ghost laws = { lists_equiv laws-law };
+}
+
 /// The configuration. `local_id` is the local BGP identifier in host order. A peer is external where its
 /// AS isn't `local_as`. `allow_no_destination` takes flow routes without a destination prefix (RFC 9117
 /// section 4.1, rule a); `empty_path_valid` takes those that originate in the local AS (RFC 9117 section
 /// 4.1, rule b.2). `hold_time` is the hold time that OPEN offers, in seconds: 0, or 3 and more (RFC 4271
 /// section 4.2).
-#[derive(Drop)]
+#[derive(Debug, PartialEq, Eq, Drop)]
 pub struct Config {
     pub local_as: u32,
     pub local_id: u32,

@@ -19,7 +19,7 @@ pub enum Stop {
 }
 
 /// A slot that is read up to a limit of octets.
-#[derive(Drop)]
+#[derive(Clone, Copy, Debug, Drop)]
 pub struct Counted {
     /// The slot of the files, 0 to 2.
     pub slot: u8,
@@ -32,9 +32,12 @@ pub struct Counted {
     pub ghost slots: { slot ≤ 2 },
     pub ghost within: { taken ≤ limit },
     pub ghost again: { taken + length back ≤ limit },
+    pub ghost few: { length back ≤ 4 },
 }
 
 impl Counted {
+    ghost use Rattle.fs_base.specs.Draws.{Draws};
+
     /// A slot of which nothing was taken yet.
     pub fn new(slot: u8, limit: u64) -> Counted
         requires { slot ≤ 2 }
@@ -51,17 +54,17 @@ impl Counted {
         }
     }
 
-    /// Puts octets back that were just read. They count as not taken, and the next reads give them first.
+    /// Puts octets back that were just read, at most four. They count as not taken, and the next reads give them first,
+    /// before any that are put back already: what was just read came before these, so at most four are put back together.
     pub fn put_back(&mut self, octets: &[u8])
-        requires few { length octets.now ≤ 4 }
+        requires few { length octets.now + length self.old.back ≤ 4 }
         requires read { length octets.now ≤ self.old.taken }
-        requires none { self.old.back ≡ [] }
         ensures slot { self.new.slot ≡ self.old.slot }
         ensures limit { self.new.limit ≡ self.old.limit }
         ensures taken { self.new.taken + length octets.now ≡ self.old.taken }
-        ensures back { self.new.back ≡ octets.now }
+        ensures back { self.new.back ≡ octets.now ++ self.old.back }
     {
-        self.back = Back::of(octets);
+        self.back.put(octets);
         self.taken -= octets.len() as u64;
     }
 
@@ -89,6 +92,9 @@ impl Counted {
             into.new }
         ensures back { self.new.back ≡ drop (given_by result) self.old.back }
         ensures none { self.old.back ≡ [] → self.new.back ≡ [] }
+        ensures took { IsTrue F.tells
+            → Draws self.old self.new (F.left files.old self.old.slot) (F.left files.new self.old.slot) }
+        ensures opened { F.opened files.new ≡ F.opened files.old }
         ensures others { OnlySlot F.tells F.left F.holds self.old.slot files.old files.new }
     {
         let room = self.limit - self.taken;

@@ -5,6 +5,7 @@ ghost use Rattle.fs_base.specs.Files.{OnlySlot};
 ghost use Rattle.fs_base.specs.Outside.{Rose};
 ghost use Rattle.fs_base.specs.Parts.{window};
 ghost use Rattle.fs_base.specs.Filling.{Fills};
+ghost use Rattle.fs_base.specs.Draws.{Draws};
 
 use super::{Counted, Failed, Files, Stop};
 
@@ -35,6 +36,9 @@ pub fn fill<F: Files>(
         into.new) }
     ensures back { IfOk result (λ n. counted.new.back ≡ drop n counted.old.back) }
     ensures none { counted.old.back ≡ [] → counted.new.back ≡ [] }
+    ensures took { IsTrue F.tells
+        → Draws counted.old counted.new (F.left files.old counted.old.slot) (F.left files.new counted.old.slot) }
+    ensures opened { F.opened files.new ≡ F.opened files.old }
     ensures others { OnlySlot F.tells F.left F.holds counted.old.slot files.old files.new }
 {
     let mut at = 0;

@@ -1,4 +1,4 @@
-//! Prefixes, routes' paths, the configuration, and all of `fs_outside`, by which the program meets the outside.
+//! Prefixes, routes' paths, the configuration, link types, and all of `fs_outside`, by which the program meets the outside.
 #![tactic(auto)]
 
 mod back;
@@ -7,6 +7,7 @@ mod config;
 mod counted;
 mod filling;
 mod laws;
+mod link;
 mod path;
 mod prefix;
 mod steps;
@@ -22,6 +23,7 @@ pub use fs_outside::{
     Memory, Opening, RealClock, RealFiles, RealOut, RealWire, Sink, StillClock, Wire,
 };
 pub use laws::precedence;
+pub use link::Link;
 pub use path::{
     AS_CONFED_SEQUENCE, AS_CONFED_SET, AS_SEQUENCE, AS_SET, Numbers, Path, Segment, Segments,
 };

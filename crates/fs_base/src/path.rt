@@ -7,7 +7,7 @@ use std::alloc::Global;
 use std::marker::Model;
 
 /// The AS numbers of one segment, in the order of the AS_PATH.
-#[derive(Drop)]
+#[derive(Debug, Drop)]
 pub struct Numbers {
     items: Vec<u32>,
 }
@@ -52,6 +52,26 @@ impl Numbers {
     }
 }
 
+impl PartialEq for Numbers {
+    ghost use Rattle.std.specs.Prelude.{nat_eq};
+    ghost use Rattle.std.specs.Cmp.Lexicographic.{pointwise, nat_list_eq_equiv};
+    ghost use Rattle.std.specs.Cmp.{partial_equiv_from_equiv};
+
+    ghost eq = { pointwise nat_eq };
+
+    ghost laws = { partial_equiv_from_equiv nat_list_eq_equiv };
+
+    fn eq(&self, other: &Numbers) -> bool {
+        self.items == other.items
+    }
+}
+
+impl Eq for Numbers {
+    ghost use Rattle.std.specs.Cmp.Lexicographic.{nat_list_eq_equiv};
+
+    ghost laws = { nat_list_eq_equiv };
+}
+
 /// The form of an AS_SET (RFC 4271 section 4.3).
 pub const AS_SET: u8 = 1;
 
@@ -65,7 +85,7 @@ pub const AS_CONFED_SEQUENCE: u8 = 3;
 pub const AS_CONFED_SET: u8 = 4;
 
 /// One segment of an AS_PATH. Its form is that of one of the four kinds, `AS_SET` to `AS_CONFED_SET`.
-#[derive(Drop)]
+#[derive(Debug, PartialEq, Eq, Drop)]
 pub struct Segment {
     pub form: u8,
     pub numbers: Numbers,
@@ -84,7 +104,7 @@ impl Segment {
 }
 
 /// The segments of an AS_PATH, in order.
-#[derive(Drop)]
+#[derive(Debug, Drop)]
 pub struct Segments {
     items: Vec<Segment>,
 }
@@ -130,6 +150,28 @@ impl Segments {
     }
 }
 
+impl PartialEq for Segments {
+    ghost use Rattle.std.specs.Cmp.Lexicographic.{pointwise, lists_equiv};
+    ghost use Rattle.std.specs.Cmp.{partial_equiv_from_equiv};
+    ghost use Rattle.fs_base.specs.contracts.path.SegmentPartialEq.TheImpl.{ghosts};
+    ghost use Rattle.fs_base.specs.contracts.path.SegmentEq.TheImpl.Laws.{laws-law};
+
+    ghost eq = { pointwise ghosts.eq };
+
+    ghost laws = { partial_equiv_from_equiv (lists_equiv laws-law) };
+
+    fn eq(&self, other: &Segments) -> bool {
+        self.items == other.items
+    }
+}
+
+impl Eq for Segments {
+    ghost use Rattle.std.specs.Cmp.Lexicographic.{lists_equiv};
+    ghost use Rattle.fs_base.specs.contracts.path.SegmentEq.TheImpl.Laws.{laws-law};
+
+    ghost laws = { lists_equiv laws-law };
+}
+
 fn copy_segments(alloc: Global, segments: &[Segment]) -> Result<Vec<Segment>, Memory>
     ensures { IfOk result (λ copy. copy.items ≡ segments.now) }
 {
@@ -143,7 +185,7 @@ fn copy_segments(alloc: Global, segments: &[Segment]) -> Result<Vec<Segment>, Me
 /// What a route's attributes say. `origin` is 0 for IGP, 1 for EGP, 2 for INCOMPLETE (RFC 4271 section
 /// 5.1.1). `local_pref` is 100 where no LOCAL_PREF counts. `originator` is the ORIGINATOR_ID (RFC 4456
 /// section 8) in host order. `external` tells whether the route came from an external peer.
-#[derive(Drop)]
+#[derive(Debug, PartialEq, Eq, Drop)]
 pub struct Path {
     pub segments: Segments,
     pub local_pref: u32,

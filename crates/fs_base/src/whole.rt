@@ -2,6 +2,7 @@
 
 ghost use Rattle.std.specs.Prelude.{◌≡◌, ◌≢◌, ◌≤◌, ℕ, IsTrue, IfOk};
 ghost use Rattle.std.specs.Result.{IsErrOf};
+ghost use Rattle.fs_base.specs.Draws.{PassedWithin};
 ghost use Rattle.fs_base.specs.Whole.{IsWhole};
 ghost use Rattle.fs_base.specs.Files.{OnlySlot};
 ghost use Rattle.fs_base.specs.Outside.{Rose};
@@ -53,6 +54,8 @@ pub fn read_whole<F: Files>(
     ensures failed { IsErrOf result ReadStop.Failed → Rose (F.faults files.old) (F.faults files.new) }
     ensures later { F.faults files.old ≤ F.faults files.new }
     ensures content { IsTrue F.tells → IfOk result (IsWhole limit (F.left files.old slot)) }
+    ensures took { IsTrue F.tells → PassedWithin limit (F.left files.old slot) (F.left files.new slot) }
+    ensures opened { F.opened files.new ≡ F.opened files.old }
     ensures others { OnlySlot F.tells F.left F.holds slot files.old files.new }
 {
     let mut counted = Counted::new(slot, limit);

@@ -1,12 +1,12 @@
 //! Writing a whole piece.
 
-ghost use Rattle.std.specs.Prelude.{OnOk, OnErr};
+ghost use Rattle.std.specs.Prelude.{◌≡◌, IsOk, OnOk, OnErr, length};
 ghost use Rattle.fs_base.specs.Outside.{HasCause};
 ghost use Rattle.fs_base.specs.Sink.{Grew, GrewPart};
 
 use crate::{Failed, Sink};
 
-/// Writes the whole of `piece`.
+/// Writes the whole of `piece`. An empty piece leaves the sink untouched.
 ///
 /// # Errors
 ///
@@ -14,6 +14,7 @@ use crate::{Failed, Sink};
 pub fn write_all<S: Sink>(sink: &mut S, piece: &[u8]) -> Result<(), Failed>
     ensures cause { HasCause (S.faults sink.old) (S.faults sink.new) result }
     ensures ok { OnOk result (Grew (S.written sink.old) (S.written sink.new) piece.now) }
+    ensures idle { length piece.now ≡ 0 → (IsOk result) × (sink.new ≡ sink.old) }
     ensures err { OnErr result (GrewPart (S.written sink.old) (S.written sink.new) piece.now) }
 {
     let mut rest = piece;

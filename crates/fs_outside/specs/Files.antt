@@ -1,5 +1,13 @@
 -- What a call on files does to the slot that it names, and that it leaves all else.
-use Rattle.std.specs.Prelude.{ℕ, List, [], ◌++◌, Option, Result, Ok, Err, Bool, IsTrue, ◌≡◌, ◌≢◌, ◌<◌, length, take, MatchResult, unwrap_or}
+use Rattle.std.specs.Prelude.{ℕ, List, [], ◌∷◌, ◌++◌, Option, Result, Ok, Err, Bool, IsTrue, ◌≡◌, ◌≢◌, ◌<◌, length, take, MatchResult, unwrap_or}
+
+-- an opening: of this name, in this slot
+pub record Opened : Type 0 where
+  pub slot : ℕ
+  pub name : List ℕ
+
+abbrev pub one_opening : ℕ → List ℕ → List Opened
+one_opening slot name = record { slot = slot; name = name } ∷ []
 
 -- what a slot has left behind an opening: the file's octets, or none where it isn't there or the call failed
 abbrev pub opened_content : {E : Type 0} → Result Bool E → Option (List ℕ) → List ℕ

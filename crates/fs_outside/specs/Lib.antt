@@ -1,5 +1,6 @@
 pub mod Outside
 pub mod Files
+pub mod Noted
 pub mod Sink
 pub mod Wire
 pub mod MemoryFiles
@@ -7,3 +8,4 @@ pub mod MemorySinks
 pub mod Cabled
 pub mod MemoryWires
 pub mod Moments
+pub mod Real

@@ -1,6 +1,7 @@
 -- Files in memory: what each name holds, and what each slot has left to be read.
 use Rattle.std.specs.Prelude.{ℕ, List, [], ◌∷◌, Option, Some, None, Bool, ◌≡◌, if◌then◌else◌, is_some, position, drop, slice_get, slice_index_or, string_bytes}
 use Rattle.std.specs.Str.{bytes_eq}
+use Rattle.fs_outside.specs.Files.{Opened}
 use Rattle.fs_outside.specs.declared.shelf.HeldFile.{HeldFile}
 use Rattle.fs_outside.specs.declared.shelf.Slot.{Slot}
 use Rattle.fs_outside.specs.declared.shelf.Shelf.{Shelf}
@@ -47,6 +48,9 @@ mem_files_holds files name = content_named files.shelf.files.items name
 abbrev pub mem_files_left : MemFiles → ℕ → List ℕ
 mem_files_left files slot = shelf_left files.shelf slot
 
+abbrev pub mem_files_opened : MemFiles → Option (List Opened)
+mem_files_opened files = files.openings
+
 -- the calls that fail, by their numbers
 abbrev pub mem_files_failing : MemFiles → List ℕ
 mem_files_failing files = files.failing.items
@@ -67,3 +71,6 @@ calm_files_holds files name = content_named files.shelf.files.items name
 
 abbrev pub calm_files_left : CalmFiles → ℕ → List ℕ
 calm_files_left files slot = shelf_left files.shelf slot
+
+abbrev pub calm_files_opened : CalmFiles → Option (List Opened)
+calm_files_opened files = files.openings

@@ -1,6 +1,7 @@
 -- What clocks in memory answer.
 use Rattle.std.specs.Prelude.{ℕ, List, ◌++◌, Option, Some, None, ◌-◌, ◌^◌, length, nat_lt, if◌then◌else◌, take, replicate, get_or}
 use Rattle.fs_outside.specs.declared.clocks.MemClock.{MemClock}
+use Rattle.fs_outside.specs.declared.clocks.StillClock.{StillClock}
 
 -- the last of the moments, 0 where there is none
 abbrev pub last_of : List ℕ → ℕ
@@ -23,3 +24,6 @@ mem_clock_moments clock = clock.moments.items
 
 abbrev pub mem_clock_calls : MemClock → ℕ
 mem_clock_calls clock = clock.calls
+
+abbrev pub still_clock_calls : StillClock → ℕ
+still_clock_calls clock = clock.calls

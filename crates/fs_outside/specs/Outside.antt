@@ -11,6 +11,7 @@ pub record HasCause {T E : Type 0} (before now : ℕ) (result : Result T E) : Ty
   pub later : before ≤ now
   pub failed : OnErr result (Rose before now)
 
--- the calls that fail are listed by their numbers, from 0
+-- The calls that fail are listed by their numbers: behind so many calls, the next one is listed. The first call is number
+-- 1, and the count of the calls stops at 2^64 - 1.
 abbrev pub fails_at : List ℕ → ℕ → Bool
-fails_at failing call = list_any (λ listed. listed == call) failing
+fails_at failing calls = list_any (λ listed. listed == min (calls + 1) (2 ^ 64 - 1)) failing

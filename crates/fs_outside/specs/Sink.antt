@@ -1,8 +1,9 @@
--- What a sink tells of what was written, before and behind a call. What a clock tells of its answers grows in the same way.
+-- What a sink tells of what was written, before and behind a call. What a clock tells of its answers grows in the same way,
+-- and what files tell of their openings.
 use Rattle.std.specs.Prelude.{ℕ, List, [], ◌++◌, Option, Some, None, Result, ◌≡◌, take, ⊤, MatchResult}
 
 -- What is told now was told before, and has grown by bs. What tells nothing never tells again.
-abbrev pub Grew : Option (List ℕ) → Option (List ℕ) → List ℕ → Type 0
+abbrev pub Grew : {A : Type 0} → Option (List A) → Option (List A) → List A → Type 0
 Grew old None bs = ⊤
 Grew None (Some now) bs = ⊥
 Grew (Some before) (Some now) bs = now ≡ before ++ bs

@@ -56,19 +56,26 @@ pub struct StillClock {
 }
 
 impl StillClock {
+    ghost use Rattle.fs_outside.specs.Moments.{still_clock_calls};
+
     /// A clock that has answered nothing yet.
     pub fn new() -> StillClock
-        ensures { result.calls ≡ 0 }
+        ensures { still_clock_calls result ≡ 0 }
     {
         StillClock { calls: 0 }
     }
 }
 
 impl Clock for StillClock {
-    ghost answers = { λ clock. told_answers [] clock.calls };
+    ghost use Rattle.fs_outside.specs.Moments.{still_clock_calls};
+
+    ghost answers = { λ clock. told_answers [] (still_clock_calls clock) };
 
     fn now(&mut self) -> u64
-        ensures answered { Grew (told_answers [] self.old.calls) (told_answers [] self.new.calls) (result ∷ []) }
+        ensures answered { Grew
+            (told_answers [] (still_clock_calls self.old))
+            (told_answers [] (still_clock_calls self.new))
+            (result ∷ []) }
         ensures still { result ≡ 0 }
     {
         self.calls = self.calls.saturating_add(1);

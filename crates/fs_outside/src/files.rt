@@ -2,8 +2,9 @@
 
 ghost use Rattle.std.specs.Prelude.{◌≡◌, ◌≢◌, ◌↔◌, ◌≤◌, ℕ, Bool, List, Option, IsTrue, IsSome, IfOk};
 ghost use Rattle.std.specs.Io.{ReadsAtMost};
-ghost use Rattle.fs_outside.specs.Files.{OnlySlot, ReadTakes, opened_content};
+ghost use Rattle.fs_outside.specs.Files.{OnlySlot, Opened, ReadTakes, one_opening, opened_content};
 ghost use Rattle.fs_outside.specs.Outside.{HasCause};
+ghost use Rattle.fs_outside.specs.Sink.{Grew};
 
 /// A call on the outside failed. It took and gave nothing where the content is known, and the fault is counted.
 #[derive(Clone, Copy, Debug, PartialEq, Eq, Drop)]
@@ -23,6 +24,9 @@ pub trait Files {
     /// What a slot has left to be read.
     ghost left: { Self → ℕ → List ℕ };
 
+    /// The openings so far, in order, whatever they answered, where the files tell them.
+    ghost opened: { Self → Option (List Opened) };
+
     /// The faults so far, at most 2^64 - 1.
     ghost faults: { Self → ℕ };
 
@@ -37,6 +41,7 @@ pub trait Files {
         ensures answered { IfOk result (λ _. faults self.new ≡ faults self.old) }
         ensures found { IsTrue tells → IfOk result (λ found. IsTrue found ↔ IsSome (holds self.old name.now)) }
         ensures left { IsTrue tells → left self.new slot ≡ opened_content result (holds self.old name.now) }
+        ensures opened { Grew (opened self.old) (opened self.new) (one_opening slot name.now) }
         ensures others { OnlySlot tells left holds slot self.old self.new };
 
     /// Reads octets of `slot` into the front of `into` and answers how many: 0 only at the end of the input or
@@ -50,5 +55,6 @@ pub trait Files {
         ensures bound { ReadsAtMost result into.new }
         ensures cause { HasCause (faults self.old) (faults self.new) result }
         ensures left { IsTrue tells → ReadTakes (left self.old slot) (left self.new slot) result into.new }
+        ensures opened { opened self.new ≡ opened self.old }
         ensures others { OnlySlot tells left holds slot self.old self.new };
 }

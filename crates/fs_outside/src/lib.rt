@@ -9,6 +9,7 @@ mod memory;
 mod memory_files;
 mod memory_sinks;
 mod memory_wires;
+mod openings;
 mod real;
 mod real_clock;
 mod real_wire;

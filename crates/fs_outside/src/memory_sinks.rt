@@ -7,7 +7,7 @@ ghost use Rattle.fs_outside.specs.Sink.{WriteGrew};
 use crate::{Failed, Memory, Sink};
 use std::alloc::Global;
 
-/// A sink in memory with room for a stated count of octets. Its writes are counted from 0, and those that a list
+/// A sink in memory with room for a stated count of octets. Its writes are counted from 1, and those that a list
 /// names fail, as does a write past the room.
 #[derive(Drop)]
 pub struct MemSink {
@@ -88,8 +88,8 @@ impl Sink for MemSink {
         ensures failing { mem_sink_failing self.new ≡ mem_sink_failing self.old }
         ensures calls { mem_sink_calls self.new ≡ min (mem_sink_calls self.old + 1) (2 ^ 64 - 1) }
     {
-        let listed = self.failing.contains(&self.calls);
         self.calls = self.calls.saturating_add(1);
+        let listed = self.failing.contains(&self.calls);
         let count = piece.len().min(self.most);
         if listed
             || self.room - self.text.len() < count

@@ -9,7 +9,7 @@ use crate::cable::Cable;
 use crate::{Failed, Memory, Opening, Wire};
 use std::alloc::Global;
 
-/// A wire in memory. Its calls are counted from 0, and those that a list names fail, as does a write past the room. An
+/// A wire in memory. Its calls are counted from 1, and those that a list names fail, as does a write past the room. An
 /// end that listens or dials gives what was handed in for it; joined ends give what was written through the other. A
 /// read of 0 octets at a joined end says only that nothing is in flight.
 #[derive(Drop)]
@@ -110,8 +110,8 @@ impl MemWire {
         ensures failing { self.new.failing ≡ self.old.failing }
         ensures most { self.new.most ≡ self.old.most }
     {
-        let listed = self.failing.contains(&self.calls);
         self.calls = self.calls.saturating_add(1);
+        let listed = self.failing.contains(&self.calls);
         listed
     }
 }

@@ -74,9 +74,11 @@ pub struct RealFiles<'a, R: rt::Files> {
 }
 
 impl<'a, R: rt::Files> RealFiles<'a, R> {
+    ghost use Rattle.fs_outside.specs.Real.{real_files_faults};
+
     /// No slot is open, and no call has failed.
     pub fn new(alloc: Global, runtime: &'a R) -> RealFiles<'a, R>
-        ensures faults { result.slots.faults ≡ 0 }
+        ensures faults { real_files_faults result ≡ 0 }
     {
         let slots = Slots {
             readers: [None, None, None],
@@ -92,6 +94,7 @@ impl<'a, R: rt::Files> RealFiles<'a, R> {
 
 impl<'a, R: rt::Files> Files for RealFiles<'a, R> {
     ghost use Rattle.std.specs.Prelude.{false, None, []};
+    ghost use Rattle.fs_outside.specs.Real.{real_files_faults};
 
     ghost tells = { false };
 
@@ -99,7 +102,9 @@ impl<'a, R: rt::Files> Files for RealFiles<'a, R> {
 
     ghost left = { λ files slot. [] };
 
-    ghost faults = { λ files. files.slots.faults };
+    ghost opened = { λ files. None };
+
+    ghost faults = { real_files_faults };
 
     fn open_file(&mut self, slot: u8, name: &str) -> Result<bool, Failed> {
         let opened = fs::open(self.runtime, name);
@@ -119,9 +124,11 @@ pub struct RealOut<W: Write + Drop> {
 }
 
 impl<W: Write + Drop> RealOut<W> {
+    ghost use Rattle.fs_outside.specs.Real.{real_out_faults};
+
     /// A sink that writes to `writer`, of which no write has failed.
     pub fn new(writer: W) -> RealOut<W>
-        ensures faults { result.faults ≡ 0 }
+        ensures faults { real_out_faults result ≡ 0 }
     {
         RealOut { writer, faults: 0 }
     }
@@ -129,10 +136,11 @@ impl<W: Write + Drop> RealOut<W> {
 
 impl<W: Write + Drop> Sink for RealOut<W> {
     ghost use Rattle.std.specs.Prelude.{None};
+    ghost use Rattle.fs_outside.specs.Real.{real_out_faults};
 
     ghost written = { λ out. None };
 
-    ghost faults = { λ out. out.faults };
+    ghost faults = { real_out_faults };
 
     fn write(&mut self, piece: &[u8]) -> Result<usize, Failed> {
         match self.writer.write(piece) {

@@ -15,9 +15,11 @@ pub struct RealClock<'a, R: time::Clock> {
 }
 
 impl<'a, R: time::Clock> RealClock<'a, R> {
+    ghost use Rattle.fs_outside.specs.Real.{real_clock_last};
+
     /// A clock whose last answer is 0.
     pub fn new(runtime: &'a R) -> RealClock<'a, R>
-        ensures { result.last ≡ 0 }
+        ensures { real_clock_last result ≡ 0 }
     {
         RealClock {
             runtime,

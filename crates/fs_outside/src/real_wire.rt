@@ -251,9 +251,11 @@ pub struct RealWire<'a, R: Net + Clock> {
 }
 
 impl<'a, R: Net + Clock> RealWire<'a, R> {
+    ghost use Rattle.fs_outside.specs.Real.{real_wire_faults};
+
     /// No end is open, and no call has failed.
     pub fn new(runtime: &'a R) -> RealWire<'a, R>
-        ensures faults { result.streams.faults ≡ 0 }
+        ensures faults { real_wire_faults result ≡ 0 }
     {
         let streams = Streams {
             ends: [None, None],
@@ -266,10 +268,11 @@ impl<'a, R: Net + Clock> RealWire<'a, R> {
 
 impl<'a, R: Net + Clock> Wire for RealWire<'a, R> {
     ghost use Rattle.std.specs.Prelude.{None};
+    ghost use Rattle.fs_outside.specs.Real.{real_wire_faults};
 
     ghost tells = { λ wire. None };
 
-    ghost faults = { λ wire. wire.streams.faults };
+    ghost faults = { real_wire_faults };
 
     fn open_end(&mut self, how: Opening<'_>) -> Result<(), Failed> {
         match how {

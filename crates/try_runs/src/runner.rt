@@ -290,7 +290,7 @@ impl Runner {
     /// written all. None where a run ends otherwise.
     fn calls(&mut self, called: Called) -> Result<Option<u64>, Fault> {
         for call in 0..CALLS {
-            match self.ended(called, call)? {
+            match self.ended(called, call + 1)? {
                 Ended::Whole => return Ok(Some(call)),
                 Ended::Front => (),
                 Ended::Otherwise => return Ok(None),
@@ -299,7 +299,7 @@ impl Runner {
         Ok(None)
     }
 
-    /// How the run ends of which this call fails.
+    /// How the run ends of which the call of this number, from 1, fails.
     fn ended(&mut self, called: Called, call: u64) -> Result<Ended, Fault> {
         self.terms.failing = Failing::new(self.alloc);
         match called {

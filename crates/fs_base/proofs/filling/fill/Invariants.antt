@@ -1,4 +1,5 @@
 use Rattle.std.proofs.Common.{◌≡◌, ◌≤◌, ◌+◌, ◌-◌, ◌++◌, [], drop, length, IsTrue}
+use Rattle.fs_base.specs.Draws.{Draws}
 use Rattle.fs_base.specs.Files.{OnlySlot}
 use Rattle.fs_base.proofs.Filled.{Filled}
 use Rattle.fs_base.proofs.filling.fill.Given as goal
@@ -20,6 +21,10 @@ invariant-loop-at g l = record {
       l.at;
   again : l.counted.back ≡ drop l.at l.fn.counted.back;
   none : l.fn.counted.back ≡ [] → l.counted.back ≡ [];
+  took :
+      IsTrue g.F.Files.tells
+      → Draws l.fn.counted l.counted (g.F.Files.left l.fn.files l.fn.counted.slot) (g.F.Files.left l.files l.fn.counted.slot);
+  opened : g.F.Files.opened l.files ≡ g.F.Files.opened l.fn.files;
   others : OnlySlot g.F.Files.tells g.F.Files.left g.F.Files.holds l.fn.counted.slot l.fn.files l.files;
 }
 

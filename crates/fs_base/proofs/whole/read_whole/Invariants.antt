@@ -1,4 +1,5 @@
 use Rattle.std.proofs.Common.{◌≡◌, ◌≤◌, ◌-◌, ◌++◌, [], length, IsTrue}
+use Rattle.fs_base.specs.Draws.{Passed}
 use Rattle.fs_base.specs.Files.{OnlySlot}
 use Rattle.fs_base.proofs.whole.read_whole.Given as goal
 
@@ -10,6 +11,10 @@ invariant-loop-octets g l = record {
   later : g.F.Files.faults l.fn.files ≤ g.F.Files.faults l.files;
   back : l.counted.back ≡ [];
   content : IsTrue g.F.Files.tells → g.F.Files.left l.fn.files l.fn.slot ≡ l.octets.items ++ g.F.Files.left l.files l.fn.slot;
+  took :
+      IsTrue g.F.Files.tells
+      → Passed l.fn.limit 0 l.counted.taken (g.F.Files.left l.fn.files l.fn.slot) (g.F.Files.left l.files l.fn.slot);
+  opened : g.F.Files.opened l.files ≡ g.F.Files.opened l.fn.files;
   others : OnlySlot g.F.Files.tells g.F.Files.left g.F.Files.holds l.fn.slot l.fn.files l.files;
 }
 
