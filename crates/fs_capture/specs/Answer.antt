@@ -2,7 +2,7 @@
 use Rattle.std.specs.Prelude.{Option, Some, None, Result, Ok, Err}
 use Rattle.fs_pcap.specs.declared.capture.Caught.{Caught as Record}
 use Rattle.fs_pcap.specs.declared.fault.CaptureReason.{CaptureReason as PcapReason}
-use Rattle.fs_pcap.specs.declared.link.Link.{Link}
+use Rattle.fs_base.specs.declared.link.Link.{Link}
 use Rattle.fs_pcapng.specs.declared.caught.NgCaught.{NgCaught}
 use Rattle.fs_pcapng.specs.declared.fault.NgReason.{NgReason}
 use Rattle.fs_records.specs.Records.{End, done, limited, bad}

@@ -6,7 +6,7 @@ use Rattle.fs_base.specs.Parts.{window}
 use Rattle.fs_pcap.specs.Capture.{Captured as Record, Recorded as Records, capture_of as pcap_of, packets_to_come as records_to_come}
 use Rattle.fs_pcap.specs.Head.{longest_record}
 use Rattle.fs_pcap.specs.declared.header.Heading.{Heading}
-use Rattle.fs_pcap.specs.declared.link.Link.{Link}
+use Rattle.fs_base.specs.declared.link.Link.{Link}
 use Rattle.fs_pcapng.specs.Block.{Packet as Block, Stands, section_header}
 use Rattle.fs_pcapng.specs.Pcapng.{packets_to_come as blocks_to_come, pcapng_of}
 use Rattle.fs_pcapng.specs.declared.fault.NgReason.{NgReason}

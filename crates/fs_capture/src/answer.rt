@@ -5,7 +5,8 @@ ghost use Rattle.fs_capture.specs.declared.fault.CaptureReason.TheVariants.{Pcap
 
 use crate::caught::Caught;
 use crate::fault::{CaptureFault, CaptureReason};
-use fs_pcap::{CaptureFault as PcapFault, Caught as Record, Link};
+use fs_base::Link;
+use fs_pcap::{CaptureFault as PcapFault, Caught as Record};
 use fs_pcapng::{NgCaught, NgFault};
 
 /// The fault of a capture of the libpcap format.

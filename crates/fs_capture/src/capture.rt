@@ -59,6 +59,7 @@ impl Capture {
             (captured_in counted.limit (F.left files.old counted.slot))
             (λ capture. coming capture (F.left files.new counted.slot))
             result }
+        ensures opened { F.opened files.new ≡ F.opened files.old }
         ensures others { OnlySlot F.tells F.left F.holds counted.slot files.old files.new }
     {
         let mut front = [0u8; 4];
@@ -103,12 +104,13 @@ impl Capture {
             (packet_from caught into.new)
             (coming self.new (F.left files.new self.old.slot)))
             result }
+        ensures opened { F.opened files.new ≡ F.opened files.old }
         ensures others { OnlySlot F.tells F.left F.holds self.old.slot files.old files.new }
     {
         match &mut self.reader {
             Reader::Records(capture) => {
                 let found = capture.next(files, into);
-                record_answer(capture.link(), found)
+                record_answer(capture.link_type(), found)
             }
             Reader::Blocks(capture) => {
                 let found = capture.next(files, into);
@@ -128,7 +130,6 @@ fn is_section(front: &[u8]) -> bool
 /// Begins to read a capture of the pcapng format or of the libpcap format. Octets of its front were put back.
 fn open<F: Files>(section: bool, counted: Counted, files: &mut F) -> Result<Capture, CaptureFault>
     requires start { counted.taken ≡ 0 }
-    requires few { length counted.back ≤ 4 }
     ensures later { F.faults files.old ≤ F.faults files.new }
     ensures read { IsErrOf result Read → Rose (F.faults files.old) (F.faults files.new) }
     ensures slot { IfOk result (λ capture. capture.slot ≡ counted.slot) }
@@ -142,6 +143,7 @@ fn open<F: Files>(section: bool, counted: Counted, files: &mut F) -> Result<Capt
         (captured_by section counted.limit (counted.back ++ F.left files.old counted.slot))
         (λ capture. coming capture (F.left files.new counted.slot))
         result }
+    ensures opened { F.opened files.new ≡ F.opened files.old }
     ensures others { OnlySlot F.tells F.left F.holds counted.slot files.old files.new }
 {
     if section {

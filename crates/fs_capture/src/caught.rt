@@ -1,6 +1,6 @@
 //! Captured packets.
 
-use fs_pcap::Link;
+use fs_base::Link;
 
 /// A captured packet, of which `taken` octets were captured; they stand at the front of the buffer that was handed in.
 /// `link` is the link type of its capture or interface, None where that isn't one of the six that are read.

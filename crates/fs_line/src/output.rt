@@ -73,11 +73,12 @@ impl Output {
     }
 
     /// Writes out what is pending. Answers Failed where the sink fails; a part of it may then be written.
-    /// Nothing is pending afterwards.
+    /// Nothing is pending afterwards. Where nothing was, the sink is untouched.
     pub fn flush<S: Sink>(&mut self, sink: &mut S) -> Result<(), Failed>
         ensures ok { OnOk result (Grew (S.written sink.old) (S.written sink.new) self.old) }
         ensures err { OnErr result (GrewPart (S.written sink.old) (S.written sink.new) self.old) }
         ensures empty { self.new ≡ [] }
+        ensures idle { length self.old ≡ 0 → IsOk result × (sink.new ≡ sink.old) }
         ensures cause { HasCause (S.faults sink.old) (S.faults sink.new) result }
     {
         if self.count == 0 {

@@ -6,7 +6,7 @@ use Rattle.std.proofs.lemmas.Bool.Decides.{nat_tests}
 use Rattle.byteorder.specs.Endian.{big_number}
 use Rattle.byteorder.specs.Numbers.{big_from-take}
 use Rattle.fs_base.specs.declared.counted.Counted.{Counted}
-use Rattle.fs_scan.specs.Reads.{Reads, whole}
+use Rattle.fs_scan.specs.Reads.{Calls, Reads, whole}
 use Rattle.fs_scan.specs.Scan.{and, field, gives}
 use Rattle.fs_scan.proofs.Lifting.{reads_as, reads_gives, reads_then}
 use Rattle.fs_mrt.specs.Record.{ends_size, front_behind, front_in, time_of}
@@ -48,14 +48,14 @@ passed spot seconds size shape start rest some most =
     let second : nat_le size 65536 ≡ true = let s = most in grind (arith, nat_tests) in
     rw (first, second) refl
 
-pub front_reads : {T : Type 0} {told : Bool} {faults mid : ℕ} {left left' : ℕ → List ℕ} {holds holds' : List ℕ → Option (List ℕ)}
+pub front_reads : {T : Type 0} {told : Bool} {calls mid : Calls} {left left' : ℕ → List ℕ} {holds holds' : List ℕ → Option (List ℕ)}
     {old now : Counted} {answer : T} (spot seconds size : ℕ) (shape : RecordShape) (octets : List ℕ) (family : Family) (time : ℕ)
     → 4 ≤ front_size shape + 2 → front_size shape + 2 ≤ size → size ≤ 65536
     → family_of (big_number 2 (drop (front_size shape) octets)) ≡ Some family
     → ends_size shape family + states_size shape ≤ size → time ≡ time_of shape seconds octets
-    → Reads told faults mid left left' holds holds' (field (front_size shape + 2) whole) Cut old now
+    → Reads told calls mid left left' holds holds' (field (front_size shape + 2) whole) Cut old now
     (λ (_ : T). take (front_size shape + 2) octets) (Ok answer)
-    → Reads told faults mid left left' holds holds' (front_in spot seconds size shape) Cut old now (λ (front : Front). front)
+    → Reads told calls mid left left' holds holds' (front_in spot seconds size shape) Cut old now (λ (front : Front). front)
     (Ok (record { time = time; family = family }))
 front_reads {old = old} {now = now} spot seconds size shape octets family time four some most is room at_time h =
     reads_as (front_in spot seconds size shape) (λ rest. passed spot seconds size shape old.taken rest some most)

@@ -8,7 +8,7 @@ use Rattle.byteorder.specs.Endian.{big_number}
 use Rattle.byteorder.specs.Numbers.{big_from-take}
 use Rattle.fs_base.specs.declared.counted.Counted.{Counted}
 use Rattle.fs_records.specs.declared.fault.Fault.{Fault}
-use Rattle.fs_scan.specs.Reads.{Reads, whole}
+use Rattle.fs_scan.specs.Reads.{Calls, Reads, whole}
 use Rattle.fs_scan.specs.Scan.{Scanner, and, field, gives, needs}
 use Rattle.fs_scan.proofs.Lifting.{reads_as, reads_ends, reads_gives, reads_then}
 use Rattle.fs_mrt.specs.Dump.{said_from}
@@ -43,13 +43,13 @@ passed size some place octets = let test : nat_le 19 size ≡ true = let s = som
 pub behind_first : (n : ℕ) (octets : List ℕ) → take (length octets - n) (drop n octets) ≡ drop n octets
 behind_first n octets = take_all (length octets - n) (drop n octets) (let l = length-drop n octets in omega arith)
 
-module _ {T U : Type 0} {told : Bool} {faults mid late : ℕ} {left left' left'' : ℕ → List ℕ} {holds holds' holds'' : List ℕ → Option (List ℕ)}
+module _ {T U : Type 0} {told : Bool} {calls mid late : Calls} {left left' left'' : ℕ → List ℕ} {holds holds' holds'' : List ℕ → Option (List ℕ)}
     {old now new : Counted} {answer : T} (size : ℕ) (one two : List ℕ) (some : 19 ≤ size) where
   pub message_ends : {fault : Fault DumpReason}
       → big_number 2 (drop 16 one) ≡ size
-      → Reads told faults mid left left' holds holds' (field 18 whole) Cut old now (λ (_ : T). take 18 one) (Ok answer)
+      → Reads told calls mid left left' holds holds' (field 18 whole) Cut old now (λ (_ : T). take 18 one) (Ok answer)
       → Reads told mid late left' left'' holds' holds'' (field (size - 18) whole) Cut now new (λ (_ : U). take (size - 18) (drop 18 two)) (Err fault)
-      → Reads told faults late left left'' holds holds'' (message_in size) Cut old new (λ what. said_from what two) (Err fault)
+      → Reads told calls late left left'' holds holds'' (message_in size) Cut old new (λ what. said_from what two) (Err fault)
   message_ends says first second =
       let front = take 18 one in
       reads_as (message_in size) (passed size some old.taken)
@@ -61,9 +61,9 @@ module _ {T U : Type 0} {told : Bool} {faults mid late : ℕ} {left left' left''
 
   pub message_reads : {last : U}
       → big_number 2 (drop 16 one) ≡ size → take 18 two ≡ take 18 one
-      → Reads told faults mid left left' holds holds' (field 18 whole) Cut old now (λ (_ : T). take 18 one) (Ok answer)
+      → Reads told calls mid left left' holds holds' (field 18 whole) Cut old now (λ (_ : T). take 18 one) (Ok answer)
       → Reads told mid late left' left'' holds' holds'' (field (size - 18) whole) Cut now new (λ (_ : U). take (size - 18) (drop 18 two)) (Ok last)
-      → Reads told faults late left left'' holds holds'' (message_in size) Cut old new (λ what. said_from what two) (Ok (Message size))
+      → Reads told calls late left left'' holds holds'' (message_in size) Cut old new (λ what. said_from what two) (Ok (Message size))
   message_reads says same first second =
       let front = take 18 one in
       let whole_is : message (front ++ take (size - 18) (drop 18 two)) ≡ message (take size two) = ap message (joined size one two some same) in

@@ -101,6 +101,7 @@ impl Dump {
             (spoken_from heard into.new)
             (coming config.now self.new (F.left files.new self.old.slot)))
             result }
+        ensures opened { F.opened files.new ≡ F.opened files.old }
         ensures others { OnlySlot F.tells F.left F.holds self.old.slot files.old files.new }
     {
         next_part(

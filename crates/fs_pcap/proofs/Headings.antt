@@ -13,12 +13,12 @@ use Rattle.fs_records.specs.declared.head.Head.{Head}
 use Rattle.fs_records.specs.declared.head.Head.TheVariants.{Whole, Wrong, Partial}
 use Rattle.fs_pcap.specs.Header.{header_of, link_field, ordered_header}
 use Rattle.fs_pcap.specs.Laws.{HeaderWords, IsHeaderOf, header_text, octets_of}
-use Rattle.fs_pcap.specs.Link.{link_of}
+use Rattle.fs_base.specs.Link.{link_of}
 use Rattle.fs_pcap.specs.Order.{number, order_of}
 use Rattle.fs_pcap.specs.declared.fault.CaptureReason.{CaptureReason}
 use Rattle.fs_pcap.specs.declared.fault.CaptureReason.TheVariants.{Magic, Version, Link as UnreadLink}
 use Rattle.fs_pcap.specs.declared.header.Heading.{Heading}
-use Rattle.fs_pcap.specs.declared.link.Link.{Link}
+use Rattle.fs_base.specs.declared.link.Link.{Link}
 use Rattle.fs_pcap.specs.declared.order.Endian.{Endian}
 use Rattle.fs_pcap.specs.declared.order.Endian.TheVariants.{Big, Little}
 use Rattle.fs_pcap.specs.declared.order.Unit.{Unit as FractionUnit}

@@ -1,4 +1,3 @@
-pub mod Beginning
 pub mod Headings
 pub mod Packets
 pub mod ReadsBack

@@ -18,7 +18,7 @@ use Rattle.fs_pcap.specs.declared.fault.CaptureReason.{CaptureReason}
 use Rattle.fs_pcap.specs.declared.fault.CaptureReason.TheVariants.{Cut}
 use Rattle.fs_pcap.specs.declared.head.Context.{Context}
 use Rattle.fs_pcap.specs.declared.header.Heading.{Heading}
-use Rattle.fs_pcap.specs.declared.link.Link.{Link}
+use Rattle.fs_base.specs.declared.link.Link.{Link}
 use Rattle.fs_pcap.specs.declared.order.Endian.{Endian}
 use Rattle.fs_pcap.specs.declared.order.Endian.TheVariants.{Big, Little}
 use Rattle.fs_pcap.specs.declared.order.Unit.{Unit as FractionUnit}

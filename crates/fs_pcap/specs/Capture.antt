@@ -13,7 +13,7 @@ use Rattle.fs_pcap.specs.declared.fault.CaptureReason.TheVariants.{Cut}
 use Rattle.fs_pcap.specs.declared.head.Said.{Said}
 use Rattle.fs_pcap.specs.declared.head.Context.{Context}
 use Rattle.fs_pcap.specs.declared.header.Heading.{Heading}
-use Rattle.fs_pcap.specs.declared.link.Link.{Link}
+use Rattle.fs_base.specs.declared.link.Link.{Link}
 
 -- A captured packet. Its moment, in nanoseconds since the start of 1970, is the greatest time of the records up to and
 -- with its own.

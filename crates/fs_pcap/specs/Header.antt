@@ -5,7 +5,7 @@ use Rattle.std.specs.Prelude.{ℕ, List, Some, None, ◌%◌, ◌==◌, not, len
 use Rattle.byteorder.specs.Endian.{big_number}
 use Rattle.fs_records.specs.declared.head.Head.{Head}
 use Rattle.fs_records.specs.declared.head.Head.TheVariants.{Whole, Wrong, Partial}
-use Rattle.fs_pcap.specs.Link.{link_of}
+use Rattle.fs_base.specs.Link.{link_of}
 use Rattle.fs_pcap.specs.Order.{number, order_of}
 use Rattle.fs_pcap.specs.declared.fault.CaptureReason.{CaptureReason}
 use Rattle.fs_pcap.specs.declared.fault.CaptureReason.TheVariants.{Magic, Version, Link as UnreadLink}

@@ -6,10 +6,10 @@ use Rattle.fs_records.specs.Parts.{AllFrom}
 use Rattle.fs_records.specs.Records.{done}
 use Rattle.fs_pcap.specs.Capture.{Captured, capture_of}
 use Rattle.fs_pcap.specs.Head.{longest_record}
-use Rattle.fs_pcap.specs.Link.{link_of}
+use Rattle.fs_base.specs.Link.{link_of}
 use Rattle.fs_pcap.specs.Order.{order_of, time_of}
 use Rattle.fs_pcap.specs.declared.head.Context.{Context}
-use Rattle.fs_pcap.specs.declared.link.Link.{Link}
+use Rattle.fs_base.specs.declared.link.Link.{Link}
 use Rattle.fs_pcap.specs.declared.order.Endian.{Endian}
 use Rattle.fs_pcap.specs.declared.order.Endian.TheVariants.{Big, Little}
 use Rattle.fs_pcap.specs.declared.order.Unit.{Unit as FractionUnit}

@@ -1,5 +1,4 @@
 pub mod Order
-pub mod Link
 pub mod Header
 pub mod Head
 pub mod Capture

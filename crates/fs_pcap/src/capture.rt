@@ -2,6 +2,7 @@
 ghost use Rattle.std.specs.Prelude.{◌≡◌, ◌≤◌, ◌++◌, [], None, IsSome, IsTrue, IfOk, IfSome, drop, length};
 ghost use Rattle.std.specs.Result.{IsErrOf};
 ghost use Rattle.fs_base.specs.Files.{OnlySlot};
+ghost use Rattle.fs_base.specs.Link.{link_number};
 ghost use Rattle.fs_base.specs.Outside.{Rose};
 ghost use Rattle.fs_base.specs.Parts.{with_part};
 ghost use Rattle.fs_records.specs.Opening.{Opens};
@@ -12,8 +13,7 @@ ghost use Rattle.fs_pcap.specs.Capture.{Grows, Times, heading_of, packet_from};
 use crate::fault::{CaptureFault, CaptureReason};
 use crate::head::{Context, Said};
 use crate::header::{HEADER_SIZE, Heading, read_header};
-use crate::link::Link;
-use fs_base::{Counted, Files, fill};
+use fs_base::{Counted, Files, Link, fill};
 use fs_records::{Ended, next_record, opened};
 use std::marker::Model;
 
@@ -70,7 +70,6 @@ impl Capture {
     /// where these are all that the limit allows; `Read` where the files failed.
     pub fn begin<F: Files>(mut counted: Counted, files: &mut F) -> Result<Capture, CaptureFault>
         requires start { counted.taken ≡ 0 }
-        requires few { length counted.back ≤ 4 }
         ensures later { F.faults files.old ≤ F.faults files.new }
         ensures read { IsErrOf result Read → Rose (F.faults files.old) (F.faults files.new) }
         ensures slot { IfOk result (λ capture. capture.slot ≡ counted.slot) }
@@ -87,6 +86,7 @@ impl Capture {
             (drop 24 (counted.back ++ F.left files.old counted.slot))
             (F.left files.new counted.slot)
             result }
+        ensures opened { F.opened files.new ≡ F.opened files.old }
         ensures others { OnlySlot F.tells F.left F.holds counted.slot files.old files.new }
     {
         let mut header = [0u8; HEADER_SIZE];
@@ -104,8 +104,15 @@ impl Capture {
         }
     }
 
+    /// The number of the link type: the low 16 bits of the header's link field. It is that of one of the six link types.
+    pub fn link(&self) -> u32
+        ensures { result ≡ link_number self.now.heading.link }
+    {
+        self.heading.link.number()
+    }
+
     /// The link type: what stands before each packet.
-    pub fn link(&self) -> Link
+    pub fn link_type(&self) -> Link
         ensures { result ≡ self.now.heading.link }
     {
         self.heading.link
@@ -144,6 +151,7 @@ impl Capture {
             (packet_from caught into.new)
             (coming self.new (F.left files.new self.old.slot)))
             result }
+        ensures opened { F.opened files.new ≡ F.opened files.old }
         ensures others { OnlySlot F.tells F.left F.holds self.old.slot files.old files.new }
     {
         let context = Context {

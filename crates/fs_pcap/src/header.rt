@@ -4,9 +4,9 @@ ghost use Rattle.fs_records.specs.Opening.{IsFrontWithin};
 ghost use Rattle.fs_pcap.specs.Header.{header_of, link_field, ordered_header};
 
 use crate::fault::CaptureReason;
-use crate::link::Link;
 use crate::order::{Endian, Unit, read_order};
 use byteorder::{BigEndian, ByteOrder};
+use fs_base::Link;
 use fs_records::Head;
 
 /// The octets of a capture's header.

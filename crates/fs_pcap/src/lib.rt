@@ -6,13 +6,12 @@ mod fault;
 mod head;
 mod header;
 mod laws;
-mod link;
 mod order;
 
 pub use capture::{Capture, Caught};
 pub use fault::{CaptureFault, CaptureReason};
+pub use fs_base::Link;
 pub use head::LONGEST_RECORD;
 pub use header::Heading;
 pub use laws::reads_back;
-pub use link::Link;
 pub use order::{Endian, Unit};

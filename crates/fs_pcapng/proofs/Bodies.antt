@@ -7,7 +7,7 @@ use Rattle.byteorder.specs.Endian.{big_number}
 use Rattle.fs_base.specs.declared.counted.Counted.{Counted}
 use Rattle.fs_pcap.specs.Order.{number}
 use Rattle.fs_pcap.specs.declared.order.Endian.{Endian}
-use Rattle.fs_scan.specs.Reads.{Reads}
+use Rattle.fs_scan.specs.Reads.{Calls, Reads}
 use Rattle.fs_scan.specs.Scan.{and, gives}
 use Rattle.fs_scan.proofs.Lifting.{gives_for, reads_as, reads_ends, reads_then}
 use Rattle.fs_pcapng.specs.Block.{Packet, Stands, behind_packet, body_in, described_in, enhanced_in, kind_behind, opened, plain_in, section_in, simple_in, with_interface}
@@ -42,11 +42,11 @@ interface_of order head unit = record { link = number order 2 head; snap = numbe
 abbrev pub told_of : (into : List ℕ) → Stands → Option Seen → Option Packet × Stands
 told_of into now found = (option_map (seen_from into) found, now)
 
-module _ {told : Bool} {faults faults' : ℕ} {left left' : ℕ → List ℕ} {holds holds' : List ℕ → Option (List ℕ)} {old new : Counted}
+module _ {told : Bool} {calls calls' : Calls} {left left' : ℕ → List ℕ} {holds holds' : List ℕ → Option (List ℕ)} {old new : Counted}
     (frame : Frame) (now later : Stands) (into : List ℕ) where
   pub body_described : {interface : Interface} → nat_lt (length now.interfaces) 256 ≡ true → later ≡ with_interface now interface
-      → Reads told faults faults' left left' holds holds' (described_in frame) Cut old new (λ (i : Interface). i) (Ok interface)
-      → Reads told faults faults' left left' holds holds' (body_in frame now Described) Cut old new (told_of into later) (Ok None)
+      → Reads told calls calls' left left' holds holds' (described_in frame) Cut old new (λ (i : Interface). i) (Ok interface)
+      → Reads told calls calls' left left' holds holds' (body_in frame now Described) Cut old new (told_of into later) (Ok None)
   body_described {interface = interface} room is h =
       reads_as (body_in frame now Described)
       (needs_true (nat_lt (length now.interfaces) 256) TooMany frame.start
@@ -55,48 +55,48 @@ module _ {told : Bool} {faults faults' : ℕ} {left left' : ℕ → List ℕ} {h
       (gives_for (None, with_interface now interface) (told_of into later) None (ap (λ s. (None, s)) (sym is))))
 
   pub body_enhanced : {seen : Seen} → later ≡ behind_packet now (seen_from into seen)
-      → Reads told faults faults' left left' holds holds' (enhanced_in frame now) Cut old new (seen_from into) (Ok seen)
-      → Reads told faults faults' left left' holds holds' (body_in frame now Enhanced) Cut old new (told_of into later) (Ok (Some seen))
+      → Reads told calls calls' left left' holds holds' (enhanced_in frame now) Cut old new (seen_from into) (Ok seen)
+      → Reads told calls calls' left left' holds holds' (body_in frame now Enhanced) Cut old new (told_of into later) (Ok (Some seen))
   body_enhanced {seen = seen} is h =
       reads_then (λ found. gives (Some found, behind_packet now found)) (told_of into later) h
       (gives_for (Some (seen_from into seen), behind_packet now (seen_from into seen)) (told_of into later) (Some seen)
       (ap (λ s. (Some (seen_from into seen), s)) (sym is)))
 
   pub body_simple : {seen : Seen} → later ≡ behind_packet now (seen_from into seen)
-      → Reads told faults faults' left left' holds holds' (simple_in frame now) Cut old new (seen_from into) (Ok seen)
-      → Reads told faults faults' left left' holds holds' (body_in frame now Simple) Cut old new (told_of into later) (Ok (Some seen))
+      → Reads told calls calls' left left' holds holds' (simple_in frame now) Cut old new (seen_from into) (Ok seen)
+      → Reads told calls calls' left left' holds holds' (body_in frame now Simple) Cut old new (told_of into later) (Ok (Some seen))
   body_simple {seen = seen} is h =
       reads_then (λ found. gives (Some found, behind_packet now found)) (told_of into later) h
       (gives_for (Some (seen_from into seen), behind_packet now (seen_from into seen)) (told_of into later) (Some seen)
       (ap (λ s. (Some (seen_from into seen), s)) (sym is)))
 
   pub body_fails : {fault : Fault NgReason} → nat_lt (length now.interfaces) 256 ≡ true
-      → Reads told faults faults' left left' holds holds' (described_in frame) Cut old new (λ (i : Interface). i) (Err fault)
-      → Reads told faults faults' left left' holds holds' (body_in frame now Described) Cut old new (told_of into later) (Err fault)
+      → Reads told calls calls' left left' holds holds' (described_in frame) Cut old new (λ (i : Interface). i) (Err fault)
+      → Reads told calls calls' left left' holds holds' (body_in frame now Described) Cut old new (told_of into later) (Err fault)
   body_fails room h =
       reads_as (body_in frame now Described)
       (needs_true (nat_lt (length now.interfaces) 256) TooMany frame.start
       (and (described_in frame) (λ interface. gives (None, with_interface now interface))) room old.taken)
       (reads_ends (λ interface. gives (None, with_interface now interface)) (told_of into later) h)
 
-module _ {told : Bool} {faults faults' : ℕ} {left left' : ℕ → List ℕ} {holds holds' : List ℕ → Option (List ℕ)} {old new : Counted}
+module _ {told : Bool} {calls calls' : Calls} {left left' : ℕ → List ℕ} {holds holds' : List ℕ → Option (List ℕ)} {old new : Counted}
     (now later : Stands) (start : ℕ) (kind into : List ℕ) where
   pub block_header : {order : Endian} → big_number 4 kind ≡ 0x0a0d0d0a → later ≡ opened order now.moment
-      → Reads told faults faults' left left' holds holds' (section_in start) Cut old new (λ (o : Endian). o) (Ok order)
-      → Reads told faults faults' left left' holds holds' (kind_behind now start kind) Cut old new (told_of into later) (Ok None)
+      → Reads told calls calls' left left' holds holds' (section_in start) Cut old new (λ (o : Endian). o) (Ok order)
+      → Reads told calls calls' left left' holds holds' (kind_behind now start kind) Cut old new (told_of into later) (Ok None)
   block_header {order = order} is same h =
       reads_as (kind_behind now start kind) (header_kind now start kind is old.taken)
       (reads_then (λ order. gives (None, opened order now.moment)) (told_of into later) h
       (gives_for (None, opened order now.moment) (told_of into later) None (ap (λ s. (None, s)) (sym same))))
 
   pub block_fails : {fault : Fault NgReason} → big_number 4 kind ≡ 0x0a0d0d0a
-      → Reads told faults faults' left left' holds holds' (section_in start) Cut old new (λ (o : Endian). o) (Err fault)
-      → Reads told faults faults' left left' holds holds' (kind_behind now start kind) Cut old new (told_of into later) (Err fault)
+      → Reads told calls calls' left left' holds holds' (section_in start) Cut old new (λ (o : Endian). o) (Err fault)
+      → Reads told calls calls' left left' holds holds' (kind_behind now start kind) Cut old new (told_of into later) (Err fault)
   block_fails is h =
       reads_as (kind_behind now start kind) (header_kind now start kind is old.taken)
       (reads_ends (λ order. gives (None, opened order now.moment)) (told_of into later) h)
 
   pub block_plain : {result : Result (Option Seen) (Fault NgReason)} → big_number 4 kind ≢ 0x0a0d0d0a
-      → Reads told faults faults' left left' holds holds' (plain_in start now now.order kind) Cut old new (told_of into later) result
-      → Reads told faults faults' left left' holds holds' (kind_behind now start kind) Cut old new (told_of into later) result
+      → Reads told calls calls' left left' holds holds' (plain_in start now now.order kind) Cut old new (told_of into later) result
+      → Reads told calls calls' left left' holds holds' (kind_behind now start kind) Cut old new (told_of into later) result
   block_plain is h = reads_as (kind_behind now start kind) (plain_kind now start kind is old.taken) h

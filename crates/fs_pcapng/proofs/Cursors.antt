@@ -4,7 +4,7 @@ use Rattle.std.proofs.lemmas.Bool.Decides.{nat_tests}
 use Rattle.fs_base.specs.declared.counted.Counted.{Counted}
 use Rattle.fs_pcap.specs.declared.order.Endian.{Endian}
 use Rattle.fs_records.specs.declared.fault.Fault.{Fault}
-use Rattle.fs_scan.specs.Reads.{Reads}
+use Rattle.fs_scan.specs.Reads.{Calls, Reads}
 use Rattle.fs_scan.specs.Scan.{and, gives}
 use Rattle.fs_scan.proofs.Lifting.{reads_ends, reads_gives}
 use Rattle.fs_scan.proofs.Stages.{Going, going_more, going_start, going_then}
@@ -29,46 +29,46 @@ last order zero now none = refl
 last order (suc fuel) now none = let test : (now.left == 0) ≡ true = let s = none in grind (arith, nat_tests) in rw test refl
 
 -- what a loop did that walked the options up to here
-module _ (order : Endian) (size : ℕ) (told : Bool) (faults faults' : ℕ) (left left' : ℕ → List ℕ) (holds holds' : List ℕ → Option (List ℕ)) where
+module _ (order : Endian) (size : ℕ) (told : Bool) (calls calls' : Calls) (left left' : ℕ → List ℕ) (holds holds' : List ℕ → Option (List ℕ)) where
   pub record Moved (old now : Counted) (stands : Cursor) : Type 0 where
     pub fuel : ℕ
     pub enough : stands.left ≤ fuel
-    pub going : Going told faults faults' left left' holds holds' (options_in order size (cursor size 6)) (options_in order fuel stands) old now
+    pub going : Going told calls calls' left left' holds holds' (options_in order size (cursor size 6)) (options_in order fuel stands) old now
 
-pub cursor_start : (order : Endian) (size : ℕ) {told : Bool} {faults : ℕ} {left : ℕ → List ℕ} {holds : List ℕ → Option (List ℕ)} {now : Counted}
-    → Moved order size told faults faults left left holds holds now now (cursor size 6)
+pub cursor_start : (order : Endian) (size : ℕ) {told : Bool} {calls : Calls} {left : ℕ → List ℕ} {holds : List ℕ → Option (List ℕ)} {now : Counted}
+    → Moved order size told calls calls left left holds holds now now (cursor size 6)
 cursor_start order size = record { fuel = size; enough = (omega arith); going = going_start (options_in order size (cursor size 6)) }
 
-module _ {order : Endian} {size : ℕ} {told : Bool} {faults mid late : ℕ} {left left' left'' : ℕ → List ℕ}
+module _ {order : Endian} {size : ℕ} {told : Bool} {calls mid late : Calls} {left left' left'' : ℕ → List ℕ}
     {holds holds' holds'' : List ℕ → Option (List ℕ)} {old now new : Counted} {stands : Cursor} where
   pub cursor_more : {later : Cursor} → 0 < stands.left → later.left < stands.left
-      → Moved order size told faults mid left left' holds holds' old now stands
+      → Moved order size told calls mid left left' holds holds' old now stands
       → Reads told mid late left' left'' holds' holds'' (option_in order stands) Cut now new (λ (w : Cursor). w) (Ok later)
-      → Moved order size told faults late left left'' holds holds'' old new later
+      → Moved order size told calls late left left'' holds holds'' old new later
   cursor_more {later = later} some less one more =
       let s = step order one.fuel stands some one.enough in
       record {
         fuel = s.later;
         enough = (let e = one.enough in omega (arith, e, s.enough, less));
         going = going_more (options_in order s.later)
-            (subst (λ rest. Going told faults mid left left' holds holds' (options_in order size (cursor size 6)) rest old now) s.is one.going) more;
+            (subst (λ rest. Going told calls mid left left' holds holds' (options_in order size (cursor size 6)) rest old now) s.is one.going) more;
       }
 
   pub cursor_fails : {fault : Fault NgReason} → 0 < stands.left
-      → Moved order size told faults mid left left' holds holds' old now stands
+      → Moved order size told calls mid left left' holds holds' old now stands
       → Reads told mid late left' left'' holds' holds'' (option_in order stands) Cut now new (λ (w : Cursor). w) (Err fault)
-      → Reads told faults late left left'' holds holds'' (options_in order size (cursor size 6)) Cut old new (λ (unit : ℕ). unit) (Err fault)
+      → Reads told calls late left left'' holds holds'' (options_in order size (cursor size 6)) Cut old new (λ (unit : ℕ). unit) (Err fault)
   cursor_fails some one more =
       let s = step order one.fuel stands some one.enough in
-      going_then (subst (λ rest. Going told faults mid left left' holds holds' (options_in order size (cursor size 6)) rest old now) s.is one.going)
+      going_then (subst (λ rest. Going told calls mid left left' holds holds' (options_in order size (cursor size 6)) rest old now) s.is one.going)
       (reads_ends (options_in order s.later) (λ (unit : ℕ). unit) more)
 
-pub cursor_all : {order : Endian} {size : ℕ} {told : Bool} {faults mid : ℕ} {left left' : ℕ → List ℕ}
+pub cursor_all : {order : Endian} {size : ℕ} {told : Bool} {calls mid : Calls} {left left' : ℕ → List ℕ}
     {holds holds' : List ℕ → Option (List ℕ)} {old now : Counted} {stands : Cursor} → stands.left ≡ 0
-    → Moved order size told faults mid left left' holds holds' old now stands
-    → Reads told faults mid left left' holds holds' (options_in order size (cursor size 6)) Cut old now (λ (unit : ℕ). unit) (Ok stands.unit)
-cursor_all {order = order} {size = size} {told = told} {faults = faults} {mid = mid} {left = left} {left' = left'} {holds = holds} {holds' = holds'}
+    → Moved order size told calls mid left left' holds holds' old now stands
+    → Reads told calls mid left left' holds holds' (options_in order size (cursor size 6)) Cut old now (λ (unit : ℕ). unit) (Ok stands.unit)
+cursor_all {order = order} {size = size} {told = told} {calls = calls} {mid = mid} {left = left} {left' = left'} {holds = holds} {holds' = holds'}
     {old = old} {now = now} {stands = stands} none one =
-    going_then (subst (λ rest. Going told faults mid left left' holds holds' (options_in order size (cursor size 6)) rest old now)
+    going_then (subst (λ rest. Going told calls mid left left' holds holds' (options_in order size (cursor size 6)) rest old now)
     (last order one.fuel stands none) one.going)
     (reads_gives (λ (unit : ℕ). unit) stands.unit)

@@ -8,7 +8,7 @@ use Rattle.fs_records.specs.Records.{End, bad, done, limited}
 use Rattle.fs_records.specs.declared.fault.Fault.{Fault}
 use Rattle.fs_records.specs.declared.fault.Fault.TheVariants.{Read, Limit, Bad}
 use Rattle.fs_scan.specs.Coming.{only_told}
-use Rattle.fs_scan.specs.Reads.{Fails, HasMore, Reads, ahead, end_of, ends_by, whole}
+use Rattle.fs_scan.specs.Reads.{Calls, Fails, HasMore, Reads, ahead, end_of, ends_by, whole}
 use Rattle.fs_scan.specs.Scan.{Scanner, and, and_then, field, gives, got, partial}
 use Rattle.fs_scan.proofs.Lifting.{gives_for, reads_as, reads_ends, reads_then}
 use Rattle.byteorder.specs.Endian.{big_number}
@@ -24,15 +24,15 @@ use Rattle.fs_pcapng.specs.declared.fault.NgReason.TheVariants.{Cut}
 use Rattle.fs_pcapng.proofs.Takes.{block_takes}
 
 -- a call behind which nothing is put back, as before it
-pub reads_ahead : {T A : Type 0} {scanner : Scanner A NgReason} {tells : T → A} {told : Bool} {faults faults' : ℕ}
+pub reads_ahead : {T A : Type 0} {scanner : Scanner A NgReason} {tells : T → A} {told : Bool} {calls calls' : Calls}
     {left left' : ℕ → List ℕ} {holds holds' : List ℕ → Option (List ℕ)} {old new : Counted} {result : Result T (Fault NgReason)}
     → old.back ≡ [] → new.back ≡ []
-    → Reads told faults faults' left left' holds holds' scanner Cut old new tells result
-    → Reads told faults faults' (ahead old left) (ahead new left') holds holds' scanner Cut old new tells result
-reads_ahead {scanner = scanner} {tells = tells} {told = told} {faults = faults} {faults' = faults'} {left = left} {left' = left'} {holds = holds}
+    → Reads told calls calls' left left' holds holds' scanner Cut old new tells result
+    → Reads told calls calls' (ahead old left) (ahead new left') holds holds' scanner Cut old new tells result
+reads_ahead {scanner = scanner} {tells = tells} {told = told} {calls = calls} {calls' = calls'} {left = left} {left' = left'} {holds = holds}
     {holds' = holds'} {old = old} {new = new} {result = result} none later h =
-    subst (λ l. Reads told faults faults' l (ahead new left') holds holds' scanner Cut old new tells result) (sym (nothing_ahead old left none))
-    (subst (λ l. Reads told faults faults' left l holds holds' scanner Cut old new tells result) (sym (nothing_ahead new left' later)) h)
+    subst (λ l. Reads told calls calls' l (ahead new left') holds holds' scanner Cut old new tells result) (sym (nothing_ahead old left none))
+    (subst (λ l. Reads told calls calls' left l holds holds' scanner Cut old new tells result) (sym (nothing_ahead new left' later)) h)
 
 here : (counted : Counted) (left : ℕ → List ℕ) → ahead counted left counted.slot ≡ counted.back ++ left counted.slot
 here counted left = let test : (counted.slot == counted.slot) ≡ true = grind (arith, nat_tests) in rw test refl
@@ -79,11 +79,11 @@ module _ (limit : ℕ) (content : List ℕ) where
   fails_to_open coming Limit h = opens_ends limited h
   fails_to_open coming (Bad reason place) h = opens_ends (bad reason place) h
 
-module _ {told : Bool} {faults faults' : ℕ} (left left' : ℕ → List ℕ) {holds holds' : List ℕ → Option (List ℕ)} {old new : Counted} {now : Stands}
+module _ {told : Bool} {calls calls' : Calls} (left left' : ℕ → List ℕ) {holds holds' : List ℕ → Option (List ℕ)} {old new : Counted} {now : Stands}
     {T : Type 0} where
   -- the first block was read, and gave no packet
   pub opens : {answer : T} → old.taken ≡ 0 → new.back ≡ [] → IsTrue told
-      → Reads told faults faults' (ahead old left) (ahead new left') holds holds' (block_in nothing) Cut old new (λ (_ : T). (None, now)) (Ok answer)
+      → Reads told calls calls' (ahead old left) (ahead new left') holds holds' (block_in nothing) Cut old new (λ (_ : T). (None, now)) (Ok answer)
       → pcapng_of old.limit (old.back ++ left old.slot) ≡ packets_to_come new.limit new.taken now (left' old.slot)
   opens start none tells_so h =
       let content = ahead old left old.slot in
@@ -100,7 +100,7 @@ module _ {told : Bool} {faults faults' : ℕ} (left left' : ℕ → List ℕ) {h
 
   -- the first block could not be read
   pub opens_not : {U : Type 0} {fault : Fault NgReason} (coming : U → List Packet × End NgReason) → old.taken ≡ 0 → IsTrue told
-      → Reads told faults faults' (ahead old left) (ahead new left') holds holds' (block_in nothing) Cut old new (λ (_ : T). (None, now)) (Err fault)
+      → Reads told calls calls' (ahead old left) (ahead new left') holds holds' (block_in nothing) Cut old new (λ (_ : T). (None, now)) (Err fault)
       → Begins (pcapng_of old.limit (old.back ++ left old.slot)) coming (Err fault)
   opens_not {fault = fault} coming start tells_so h =
       fails_to_open old.limit (old.back ++ left old.slot) coming fault
@@ -108,17 +108,17 @@ module _ {told : Bool} {faults faults' : ℕ} (left left' : ℕ → List ℕ) {h
       (subst (λ l. Fails (ends_by (block_in nothing) Cut old.limit old.taken l) fault) (here old left) (h.scanned tells_so)))
 
   pub opens_others : {result : Result T (Fault NgReason)} → IsTrue told
-      → Reads told faults faults' (ahead old left) (ahead new left') holds holds' (block_in nothing) Cut old new (λ (_ : T). (None, now)) result
+      → Reads told calls calls' (ahead old left) (ahead new left') holds holds' (block_in nothing) Cut old new (λ (_ : T). (None, now)) result
       → (other : ℕ) → other ≢ old.slot → left' other ≡ left other
   opens_others tells_so h other apart =
       sym (apart_from new left' other (λ e. apart (e ∙ h.slot))) ∙ h.others tells_so other apart ∙ apart_from old left other apart
 
-module _ {T U : Type 0} {told : Bool} {faults mid late : ℕ} (left : ℕ → List ℕ) {left' left'' : ℕ → List ℕ} {holds holds' holds'' : List ℕ → Option (List ℕ)}
+module _ {T U : Type 0} {told : Bool} {calls mid late : Calls} (left : ℕ → List ℕ) {left' left'' : ℕ → List ℕ} {holds holds' holds'' : List ℕ → Option (List ℕ)}
     {old now new : Counted} {answer : T} (later : Stands) (kind : List ℕ) (start : old.taken ≡ 0) (is : big_number 4 kind ≡ 0x0a0d0d0a) where
   pub opening_reads : {order : Endian} {last : U} → later ≡ opened order 0 → now.back ≡ [] → new.back ≡ []
-      → Reads told faults mid (ahead old left) (ahead now left') holds holds' (field 4 whole) Cut old now (λ (_ : T). kind) (Ok answer)
+      → Reads told calls mid (ahead old left) (ahead now left') holds holds' (field 4 whole) Cut old now (λ (_ : T). kind) (Ok answer)
       → Reads told mid late left' left'' holds' holds'' (section_in 0) Cut now new (λ (o : Endian). o) (Ok order)
-      → Reads told faults late (ahead old left) (ahead new left'') holds holds'' (block_in nothing) Cut old new (λ (_ : U). (None, later)) (Ok last)
+      → Reads told calls late (ahead old left) (ahead new left'') holds holds'' (block_in nothing) Cut old new (λ (_ : U). (None, later)) (Ok last)
   opening_reads {order = order} {last = last} same none none' first second =
       reads_as (block_in nothing) (λ octets. ap (λ n. and (field 4 whole) (kind_behind nothing n) old.taken octets) (sym start))
       (reads_then (kind_behind nothing 0) (λ (_ : U). (None, later)) first
@@ -127,9 +127,9 @@ module _ {T U : Type 0} {told : Bool} {faults mid late : ℕ} (left : ℕ → Li
       (gives_for (None, opened order 0) (λ (_ : U). (None, later)) last (ap (λ s. (None, s)) (sym same))))))
 
   pub opening_fails : {fault : Fault NgReason} → now.back ≡ [] → new.back ≡ []
-      → Reads told faults mid (ahead old left) (ahead now left') holds holds' (field 4 whole) Cut old now (λ (_ : T). kind) (Ok answer)
+      → Reads told calls mid (ahead old left) (ahead now left') holds holds' (field 4 whole) Cut old now (λ (_ : T). kind) (Ok answer)
       → Reads told mid late left' left'' holds' holds'' (section_in 0) Cut now new (λ (o : Endian). o) (Err fault)
-      → Reads told faults late (ahead old left) (ahead new left'') holds holds'' (block_in nothing) Cut old new (λ (_ : U). (None, later)) (Err fault)
+      → Reads told calls late (ahead old left) (ahead new left'') holds holds'' (block_in nothing) Cut old new (λ (_ : U). (None, later)) (Err fault)
   opening_fails none none' first second =
       reads_as (block_in nothing) (λ octets. ap (λ n. and (field 4 whole) (kind_behind nothing n) old.taken octets) (sym start))
       (reads_then (kind_behind nothing 0) (λ (_ : U). (None, later)) first

@@ -6,9 +6,9 @@
 use Rattle.std.specs.Prelude.{ℕ, List, [], ◌∷◌, ◌++◌, Option, Some, None, Bool, ◌+◌, ◌-◌, ◌*◌, ◌%◌, ◌==◌, ◌&&◌, length, drop, max, min, nat_le, nat_lt, slice_get, if◌then◌else◌}
 use Rattle.byteorder.specs.Endian.{big_number}
 use Rattle.fs_pcap.specs.Head.{longest_record}
-use Rattle.fs_pcap.specs.Link.{link_of}
+use Rattle.fs_base.specs.Link.{link_of}
 use Rattle.fs_pcap.specs.Order.{number}
-use Rattle.fs_pcap.specs.declared.link.Link.{Link}
+use Rattle.fs_base.specs.declared.link.Link.{Link}
 use Rattle.fs_pcap.specs.declared.order.Endian.{Endian}
 use Rattle.fs_pcap.specs.declared.order.Endian.TheVariants.{Big, Little}
 use Rattle.fs_scan.specs.Reads.{whole}

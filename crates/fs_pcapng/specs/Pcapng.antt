@@ -3,7 +3,7 @@
 use Rattle.std.specs.Prelude.{ℕ, List, [], Option, Some, None, Result, Ok, Err, ◌≡◌, ◌≤◌, ◌<◌, ◌==◌, ◌&&◌, not, if◌then◌else◌, length, take, ⊤}
 use Rattle.fs_base.specs.Parts.{at_limit, window}
 use Rattle.fs_pcap.specs.Head.{longest_record}
-use Rattle.fs_pcap.specs.declared.link.Link.{Link}
+use Rattle.fs_base.specs.declared.link.Link.{Link}
 use Rattle.fs_records.specs.Records.{End, bad, limited}
 use Rattle.fs_records.specs.declared.fault.Ended.{Ended}
 use Rattle.fs_records.specs.declared.fault.Fault.{Fault}

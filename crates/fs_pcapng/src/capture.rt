@@ -19,8 +19,7 @@ use crate::fault::{NgFault, NgReason};
 use crate::header::take_header;
 use crate::section::Section;
 use byteorder::{BigEndian, ByteOrder};
-use fs_base::{Counted, Files};
-use fs_pcap::Link;
+use fs_base::{Counted, Files, Link};
 use fs_records::Ended;
 use fs_scan::{next_part, take_again};
 use std::marker::Model;
@@ -64,7 +63,6 @@ impl Ng {
     /// `Limit` where the limit is reached in it and no field before is wrong; `Read` where the files failed.
     pub fn begin<F: Files>(mut counted: Counted, files: &mut F) -> Result<Ng, NgFault>
         requires start { counted.taken ≡ 0 }
-        requires few { length counted.back ≤ 4 }
         ensures later { F.faults files.old ≤ F.faults files.new }
         ensures read { IsErrOf result Read → Rose (F.faults files.old) (F.faults files.new) }
         ensures slot { IfOk result (λ capture. capture.slot ≡ counted.slot) }
@@ -79,6 +77,7 @@ impl Ng {
             (pcapng_of counted.limit (counted.back ++ F.left files.old counted.slot))
             (λ capture. coming capture (F.left files.new counted.slot))
             result }
+        ensures opened { F.opened files.new ≡ F.opened files.old }
         ensures others { OnlySlot F.tells F.left F.holds counted.slot files.old files.new }
     {
         let mut section = Section::nothing();
@@ -135,6 +134,7 @@ impl Ng {
             (packet_from self.new.link caught into.new)
             (coming self.new (F.left files.new self.old.slot)))
             result }
+        ensures opened { F.opened files.new ≡ F.opened files.old }
         ensures others { OnlySlot F.tells F.left F.holds self.old.slot files.old files.new }
     {
         let found = next_part(

@@ -1,6 +1,6 @@
 //! Captured packets.
 
-use fs_pcap::Link;
+use fs_base::Link;
 
 /// A captured packet. `taken` octets of it were captured, of `original`; they stand at the front of the buffer that was
 /// handed in. `moment`, in nanoseconds since the start of 1970, is the greatest time of the packets up to and with this

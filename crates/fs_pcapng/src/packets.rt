@@ -1,7 +1,7 @@
 //! Blocks that describe interfaces or hold packets.
 ghost use Rattle.std.specs.Prelude.{◌≡◌, ◌≤◌, ◌<◌, ◌+◌, ◌-◌, ◌*◌, [], IfOk, Some, length, max, min, take};
 ghost use Rattle.fs_pcap.specs.Head.{longest_record};
-ghost use Rattle.fs_pcap.specs.Link.{link_of};
+ghost use Rattle.fs_base.specs.Link.{link_of};
 ghost use Rattle.fs_scan.specs.Judging.{scan_of};
 ghost use Rattle.fs_scan.specs.Reads.{Scans};
 ghost use Rattle.fs_pcapng.specs.Block.{cut_to, described_in, enhanced_in, octets_in, simple_in};
@@ -15,8 +15,8 @@ use crate::fields::{Frame, close_block, end_block, read_u16, read_u32, take_fron
 use crate::options::{padded, read_options};
 use crate::section::{Interface, Section};
 use crate::time::time_of;
-use fs_base::{Counted, Files, fill};
-use fs_pcap::{LONGEST_RECORD, Link};
+use fs_base::{Counted, Files, Link, fill};
+use fs_pcap::LONGEST_RECORD;
 use fs_scan::{Judged, settle};
 
 /// The longest packet that is taken.

@@ -3,3 +3,4 @@ pub mod Records
 pub mod Advancing
 pub mod Done
 pub mod Fronts
+pub mod Beginning

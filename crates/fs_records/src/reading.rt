@@ -1,6 +1,7 @@
 //! Reading an input record by record, whatever counts the reads give.
 ghost use Rattle.std.specs.Prelude.{◌≡◌, ◌≤◌, [], ℕ, None, IsSome, IsTrue, IfSome, length, take};
 ghost use Rattle.std.specs.Result.{IsErrOf};
+ghost use Rattle.fs_base.specs.Draws.{Draws};
 ghost use Rattle.fs_base.specs.Files.{OnlySlot};
 ghost use Rattle.fs_base.specs.Outside.{Rose};
 ghost use Rattle.fs_base.specs.Parts.{with_part};
@@ -53,6 +54,9 @@ pub fn next_record<F: Files, H: Heads>(
         (H.format.behind heads.now found.said)
         (F.left files.new counted.old.slot)))
         result }
+    ensures took { IsTrue F.tells
+        → Draws counted.old counted.new (F.left files.old counted.old.slot) (F.left files.new counted.old.slot) }
+    ensures opened { F.opened files.new ≡ F.opened files.old }
     ensures others { OnlySlot F.tells F.left F.holds counted.old.slot files.old files.new }
 {
     if let Some(ended) = *end {
@@ -139,6 +143,9 @@ fn advance<F: Files, H: Heads>(
         (H.format.behind heads.now found.said)
         (F.left files.new counted.old.slot)))
         result }
+    ensures took { IsTrue F.tells
+        → Draws counted.old counted.new (F.left files.old counted.old.slot) (F.left files.new counted.old.slot) }
+    ensures opened { F.opened files.new ≡ F.opened files.old }
     ensures others { OnlySlot F.tells F.left F.holds counted.old.slot files.old files.new }
 {
     let mut octets = [0u8; MOST_HEAD];

@@ -7,7 +7,7 @@ use Rattle.fs_records.specs.Records.{End, bad, done, limited}
 use Rattle.fs_records.specs.declared.fault.Fault.{Fault}
 use Rattle.fs_records.specs.declared.fault.Fault.TheVariants.{Read, Limit, Bad}
 use Rattle.fs_scan.specs.Coming.{Chain, Takes, part_in, parts_to_come}
-use Rattle.fs_scan.specs.Reads.{Fails, HasMore, IsOver, Reads, Starts, end_of, ends_by, whole}
+use Rattle.fs_scan.specs.Reads.{Calls, Fails, HasMore, IsOver, Reads, Starts, end_of, ends_by, whole}
 use Rattle.fs_scan.specs.Scan.{Scanner, and, field}
 use Rattle.fs_scan.proofs.Coming.{done_comes, end_comes, field_takes, part_comes}
 use Rattle.fs_scan.proofs.Joining.{fails_first}
@@ -15,9 +15,9 @@ use Rattle.fs_scan.proofs.Lifting.{reads_as, reads_then, starts_reads}
 
 module _ {S P R : Type 0} (chain : Chain S P R) (takes : (state : S) → Takes 1 (chain state)) (cut : R) where
   -- the part that was read comes first
-  pub part_advances : {T : Type 0} {told : Bool} {faults faults' : ℕ} {left left' : ℕ → List ℕ} {holds holds' : List ℕ → Option (List ℕ)}
+  pub part_advances : {T : Type 0} {told : Bool} {calls calls' : Calls} {left left' : ℕ → List ℕ} {holds holds' : List ℕ → Option (List ℕ)}
       {old new : Counted} {tells : T → P × S} {answer : T} (now : S) → IsTrue told
-      → Reads told faults faults' left left' holds holds' (chain now) cut old new tells (Ok answer)
+      → Reads told calls calls' left left' holds holds' (chain now) cut old new tells (Ok answer)
       → parts_to_come chain cut old.limit old.taken now (left old.slot)
       ≡ with_part (tells answer).0 (parts_to_come chain cut new.limit new.taken (tells answer).1 (left' new.slot))
   part_advances {left = left} {left' = left'} {old = old} {new = new} {tells = tells} {answer = answer} now tells_so h =
@@ -41,9 +41,9 @@ module _ {S P R : Type 0} (chain : Chain S P R) (takes : (state : S) → Takes 1
       end_comes chain cut limit taken now left (bad reason place) (more (λ e. absurd cc)) fails
 
   -- a fault of its first field
-  pub first_advances : {T : Type 0} {told : Bool} {faults faults' : ℕ} {left left' : ℕ → List ℕ} {holds holds' : List ℕ → Option (List ℕ)}
+  pub first_advances : {T : Type 0} {told : Bool} {calls calls' : Calls} {left left' : ℕ → List ℕ} {holds holds' : List ℕ → Option (List ℕ)}
       {old new : Counted} {into : List ℕ} {size : ℕ} {fault : Fault R} (next : List ℕ → Scanner (P × S) R) (behind : T → List P × End R) (now : S)
-      → IsTrue told → Starts told faults faults' left left' holds holds' size cut old new into (Err fault)
+      → IsTrue told → Starts told calls calls' left left' holds holds' size cut old new into (Err fault)
       → ((octets : List ℕ) → chain now old.taken octets ≡ and (field size whole) next old.taken octets)
       → Advances (parts_to_come chain cut old.limit old.taken now (left old.slot)) behind (Err fault)
   first_advances {left = left} {old = old} {size = size} {fault = fault} next behind now tells_so h same =
@@ -56,18 +56,18 @@ module _ {S P R : Type 0} (chain : Chain S P R) (takes : (state : S) → Takes 1
       failed.1
 
   -- a fault behind its first field
-  pub later_advances : {T : Type 0} {told : Bool} {faults faults' : ℕ} {left left' : ℕ → List ℕ} {holds holds' : List ℕ → Option (List ℕ)}
+  pub later_advances : {T : Type 0} {told : Bool} {calls calls' : Calls} {left left' : ℕ → List ℕ} {holds holds' : List ℕ → Option (List ℕ)}
       {old new : Counted} {tells : T → P × S} {fault : Fault R} (behind : T → List P × End R) (now : S)
-      → IsTrue told → Reads told faults faults' left left' holds holds' (chain now) cut old new tells (Err fault)
+      → IsTrue told → Reads told calls calls' left left' holds holds' (chain now) cut old new tells (Err fault)
       → 0 < length (window old.limit old.taken (left old.slot))
       → Advances (parts_to_come chain cut old.limit old.taken now (left old.slot)) behind (Err fault)
   later_advances {left = left} {old = old} {fault = fault} behind now tells_so h some =
       fault_advances behind old.limit old.taken now (left old.slot) fault (h.scanned tells_so) (λ e. inr some)
 
 -- a first field that was taken
-pub some_taken : {R : Type 0} {told : Bool} {faults faults' : ℕ} {left left' : ℕ → List ℕ} {holds holds' : List ℕ → Option (List ℕ)}
+pub some_taken : {R : Type 0} {told : Bool} {calls calls' : Calls} {left left' : ℕ → List ℕ} {holds holds' : List ℕ → Option (List ℕ)}
     {old new : Counted} {into : List ℕ} {size : ℕ} {cut : R} → IsTrue told → 0 < size
-    → Starts told faults faults' left left' holds holds' size cut old new into (Ok true)
+    → Starts told calls calls' left left' holds holds' size cut old new into (Ok true)
     → 0 < length (window old.limit old.taken (left old.slot))
 some_taken {R} {left = left} {old = old} {size = size} tells_so some h =
     let took = h.started tells_so in
@@ -76,12 +76,12 @@ some_taken {R} {left = left} {old = old} {size = size} tells_so some h =
     omega (arith, a, took.within, some)
 
 -- the first octets of a part were taken, and then what stands behind them was read
-pub part_reads : {S P T R : Type 0} {cut : R} {told : Bool} {faults mid late : ℕ} {left left' left'' : ℕ → List ℕ}
+pub part_reads : {S P T R : Type 0} {cut : R} {told : Bool} {calls mid late : Calls} {left left' left'' : ℕ → List ℕ}
     {holds holds' holds'' : List ℕ → Option (List ℕ)} {old now new : Counted} {front : List ℕ} {tells : T → P × S} {result : Result T (Fault R)}
     (first : ℕ) (behind : S → ℕ → List ℕ → Scanner (P × S) R) (state : S) → now.taken ≡ old.taken + first
-    → Starts told faults mid left left' holds holds' first cut old now front (Ok true)
+    → Starts told calls mid left left' holds holds' first cut old now front (Ok true)
     → Reads told mid late left' left'' holds' holds'' (behind state (now.taken - first) front) cut now new tells result
-    → Reads told faults late left left'' holds holds'' (part_in first behind state) cut old new tells result
+    → Reads told calls late left left'' holds holds'' (part_in first behind state) cut old new tells result
 part_reads {old = old} {now = now} {front = front} {tells = tells} first behind state taken starts h =
     let spot : now.taken - first ≡ old.taken = omega (arith, taken) in
     reads_as (part_in first behind state) (λ octets. refl)

@@ -1,14 +1,16 @@
 -- Loops that read a chain of fields: what of the chain is still to be read, behind the fields that were.
 use Rattle.std.proofs.Common.{◌≡◌, ℕ, List, Bool, Option, Result, Ok, Err, IsTrue, ◌≢◌, ◌≤◌, ◌+◌, length, drop, refl, ap, sym, ◌∙◌, subst, arith, le_trans}
 use Rattle.std.proofs.lemmas.List.{drop-drop}
+use Rattle.fs_base.specs.Draws.{Passed}
 use Rattle.fs_base.specs.Parts.{at_limit, window}
 use Rattle.fs_base.specs.declared.counted.Counted.{Counted}
+use Rattle.fs_base.proofs.Drawing.{passed_none}
 use Rattle.fs_records.specs.declared.fault.Fault.{Fault}
 use Rattle.fs_scan.specs.Scan.{Scan, Scanner, and, behind, got, partial, wrong}
 use Rattle.fs_records.specs.Records.{End}
-use Rattle.fs_scan.specs.Reads.{Fails, Reads, Scanned, Took, end_of, ends_by}
+use Rattle.fs_scan.specs.Reads.{Calls, Fails, Reads, Scanned, Took, end_of, ends_by}
 use Rattle.fs_scan.proofs.Joining.{behind_took, chain_is, end_behind}
-use Rattle.fs_scan.proofs.Lifting.{failed_later}
+use Rattle.fs_scan.proofs.Lifting.{failed_later, passed_behind}
 
 -- so many octets of the chain were taken, and this rest of it is to be read
 pub record Stage {A R : Type 0} (chain rest : Scanner A R) (limit taken taken' : ℕ) (left left' : List ℕ) : Type 0 where
@@ -93,17 +95,19 @@ stage_field first next limit taken taken' left left' value took = record {
 }
 
 -- What a loop did to the files that has read a chain up to this rest of it.
-module _ {A R : Type 0} (told : Bool) (faults faults' : ℕ) (left left' : ℕ → List ℕ) (holds holds' : List ℕ → Option (List ℕ)) where
+module _ {A R : Type 0} (told : Bool) (calls calls' : Calls) (left left' : ℕ → List ℕ) (holds holds' : List ℕ → Option (List ℕ)) where
   pub record Going (chain rest : Scanner A R) (old now : Counted) : Type 0 where
-    pub later : faults ≤ faults'
+    pub later : calls.faults ≤ calls'.faults
     pub slot : now.slot ≡ old.slot
     pub limit : now.limit ≡ old.limit
     pub staged : IsTrue told → Stage chain rest old.limit old.taken now.taken (left old.slot) (left' old.slot)
     pub others : IsTrue told → (other : ℕ) → other ≢ old.slot → left' other ≡ left other
     pub same : IsTrue told → holds' ≡ holds
+    pub took : IsTrue told → Passed old.limit old.taken now.taken (left old.slot) (left' old.slot)
+    pub opened : calls'.opened ≡ calls.opened
 
-pub going_start : {A R : Type 0} {told : Bool} {faults : ℕ} {left : ℕ → List ℕ} {holds : List ℕ → Option (List ℕ)} {now : Counted}
-    (chain : Scanner A R) → Going told faults faults left left holds holds chain chain now now
+pub going_start : {A R : Type 0} {told : Bool} {calls : Calls} {left : ℕ → List ℕ} {holds : List ℕ → Option (List ℕ)} {now : Counted}
+    (chain : Scanner A R) → Going told calls calls left left holds holds chain chain now now
 going_start {left = left} {now = now} chain = record {
   later = omega arith;
   slot = refl;
@@ -111,15 +115,17 @@ going_start {left = left} {now = now} chain = record {
   staged = λ tells_so. stage_start chain now.limit now.taken (left now.slot);
   others = λ tells_so other apart. refl;
   same = λ tells_so. refl;
+  took = λ tells_so. passed_none now.limit now.taken (left now.slot) now.within;
+  opened = refl;
 }
 
 -- one field more
-pub going_more : {T A B R : Type 0} {chain : Scanner A R} {first : Scanner B R} {cut : R} {tells : T → B} {told : Bool} {faults mid late : ℕ}
+pub going_more : {T A B R : Type 0} {chain : Scanner A R} {first : Scanner B R} {cut : R} {tells : T → B} {told : Bool} {calls mid late : Calls}
     {left left' left'' : ℕ → List ℕ} {holds holds' holds'' : List ℕ → Option (List ℕ)} {old now new : Counted} {answer : T}
     (next : B → Scanner A R)
-    → Going told faults mid left left' holds holds' chain (and first next) old now
+    → Going told calls mid left left' holds holds' chain (and first next) old now
     → Reads told mid late left' left'' holds' holds'' first cut now new tells (Ok answer)
-    → Going told faults late left left'' holds holds'' chain (next (tells answer)) old new
+    → Going told calls late left left'' holds holds'' chain (next (tells answer)) old new
 going_more {chain = chain} {first = first} {cut = cut} {tells = tells} {left = left} {left' = left'} {left'' = left''} {old = old} {now = now}
     {new = new} {answer = answer} next one more = record {
       later = le_trans one.later more.later;
@@ -135,6 +141,9 @@ going_more {chain = chain} {first = first} {cut = cut} {tells = tells} {left = l
       others = λ tells_so other apart.
           more.others tells_so other (λ same. apart (same ∙ one.slot)) ∙ one.others tells_so other apart;
       same = λ tells_so. more.same tells_so ∙ one.same tells_so;
+      took = λ tells_so.
+          passed_behind old now new left left' left'' one.slot one.limit (one.took tells_so) (more.took tells_so);
+      opened = more.opened ∙ one.opened;
     }
 
 staged_reads : {T A R : Type 0} (chain rest : Scanner A R) (cut : R) (tells : T → A) (limit taken taken' taken'' : ℕ) (left left' left'' : List ℕ)
@@ -147,15 +156,15 @@ staged_reads chain rest cut tells limit taken taken' taken'' left left' left'' (
     subst (λ end. Fails end fault) (sym (stage_ends chain rest limit taken taken' taken'' left left' left'' cut one)) more
 
 -- and then the rest
-pub going_then : {T A R : Type 0} {chain rest : Scanner A R} {cut : R} {tells : T → A} {told : Bool} {faults mid late : ℕ}
+pub going_then : {T A R : Type 0} {chain rest : Scanner A R} {cut : R} {tells : T → A} {told : Bool} {calls mid late : Calls}
     {left left' left'' : ℕ → List ℕ} {holds holds' holds'' : List ℕ → Option (List ℕ)} {old now new : Counted} {result : Result T (Fault R)}
-    → Going told faults mid left left' holds holds' chain rest old now
+    → Going told calls mid left left' holds holds' chain rest old now
     → Reads told mid late left' left'' holds' holds'' rest cut now new tells result
-    → Reads told faults late left left'' holds holds'' chain cut old new tells result
-going_then {chain = chain} {rest = rest} {cut = cut} {tells = tells} {faults = faults} {mid = mid} {late = late} {left = left} {left' = left'}
+    → Reads told calls late left left'' holds holds'' chain cut old new tells result
+going_then {chain = chain} {rest = rest} {cut = cut} {tells = tells} {calls = calls} {mid = mid} {late = late} {left = left} {left' = left'}
     {left'' = left''} {old = old} {now = now} {new = new} {result = result} one more = record {
       later = le_trans one.later more.later;
-      failed = failed_later result faults mid late one.later more.failed;
+      failed = failed_later result calls.faults mid.faults late.faults one.later more.failed;
       slot = more.slot ∙ one.slot;
       limit = more.limit ∙ one.limit;
       scanned = λ tells_so.
@@ -167,4 +176,7 @@ going_then {chain = chain} {rest = rest} {cut = cut} {tells = tells} {faults = f
       others = λ tells_so other apart.
           more.others tells_so other (λ same. apart (same ∙ one.slot)) ∙ one.others tells_so other apart;
       same = λ tells_so. more.same tells_so ∙ one.same tells_so;
+      took = λ tells_so.
+          passed_behind old now new left left' left'' one.slot one.limit (one.took tells_so) (more.took tells_so);
+      opened = more.opened ∙ one.opened;
     }

@@ -1,5 +1,7 @@
 -- What a call that reads a chain of fields does to the files and to the slot that it reads.
 use Rattle.std.specs.Prelude.{ℕ, List, ◌++◌, Option, Some, None, Result, Ok, Err, Bool, true, false, IsTrue, IfErr, ◌≡◌, ◌≢◌, ◌≤◌, ◌<◌, ◌+◌, ◌==◌, ◌⊎◌, length, drop, if◌then◌else◌, ⊤}
+use Rattle.fs_base.specs.Draws.{Passed}
+use Rattle.fs_base.specs.Files.{Opened}
 use Rattle.fs_base.specs.Outside.{Rose}
 use Rattle.fs_base.specs.Parts.{at_limit, window}
 use Rattle.fs_base.specs.declared.counted.Counted.{Counted}
@@ -41,13 +43,21 @@ Scanned scanner cut limit taken taken' left left' tells (Ok answer) =
     Took (scanner taken (window limit taken left)) (length (window limit taken left)) taken taken' left left' (tells answer)
 Scanned scanner cut limit taken taken' left left' tells (Err fault) = Fails (ends_by scanner cut limit taken left) fault
 
--- The files that tell their octets give those of the slot as the chain says, and nothing else changes. Their faults
--- never fall, and rose where `Read` is answered.
-module _ {T A R : Type 0} (told : Bool) (faults faults' : ℕ) (left left' : ℕ → List ℕ)
+-- what files show of the calls so far: their faults, and their openings
+pub record Calls : Type 0 where
+  pub faults : ℕ
+  pub opened : Option (List Opened)
+
+abbrev pub calls_of : {F : Type 0} → files.Ghosts F → F → Calls
+calls_of of_files now = record { faults = of_files.faults now; opened = of_files.opened now }
+
+-- The files that tell their octets give those of the slot as the chain says, none past the limit whatever is answered, and
+-- nothing else changes. Their faults never fall, and rose where `Read` is answered. No file is opened.
+module _ {T A R : Type 0} (told : Bool) (calls calls' : Calls) (left left' : ℕ → List ℕ)
     (holds holds' : List ℕ → Option (List ℕ)) where
   pub record Reads (scanner : Scanner A R) (cut : R) (old new : Counted) (tells : T → A) (result : Result T (Fault R)) : Type 0 where
-    pub later : faults ≤ faults'
-    pub failed : IfErr result (λ fault. fault ≡ Read → Rose faults faults')
+    pub later : calls.faults ≤ calls'.faults
+    pub failed : IfErr result (λ fault. fault ≡ Read → Rose calls.faults calls'.faults)
     pub slot : new.slot ≡ old.slot
     pub limit : new.limit ≡ old.limit
     pub scanned :
@@ -55,6 +65,8 @@ module _ {T A R : Type 0} (told : Bool) (faults faults' : ℕ) (left left' : ℕ
         → Scanned scanner cut old.limit old.taken new.taken (left old.slot) (left' old.slot) tells result
     pub others : IsTrue told → (other : ℕ) → other ≢ old.slot → left' other ≡ left other
     pub same : IsTrue told → holds' ≡ holds
+    pub took : IsTrue told → Passed old.limit old.taken new.taken (left old.slot) (left' old.slot)
+    pub opened : calls'.opened ≡ calls.opened
 
 -- what is left of an input, where octets of it were put back
 abbrev pub ahead : Counted → (ℕ → List ℕ) → ℕ → List ℕ
@@ -64,14 +76,14 @@ ahead counted left slot = if slot == counted.slot then counted.back ++ left slot
 abbrev pub Scans : {F T A R : Type 0} → files.Ghosts F → (old new : F) → Scanner A R → R → (before now : Counted)
     → (T → A) → Result T (Fault R) → Type 0
 Scans of_files old new scanner cut before now tells result =
-    Reads of_files.tells (of_files.faults old) (of_files.faults new) (of_files.left old) (of_files.left new)
+    Reads of_files.tells (calls_of of_files old) (calls_of of_files new) (of_files.left old) (of_files.left new)
     (of_files.holds old) (of_files.holds new) scanner cut before now tells result
 
 -- and where octets of the input were put back
 abbrev pub ScansAgain : {F T A R : Type 0} → files.Ghosts F → (old new : F) → Scanner A R → R → (before now : Counted)
     → (T → A) → Result T (Fault R) → Type 0
 ScansAgain of_files old new scanner cut before now tells result =
-    Reads of_files.tells (of_files.faults old) (of_files.faults new)
+    Reads of_files.tells (calls_of of_files old) (calls_of of_files new)
     (ahead before (of_files.left old)) (ahead now (of_files.left new))
     (of_files.holds old) (of_files.holds new) scanner cut before now tells result
 
@@ -97,10 +109,10 @@ Started size cut limit taken taken' left left' into (Err fault) =
     Fails (ends_by (field size whole) cut limit taken left) fault × (fault ≢ Read → HasMore limit taken left)
 
 -- A call that begins a part does to the files what `Reads` says of one that reads a chain of fields.
-module _ {R : Type 0} (told : Bool) (faults faults' : ℕ) (left left' : ℕ → List ℕ) (holds holds' : List ℕ → Option (List ℕ)) where
+module _ {R : Type 0} (told : Bool) (calls calls' : Calls) (left left' : ℕ → List ℕ) (holds holds' : List ℕ → Option (List ℕ)) where
   pub record Starts (size : ℕ) (cut : R) (old new : Counted) (into : List ℕ) (result : Result Bool (Fault R)) : Type 0 where
-    pub later : faults ≤ faults'
-    pub failed : IfErr result (λ fault. fault ≡ Read → Rose faults faults')
+    pub later : calls.faults ≤ calls'.faults
+    pub failed : IfErr result (λ fault. fault ≡ Read → Rose calls.faults calls'.faults)
     pub slot : new.slot ≡ old.slot
     pub limit : new.limit ≡ old.limit
     pub started :
@@ -108,10 +120,12 @@ module _ {R : Type 0} (told : Bool) (faults faults' : ℕ) (left left' : ℕ →
         → Started size cut old.limit old.taken new.taken (left old.slot) (left' old.slot) into result
     pub others : IsTrue told → (other : ℕ) → other ≢ old.slot → left' other ≡ left other
     pub same : IsTrue told → holds' ≡ holds
+    pub took : IsTrue told → Passed old.limit old.taken new.taken (left old.slot) (left' old.slot)
+    pub opened : calls'.opened ≡ calls.opened
 
 -- so of files before and behind a call; in a clause: `StartsIn F.Files files.old files.new ..`
 abbrev pub StartsIn : {F R : Type 0} → files.Ghosts F → (old new : F) → (size : ℕ) → R → (before now : Counted)
     → (into : List ℕ) → Result Bool (Fault R) → Type 0
 StartsIn of_files old new size cut before now into result =
-    Starts of_files.tells (of_files.faults old) (of_files.faults new) (of_files.left old) (of_files.left new)
+    Starts of_files.tells (calls_of of_files old) (calls_of of_files new) (of_files.left old) (of_files.left new)
     (of_files.holds old) (of_files.holds new) size cut before now into result

@@ -2,6 +2,7 @@
 ghost use Rattle.std.specs.Prelude.{◌≡◌, ◌≤◌, ◌<◌, [], None, IsSome, IsTrue, IfOk, IfSome, length};
 ghost use Rattle.std.specs.Option.{option_map};
 ghost use Rattle.std.specs.Result.{IsErrOf};
+ghost use Rattle.fs_base.specs.Draws.{Draws};
 ghost use Rattle.fs_base.specs.Files.{OnlySlot};
 ghost use Rattle.fs_base.specs.Outside.{Rose};
 ghost use Rattle.fs_base.specs.Parts.{with_part};
@@ -57,6 +58,9 @@ pub fn next_part<F: Files, P: Parts>(
         (told_to_come (part_in P.first (P.behind given.now)) P.cut counted.new.limit counted.new.taken parts.new
         (F.left files.new counted.old.slot)))
         result }
+    ensures took { IsTrue F.tells
+        → Draws counted.old counted.new (F.left files.old counted.old.slot) (F.left files.new counted.old.slot) }
+    ensures opened { F.opened files.new ≡ F.opened files.old }
     ensures others { OnlySlot F.tells F.left F.holds counted.old.slot files.old files.new }
 {
     if let Some(ended) = *end {
@@ -95,6 +99,9 @@ fn next_told<F: Files, P: Parts>(
         (told_to_come (part_in P.first (P.behind given.now)) P.cut counted.new.limit counted.new.taken parts.new
         (F.left files.new counted.old.slot)))
         result }
+    ensures took { IsTrue F.tells
+        → Draws counted.old counted.new (F.left files.old counted.old.slot) (F.left files.new counted.old.slot) }
+    ensures opened { F.opened files.new ≡ F.opened files.old }
     ensures others { OnlySlot F.tells F.left F.holds counted.old.slot files.old files.new }
 {
     'parts: loop {
@@ -135,6 +142,9 @@ fn advance<F: Files, P: Parts>(
         (parts_to_come (part_in P.first (P.behind given.now)) P.cut counted.new.limit counted.new.taken parts.new
         (F.left files.new counted.new.slot)))
         result }
+    ensures took { IsTrue F.tells
+        → Draws counted.old counted.new (F.left files.old counted.old.slot) (F.left files.new counted.old.slot) }
+    ensures opened { F.opened files.new ≡ F.opened files.old }
     ensures others { OnlySlot F.tells F.left F.holds counted.old.slot files.old files.new }
 {
     let mut octets = [0u8; MOST_FIRST];

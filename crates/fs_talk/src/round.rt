@@ -1,6 +1,6 @@
 //! One round of an end, and one message of its own.
 
-ghost use Rattle.std.specs.Prelude.{◌≡◌, ◌≤◌, ◌<◌, ◌+◌, ◌∷◌, [], ℕ, false, IsSome, IsTrue, None, IfOk, OnOk, OnErr, Ok, length, unwrap_or};
+ghost use Rattle.std.specs.Prelude.{◌≡◌, ◌≤◌, ◌<◌, ◌+◌, ◌∷◌, [], ℕ, false, IsSome, IsTrue, None, IfOk, IsOk, OnOk, OnErr, Ok, length, unwrap_or};
 ghost use Rattle.std.specs.Result.{IsErrOf};
 ghost use Rattle.std.specs.Io.{ReadsAtMost};
 ghost use Rattle.fs_base.specs.Outside.{HasCause, Rose};
@@ -14,11 +14,12 @@ use crate::room::{PIECE, Room};
 use crate::speaker::Speaker;
 use fs_base::{Clock, Failed, Wire};
 
-/// Writes the whole of `piece` through an end.
+/// Writes the whole of `piece` through an end. An empty piece leaves the wire untouched.
 pub fn write_end<W: Wire>(wire: &mut W, end: u8, piece: &[u8]) -> Result<(), Failed>
     requires { end ≤ 1 }
     ensures cause { HasCause (W.faults wire.old) (W.faults wire.new) result }
     ensures took { OnOk result (Told (TakesIn end piece.now) (W.tells wire.old) (W.tells wire.new)) }
+    ensures idle { length piece.now ≡ 0 → (IsOk result) × (wire.new ≡ wire.old) }
 {
     let mut rest = piece;
     while !rest.is_empty() {

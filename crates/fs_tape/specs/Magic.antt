@@ -7,6 +7,10 @@ use Rattle.fs_tape.specs.declared.fault.TapeReason.TheVariants.{Magic}
 use Rattle.fs_tape.specs.declared.magic.Version.{Version}
 use Rattle.fs_tape.specs.declared.magic.Version.TheVariants.{One, Two}
 
+abbrev pub version_number : Version → ℕ
+version_number One = 1
+version_number Two = 2
+
 -- the octets "FSTAPE1" or "FSTAPE2", and a newline
 abbrev pub magic_of : Version → List ℕ
 magic_of One = 70 ∷ 83 ∷ 84 ∷ 65 ∷ 80 ∷ 69 ∷ 49 ∷ 10 ∷ []

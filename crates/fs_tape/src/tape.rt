@@ -1,5 +1,5 @@
 //! A tape, read record by record.
-ghost use Rattle.std.specs.Prelude.{◌≡◌, ◌≤◌, [], None, IsSome, IsTrue, IfOk, IfSome, drop, length, take};
+ghost use Rattle.std.specs.Prelude.{◌≡◌, ◌≤◌, ◌++◌, [], None, IsSome, IsTrue, IfOk, IfSome, drop, length, take};
 ghost use Rattle.std.specs.Result.{IsErrOf};
 ghost use Rattle.fs_base.specs.Config.{peer_of};
 ghost use Rattle.fs_base.specs.Files.{OnlySlot};
@@ -9,6 +9,7 @@ ghost use Rattle.fs_base.specs.declared.config.Config.{Config};
 ghost use Rattle.fs_records.specs.Opening.{Opens};
 ghost use Rattle.fs_records.specs.Reading.{Advances, answer_of, ended_after};
 ghost use Rattle.fs_tape.specs.Header.{longest_payload};
+ghost use Rattle.fs_tape.specs.Magic.{version_number};
 ghost use Rattle.fs_tape.specs.Tape.{Grows, IsBegun, IsItem, Tells, Times, item_from, timed, version_of};
 
 use crate::fault::{TapeFault, TapeReason};
@@ -51,7 +52,7 @@ impl Tape {
     ghost use Rattle.fs_records.specs.declared.fault.Fault.TheVariants.{Read};
     ghost use Rattle.fs_tape.specs.Tape.{TapeState, coming};
 
-    /// Reads the magic, up to the limit.
+    /// Reads the magic, up to the limit. Octets of its front may have been put back.
     ///
     /// # Errors
     ///
@@ -59,7 +60,6 @@ impl Tape {
     /// limit allows; `Read` where the files failed.
     pub fn begin<F: Files>(mut counted: Counted, files: &mut F) -> Result<Tape, TapeFault>
         requires start { counted.taken ≡ 0 }
-        requires none { counted.back ≡ [] }
         ensures later { F.faults files.old ≤ F.faults files.new }
         ensures read { IsErrOf result Read → Rose (F.faults files.old) (F.faults files.new) }
         ensures state { IfOk result (IsBegun counted.slot counted.limit) }
@@ -68,10 +68,11 @@ impl Tape {
         ensures opens { IsTrue F.tells
             → Opens
             (λ (tape : TapeState). tape.version)
-            (version_of counted.limit (F.left files.old counted.slot))
-            (drop 8 (F.left files.old counted.slot))
+            (version_of counted.limit (counted.back ++ F.left files.old counted.slot))
+            (drop 8 (counted.back ++ F.left files.old counted.slot))
             (F.left files.new counted.slot)
             result }
+        ensures opened { F.opened files.new ≡ F.opened files.old }
         ensures others { OnlySlot F.tells F.left F.holds counted.slot files.old files.new }
     {
         let mut front = [0u8; MAGIC_SIZE];
@@ -89,8 +90,18 @@ impl Tape {
         }
     }
 
-    /// The version, which the magic tells.
-    pub fn version(&self) -> Version
+    /// The number of the version, which the magic tells: 1 or 2.
+    pub fn version(&self) -> u8
+        ensures { result ≡ version_number self.now.version }
+    {
+        match self.version {
+            Version::One => 1,
+            Version::Two => 2,
+        }
+    }
+
+    /// The version, by whether its records have moments.
+    pub fn format(&self) -> Version
         ensures { result ≡ self.now.version }
     {
         self.version
@@ -139,6 +150,7 @@ impl Tape {
             (timed self.new.moment (item_from item into.new))
             (coming config.now self.new (F.left files.new self.old.slot)))
             result }
+        ensures opened { F.opened files.new ≡ F.opened files.old }
         ensures others { OnlySlot F.tells F.left F.holds self.old.slot files.old files.new }
     {
         let context = Context {

@@ -1,6 +1,6 @@
 use Rattle.std.proofs.Common.{rules, ◌≡◌, ◌≤◌, ◌+◌, Some, take, drop, subst, ap, sym, ◌∙◌, Ok}
 use Rattle.byteorder.specs.Endian.{big_number}
-use Rattle.fs_scan.specs.Reads.{Reads, whole}
+use Rattle.fs_scan.specs.Reads.{Reads, calls_of, whole}
 use Rattle.fs_scan.specs.Scan.{field}
 use Rattle.fs_mrt.specs.Record.{ends_size}
 use Rattle.fs_mrt.specs.Shape.{family_of, front_size, states_size}
@@ -22,7 +22,7 @@ returns-clause-reads g c =
     front_reads c.args.head.spot c.args.head.seconds c.args.head.size c.args.shape octets c.in-Some.family c.time_of.result four some most
     (subst (λ n. family_of (big_number 2 (drop n octets)) ≡ Some c.in-Some.family) first says) room c.time_of.ensures
     (subst
-    (λ n. Reads g.F.Files.tells (g.F.Files.faults c.args.files.now) (g.F.Files.faults c.take_part.new.files)
+    (λ n. Reads g.F.Files.tells (calls_of g.F.Files c.args.files.now) (calls_of g.F.Files c.take_part.new.files)
     (g.F.Files.left c.args.files.now) (g.F.Files.left c.take_part.new.files)
     (g.F.Files.holds c.args.files.now) (g.F.Files.holds c.take_part.new.files) (field (n + 2) whole) Cut
     c.args.counted.now c.take_part.new.counted (λ _. take (n + 2) octets) (Ok c.in_default.field-0))

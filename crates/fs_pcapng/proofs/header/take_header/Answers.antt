@@ -1,10 +1,11 @@
-use Rattle.std.proofs.Common.{rules, ◌≡◌, ◌+◌, ◌-◌, true, false, Some, take, length, ap, sym, ◌∙◌, arith}
+use Rattle.std.proofs.Common.{rules, ◌≡◌, ◌+◌, ◌-◌, true, false, Some, None, take, length, ap, sym, ◌∙◌, arith}
 use Rattle.std.proofs.lemmas.List.{take_all}
 use Rattle.fs_pcap.specs.Order.{number}
 use Rattle.fs_pcap.specs.declared.order.Endian.{Endian}
+use Rattle.fs_scan.specs.Scan.{fails}
 use Rattle.fs_scan.proofs.Lifting.{reads_as, reads_fails, reads_then}
 use Rattle.fs_pcapng.specs.Block.{allows, frame_of, magic_behind, order_of, ordered_in, version_in}
-use Rattle.fs_pcapng.specs.declared.fault.NgReason.TheVariants.{Length}
+use Rattle.fs_pcapng.specs.declared.fault.NgReason.TheVariants.{Length, Magic}
 use Rattle.fs_pcapng.proofs.Parts.{needs_false, needs_true}
 use Rattle.fs_pcapng.proofs.header.take_header.Goals as goal
 
@@ -51,3 +52,18 @@ returns-then-not-allows-clause-reads g c =
     (version_in (frame_of order start (number order 4 (take 4 octets)))) (place - 8) test spot place rest
     ∙ ap (λ o. ordered_in start (take 4 octets) o place rest) found)
     (reads_fails (λ (o : Endian). o) Length (place - 8))))
+
+pub returns-in_default-order_of-clause-reads : goal.returns-in_default-order_of-clause-reads
+returns-in_default-order_of-clause-reads g c =
+    let start = c.args.start in
+    let octets = c.take_front.new.into in
+    let place = c.take_number.new.counted.taken in
+    let found : None ≡ order_of c.in-Ok.magic = search rules in
+    let first : c.take_front.new.counted.taken ≡ c.args.counted.now.taken + 4 = c.in_default.ensures.taken in
+    let second : place ≡ c.take_front.new.counted.taken + 4 = c.in-Ok.ensures.taken in
+    let spot : place - 4 ≡ start + 8 = omega (arith, first, second, c.requires.place) in
+    reads_then (magic_behind start) (λ (o : Endian). o) c.in_default.ensures.reads
+    (reads_then (λ magic. ordered_in start (take 4 octets) (order_of magic)) (λ (o : Endian). o) c.in-Ok.ensures.reads
+    (reads_as (ordered_in start (take 4 octets) (order_of c.in-Ok.magic))
+    (λ rest. ap (λ n. fails {A = Endian} Magic n place rest) spot ∙ ap (λ o. ordered_in start (take 4 octets) o place rest) found)
+    (reads_fails (λ (o : Endian). o) Magic (place - 4))))

@@ -1,4 +1,5 @@
 use Rattle.std.proofs.Common.{◌≡◌, ◌≤◌, ◌+◌, []}
+use Rattle.fs_scan.specs.Reads.{calls_of}
 use Rattle.fs_pcapng.proofs.Cursors.{Moved}
 use Rattle.fs_pcapng.proofs.options.read_options.Given as goal
 
@@ -7,7 +8,7 @@ invariant-options g l = record {
   none : l.counted.back ≡ [];
   left : l.now.left ≤ l.size;
   taken : l.counted.taken + l.now.left ≡ l.fn.counted.taken + l.size;
-  walked : Moved l.order l.size g.F.Files.tells (g.F.Files.faults l.fn.files) (g.F.Files.faults l.files) (g.F.Files.left l.fn.files)
+  walked : Moved l.order l.size g.F.Files.tells (calls_of g.F.Files l.fn.files) (calls_of g.F.Files l.files) (g.F.Files.left l.fn.files)
       (g.F.Files.left l.files) (g.F.Files.holds l.fn.files) (g.F.Files.holds l.files) l.fn.counted l.counted l.now;
 }
 

@@ -1,5 +1,6 @@
 use Rattle.std.proofs.Common.{rules, ◌≡◌, length, take, sym, ◌∙◌, arith}
 use Rattle.std.proofs.lemmas.List.{length-take}
+use Rattle.fs_base.proofs.Drawing.{draws_straight}
 use Rattle.fs_base.proofs.Filled.{fills_straight}
 use Rattle.fs_pcapng.specs.Packets.{told_in}
 use Rattle.fs_pcapng.proofs.Told.{settled_reads, told_reads}
@@ -24,4 +25,6 @@ returns-clause-reads g c = rw c.settle.ensures (record {
       (search rules) c.in-Ok.ensures.taken;
   others = λ told. search rules;
   same = λ told. search rules;
+  took = λ told. draws_straight _ _ _ _ c.requires.none (c.in-Ok.ensures.took told);
+  opened = c.in-Ok.ensures.opened;
 })

@@ -1,6 +1,7 @@
 use Rattle.std.proofs.Common.{rules, arith, ◌≡◌, ◌∙◌, refl, ◌+◌, ◌-◌, ◌<◌, ◌≤◌, ◌++◌, length, take, drop}
 use Rattle.std.proofs.lemmas.List.{take-append-le, length-take}
 use Rattle.fs_base.specs.Parts.{with_part}
+use Rattle.fs_base.proofs.Drawing.{draws_more}
 use Rattle.fs_base.proofs.Filled.{fills_straight, none_left}
 use Rattle.fs_records.specs.Records.{records_to_come}
 use Rattle.fs_records.specs.declared.head.Found.{Found}
@@ -88,3 +89,18 @@ returns-else-count-size-clause-advances g c = λ told.
       c.in-Ok.ensures.taken,
       octets,
     ) refl
+
+pub returns-then-count-size-clause-took : goal.returns-then-count-size-clause-took
+returns-then-count-size-clause-took g c = λ told.
+    draws_more _ _ _ (g.F.Files.left c.args.files.now) (g.F.Files.left c.fill.new.files) (g.F.Files.left c.fill-in-Whole.new.files)
+    c.in-Ok.ensures.kept_slot c.in-Ok.ensures.kept_limit (c.in-Ok.ensures.took told) (c.in-Ok-fill.ensures.took told)
+
+pub returns-else-count-size-clause-took : goal.returns-else-count-size-clause-took
+returns-else-count-size-clause-took g c = λ told.
+    draws_more _ _ _ (g.F.Files.left c.args.files.now) (g.F.Files.left c.fill.new.files) (g.F.Files.left c.fill-in-Whole.new.files)
+    c.in-Ok.ensures.kept_slot c.in-Ok.ensures.kept_limit (c.in-Ok.ensures.took told) (c.in-Ok-fill.ensures.took told)
+
+pub returns-in_default-fill-clause-took : goal.returns-in_default-fill-clause-took
+returns-in_default-fill-clause-took g c = λ told.
+    draws_more _ _ _ (g.F.Files.left c.args.files.now) (g.F.Files.left c.fill.new.files) (g.F.Files.left c.fill-in-Whole.new.files)
+    c.in-Ok.ensures.kept_slot c.in-Ok.ensures.kept_limit (c.in-Ok.ensures.took told) (c.in_default-fill.ensures.took told)

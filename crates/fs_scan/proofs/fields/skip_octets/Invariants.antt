@@ -13,6 +13,7 @@ invariant-pieces g l = record {
   later : g.F.Files.faults l.fn.files ≤ g.F.Files.faults l.files;
   others : IsTrue g.F.Files.tells → (other : ℕ) → other ≢ l.fn.counted.slot → g.F.Files.left l.files other ≡ g.F.Files.left l.fn.files other;
   same : IsTrue g.F.Files.tells → g.F.Files.holds l.files ≡ g.F.Files.holds l.fn.files;
+  opened : g.F.Files.opened l.files ≡ g.F.Files.opened l.fn.files;
   skipped :
       IsTrue g.F.Files.tells
       → Skipped l.fn.counted.limit l.fn.counted.taken l.counted.taken (l.size - l.left) (g.F.Files.left l.fn.files l.fn.counted.slot)

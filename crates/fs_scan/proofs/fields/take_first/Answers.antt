@@ -1,4 +1,5 @@
 use Rattle.std.proofs.Common.{rules, arith, ◌<◌, ◌≤◌, ◌∙◌, length, sym}
+use Rattle.fs_base.proofs.Drawing.{draws_straight}
 use Rattle.fs_base.proofs.Filled.{fills_straight}
 use Rattle.fs_scan.proofs.Short.{field_fails, more_is, over_is, short_reads}
 use Rattle.fs_scan.proofs.Taking.{field_took}
@@ -17,6 +18,8 @@ returns-then-count-into-clause-starts g c = record {
       filled whole c.in-Ok.ensures.taken;
   others = λ told. search rules;
   same = λ told. search rules;
+  took = λ told. draws_straight _ _ _ _ c.requires.none (c.in-Ok.ensures.took told);
+  opened = c.in-Ok.ensures.opened;
 }
 
 pub returns-then-is_over-clause-starts : goal.returns-then-is_over-clause-starts
@@ -32,6 +35,8 @@ returns-then-is_over-clause-starts g c = record {
       filled short (search rules) c.in-Ok.ensures.taken (rw c.in-Ok.ensures.kept_limit at (sym c.is_over.ensures ∙ c.if-is_over.true));
   others = λ told. search rules;
   same = λ told. search rules;
+  took = λ told. draws_straight _ _ _ _ c.requires.none (c.in-Ok.ensures.took told);
+  opened = c.in-Ok.ensures.opened;
 }
 
 pub returns-clause-starts : goal.returns-clause-starts
@@ -53,4 +58,6 @@ returns-clause-starts g c = rw c.short.ensures (record {
       );
   others = λ told. search rules;
   same = λ told. search rules;
+  took = λ told. draws_straight _ _ _ _ c.requires.none (c.in-Ok.ensures.took told);
+  opened = c.in-Ok.ensures.opened;
 })

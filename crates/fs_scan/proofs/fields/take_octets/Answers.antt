@@ -1,4 +1,5 @@
 use Rattle.std.proofs.Common.{rules, ◌≤◌, length}
+use Rattle.fs_base.proofs.Drawing.{draws_straight}
 use Rattle.fs_base.proofs.Filled.{fills_straight}
 use Rattle.fs_scan.proofs.Taking.{field_took}
 use Rattle.fs_scan.proofs.fields.take_octets.Goals as goal
@@ -16,4 +17,6 @@ returns-clause-reads g c = record {
       filled whole c.in-Ok.ensures.taken;
   others = λ told. search rules;
   same = λ told. search rules;
+  took = λ told. draws_straight _ _ _ _ c.requires.none (c.in-Ok.ensures.took told);
+  opened = c.in-Ok.ensures.opened;
 }

@@ -1,4 +1,5 @@
 use Rattle.std.proofs.Common.{◌≡◌, ◌≢◌, ◌≤◌, ◌-◌, [], None, ℕ, length, IsTrue}
+use Rattle.fs_base.specs.Draws.{Draws}
 use Rattle.fs_scan.specs.Coming.{part_in, told_to_come}
 use Rattle.fs_scan.proofs.reading.next_told.Given as goal
 
@@ -15,6 +16,10 @@ invariant-parts g l =
       later : g.F.Files.faults l.fn.files ≤ g.F.Files.faults l.files;
       others : IsTrue g.F.Files.tells → (other : ℕ) → other ≢ l.fn.counted.slot → g.F.Files.left l.files other ≡ g.F.Files.left l.fn.files other;
       same : IsTrue g.F.Files.tells → g.F.Files.holds l.files ≡ g.F.Files.holds l.fn.files;
+      took :
+          IsTrue g.F.Files.tells
+          → Draws l.fn.counted l.counted (g.F.Files.left l.fn.files l.fn.counted.slot) (g.F.Files.left l.files l.fn.counted.slot);
+      opened : g.F.Files.opened l.files ≡ g.F.Files.opened l.fn.files;
       coming :
           IsTrue g.F.Files.tells
           → told_to_come chain g.P.Parts.cut l.fn.counted.limit l.fn.counted.taken l.fn.parts (g.F.Files.left l.fn.files l.fn.counted.slot)

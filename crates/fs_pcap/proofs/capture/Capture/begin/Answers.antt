@@ -5,7 +5,7 @@ use Rattle.fs_pcap.specs.Header.{header_of}
 use Rattle.fs_pcap.specs.declared.header.Heading.{Heading}
 use Rattle.fs_pcap.specs.Capture.{CaptureState, heading_of}
 use Rattle.fs_pcap.specs.declared.fault.CaptureReason.TheVariants.{Cut}
-use Rattle.fs_pcap.proofs.Beginning.{fault_anyhow, front_whole, left_alone, none_back}
+use Rattle.fs_records.proofs.Beginning.{fault_anyhow, front_whole, left_alone, none_back}
 use Rattle.fs_pcap.proofs.capture.Capture.begin.Goals as goal
 
 pub returns-in-Err-clause-opens : goal.returns-in-Err-clause-opens
@@ -26,10 +26,17 @@ returns-in-Ok-opened-clause-opens g c = λ told.
     let later = c.fill.new.counted.back ++ left in
     let within : IsFrontWithin 24 c.in-Ok.count c.read_header.result = search rules in
     let whole : 24 ≤ c.in-Ok.count = front_whole Cut 24 c.in-Ok.count c.fill.new.counted.taken c.fill.new.counted.limit c.read_header.result c.in-Ok-opened.heading within (search rules) in
-    let few = c.requires.few in
+    let few = c.args.counted.few in
     let none : c.fill.new.counted.back ≡ [] = none_back c.args.counted.back c.fill.new.counted.back 24 c.in-Ok.count (omega (arith, few)) whole c.in-Ok.ensures.back in
     left_alone (λ (heading : Heading). heading) (heading_of c.args.counted.limit content) (drop 24 content) c.fill.new.counted.back left c.in-Ok-opened.heading none
     (opens_so (λ (heading : Heading). heading) (heading_of c.args.counted.limit content) (drop 24 content) later _ c.in-Ok-opened.heading
     (opens 24 header_of Cut c.args.counted.limit c.args.counted.taken content later c.fill.new.into c.in-Ok.count c.fill.new.counted.taken _
     c.requires.start (c.in-Ok.ensures.filled told) (search rules) c.read_header.ensures.exact within c.in-Ok.ensures.taken)
     (search rules))
+
+pub invariant_of-result : goal.invariant_of-result
+invariant_of-result g c =
+    let within : IsFrontWithin 24 c.in-Ok.count c.read_header.result = search rules in
+    let whole : 24 ≤ c.in-Ok.count = front_whole Cut 24 c.in-Ok.count c.fill.new.counted.taken c.fill.new.counted.limit c.read_header.result c.in-Ok-opened.heading within (search rules) in
+    let few = c.args.counted.few in
+    none_back c.args.counted.back c.fill.new.counted.back 24 c.in-Ok.count (omega (arith, few)) whole c.in-Ok.ensures.back

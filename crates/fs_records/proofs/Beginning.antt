@@ -1,4 +1,4 @@
--- A capture that is opened, of whose front octets may have been put back.
+-- An input that is opened, of whose front octets may have been put back.
 use Rattle.std.proofs.Common.{◌≡◌, ◌≤◌, ℕ, List, [], ◌++◌, Result, Ok, Err, length, drop, ap, sym, ◌∙◌, arith}
 use Rattle.std.proofs.lemmas.List.{drop_all}
 use Rattle.fs_records.specs.Opening.{IsFrontWithin, Opens, opened_answer}
