@@ -1,3 +1,4 @@
 pub mod Community
 pub mod Actions
 pub mod Laws
+pub mod Same

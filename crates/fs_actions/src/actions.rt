@@ -34,7 +34,7 @@ impl From<Memory> for ActionFault {
 }
 
 /// The actions of a route: listed communities in normal form, by rising octets and each once.
-#[derive(Drop)]
+#[derive(Debug, Drop)]
 pub struct Actions {
     list: Vec<Action>,
 }
@@ -45,6 +45,25 @@ impl Model for Actions {
     ghost view = { λ a. a.list.items };
 
     ghost invariant = { λ a. IsActions a.list.items };
+}
+
+impl PartialEq for Actions {
+    ghost use Rattle.std.specs.Cmp.{partial_equiv_from_equiv};
+    ghost use Rattle.fs_actions.specs.Same.{same_actions, same_actions_law};
+
+    ghost eq = { same_actions };
+
+    ghost laws = { partial_equiv_from_equiv same_actions_law };
+
+    fn eq(&self, other: &Actions) -> bool {
+        self.list == other.list
+    }
+}
+
+impl Eq for Actions {
+    ghost use Rattle.fs_actions.specs.Same.{same_actions_law};
+
+    ghost laws = { same_actions_law };
 }
 
 impl Actions {

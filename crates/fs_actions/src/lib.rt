@@ -8,4 +8,4 @@ mod laws;
 
 pub use actions::{ActionFault, Actions, from_communities};
 pub use community::{Action, Rate, Redirect};
-pub use laws::actions_are_the_listed;
+pub use laws::{actions_are_the_listed, equal_where_same};

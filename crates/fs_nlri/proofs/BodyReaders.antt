@@ -10,7 +10,7 @@ use Rattle.fs_base.specs.Bits.{cleared}
 use Rattle.fs_base.proofs.Languages.{cut_as, fault_as}
 use Rattle.fs_ops.specs.declared.kind.Kind.{Kind}
 use Rattle.fs_ops.specs.OperatorList.{Spells as SpellsPairs, IsText, all_said}
-use Rattle.fs_ops.specs.Fault.{IsFault}
+use Rattle.fs_ops.specs.Fault.{CanBeWide, IsFault}
 use Rattle.fs_ops.specs.declared.fault.OpsFault.{OpsFault}
 use Rattle.fs_ops.specs.declared.fault.OpsFault.TheVariants.{Cut, Width, Memory}
 use Rattle.fs_nlri.specs.Forms.{V4Form, V6Form, ListForm, kept_bits}
@@ -139,3 +139,7 @@ list_bad kind widths bits octets Memory bad = tt
 
 pub list_found : (kind : Kind) (widths : List ℕ) (bits : ℕ) (octets : List ℕ) (pairs kept : List (ℕ × ℕ)) → SpellsPairs kind widths octets pairs → kept ≡ kept_bits (Some bits) pairs → SpellsList kind widths (Some bits) octets (ListBody kept)
 list_found kind widths bits octets pairs kept spells is = record { pairs = pairs; spells = spells; says = ap (λ (l : List (ℕ × ℕ)). ListBody l) is }
+
+-- values of one octet, the first of the widths of these lists, are allowed
+pub one_octet : (widths : List ℕ) → CanBeWide (0 ∷ widths)
+one_octet widths = (0, 0, omega arith, refl, omega arith)

@@ -13,4 +13,5 @@ pub mod OneOutcome
 pub mod Again
 pub mod Sound
 pub mod Destination
+pub mod Equal
 pub mod InNormalForm

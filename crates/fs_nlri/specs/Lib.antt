@@ -5,6 +5,7 @@ pub mod Spelling
 pub mod Fault
 pub mod Body
 pub mod Rule
+pub mod Same
 pub mod Sound
 pub mod Making
 pub mod Writing

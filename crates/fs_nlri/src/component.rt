@@ -16,7 +16,7 @@ pub enum PrefixForm {
 }
 
 /// A component, by its type (RFC 8955 section 4.2.2, RFC 8956 section 3).
-#[derive(Drop)]
+#[derive(Debug, Drop)]
 pub enum Component {
     /// Type 1.
     Destination(PrefixForm),

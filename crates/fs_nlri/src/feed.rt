@@ -7,7 +7,7 @@ ghost use Rattle.fs_nlri.specs.Feed.{Appends, Stops, left_over};
 use crate::fault::{NlriFault, Reason};
 use crate::frame::decode;
 use crate::rule::Rule;
-use fs_base::Family;
+use fs_base::{Family, Memory};
 use std::alloc::Global;
 use std::marker::Model;
 
@@ -29,18 +29,18 @@ impl Model for Feed {
 }
 
 impl Feed {
-    ghost use Rattle.std.specs.Prelude.{◌≡◌, [], None, OnOk, IfErr};
+    ghost use Rattle.std.specs.Prelude.{◌≡◌, [], None, Ok, OnOk, IfErr};
     ghost use Rattle.fs_nlri.specs.Feed.{fed, Takes, FailsWith, ends_as};
 
-    /// A feed that has taken nothing.
-    pub fn new(alloc: Global, family: Family) -> Feed
-        ensures { result ≡ fed family [] None }
+    /// A feed that has taken nothing. It is always made: its first octets take the first memory.
+    pub fn new(alloc: Global, family: Family) -> Result<Feed, Memory>
+        ensures { result ≡ Ok (fed family [] None) }
     {
-        Feed {
+        Ok(Feed {
             family,
             held: Vec::new(alloc),
             fault: None,
-        }
+        })
     }
 
     /// Takes the piece and appends to `out` the rules of the frames that are whole. At a fault, of the octets or

@@ -1,6 +1,7 @@
-//! Laws of frames, each proved as the contract of a function that does nothing.
+//! Laws of rules and frames, each proved as the contract of a function that does nothing.
 
 ghost use Rattle.fs_nlri.specs.Laws.{NoFrameGoesOn, CanonicalIsFrame, CanonicalIsOwn, CanonicalTells, EachBeginsSomehow, EachIsAField, BeginsOneWay, IsOneField, NormalMakes};
+ghost use Rattle.fs_nlri.specs.Same.{OnlySameParts, OnlySameRules};
 
 /// No frame of a family is a proper prefix of another.
 pub fn no_frame_goes_on()
@@ -35,4 +36,10 @@ pub fn one_outcome()
 /// Components in normal form make the rule of themselves, unless their value is too long for a frame.
 pub fn normal_makes()
     ensures { NormalMakes }
+{}
+
+/// `==` of two components, or of two rules, holds exactly where they are the same.
+pub fn equal_where_same()
+    ensures components { OnlySameParts }
+    ensures rules { OnlySameRules }
 {}

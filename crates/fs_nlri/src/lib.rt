@@ -6,6 +6,7 @@ mod body;
 mod clearing;
 mod component;
 mod copying;
+mod equality;
 mod fault;
 mod feed;
 mod frame;
@@ -22,7 +23,8 @@ pub use fault::{NlriFault, Reason, RuleFault};
 pub use feed::Feed;
 pub use frame::decode;
 pub use laws::{
-    canonical_is_frame, canonical_tells, every_outcome, no_frame_goes_on, normal_makes, one_outcome,
+    canonical_is_frame, canonical_tells, equal_where_same, every_outcome, no_frame_goes_on,
+    normal_makes, one_outcome,
 };
 pub use rule::Rule;
 pub use writing::encode;

@@ -6,7 +6,7 @@ use std::marker::Model;
 
 /// A flow specification: a family, and components of that family by strictly rising types, each in normal
 /// form: every bit that is to be ignored is 0. Its value has at most 4095 octets (RFC 8955 section 4.1).
-#[derive(Drop)]
+#[derive(Debug, Drop)]
 pub struct Rule {
     pub(crate) family: Family,
     pub(crate) components: Vec<Component>,

@@ -1,5 +1,5 @@
 -- When octets aren't the front of a list of operators and values, and where.
-use Rattle.std.specs.Prelude.{◌≡◌, ℕ, List, [], ◌∷◌, ◌++◌, length}
+use Rattle.std.specs.Prelude.{◌≡◌, ℕ, ◌<◌, List, [], ◌∷◌, ◌++◌, length, Any}
 use Rattle.fs_base.specs.Language.{NoFront, IsCut, IsFirstFault}
 use Rattle.fs_ops.specs.OperatorList.{Written, AreMiddle, IsText, text}
 use Rattle.fs_ops.specs.declared.fault.OpsFault.{OpsFault}
@@ -8,6 +8,15 @@ use Rattle.fs_ops.specs.declared.fault.OpsFault.TheVariants.{Cut, Width, Memory}
 -- all codes of a value's length: 1, 2, 4 and 8 octets
 abbrev pub all_widths : List ℕ
 all_widths = 0 ∷ 1 ∷ 2 ∷ 3 ∷ []
+
+-- some code among them is that of a length
+abbrev pub CanBeWide : List ℕ → Type 0
+CanBeWide widths = Any (λ code. code < 4) widths
+
+-- the fault of octets where no value may have any length
+abbrev pub barred_at : List ℕ → OpsFault
+barred_at [] = Cut 0
+barred_at (operator ∷ tail) = Width 0
 
 -- whole pairs, none the last of the list, stand before the place, and an operator in it
 pub record IsOperatorPlace (widths octets : List ℕ) (place : ℕ) : Type 0 where

@@ -3,3 +3,4 @@ pub mod Fault
 pub mod Operator
 pub mod OperatorList
 pub mod Pairs
+pub mod Same

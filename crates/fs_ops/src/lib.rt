@@ -5,6 +5,7 @@
 mod evaluation;
 mod fault;
 mod kind;
+mod laws;
 mod making;
 mod mask_list;
 mod num_list;
@@ -17,5 +18,6 @@ mod writing;
 
 pub use fault::OpsFault;
 pub use kind::Kind;
+pub use laws::equal_where_same;
 pub use mask_list::MaskList;
 pub use num_list::NumList;

@@ -1,9 +1,9 @@
 //! Lists of bitmask operators (RFC 8955 section 4.2.1.2).
 
-ghost use Rattle.std.specs.Prelude.{◌≡◌, ◌≤◌, ◌<◌, ◌^◌, ◌++◌, List, length, take, map, bit_and, Any, IfOk, IfErr, IfSome, IfNone, OnOk, OnErr};
+ghost use Rattle.std.specs.Prelude.{◌≡◌, ◌≤◌, ◌<◌, ◌^◌, ◌++◌, List, length, take, map, bit_and, Err, IfOk, IfErr, IfSome, IfNone, OnOk, OnErr};
 ghost use Rattle.fs_ops.specs.Operator.{Kind, Bitmask};
 ghost use Rattle.fs_ops.specs.OperatorList.{Spells, IsNormal, canonical, first_joins};
-ghost use Rattle.fs_ops.specs.Fault.{IsFault, all_widths};
+ghost use Rattle.fs_ops.specs.Fault.{CanBeWide, IsFault, all_widths, barred_at};
 ghost use Rattle.fs_ops.specs.Evaluation.{holds, masks};
 
 use crate::fault::OpsFault;
@@ -16,7 +16,7 @@ use std::marker::Model;
 
 /// A list of bitmask operators and values in normal form: reserved bits and the first operator's AND bit
 /// are clear. It is never empty.
-#[derive(Drop)]
+#[derive(Debug, Drop)]
 pub struct MaskList {
     list: PairList,
 }
@@ -33,18 +33,38 @@ impl Model for MaskList {
     ghost invariant = { λ a. IsNormal Bitmask a.list };
 }
 
+impl PartialEq for MaskList {
+    ghost use Rattle.fs_ops.specs.Same.{same_pairs, same_pairs_law};
+    ghost use Rattle.std.specs.Cmp.{partial_equiv_from_equiv};
+
+    ghost eq = { same_pairs };
+
+    ghost laws = { partial_equiv_from_equiv same_pairs_law };
+
+    fn eq(&self, other: &MaskList) -> bool {
+        self.pairs() == other.pairs()
+    }
+}
+
+impl Eq for MaskList {
+    ghost use Rattle.fs_ops.specs.Same.{same_pairs_law};
+
+    ghost laws = { same_pairs_law };
+}
+
 impl MaskList {
     /// Reads the list that stands at the front of the octets, and answers how many octets it takes. The
-    /// width codes allowed are those of `widths`: code 0 is one octet, 1 two, 2 four, 3 eight.
+    /// width codes allowed are those of `widths`: code 0 is one octet, 1 two, 2 four, 3 eight. Where none of
+    /// these is among them, the answer is `Width` at the first octet, or `Cut` where there are no octets.
     pub fn decode(
         alloc: Global,
         octets: &[u8],
         widths: &[u8],
     ) -> Result<(MaskList, usize), OpsFault>
-        requires { Any (λ code. code < 4) widths.now }
         ensures taken { IfOk result (λ read. read.1 ≤ length octets.now) }
         ensures found { IfOk result (λ read. Spells Bitmask widths.now (take read.1 octets.now) read.0) }
-        ensures fault { IfErr result (IsFault widths.now octets.now) }
+        ensures fault { CanBeWide widths.now → IfErr result (IsFault widths.now octets.now) }
+        ensures barred { (CanBeWide widths.now → ⊥) → result ≡ Err (barred_at octets.now) }
     {
         let (pairs, taken) = reading::read(alloc, Kind::Bitmask, octets, widths)?;
         let list = PairList::new(pairs);

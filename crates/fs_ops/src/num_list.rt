@@ -1,9 +1,9 @@
 //! Lists of numeric operators (RFC 8955 section 4.2.1.1).
 
-ghost use Rattle.std.specs.Prelude.{◌≡◌, ◌≤◌, ◌<◌, ◌^◌, ◌++◌, List, length, take, map, bit_and, Any, IfOk, IfErr, IfSome, IfNone, OnOk, OnErr};
+ghost use Rattle.std.specs.Prelude.{◌≡◌, ◌≤◌, ◌<◌, ◌^◌, ◌++◌, List, length, take, map, bit_and, Err, IfOk, IfErr, IfSome, IfNone, OnOk, OnErr};
 ghost use Rattle.fs_ops.specs.Operator.{Kind, Numeric};
 ghost use Rattle.fs_ops.specs.OperatorList.{Spells, IsNormal, canonical, first_joins};
-ghost use Rattle.fs_ops.specs.Fault.{IsFault, all_widths};
+ghost use Rattle.fs_ops.specs.Fault.{CanBeWide, IsFault, all_widths, barred_at};
 ghost use Rattle.fs_ops.specs.Evaluation.{holds, compares};
 
 use crate::fault::OpsFault;
@@ -16,7 +16,7 @@ use std::marker::Model;
 
 /// A list of numeric operators and values in normal form: reserved bits and the first operator's AND bit
 /// are clear. It is never empty.
-#[derive(Drop)]
+#[derive(Debug, Drop)]
 pub struct NumList {
     list: PairList,
 }
@@ -33,6 +33,25 @@ impl Model for NumList {
     ghost invariant = { λ a. IsNormal Numeric a.list };
 }
 
+impl PartialEq for NumList {
+    ghost use Rattle.fs_ops.specs.Same.{same_pairs, same_pairs_law};
+    ghost use Rattle.std.specs.Cmp.{partial_equiv_from_equiv};
+
+    ghost eq = { same_pairs };
+
+    ghost laws = { partial_equiv_from_equiv same_pairs_law };
+
+    fn eq(&self, other: &NumList) -> bool {
+        self.pairs() == other.pairs()
+    }
+}
+
+impl Eq for NumList {
+    ghost use Rattle.fs_ops.specs.Same.{same_pairs_law};
+
+    ghost laws = { same_pairs_law };
+}
+
 impl NumList {
     /// Reads the list that stands at the front of the octets, with values of 1, 2, 4 or 8 octets, and
     /// answers how many octets it takes.
@@ -45,16 +64,17 @@ impl NumList {
     }
 
     /// The same where only values are allowed whose width codes are among `widths`: code 0 is one octet,
-    /// 1 two, 2 four, 3 eight.
+    /// 1 two, 2 four, 3 eight. Where none of these is among them, the answer is `Width` at the first octet,
+    /// or `Cut` where there are no octets.
     pub fn decode_within(
         alloc: Global,
         octets: &[u8],
         widths: &[u8],
     ) -> Result<(NumList, usize), OpsFault>
-        requires { Any (λ code. code < 4) widths.now }
         ensures taken { IfOk result (λ read. read.1 ≤ length octets.now) }
         ensures found { IfOk result (λ read. Spells Numeric widths.now (take read.1 octets.now) read.0) }
-        ensures fault { IfErr result (IsFault widths.now octets.now) }
+        ensures fault { CanBeWide widths.now → IfErr result (IsFault widths.now octets.now) }
+        ensures barred { (CanBeWide widths.now → ⊥) → result ≡ Err (barred_at octets.now) }
     {
         let (pairs, taken) = reading::read(alloc, Kind::Numeric, octets, widths)?;
         let list = PairList::new(pairs);

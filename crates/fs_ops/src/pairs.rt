@@ -8,12 +8,12 @@ use std::marker::Model;
 use std::slice;
 
 /// The pairs of a list. A list of one pair, as most are, holds it in itself and takes no memory.
-#[derive(Drop)]
+#[derive(Debug, Drop)]
 pub struct PairList {
     kept: Stored,
 }
 
-#[derive(Drop)]
+#[derive(Debug, Drop)]
 enum Stored {
     One((u8, u64)),
     Many(Vec<(u8, u64)>),

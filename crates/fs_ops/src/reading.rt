@@ -1,8 +1,8 @@
 //! The reader of a list (RFC 8955 section 4.2.1).
 
-ghost use Rattle.std.specs.Prelude.{◌≡◌, ◌≤◌, ◌<◌, length, take, Any, IfOk, IfErr};
+ghost use Rattle.std.specs.Prelude.{◌≡◌, ◌≤◌, length, take, Err, IfOk, IfErr};
 ghost use Rattle.fs_ops.specs.OperatorList.{Spells};
-ghost use Rattle.fs_ops.specs.Fault.{IsFault};
+ghost use Rattle.fs_ops.specs.Fault.{CanBeWide, IsFault, barred_at};
 
 use crate::fault::OpsFault;
 use crate::kind::Kind;
@@ -17,10 +17,10 @@ pub fn read(
     octets: &[u8],
     widths: &[u8],
 ) -> Result<(Vec<(u8, u64)>, usize), OpsFault>
-    requires { Any (λ code. code < 4) widths.now }
     ensures taken { IfOk result (λ read. read.1 ≤ length octets.now) }
     ensures found { IfOk result (λ read. Spells kind widths.now (take read.1 octets.now) read.0.items) }
-    ensures fault { IfErr result (IsFault widths.now octets.now) }
+    ensures fault { CanBeWide widths.now → IfErr result (IsFault widths.now octets.now) }
+    ensures barred { (CanBeWide widths.now → ⊥) → result ≡ Err (barred_at octets.now) }
 {
     let mut pairs = Vec::new(alloc);
     let mut rest = octets;

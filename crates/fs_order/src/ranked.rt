@@ -5,7 +5,7 @@ use fs_nlri::Rule;
 use std::cmp::Ordering;
 
 /// A rule, ordered as rules are applied: the first in order is applied first. Only the same rule is equal.
-#[derive(Drop)]
+#[derive(Debug, Drop)]
 pub struct Ranked {
     pub rule: Rule,
 }

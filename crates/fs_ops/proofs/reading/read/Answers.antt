@@ -5,16 +5,16 @@ use Rattle.fs_ops.proofs.Found.{first_and_tail, cut_between, cut_within, bad_wid
 use Rattle.fs_ops.proofs.reading.read.Goals as goal
 
 pub returns-then-not-allows-clause-fault : goal.returns-then-not-allows-clause-fault
-returns-then-not-allows-clause-fault c =
+returns-then-not-allows-clause-fault c some =
     let rest = c.loop-rest.rest.now in
-    bad_width c.args.kind c.args.widths.now c.args.octets.now rest c.loop-rest.pairs.items (get_or rest 0 0) _ c.requires c.loop-rest.invariant
+    bad_width c.args.kind c.args.widths.now c.args.octets.now rest c.loop-rest.pairs.items (get_or rest 0 0) _ some c.loop-rest.invariant
     (first_and_tail rest c.in-len1-up.len_at_least)
     (λ allowed. both_ways c.allows.result c.if-not-allows.true (c.allows.ensures.1 (subst (Contains c.args.widths.now) (sym c.width_code_of.ensures.value) allowed)))
 
 pub returns-then-tail-len-clause-fault : goal.returns-then-tail-len-clause-fault
-returns-then-tail-len-clause-fault c =
+returns-then-tail-len-clause-fault c some =
     let rest = c.loop-rest.rest.now in
-    cut_within c.args.kind c.args.widths.now c.args.octets.now rest c.loop-rest.pairs.items (get_or rest 0 0) _ c.requires c.loop-rest.invariant
+    cut_within c.args.kind c.args.widths.now c.args.octets.now rest c.loop-rest.pairs.items (get_or rest 0 0) _ some c.loop-rest.invariant
     (first_and_tail rest c.in-len1-up.len_at_least)
     (subst (Contains c.args.widths.now) c.width_code_of.ensures.value (c.allows.ensures.0 c.if-not-allows.false))
     (rw (← c.value_len-len.ensures.value) c.if-tail-len.true)
@@ -42,6 +42,6 @@ loop-rest-preserved c =
     (sym c.is_last.ensures ∙ c.if-is_last.false)
 
 pub returns-clause-fault : goal.returns-clause-fault
-returns-clause-fault c =
-    cut_between c.args.kind c.args.widths.now c.args.octets.now c.loop-rest.rest.now c.loop-rest.pairs.items c.requires c.loop-rest.invariant
+returns-clause-fault c some =
+    cut_between c.args.kind c.args.widths.now c.args.octets.now c.loop-rest.rest.now c.loop-rest.pairs.items some c.loop-rest.invariant
     (nil_from_length c.loop-rest.rest.now (omega (arith, c.in_default.len_below)))
