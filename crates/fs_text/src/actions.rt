@@ -240,7 +240,7 @@ fn compared(
         return Ok(None);
     };
     let mut text = String::new(alloc);
-    print_action(alloc, &action, &mut text)?;
+    print_action(&action, &mut text)?;
     if action_name(&action) == name && text.as_str() == word {
         Ok(Some(action))
     } else {

@@ -208,7 +208,7 @@ fn matched(
     ensures { IfOk result (Matched name.now word.now (part_of own)) }
 {
     let mut text = String::new(alloc);
-    print_value(alloc, &own, &mut text)?;
+    print_value(&own, &mut text)?;
     if component_name(own.kind()) == name && text.as_str() == word {
         Ok(Some(own))
     } else {

@@ -24,47 +24,42 @@ pub fn desk_words(alloc: Global, desk: &Desk<'_>) -> Result<Vec<u8>, Memory>
         → text.items ≡ worded config items desk.now.held) }
 {
     let mut text = String::new(alloc);
-    append_table(alloc, desk.table(), &mut text)?;
+    append_table(desk.table(), &mut text)?;
     Ok(text.into_bytes())
 }
 
 /// Appends the lines of the admitted rules of both families.
-fn append_table(alloc: Global, table: &Table<'_>, text: &mut String) -> Result<(), Memory>
+fn append_table(table: &Table<'_>, text: &mut String) -> Result<(), Memory>
     ensures { OnOk result (string_bytes text.new ≡ string_bytes text.old ++ words_of_held table.now) }
 {
-    append_family(alloc, Family::V4, table, text)?;
-    append_family(alloc, Family::V6, table, text)
+    append_family(Family::V4, table, text)?;
+    append_family(Family::V6, table, text)
 }
 
 /// Appends the lines of a family's admitted rules.
-fn append_family(
-    alloc: Global,
-    family: Family,
-    table: &Table<'_>,
-    text: &mut String,
-) -> Result<(), Memory>
+fn append_family(family: Family, table: &Table<'_>, text: &mut String) -> Result<(), Memory>
     ensures { OnOk result (string_bytes text.new ≡ string_bytes text.old ++ family_words family table.now) }
 {
     let rules = table.admitted(family)?;
-    append_rules(alloc, &rules, text)
+    append_rules(&rules, text)
 }
 
 /// Appends the lines of these rules.
-fn append_rules(alloc: Global, rules: &[Admitted<'_>], text: &mut String) -> Result<(), Memory>
+fn append_rules(rules: &[Admitted<'_>], text: &mut String) -> Result<(), Memory>
     ensures { OnOk result (string_bytes text.new
         ≡ string_bytes text.old ++ rule_lines (map shown_admitted rules.now)) }
 {
     for rule in rules {
-        append_rule(alloc, rule, text)?;
+        append_rule(rule, text)?;
     }
     Ok(())
 }
 
 /// Appends the line of a rule.
-fn append_rule(alloc: Global, rule: &Admitted<'_>, text: &mut String) -> Result<(), Memory>
+fn append_rule(rule: &Admitted<'_>, text: &mut String) -> Result<(), Memory>
     ensures { OnOk result (string_bytes text.new ≡ string_bytes text.old ++ rule_line (shown_admitted rule.now)) }
 {
-    print(alloc, rule.rule, rule.actions, text)?;
+    print(rule.rule, rule.actions, text)?;
     text.push_str("\n")?;
     Ok(())
 }

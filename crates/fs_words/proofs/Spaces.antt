@@ -1,7 +1,6 @@
 -- Words with spaces before them and between them.
-use Rattle.std.proofs.Common.{◌≡◌, ℕ, List, [], ◌∷◌, ◌++◌, refl, sym, ap, ◌∙◌, append_assoc, append-nil, drop, length, Result, Ok, Err}
+use Rattle.std.proofs.Common.{◌≡◌, ℕ, List, [], ◌∷◌, ◌++◌, refl, sym, ap, ◌∙◌, append_assoc, append-nil, drop, Result, Ok, Err}
 use Rattle.std.specs.Prelude.{codes, OnOk}
-use Rattle.std.specs.String.{string_bytes}
 use Rattle.std.specs.List.{join_with_byte, AllByRecursion}
 use Rattle.fs_nlri.specs.Component.{parts_of}
 use Rattle.fs_nlri.specs.declared.component.Component.{Component}

@@ -10,7 +10,6 @@ use crate::prefixes::{print_address, print_behind};
 use byteorder::{BigEndian, ByteOrder};
 use fs_actions::{Action, Redirect};
 use fs_base::Memory;
-use std::alloc::Global;
 
 /// The name of an action, by its type and sub-type.
 pub fn action_name(action: &Action) -> &'static str
@@ -48,22 +47,22 @@ fn print_target(target: Redirect, out: &mut String) -> Result<(), Memory>
 }
 
 /// Appends the id and the figure of a traffic-rate.
-fn print_rate(alloc: Global, octets: &[u8], out: &mut String) -> Result<(), Memory>
+fn print_rate(octets: &[u8], out: &mut String) -> Result<(), Memory>
     requires { length octets.now ≡ 8 }
     ensures { OnOk result (string_bytes out.new ≡ string_bytes out.old ++ rate_text octets.now) }
 {
     print_decimal(BigEndian::read_u16(&octets[2..]), out)?;
     out.push_str(":")?;
-    print_octets(alloc, &octets[4..], out)
+    print_octets(&octets[4..], out)
 }
 
 /// Appends what an action that is no redirect says.
-fn print_plain(alloc: Global, octets: &[u8], out: &mut String) -> Result<(), Memory>
+fn print_plain(octets: &[u8], out: &mut String) -> Result<(), Memory>
     requires { length octets.now ≡ 8 }
     ensures { OnOk result (string_bytes out.new ≡ string_bytes out.old ++ plain_text octets.now) }
 {
     match BigEndian::read_u16(octets) {
-        0x8006 | 0x800c => print_rate(alloc, octets, out),
+        0x8006 | 0x800c => print_rate(octets, out),
         _ => print_decimal(octets[7], out),
     }
 }
@@ -71,12 +70,12 @@ fn print_plain(alloc: Global, octets: &[u8], out: &mut String) -> Result<(), Mem
 /// Appends the word of what an action says.
 ///
 /// After `Memory` a part of the word may stand in `out`.
-pub fn print_action(alloc: Global, action: &Action, out: &mut String) -> Result<(), Memory>
+pub fn print_action(action: &Action, out: &mut String) -> Result<(), Memory>
     requires { IsAction action.now }
     ensures { OnOk result (string_bytes out.new ≡ string_bytes out.old ++ action_text action.now) }
 {
     match action.redirect() {
         Some(target) => print_target(target, out),
-        None => print_plain(alloc, action.octets(), out),
+        None => print_plain(action.octets(), out),
     }
 }

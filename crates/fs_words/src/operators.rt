@@ -9,7 +9,6 @@ ghost use Rattle.fs_words.specs.Operators.{joined_text, joiner, least_code, list
 use crate::pieces::{print_decimal, print_wide};
 use fs_base::Memory;
 use fs_ops::{Kind, MaskList, NumList};
-use std::alloc::Global;
 
 /// The sign of the bits less, greater, equal.
 fn number_sign(relation: u8) -> &'static str
@@ -121,83 +120,61 @@ fn print_number(operator: u8, value: u64, out: &mut String) -> Result<(), Memory
 }
 
 /// Appends a value as its list has it.
-fn print_operand(
-    alloc: Global,
-    kind: Kind,
-    operator: u8,
-    value: u64,
-    out: &mut String,
-) -> Result<(), Memory>
+fn print_operand(kind: Kind, operator: u8, value: u64, out: &mut String) -> Result<(), Memory>
     requires { value < 256 ^ width_of operator }
     ensures { OnOk result (string_bytes out.new ≡ string_bytes out.old ++ operand_text kind operator value) }
 {
     match kind {
         Kind::Numeric => print_number(operator, value, out),
-        Kind::Bitmask => print_wide(alloc, width_of(operator), value, out),
+        Kind::Bitmask => print_wide(width_of(operator), value, out),
     }
 }
 
 /// Appends an operator and its value.
-fn print_pair(
-    alloc: Global,
-    kind: Kind,
-    operator: u8,
-    value: u64,
-    out: &mut String,
-) -> Result<(), Memory>
+fn print_pair(kind: Kind, operator: u8, value: u64, out: &mut String) -> Result<(), Memory>
     requires { value < 256 ^ width_of operator }
     ensures { OnOk result (string_bytes out.new ≡ string_bytes out.old ++ pair_text kind (operator, value)) }
 {
     out.push_str(sign(kind, operator))?;
-    print_operand(alloc, kind, operator, value, out)
+    print_operand(kind, operator, value, out)
 }
 
 /// Appends the pairs behind the first.
-fn print_others(
-    alloc: Global,
-    kind: Kind,
-    pairs: &[(u8, u64)],
-    out: &mut String,
-) -> Result<(), Memory>
+fn print_others(kind: Kind, pairs: &[(u8, u64)], out: &mut String) -> Result<(), Memory>
     requires { All (λ pair. pair.1 < 256 ^ width_of pair.0) pairs.now }
     ensures { OnOk result (string_bytes out.new ≡ string_bytes out.old ++ flat_map (joined_text kind) pairs.now) }
 {
     for &(operator, value) in pairs {
         out.push_str(joiner(operator))?;
-        print_pair(alloc, kind, operator, value, out)?;
+        print_pair(kind, operator, value, out)?;
     }
     Ok(())
 }
 
 /// Appends the pairs of a list.
-fn print_list(
-    alloc: Global,
-    kind: Kind,
-    pairs: &[(u8, u64)],
-    out: &mut String,
-) -> Result<(), Memory>
+fn print_list(kind: Kind, pairs: &[(u8, u64)], out: &mut String) -> Result<(), Memory>
     requires { All (λ pair. pair.1 < 256 ^ width_of pair.0) pairs.now }
     ensures { OnOk result (string_bytes out.new ≡ string_bytes out.old ++ list_text kind pairs.now) }
 {
     match pairs {
         [] => Ok(()),
         [(operator, value), others @ ..] => {
-            print_pair(alloc, kind, *operator, *value, out)?;
-            print_others(alloc, kind, others, out)
+            print_pair(kind, *operator, *value, out)?;
+            print_others(kind, others, out)
         }
     }
 }
 
 /// Appends a list that compares numbers.
-pub(crate) fn print_numbers(alloc: Global, list: &NumList, out: &mut String) -> Result<(), Memory>
+pub(crate) fn print_numbers(list: &NumList, out: &mut String) -> Result<(), Memory>
     ensures { OnOk result (string_bytes out.new ≡ string_bytes out.old ++ list_text Numeric list.now) }
 {
-    print_list(alloc, Kind::Numeric, list.pairs(), out)
+    print_list(Kind::Numeric, list.pairs(), out)
 }
 
 /// Appends a list that tests bits.
-pub(crate) fn print_masks(alloc: Global, list: &MaskList, out: &mut String) -> Result<(), Memory>
+pub(crate) fn print_masks(list: &MaskList, out: &mut String) -> Result<(), Memory>
     ensures { OnOk result (string_bytes out.new ≡ string_bytes out.old ++ list_text Bitmask list.now) }
 {
-    print_list(alloc, Kind::Bitmask, list.pairs(), out)
+    print_list(Kind::Bitmask, list.pairs(), out)
 }

@@ -8,7 +8,6 @@ ghost use Rattle.fs_words.specs.Figures.{hexadecimal, octets_text};
 use byteorder::{BigEndian, ByteOrder};
 use fs_base::Memory;
 use itoa::{Buffer, Integer};
-use std::alloc::Global;
 use std::fmt::Write;
 
 /// Appends a number in decimal.
@@ -31,21 +30,16 @@ pub(crate) fn print_hexadecimal(number: u16, out: &mut String) -> Result<(), Mem
 }
 
 /// Appends octets in hexadecimal, two digits for each.
-pub(crate) fn print_octets(alloc: Global, octets: &[u8], out: &mut String) -> Result<(), Memory>
+pub(crate) fn print_octets(octets: &[u8], out: &mut String) -> Result<(), Memory>
     ensures { OnOk result (string_bytes out.new ≡ string_bytes out.old ++ encode_lower octets.now) }
 {
-    let digits = hex::encode(alloc, octets)?;
+    let digits = hex::encode(*out.allocator(), octets)?;
     out.push_str(&digits)?;
     Ok(())
 }
 
 /// Appends the octets of a number, so many of them, in hexadecimal.
-pub(crate) fn print_wide(
-    alloc: Global,
-    width: usize,
-    number: u64,
-    out: &mut String,
-) -> Result<(), Memory>
+pub(crate) fn print_wide(width: usize, number: u64, out: &mut String) -> Result<(), Memory>
     requires low { 1 ≤ width }
     requires high { width ≤ 8 }
     requires fits { number < 256 ^ width }
@@ -53,5 +47,5 @@ pub(crate) fn print_wide(
 {
     let mut octets = [0u8; 8];
     BigEndian::write_uint(&mut octets[..width], number, width);
-    print_octets(alloc, &octets[..width], out)
+    print_octets(&octets[..width], out)
 }

@@ -14,7 +14,6 @@ use crate::{action_name, component_name, print_action, print_value};
 use fs_actions::{Action, Actions};
 use fs_base::{Family, Memory};
 use fs_nlri::{Component, Rule};
-use std::alloc::Global;
 
 fn family_word(family: Family) -> &'static str
     ensures { result.now ≡ family_word family }
@@ -35,49 +34,49 @@ fn print_word(word: &str, out: &mut String) -> Result<(), Memory>
 }
 
 /// Appends the name and the value of a component.
-fn print_component(alloc: Global, component: &Component, out: &mut String) -> Result<(), Memory>
+fn print_component(component: &Component, out: &mut String) -> Result<(), Memory>
     requires { IsSoundBody (part_of component.now).body }
     ensures { OnOk result (string_bytes out.new
         ≡ string_bytes out.old ++ spaced (component_words (part_of component.now ∷ []))) }
 {
     print_word(component_name(component.kind()), out)?;
     out.push_str(" ")?;
-    print_value(alloc, component, out)
+    print_value(component, out)
 }
 
-fn print_components(alloc: Global, components: &[Component], out: &mut String) -> Result<(), Memory>
+fn print_components(components: &[Component], out: &mut String) -> Result<(), Memory>
     requires { AreSound (parts_of components.now) }
     ensures { OnOk result (string_bytes out.new
         ≡ string_bytes out.old ++ spaced (component_words (parts_of components.now))) }
 {
     for component in components {
-        print_component(alloc, component, out)?;
+        print_component(component, out)?;
     }
     Ok(())
 }
 
 /// Appends the name of an action and what it says.
-fn print_one_action(alloc: Global, action: &Action, out: &mut String) -> Result<(), Memory>
+fn print_one_action(action: &Action, out: &mut String) -> Result<(), Memory>
     requires { IsAction action.now }
     ensures { OnOk result (string_bytes out.new ≡ string_bytes out.old ++ spaced (action_words (action.now ∷ []))) }
 {
     print_word(action_name(action), out)?;
     out.push_str(" ")?;
-    print_action(alloc, action, out)
+    print_action(action, out)
 }
 
-fn print_each_action(alloc: Global, actions: &[Action], out: &mut String) -> Result<(), Memory>
+fn print_each_action(actions: &[Action], out: &mut String) -> Result<(), Memory>
     requires { AllByRecursion IsAction actions.now }
     ensures { OnOk result (string_bytes out.new ≡ string_bytes out.old ++ spaced (action_words actions.now)) }
 {
     for action in actions {
-        print_one_action(alloc, action, out)?;
+        print_one_action(action, out)?;
     }
     Ok(())
 }
 
 /// Appends the actions, if there are any, and the word before them.
-fn print_actions(alloc: Global, actions: &[Action], out: &mut String) -> Result<(), Memory>
+fn print_actions(actions: &[Action], out: &mut String) -> Result<(), Memory>
     requires { AllByRecursion IsAction actions.now }
     ensures { OnOk result (string_bytes out.new ≡ string_bytes out.old ++ spaced (then_words actions.now)) }
 {
@@ -85,33 +84,28 @@ fn print_actions(alloc: Global, actions: &[Action], out: &mut String) -> Result<
         return Ok(());
     }
     print_word("then", out)?;
-    print_each_action(alloc, actions, out)
+    print_each_action(actions, out)
 }
 
 /// Appends the whole text, up to want of memory.
-fn print_whole(
-    alloc: Global,
-    rule: &Rule,
-    actions: &Actions,
-    out: &mut String,
-) -> Result<(), Memory>
+fn print_whole(rule: &Rule, actions: &Actions, out: &mut String) -> Result<(), Memory>
     ensures { OnOk result (string_bytes out.new ≡ string_bytes out.old ++ text_of rule.now actions.now) }
 {
     out.push_str(family_word(rule.family()))?;
-    print_components(alloc, rule.components(), out)?;
-    print_actions(alloc, actions.as_slice(), out)
+    print_components(rule.components(), out)?;
+    print_actions(actions.as_slice(), out)
 }
 
 /// Appends the text of a rule and its actions: words joined by single spaces, first `v4` or `v6`, then the name and the
 /// value of each component, and where there are actions `then` and the name of each with what it says.
 ///
 /// After `Memory` `out` is as it was.
-pub fn print(alloc: Global, rule: &Rule, actions: &Actions, out: &mut String) -> Result<(), Memory>
+pub fn print(rule: &Rule, actions: &Actions, out: &mut String) -> Result<(), Memory>
     ensures ok { OnOk result (string_bytes out.new ≡ string_bytes out.old ++ text_of rule.now actions.now) }
     ensures err { OnErr result (string_bytes out.new ≡ string_bytes out.old) }
 {
-    let mut text = String::new(alloc);
-    print_whole(alloc, rule, actions, &mut text)?;
+    let mut text = String::new(*out.allocator());
+    print_whole(rule, actions, &mut text)?;
     out.push_str(&text)?;
     Ok(())
 }

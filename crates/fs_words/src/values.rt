@@ -11,7 +11,6 @@ use crate::operators::{print_masks, print_numbers};
 use crate::prefixes::print_prefix;
 use fs_base::Memory;
 use fs_nlri::Component;
-use std::alloc::Global;
 
 /// The name of a type, 1 to 13.
 pub fn component_name(kind: u8) -> &'static str
@@ -37,13 +36,13 @@ pub fn component_name(kind: u8) -> &'static str
 /// Appends the word of what stands behind the component's type.
 ///
 /// After `Memory` a part of the word may stand in `out`.
-pub fn print_value(alloc: Global, component: &Component, out: &mut String) -> Result<(), Memory>
+pub fn print_value(component: &Component, out: &mut String) -> Result<(), Memory>
     requires { IsSoundBody (part_of component.now).body }
     ensures { OnOk result (string_bytes out.new ≡ string_bytes out.old ++ value_text (part_of component.now)) }
 {
     match component {
         Component::Destination(form) | Component::Source(form) => print_prefix(form, out),
-        Component::TcpFlags(list) | Component::Fragment(list) => print_masks(alloc, list, out),
+        Component::TcpFlags(list) | Component::Fragment(list) => print_masks(list, out),
         Component::Protocol(list)
         | Component::Port(list)
         | Component::DestinationPort(list)
@@ -52,6 +51,6 @@ pub fn print_value(alloc: Global, component: &Component, out: &mut String) -> Re
         | Component::IcmpCode(list)
         | Component::PacketLength(list)
         | Component::Dscp(list)
-        | Component::FlowLabel(list) => print_numbers(alloc, list, out),
+        | Component::FlowLabel(list) => print_numbers(list, out),
     }
 }
