@@ -1,3 +1,4 @@
+pub mod Alike
 mod PartLists
 pub mod RulesRead
 mod FieldOutcome

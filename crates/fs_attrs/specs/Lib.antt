@@ -1,6 +1,7 @@
 pub mod Attributes
 pub mod Prefixes
 pub mod Lists
+pub mod Same
 pub mod Segments
 pub mod Paths
 pub mod Rules

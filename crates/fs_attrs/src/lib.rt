@@ -13,7 +13,7 @@ mod update;
 mod writable;
 mod write;
 
-pub use laws::rules_are_the_outcome;
+pub use laws::{equal_where_same, rules_are_the_outcome};
 pub use lists::{PrefixList, RuleList};
 pub use update::{Routes, Terms, Update, UpdateFault, WriteFault, read_update};
 pub use write::write_update;

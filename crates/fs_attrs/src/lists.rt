@@ -8,7 +8,7 @@ use fs_nlri::Rule;
 use std::marker::Model;
 
 /// Unicast prefixes. A contract sees each as its family, bits and length.
-#[derive(Drop)]
+#[derive(Debug, Drop)]
 pub struct PrefixList {
     items: Vec<Prefix>,
 }
@@ -21,6 +21,25 @@ impl Model for PrefixList {
     ghost Value = { List (Family × ℕ × ℕ) };
 
     ghost view = { λ a. map shown a.items.items };
+}
+
+impl PartialEq for PrefixList {
+    ghost use Rattle.std.specs.Cmp.{partial_equiv_from_equiv};
+    ghost use Rattle.fs_attrs.specs.Same.{same_prefixes, same_prefixes_law};
+
+    ghost eq = { same_prefixes };
+
+    ghost laws = { partial_equiv_from_equiv same_prefixes_law };
+
+    fn eq(&self, other: &PrefixList) -> bool {
+        self.items == other.items
+    }
+}
+
+impl Eq for PrefixList {
+    ghost use Rattle.fs_attrs.specs.Same.{same_prefixes_law};
+
+    ghost laws = { same_prefixes_law };
 }
 
 impl PrefixList {
@@ -58,7 +77,7 @@ impl PrefixList {
 }
 
 /// Rules, as an UPDATE lists them.
-#[derive(Drop)]
+#[derive(Debug, Drop)]
 pub struct RuleList {
     items: Vec<Rule>,
 }
@@ -70,6 +89,25 @@ impl Model for RuleList {
     ghost Value = { List Ruled };
 
     ghost view = { λ a. a.items.items };
+}
+
+impl PartialEq for RuleList {
+    ghost use Rattle.std.specs.Cmp.{partial_equiv_from_equiv};
+    ghost use Rattle.fs_attrs.specs.Same.{same_rules, same_rules_law};
+
+    ghost eq = { same_rules };
+
+    ghost laws = { partial_equiv_from_equiv same_rules_law };
+
+    fn eq(&self, other: &RuleList) -> bool {
+        self.items == other.items
+    }
+}
+
+impl Eq for RuleList {
+    ghost use Rattle.fs_attrs.specs.Same.{same_rules_law};
+
+    ghost laws = { same_rules_law };
 }
 
 impl RuleList {

@@ -26,14 +26,14 @@ pub struct Terms {
 }
 
 /// Routes of one family: of unicast (SAFI 1) or of flow specification (SAFI 133).
-#[derive(Drop)]
+#[derive(Debug, PartialEq, Eq, Drop)]
 pub enum Routes {
     Unicast(Family, PrefixList),
     Flow(Family, RuleList),
 }
 
 /// An UPDATE. It takes routes (`classic_out`, `unreach`) before it gives any (`reach`, `classic_in`).
-#[derive(Drop)]
+#[derive(Debug, PartialEq, Eq, Drop)]
 pub struct Update {
     /// Withdrawn IPv4 unicast routes.
     pub classic_out: PrefixList,

@@ -18,8 +18,8 @@ use Rattle.fs_base.proofs.Octets.{octets_from}
 use Rattle.fs_nlri.specs.Parts.{Ruled}
 use Rattle.fs_nlri.specs.Rule.{IsRule}
 use Rattle.fs_attrs.proofs.RulesRead.{outcome_is}
-use Rattle.fs_speaker.specs.declared.sending.Sending.{Sending}
-use Rattle.fs_speaker.specs.declared.sending.Sent.{Sent}
+use Rattle.fs_speaker.specs.declared.Sending.{Sending}
+use Rattle.fs_speaker.specs.declared.Sent.{Sent}
 use Rattle.fs_speaker.specs.Laws.{IsSent}
 use Rattle.fs_speaker.specs.Sending.{is_sending, is_short, sender_of}
 use Rattle.fs_speaker.specs.Transition.{terms_of}

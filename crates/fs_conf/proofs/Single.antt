@@ -4,7 +4,7 @@ use Rattle.std.specs.List.{list_all, list_any}
 use Rattle.std.specs.Ordering.{is_eq}
 use Rattle.fs_nlri.specs.Parts.{Ruled}
 use Rattle.fs_order.specs.Comparison.{rule_cmp}
-use Rattle.fs_speaker.specs.declared.sending.Sent.{Sent}
+use Rattle.fs_speaker.specs.declared.Sent.{Sent}
 use Rattle.fs_conf.specs.Rules.{are_single, is_same}
 
 abbrev pub is_fresh : (Ruled → Bool) → Sent → Bool

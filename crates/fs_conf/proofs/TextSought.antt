@@ -21,7 +21,7 @@ use Rattle.fs_text.specs.Laws.{EachHasOnePair}
 use Rattle.fs_text.specs.Text.{AreActions, ReadsAs}
 use Rattle.fs_text.specs.declared.fault.TextFault.{TextFault}
 use Rattle.fs_text.specs.declared.fault.TextFault.TheVariants.{Bad, TooLong, Memory}
-use Rattle.fs_speaker.specs.declared.sending.Sent.{Sent}
+use Rattle.fs_speaker.specs.declared.Sent.{Sent}
 use Rattle.fs_text.specs.Printed.{action_words, component_words, family_word, spaced, text_of, then_words}
 use Rattle.fs_text.proofs.Spaces.{join_spaced}
 use Rattle.fs_conf.specs.Sent.{actions_among, if_ok, listed_actions, only, rule_of, rules_among, sent_of_text, sents_among}

@@ -9,8 +9,8 @@ use Rattle.fs_nlri.specs.Parts.{Ruled}
 use Rattle.fs_order.specs.Comparison.{rule_cmp}
 use Rattle.fs_order.specs.declared.ranked.Ranked.{Ranked}
 use Rattle.fs_speaker.specs.Sending.{is_sending, sender_of}
-use Rattle.fs_speaker.specs.declared.sending.Sending.{Sending}
-use Rattle.fs_speaker.specs.declared.sending.Sent.{Sent}
+use Rattle.fs_speaker.specs.declared.Sending.{Sending}
+use Rattle.fs_speaker.specs.declared.Sent.{Sent}
 use Rattle.fs_conf.specs.Address.{ipv4_of}
 use Rattle.fs_conf.specs.Config.{as_number, kept_if, written}
 use Rattle.fs_conf.specs.Document.{document_of, each_item}

@@ -10,7 +10,7 @@ use Rattle.fs_nlri.specs.Parts.{Ruled}
 use Rattle.fs_actions.specs.Actions.{actions_of, are_communities, communities}
 use Rattle.fs_actions.specs.Community.{normal_form}
 use Rattle.fs_attrs.specs.Rules.{rules_of}
-use Rattle.fs_speaker.specs.declared.sending.Sent.{Sent}
+use Rattle.fs_speaker.specs.declared.Sent.{Sent}
 use Rattle.fs_conf.specs.Config.{written}
 use Rattle.fs_conf.specs.Fields.{keys_among}
 use Rattle.fs_conf.specs.Worded.{has_text, octet_lists, with_each}

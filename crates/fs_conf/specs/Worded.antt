@@ -4,7 +4,7 @@ use Rattle.std.specs.Prelude.{ℕ, zero, suc, Bool, List, [], ◌∷◌, map}
 use Rattle.std.specs.List.{flat_map, range_with_len}
 use Rattle.std.specs.Str.{bytes_eq}
 use Rattle.fs_nlri.specs.Parts.{Ruled}
-use Rattle.fs_speaker.specs.declared.sending.Sent.{Sent}
+use Rattle.fs_speaker.specs.declared.Sent.{Sent}
 use Rattle.fs_text.specs.Printed.{text_of}
 
 -- the lists of at most so many numbers, each below a bound

@@ -2,7 +2,7 @@
 use Rattle.std.specs.Prelude.{◌≡◌, ◌↔◌, ℕ, List, Some}
 use Rattle.fs_nlri.specs.Rule.{IsRule}
 use Rattle.fs_text.specs.Text.{AreActions}
-use Rattle.fs_speaker.specs.declared.sending.Sent.{Sent}
+use Rattle.fs_speaker.specs.declared.Sent.{Sent}
 use Rattle.fs_text.specs.Printed.{text_of}
 use Rattle.fs_conf.specs.Sent.{sent_of_text}
 

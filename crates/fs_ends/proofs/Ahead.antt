@@ -5,8 +5,8 @@ use Rattle.std.specs.Option.{is_some}
 use Rattle.fs_speaker.specs.Announcer.{Announcing, SaysText, Starts, StartsOpen, StartsWith, StaysEnded, first_text, is_established, next_text}
 use Rattle.fs_speaker.specs.Line.{state_in}
 use Rattle.fs_speaker.specs.Sending.{text_sent}
-use Rattle.fs_speaker.specs.declared.sending.Sent.{Sent}
-use Rattle.fs_speaker.specs.declared.state.Closed.{Closed}
+use Rattle.fs_speaker.specs.declared.Sent.{Sent}
+use Rattle.fs_speaker.specs.declared.Closed.{Closed}
 use Rattle.fs_ends.specs.Teller.{ahead_of, before_all}
 
 module _ {A : Type 0} (old new : Announcing) (out out' : List ℕ) (result : Result A Closed) (stays : StaysEnded old new result out out') where

@@ -6,9 +6,9 @@ use Rattle.fs_base.specs.declared.config.Config.{Config}
 use Rattle.fs_base.specs.declared.config.Peer.{Peer}
 use Rattle.fs_base.specs.Wire.{Told, WireEnds}
 use Rattle.fs_message.specs.Deframer.{pending}
-use Rattle.fs_speaker.specs.declared.sending.Sending.{Sending}
-use Rattle.fs_speaker.specs.declared.state.Closed.{Closed}
-use Rattle.fs_speaker.specs.declared.state.State.TheVariants.{Closed as IsClosed}
+use Rattle.fs_speaker.specs.declared.Sending.{Sending}
+use Rattle.fs_speaker.specs.declared.Closed.{Closed}
+use Rattle.fs_speaker.specs.declared.State.TheVariants.{Closed as IsClosed}
 use Rattle.fs_speaker.specs.Announcer.{Announcing, is_established, machine_in, open_sent}
 use Rattle.fs_speaker.specs.Line.{Lined, state_in}
 use Rattle.fs_speaker.specs.Sending.{needs_of, text_sent}

@@ -6,12 +6,12 @@ use Rattle.fs_message.specs.declared.fault.MessageFault.{MessageFault}
 use Rattle.fs_message.specs.Stream.{Message, first_message, wrong_at}
 use Rattle.fs_message.proofs.StreamLaws.{message_shrinks, message_stable, fault_stays}
 use Rattle.fs_attrs.specs.declared.update.Update.{Update}
-use Rattle.fs_speaker.specs.declared.state.Closed.{Closed}
+use Rattle.fs_speaker.specs.declared.Closed.{Closed}
 use Rattle.fs_speaker.specs.Announcer.{is_established}
 use Rattle.fs_speaker.specs.Line.{waits, takes, stops, step_by}
 use Rattle.fs_speaker.specs.Session.{Last, closed, rest_closes, still}
 use Rattle.fs_speaker.specs.Transition.{Machine, transition_by}
-use Rattle.fs_speaker.specs.declared.transition.Phase.{Phase}
+use Rattle.fs_session.specs.declared.transition.Phase.{Phase}
 use Rattle.fs_speaker.proofs.ReplySteps.{Shows, told, wrong_first}
 use Rattle.fs_speaker.proofs.SessionSteps.{Transition}
 use Rattle.fs_ends.specs.Opening.{front_message, opened_by, opens}

@@ -10,20 +10,20 @@ use Rattle.fs_message.specs.Deframer.{Framing, pending}
 use Rattle.fs_message.specs.Stream.{Message}
 use Rattle.fs_message.specs.Write.{message_text}
 use Rattle.fs_attrs.specs.declared.update.Update.{Update}
-use Rattle.fs_speaker.specs.declared.state.Closed.{Closed}
-use Rattle.fs_speaker.specs.declared.state.Closed.TheVariants.{Fault, Notified, NoFamily, Memory}
-use Rattle.fs_speaker.specs.declared.state.State.{State}
-use Rattle.fs_speaker.specs.declared.state.State.TheVariants.{WaitOpen, WaitKeep, Established, Closed as IsClosed}
-use Rattle.fs_speaker.specs.declared.times.Tick.{Tick}
-use Rattle.fs_speaker.specs.declared.times.Tick.TheVariants.{Quiet, Keeps, Expires}
-use Rattle.fs_speaker.specs.declared.times.Times.{Times}
+use Rattle.fs_speaker.specs.declared.Closed.{Closed}
+use Rattle.fs_speaker.specs.declared.Closed.TheVariants.{Fault, Notified, NoFamily, Memory}
+use Rattle.fs_speaker.specs.declared.State.{State}
+use Rattle.fs_speaker.specs.declared.State.TheVariants.{WaitOpen, WaitKeep, Established, Closed as IsClosed}
+use Rattle.fs_session.specs.declared.times.Tick.{Tick}
+use Rattle.fs_session.specs.declared.times.Tick.TheVariants.{Quiet, Keeps, Expires}
+use Rattle.fs_session.specs.declared.times.Times.{Times}
 use Rattle.fs_speaker.specs.Announcer.{Announcing, has_started, is_established, next_text, one_sent, first_text, machine_in, open_sent, with_line, FeedsEnd, SaysText, StartsWith, StaysEnded, TicksEnd}
 use Rattle.fs_speaker.specs.Line.{Advanced, CloseIs, Lined, Refuses, Step, TickCloses, TickDoes, answer_of, closed_after, lined, moved, state_in, step_by, stops, takes, waits}
 use Rattle.fs_speaker.specs.Session.{at_start, still}
 use Rattle.fs_speaker.specs.Side.{at_fault, keepalive_to, no_farewell}
 use Rattle.fs_speaker.specs.Times.{at_moment, taken_in, tick_at}
 use Rattle.fs_speaker.specs.Transition.{Machine, opened, transition_at, transition_by}
-use Rattle.fs_speaker.specs.declared.transition.Phase.{Phase}
+use Rattle.fs_session.specs.declared.transition.Phase.{Phase}
 use Rattle.fs_speaker.proofs.ReplySteps.{Shows, told}
 use Rattle.fs_talk.specs.Round.{Hears, Says, Stance, moments_in, octets_in}
 use Rattle.std.proofs.lemmas.Grind.{flat_map-append}

@@ -1,6 +1,6 @@
 -- The moments at which an end hears, in milliseconds, and a hold time that passes between them.
 use Rattle.std.specs.Prelude.{◌≡◌, ◌≢◌, ℕ, ◌+◌, ◌≤◌, ◌<◌, max, List, [], ◌∷◌, ◌++◌, length}
-use Rattle.fs_speaker.specs.declared.times.Times.{Times}
+use Rattle.fs_session.specs.declared.times.Times.{Times}
 
 -- the greatest of them
 abbrev pub most : List ℕ → ℕ

@@ -6,7 +6,7 @@ use Rattle.fs_message.specs.Stream.{Message, first_message, wrong_at}
 use Rattle.fs_speaker.specs.Announcer.{is_established}
 use Rattle.fs_speaker.specs.Session.{Last, closed, rest_closes, still}
 use Rattle.fs_speaker.specs.Transition.{Machine, transition_by}
-use Rattle.fs_speaker.specs.declared.transition.Phase.{Phase}
+use Rattle.fs_session.specs.declared.transition.Phase.{Phase}
 
 -- the message at the front, with the octets behind it
 abbrev pub front_message : List ℕ → Option ((Message × List ℕ) × List ℕ)

@@ -4,14 +4,14 @@ use Rattle.fs_base.specs.declared.config.Config.{Config}
 use Rattle.fs_base.specs.declared.config.Peer.{Peer}
 use Rattle.fs_base.specs.Sink.{Grew}
 use Rattle.fs_base.specs.Wire.{Told, WireEnds}
-use Rattle.fs_speaker.specs.declared.sending.Sending.{Sending}
+use Rattle.fs_speaker.specs.declared.Sending.{Sending}
 use Rattle.fs_speaker.specs.Announcer.{Announcing, announcing, is_established, open_sent}
 use Rattle.fs_speaker.specs.Line.{fresh}
 use Rattle.fs_speaker.specs.Sending.{needs_of, text_sent}
 use Rattle.fs_speaker.specs.Session.{at_start, still}
 use Rattle.fs_speaker.specs.Side.{announcer}
 use Rattle.fs_speaker.specs.Transition.{Machine}
-use Rattle.fs_speaker.specs.declared.transition.Phase.{Phase}
+use Rattle.fs_session.specs.declared.transition.Phase.{Phase}
 use Rattle.fs_talk.specs.Round.{Pieces, moments_in, octets_in}
 use Rattle.fs_ends.specs.declared.tell.Ending.{Ending}
 use Rattle.fs_ends.specs.declared.tell.Ending.TheVariants.{Done, Closed as HasClosed, Ended, AtLimit}

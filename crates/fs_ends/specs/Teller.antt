@@ -3,16 +3,16 @@ use Rattle.std.specs.Prelude.{◌≡◌, ◌≢◌, ◌⊎◌, ℕ, suc, zero, �
 use Rattle.std.specs.Option.{is_some}
 use Rattle.fs_message.specs.Deframer.{pending}
 use Rattle.fs_message.specs.Write.{message_text}
-use Rattle.fs_speaker.specs.declared.state.Closed.{Closed}
-use Rattle.fs_speaker.specs.declared.state.Closed.TheVariants.{Fault}
-use Rattle.fs_speaker.specs.declared.state.State.{State}
-use Rattle.fs_speaker.specs.declared.state.State.TheVariants.{WaitOpen}
+use Rattle.fs_speaker.specs.declared.Closed.{Closed}
+use Rattle.fs_speaker.specs.declared.Closed.TheVariants.{Fault}
+use Rattle.fs_speaker.specs.declared.State.{State}
+use Rattle.fs_speaker.specs.declared.State.TheVariants.{WaitOpen}
 use Rattle.fs_speaker.specs.Announcer.{Announcing, announcing, is_established, machine_in, open_sent, with_line}
 use Rattle.fs_speaker.specs.Line.{fresh, state_in, step_by, waits}
 use Rattle.fs_speaker.specs.Sending.{text_sent}
 use Rattle.fs_speaker.specs.Session.{at_start, closed, still}
 use Rattle.fs_speaker.specs.Transition.{Machine}
-use Rattle.fs_speaker.specs.declared.transition.Phase.{Phase}
+use Rattle.fs_session.specs.declared.transition.Phase.{Phase}
 use Rattle.fs_ends.specs.HoldTime.{AreTimely, Spans}
 use Rattle.fs_ends.specs.Opening.{opened_by}
 

@@ -6,7 +6,7 @@ ghost use Rattle.std.specs.Result.{IsErrOf};
 ghost use Rattle.fs_base.specs.Outside.{Rose};
 ghost use Rattle.fs_base.specs.declared.config.Config.{Config};
 ghost use Rattle.fs_base.specs.declared.config.Peer.{Peer};
-ghost use Rattle.fs_speaker.specs.declared.sending.Sending.{Sending};
+ghost use Rattle.fs_speaker.specs.declared.Sending.{Sending};
 ghost use Rattle.fs_ends.specs.Tell.{TellsOver, begins_with};
 
 use crate::teller::Teller;

@@ -2,7 +2,7 @@
 use Rattle.std.proofs.Common.{◌≡◌, ℕ, List, [], ◌∷◌, ◌++◌, refl, ap, ◌∙◌}
 use Rattle.fs_base.specs.declared.config.Config.{Config}
 use Rattle.fs_base.specs.declared.prefix.Family.TheVariants.{V4, V6}
-use Rattle.fs_speaker.specs.declared.state.Standing.{Standing}
+use Rattle.fs_speaker.specs.declared.Standing.{Standing}
 use Rattle.fs_tape.specs.Tape.{Item}
 use Rattle.fs_desk.specs.Desk.{Desked, Played, standing_of, standing_at_desk}
 use Rattle.fs_desk.proofs.Standing.{desk_stands}

@@ -3,11 +3,11 @@ use Rattle.std.specs.Prelude.{ℕ, List, ◌++◌, filter, flat_map, is_some, co
 use Rattle.std.specs.List.{range_with_len}
 use Rattle.fs_base.specs.Config.{peer_of}
 use Rattle.fs_base.specs.declared.config.Peer.{Peer}
-use Rattle.fs_speaker.specs.declared.state.State.{State}
-use Rattle.fs_speaker.specs.declared.state.State.TheVariants.{WaitOpen, WaitKeep, Established, Closed as IsClosed}
-use Rattle.fs_speaker.specs.declared.state.Closed.TheVariants.{Fault, Notified, NoFamily, Memory}
-use Rattle.fs_speaker.specs.declared.state.Standing.{Standing}
-use Rattle.fs_speaker.specs.declared.state.Standing.TheVariants.{Down, Up, Ended}
+use Rattle.fs_speaker.specs.declared.State.{State}
+use Rattle.fs_speaker.specs.declared.State.TheVariants.{WaitOpen, WaitKeep, Established, Closed as IsClosed}
+use Rattle.fs_speaker.specs.declared.Closed.TheVariants.{Fault, Notified, NoFamily, Memory}
+use Rattle.fs_speaker.specs.declared.Standing.{Standing}
+use Rattle.fs_speaker.specs.declared.Standing.TheVariants.{Down, Live, Ended}
 use Rattle.fs_desk.specs.Desk.{Desked, standing_at_desk}
 
 -- the state of an open session (RFC 4271 section 8.2.2); an open one is never closed
@@ -24,7 +24,7 @@ codes_text word code subcode = word ++ (decimal code ++ (codes "/" ++ decimal su
 -- a peer's octets close its session by a fault or a NOTIFICATION, and in no other way
 abbrev pub standing_text : Standing → List ℕ
 standing_text Down = codes "down"
-standing_text (Up state) = state_name state
+standing_text (Live state) = state_name state
 standing_text (Ended (Fault code subcode)) = codes_text (codes "closed ") code subcode
 standing_text (Ended (Notified code subcode)) = codes_text (codes "notified ") code subcode
 standing_text (Ended NoFamily) = codes "closed"

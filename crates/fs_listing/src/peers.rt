@@ -58,7 +58,7 @@ fn append_standing(standing: Standing, text: &mut Vec<u8>) -> Result<(), Memory>
 {
     match standing {
         Standing::Down => append(b"down", text),
-        Standing::Up(state) => append(state_name(state), text),
+        Standing::Live(state) => append(state_name(state), text),
         Standing::Ended(Closed::Fault { code, subcode }) => append_codes(
             b"closed ", code, subcode, text,
         ),

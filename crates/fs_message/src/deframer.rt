@@ -11,7 +11,7 @@ use std::marker::Model;
 
 /// A message of the stream, lent by the [`Deframer`] that holds it: its type, and the octets behind its
 /// header.
-#[derive(Clone, Copy, Debug, Drop)]
+#[derive(Clone, Copy, Debug, PartialEq, Eq, Drop)]
 pub struct Frame<'a> {
     pub kind: u8,
     pub body: &'a [u8],

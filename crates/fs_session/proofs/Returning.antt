@@ -1,12 +1,11 @@
 -- The UPDATE of a rule is read as the update that announces it.
-use Rattle.std.proofs.Common.{◌≡◌, ℕ, ◌+◌, ◌<◌, ◌≤◌, ◌==◌, ◌^◌, Bool, true, false, not, ◌&&◌, ◌||◌, nat_le, nat_lt, List, [], ◌∷◌, ◌++◌, Option, Some, None, Ok, All, length, if◌then◌else◌, refl, arith}
+use Rattle.std.proofs.Common.{◌≡◌, ℕ, ◌+◌, ◌<◌, ◌≤◌, ◌==◌, ◌^◌, Bool, true, false, not, ◌&&◌, ◌||◌, nat_le, nat_lt, List, [], ◌∷◌, ◌++◌, Ok, All, length, if◌then◌else◌, refl, arith}
 use Rattle.std.specs.Prelude.{bit_or, flat_map}
 use Rattle.std.specs.List.{AllByRecursion, concat, list_all}
 use Rattle.std.proofs.lemmas.Bool.{leb-true}
 use Rattle.std.proofs.lemmas.Bool.Decides.{nat_tests}
 use Rattle.std.proofs.lemmas.List.Elements.{All-cons, All-from_recursion, All-nil}
 use Rattle.byteorder.specs.Endian.{big_bytes}
-use Rattle.fs_base.specs.declared.path.Segment.{Segment}
 use Rattle.fs_base.specs.declared.prefix.Family.{Family}
 use Rattle.fs_base.specs.declared.prefix.Family.TheVariants.{V4, V6}
 use Rattle.fs_base.specs.Bits.{afi_of}
@@ -16,17 +15,15 @@ use Rattle.fs_base.proofs.Lists.{each_append}
 use Rattle.fs_base.proofs.Octets.{octets_append, octets_cons, octets_nil}
 use Rattle.fs_nlri.specs.Parts.{Ruled}
 use Rattle.fs_nlri.specs.Rule.{IsRule, canonical_frame}
-use Rattle.fs_actions.specs.Actions.{IsActions}
 use Rattle.fs_attrs.specs.declared.update.Terms.{Terms}
 use Rattle.fs_attrs.specs.declared.update.Routes.TheVariants.{Flow}
-use Rattle.fs_attrs.specs.declared.update.Update.{Update}
 use Rattle.fs_attrs.specs.Attributes.{Attribute, attribute}
 use Rattle.fs_attrs.specs.Lists.{IsPrefix}
 use Rattle.fs_attrs.specs.Segments.{AreNumbers, as_text, is_written_segment, segment, segments_text}
 use Rattle.fs_attrs.specs.Texts.{attribute_text, flags_of, long_text, rules_text}
 use Rattle.fs_attrs.specs.Update.{update_of}
 use Rattle.fs_attrs.specs.Writable.{is_path_of_session, is_writable}
-use Rattle.fs_attrs.specs.Write.{IsPath, IsSound, actions_in, family_of, local_pref_in, path_in, reach_text, update_text, written_attributes}
+use Rattle.fs_attrs.specs.Write.{IsSound, actions_in, family_of, local_pref_in, reach_text, update_text, written_attributes}
 use Rattle.fs_attrs.proofs.RuleOctets.{frame_are}
 use Rattle.fs_attrs.proofs.UpdateReadBack.{read_back}
 use Rattle.fs_session.specs.declared.sending.Sent.{Sent}

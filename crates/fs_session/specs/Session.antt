@@ -7,7 +7,7 @@ use Rattle.fs_base.specs.Config.{peer_of}
 use Rattle.fs_base.specs.Parts.{parts_of}
 use Rattle.fs_message.specs.declared.fault.MessageFault.{MessageFault}
 use Rattle.fs_message.specs.Stream.{Message, first_message, wrong_at}
-use Rattle.fs_message.specs.Deframer.{Framing, framing, pending}
+use Rattle.fs_message.specs.Deframer.{Framing, pending}
 use Rattle.fs_attrs.specs.declared.update.Update.{Update}
 use Rattle.fs_session.specs.declared.state.State.{State}
 use Rattle.fs_session.specs.declared.state.State.TheVariants.{WaitOpen, Closed as IsClosed}

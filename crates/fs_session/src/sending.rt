@@ -17,14 +17,14 @@ use std::alloc::Global;
 use std::marker::Model;
 
 /// A rule, and the actions that are sent with it.
-#[derive(Drop)]
+#[derive(Debug, PartialEq, Eq, Drop)]
 pub struct Sent {
     pub rule: Rule,
     pub actions: Actions,
 }
 
 /// Rules in the order in which they are sent.
-#[derive(Drop)]
+#[derive(Debug, Drop)]
 pub struct SentList {
     items: Vec<Sent>,
 }
@@ -36,6 +36,28 @@ impl Model for SentList {
     ghost Value = { List Sent };
 
     ghost view = { λ a. a.items.items };
+}
+
+impl PartialEq for SentList {
+    ghost use Rattle.std.specs.Cmp.Lexicographic.{pointwise, lists_equiv};
+    ghost use Rattle.std.specs.Cmp.{partial_equiv_from_equiv};
+    ghost use Rattle.fs_session.specs.contracts.sending.SentPartialEq.TheImpl.{ghosts};
+    ghost use Rattle.fs_session.specs.contracts.sending.SentEq.TheImpl.Laws.{laws-law};
+
+    ghost eq = { pointwise ghosts.eq };
+
+    ghost laws = { partial_equiv_from_equiv (lists_equiv laws-law) };
+
+    fn eq(&self, other: &SentList) -> bool {
+        self.items == other.items
+    }
+}
+
+impl Eq for SentList {
+    ghost use Rattle.std.specs.Cmp.Lexicographic.{lists_equiv};
+    ghost use Rattle.fs_session.specs.contracts.sending.SentEq.TheImpl.Laws.{laws-law};
+
+    ghost laws = { lists_equiv laws-law };
 }
 
 impl SentList {
@@ -62,7 +84,7 @@ impl SentList {
 }
 
 /// What is sent: under this BGP identifier and these AS numbers as one AS_SEQUENCE the rules, one UPDATE for each.
-#[derive(Drop)]
+#[derive(Debug, PartialEq, Eq, Drop)]
 pub struct Sending {
     pub id: u32,
     pub as_path: Numbers,

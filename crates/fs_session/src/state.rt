@@ -34,7 +34,7 @@ pub enum Standing {
     /// The peer isn't up.
     Down,
     /// It is up, and its session is open.
-    Up(State),
+    Live(State),
     /// It is up, and its session has closed.
     Ended(Closed),
 }

@@ -12,6 +12,7 @@ use Rattle.fs_session.specs.Announcer.{Announcing, machine_in, is_established, f
 use Rattle.fs_session.specs.Handed.{Point, Handed, hand}
 use Rattle.fs_session.specs.declared.state.State.TheVariants.{Closed as IsClosed}
 use Rattle.fs_session.specs.Sending.{needs_of, text_sent}
+use Rattle.fs_session.specs.Line.{Lined}
 use Rattle.fs_session.specs.Session.{Live, line_of}
 use Rattle.fs_session.specs.Side.{receiver, announcer}
 use Rattle.fs_session.specs.Times.{at_moment, tick_at}
@@ -20,7 +21,7 @@ use Rattle.fs_session.specs.Transition.{Machine}
 use Rattle.fs_speaker.specs.End.{Own, own_of_taker, own_of_teller, ticks, ticked, StandsAt, HandsOver, TicksOver}
 use Rattle.fs_speaker.specs.Ends.{Both, both, IsTaker, IsTeller, AreIn}
 use Rattle.fs_speaker.specs.Flight.{Flying, flying}
-use Rattle.fs_speaker.specs.World.{World, sent, taker_of, teller_of, next_said, says, delivers, wakes}
+use Rattle.fs_speaker.specs.World.{World, sent, taker_of, teller_of, next_said, delivers, wakes}
 use Rattle.fs_speaker.proofs.Waking.{ticked_by}
 
 -- no update comes of the clock
@@ -35,6 +36,12 @@ nothing_taken moment now = by now.closed
     by : (how : Option Closed) → (ticked_by moment now how).updates ≡ []
     by (Some why) = refl
     by None = no_update (tick_at now.phase.hold (at_moment moment now.times)) now.waiting now.phase (at_moment moment now.times)
+
+-- updates that are handed over into a list of their own are taken behind others
+pub handed_behind : (machine : Machine) (moment : ℕ) (old new : Lined) (piece : List ℕ) (taken got all : List Update) (said : List ℕ)
+    → HandsOver machine moment old new piece [] got [] said → all ≡ taken ++ got → HandsOver machine moment old new piece taken all [] said
+handed_behind machine moment old new piece taken got all said hands is =
+    λ now stands. let made = hands now stands in (made.0, (is ∙ ap (λ (u : List Update). taken ++ u) made.1.0, made.1.1))
 
 module _ (config : Config) (peer : Peer) (sending : Sending) (w : World) (old : Both) (here : AreIn config peer sending old w) where
   takes_as : receiver old.taker.config old.taker.peer ≡ taker_of config peer sending

@@ -1,17 +1,18 @@
 -- A list of events, and one event more.
-use Rattle.std.proofs.Common.{◌≡◌, ℕ, true, false, List, [], ◌∷◌, ◌++◌, Option, Some, Ok, option_map, unwrap_or, refl, ap, sym, ◌∙◌, subst, IfSome}
+use Rattle.std.proofs.Common.{◌≡◌, ℕ, Bool, true, false, List, [], ◌∷◌, ◌++◌, Option, Some, None, Ok, option_map, unwrap_or, refl, ap, sym, ◌∙◌, subst, IfSome}
 use Rattle.fs_base.specs.declared.config.Config.{Config}
 use Rattle.fs_base.specs.declared.config.Peer.{Peer}
 use Rattle.fs_session.specs.declared.sending.Sending.{Sending}
+use Rattle.fs_session.specs.declared.state.Closed.{Closed}
 use Rattle.fs_session.specs.Announcer.{Announcing, announcing, open_sent, StartsOpen}
 use Rattle.fs_session.specs.Line.{fresh, step_by, waits}
 use Rattle.fs_session.specs.Sending.{sender_of}
 use Rattle.fs_session.specs.Session.{Live, live, begins, at_start}
 use Rattle.fs_session.specs.Transition.{Machine}
 use Rattle.fs_speaker.specs.declared.event.Event.{Event}
-use Rattle.fs_speaker.specs.Ends.{Both, both, AreIn, Becomes}
+use Rattle.fs_speaker.specs.Ends.{Both, both, AreIn, Becomes, SameOnes}
 use Rattle.fs_speaker.specs.Flight.{flying}
-use Rattle.fs_speaker.specs.Joint.{Jointed, jointed, one_more, IsRun}
+use Rattle.fs_speaker.specs.Joint.{Jointed, jointed, one_more, run_of, IsRun}
 use Rattle.fs_speaker.specs.World.{World, taker_of, teller_of, happens, runs_on, run}
 use Rattle.fs_speaker.proofs.Lowest.{sender_told}
 
@@ -20,35 +21,57 @@ pub run_more : (config : Config) (peer : Peer) (sending : Sending) (w : World) (
 run_more config peer sending w [] event = refl
 run_more config peer sending w (first ∷ events) event = run_more config peer sending (happens config peer sending first w) events event
 
--- whose ends they are
-pub record SameOnes (old new : Both) : Type 0 where
-  pub config_is : new.teller.config ≡ old.teller.config
-  pub peer_is : new.teller.peer ≡ old.teller.peer
-  pub sending_is : new.teller.sending ≡ old.teller.sending
+-- the same events make the same world of the same ones
+same_world : (old new : Both) (events : List Event) → SameOnes old new → run_of new events ≡ run_of old events
+same_world old new events same =
+    ap (λ (c : Config). run c new.teller.peer new.teller.sending events) same.0
+    ∙ ap (λ (p : Peer). run old.teller.config p new.teller.sending events) same.1
+    ∙ ap (λ (s : Sending). run old.teller.config old.teller.peer s events) same.2
 
 -- an event happened
-pub one_happened : (old new : Both) (events events' : List Event) (event : Event) → IsRun old events false → events' ≡ events ++ event ∷ []
-    → Becomes (λ config peer sending. happens config peer sending event) old new → SameOnes old new × IsRun new events' false
-one_happened old new events events' event run_is more becomes =
+pub one_happened : (old new : Both) (events events' : List Event) (event : Event) (first second first' second' : Option Closed) → IsRun old events first second false → events' ≡ events ++ event ∷ []
+    → Becomes (λ config peer sending. happens config peer sending event) old new → SameOnes old new
+    → first' ≡ new.taker.closed → second' ≡ new.teller.line.closed → IsRun new events' first' second' false
+one_happened old new events events' event first second first' second' run_is more becomes same first_is second_is =
     let config : Config = old.teller.config in
     let peer : Peer = old.teller.peer in
     let sending : Sending = old.teller.sending in
-    let here = becomes config peer sending (run config peer sending events) (run_is refl) in
-    let there : AreIn config peer sending new (run config peer sending events') =
-    subst (λ (w : World). AreIn config peer sending new w) (sym (ap (run config peer sending) more ∙ run_more config peer sending _ events event)) here in (
-      record { config_is = here.second.config_is; peer_is = here.second.peer_is; sending_is = here.second.sending_is },
-      λ e.
-          subst (λ (c : Config). AreIn c new.teller.peer new.teller.sending new (run c new.teller.peer new.teller.sending events')) (sym here.second.config_is)
-          (subst (λ (p : Peer). AreIn config p new.teller.sending new (run config p new.teller.sending events')) (sym here.second.peer_is)
-          (subst (λ (s : Sending). AreIn config peer s new (run config peer s events')) (sym here.second.sending_is) there)),
-    )
+    let there : AreIn config peer sending new (run_of old events') =
+    subst (λ (w : World). AreIn config peer sending new w) (sym (ap (run config peer sending) more ∙ run_more config peer sending _ events event))
+    (becomes config peer sending (run_of old events) (run_is.ends_are refl)) in
+    let world : run_of new events' ≡ run_of old events' = same_world old new events' same in
+    record {
+      ends_are = λ e.
+          subst (λ (c : Config). AreIn c new.teller.peer new.teller.sending new (run c new.teller.peer new.teller.sending events')) (sym same.0)
+          (subst (λ (p : Peer). AreIn config p new.teller.sending new (run config p new.teller.sending events')) (sym same.1)
+          (subst (λ (s : Sending). AreIn config peer s new (run config peer s events')) (sym same.2) there));
+      taken_is = there.taken_is ∙ ap (λ (w : World). w.taken) (sym world);
+      first_is = first_is ∙ there.first.stands.closed_is ∙ ap (λ (w : World). w.taker.closed) (sym world);
+      second_is = second_is ∙ there.second.stands.closed_is ∙ ap (λ (w : World). w.teller.closed) (sym world);
+    }
+
+-- a step was refused
+pub none_happened : (old new : Both) (events : List Event) (first second : Option Closed) (spent : Bool) → IsRun old events first second spent → SameOnes old new → new.taken ≡ old.taken → IsRun new events first second true
+none_happened old new events first second spent run_is same kept =
+    let world : run_of old events ≡ run_of new events = sym (same_world old new events same) in
+    record {
+      ends_are = λ e. absurd (cc);
+      taken_is = kept ∙ run_is.taken_is ∙ ap (λ (w : World). w.taken) world;
+      first_is = run_is.first_is ∙ ap (λ (w : World). w.taker.closed) world;
+      second_is = run_is.second_is ∙ ap (λ (w : World). w.teller.closed) world;
+    }
+
+joint_of : (old new : Both) (events : List Event) (spent : Bool) → SameOnes old new
+    → jointed new.teller.config new.teller.peer new.teller.sending events spent ≡ jointed old.teller.config old.teller.peer old.teller.sending events spent
+joint_of old new events spent same =
+    ap (λ (c : Config). jointed c new.teller.peer new.teller.sending events spent) same.0
+    ∙ ap (λ (p : Peer). jointed old.teller.config p new.teller.sending events spent) same.1
+    ∙ ap (λ (s : Sending). jointed old.teller.config old.teller.peer s events spent) same.2
 
 pub same_joint : (old new : Both) (events events' : List Event) (event : Event) (was : Jointed) → jointed old.teller.config old.teller.peer old.teller.sending events false ≡ was
     → events' ≡ events ++ event ∷ [] → SameOnes old new → jointed new.teller.config new.teller.peer new.teller.sending events' false ≡ one_more event was
 same_joint old new events events' event was e more same =
-    ap (λ (c : Config). jointed c new.teller.peer new.teller.sending events' false) same.config_is
-    ∙ ap (λ (p : Peer). jointed old.teller.config p new.teller.sending events' false) same.peer_is
-    ∙ ap (λ (s : Sending). jointed old.teller.config old.teller.peer s events' false) same.sending_is
+    joint_of old new events' false same
     ∙ ap (λ (l : List Event). jointed old.teller.config old.teller.peer old.teller.sending l false) more
     ∙ ap (one_more event) e
 
@@ -82,7 +105,7 @@ pub joint_begins : (config : Config) (peer : Peer) (sending : Sending) (taker : 
     → sender_of config.peers ≡ Some peer → begins config peer.number ≡ Some taker
     → IfSome (sender_of config.peers) (λ (p : Peer). teller ≡ announcing config p sending fresh false 0) → StartsOpen teller teller' [] said (Ok tt)
     → ends ≡ both taker teller' (flying said [] false) [] → events ≡ []
-    → (ends.teller ≡ announcing config peer sending fresh true 0) × IsRun ends events false
+    → (ends.teller ≡ announcing config peer sending fresh true 0) × IsRun ends events None None false
 joint_begins config peer sending taker teller teller' said ends events sender begin made starts is none =
     let own : teller ≡ announcing config peer sending fresh false 0 =
     subst (λ (o : Option Peer). IfSome o (λ (p : Peer). teller ≡ announcing config p sending fresh false 0)) sender made in
@@ -94,9 +117,15 @@ joint_begins config peer sending taker teller teller' said ends events sender be
     ap (λ (t : Live). both t (announcing config peer sending fresh true 0) (flying (open_sent config peer sending) [] false) []) fed
     ∙ ap (λ (t : Announcing). both taker t (flying (open_sent config peer sending) [] false) []) (sym started.0)
     ∙ ap (λ (z : List ℕ). both taker teller' (flying z [] false) []) (sym started.1)
-    ∙ sym is in (
+    ∙ sym is in
+    let begun : AreIn ends.teller.config ends.teller.peer ends.teller.sending ends (run_of ends events) =
+    subst (λ (l : List Event). AreIn ends.teller.config ends.teller.peer ends.teller.sending ends (run_of ends l)) (sym none)
+    (subst (λ (b : Both). AreIn b.teller.config b.teller.peer b.teller.sending b (run_of b [])) new (first_ends config peer sending)) in (
       sym (ap (λ (b : Both). b.teller) new),
-      λ e.
-          subst (λ (l : List Event). AreIn ends.teller.config ends.teller.peer ends.teller.sending ends (run ends.teller.config ends.teller.peer ends.teller.sending l)) (sym none)
-          (subst (λ (b : Both). AreIn b.teller.config b.teller.peer b.teller.sending b (run b.teller.config b.teller.peer b.teller.sending [])) new (first_ends config peer sending)),
+      record {
+        ends_are = λ e. begun;
+        taken_is = begun.taken_is;
+        first_is = sym (ap (λ (l : List Event). (run_of ends l).taker.closed) none);
+        second_is = sym (ap (λ (l : List Event). (run_of ends l).teller.closed) none);
+      },
     )

@@ -1,11 +1,10 @@
 -- What an end of a session comes to that is handed pieces, and that hears the clock, at moments.
-use Rattle.std.specs.Prelude.{◌≡◌, ℕ, Bool, List, [], ◌∷◌, ◌++◌, Option, Some, None}
+use Rattle.std.specs.Prelude.{◌≡◌, ℕ, Bool, List, [], ◌++◌, Option, Some, None}
 use Rattle.fs_base.specs.declared.config.Config.{Config}
 use Rattle.fs_base.specs.declared.config.Peer.{Peer}
 use Rattle.fs_attrs.specs.declared.update.Update.{Update}
 use Rattle.fs_message.specs.Write.{message_text}
 use Rattle.fs_message.specs.Deframer.{pending}
-use Rattle.fs_session.specs.declared.state.Closed.{Closed}
 use Rattle.fs_session.specs.declared.state.Closed.TheVariants.{Fault}
 use Rattle.fs_session.specs.declared.times.Tick.{Tick}
 use Rattle.fs_session.specs.declared.times.Tick.TheVariants.{Quiet, Keeps, Expires}

@@ -1,5 +1,5 @@
 -- The parts of two joined ends, and the world that they are.
-use Rattle.std.specs.Prelude.{◌≡◌, ℕ, Bool, true, List}
+use Rattle.std.specs.Prelude.{◌≡◌, ℕ, true, List}
 use Rattle.fs_base.specs.declared.config.Config.{Config}
 use Rattle.fs_base.specs.declared.config.Peer.{Peer}
 use Rattle.fs_attrs.specs.declared.update.Update.{Update}
@@ -35,6 +35,10 @@ pub record IsTeller (config : Config) (peer : Peer) (sending : Sending) (teller 
   pub started : teller.started ≡ true
   pub appended_is : teller.appended ≡ appended
   pub stands : StandsAt (teller_of config peer sending) teller.line now
+
+-- whose ends they are, and what is to be sent, stays as it is
+abbrev pub SameOnes : Both → Both → Type 0
+SameOnes old new = (new.teller.config ≡ old.teller.config) × (new.teller.peer ≡ old.teller.peer) × (new.teller.sending ≡ old.teller.sending)
 
 -- both ends, what is in flight and the updates taken are this world
 pub record AreIn (config : Config) (peer : Peer) (sending : Sending) (ends : Both) (w : World) : Type 0 where

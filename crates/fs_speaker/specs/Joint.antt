@@ -1,5 +1,5 @@
 -- Two joined ends and the events that happened between them.
-use Rattle.std.specs.Prelude.{◌≡◌, ℕ, ◌≤◌, ◌==◌, Bool, false, if◌then◌else◌, List, [], ◌∷◌, ◌++◌, Option, ⊤}
+use Rattle.std.specs.Prelude.{◌≡◌, ℕ, ◌≤◌, ◌==◌, Bool, true, false, if◌then◌else◌, List, [], ◌∷◌, ◌++◌, Option, ⊤}
 use Rattle.fs_base.specs.declared.config.Config.{Config}
 use Rattle.fs_base.specs.declared.config.Peer.{Peer}
 use Rattle.fs_session.specs.declared.state.Closed.{Closed}
@@ -9,7 +9,7 @@ use Rattle.fs_speaker.specs.declared.event.Event.TheVariants.{Send, Deliver, Tic
 use Rattle.fs_speaker.specs.Ends.{Both, AreIn}
 use Rattle.fs_speaker.specs.World.{World, run}
 
--- Whose session it is and what is to be sent, what happened, and whether memory was wanting.
+-- Whose session it is and what is to be sent, what happened by the steps that were not refused, and whether one was.
 pub record Jointed : Type 0 where
   pub config : Config
   pub peer : Peer
@@ -29,12 +29,20 @@ one_more event joint = jointed joint.config joint.peer joint.sending (joint.even
 abbrev pub world_of : Jointed → World
 world_of joint = run joint.config joint.peer joint.sending joint.events
 
--- unless memory was wanting, the ends are as the events make them
-abbrev pub IsRun : Both → List Event → Bool → Type 0
-IsRun ends events spent =
-    spent ≡ false
-    → AreIn ends.teller.config ends.teller.peer ends.teller.sending ends
-    (run ends.teller.config ends.teller.peer ends.teller.sending events)
+-- the same behind a step that was refused: nothing more happens
+abbrev pub refused : Jointed → Jointed
+refused joint = jointed joint.config joint.peer joint.sending joint.events true
+
+-- what the events made of these ends
+abbrev pub run_of : Both → List Event → World
+run_of ends events = run ends.teller.config ends.teller.peer ends.teller.sending events
+
+-- the updates taken, and how both ends had closed, are as the events make them; unless a step was refused, so are the ends
+pub record IsRun (ends : Both) (events : List Event) (first second : Option Closed) (spent : Bool) : Type 0 where
+  pub ends_are : spent ≡ false → AreIn ends.teller.config ends.teller.peer ends.teller.sending ends (run_of ends events)
+  pub taken_is : ends.taken ≡ (run_of ends events).taken
+  pub first_is : first ≡ (run_of ends events).taker.closed
+  pub second_is : second ≡ (run_of ends events).teller.closed
 
 abbrev pub closed_at : ℕ → World → Option Closed
 closed_at end w = if end == 0 then w.taker.closed else w.teller.closed

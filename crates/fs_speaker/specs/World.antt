@@ -1,11 +1,9 @@
 -- Two joined ends: what each event makes of them, and what a list of events does.
-use Rattle.std.specs.Prelude.{◌≡◌, ℕ, ◌+◌, ◌==◌, Bool, true, false, if◌then◌else◌, List, [], ◌∷◌, ◌++◌, take, drop, Option, Some, None}
+use Rattle.std.specs.Prelude.{ℕ, ◌+◌, ◌==◌, Bool, true, false, if◌then◌else◌, List, [], ◌∷◌, ◌++◌, take, drop, Option, Some, None}
 use Rattle.fs_base.specs.declared.config.Config.{Config}
 use Rattle.fs_base.specs.declared.config.Peer.{Peer}
 use Rattle.fs_attrs.specs.declared.update.Update.{Update}
-use Rattle.fs_session.specs.declared.state.Closed.{Closed}
 use Rattle.fs_session.specs.declared.sending.Sending.{Sending}
-use Rattle.fs_session.specs.declared.sending.Sent.{Sent}
 use Rattle.fs_session.specs.Announcer.{first_text, is_established, open_sent}
 use Rattle.fs_session.specs.Handed.{Point, Handed, hand}
 use Rattle.fs_session.specs.Sending.{needs_of, text_sent}

@@ -26,8 +26,8 @@ impl<'a> Model for Ends<'a> {
 }
 
 impl<'a> Ends<'a> {
-    ghost use Rattle.std.specs.Prelude.{◌≡◌, ◌≤◌, [], OnOk, option_map, slice_get};
-    ghost use Rattle.fs_speaker.specs.Ends.{both, Becomes, says_next};
+    ghost use Rattle.std.specs.Prelude.{◌≡◌, ◌≤◌, [], OnOk, OnErr, option_map, slice_get};
+    ghost use Rattle.fs_speaker.specs.Ends.{both, Becomes, SameOnes, says_next};
     ghost use Rattle.fs_speaker.specs.Joint.{IsEnd};
     ghost use Rattle.fs_speaker.specs.World.{delivers, wakes, cuts, happens};
 
@@ -50,7 +50,9 @@ impl<'a> Ends<'a> {
 
     /// The announcing end says its next message.
     fn say(&mut self) -> Result<(), Memory>
-        ensures { OnOk result (Becomes says_next self.old self.new) }
+        ensures ok { OnOk result (Becomes says_next self.old self.new) }
+        ensures same { SameOnes self.old self.new }
+        ensures err { OnErr result (self.new.taken ≡ self.old.taken) }
     {
         let mut said = Vec::new(self.flight.alloc());
         match self.teller.next_message(&mut said) {
@@ -60,18 +62,25 @@ impl<'a> Ends<'a> {
     }
 
     fn deliver_taker(&mut self, count: usize, moment: u64) -> Result<(), Memory>
-        ensures { OnOk result (Becomes (λ config peer sending. delivers config peer sending 0 count moment)
+        ensures ok { OnOk result (Becomes (λ config peer sending. delivers config peer sending 0 count moment)
             self.old self.new) }
+        ensures same { SameOnes self.old self.new }
+        ensures err { OnErr result (self.new.taken ≡ self.old.taken) }
     {
         let piece = self.flight.take_taker(count)?;
+        let mut updates = Vec::new(self.flight.alloc());
         let mut said = Vec::new(self.flight.alloc());
-        hand(&mut self.taker, moment, &piece, &mut self.taken, &mut said)?;
-        self.flight.tell_teller(&said)
+        hand(&mut self.taker, moment, &piece, &mut updates, &mut said)?;
+        self.flight.tell_teller(&said)?;
+        self.taken.append(&mut updates)?;
+        Ok(())
     }
 
     fn deliver_teller(&mut self, count: usize, moment: u64) -> Result<(), Memory>
-        ensures { OnOk result (Becomes (λ config peer sending. delivers config peer sending 1 count moment)
+        ensures ok { OnOk result (Becomes (λ config peer sending. delivers config peer sending 1 count moment)
             self.old self.new) }
+        ensures same { SameOnes self.old self.new }
+        ensures err { OnErr result (self.new.taken ≡ self.old.taken) }
     {
         let piece = self.flight.take_teller(count)?;
         let mut none = Vec::new(self.flight.alloc());
@@ -81,8 +90,10 @@ impl<'a> Ends<'a> {
     }
 
     fn wake_taker(&mut self, moment: u64) -> Result<(), Memory>
-        ensures { OnOk result (Becomes (λ config peer sending. wakes config peer sending 0 moment)
+        ensures ok { OnOk result (Becomes (λ config peer sending. wakes config peer sending 0 moment)
             self.old self.new) }
+        ensures same { SameOnes self.old self.new }
+        ensures err { OnErr result (self.new.taken ≡ self.old.taken) }
     {
         let mut said = Vec::new(self.flight.alloc());
         tick(&mut self.taker, moment, &mut said)?;
@@ -90,8 +101,10 @@ impl<'a> Ends<'a> {
     }
 
     fn wake_teller(&mut self, moment: u64) -> Result<(), Memory>
-        ensures { OnOk result (Becomes (λ config peer sending. wakes config peer sending 1 moment)
+        ensures ok { OnOk result (Becomes (λ config peer sending. wakes config peer sending 1 moment)
             self.old self.new) }
+        ensures same { SameOnes self.old self.new }
+        ensures err { OnErr result (self.new.taken ≡ self.old.taken) }
     {
         let mut said = Vec::new(self.flight.alloc());
         tick(&mut self.teller, moment, &mut said)?;
@@ -99,15 +112,18 @@ impl<'a> Ends<'a> {
     }
 
     fn cut(&mut self)
-        ensures { Becomes (λ config peer sending. cuts) self.old self.new }
+        ensures done { Becomes (λ config peer sending. cuts) self.old self.new }
+        ensures same { SameOnes self.old self.new }
     {
         self.flight.cut();
     }
 
     fn deliver(&mut self, to: u8, count: usize, moment: u64) -> Result<(), Memory>
         requires { to ≤ 1 }
-        ensures { OnOk result (Becomes (λ config peer sending. delivers config peer sending to count moment)
+        ensures ok { OnOk result (Becomes (λ config peer sending. delivers config peer sending to count moment)
             self.old self.new) }
+        ensures same { SameOnes self.old self.new }
+        ensures err { OnErr result (self.new.taken ≡ self.old.taken) }
     {
         if to == 0 {
             return self.deliver_taker(count, moment);
@@ -117,8 +133,10 @@ impl<'a> Ends<'a> {
 
     fn wake(&mut self, end: u8, moment: u64) -> Result<(), Memory>
         requires { end ≤ 1 }
-        ensures { OnOk result (Becomes (λ config peer sending. wakes config peer sending end moment)
+        ensures ok { OnOk result (Becomes (λ config peer sending. wakes config peer sending end moment)
             self.old self.new) }
+        ensures same { SameOnes self.old self.new }
+        ensures err { OnErr result (self.new.taken ≡ self.old.taken) }
     {
         if end == 0 {
             return self.wake_taker(moment);
@@ -129,8 +147,10 @@ impl<'a> Ends<'a> {
     /// Lets an event happen.
     pub fn happen(&mut self, event: Event) -> Result<(), Memory>
         requires { IsEnd event }
-        ensures { OnOk result (Becomes (λ config peer sending. happens config peer sending event)
+        ensures ok { OnOk result (Becomes (λ config peer sending. happens config peer sending event)
             self.old self.new) }
+        ensures same { SameOnes self.old self.new }
+        ensures err { OnErr result (self.new.taken ≡ self.old.taken) }
     {
         match event {
             Event::Send => self.say(),

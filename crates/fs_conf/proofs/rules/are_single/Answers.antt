@@ -3,7 +3,7 @@ use Rattle.std.specs.BTreeSet.{BTreeSet}
 use Rattle.std.proofs.lemmas.List.{drop_more}
 use Rattle.fs_nlri.specs.Parts.{Ruled}
 use Rattle.fs_order.specs.declared.ranked.Ranked.{Ranked}
-use Rattle.fs_speaker.specs.declared.sending.Sent.{Sent}
+use Rattle.fs_speaker.specs.declared.Sent.{Sent}
 use Rattle.fs_conf.specs.Rules.{are_single, has_seen}
 use Rattle.fs_conf.proofs.Single.{are_fresh, fresh_none, fresh_more, not_fresh}
 use Rattle.fs_conf.proofs.rules.are_single.Goals as goal

@@ -9,8 +9,8 @@ use Rattle.fs_speaker.specs.World.{sent, delivers}
 use Rattle.fs_speaker.proofs.Happening.{teller_delivered}
 use Rattle.fs_speaker.proofs.ends.Ends.deliver_teller.Goals as goal
 
-pub returns : goal.returns
-returns c =
+pub returns-clause-ok : goal.returns-clause-ok
+returns-clause-ok c =
     let teller : Announcing = c.self.inside.teller in
     let flight : Flying = c.take_teller.new.self in
     let old : Both = both c.self.inside.taker teller c.self.inside.flight c.self.inside.taken.items in

@@ -9,8 +9,8 @@ use Rattle.fs_speaker.specs.World.{sent, wakes}
 use Rattle.fs_speaker.proofs.Happening.{taker_woke}
 use Rattle.fs_speaker.proofs.ends.Ends.wake_taker.Goals as goal
 
-pub returns : goal.returns
-returns c =
+pub returns-clause-ok : goal.returns-clause-ok
+returns-clause-ok c =
     let taker : Live = c.self.inside.taker in
     let flight : Flying = c.self.inside.flight in
     let old : Both = both taker c.self.inside.teller flight c.self.inside.taken.items in

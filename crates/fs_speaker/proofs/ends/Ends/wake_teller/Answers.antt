@@ -8,8 +8,8 @@ use Rattle.fs_speaker.specs.World.{sent, wakes}
 use Rattle.fs_speaker.proofs.Happening.{teller_woke}
 use Rattle.fs_speaker.proofs.ends.Ends.wake_teller.Goals as goal
 
-pub returns : goal.returns
-returns c =
+pub returns-clause-ok : goal.returns-clause-ok
+returns-clause-ok c =
     let teller : Announcing = c.self.inside.teller in
     let flight : Flying = c.self.inside.flight in
     let old : Both = both c.self.inside.taker teller flight c.self.inside.taken.items in
