@@ -2,7 +2,7 @@
 use Rattle.std.proofs.Common.{◌≡◌, ℕ, ◌-◌, ◌^◌, ◌<◌, ◌≤◌, min, List, [], ◌∷◌, Bool, true, false, true≢false, ◌&&◌, ◌||◌, nat_le, nat_lt, if◌then◌else◌, Option, Some, None, refl, sym, ap, subst, ◌∙◌, arith}
 use Rattle.std.specs.Prelude.{Result, Ok, Err, IfOk}
 use Rattle.std.proofs.lemmas.Bool.{le-leb, leb-true, lt-leb}
-use Rattle.fs_base.specs.declared.error.Memory.{Memory}
+use Rattle.fs_base.specs.declared.Memory.{Memory}
 use Rattle.fs_nlri.specs.Parts.{ListBody, part}
 use Rattle.fs_packet.specs.Fields.{Viewed}
 use Rattle.fs_packet.specs.Matching.{holds_of, list_matches}

@@ -14,4 +14,5 @@ pub mod Reaching
 pub mod Nesting
 pub mod Indexing
 pub mod Walking
+pub mod Widths
 pub mod Numbering

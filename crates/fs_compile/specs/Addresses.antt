@@ -6,6 +6,15 @@ use Rattle.fs_compile.specs.declared.nodes.Node.{Node}
 use Rattle.fs_compile.specs.declared.nodes.Nodes.{Nodes}
 use Rattle.fs_compile.specs.declared.nodes.Nodes.TheVariants.{V4 as V4Nodes, V6 as V6Nodes}
 
+-- how many bits an address of a list has
+abbrev pub width_in : Addresses → ℕ
+width_in (V4Addresses items) = 32
+width_in (V6Addresses items) = 128
+
+abbrev pub node_width : Nodes → ℕ
+node_width (V4Nodes items) = 32
+node_width (V6Nodes items) = 128
+
 abbrev pub numbers_in : Addresses → List ℕ
 numbers_in (V4Addresses items) = items.items
 numbers_in (V6Addresses items) = items.items

@@ -1,7 +1,8 @@
 //! Lists of addresses, in the width of their family.
 
-ghost use Rattle.std.specs.Prelude.{◌≡◌, ◌<◌, ◌≤◌, ◌+◌, ◌++◌, ◌∷◌, [], ℕ, OnOk, get_or, length};
-ghost use Rattle.fs_compile.specs.Addresses.{numbers_in};
+ghost use Rattle.std.specs.Prelude.{◌≡◌, ◌<◌, ◌≤◌, ◌+◌, ◌^◌, ◌++◌, ◌∷◌, [], ℕ, OnOk, get_or, length};
+ghost use Rattle.fs_base.specs.Bits.{width_of};
+ghost use Rattle.fs_compile.specs.Addresses.{numbers_in, width_in};
 ghost use Rattle.fs_compile.specs.Buckets.{AreRising};
 
 use fs_base::{Family, Memory};
@@ -16,7 +17,8 @@ pub(crate) enum Addresses {
 
 impl Addresses {
     pub(crate) fn new(alloc: Global, family: Family) -> Addresses
-        ensures { numbers_in result ≡ [] }
+        ensures none { numbers_in result ≡ [] }
+        ensures width { width_in result ≡ width_of family }
     {
         match family {
             Family::V4 => Addresses::V4(Vec::new(alloc)),
@@ -45,15 +47,14 @@ impl Addresses {
         }
     }
 
-    /// Adds an address. `Memory` also where it hasn't the family's width.
+    /// Adds an address, which has the width of the others.
     pub(crate) fn push(&mut self, address: u128) -> Result<(), Memory>
-        ensures { OnOk result (numbers_in self.new ≡ numbers_in self.old ++ address ∷ []) }
+        requires { address < 2 ^ width_in self.old }
+        ensures ok { OnOk result (numbers_in self.new ≡ numbers_in self.old ++ address ∷ []) }
+        ensures width { width_in self.new ≡ width_in self.old }
     {
         match self {
-            Addresses::V4(items) => match u32::try_from(address) {
-                Ok(address) => items.push(address)?,
-                Err(_) => return Err(Memory),
-            },
+            Addresses::V4(items) => items.push(address as u32)?,
             Addresses::V6(items) => items.push(address)?,
         }
         Ok(())

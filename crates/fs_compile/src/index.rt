@@ -116,6 +116,7 @@ impl Index {
 /// The buckets of the rules. What is reckoned on the way is given back before the rules are compiled.
 fn buckets_of(alloc: Global, family: Family, list: &[Admitted<'_>]) -> Result<Buckets, Memory>
     requires few { length list.now < 2 ^ 32 }
+    requires each { AllByRecursion (IsOfFamily family) (all_admitted list.now) }
     requires nesting { AreNesting (spans_of (all_admitted list.now)) }
     ensures sound { IfOk result (λ buckets. AreSound buckets (length list.now)) }
     ensures housed { IfOk result (AreHoused (spans_of (all_admitted list.now))) }

@@ -1,7 +1,8 @@
 //! The nodes of the destinations of a family's rules.
 
-ghost use Rattle.std.specs.Prelude.{◌≡◌, ◌<◌, ◌++◌, ◌∷◌, [], OnOk, length};
-ghost use Rattle.fs_compile.specs.Addresses.{nodes_in};
+ghost use Rattle.std.specs.Prelude.{◌≡◌, ◌<◌, ◌^◌, ◌++◌, ◌∷◌, [], OnOk, length};
+ghost use Rattle.fs_base.specs.Bits.{width_of};
+ghost use Rattle.fs_compile.specs.Addresses.{node_width, nodes_in};
 ghost use Rattle.fs_compile.specs.Buckets.{node_at};
 
 use fs_base::{Family, Memory};
@@ -25,7 +26,8 @@ pub(crate) enum Nodes {
 
 impl Nodes {
     pub(crate) fn new(alloc: Global, family: Family) -> Nodes
-        ensures { nodes_in result ≡ [] }
+        ensures none { nodes_in result ≡ [] }
+        ensures width { node_width result ≡ width_of family }
     {
         match family {
             Family::V4 => Nodes::V4(Vec::new(alloc)),
@@ -44,19 +46,18 @@ impl Nodes {
         }
     }
 
-    /// Adds a node. `Memory` also where its address hasn't the family's width.
+    /// Adds a node, whose address has the width of the others.
     pub(crate) fn push(&mut self, node: Node<u128>) -> Result<(), Memory>
-        ensures { OnOk result (nodes_in self.new ≡ nodes_in self.old ++ node ∷ []) }
+        requires { node.first < 2 ^ node_width self.old }
+        ensures ok { OnOk result (nodes_in self.new ≡ nodes_in self.old ++ node ∷ []) }
+        ensures width { node_width self.new ≡ node_width self.old }
     {
         match self {
-            Nodes::V4(items) => match u32::try_from(node.first) {
-                Ok(first) => items.push(Node {
-                    first,
-                    start: node.start,
-                    parent: node.parent,
-                })?,
-                Err(_) => return Err(Memory),
-            },
+            Nodes::V4(items) => items.push(Node {
+                first: node.first as u32,
+                start: node.start,
+                parent: node.parent,
+            })?,
             Nodes::V6(items) => items.push(node)?,
         }
         Ok(())

@@ -1,8 +1,10 @@
 //! Runs of rules with one destination, and the destinations that hold them.
 
 ghost use Rattle.std.specs.Prelude.{◌≡◌, ◌<◌, ◌≤◌, ◌+◌, ◌++◌, ◌∷◌, ◌^◌, [], ℕ, List, Option, Some, None, OnOk, IfOk, IsTrue, get_or, length};
-ghost use Rattle.fs_compile.specs.Addresses.{numbers_in, nodes_in};
-ghost use Rattle.fs_compile.specs.Index.{spans_of};
+ghost use Rattle.std.specs.List.{AllByRecursion};
+ghost use Rattle.fs_base.specs.Bits.{width_of};
+ghost use Rattle.fs_compile.specs.Addresses.{numbers_in, nodes_in, width_in};
+ghost use Rattle.fs_compile.specs.Index.{IsOfFamily, spans_of};
 ghost use Rattle.fs_rules.specs.Lent.{all_admitted};
 ghost use Rattle.fs_compile.specs.Runs.{AreNodes, ArePlain, EndsWith, Joined, Opened, RunsOf};
 
@@ -26,6 +28,7 @@ impl Runs {
     fn new(alloc: Global, family: Family) -> Runs
         ensures runs { (spans : List (Option (ℕ × ℕ))) → RunsOf spans result }
         ensures none { result.homes.items ≡ [] }
+        ensures width { width_in result.lasts ≡ width_of family }
     {
         Runs {
             firsts: Vec::new(alloc),
@@ -38,7 +41,8 @@ impl Runs {
 
 /// The runs of the rules that have a destination. They stand before those that have none.
 pub(crate) fn runs_of(alloc: Global, family: Family, list: &[Admitted<'_>]) -> Result<Runs, Memory>
-    requires { length list.now < 2 ^ 32 }
+    requires few { length list.now < 2 ^ 32 }
+    requires each { AllByRecursion (IsOfFamily family) (all_admitted list.now) }
     ensures runs { IfOk result (RunsOf (spans_of (all_admitted list.now))) }
     ensures few { IfOk result (λ runs. length runs.homes.items ≤ length list.now) }
     ensures rest { IfOk result (λ runs.
@@ -59,11 +63,13 @@ fn add(runs: &mut Runs, first: u128, last: u128) -> Result<(), Memory>
     requires sizes { length runs.old.firsts.items ≡ length (numbers_in runs.old.lasts) }
     requires few { length (numbers_in runs.old.lasts) ≤ length runs.old.homes.items }
     requires fits { length runs.old.homes.items + 1 < 2 ^ 32 }
+    requires width { last < 2 ^ width_in runs.old.lasts }
     ensures runs { OnOk result ((spans : List (Option (ℕ × ℕ)))
         → RunsOf spans runs.old
         → get_or spans (length runs.old.homes.items) None ≡ Some (first, last)
         → RunsOf spans runs.new) }
     ensures one { OnOk result (length runs.new.homes.items ≡ length runs.old.homes.items + 1) }
+    ensures width { width_in runs.new.lasts ≡ width_in runs.old.lasts }
 {
     if ends_with(runs, first, last) {
         join(runs)
@@ -87,6 +93,7 @@ fn join(runs: &mut Runs) -> Result<(), Memory>
     requires few { length (numbers_in runs.old.lasts) ≤ length runs.old.homes.items }
     requires fits { length runs.old.homes.items + 1 < 2 ^ 32 }
     ensures same { OnOk result (Joined runs.old runs.new) }
+    ensures width { width_in runs.new.lasts ≡ width_in runs.old.lasts }
 {
     let run = runs.lasts.len() - 1;
     runs.homes.push(run as u32)?;
@@ -97,7 +104,9 @@ fn join(runs: &mut Runs) -> Result<(), Memory>
 fn open(runs: &mut Runs, first: u128, last: u128) -> Result<(), Memory>
     requires few { length (numbers_in runs.old.lasts) ≤ length runs.old.homes.items }
     requires fits { length runs.old.homes.items + 1 < 2 ^ 32 }
-    ensures { OnOk result (Opened runs.old first last runs.new) }
+    requires width { last < 2 ^ width_in runs.old.lasts }
+    ensures opened { OnOk result (Opened runs.old first last runs.new) }
+    ensures width { width_in runs.new.lasts ≡ width_in runs.old.lasts }
 {
     let run = runs.lasts.len() as u32;
     let start = runs.homes.len() as u32;
@@ -159,6 +168,9 @@ pub(crate) fn nodes_of(
     requires starts { length runs.now.starts.items ≡ length parents.now }
     requires fits { length runs.now.homes.items < 2 ^ 32 }
     requires few { length parents.now < 2 ^ 32 }
+    requires width { (i : ℕ)
+        → i < length runs.now.firsts.items
+        → get_or runs.now.firsts.items i 0 < 2 ^ width_of family }
     ensures { IfOk result (λ nodes.
         AreNodes
         runs.now.firsts.items

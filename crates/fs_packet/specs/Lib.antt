@@ -2,3 +2,4 @@ pub mod Fields
 pub mod Chain
 pub mod Matching
 pub mod Reading
+pub mod Told

@@ -4,8 +4,8 @@ use Rattle.std.specs.Prelude.{ℕ, zero, suc, ◌+◌, ◌*◌, ◌/◌, ◌==�
 use denote.Ref.{Bor}
 use Rattle.fs_base.specs.declared.prefix.Family.{Family}
 use Rattle.fs_base.specs.declared.prefix.Family.TheVariants.{V4, V6}
-use Rattle.fs_pcap.specs.declared.link.Link.{Link}
-use Rattle.fs_pcap.specs.declared.link.Link.TheVariants.{Ethernet, Raw, Cooked, CookedTwo, V4 as V4Link, V6 as V6Link}
+use Rattle.fs_base.specs.declared.link.Link.{Link}
+use Rattle.fs_base.specs.declared.link.Link.TheVariants.{Ethernet, Raw, Cooked, CookedTwo, V4 as V4Link, V6 as V6Link}
 use Rattle.fs_packet.specs.declared.fields.Unread.{Unread}
 use Rattle.fs_packet.specs.declared.fields.Unread.TheVariants.{Foreign, Short, Version, Header, Length}
 use Rattle.fs_packet.specs.Chain.{chain_of, last_field, protocol_at}

@@ -6,8 +6,9 @@ mod chain;
 mod fields;
 mod matching;
 mod reading;
+mod told;
 
 pub use fields::{Unread, View};
-pub use fs_pcap::Link;
+pub use fs_base::Link;
 pub use matching::matches;
 pub use reading::{read_view, view};

@@ -9,8 +9,7 @@ ghost use Rattle.fs_packet.specs.Reading.{raw_view, v4_fragment, v4_starts, v4_v
 use crate::chain::walk;
 use crate::fields::{Unread, View};
 use byteorder::{BigEndian, ByteOrder};
-use fs_base::Family;
-use fs_pcap::Link;
+use fs_base::{Family, Link};
 
 /// EtherTypes.
 const IPV4: u16 = 0x0800;

@@ -10,4 +10,5 @@ pub mod Lists
 pub mod Groups
 pub mod Reading
 pub mod Search
+pub mod Shared
 pub mod Flows

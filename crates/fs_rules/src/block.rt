@@ -4,24 +4,25 @@ ghost use Rattle.std.specs.Prelude.{◌≡◌, ◌≤◌, ◌+◌, ◌<◌, ◌=
 ghost use Rattle.std.specs.List.{list_any};
 ghost use Rattle.std.specs.Option.{option_copied};
 ghost use Rattle.fs_rules.specs.Table.{is_key, key_cmp, is_of_family, is_valid, same_rule};
-ghost use Rattle.fs_unicast.specs.Preference.{offered, preferred};
+ghost use Rattle.fs_unicast.specs.Preference.{peer_path, preferred};
 ghost use Rattle.std.specs.Prelude.{◌∷◌, ◌&&◌, ◌↔◌, Some, true, false};
+ghost use Rattle.fs_rules.specs.Shared.{flow_of};
 ghost use Rattle.fs_rules.specs.Blocks.{AllBefore, begins_by};
 ghost use Rattle.fs_rules.specs.Group.{put_kept, place_in, rejudged, is_beaten, is_before_rule, is_apart, is_chosen, has_key, has_key_at, AreSorted, IsJudged, AreJudged, routes_of, is_better};
 
 use crate::kept::Kept;
+use crate::route::{SharedRoute, judged, seen};
 use fs_base::{Config, Family, Memory};
 use fs_nlri::Rule;
 use fs_order::compare;
-use fs_unicast::Offer;
-use fs_validate::{Basis, FlowRoute, Validity, judged};
+use fs_validate::{Basis, Validity};
 use std::alloc::Global;
 use std::cmp::Ordering;
 use std::marker::Model;
 
 /// How a rule and a peer are ordered to a route's.
-fn compare_key(rule: &Rule, peer: u16, route: &FlowRoute) -> Ordering
-    ensures { result ≡ key_cmp rule.now peer route.now }
+fn compare_key(rule: &Rule, peer: u16, route: &SharedRoute) -> Ordering
+    ensures { result ≡ key_cmp rule.now peer (flow_of route.now) }
 {
     compare(rule, &route.rule).then(peer.cmp(&route.peer))
 }
@@ -96,9 +97,9 @@ fn forget(kept: &mut Vec<Kept>, peer: u16)
 
 /// Validates a route anew whose destination has this basis, and tells whether its validity is another than before.
 fn retest(k: &mut Kept, config: &Config, basis: &Basis<'_>) -> bool
-    ensures retested { k.new ≡ rejudged config.now (option_map offered basis.now.best) basis.now.others k.old }
+    ensures retested { k.new ≡ rejudged config.now (option_map peer_path basis.now.best) basis.now.others k.old }
     ensures told { (result ≡ false)
-        ↔ IsJudged config.now (option_map offered basis.now.best) basis.now.others k.old }
+        ↔ IsJudged config.now (option_map peer_path basis.now.best) basis.now.others k.old }
 {
     let before = k.validity();
     let after = judged(config, k.route(), basis);
@@ -109,9 +110,9 @@ fn retest(k: &mut Kept, config: &Config, basis: &Basis<'_>) -> bool
 /// Validates each route anew, whose destination has this basis, and tells whether a validity is another than before.
 fn retest_each(kept: &mut [Kept], config: &Config, basis: &Basis<'_>) -> bool
     ensures retested { kept.new
-        ≡ map (rejudged config.now (option_map offered basis.now.best) basis.now.others) kept.old }
+        ≡ map (rejudged config.now (option_map peer_path basis.now.best) basis.now.others) kept.old }
     ensures told { (result ≡ false)
-        ↔ AreJudged config.now (option_map offered basis.now.best) basis.now.others kept.old }
+        ↔ AreJudged config.now (option_map peer_path basis.now.best) basis.now.others kept.old }
 {
     let mut changed = false;
     for k in kept.iter_mut() {
@@ -137,15 +138,6 @@ fn is_better(s: &Kept, k: &Kept) -> bool
     ensures { result ≡ is_better s.now k.now }
 {
     stands(s.validity()) && seen(s.route()).is_preferred(&seen(k.route()))
-}
-
-fn seen(route: &FlowRoute) -> Offer<'_>
-    ensures { offered result ≡ (route.now.peer, route.now.path) }
-{
-    Offer {
-        peer: route.peer,
-        path: route.path.path(),
-    }
 }
 
 /// Whether the route at the place, if there is one, stands before the rule.
@@ -298,8 +290,8 @@ pub(crate) fn is_chosen(
     is_of_family(family, k.route()) && stands(k.validity()) && !has_rival(kept, place, k, rival)
 }
 
-pub(crate) fn is_of_family(family: Family, route: &FlowRoute) -> bool
-    ensures { result ≡ is_of_family family route.now }
+pub(crate) fn is_of_family(family: Family, route: &SharedRoute) -> bool
+    ensures { result ≡ is_of_family family (flow_of route.now) }
 {
     route.rule.family() == family
 }
@@ -405,9 +397,9 @@ impl Block {
     /// before.
     pub(crate) fn retest(&mut self, config: &Config, basis: &Basis<'_>) -> bool
         ensures retested { self.new
-            ≡ map (rejudged config.now (option_map offered basis.now.best) basis.now.others) self.old }
+            ≡ map (rejudged config.now (option_map peer_path basis.now.best) basis.now.others) self.old }
         ensures told { (result ≡ false)
-            ↔ AreJudged config.now (option_map offered basis.now.best) basis.now.others self.old }
+            ↔ AreJudged config.now (option_map peer_path basis.now.best) basis.now.others self.old }
     {
         retest_each(&mut self.items, config, basis)
     }

@@ -2,7 +2,7 @@
 
 ghost use Rattle.std.specs.Prelude.{◌≡◌, ◌≤◌, ◌+◌, ◌<◌, ◌==◌, ◌↔◌, not, true, false, [], ◌∷◌, OnOk, OnErr, IfOk, map, filter, length, option_map, slice_get};
 ghost use Rattle.std.specs.List.{list_any, AllByRecursion};
-ghost use Rattle.fs_unicast.specs.Preference.{offered};
+ghost use Rattle.fs_unicast.specs.Preference.{peer_path};
 ghost use Rattle.fs_rules.specs.Table.{is_key};
 ghost use Rattle.fs_rules.specs.Group.{put_kept, rejudged, retested_to, has_key, AreSorted, AreJudged, AreRightTo, routes_of};
 ghost use Rattle.fs_rules.specs.Blocks.{flat, AreCut, IsCut, block_of, keep_blocks, CanCut, cut_list};
@@ -154,9 +154,9 @@ fn forget_each(blocks: &mut Vec<Block>, peer: u16)
 /// before.
 fn retest_each(blocks: &mut [Block], config: &Config, basis: &Basis<'_>) -> bool
     ensures retested { blocks.new
-        ≡ map (map (rejudged config.now (option_map offered basis.now.best) basis.now.others)) blocks.old }
+        ≡ map (map (rejudged config.now (option_map peer_path basis.now.best) basis.now.others)) blocks.old }
     ensures told { (result ≡ false)
-        ↔ AllByRecursion (AreJudged config.now (option_map offered basis.now.best) basis.now.others) blocks.old }
+        ↔ AllByRecursion (AreJudged config.now (option_map peer_path basis.now.best) basis.now.others) blocks.old }
 {
     let mut changed = false;
     for block in blocks.iter_mut() {
@@ -313,9 +313,9 @@ impl Group {
     /// before.
     fn rejudge(&mut self, config: &Config, basis: &Basis<'_>) -> bool
         ensures retested { self.new
-            ≡ map (rejudged config.now (option_map offered basis.now.best) basis.now.others) self.old }
+            ≡ map (rejudged config.now (option_map peer_path basis.now.best) basis.now.others) self.old }
         ensures told { (result ≡ false)
-            ↔ AreJudged config.now (option_map offered basis.now.best) basis.now.others self.old }
+            ↔ AreJudged config.now (option_map peer_path basis.now.best) basis.now.others self.old }
     {
         match &mut self.blocks {
             Blocks::One(block) => block.retest(config, basis),

@@ -3,10 +3,11 @@
 ghost use Rattle.std.specs.Prelude.{◌≡◌};
 ghost use Rattle.fs_nlri.specs.Rule.{IsRule, destination_prefix};
 
+use crate::route::SharedRoute;
 use fs_base::{Family, Memory};
 use fs_nlri::Rule;
 use fs_unicast::PrefixKey;
-use fs_validate::{FlowRoute, Validity, destination};
+use fs_validate::{Validity, destination};
 use std::alloc::Global;
 use std::marker::Model;
 
@@ -15,7 +16,7 @@ use std::marker::Model;
 /// each block.
 #[derive(Drop)]
 pub(crate) struct Kept {
-    route: Box<FlowRoute>,
+    route: Box<SharedRoute>,
     peer: u16,
     validity: Validity,
 }
@@ -23,10 +24,11 @@ pub(crate) struct Kept {
 impl Model for Kept {
     ghost use Rattle.std.specs.Prelude.{◌≡◌};
     ghost use Rattle.fs_rules.specs.Kept.{Kept};
+    ghost use Rattle.fs_rules.specs.Shared.{flow_of};
 
     ghost Value = { Kept };
 
-    ghost view = { λ a. record { route = a.route.value; validity = a.validity } };
+    ghost view = { λ a. record { route = flow_of a.route.value; validity = a.validity } };
 
     ghost invariant = { λ a. a.peer ≡ a.route.value.peer };
 }
@@ -45,10 +47,11 @@ pub(crate) fn destination_key(rule: &Rule) -> Option<PrefixKey>
 impl Kept {
     ghost use Rattle.std.specs.Prelude.{◌≡◌, IfOk};
     ghost use Rattle.fs_nlri.specs.Rule.{IsRule, destination_prefix};
+    ghost use Rattle.fs_rules.specs.Shared.{flow_of};
 
     /// The route with this validity.
-    pub(crate) fn new(alloc: Global, route: FlowRoute, validity: Validity) -> Result<Kept, Memory>
-        ensures { IfOk result (λ k. k ≡ record { route = route; validity = validity }) }
+    pub(crate) fn new(alloc: Global, route: SharedRoute, validity: Validity) -> Result<Kept, Memory>
+        ensures { IfOk result (λ k. k ≡ record { route = flow_of route; validity = validity }) }
     {
         let peer = route.peer;
         let route = Box::new(alloc, route)?;
@@ -59,8 +62,8 @@ impl Kept {
         })
     }
 
-    pub(crate) fn route(&self) -> &FlowRoute
-        ensures { result.now ≡ self.now.route }
+    pub(crate) fn route(&self) -> &SharedRoute
+        ensures { flow_of result.now ≡ self.now.route }
     {
         self.route.as_ref()
     }

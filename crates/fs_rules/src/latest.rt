@@ -2,10 +2,10 @@
 
 ghost use Rattle.std.specs.Prelude.{◌≡◌, IfOk};
 
+use crate::actions::SharedActions;
 use fs_actions::Actions;
 use fs_base::{Memory, Path};
 use fs_unicast::SharedPath;
-use fs_validate::SharedActions;
 use std::alloc::Global;
 
 /// The path and the actions of the flow route that came last. Those of the next one are mostly equal, and then stand in

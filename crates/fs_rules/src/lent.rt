@@ -5,7 +5,7 @@ use fs_nlri::Rule;
 use fs_validate::Validity;
 
 /// An admitted rule, with the peer and the actions of its most preferred valid route.
-#[derive(Clone, Copy, Drop)]
+#[derive(Clone, Copy, Debug, PartialEq, Eq, Drop)]
 pub struct Admitted<'a> {
     pub rule: &'a Rule,
     pub peer: u16,
@@ -13,7 +13,7 @@ pub struct Admitted<'a> {
 }
 
 /// A held flow route, valid or not.
-#[derive(Clone, Copy, Drop)]
+#[derive(Clone, Copy, Debug, PartialEq, Eq, Drop)]
 pub struct HeldFlow<'a> {
     pub rule: &'a Rule,
     pub peer: u16,

@@ -1,6 +1,7 @@
 //! The table of all held routes: flow routes with their validity kept up to date, and the admitted rules in order.
 #![tactic(auto)]
 
+mod actions;
 mod block;
 mod blocks;
 mod counts;
@@ -12,6 +13,7 @@ mod latest;
 mod lent;
 mod lists;
 mod reading;
+mod route;
 mod search;
 mod table;
 

@@ -16,13 +16,13 @@ use crate::flows::Flows;
 use crate::kept::Kept;
 use crate::latest::Latest;
 use crate::lent::{Admitted, HeldFlow};
+use crate::route::{SharedRoute, validate};
 use fs_actions::Actions;
 use fs_base::{Config, Family, Memory, Path, Prefix, Steps};
 use fs_nlri::Rule;
 use fs_order::Ranked;
 use fs_packet::View;
 use fs_unicast::Unicast;
-use fs_validate::{FlowRoute, valid};
 use std::alloc::Global;
 use std::marker::Model;
 use std::sync::ledger::Ledger;
@@ -82,13 +82,13 @@ impl<'a> Table<'a> {
     {
         let alloc = self.flows.allocator();
         let (path, actions) = self.latest.share(alloc, path, actions)?;
-        let route = FlowRoute {
+        let route = SharedRoute {
             peer,
             rule,
             path,
             actions,
         };
-        let validity = valid(&self.unicast, self.config, &route, steps);
+        let validity = validate(&self.unicast, self.config, &route, steps);
         let k = Kept::new(alloc, route, validity)?;
         self.counts.reserve(peer)?;
         let is_new = self.flows.put(k)?;
@@ -303,21 +303,24 @@ impl<'a> Table<'a> {
 
     /// How many rules of the family are admitted.
     pub fn count(&self, family: Family) -> usize
-        ensures { result ≡ length (admitted family self.now) }
+        ensures count { result ≡ length (admitted family self.now) }
+        ensures admitted { IsAdmitted family self.now (admitted family self.now) }
     {
         self.flows.count(family)
     }
 
     /// The admitted rule of that number, from 0, in the family's order. None exactly from `count` on.
     pub fn rule(&self, family: Family, n: usize) -> Option<Admitted<'_>>
-        ensures { option_map shown_admitted result ≡ option_map listed (slice_get (admitted family self.now) n) }
+        ensures rule { option_map shown_admitted result ≡ option_map listed (slice_get (admitted family self.now) n) }
+        ensures admitted { IsAdmitted family self.now (admitted family self.now) }
     {
         self.flows.admitted_at(family, n)
     }
 
     /// The held flow route of that number, from 0, in the order of rules, then by peer.
     pub fn held_flow(&self, family: Family, n: usize) -> Option<HeldFlow<'_>>
-        ensures { option_map shown_held result ≡ slice_get (held_flows family self.now) n }
+        ensures held { option_map shown_held result ≡ slice_get (held_flows family self.now) n }
+        ensures ordered { AreRising (held_flows family self.now) }
     {
         self.flows.held_at(family, n)
     }

@@ -20,7 +20,7 @@ use Rattle.fs_base.proofs.Seeking.{Seeking, seeking_starts, seeking_ends, seekin
 use Rattle.fs_base.specs.declared.path.Path.{Path}
 use Rattle.fs_unicast.specs.Preference.{better, preferred}
 use Rattle.fs_unicast.specs.Unicast.{Route, place_cmp}
-use Rattle.fs_unicast.specs.Search.{AreCoversOver, IsFront, candidate, is_same_prefix, is_strictly_under, is_other, is_other_offer, best_at, best_match_of, others_under}
+use Rattle.fs_unicast.specs.Search.{AreCoversOver, IsFront, candidate, is_same_prefix, is_strictly_under, is_other, is_other_route, best_at, best_match_of, others_under}
 use Rattle.fs_unicast.proofs.Ranges.{place, first_in_range, front_range, best_starts, from_test, no_best}
 
 upto_upto : (x y z : Prefix) → is_le (prefix_cmp x y) ≡ true → is_le (prefix_cmp y z) ≡ true → is_le (prefix_cmp x z) ≡ true
@@ -163,9 +163,9 @@ kept_each P test (r ∷ held) all = at (test r) refl (kept_each P test held all.
 
 -- The best route at a prefix under d, where it has another neighbouring AS, tells that there is one.
 pub best_tells : (held : List Route) (d q : Prefix) (local_as : ℕ) (asn : Option ℕ) (best : Option (ℕ × Path)) → best ≡ best_at held q → is_strictly_under d q ≡ true
-    → is_other_offer local_as asn best ≡ true → true ≡ others_under held d local_as asn
+    → is_other_route local_as asn best ≡ true → true ≡ others_under held d local_as asn
 best_tells held d q local_as asn best is under other = at (others_under held d local_as asn) refl where
-  unlike : (b : Option (ℕ × Path)) → IfSome b (λ r. is_other local_as asn r.1 ≡ false) → is_other_offer local_as asn b ≡ false
+  unlike : (b : Option (ℕ × Path)) → IfSome b (λ r. is_other local_as asn r.1 ≡ false) → is_other_route local_as asn b ≡ false
   unlike None h = refl
   unlike (Some r) h = h
 
@@ -174,7 +174,7 @@ best_tells held d q local_as asn best is under other = at (others_under held d l
 
   at : (b : Bool) → others_under held d local_as asn ≡ b → true ≡ b
   at true e = refl
-  at false e = absurd (true≢false (sym other ∙ ap (is_other_offer local_as asn) is ∙ unlike (best_at held q)
+  at false e = absurd (true≢false (sym other ∙ ap (is_other_route local_as asn) is ∙ unlike (best_at held q)
       (best_keeps (λ r. is_other local_as asn r.1 ≡ false) (map candidate (filter (λ r. is_same_prefix q r.0.prefix) held)) None tt
       (kept_each (λ r. is_other local_as asn r.1 ≡ false) (λ r. is_same_prefix q r.0.prefix) held
       (each_weaker (λ r. (is_strictly_under d r.0.prefix && is_other local_as asn r.1) ≡ false) (λ r. is_same_prefix q r.0.prefix ≡ true → is_other local_as asn r.1 ≡ false) same held

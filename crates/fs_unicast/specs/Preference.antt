@@ -5,11 +5,11 @@ use Rattle.std.specs.Ordering.{nat_cmp, bool_cmp, on, then_cmp, flip_args, is_lt
 use Rattle.std.specs.declared.cmp.Ordering.{Ordering}
 use Rattle.fs_base.specs.declared.path.Path.{Path}
 use Rattle.fs_base.specs.declared.path.Segment.{Segment}
-use Rattle.fs_unicast.specs.declared.preference.Offer.{Offer}
+use Rattle.fs_unicast.specs.declared.preference.Held.{Held}
 
--- what an offer shows: the peer and the path
-abbrev pub offered : Offer → ℕ × Path
-offered o = (o.peer, o.path.now)
+-- what a held route shows: the peer and the path
+abbrev pub peer_path : Held → ℕ × Path
+peer_path h = (h.peer, h.path.now)
 
 -- a sequence counts its numbers, a set counts 1, a confederation's segment 0
 abbrev pub segment_length : Segment → ℕ

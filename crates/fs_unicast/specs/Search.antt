@@ -51,9 +51,9 @@ is_other local_as None path = true
 is_other local_as (Some asn) path = not (neighbour_as local_as path.segments == asn)
 
 -- of a route, if there is one
-abbrev pub is_other_offer : ℕ → Option ℕ → Option (ℕ × Path) → Bool
-is_other_offer local_as asn None = false
-is_other_offer local_as asn (Some r) = is_other local_as asn r.1
+abbrev pub is_other_route : ℕ → Option ℕ → Option (ℕ × Path) → Bool
+is_other_route local_as asn None = false
+is_other_route local_as asn (Some r) = is_other local_as asn r.1
 
 abbrev pub is_strictly_under : Prefix → Prefix → Bool
 is_strictly_under d p = covers d p && not (is_same_prefix d p)

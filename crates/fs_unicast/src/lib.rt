@@ -14,6 +14,6 @@ mod unicast;
 pub use key::PrefixKey;
 pub use laws::best_is_preferred;
 pub use neighbour::{first_as, neighbour_as};
-pub use preference::Offer;
+pub use preference::Held;
 pub use shared::SharedPath;
 pub use unicast::{Place, Unicast};

@@ -1,29 +1,29 @@
 //! Which of the routes of one key is preferred.
 
 ghost use Rattle.std.specs.Prelude.{◌≡◌, ◌+◌, ◌*◌, ◌≤◌, ◌<◌, length};
-ghost use Rattle.fs_unicast.specs.Preference.{segment_length, path_length, preference_cmp, preferred, better, offered};
+ghost use Rattle.fs_unicast.specs.Preference.{segment_length, path_length, preference_cmp, preferred, better, peer_path};
 
 use fs_base::{AS_SEQUENCE, AS_SET, Path, Segment};
 use std::cmp::Ordering;
 
-/// A route that a peer gave for some key, seen by its peer's number and its path.
-#[derive(Clone, Copy, Drop)]
-pub struct Offer<'a> {
+/// A held route of some key, as it is lent: the number of the peer that gave it, and its path.
+#[derive(Clone, Copy, Debug, PartialEq, Eq, Drop)]
+pub struct Held<'a> {
     pub peer: u16,
     pub path: &'a Path,
 }
 
-impl Offer<'_> {
+impl Held<'_> {
     /// Whether this route is preferred to the other: by the higher LOCAL_PREF, the shorter AS_PATH, the lower
     /// ORIGIN, an external peer before an internal one, and at last the lower peer number.
-    pub fn is_preferred(&self, other: &Offer<'_>) -> bool
-        ensures { result ≡ preferred (offered self.now) (offered other.now) }
+    pub fn is_preferred(&self, other: &Held<'_>) -> bool
+        ensures { result ≡ preferred (peer_path self.now) (peer_path other.now) }
     {
         self.preference(other).is_lt()
     }
 
-    fn preference(&self, other: &Offer<'_>) -> Ordering
-        ensures { result ≡ preference_cmp (offered self.now) (offered other.now) }
+    fn preference(&self, other: &Held<'_>) -> Ordering
+        ensures { result ≡ preference_cmp (peer_path self.now) (peer_path other.now) }
     {
         let length = path_length(self.path.segments.as_slice());
         let other_length = path_length(other.path.segments.as_slice());

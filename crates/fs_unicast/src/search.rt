@@ -1,8 +1,8 @@
 //! Look-ups in the ordered map of routes.
 
 ghost use Rattle.std.specs.Prelude.{◌≡◌, true, IfSome, filter, fold, map, option_map};
-ghost use Rattle.fs_unicast.specs.Search.{AreCoversOver, IsFront, candidate, is_same_prefix, is_strictly_under, is_other_offer, best_at, best_match_of, neighbour_of, others_under, held_by, start_of};
-ghost use Rattle.fs_unicast.specs.Preference.{better, offered};
+ghost use Rattle.fs_unicast.specs.Search.{AreCoversOver, IsFront, candidate, is_same_prefix, is_strictly_under, is_other_route, best_at, best_match_of, neighbour_of, others_under, held_by, start_of};
+ghost use Rattle.fs_unicast.specs.Preference.{better, peer_path};
 ghost use Rattle.fs_unicast.specs.Unicast.{place_cmp};
 ghost use Rattle.std.specs.Option.{option_copied};
 ghost use Rattle.fs_base.specs.Search.{IsFirstFrom};
@@ -11,7 +11,7 @@ ghost use Rattle.std.specs.Map.{keys_of};
 
 use crate::key::PrefixKey;
 use crate::neighbour::{is_other, neighbour_as};
-use crate::preference::Offer;
+use crate::preference::Held;
 use crate::routes::Routes;
 use crate::shared::SharedPath;
 use crate::unicast::Place;
@@ -21,8 +21,8 @@ use std::collections::btree_map::Range;
 use std::ops::Bound;
 
 /// The most preferred route at the prefix.
-pub fn best_at<'a>(routes: &'a BTreeMap<Place, SharedPath>, prefix: &Prefix) -> Option<Offer<'a>>
-    ensures { option_map offered result ≡ best_at routes.now.entries prefix.now }
+pub fn best_at<'a>(routes: &'a BTreeMap<Place, SharedPath>, prefix: &Prefix) -> Option<Held<'a>>
+    ensures { option_map peer_path result ≡ best_at routes.now.entries prefix.now }
 {
     let key = PrefixKey::of(prefix);
     let low = Place {
@@ -35,11 +35,11 @@ pub fn best_at<'a>(routes: &'a BTreeMap<Place, SharedPath>, prefix: &Prefix) -> 
 /// The most preferred of a route at the prefix and of those routes at the prefix that stand in front.
 fn best_among<'a>(
     prefix: &PrefixKey,
-    route: Option<Offer<'a>>,
+    route: Option<Held<'a>>,
     routes: Range<'a, Place, SharedPath>,
-) -> Option<Offer<'a>>
+) -> Option<Held<'a>>
     requires { IsFront prefix.now routes }
-    ensures { option_map offered result ≡ fold better (option_map offered route.entry)
+    ensures { option_map peer_path result ≡ fold better (option_map peer_path route.entry)
         (map candidate (filter (λ r. is_same_prefix prefix.now r.0.prefix) routes.entry)) }
 {
     let mut best = route;
@@ -47,7 +47,7 @@ fn best_among<'a>(
         if !is_same_prefix(prefix, &place.prefix) {
             return best;
         }
-        let route = Offer {
+        let route = Held {
             peer: place.peer,
             path: path.path(),
         };
@@ -60,9 +60,9 @@ fn best_among<'a>(
 fn best_from<'a>(
     routes: &'a BTreeMap<Place, SharedPath>,
     low: &Prefix,
-) -> Option<(Prefix, Option<Offer<'a>>)>
+) -> Option<(Prefix, Option<Held<'a>>)>
     ensures first { IsFirstFrom (λ r. r.0.prefix) routes.now.entries low.now (option_map (λ f. f.0) result) }
-    ensures best { IfSome result (λ f. option_map offered f.1 ≡ best_at routes.now.entries f.0) }
+    ensures best { IfSome result (λ f. option_map peer_path f.1 ≡ best_at routes.now.entries f.0) }
 {
     let low = Place {
         prefix: PrefixKey::of(low),
@@ -70,7 +70,7 @@ fn best_from<'a>(
     };
     let mut behind = routes.range(low..);
     let (place, path) = behind.next()?;
-    let first = Offer {
+    let first = Held {
         peer: place.peer,
         path: path.path(),
     };
@@ -84,8 +84,8 @@ fn is_same_prefix(one: &PrefixKey, other: &PrefixKey) -> bool
     one.cmp(other).is_eq()
 }
 
-fn better<'a>(best: Option<Offer<'a>>, route: Offer<'a>) -> Offer<'a>
-    ensures { Some (offered result) ≡ better (option_map offered best.entry) (offered route.entry) }
+fn better<'a>(best: Option<Held<'a>>, route: Held<'a>) -> Held<'a>
+    ensures { Some (peer_path result) ≡ better (option_map peer_path best.entry) (peer_path route.entry) }
 {
     match best {
         Some(best) if !route.is_preferred(&best) => best,
@@ -101,8 +101,8 @@ pub fn best_and_others<'a>(
     routes: &'a Routes,
     prefix: &Prefix,
     local_as: u32,
-) -> (Option<Offer<'a>>, bool)
-    ensures best { option_map offered result.0 ≡ best_match_of routes.now prefix.now }
+) -> (Option<Held<'a>>, bool)
+    ensures best { option_map peer_path result.0 ≡ best_match_of routes.now prefix.now }
     ensures others { result.1 ≡ others_under routes.now prefix.now local_as
         (neighbour_of local_as (best_match_of routes.now prefix.now)) }
 {
@@ -126,8 +126,8 @@ pub fn best_and_others<'a>(
 }
 
 /// The neighbouring AS of the route, if there is one.
-fn neighbour_of(route: Option<Offer<'_>>, local_as: u32) -> Option<u32>
-    ensures { result ≡ neighbour_of local_as (option_map offered route.entry) }
+fn neighbour_of(route: Option<Held<'_>>, local_as: u32) -> Option<u32>
+    ensures { result ≡ neighbour_of local_as (option_map peer_path route.entry) }
 {
     match route {
         Some(route) => Some(neighbour_as(route.path.segments.as_slice(), local_as)),
@@ -136,8 +136,8 @@ fn neighbour_of(route: Option<Offer<'_>>, local_as: u32) -> Option<u32>
 }
 
 /// The most preferred route at the longest prefix that covers this one and has a route.
-pub fn best_match<'a>(routes: &'a BTreeMap<Place, SharedPath>, prefix: &Prefix) -> Option<Offer<'a>>
-    ensures { option_map offered result ≡ best_match_of routes.now.entries prefix.now }
+pub fn best_match<'a>(routes: &'a BTreeMap<Place, SharedPath>, prefix: &Prefix) -> Option<Held<'a>>
+    ensures { option_map peer_path result ≡ best_match_of routes.now.entries prefix.now }
 {
     best_over(routes, prefix, prefix)
 }
@@ -148,9 +148,9 @@ fn best_over<'a>(
     routes: &'a BTreeMap<Place, SharedPath>,
     prefix: &Prefix,
     low: &Prefix,
-) -> Option<Offer<'a>>
+) -> Option<Held<'a>>
     requires { AreCoversOver routes.now.entries prefix.now low.now }
-    ensures { option_map offered result ≡ best_match_of routes.now.entries prefix.now }
+    ensures { option_map peer_path result ≡ best_match_of routes.now.entries prefix.now }
 {
     let mut low = *low;
     loop {
@@ -190,21 +190,21 @@ fn others_from(
     local_as: u32,
     asn: Option<u32>,
     first: &Prefix,
-    best: Option<Offer<'_>>,
+    best: Option<Held<'_>>,
 ) -> bool
-    requires best { option_map offered best ≡ best_at routes.now first.now }
+    requires best { option_map peer_path best ≡ best_at routes.now first.now }
     requires under { is_strictly_under prefix.now first.now ≡ true }
     ensures { result ≡ others_under routes.now prefix.now local_as asn }
 {
-    if is_other_offer(best, local_as, asn) {
+    if is_other_route(best, local_as, asn) {
         return true;
     }
     others_under(routes, prefix, local_as, asn)
 }
 
 /// Whether there is a route, and it has another neighbouring AS.
-fn is_other_offer(route: Option<Offer<'_>>, local_as: u32, asn: Option<u32>) -> bool
-    ensures { result ≡ is_other_offer local_as asn (option_map offered route.entry) }
+fn is_other_route(route: Option<Held<'_>>, local_as: u32, asn: Option<u32>) -> bool
+    ensures { result ≡ is_other_route local_as asn (option_map peer_path route.entry) }
 {
     match route {
         Some(route) => is_other(route.path, local_as, asn),

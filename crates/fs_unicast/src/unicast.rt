@@ -6,11 +6,11 @@ ghost use Rattle.std.specs.List.Sorted.{IsStrictlySortedBy};
 ghost use Rattle.std.specs.Map.{keys_of, remove_entry, lookup};
 ghost use Rattle.fs_unicast.specs.Unicast.{place_cmp, put_path, take_path, has_path};
 ghost use Rattle.fs_unicast.specs.Search.{best_at, best_match_of, neighbour_of, others_under, held_by};
-ghost use Rattle.fs_unicast.specs.Preference.{offered};
+ghost use Rattle.fs_unicast.specs.Preference.{peer_path};
 ghost use Rattle.std.specs.Option.{option_copied};
 
 use crate::key::PrefixKey;
-use crate::preference::Offer;
+use crate::preference::Held;
 use crate::routes::Routes;
 use crate::search;
 use fs_base::{Memory, Path, Prefix, Steps};
@@ -25,7 +25,8 @@ pub struct Place {
     pub peer: u16,
 }
 
-/// The unicast routes of both families that peers hold, at most one of a peer at a prefix.
+/// The unicast routes of both families that peers hold, at most one of a peer at a prefix. Each call that gives a route,
+/// `best`, `best_match` or `best_and_others`, counts one step.
 #[derive(Drop)]
 pub struct Unicast {
     routes: Routes,
@@ -100,8 +101,8 @@ impl Unicast {
     }
 
     /// The most preferred route at the prefix. One step.
-    pub fn best<L: Ledger>(&self, prefix: &Prefix, steps: &mut Steps<L>) -> Option<Offer<'_>>
-        ensures best { option_map offered result ≡ best_at self.now prefix.now }
+    pub fn best<L: Ledger>(&self, prefix: &Prefix, steps: &mut Steps<L>) -> Option<Held<'_>>
+        ensures best { option_map peer_path result ≡ best_at self.now prefix.now }
         ensures step { steps.new ≡ steps.old + 1 }
     {
         steps.take(); // at one prefix
@@ -109,8 +110,8 @@ impl Unicast {
     }
 
     /// The most preferred route at the longest prefix that covers this one and has a route. One step.
-    pub fn best_match<L: Ledger>(&self, prefix: &Prefix, steps: &mut Steps<L>) -> Option<Offer<'_>>
-        ensures best { option_map offered result ≡ best_match_of self.now prefix.now }
+    pub fn best_match<L: Ledger>(&self, prefix: &Prefix, steps: &mut Steps<L>) -> Option<Held<'_>>
+        ensures best { option_map peer_path result ≡ best_match_of self.now prefix.now }
         ensures step { steps.new ≡ steps.old + 1 }
     {
         steps.take(); // up to the longest cover
@@ -125,8 +126,8 @@ impl Unicast {
         prefix: &Prefix,
         local_as: u32,
         steps: &mut Steps<L>,
-    ) -> (Option<Offer<'_>>, bool)
-        ensures best { option_map offered result.0 ≡ best_match_of self.now prefix.now }
+    ) -> (Option<Held<'_>>, bool)
+        ensures best { option_map peer_path result.0 ≡ best_match_of self.now prefix.now }
         ensures others { result.1 ≡ others_under self.now prefix.now local_as
             (neighbour_of local_as (best_match_of self.now prefix.now)) }
         ensures step { steps.new ≡ steps.old + 1 }

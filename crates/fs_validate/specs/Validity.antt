@@ -7,11 +7,16 @@ use Rattle.fs_base.specs.declared.prefix.Prefix.{Prefix}
 use Rattle.fs_unicast.specs.Neighbour.{first_as, neighbour_as}
 use Rattle.fs_unicast.specs.Unicast.{Route}
 use Rattle.fs_unicast.specs.Search.{best_match_of, others_under}
+use Rattle.fs_nlri.specs.Parts.{Ruled}
 use Rattle.fs_nlri.specs.Rule.{destination_prefix}
 use Rattle.fs_validate.specs.Originator.{originator_of, same_originator, is_local}
 use Rattle.fs_validate.specs.declared.route.FlowRoute.{FlowRoute}
 use Rattle.fs_validate.specs.declared.validity.Validity.{Validity}
 use Rattle.fs_validate.specs.declared.validity.Validity.TheVariants.{Valid, NoDestination, Originator, MoreSpecific, LeftAs}
+
+-- a route by its parts: the peer that gave it, its rule, its path and its actions
+abbrev pub flow_route : ℕ → Ruled → Path → List (List ℕ) → FlowRoute
+flow_route peer rule path actions = record { peer = peer; rule = rule; path = path; actions = actions }
 
 -- rule b
 abbrev pub has_best_originator : Config → FlowRoute → Option (ℕ × Path) → Bool

@@ -5,11 +5,9 @@ mod basis;
 mod laws;
 mod originator;
 mod route;
-mod shared;
 mod validity;
 
 pub use basis::{Basis, basis_of, judged};
 pub use laws::agree;
 pub use route::{FlowRoute, destination};
-pub use shared::SharedActions;
-pub use validity::{Validity, valid};
+pub use validity::{Validity, valid, validity_of};

@@ -1,14 +1,16 @@
 //! Whether a flow route may be used.
 
-ghost use Rattle.std.specs.Prelude.{◌≡◌, ◌≤◌, ◌+◌, option_map};
-ghost use Rattle.fs_unicast.specs.Preference.{offered};
-ghost use Rattle.fs_validate.specs.Validity.{validity, has_originator, has_leftmost, validity_without, same_as};
+ghost use Rattle.std.specs.Prelude.{◌≡◌, ◌≤◌, ◌+◌, ℕ, List, option_map};
+ghost use Rattle.fs_nlri.specs.Parts.{Ruled};
+ghost use Rattle.fs_unicast.specs.Preference.{peer_path};
+ghost use Rattle.fs_validate.specs.Validity.{flow_route, validity, has_originator, has_leftmost, validity_without, same_as};
 
 use crate::basis::{basis_of, judged};
 use crate::originator::{is_local, is_same_originator, originator};
 use crate::route::{FlowRoute, destination};
-use fs_base::{Config, Steps};
-use fs_unicast::{Offer, Unicast, first_as};
+use fs_base::{Config, Path, Steps};
+use fs_nlri::Rule;
+use fs_unicast::{Held, Unicast, first_as};
 use std::sync::ledger::Ledger;
 
 /// Valid, or the first rule of validation that the route breaks.
@@ -37,11 +39,28 @@ pub fn valid<L: Ledger>(
     ensures later { steps.old ≤ steps.new }
     ensures step { steps.new ≤ steps.old + 1 }
 {
-    let Some(destination) = destination(&route.rule) else {
+    validity_of(unicast, config, route.peer, &route.rule, &route.path, steps)
+}
+
+/// As [`valid`], of a route by its parts: the peer that gave it, its rule and its path, whatever its actions are.
+pub fn validity_of<L: Ledger>(
+    unicast: &Unicast,
+    config: &Config,
+    peer: u16,
+    rule: &Rule,
+    path: &Path,
+    steps: &mut Steps<L>,
+) -> Validity
+    ensures validity { (actions : List (List ℕ))
+        → result ≡ validity unicast.now config.now (flow_route peer rule.now path.now actions) }
+    ensures later { steps.old ≤ steps.new }
+    ensures step { steps.new ≤ steps.old + 1 }
+{
+    let Some(destination) = destination(rule) else {
         return without_destination(config);
     };
     let basis = basis_of(unicast, config, &destination, steps);
-    judged(config, route, &basis)
+    judged(config, peer, path, &basis)
 }
 
 fn without_destination(config: &Config) -> Validity
@@ -54,16 +73,18 @@ fn without_destination(config: &Config) -> Validity
     }
 }
 
-/// Rule b: the best match has the same originator, or the route began in the local AS and that is allowed.
-pub fn has_originator(config: &Config, route: &FlowRoute, best: Option<Offer<'_>>) -> bool
-    ensures { result ≡ has_originator config.now route.now (option_map offered best.entry) }
+/// Rule b: the best match has the same originator, or the route, which has this peer and this path, began in the local
+/// AS and that is allowed.
+pub fn has_originator(config: &Config, peer: u16, path: &Path, best: Option<Held<'_>>) -> bool
+    ensures { (rule : Ruled) (actions : List (List ℕ))
+        → result ≡ has_originator config.now (flow_route peer rule path.now actions) (option_map peer_path best.entry) }
 {
-    if config.empty_path_valid && is_local(route.path.path().segments.as_slice()) {
+    if config.empty_path_valid && is_local(path.segments.as_slice()) {
         return true;
     }
     match best {
         Some(best) => is_same_originator(
-            originator(config, route.peer, route.path.path()),
+            originator(config, peer, path),
             originator(config, best.peer, best.path),
         ),
         None => false,
@@ -71,15 +92,16 @@ pub fn has_originator(config: &Config, route: &FlowRoute, best: Option<Offer<'_>
 }
 
 /// Rule d: of a route from an external peer the leftmost AS is that of the best match.
-pub fn has_leftmost(route: &FlowRoute, best: Option<Offer<'_>>) -> bool
-    ensures { result ≡ has_leftmost route.now (option_map offered best.entry) }
+pub fn has_leftmost(path: &Path, best: Option<Held<'_>>) -> bool
+    ensures { (peer : ℕ) (rule : Ruled) (actions : List (List ℕ))
+        → result ≡ has_leftmost (flow_route peer rule path.now actions) (option_map peer_path best.entry) }
 {
-    if !route.path.path().external {
+    if !path.external {
         return true;
     }
     match best {
         Some(best) => is_same_as(
-            first_as(route.path.path().segments.as_slice()),
+            first_as(path.segments.as_slice()),
             first_as(best.path.segments.as_slice()),
         ),
         None => false,

@@ -1,10 +1,11 @@
-use Rattle.std.proofs.Common.{ℕ, List, length, refl, subst}
+use Rattle.std.proofs.Common.{ℕ, List, get_or, length, refl, subst, arith}
 use Rattle.fs_rules.specs.Lent.{all_admitted}
 use Rattle.fs_compile.specs.Addresses.{numbers_in, nodes_in}
 use Rattle.fs_compile.specs.Index.{spans_of}
 use Rattle.fs_compile.specs.Runs.{AreNodes, ArePlain}
 use Rattle.fs_compile.proofs.Indexing.{housed_from}
 use Rattle.fs_compile.proofs.Running.{buckets_from}
+use Rattle.fs_compile.proofs.Widths.{first_narrow}
 use Rattle.fs_compile.proofs.index.buckets_of.Goals as goal
 
 pub returns-clause-sound : goal.returns-clause-sound
@@ -21,3 +22,9 @@ pub returns-clause-housed : goal.returns-clause-housed
 returns-clause-housed c = housed_from (spans_of (all_admitted c.args.list.now)) (record { lasts = c.in_ok-runs.runs.lasts; nodes = c.in_ok-nodes.nodes; homes = c.in_ok-runs.runs.homes })
     c.in_ok-runs.runs.firsts.items (numbers_in c.in_ok-runs.runs.lasts) c.in_ok-runs.runs.starts.items c.in_ok-runs.runs.homes.items c.deref-2.result.now
     c.requires.nesting c.in_ok-runs.ensures.runs c.in_ok-nodes.ensures refl refl c.in_ok-runs.ensures.rest
+
+pub nodes_of-requires-clause-width : goal.nodes_of-requires-clause-width
+nodes_of-requires-clause-width c = λ i below.
+    first_narrow c.args.family (all_admitted c.args.list.now) (get_or c.in_ok-runs.runs.starts.items i 0)
+    (get_or c.in_ok-runs.runs.firsts.items i 0, get_or (numbers_in c.in_ok-runs.runs.lasts) i 0)
+    c.requires.each (c.in_ok-runs.ensures.runs.owner i (omega (arith, below, c.in_ok-runs.ensures.runs.firsts_size)))

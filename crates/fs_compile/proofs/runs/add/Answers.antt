@@ -28,4 +28,4 @@ pub returns-then-ends_with-clause-runs : goal.returns-then-ends_with-clause-runs
 returns-then-ends_with-clause-runs c = joined c.join.result c.args.runs.now c.join.new.runs c.args.first c.args.last (c.ends_with.ensures c.if-ends_with.true) c.join.ensures.same
 
 pub returns-else-ends_with-clause-runs : goal.returns-else-ends_with-clause-runs
-returns-else-ends_with-clause-runs c = opened c.open.result c.args.runs.now c.open.new.runs c.args.first c.args.last c.open.ensures
+returns-else-ends_with-clause-runs c = opened c.open.result c.args.runs.now c.open.new.runs c.args.first c.args.last c.open.ensures.opened

@@ -10,7 +10,7 @@ use Rattle.fs_rules.proofs.table.Table.put_flow.Goals as goal
 
 pub invariant_of-self-2 : goal.invariant_of-self-2
 invariant_of-self-2 g c = record {
-  keeps = rw c.in_ok-is_new.ensures.ok (rw c.in_ok-k.ensures (keeps-put c.self.inside.config.now c.self.inside.unicast _ c.self.inside.flows c.valid-validity.ensures.validity c.self.invariant.keeps));
+  keeps = rw c.in_ok-is_new.ensures.ok (rw c.in_ok-k.ensures (keeps-put c.self.inside.config.now c.self.inside.unicast _ c.self.inside.flows c.validate-validity.ensures.validity c.self.invariant.keeps));
   counted = counted_put_flow c.self.inside.unicast _ (routes_of c.self.inside.flows) _ c.reserve.new.self c.raise.new.self c.in_ok-is_new.is_new c.self.invariant.keeps.sorted
       (counted_as c.self.inside.unicast (routes_of c.self.inside.flows) c.self.inside.counts c.reserve.new.self c.reserve.ensures.same c.self.invariant.counted)
       c.raise.ensures

@@ -10,7 +10,7 @@ use std::rc::Rc;
 
 /// Actions that many routes may have: most of a peer's routes have the same.
 #[derive(Drop)]
-pub struct SharedActions {
+pub(crate) struct SharedActions {
     actions: Rc<Actions>,
 }
 
@@ -24,7 +24,7 @@ impl Model for SharedActions {
 
 impl SharedActions {
     /// Actions of one route.
-    pub fn new(alloc: Global, actions: Actions) -> Result<SharedActions, Memory>
+    pub(crate) fn new(alloc: Global, actions: Actions) -> Result<SharedActions, Memory>
         ensures { IfOk result (λ shared. shared ≡ actions) }
     {
         let actions = Rc::new(alloc, actions)?;
@@ -32,7 +32,7 @@ impl SharedActions {
     }
 
     /// The same actions once more.
-    pub fn share(&self) -> Result<SharedActions, Memory>
+    pub(crate) fn share(&self) -> Result<SharedActions, Memory>
         ensures { IfOk result (λ shared. shared ≡ self.now) }
     {
         let actions = self.actions.clone()?;
@@ -40,14 +40,14 @@ impl SharedActions {
     }
 
     /// The actions.
-    pub fn actions(&self) -> &Actions
+    pub(crate) fn actions(&self) -> &Actions
         ensures { result.now ≡ self.now }
     {
         self.actions.as_ref()
     }
 
     /// Whether these are the actions.
-    pub fn are(&self, actions: &Actions) -> bool
+    pub(crate) fn are(&self, actions: &Actions) -> bool
         ensures { IsTrue result ↔ self.now ≡ actions.now }
     {
         self.actions().as_slice() == actions.as_slice()

@@ -2,7 +2,7 @@ use Rattle.std.proofs.Common.{◌≡◌, ◌∙◌, refl, sym}
 use Rattle.std.proofs.lemmas.Bool.Decides.{Decides-eqb}
 use Rattle.std.proofs.lemmas.Slice.Eq.{slice_eq-Decides}
 use Rattle.std.specs.Bool.{Decides}
-use Rattle.fs_validate.proofs.shared.SharedActions.are.Goals as goal
+use Rattle.fs_rules.proofs.actions.SharedActions.are.Goals as goal
 
 pub returns : goal.returns
 returns c = (
