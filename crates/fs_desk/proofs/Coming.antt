@@ -7,9 +7,9 @@ use Rattle.fs_base.specs.declared.config.Peer.{Peer}
 use Rattle.fs_message.specs.Deframer.{pending}
 use Rattle.fs_attrs.specs.declared.update.Update.{Update}
 use Rattle.fs_rules.specs.Table.{Held}
-use Rattle.fs_speaker.specs.declared.state.Closed.{Closed}
-use Rattle.fs_speaker.specs.declared.times.Times.{Times}
-use Rattle.fs_speaker.specs.declared.transition.Phase.{Phase}
+use Rattle.fs_speaker.specs.declared.Closed.{Closed}
+use Rattle.fs_session.specs.declared.times.Times.{Times}
+use Rattle.fs_session.specs.declared.transition.Phase.{Phase}
 use Rattle.fs_speaker.specs.Handed.{Handed, with_taken, runs_by}
 use Rattle.fs_speaker.specs.Line.{Step, waits, takes, stops}
 use Rattle.fs_speaker.specs.Session.{Live, Does, reply_of, step_with}

@@ -5,8 +5,8 @@ use Rattle.fs_base.specs.declared.config.Config.{Config}
 use Rattle.fs_base.specs.declared.config.Peer.{Peer}
 use Rattle.fs_message.specs.Deframer.{pending}
 use Rattle.fs_attrs.specs.declared.update.Update.{Update}
-use Rattle.fs_speaker.specs.declared.state.Closed.{Closed}
-use Rattle.fs_speaker.specs.declared.transition.Phase.{Phase}
+use Rattle.fs_speaker.specs.declared.Closed.{Closed}
+use Rattle.fs_session.specs.declared.transition.Phase.{Phase}
 use Rattle.fs_speaker.specs.Line.{Step, waits, takes, stops, fresh}
 use Rattle.fs_speaker.specs.Session.{at_start, Last, still, closed, with_update, session_from, Live, live, step_of, Does, step_with}
 use Rattle.fs_desk.specs.Limit.{bounded, bounded_from, first_over, is_over, routes_left, too_many}

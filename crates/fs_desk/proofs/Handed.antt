@@ -8,8 +8,8 @@ use Rattle.fs_base.specs.declared.config.Config.{Config}
 use Rattle.fs_base.specs.declared.config.Peer.{Peer}
 use Rattle.fs_message.specs.Deframer.{pending}
 use Rattle.fs_rules.specs.Table.{Held}
-use Rattle.fs_speaker.specs.declared.state.Closed.{Closed}
-use Rattle.fs_speaker.specs.declared.times.Times.{Times}
+use Rattle.fs_speaker.specs.declared.Closed.{Closed}
+use Rattle.fs_session.specs.declared.times.Times.{Times}
 use Rattle.fs_speaker.specs.Handed.{Handed, Point, handed, hand, runs_by}
 use Rattle.fs_speaker.specs.Line.{waits}
 use Rattle.fs_speaker.specs.Session.{Live, step_of}

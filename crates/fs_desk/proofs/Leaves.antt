@@ -6,7 +6,7 @@ use Rattle.fs_base.specs.declared.config.Peer.{Peer}
 use Rattle.fs_attrs.specs.declared.update.Update.{Update}
 use Rattle.fs_rules.specs.Table.{Held}
 use Rattle.fs_speaker.specs.Session.{still, at_start, Live}
-use Rattle.fs_speaker.specs.declared.state.Closed.{Closed}
+use Rattle.fs_speaker.specs.declared.Closed.{Closed}
 use Rattle.fs_tape.specs.Tape.{Item}
 use Rattle.fs_desk.specs.Desk.{Desked, session_at, PeerIs, Played}
 use Rattle.fs_desk.specs.Limit.{bounded_from}

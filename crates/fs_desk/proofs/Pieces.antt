@@ -10,8 +10,8 @@ use Rattle.fs_base.proofs.Bools.{false_of_not, true_of_not}
 use Rattle.fs_base.proofs.Lists.{each_append}
 use Rattle.fs_rules.proofs.Apart.{each_front, each_back}
 use Rattle.fs_rules.specs.Table.{Held, held_count}
-use Rattle.fs_speaker.specs.declared.state.Closed.{Closed}
-use Rattle.fs_speaker.specs.declared.state.Closed.TheVariants.{Fault, Notified, NoFamily, Memory}
+use Rattle.fs_speaker.specs.declared.Closed.{Closed}
+use Rattle.fs_speaker.specs.declared.Closed.TheVariants.{Fault, Notified, NoFamily, Memory}
 use Rattle.fs_speaker.specs.Line.{Step, stops, CloseIs}
 use Rattle.fs_speaker.specs.Session.{Live, Does, step_with}
 use Rattle.fs_desk.specs.Apply.{Changes, nothing, told, told_of}

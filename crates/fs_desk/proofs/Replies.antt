@@ -6,8 +6,8 @@ use Rattle.fs_base.specs.declared.config.Config.{Config}
 use Rattle.fs_base.specs.declared.config.Peer.{Peer}
 use Rattle.fs_attrs.specs.declared.update.Update.{Update}
 use Rattle.fs_rules.specs.Table.{Held}
-use Rattle.fs_speaker.specs.declared.state.Closed.{Closed}
-use Rattle.fs_speaker.specs.declared.state.Closed.TheVariants.{Memory}
+use Rattle.fs_speaker.specs.declared.Closed.{Closed}
+use Rattle.fs_speaker.specs.declared.Closed.TheVariants.{Memory}
 use Rattle.fs_speaker.specs.Line.{CloseIs}
 use Rattle.fs_speaker.specs.Side.{reply_at}
 use Rattle.fs_speaker.specs.Session.{Live, Does, reply_of, step_with}

@@ -4,9 +4,9 @@ use Rattle.fs_base.specs.declared.config.Config.{Config}
 use Rattle.fs_base.specs.declared.config.Peer.{Peer}
 use Rattle.fs_message.specs.Deframer.{pending}
 use Rattle.fs_attrs.specs.declared.update.Update.{Update}
-use Rattle.fs_speaker.specs.declared.state.State.TheVariants.{Established}
-use Rattle.fs_speaker.specs.declared.state.Closed.{Closed}
-use Rattle.fs_speaker.specs.declared.transition.Phase.{Phase}
+use Rattle.fs_speaker.specs.declared.State.TheVariants.{Established}
+use Rattle.fs_speaker.specs.declared.Closed.{Closed}
+use Rattle.fs_session.specs.declared.transition.Phase.{Phase}
 use Rattle.fs_speaker.specs.Line.{Step, waits, takes, stops, fresh}
 use Rattle.fs_speaker.specs.Side.{reply_to, reply_at}
 use Rattle.fs_speaker.specs.Session.{at_start, Last, session_from, Live, live, step_of, Does, reply_of, step_with}

@@ -9,10 +9,10 @@ use Rattle.fs_message.specs.Open.{open_of}
 use Rattle.fs_message.specs.Stream.{Message, first_message, wrong_at}
 use Rattle.fs_attrs.specs.declared.update.Update.{Update}
 use Rattle.fs_attrs.specs.declared.update.UpdateFault.{UpdateFault}
-use Rattle.fs_speaker.specs.declared.state.State.{State}
-use Rattle.fs_speaker.specs.declared.state.State.TheVariants.{WaitOpen, WaitKeep, Established, Closed as IsClosed}
-use Rattle.fs_speaker.specs.declared.state.Closed.{Closed}
-use Rattle.fs_speaker.specs.declared.transition.Phase.{Phase}
+use Rattle.fs_speaker.specs.declared.State.{State}
+use Rattle.fs_speaker.specs.declared.State.TheVariants.{WaitOpen, WaitKeep, Established, Closed as IsClosed}
+use Rattle.fs_speaker.specs.declared.Closed.{Closed}
+use Rattle.fs_session.specs.declared.transition.Phase.{Phase}
 use Rattle.fs_speaker.specs.Transition.{phase, taken, not_taken, notified, opened, updates, transition_at, transition_by}
 use Rattle.fs_speaker.specs.Line.{Step, waits, takes, stops, step_at, rest_step}
 use Rattle.fs_speaker.specs.Side.{reply_to, receiver, reads_update}

@@ -5,22 +5,22 @@ use Rattle.fs_base.specs.declared.config.Config.{Config}
 use Rattle.fs_base.specs.declared.config.Peer.{Peer}
 use Rattle.fs_attrs.specs.declared.update.Update.{Update}
 use Rattle.fs_rules.specs.Table.{Held}
-use Rattle.fs_speaker.specs.declared.state.Closed.{Closed}
+use Rattle.fs_speaker.specs.declared.Closed.{Closed}
 use Rattle.fs_speaker.specs.Session.{Last, still, at_start, Live as Session}
 use Rattle.fs_tape.specs.Tape.{Item}
 use Rattle.fs_desk.specs.Life.{life}
 use Rattle.fs_desk.specs.Desk.{Desked, session_at, PeerIs, Played, standing_of, standing_at_desk}
 use Rattle.fs_desk.specs.Limit.{bounded_from, bounded_session}
 use Rattle.fs_desk.specs.Receive.{IsFed}
-use Rattle.fs_speaker.specs.declared.state.Standing.{Standing}
-use Rattle.fs_speaker.specs.declared.state.Standing.TheVariants.{Down, Up, Ended}
+use Rattle.fs_speaker.specs.declared.Standing.{Standing}
+use Rattle.fs_speaker.specs.declared.Standing.TheVariants.{Down, Live as LiveIn, Ended}
 use Rattle.fs_speaker.specs.State.{standing_at, standing_by}
 use Rattle.fs_desk.proofs.Follows.{follows_session, over_session}
 
 -- what a session came to is what the desk keeps of it
 fed_stands : (config : Config) (peer : Peer) (octets : List ℕ) (session : Session) (updates : List Update) (why : Option Closed)
     → IsFed config peer octets session why updates
-    → (elim why [ Some closed ↦ Ended closed | None ↦ Up session.phase.state ]) ≡ standing_at (bounded_from config peer octets).1
+    → (elim why [ Some closed ↦ Ended closed | None ↦ LiveIn session.phase.state ]) ≡ standing_at (bounded_from config peer octets).1
 fed_stands config peer octets session updates None follows =
     sym (ap (λ (r : List Update × Last). standing_at r.1) (follows_session config peer octets session updates follows.0 follows.1))
 fed_stands config peer octets session updates (Some why) over =

@@ -8,12 +8,12 @@ use Rattle.fs_base.specs.declared.config.Config.{Config}
 use Rattle.fs_base.specs.declared.config.Peer.{Peer}
 use Rattle.fs_attrs.specs.declared.update.Update.{Update}
 use Rattle.fs_rules.specs.Table.{Held}
-use Rattle.fs_speaker.specs.declared.state.Closed.{Closed}
-use Rattle.fs_speaker.specs.declared.state.Closed.TheVariants.{Fault}
-use Rattle.fs_speaker.specs.declared.state.Standing.TheVariants.{Up, Ended}
-use Rattle.fs_speaker.specs.declared.times.Tick.{Tick}
-use Rattle.fs_speaker.specs.declared.times.Tick.TheVariants.{Quiet, Keeps, Expires}
-use Rattle.fs_speaker.specs.declared.times.Times.{Times}
+use Rattle.fs_speaker.specs.declared.Closed.{Closed}
+use Rattle.fs_speaker.specs.declared.Closed.TheVariants.{Fault}
+use Rattle.fs_speaker.specs.declared.Standing.TheVariants.{Live as LiveIn, Ended}
+use Rattle.fs_session.specs.declared.times.Tick.{Tick}
+use Rattle.fs_session.specs.declared.times.Tick.TheVariants.{Quiet, Keeps, Expires}
+use Rattle.fs_session.specs.declared.times.Times.{Times}
 use Rattle.fs_speaker.specs.Session.{Last, Live, at_start, still}
 use Rattle.fs_speaker.specs.State.{standing_by}
 use Rattle.fs_speaker.specs.Times.{at_moment, tick_at}
@@ -90,14 +90,14 @@ stood n session sessions own table there = ap standing_by there
 never_ended : (session session' : Live) (why : Closed) → session.closed ≡ None → session'.closed ≡ Some why → standing_by (Some session') ≡ standing_by (Some session) → ⊥
 never_ended session session' why alive shut e = ended_not (sym by ∙ e ∙ was)
   where
-    ended_not : Ended why ≡ Up session.phase.state → ⊥
+    ended_not : Ended why ≡ LiveIn session.phase.state → ⊥
     ended_not h = absurd cc
 
     by : standing_by (Some session') ≡ Ended why
-    by = ap (λ (c : Option Closed). elim c [ Some w ↦ Ended w | None ↦ Up session'.phase.state ]) shut
+    by = ap (λ (c : Option Closed). elim c [ Some w ↦ Ended w | None ↦ LiveIn session'.phase.state ]) shut
 
-    was : standing_by (Some session) ≡ Up session.phase.state
-    was = ap (λ (c : Option Closed). elim c [ Some w ↦ Ended w | None ↦ Up session.phase.state ]) alive
+    was : standing_by (Some session) ≡ LiveIn session.phase.state
+    was = ap (λ (c : Option Closed). elim c [ Some w ↦ Ended w | None ↦ LiveIn session.phase.state ]) alive
 
 -- of the desk's parts
 pub desk_ticked : (config : Config) (items : List Item) (n moment : ℕ) (session session' : Live) (own : Config) (table table' : Held) (sessions sessions' : List (ℕ × Live)) (old : Desked)
@@ -227,7 +227,7 @@ desk_expires n moment session session' own table table' sessions sessions' old r
     makes Quiet h alive k = absurd (same (ap (λ (l : Live). standing_by (Some l)) k.0))
     makes Keeps h alive k = absurd (same (ap (λ (l : Live). standing_by (Some l)) k.0))
     makes Expires h alive k = (
-      now_stands ∙ ap (λ (c : Option Closed). elim c [ Some w ↦ Ended w | None ↦ Up session'.phase.state ]) k.0,
+      now_stands ∙ ap (λ (c : Option Closed). elim c [ Some w ↦ Ended w | None ↦ LiveIn session'.phase.state ]) k.0,
       λ config items p. found config items alive (expires_timed session.phase.hold (at_moment moment session.times) h) p,
     )
 

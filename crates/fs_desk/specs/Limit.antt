@@ -7,9 +7,9 @@ use Rattle.fs_base.specs.declared.config.Config.{Config}
 use Rattle.fs_base.specs.declared.config.Peer.{Peer}
 use Rattle.fs_attrs.specs.declared.update.Update.{Update}
 use Rattle.fs_attrs.specs.Update.{gives_prefixes, gives_rules}
-use Rattle.fs_speaker.specs.declared.state.Closed.{Closed}
-use Rattle.fs_speaker.specs.declared.state.Closed.TheVariants.{Fault}
-use Rattle.fs_speaker.specs.declared.state.State.TheVariants.{WaitOpen}
+use Rattle.fs_speaker.specs.declared.Closed.{Closed}
+use Rattle.fs_speaker.specs.declared.Closed.TheVariants.{Fault}
+use Rattle.fs_speaker.specs.declared.State.TheVariants.{WaitOpen}
 use Rattle.fs_speaker.specs.Replies.{replies_from}
 use Rattle.fs_speaker.specs.Session.{at_start, Last, still, closed, session_from}
 use Rattle.fs_speaker.specs.Side.{reply_to, reply_at}

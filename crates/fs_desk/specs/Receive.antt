@@ -10,10 +10,10 @@ use Rattle.fs_attrs.specs.declared.update.Update.{Update}
 use Rattle.fs_attrs.specs.Lists.{IsPrefix}
 use Rattle.fs_attrs.specs.Update.{gives_prefixes}
 use Rattle.fs_rules.specs.Table.{Held, held_count, without_peer}
-use Rattle.fs_speaker.specs.declared.state.State.{State}
-use Rattle.fs_speaker.specs.declared.state.State.TheVariants.{WaitOpen}
-use Rattle.fs_speaker.specs.declared.state.Closed.{Closed}
-use Rattle.fs_speaker.specs.declared.state.Closed.TheVariants.{Fault, Notified, NoFamily, Memory}
+use Rattle.fs_speaker.specs.declared.State.{State}
+use Rattle.fs_speaker.specs.declared.State.TheVariants.{WaitOpen}
+use Rattle.fs_speaker.specs.declared.Closed.{Closed}
+use Rattle.fs_speaker.specs.declared.Closed.TheVariants.{Fault, Notified, NoFamily, Memory}
 use Rattle.fs_speaker.specs.Handed.{Handed, Point, point, runs_by}
 use Rattle.fs_speaker.specs.Line.{waits}
 use Rattle.fs_speaker.specs.Session.{at_start, Last, closed, session_from, Live, step_of}

@@ -1,6 +1,6 @@
 //! The sessions with all configured peers, and the table of the routes that they hold.
 
-ghost use Rattle.std.specs.Prelude.{◌≡◌, ◌<◌, false, List, [], IsSome, IfOk, OnOk, OnErr, Some};
+ghost use Rattle.std.specs.Prelude.{◌≡◌, ◌<◌, false, List, [], IsSome, IsOk, IfOk, OnOk, OnErr, Some};
 
 use crate::hold_timer::tick_session;
 use crate::receive::receive;
@@ -39,16 +39,17 @@ impl<'a> Desk<'a> {
     ghost use Rattle.fs_rules.specs.Table.{AdmitsSame, held_count};
     ghost use Rattle.fs_speaker.specs.Session.{begins};
 
-    /// Every configured peer is down, and nothing is held.
-    pub fn new(alloc: Global, config: &'a Config) -> Desk<'a>
-        ensures { Played config.entry.now [] result }
+    /// Every configured peer is down, and nothing is held. Never an error.
+    pub fn new(alloc: Global, config: &'a Config) -> Result<Desk<'a>, Memory>
+        ensures never { IsOk result }
+        ensures played { IfOk result (Played config.entry.now []) }
     {
-        Desk {
+        Ok(Desk {
             alloc,
             config,
             table: WatchedTable::new(alloc, config),
             sessions: BTreeMap::new(alloc),
-        }
+        })
     }
 
     /// The peer comes up with a new session. One that was up is lost first. After `Memory` the peer is lost.
@@ -234,7 +235,7 @@ fn standing(session: &Session<'_>) -> Standing
 {
     match session.closed() {
         Some(why) => Standing::Ended(why),
-        None => Standing::Up(session.state()),
+        None => Standing::Live(session.state()),
     }
 }
 

@@ -137,7 +137,10 @@ fn take_update<L: Ledger>(
     close(table, peer, TOO_MANY_ROUTES, steps)?;
     match session.cease(MAXIMUM_REACHED, replies) {
         Ok(()) => Ok(false),
-        Err(_) => Err(Memory),
+        Err(why) => {
+            prove!(wants_memory(why));
+            Err(Memory)
+        }
     }
 }
 

@@ -9,7 +9,7 @@ use Rattle.fs_line.proofs.Outputs.{goes_then, goes_stops, stops_more, goes_as, s
 use Rattle.fs_line.specs.Line.{line_of}
 use Rattle.fs_packet.specs.Fields.{Viewed}
 use Rattle.fs_rules.specs.Walk.{walk_of}
-use Rattle.fs_pcap.specs.declared.link.Link.{Link}
+use Rattle.fs_base.specs.declared.link.Link.{Link}
 use Rattle.fs_capture.specs.Capture.{Captured}
 use Rattle.fs_capture.specs.declared.fault.CaptureReason.{CaptureReason}
 use Rattle.fs_stages.specs.declared.refusal.Refusal.{Refusal}

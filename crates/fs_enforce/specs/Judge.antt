@@ -5,7 +5,7 @@ use Rattle.fs_base.specs.declared.prefix.Family.TheVariants.{V4, V6}
 use Rattle.fs_line.specs.Line.{line_of, unread_line_of}
 use Rattle.fs_packet.specs.Fields.{Viewed, unread_number}
 use Rattle.fs_packet.specs.Reading.{view_of}
-use Rattle.fs_pcap.specs.declared.link.Link.{Link}
+use Rattle.fs_base.specs.declared.link.Link.{Link}
 use Rattle.fs_packet.specs.declared.fields.Unread.{Unread}
 use Rattle.fs_packet.specs.declared.fields.Unread.TheVariants.{Foreign}
 use Rattle.fs_capture.specs.Capture.{Captured, Recorded, capture_of, packet_from}

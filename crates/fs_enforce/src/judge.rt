@@ -14,11 +14,11 @@ ghost use Rattle.fs_stages.specs.Refusal.{Answers, IsAtPacket, IsLate, answered}
 ghost use Rattle.fs_line.specs.Output.{Sends};
 
 use crate::matcher::Matcher;
-use fs_base::{Counted, Failed, Files, Memory, Sink};
+use fs_base::{Counted, Failed, Files, Link, Memory, Sink};
 use fs_capture::{Capture, CaptureFault, Caught};
 use fs_line::{Output, write_unread_line};
 use fs_packet::{Unread, View, read_view};
-use fs_pcap::{LONGEST_RECORD, Link};
+use fs_pcap::LONGEST_RECORD;
 use fs_rules::Table;
 use fs_stages::{CAPTURE_SLOT, Refusal, open};
 use std::alloc::Global;

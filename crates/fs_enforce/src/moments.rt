@@ -20,12 +20,12 @@ ghost use Rattle.fs_enforce.specs.Moments.{AnswersAt, EndsBefore, IsCaptureOpene
 use crate::judge::{next_packet, read_packet, refusal_of};
 use crate::names::InputNames;
 use crate::snapshot::Snapshot;
-use fs_base::{Config, Counted, Files, Memory, Sink};
+use fs_base::{Config, Counted, Files, Link, Memory, Sink};
 use fs_capture::Capture;
 use fs_desk::same_routes;
 use fs_line::{Output, write_unread_line};
 use fs_packet::View;
-use fs_pcap::{LONGEST_RECORD, Link};
+use fs_pcap::LONGEST_RECORD;
 use fs_stages::{CAPTURE_SLOT, Player, Refusal, open};
 use std::alloc::Global;
 

@@ -12,7 +12,7 @@ use Rattle.fs_gen.specs.Draws.{behind_pair, behind_pairs, pair_behind, pair_of}
 use Rattle.fs_gen.specs.Generator.{packet_of, packets, packets_of_seed, peer_of, step_of, steps, tape_of_seed, update_of}
 use Rattle.fs_gen.specs.declared.pair.Pair.{Pair}
 use Rattle.fs_packet.specs.Reading.{view_of}
-use Rattle.fs_pcap.specs.declared.link.Link.TheVariants.{Raw}
+use Rattle.fs_base.specs.declared.link.Link.TheVariants.{Raw}
 use Rattle.fs_base.specs.declared.prefix.Family.TheVariants.{V4}
 use Rattle.fs_rules.specs.Table.{Held, admitted}
 use Rattle.fs_tape.specs.Tape.{Item, received}

@@ -13,7 +13,7 @@ use Rattle.fs_line.specs.Walked.{actions_walked}
 use Rattle.fs_packet.specs.Fields.{Viewed}
 use Rattle.fs_packet.specs.Reading.{view_of}
 use Rattle.fs_packet.specs.declared.fields.Unread.{Unread}
-use Rattle.fs_pcap.specs.declared.link.Link.TheVariants.{Raw}
+use Rattle.fs_base.specs.declared.link.Link.TheVariants.{Raw}
 use Rattle.fs_rules.specs.Table.{admitted, Held}
 use Rattle.fs_rules.specs.Walk.{walk_of}
 use Rattle.fs_enforce.specs.Judge.{AdmittedRules, admitted_rules, rules_for}

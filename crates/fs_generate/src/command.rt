@@ -11,17 +11,16 @@ ghost use Rattle.fs_gen.specs.Configuration.{three_peers};
 ghost use Rattle.fs_gen.specs.Draws.{behind_pairs};
 ghost use Rattle.fs_gen.specs.Generator.{opening, packets, packets_of_seed, step_of, steps, tape_of_seed};
 ghost use Rattle.fs_packet.specs.Reading.{view_of};
-ghost use Rattle.fs_pcap.specs.declared.link.Link.TheVariants.{Raw};
+ghost use Rattle.fs_base.specs.declared.link.Link.TheVariants.{Raw};
 ghost use Rattle.fs_tape.specs.Tape.{Item};
 
 use crate::tally::{Fate, Tally};
-use fs_base::{Config, Family, Memory, Sink};
+use fs_base::{Config, Family, Link, Memory, Sink};
 use fs_desk::Desk;
 use fs_enforce::Matcher;
 use fs_gen::{Draws, keepalive, open_message, three_peers};
 use fs_line::{append, append_decimal};
 use fs_packet::{View, read_view};
-use fs_pcap::Link;
 use fs_rules::Table;
 use fs_stages::{Refusal, write_text};
 use itoa::Integer;
@@ -59,7 +58,7 @@ fn play_generated<'a>(
     ensures played { IfOk result (Played three_peers (tape_of_seed count)) }
     ensures draws { OnOk result (draws.new ≡ behind_pairs count count) }
 {
-    let mut desk = Desk::new(alloc, config);
+    let mut desk = Desk::new(alloc, config)?;
     let mut replies = Vec::new(alloc);
     open_session(&mut desk, 1, &mut replies)?;
     open_session(&mut desk, 2, &mut replies)?;

@@ -16,13 +16,13 @@ use Rattle.fs_speaker.specs.Line.{rest_step, step_at, step_by, stops, takes}
 use Rattle.fs_speaker.specs.Side.{announcer, at_fault, keepalive_to, lacks_of, no_farewell}
 use Rattle.fs_speaker.specs.Times.{taken_in}
 use Rattle.fs_speaker.specs.Transition.{Machine, faulted, not_taken, notified, opened, phase, taken, transition_at, transition_by}
-use Rattle.fs_speaker.specs.declared.side.Needs.{Needs}
-use Rattle.fs_speaker.specs.declared.state.Closed.{Closed}
-use Rattle.fs_speaker.specs.declared.state.Closed.TheVariants.{Fault, Notified, NoFamily, Memory}
-use Rattle.fs_speaker.specs.declared.state.State.{State}
-use Rattle.fs_speaker.specs.declared.state.State.TheVariants.{WaitOpen, WaitKeep, Established, Closed as IsClosed}
-use Rattle.fs_speaker.specs.declared.times.Times.{Times}
-use Rattle.fs_speaker.specs.declared.transition.Phase.{Phase}
+use Rattle.fs_session.specs.declared.side.Needs.{Needs}
+use Rattle.fs_speaker.specs.declared.Closed.{Closed}
+use Rattle.fs_speaker.specs.declared.Closed.TheVariants.{Fault, Notified, NoFamily, Memory}
+use Rattle.fs_speaker.specs.declared.State.{State}
+use Rattle.fs_speaker.specs.declared.State.TheVariants.{WaitOpen, WaitKeep, Established, Closed as IsClosed}
+use Rattle.fs_session.specs.declared.times.Times.{Times}
+use Rattle.fs_session.specs.declared.transition.Phase.{Phase}
 use Rattle.fs_speaker.proofs.Handing.{ran, runs_none, runs_step, runs_stops, runs_takes, runs_waits}
 use Rattle.fs_speaker.proofs.ReplySteps.{Shows, told}
 use Rattle.fs_receive.specs.Sender.{TookOpen}

@@ -13,9 +13,9 @@ use Rattle.fs_speaker.specs.Session.{Last}
 use Rattle.fs_speaker.specs.Side.{announcer, receiver}
 use Rattle.fs_speaker.specs.Times.{at_moment, tick_at}
 use Rattle.fs_speaker.specs.Transition.{Machine}
-use Rattle.fs_speaker.specs.declared.sending.Sending.{Sending}
-use Rattle.fs_speaker.specs.declared.state.Closed.TheVariants.{Fault}
-use Rattle.fs_speaker.specs.declared.times.Tick.TheVariants.{Expires}
+use Rattle.fs_speaker.specs.declared.Sending.{Sending}
+use Rattle.fs_speaker.specs.declared.Closed.TheVariants.{Fault}
+use Rattle.fs_session.specs.declared.times.Tick.TheVariants.{Expires}
 use Rattle.fs_talk.specs.Joined.{Heard, moments_of, of_first, of_second}
 use Rattle.fs_talk.specs.Round.{Pieces, moments_in, octets_in}
 use Rattle.fs_receive.specs.Hearer.{ClosesIn, ExpiresAt, HasClosed}

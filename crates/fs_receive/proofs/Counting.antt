@@ -12,8 +12,8 @@ use Rattle.fs_speaker.specs.Handed.{Point}
 use Rattle.fs_speaker.specs.Line.{Advanced, Lined, Step, closed_after, moved, step_by, stops, takes, waits}
 use Rattle.fs_speaker.specs.Session.{Last, at_start, still}
 use Rattle.fs_speaker.specs.Transition.{Machine}
-use Rattle.fs_speaker.specs.declared.state.Closed.{Closed}
-use Rattle.fs_speaker.specs.declared.transition.Phase.{Phase}
+use Rattle.fs_speaker.specs.declared.Closed.{Closed}
+use Rattle.fs_session.specs.declared.transition.Phase.{Phase}
 use Rattle.fs_receive.specs.Sender.{CountsBy, CountsOn, CountsTo, CountsUp, KeepsHand, KeepsSettled, is_settled}
 use Rattle.fs_receive.proofs.Settling.{alive_before, open_settled}
 

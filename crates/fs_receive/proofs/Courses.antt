@@ -5,11 +5,11 @@ use Rattle.fs_speaker.specs.End.{first_point, ticked, ticks}
 use Rattle.fs_speaker.specs.Handed.{Handed, Point, hand, handed, point, runs_by}
 use Rattle.fs_speaker.specs.Times.{at_moment, tick_at, written_now}
 use Rattle.fs_speaker.specs.Transition.{Machine}
-use Rattle.fs_speaker.specs.declared.state.Closed.{Closed}
-use Rattle.fs_speaker.specs.declared.state.Closed.TheVariants.{Fault}
-use Rattle.fs_speaker.specs.declared.times.Tick.{Tick}
-use Rattle.fs_speaker.specs.declared.times.Tick.TheVariants.{Quiet, Keeps, Expires}
-use Rattle.fs_speaker.specs.declared.times.Times.{Times}
+use Rattle.fs_speaker.specs.declared.Closed.{Closed}
+use Rattle.fs_speaker.specs.declared.Closed.TheVariants.{Fault}
+use Rattle.fs_session.specs.declared.times.Tick.{Tick}
+use Rattle.fs_session.specs.declared.times.Tick.TheVariants.{Quiet, Keeps, Expires}
+use Rattle.fs_session.specs.declared.times.Times.{Times}
 use Rattle.fs_ends.specs.Teller.{keepalives}
 use Rattle.fs_talk.specs.Round.{Pieces}
 use Rattle.fs_receive.specs.Course.{after, hears, course, course_from}

@@ -21,13 +21,13 @@ use Rattle.fs_speaker.specs.Session.{Last, at_start, closed, plays, rest_closes,
 use Rattle.fs_speaker.specs.Side.{receiver}
 use Rattle.fs_speaker.specs.Times.{at_moment, taken_in, tick_at}
 use Rattle.fs_speaker.specs.Transition.{Machine, closing_of, faulted, not_taken, notified, opened, phase, taken, transition_at, transition_by, updates}
-use Rattle.fs_speaker.specs.declared.state.Closed.{Closed}
-use Rattle.fs_speaker.specs.declared.state.Closed.TheVariants.{Fault, NoFamily}
-use Rattle.fs_speaker.specs.declared.state.State.{State}
-use Rattle.fs_speaker.specs.declared.state.State.TheVariants.{WaitOpen, WaitKeep, Established, Closed as IsClosed}
-use Rattle.fs_speaker.specs.declared.times.Tick.TheVariants.{Expires}
-use Rattle.fs_speaker.specs.declared.times.Times.{Times}
-use Rattle.fs_speaker.specs.declared.transition.Phase.{Phase}
+use Rattle.fs_speaker.specs.declared.Closed.{Closed}
+use Rattle.fs_speaker.specs.declared.Closed.TheVariants.{Fault, NoFamily}
+use Rattle.fs_speaker.specs.declared.State.{State}
+use Rattle.fs_speaker.specs.declared.State.TheVariants.{WaitOpen, WaitKeep, Established, Closed as IsClosed}
+use Rattle.fs_session.specs.declared.times.Tick.TheVariants.{Expires}
+use Rattle.fs_session.specs.declared.times.Times.{Times}
+use Rattle.fs_session.specs.declared.transition.Phase.{Phase}
 use Rattle.fs_speaker.proofs.Handing.{ran, runs_none, runs_step}
 use Rattle.fs_speaker.proofs.SessionSteps.{going, plays_none, plays_step}
 use Rattle.fs_desk.specs.Limit.{bounded_from, first_over, too_many}

@@ -12,12 +12,12 @@ use Rattle.fs_speaker.specs.Handed.{Handed, runs}
 use Rattle.fs_speaker.specs.Session.{Last, closed, plays, session_by, still}
 use Rattle.fs_speaker.specs.Times.{taken_in}
 use Rattle.fs_speaker.specs.Transition.{Machine, faulted, not_taken, notified, opened, phase, taken, transition_at, transition_by, updates}
-use Rattle.fs_speaker.specs.declared.state.Closed.{Closed}
-use Rattle.fs_speaker.specs.declared.state.Closed.TheVariants.{NoFamily}
-use Rattle.fs_speaker.specs.declared.state.State.{State}
-use Rattle.fs_speaker.specs.declared.state.State.TheVariants.{WaitOpen, WaitKeep, Established, Closed as IsClosed}
-use Rattle.fs_speaker.specs.declared.times.Times.{Times}
-use Rattle.fs_speaker.specs.declared.transition.Phase.{Phase}
+use Rattle.fs_speaker.specs.declared.Closed.{Closed}
+use Rattle.fs_speaker.specs.declared.Closed.TheVariants.{NoFamily}
+use Rattle.fs_speaker.specs.declared.State.{State}
+use Rattle.fs_speaker.specs.declared.State.TheVariants.{WaitOpen, WaitKeep, Established, Closed as IsClosed}
+use Rattle.fs_session.specs.declared.times.Times.{Times}
+use Rattle.fs_session.specs.declared.transition.Phase.{Phase}
 use Rattle.fs_speaker.proofs.Handing.{ran, runs_none, runs_step}
 use Rattle.fs_speaker.proofs.SessionSteps.{going, plays_none, plays_step}
 use Rattle.fs_speaker.proofs.Lasting.{last_update}

@@ -12,14 +12,14 @@ use Rattle.fs_speaker.specs.Handed.{Handed, Point, hand, handed, point, runs, ru
 use Rattle.fs_speaker.specs.Session.{at_start}
 use Rattle.fs_speaker.specs.Times.{at_moment, taken_in, tick_at, written_now}
 use Rattle.fs_speaker.specs.Transition.{Machine, faulted, transition_by}
-use Rattle.fs_speaker.specs.declared.state.Closed.{Closed}
-use Rattle.fs_speaker.specs.declared.state.Closed.TheVariants.{Fault}
-use Rattle.fs_speaker.specs.declared.state.State.{State}
-use Rattle.fs_speaker.specs.declared.state.State.TheVariants.{WaitOpen, WaitKeep, Established, Closed as IsClosed}
-use Rattle.fs_speaker.specs.declared.times.Tick.{Tick}
-use Rattle.fs_speaker.specs.declared.times.Tick.TheVariants.{Quiet, Keeps, Expires}
-use Rattle.fs_speaker.specs.declared.times.Times.{Times}
-use Rattle.fs_speaker.specs.declared.transition.Phase.{Phase}
+use Rattle.fs_speaker.specs.declared.Closed.{Closed}
+use Rattle.fs_speaker.specs.declared.Closed.TheVariants.{Fault}
+use Rattle.fs_speaker.specs.declared.State.{State}
+use Rattle.fs_speaker.specs.declared.State.TheVariants.{WaitOpen, WaitKeep, Established, Closed as IsClosed}
+use Rattle.fs_session.specs.declared.times.Tick.{Tick}
+use Rattle.fs_session.specs.declared.times.Tick.TheVariants.{Quiet, Keeps, Expires}
+use Rattle.fs_session.specs.declared.times.Times.{Times}
+use Rattle.fs_session.specs.declared.transition.Phase.{Phase}
 use Rattle.fs_speaker.proofs.Handing.{ran, runs_none, runs_step}
 use Rattle.fs_talk.specs.Round.{Pieces, moments_in}
 use Rattle.fs_receive.specs.Course.{after, hears, course, course_from}

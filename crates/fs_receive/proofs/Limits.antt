@@ -9,8 +9,8 @@ use Rattle.fs_base.specs.declared.config.Peer.{Peer}
 use Rattle.fs_attrs.specs.Update.{gives_prefixes, gives_rules}
 use Rattle.fs_attrs.specs.declared.update.Update.{Update}
 use Rattle.fs_speaker.specs.Sending.{update_sent}
-use Rattle.fs_speaker.specs.declared.sending.Sending.{Sending}
-use Rattle.fs_speaker.specs.declared.sending.Sent.{Sent}
+use Rattle.fs_speaker.specs.declared.Sending.{Sending}
+use Rattle.fs_speaker.specs.declared.Sent.{Sent}
 use Rattle.fs_desk.specs.Limit.{first_over, fronts, is_over, routes_left}
 use Rattle.fs_desk.specs.Updates.{flow_left, is_rule, path_left, same_prefix}
 use Rattle.fs_receive.specs.Pair.{MayHold}

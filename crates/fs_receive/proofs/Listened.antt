@@ -7,10 +7,10 @@ use Rattle.fs_base.specs.declared.config.Peer.{Peer}
 use Rattle.fs_speaker.specs.Announcer.{is_established}
 use Rattle.fs_speaker.specs.Session.{Last, closed, still}
 use Rattle.fs_speaker.specs.State.{standing_at}
-use Rattle.fs_speaker.specs.declared.state.Closed.{Closed}
-use Rattle.fs_speaker.specs.declared.state.Standing.{Standing}
-use Rattle.fs_speaker.specs.declared.state.Standing.TheVariants.{Down, Up, Ended}
-use Rattle.fs_speaker.specs.declared.transition.Phase.{Phase}
+use Rattle.fs_speaker.specs.declared.Closed.{Closed}
+use Rattle.fs_speaker.specs.declared.Standing.{Standing}
+use Rattle.fs_speaker.specs.declared.Standing.TheVariants.{Down, Live, Ended}
+use Rattle.fs_session.specs.declared.transition.Phase.{Phase}
 use Rattle.fs_desk.specs.Desk.{Desked, standing_at_desk}
 use Rattle.fs_desk.specs.Limit.{bounded_session}
 use Rattle.fs_desk.proofs.Standing.{desk_stands}
@@ -26,12 +26,12 @@ use Rattle.fs_receive.specs.Listen.{EndsSo, IsReceiving, Listens, ListensOver, L
 use Rattle.fs_receive.proofs.Receiving.{closed_of, ended_there, hearing_of, life_tape, stands_open}
 
 -- what the octets of an open session come to
-still_there : (last : Last) (phase : Phase) → standing_at last ≡ Up phase.state → (found : Phase) × ((last ≡ still found) × (found.state ≡ phase.state))
-still_there (still found) phase e = (found, (refl, ap (λ (at : Standing). elim at [ Up state ↦ state | Down ↦ found.state | Ended why ↦ found.state ]) e))
+still_there : (last : Last) (phase : Phase) → standing_at last ≡ Live phase.state → (found : Phase) × ((last ≡ still found) × (found.state ≡ phase.state))
+still_there (still found) phase e = (found, (refl, ap (λ (at : Standing). elim at [ Live state ↦ state | Down ↦ found.state | Ended why ↦ found.state ]) e))
 still_there (closed why) phase e = absurd cc
 
 module _ (desk : Desked) (peer : ℕ) (whose : Peer) (heard : Pieces) (said : List ℕ) (h : IsHearing desk peer whose heard said) where
-  stands_so : standing_at (bounded_session desk.config peer (octets_in heard)).1 ≡ Up h.session.phase.state
+  stands_so : standing_at (bounded_session desk.config peer (octets_in heard)).1 ≡ Live h.session.phase.state
   stands_so =
       sym (ap (λ (o : Option (List ℕ)). elim o [ None ↦ Down | Some octets ↦ standing_at (bounded_session desk.config peer octets).1 ]) (life_tape peer (octets_in heard)))
       ∙ sym (desk_stands desk.config (tape_of peer (octets_in heard)) desk peer h.played)

@@ -21,10 +21,10 @@ use Rattle.fs_speaker.specs.Sending.{body_by, text_sent, update_sent}
 use Rattle.fs_speaker.specs.Session.{Last, at_start, session_by, session_from, still, with_update}
 use Rattle.fs_speaker.specs.Side.{as_update, receiver, reply_to}
 use Rattle.fs_speaker.specs.Transition.{Machine, opened, phase, terms_of, transition_by, updates}
-use Rattle.fs_speaker.specs.declared.sending.Sending.{Sending}
-use Rattle.fs_speaker.specs.declared.sending.Sent.{Sent}
-use Rattle.fs_speaker.specs.declared.state.State.TheVariants.{WaitOpen, WaitKeep, Established}
-use Rattle.fs_speaker.specs.declared.transition.Phase.{Phase}
+use Rattle.fs_speaker.specs.declared.Sending.{Sending}
+use Rattle.fs_speaker.specs.declared.Sent.{Sent}
+use Rattle.fs_speaker.specs.declared.State.TheVariants.{WaitOpen, WaitKeep, Established}
+use Rattle.fs_session.specs.declared.transition.Phase.{Phase}
 use Rattle.fs_speaker.proofs.Arriving.{at_most, body_long, one_message, open_fits, update_fits}
 use Rattle.fs_speaker.proofs.SessionSteps.{machine_waits}
 use Rattle.fs_ends.specs.Teller.{keepalives}

@@ -13,14 +13,14 @@ use Rattle.fs_speaker.specs.Sending.{needs_of, text_sent, update_sent}
 use Rattle.fs_speaker.specs.Session.{Last, at_start, closed, session_from, still}
 use Rattle.fs_speaker.specs.Side.{announcer, receiver, reply_to}
 use Rattle.fs_speaker.specs.Transition.{Machine, phase}
-use Rattle.fs_speaker.specs.declared.sending.Sending.{Sending}
-use Rattle.fs_speaker.specs.declared.sending.Sent.{Sent}
-use Rattle.fs_speaker.specs.declared.state.Closed.{Closed}
-use Rattle.fs_speaker.specs.declared.state.Closed.TheVariants.{Fault}
-use Rattle.fs_speaker.specs.declared.state.Standing.TheVariants.{Ended}
-use Rattle.fs_speaker.specs.declared.state.State.{State}
-use Rattle.fs_speaker.specs.declared.state.State.TheVariants.{WaitOpen, WaitKeep, Established, Closed as IsClosed}
-use Rattle.fs_speaker.specs.declared.transition.Phase.{Phase}
+use Rattle.fs_speaker.specs.declared.Sending.{Sending}
+use Rattle.fs_speaker.specs.declared.Sent.{Sent}
+use Rattle.fs_speaker.specs.declared.Closed.{Closed}
+use Rattle.fs_speaker.specs.declared.Closed.TheVariants.{Fault}
+use Rattle.fs_speaker.specs.declared.Standing.TheVariants.{Ended}
+use Rattle.fs_speaker.specs.declared.State.{State}
+use Rattle.fs_speaker.specs.declared.State.TheVariants.{WaitOpen, WaitKeep, Established, Closed as IsClosed}
+use Rattle.fs_session.specs.declared.transition.Phase.{Phase}
 use Rattle.fs_message.specs.Stream.{first_message}
 use Rattle.fs_desk.specs.Desk.{Desked, standing_at_desk}
 use Rattle.fs_desk.specs.Limit.{bounded, bounded_from, bounded_session, first_over, too_many}

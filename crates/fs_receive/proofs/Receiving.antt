@@ -15,13 +15,13 @@ use Rattle.fs_speaker.specs.Side.{notice_text, receiver}
 use Rattle.fs_speaker.specs.State.{standing_by}
 use Rattle.fs_speaker.specs.Times.{at_moment, tick_at, times, written_now}
 use Rattle.fs_speaker.specs.Transition.{Machine}
-use Rattle.fs_speaker.specs.declared.state.Closed.{Closed}
-use Rattle.fs_speaker.specs.declared.state.Closed.TheVariants.{Fault}
-use Rattle.fs_speaker.specs.declared.state.Standing.{Standing}
-use Rattle.fs_speaker.specs.declared.state.Standing.TheVariants.{Down, Up, Ended}
-use Rattle.fs_speaker.specs.declared.times.Tick.{Tick}
-use Rattle.fs_speaker.specs.declared.times.Tick.TheVariants.{Quiet, Keeps, Expires}
-use Rattle.fs_speaker.specs.declared.times.Times.{Times}
+use Rattle.fs_speaker.specs.declared.Closed.{Closed}
+use Rattle.fs_speaker.specs.declared.Closed.TheVariants.{Fault}
+use Rattle.fs_speaker.specs.declared.Standing.{Standing}
+use Rattle.fs_speaker.specs.declared.Standing.TheVariants.{Down, Live as LiveIn, Ended}
+use Rattle.fs_session.specs.declared.times.Tick.{Tick}
+use Rattle.fs_session.specs.declared.times.Tick.TheVariants.{Quiet, Keeps, Expires}
+use Rattle.fs_session.specs.declared.times.Times.{Times}
 use Rattle.fs_tape.specs.Tape.{Item, came_up, received}
 use Rattle.fs_desk.specs.Desk.{Desked, HandsPeer, PeerIs, Played, Plays, RepliesBehind, Replied, StaysPlayed, TicksPeer, session_at, standing_at_desk}
 use Rattle.fs_desk.specs.HoldTimer.{TickMakes, TicksIn, TicksSession, with_times}
@@ -102,13 +102,13 @@ upright config peer whose octets desk q p =
     by (Some session) e k = record { session = session; session_is = e; up = k }
 
 -- how it stands with it
-pub stands_open : (desk : Desked) (peer : ℕ) (session : Live) → session_at peer desk.sessions ≡ Some session → session.closed ≡ None → standing_at_desk desk peer ≡ Up session.phase.state
+pub stands_open : (desk : Desked) (peer : ℕ) (session : Live) → session_at peer desk.sessions ≡ Some session → session.closed ≡ None → standing_at_desk desk peer ≡ LiveIn session.phase.state
 stands_open desk peer session there alive =
-    ap standing_by there ∙ ap (λ (c : Option Closed). elim c [ Some why ↦ Ended why | None ↦ Up session.phase.state ]) alive
+    ap standing_by there ∙ ap (λ (c : Option Closed). elim c [ Some why ↦ Ended why | None ↦ LiveIn session.phase.state ]) alive
 
 stands_ended : (desk : Desked) (peer : ℕ) (session : Live) (why : Closed) → session_at peer desk.sessions ≡ Some session → session.closed ≡ Some why → standing_at_desk desk peer ≡ Ended why
 stands_ended desk peer session why there shut =
-    ap standing_by there ∙ ap (λ (c : Option Closed). elim c [ Some w ↦ Ended w | None ↦ Up session.phase.state ]) shut
+    ap standing_by there ∙ ap (λ (c : Option Closed). elim c [ Some w ↦ Ended w | None ↦ LiveIn session.phase.state ]) shut
 
 never : true ≡ false → ⊥
 never e = cc
@@ -120,7 +120,7 @@ hearing_of desk peer whose heard said e s = by (standing_at_desk desk peer) e s
   where
     by : (at : Standing) → is_ended at ≡ false → StandsBy at desk peer whose heard said → IsHearing desk peer whose heard said
     by Down h k = k
-    by (Up state) h k = k
+    by (LiveIn state) h k = k
     by (Ended why) h k = absurd (never h)
 
 pub closed_of : (desk : Desked) (peer : ℕ) (whose : Peer) (heard : Pieces) (said : List ℕ) (why : Closed) → standing_at_desk desk peer ≡ Ended why
@@ -129,7 +129,7 @@ closed_of desk peer whose heard said why e s = subst (λ (at : Standing). Stands
 
 pub ended_there : (at : Standing) → is_ended at ≡ true → (why : Closed) × (at ≡ Ended why)
 ended_there Down e = absurd cc
-ended_there (Up state) e = absurd cc
+ended_there (LiveIn state) e = absurd cc
 ended_there (Ended why) e = (why, refl)
 
 -- nothing behind a closing counts
@@ -221,7 +221,7 @@ module _ (old new : Desked) (peer moment : ℕ) (whose : Peer) (heard : Pieces) 
   due_here e = ap (λ (p : Point). tick_at p.phase.hold (at_moment moment p.times)) (sym h.point_is) ∙ e
 
   module _ (now : Live) (there : session_at peer new.sessions ≡ Some now) (stays : StaysPlayed peer old new) where
-    still_played : standing_at_desk new peer ≡ Up h.session.phase.state → Played old.config (tape_of peer (octets_in heard)) new
+    still_played : standing_at_desk new peer ≡ LiveIn h.session.phase.state → Played old.config (tape_of peer (octets_in heard)) new
     still_played e =
         stays (e ∙ sym (stands_open old peer h.session h.session_is h.alive)) old.config (tape_of peer (octets_in heard)) h.played
 
@@ -235,7 +235,7 @@ module _ (old new : Desked) (peer moment : ℕ) (whose : Peer) (heard : Pieces) 
           session = now;
           session_is = there;
           alive = alive;
-          played = still_played (stands_open new peer now there alive ∙ ap (λ (l : Live). Up l.phase.state) e);
+          played = still_played (stands_open new peer now there alive ∙ ap (λ (l : Live). LiveIn l.phase.state) e);
           point_is = ap point_of e ∙ ap (λ (c : Option Closed). point (pending h.session.framing) h.session.phase later c) h.alive ∙ p ∙ sym (ap (λ (made : Handed). made.point) (ticked_here tick t));
           moved_is = ap (λ (l : Live). at_moment moment l.times) e ∙ m ∙ ap (λ (l : Live). l.times) (sym e);
           said_is = s ∙ ap (λ (made : Handed). out ++ made.text) (sym (ticked_here tick t));

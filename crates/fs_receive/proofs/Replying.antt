@@ -12,11 +12,11 @@ use Rattle.fs_speaker.specs.Handed.{Handed, Point, runs, runs_by, shuts}
 use Rattle.fs_speaker.specs.Side.{receiver, reply_to}
 use Rattle.fs_speaker.specs.Times.{taken_in}
 use Rattle.fs_speaker.specs.Transition.{Machine, faulted, transition_by}
-use Rattle.fs_speaker.specs.declared.state.Closed.{Closed}
-use Rattle.fs_speaker.specs.declared.state.State.{State}
-use Rattle.fs_speaker.specs.declared.state.State.TheVariants.{WaitOpen, WaitKeep, Established, Closed as IsClosed}
-use Rattle.fs_speaker.specs.declared.times.Times.{Times}
-use Rattle.fs_speaker.specs.declared.transition.Phase.{Phase}
+use Rattle.fs_speaker.specs.declared.Closed.{Closed}
+use Rattle.fs_speaker.specs.declared.State.{State}
+use Rattle.fs_speaker.specs.declared.State.TheVariants.{WaitOpen, WaitKeep, Established, Closed as IsClosed}
+use Rattle.fs_session.specs.declared.times.Times.{Times}
+use Rattle.fs_session.specs.declared.transition.Phase.{Phase}
 use Rattle.fs_speaker.proofs.Handing.{ran, runs_none, runs_step}
 use Rattle.fs_ends.specs.Teller.{keepalives}
 use Rattle.fs_talk.specs.Round.{Pieces}

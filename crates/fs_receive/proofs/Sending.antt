@@ -14,15 +14,15 @@ use Rattle.fs_speaker.specs.Sending.{needs_of, text_sent}
 use Rattle.fs_speaker.specs.Side.{notice_text}
 use Rattle.fs_speaker.specs.Times.{at_moment, tick_at, written_now}
 use Rattle.fs_speaker.specs.Transition.{Machine}
-use Rattle.fs_speaker.specs.declared.sending.Sent.{Sent}
-use Rattle.fs_speaker.specs.declared.state.Closed.{Closed}
-use Rattle.fs_speaker.specs.declared.state.Closed.TheVariants.{Fault}
-use Rattle.fs_speaker.specs.declared.state.State.{State}
-use Rattle.fs_speaker.specs.declared.state.State.TheVariants.{WaitOpen, WaitKeep, Established, Closed as IsClosed}
-use Rattle.fs_speaker.specs.declared.times.Tick.{Tick}
-use Rattle.fs_speaker.specs.declared.times.Tick.TheVariants.{Quiet, Keeps, Expires}
-use Rattle.fs_speaker.specs.declared.times.Times.{Times}
-use Rattle.fs_speaker.specs.declared.transition.Phase.{Phase}
+use Rattle.fs_speaker.specs.declared.Sent.{Sent}
+use Rattle.fs_speaker.specs.declared.Closed.{Closed}
+use Rattle.fs_speaker.specs.declared.Closed.TheVariants.{Fault}
+use Rattle.fs_speaker.specs.declared.State.{State}
+use Rattle.fs_speaker.specs.declared.State.TheVariants.{WaitOpen, WaitKeep, Established, Closed as IsClosed}
+use Rattle.fs_session.specs.declared.times.Tick.{Tick}
+use Rattle.fs_session.specs.declared.times.Tick.TheVariants.{Quiet, Keeps, Expires}
+use Rattle.fs_session.specs.declared.times.Times.{Times}
+use Rattle.fs_session.specs.declared.transition.Phase.{Phase}
 use Rattle.fs_ends.specs.Teller.{opening_of}
 use Rattle.fs_talk.specs.Round.{Hears, Pieces, Says, octets_in}
 use Rattle.fs_receive.specs.Sender.{Began, CountsTo, Speaks, SpeaksUpTo, TookOpen, part_text, rule_in, rules_in, text_in, woven}

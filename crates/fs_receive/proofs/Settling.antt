@@ -9,11 +9,11 @@ use Rattle.fs_speaker.specs.Announcer.{Announcing, FeedsEnd, StaysEnded, TicksEn
 use Rattle.fs_speaker.specs.Line.{Advanced, FeedsOpen, Lined, StaysOver, Step, closed_after, moved, state_in, step_by, stops, takes, waits}
 use Rattle.fs_speaker.specs.Sending.{needs_of}
 use Rattle.fs_speaker.specs.Transition.{Machine}
-use Rattle.fs_speaker.specs.declared.state.Closed.{Closed}
-use Rattle.fs_speaker.specs.declared.state.Closed.TheVariants.{Memory}
-use Rattle.fs_speaker.specs.declared.state.State.{State}
-use Rattle.fs_speaker.specs.declared.state.State.TheVariants.{WaitOpen, WaitKeep, Established, Closed as IsClosed}
-use Rattle.fs_speaker.specs.declared.transition.Phase.{Phase}
+use Rattle.fs_speaker.specs.declared.Closed.{Closed}
+use Rattle.fs_speaker.specs.declared.Closed.TheVariants.{Memory}
+use Rattle.fs_speaker.specs.declared.State.{State}
+use Rattle.fs_speaker.specs.declared.State.TheVariants.{WaitOpen, WaitKeep, Established, Closed as IsClosed}
+use Rattle.fs_session.specs.declared.transition.Phase.{Phase}
 use Rattle.fs_receive.specs.Sender.{KeepsSettled, is_settled}
 use Rattle.fs_receive.proofs.Answering.{awaits_open, step_goes}
 

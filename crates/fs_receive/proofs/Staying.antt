@@ -20,14 +20,14 @@ use Rattle.fs_speaker.specs.Session.{Last, at_start, closed, plays, rest_closes,
 use Rattle.fs_speaker.specs.Side.{announcer, receiver, reply_to}
 use Rattle.fs_speaker.specs.Times.{at_moment, taken_in, tick_at}
 use Rattle.fs_speaker.specs.Transition.{Machine, faulted, opened, phase, taken, transition_by}
-use Rattle.fs_speaker.specs.declared.sending.Sending.{Sending}
-use Rattle.fs_speaker.specs.declared.side.Needs.{Needs}
-use Rattle.fs_speaker.specs.declared.state.Closed.{Closed}
-use Rattle.fs_speaker.specs.declared.state.Closed.TheVariants.{NoFamily}
-use Rattle.fs_speaker.specs.declared.state.State.TheVariants.{WaitOpen, WaitKeep, Established}
-use Rattle.fs_speaker.specs.declared.times.Tick.TheVariants.{Expires}
-use Rattle.fs_speaker.specs.declared.times.Times.{Times}
-use Rattle.fs_speaker.specs.declared.transition.Phase.{Phase}
+use Rattle.fs_speaker.specs.declared.Sending.{Sending}
+use Rattle.fs_session.specs.declared.side.Needs.{Needs}
+use Rattle.fs_speaker.specs.declared.Closed.{Closed}
+use Rattle.fs_speaker.specs.declared.Closed.TheVariants.{NoFamily}
+use Rattle.fs_speaker.specs.declared.State.TheVariants.{WaitOpen, WaitKeep, Established}
+use Rattle.fs_session.specs.declared.times.Tick.TheVariants.{Expires}
+use Rattle.fs_session.specs.declared.times.Times.{Times}
+use Rattle.fs_session.specs.declared.transition.Phase.{Phase}
 use Rattle.fs_speaker.proofs.Handing.{ran, runs_none, runs_step}
 use Rattle.fs_speaker.proofs.SessionSteps.{going, machine_takes, machine_waits, plays_none, plays_step, session_rest, step_found}
 use Rattle.fs_ends.specs.HoldTime.{Spans, most}

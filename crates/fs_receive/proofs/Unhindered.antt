@@ -22,11 +22,11 @@ use Rattle.fs_speaker.specs.Session.{Last, at_start, closed, plays, session_by, 
 use Rattle.fs_speaker.specs.Side.{receiver, reply_at, reply_to}
 use Rattle.fs_speaker.specs.Times.{at_moment, tick_at}
 use Rattle.fs_speaker.specs.Transition.{Machine, faulted, phase, transition_by}
-use Rattle.fs_speaker.specs.declared.sending.Sending.{Sending}
-use Rattle.fs_speaker.specs.declared.sending.Sent.{Sent}
-use Rattle.fs_speaker.specs.declared.state.Closed.{Closed}
-use Rattle.fs_speaker.specs.declared.state.State.TheVariants.{WaitOpen, WaitKeep, Established}
-use Rattle.fs_speaker.specs.declared.transition.Phase.{Phase}
+use Rattle.fs_speaker.specs.declared.Sending.{Sending}
+use Rattle.fs_speaker.specs.declared.Sent.{Sent}
+use Rattle.fs_speaker.specs.declared.Closed.{Closed}
+use Rattle.fs_speaker.specs.declared.State.TheVariants.{WaitOpen, WaitKeep, Established}
+use Rattle.fs_session.specs.declared.transition.Phase.{Phase}
 use Rattle.fs_speaker.proofs.ReplySteps.{replies_rest, replies_takes, wrong_first}
 use Rattle.fs_speaker.proofs.SessionSteps.{going, machine_takes, plays_none, plays_step, session_rest, step_found}
 use Rattle.fs_desk.specs.Limit.{bounded, bounded_from, bounded_replies, bounded_replies_from, first_over, replies_to_limit, too_many}

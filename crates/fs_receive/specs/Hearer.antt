@@ -8,11 +8,11 @@ use Rattle.fs_speaker.specs.Handed.{Handed}
 use Rattle.fs_speaker.specs.Session.{Live}
 use Rattle.fs_speaker.specs.Side.{notice_text, receiver}
 use Rattle.fs_speaker.specs.Times.{at_moment, tick_at}
-use Rattle.fs_speaker.specs.declared.state.Closed.{Closed}
-use Rattle.fs_speaker.specs.declared.state.Closed.TheVariants.{Fault}
-use Rattle.fs_speaker.specs.declared.state.Standing.{Standing}
-use Rattle.fs_speaker.specs.declared.state.Standing.TheVariants.{Ended}
-use Rattle.fs_speaker.specs.declared.times.Tick.TheVariants.{Expires}
+use Rattle.fs_speaker.specs.declared.Closed.{Closed}
+use Rattle.fs_speaker.specs.declared.Closed.TheVariants.{Fault}
+use Rattle.fs_speaker.specs.declared.Standing.{Standing}
+use Rattle.fs_speaker.specs.declared.Standing.TheVariants.{Ended}
+use Rattle.fs_session.specs.declared.times.Tick.TheVariants.{Expires}
 use Rattle.fs_tape.specs.Tape.{Item, came_up, received}
 use Rattle.fs_desk.specs.Desk.{Desked, Played, session_at, standing_at_desk}
 use Rattle.fs_desk.specs.Limit.{bounded_replies}

@@ -8,9 +8,9 @@ use Rattle.fs_ends.specs.Opening.{opened_by}
 use Rattle.fs_speaker.specs.Session.{closed, session_by}
 use Rattle.fs_speaker.specs.Times.{at_moment, tick_at}
 use Rattle.fs_speaker.specs.Transition.{Machine}
-use Rattle.fs_speaker.specs.declared.state.Closed.TheVariants.{Fault}
-use Rattle.fs_speaker.specs.declared.times.Tick.TheVariants.{Expires}
-use Rattle.fs_speaker.specs.declared.transition.Phase.{Phase}
+use Rattle.fs_speaker.specs.declared.Closed.TheVariants.{Fault}
+use Rattle.fs_session.specs.declared.times.Tick.TheVariants.{Expires}
+use Rattle.fs_session.specs.declared.transition.Phase.{Phase}
 use Rattle.fs_talk.specs.Round.{Pieces, moments_in}
 use Rattle.fs_receive.specs.Course.{course}
 

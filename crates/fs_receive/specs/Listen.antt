@@ -7,10 +7,10 @@ use Rattle.fs_base.specs.declared.config.Config.{Config}
 use Rattle.fs_base.specs.declared.config.Peer.{Peer}
 use Rattle.fs_speaker.specs.Announcer.{is_established}
 use Rattle.fs_speaker.specs.Session.{still}
-use Rattle.fs_speaker.specs.declared.state.Closed.{Closed}
-use Rattle.fs_speaker.specs.declared.state.Standing.{Standing}
-use Rattle.fs_speaker.specs.declared.state.Standing.TheVariants.{Up, Ended as HasEnded}
-use Rattle.fs_speaker.specs.declared.transition.Phase.{Phase}
+use Rattle.fs_speaker.specs.declared.Closed.{Closed}
+use Rattle.fs_speaker.specs.declared.Standing.{Standing}
+use Rattle.fs_speaker.specs.declared.Standing.TheVariants.{Live, Ended as HasEnded}
+use Rattle.fs_session.specs.declared.transition.Phase.{Phase}
 use Rattle.fs_desk.specs.Desk.{Desked, Played}
 use Rattle.fs_desk.specs.Limit.{bounded_session}
 use Rattle.fs_ends.specs.declared.tell.Ending.{Ending}
@@ -22,7 +22,7 @@ use Rattle.fs_receive.specs.Hearer.{HasClosed, tape_of, course_of}
 
 -- the peer is up, and its session is established
 abbrev pub is_settled : Standing → Bool
-is_settled (Up state) = is_established state
+is_settled (Live state) = is_established state
 is_settled _ = false
 
 -- The octets close the session nowhere: the desk is what the tape of them leaves, and exactly this was said: what is

@@ -12,14 +12,14 @@ use Rattle.fs_speaker.specs.Line.{Lined}
 use Rattle.fs_speaker.specs.Session.{at_start, session_by, still}
 use Rattle.fs_speaker.specs.Side.{announcer, receiver}
 use Rattle.fs_speaker.specs.Transition.{Machine, phase}
-use Rattle.fs_speaker.specs.declared.sending.Sending.{Sending}
-use Rattle.fs_speaker.specs.declared.sending.Sent.{Sent}
-use Rattle.fs_speaker.specs.declared.state.Closed.{Closed}
-use Rattle.fs_speaker.specs.declared.state.Closed.TheVariants.{Fault}
-use Rattle.fs_speaker.specs.declared.state.Standing.{Standing}
-use Rattle.fs_speaker.specs.declared.state.Standing.TheVariants.{Ended as HasEnded}
-use Rattle.fs_speaker.specs.declared.state.State.TheVariants.{Established}
-use Rattle.fs_speaker.specs.declared.transition.Phase.{Phase}
+use Rattle.fs_speaker.specs.declared.Sending.{Sending}
+use Rattle.fs_speaker.specs.declared.Sent.{Sent}
+use Rattle.fs_speaker.specs.declared.Closed.{Closed}
+use Rattle.fs_speaker.specs.declared.Closed.TheVariants.{Fault}
+use Rattle.fs_speaker.specs.declared.Standing.{Standing}
+use Rattle.fs_speaker.specs.declared.Standing.TheVariants.{Ended as HasEnded}
+use Rattle.fs_speaker.specs.declared.State.TheVariants.{Established}
+use Rattle.fs_session.specs.declared.transition.Phase.{Phase}
 use Rattle.fs_speaker.specs.JointLaws.{CanArrive}
 use Rattle.fs_desk.specs.Desk.{Desked}
 use Rattle.fs_desk.specs.Limit.{bounded_session}

@@ -13,10 +13,10 @@ use Rattle.fs_speaker.specs.Line.{Lined, state_in}
 use Rattle.fs_speaker.specs.Sending.{text_sent}
 use Rattle.fs_speaker.specs.Session.{at_start, still}
 use Rattle.fs_speaker.specs.Transition.{Machine}
-use Rattle.fs_speaker.specs.declared.sending.Sent.{Sent}
-use Rattle.fs_speaker.specs.declared.state.State.{State}
-use Rattle.fs_speaker.specs.declared.state.State.TheVariants.{WaitOpen}
-use Rattle.fs_speaker.specs.declared.transition.Phase.{Phase}
+use Rattle.fs_speaker.specs.declared.Sent.{Sent}
+use Rattle.fs_speaker.specs.declared.State.{State}
+use Rattle.fs_speaker.specs.declared.State.TheVariants.{WaitOpen}
+use Rattle.fs_session.specs.declared.transition.Phase.{Phase}
 use Rattle.fs_ends.specs.Opening.{opened_by}
 use Rattle.fs_ends.specs.Teller.{opening_of}
 use Rattle.fs_talk.specs.Round.{Pieces, octets_in}

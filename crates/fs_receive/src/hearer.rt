@@ -36,7 +36,7 @@ impl<'a> Hearer<'a> {
             × (Receives made.desk made.peer made.count [] [])))) }
         ensures open { IfOk result (λ made. is_ended (standing_at_desk made.desk made.peer) ≡ false) }
     {
-        let mut desk = Desk::new(alloc, config);
+        let mut desk = Desk::new(alloc, config)?;
         desk.up(peer)?;
         Ok(Hearer {
             desk,
@@ -114,7 +114,7 @@ fn is_ended(standing: Standing) -> bool
 {
     match standing {
         Standing::Ended(_) => true,
-        Standing::Up(_) | Standing::Down => false,
+        Standing::Live(_) | Standing::Down => false,
     }
 }
 
@@ -123,7 +123,7 @@ pub(crate) fn is_settled(standing: Standing) -> bool
     ensures { result ≡ is_settled standing }
 {
     match standing {
-        Standing::Up(state) => is_established(state),
+        Standing::Live(state) => is_established(state),
         Standing::Ended(_) | Standing::Down => false,
     }
 }

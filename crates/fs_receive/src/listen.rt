@@ -6,7 +6,7 @@ ghost use Rattle.fs_base.specs.Outside.{Rose};
 ghost use Rattle.fs_desk.specs.Desk.{standing_at_desk};
 ghost use Rattle.fs_receive.specs.Hearer.{Receives};
 ghost use Rattle.fs_receive.specs.Listen.{EndsHearing, ListensOver, is_settled};
-ghost use Rattle.fs_speaker.specs.declared.state.Closed.{Closed};
+ghost use Rattle.fs_speaker.specs.declared.Closed.{Closed};
 
 use crate::hearer::{Hearer, is_settled};
 use fs_base::{Clock, Wire};
@@ -57,7 +57,7 @@ pub(crate) fn closing_of(standing: Standing) -> Ending
 {
     match standing {
         Standing::Ended(why) => Ending::Closed(why),
-        Standing::Up(_) | Standing::Down => Ending::Ended,
+        Standing::Live(_) | Standing::Down => Ending::Ended,
     }
 }
 

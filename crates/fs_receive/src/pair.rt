@@ -11,7 +11,7 @@ ghost use Rattle.fs_desk.specs.Desk.{standing_at_desk};
 ghost use Rattle.fs_ends.specs.Tell.{begins_with};
 ghost use Rattle.fs_receive.specs.Hearer.{Receives, is_ended};
 ghost use Rattle.fs_receive.specs.Pair.{EndsTalk, PairsOver};
-ghost use Rattle.fs_speaker.specs.declared.sending.Sending.{Sending};
+ghost use Rattle.fs_speaker.specs.declared.Sending.{Sending};
 
 use crate::hearer::Hearer;
 use crate::listen::closing_of;

@@ -6,7 +6,7 @@ use Rattle.fs_base.specs.declared.config.Config.{Config}
 use Rattle.fs_base.specs.declared.config.Peer.{Peer}
 use Rattle.fs_speaker.specs.Announcer.{CanSend}
 use Rattle.fs_speaker.specs.Sending.{is_sending, sender_of}
-use Rattle.fs_speaker.specs.declared.sending.Sending.{Sending}
+use Rattle.fs_speaker.specs.declared.Sending.{Sending}
 use Rattle.fs_conf.specs.Address.{ipv4_of}
 use Rattle.fs_conf.specs.Config.{kept_if, written}
 use Rattle.fs_conf.specs.Document.{document_of}

@@ -3,7 +3,7 @@ use Rattle.std.specs.Prelude.{ℕ, List, Option, nat_le, length, if◌then◌els
 use Rattle.fs_base.specs.declared.config.Config.{Config}
 use Rattle.fs_conf.specs.Config.{config_of}
 use Rattle.fs_conf.specs.Rules.{rules_of}
-use Rattle.fs_speaker.specs.declared.sending.Sending.{Sending}
+use Rattle.fs_speaker.specs.declared.Sending.{Sending}
 use Rattle.fs_stages.specs.declared.refusal.Refusal.TheVariants.{Outside, Config as Refused, Limit}
 use Rattle.fs_stages.specs.Refusal.{Stage, Found, Stopped, and_then, or_stop}
 

@@ -79,8 +79,8 @@ pub fn play_whole<'a, F: Files>(
         (Rose (F.faults files.old) (F.faults files.new))) }
 {
     let mut tape = open_tape(files, name, limit)?;
-    let version = tape.version();
-    let mut desk = Desk::new(alloc, config);
+    let version = tape.format();
+    let mut desk = Desk::new(alloc, config)?;
     let mut buffer = vec![in alloc; 0u8; LONGEST_PAYLOAD]?;
     match play_items(alloc, files, &mut tape, config, &mut desk, &mut buffer) {
         Ok(()) => Ok(WholeTape { desk, version }),

@@ -74,9 +74,10 @@ impl<'a> Player<'a> {
         let mut tape = open_tape(files, name, limit)?;
         let mut buffer = vec![in alloc; 0u8; LONGEST_PAYLOAD]?;
         let ahead = next_item(files, &mut tape, config, &mut buffer)?;
+        let desk = Desk::new(alloc, config)?;
         Ok(Player {
             tape,
-            desk: Desk::new(alloc, config),
+            desk,
             ahead,
             buffer,
             replies: Vec::new(alloc),

@@ -5,7 +5,7 @@ use Rattle.fs_base.specs.declared.config.Peer.{Peer}
 use Rattle.fs_conf.specs.Config.{config_of}
 use Rattle.fs_conf.specs.Rules.{rules_of}
 use Rattle.fs_speaker.specs.Sending.{sender_of}
-use Rattle.fs_speaker.specs.declared.sending.Sending.{Sending}
+use Rattle.fs_speaker.specs.declared.Sending.{Sending}
 use Rattle.fs_speaker.specs.JointLaws.{CanArrive}
 use Rattle.fs_stages.specs.Load.{Names, config_stage, fetch, rules_stage, sending_stage}
 use Rattle.fs_stages.specs.Refusal.{Found, Stage, Stopped, and_then, or_stop}

@@ -1,7 +1,7 @@
 -- What accepted files say to announce can arrive at the other end.
 use Rattle.std.proofs.Common.{◌≡◌, true}
 use Rattle.fs_base.proofs.Lists.{each_both}
-use Rattle.fs_speaker.specs.declared.sending.Sent.{Sent}
+use Rattle.fs_speaker.specs.declared.Sent.{Sent}
 use Rattle.fs_speaker.specs.Laws.{ComesBack, IsSent}
 use Rattle.fs_speaker.specs.Sending.{is_lowest, is_short}
 use Rattle.fs_speaker.specs.Transition.{terms_of}

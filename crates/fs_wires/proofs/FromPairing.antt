@@ -5,7 +5,7 @@ use Rattle.fs_base.specs.Config.{peer_of}
 use Rattle.fs_base.specs.Wire.{EndCloses, Told, WireEnds, joined_end}
 use Rattle.fs_base.specs.declared.config.Config.{Config}
 use Rattle.fs_base.specs.declared.config.Peer.{Peer}
-use Rattle.fs_speaker.specs.declared.sending.Sending.{Sending}
+use Rattle.fs_speaker.specs.declared.Sending.{Sending}
 use Rattle.fs_speaker.specs.Announcer.{Announcing, CanSend, announcing}
 use Rattle.fs_speaker.specs.Line.{fresh}
 use Rattle.fs_speaker.specs.Sending.{sender_of}

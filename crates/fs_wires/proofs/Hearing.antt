@@ -7,8 +7,8 @@ use Rattle.fs_base.specs.Wire.{EndCloses, Told, WireEnds}
 use Rattle.fs_base.specs.declared.config.Config.{Config}
 use Rattle.fs_base.specs.declared.config.Peer.{Peer}
 use Rattle.fs_attrs.specs.declared.update.Update.{Update}
-use Rattle.fs_speaker.specs.declared.state.Closed.{Closed}
-use Rattle.fs_speaker.specs.declared.transition.Phase.{Phase}
+use Rattle.fs_speaker.specs.declared.Closed.{Closed}
+use Rattle.fs_session.specs.declared.transition.Phase.{Phase}
 use Rattle.fs_speaker.specs.Announcer.{is_established}
 use Rattle.fs_speaker.specs.Sending.{sender_of}
 use Rattle.fs_speaker.specs.Session.{Last, at_start, closed, still}

@@ -9,10 +9,10 @@ use Rattle.fs_conf.proofs.Accepted.{accepts_numbers}
 use Rattle.fs_conf.proofs.Found.{found_each}
 use Rattle.fs_speaker.specs.Session.{Last, at_start, closed, session_from, still}
 use Rattle.fs_speaker.specs.Sending.{is_lowest, sender_of}
-use Rattle.fs_speaker.specs.declared.sending.Sending.{Sending}
-use Rattle.fs_speaker.specs.declared.state.Closed.{Closed}
-use Rattle.fs_speaker.specs.declared.state.Closed.TheVariants.{Fault}
-use Rattle.fs_speaker.specs.declared.transition.Phase.{Phase}
+use Rattle.fs_speaker.specs.declared.Sending.{Sending}
+use Rattle.fs_speaker.specs.declared.Closed.{Closed}
+use Rattle.fs_speaker.specs.declared.Closed.TheVariants.{Fault}
+use Rattle.fs_session.specs.declared.transition.Phase.{Phase}
 use Rattle.fs_speaker.specs.JointLaws.{CanArrive, IsUnnamed}
 use Rattle.fs_speaker.proofs.Lowest.{sender_told}
 use Rattle.fs_speaker.proofs.Unnamed.{refused}

@@ -6,7 +6,7 @@ use Rattle.fs_base.specs.Sink.{Grew}
 use Rattle.fs_base.specs.Wire.{Told, WireEnds}
 use Rattle.fs_base.specs.declared.config.Config.{Config}
 use Rattle.fs_base.specs.declared.config.Peer.{Peer}
-use Rattle.fs_speaker.specs.declared.sending.Sending.{Sending}
+use Rattle.fs_speaker.specs.declared.Sending.{Sending}
 use Rattle.fs_speaker.specs.JointLaws.{CanArrive}
 use Rattle.fs_ends.specs.declared.tell.Ending.{Ending}
 use Rattle.fs_ends.specs.declared.tell.Ending.TheVariants.{Done}

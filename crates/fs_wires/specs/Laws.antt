@@ -6,7 +6,7 @@ use Rattle.fs_conf.specs.Config.{config_of}
 use Rattle.fs_conf.specs.Rules.{rules_of}
 use Rattle.fs_speaker.specs.JointLaws.{CanArrive}
 use Rattle.fs_speaker.specs.Sending.{sender_of}
-use Rattle.fs_speaker.specs.declared.sending.Sending.{Sending}
+use Rattle.fs_speaker.specs.declared.Sending.{Sending}
 
 -- under an identifier that isn't 0.0.0.0, to the peer that rules are sent for
 abbrev pub AcceptedArrive : Type 0

@@ -1,7 +1,7 @@
 -- The lines of the commands that speak over a wire.
 use Rattle.std.specs.Prelude.{ℕ, List, [], ◌++◌, codes, decimal}
-use Rattle.fs_speaker.specs.declared.state.Closed.{Closed}
-use Rattle.fs_speaker.specs.declared.state.Closed.TheVariants.{Fault, Notified, NoFamily, Memory}
+use Rattle.fs_speaker.specs.declared.Closed.{Closed}
+use Rattle.fs_speaker.specs.declared.Closed.TheVariants.{Fault, Notified, NoFamily, Memory}
 use Rattle.fs_listing.specs.Peers.{codes_text}
 
 -- How a session closed: by a fault, by the other end's NOTIFICATION, or since the other end's OPEN lacks the family of a

@@ -5,12 +5,12 @@ use Rattle.fs_base.specs.Sink.{Grew}
 use Rattle.fs_base.specs.Wire.{Told, WireEnds, opened_end}
 use Rattle.fs_base.specs.declared.config.Config.{Config}
 use Rattle.fs_base.specs.declared.config.Peer.{Peer}
-use Rattle.fs_speaker.specs.declared.state.Closed.TheVariants.{Fault}
+use Rattle.fs_speaker.specs.declared.Closed.TheVariants.{Fault}
 use Rattle.fs_speaker.specs.Announcer.{is_established}
 use Rattle.fs_speaker.specs.Sending.{sender_of}
 use Rattle.fs_speaker.specs.Session.{Last, closed, still}
 use Rattle.fs_speaker.specs.Times.{at_moment, tick_at}
-use Rattle.fs_speaker.specs.declared.times.Tick.TheVariants.{Expires}
+use Rattle.fs_session.specs.declared.times.Tick.TheVariants.{Expires}
 use Rattle.fs_desk.specs.Desk.{Desked}
 use Rattle.fs_desk.specs.Limit.{bounded_from}
 use Rattle.fs_talk.specs.Round.{Pieces, moments_in, octets_in}

@@ -5,7 +5,7 @@ use Rattle.fs_base.specs.Sink.{Grew}
 use Rattle.fs_base.specs.Wire.{WireEnds}
 use Rattle.fs_base.specs.declared.config.Config.{Config}
 use Rattle.fs_base.specs.declared.config.Peer.{Peer}
-use Rattle.fs_speaker.specs.declared.transition.Phase.{Phase}
+use Rattle.fs_session.specs.declared.transition.Phase.{Phase}
 use Rattle.fs_speaker.specs.Announcer.{is_established}
 use Rattle.fs_speaker.specs.Session.{still}
 use Rattle.fs_desk.specs.Limit.{bounded_from}

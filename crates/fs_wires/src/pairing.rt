@@ -9,7 +9,7 @@ ghost use Rattle.fs_desk.specs.Desk.{standing_at_desk};
 ghost use Rattle.fs_receive.specs.Hearer.{Receives, is_ended};
 ghost use Rattle.fs_speaker.specs.Announcer.{CanSend};
 ghost use Rattle.fs_speaker.specs.Sending.{sender_of};
-ghost use Rattle.fs_speaker.specs.declared.sending.Sending.{Sending};
+ghost use Rattle.fs_speaker.specs.declared.Sending.{Sending};
 ghost use Rattle.fs_stages.specs.Refusal.{answered};
 ghost use Rattle.fs_wires.specs.Announcing.{IsBrokenOff};
 ghost use Rattle.fs_wires.specs.Conversation.{conversation};

@@ -2,7 +2,7 @@ use Rattle.std.proofs.Common.{◌≡◌, ◌∙◌, ◌+◌, ap, sym, arith, ref
 use Rattle.fs_gen.specs.Draws.{behind_pair, behind_pairs, pair_behind}
 use Rattle.fs_gen.specs.Generator.{packet_of}
 use Rattle.fs_packet.specs.Reading.{view_of}
-use Rattle.fs_pcap.specs.declared.link.Link.TheVariants.{Raw}
+use Rattle.fs_base.specs.declared.link.Link.TheVariants.{Raw}
 use Rattle.fs_generate.specs.Command.{is_dropped, is_passed}
 use Rattle.fs_generate.proofs.Generating.{dropped_after, dropped_none, few_more, packet_is, packet_state, passed_after, passed_none}
 use Rattle.fs_generate.proofs.command.count_packets.Goals as goal

@@ -8,10 +8,10 @@ use Rattle.fs_stages.proofs.play.play_whole.Goals as goal
 
 pub returns-in-Ok-clause-played : goal.returns-in-Ok-clause-played
 returns-in-Ok-clause-played g c = λ told.
-    played_whole c.args.config.now c.args.limit (g.F.Files.holds c.args.files.now) c.args.name.now (g.F.Files.left c.open_tape.new.files 1) c.in_ok-tape.tape c.version-version.result
-    c.new-desk.result c.play_items.new.desk (c.in_ok-tape.ensures.opened told) c.version-version.ensures
-    (subst (λ (n : ℕ). PlaysOn c.args.config.now c.in_ok-tape.tape.version (coming c.args.config.now c.in_ok-tape.tape (g.F.Files.left c.open_tape.new.files n)) c.new-desk.result c.play_items.new.desk)
-    c.in_ok-tape.ensures.state.slot_is (c.in-Ok.ensures.played told)) c.new-desk.ensures
+    played_whole c.args.config.now c.args.limit (g.F.Files.holds c.args.files.now) c.args.name.now (g.F.Files.left c.open_tape.new.files 1) c.in_ok-tape.tape c.format-version.result
+    c.in_ok-desk.desk c.play_items.new.desk (c.in_ok-tape.ensures.opened told) c.format-version.ensures
+    (subst (λ (n : ℕ). PlaysOn c.args.config.now c.in_ok-tape.tape.version (coming c.args.config.now c.in_ok-tape.tape (g.F.Files.left c.open_tape.new.files n)) c.in_ok-desk.desk c.play_items.new.desk)
+    c.in_ok-tape.ensures.state.slot_is (c.in-Ok.ensures.played told)) c.in_ok-desk.ensures.played
 
 pub returns-clause-played : goal.returns-clause-played
 returns-clause-played g c = λ told.

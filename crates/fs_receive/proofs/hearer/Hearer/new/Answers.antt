@@ -6,14 +6,14 @@ use Rattle.fs_receive.proofs.hearer.Hearer.new.Goals as goal
 
 pub returns-clause-fresh : goal.returns-clause-fresh
 returns-clause-fresh c =
-    let config_is = c.up.ensures.config ∙ c.new-desk.ensures.config_is in (
+    let config_is = c.up.ensures.config ∙ c.in_ok-desk.ensures.played.config_is in (
       config_is,
       (
         refl,
         (
           refl,
-          receives_none c.args.config.now c.args.peer c.up.new.self c.args.peer 0 c.requires config_is (c.in_ok-up.ensures.played c.args.config.now _ c.new-desk.ensures)
-              (c.in_ok-up.ensures.begun ∙ ap (λ (d : Config). begins d c.args.peer) c.new-desk.ensures.config_is) refl refl,
+          receives_none c.args.config.now c.args.peer c.up.new.self c.args.peer 0 c.requires config_is (c.in_ok-up.ensures.played c.args.config.now _ c.in_ok-desk.ensures.played)
+              (c.in_ok-up.ensures.begun ∙ ap (λ (d : Config). begins d c.args.peer) c.in_ok-desk.ensures.played.config_is) refl refl,
         ),
       ),
     )
@@ -21,4 +21,4 @@ returns-clause-fresh c =
 pub returns-clause-open : goal.returns-clause-open
 returns-clause-open c =
     open_new c.args.config.now c.args.peer c.up.new.self c.requires
-    (c.in_ok-up.ensures.begun ∙ ap (λ (d : Config). begins d c.args.peer) c.new-desk.ensures.config_is)
+    (c.in_ok-up.ensures.begun ∙ ap (λ (d : Config). begins d c.args.peer) c.in_ok-desk.ensures.played.config_is)

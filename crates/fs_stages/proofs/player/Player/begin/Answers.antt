@@ -21,17 +21,17 @@ pub invariant_of-result : goal.invariant_of-result
 invariant_of-result g c = (
   let room : longest_payload ≤ length c.next_item.new.buffer = omega (arith, c.in_ok-buffer.ensures.len) in
       subst (λ (l : List ℕ). longest_payload ≤ length l) (sym (with_items_is c.in_ok-buffer.buffer c.next_item.new.buffer (omega arith))) room,
-  ready_ahead c.in_ok-ahead.ahead c.next_item.new.tape c.in_ok-tape.tape.place c.args.config.now c.new.result.config c.new.ensures.config_is
+  ready_ahead c.in_ok-ahead.ahead c.next_item.new.tape c.in_ok-tape.tape.place c.args.config.now c.in_ok-desk.desk.config c.in_ok-desk.ensures.played.config_is
       c.in_ok-ahead.ensures.known c.in_ok-ahead.ensures.open c.in_ok-ahead.ensures.grows,
 )
 
 pub returns-clause-begun : goal.returns-clause-begun
 returns-clause-begun g c = λ told items e v.
-    subst (λ (l : List ℕ). Stands items 0 (player_with c.next_item.new.tape c.in_ok-ahead.ahead l c.new.result) (g.F.Files.left c.next_item.new.files 1))
+    subst (λ (l : List ℕ). Stands items 0 (player_with c.next_item.new.tape c.in_ok-ahead.ahead l c.in_ok-desk.desk) (g.F.Files.left c.next_item.new.files 1))
     (sym (with_items_is c.in_ok-buffer.buffer c.next_item.new.buffer (omega arith)))
     (stands_begun c.args.config.now c.args.limit (g.F.Files.holds c.args.files.now) c.args.name.now (g.F.Files.left c.open_tape.new.files) (g.F.Files.left c.next_item.new.files) items
-    c.in_ok-tape.tape c.next_item.new.tape c.in_ok-ahead.ahead c.next_item.new.buffer c.new.result
-    e v (c.in_ok-tape.ensures.opened told) c.in_ok-tape.ensures.state.slot_is (c.in_ok-ahead.ensures.gives told) c.in_ok-ahead.ensures.version c.new.ensures)
+    c.in_ok-tape.tape c.next_item.new.tape c.in_ok-ahead.ahead c.next_item.new.buffer c.in_ok-desk.desk
+    e v (c.in_ok-tape.ensures.opened told) c.in_ok-tape.ensures.state.slot_is (c.in_ok-ahead.ensures.gives told) c.in_ok-ahead.ensures.version c.in_ok-desk.ensures.played)
 
 pub returns-clause-others : goal.returns-clause-others
 returns-clause-others g c =
