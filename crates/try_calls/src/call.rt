@@ -1,25 +1,28 @@
 //! A line of the table: the words that a call is given, and what is told of its answer.
 
-use fs_base::{Family, Prefix};
+use fs_base::{Config, Family, Prefix};
 use fs_nlri::{Rule, decode, encode};
 use std::alloc::Global;
 use std::fmt;
 use std::str::FromStr;
 
-/// The words that are still to be read, and what is told so far. That a word says nothing where it stands, or that
-/// memory was refused for what is told, is remembered, so that neither reading nor telling answers a `Result`.
+/// What a call is given, a configuration and the words that are still to be read, and what is told so far. That a word
+/// says nothing where it stands, or that memory was refused for what is told, is remembered, so that neither reading
+/// nor telling answers a `Result`.
 #[derive(Drop)]
 pub struct Call<'a> {
     pub alloc: Global,
+    pub config: &'a Config,
     rest: &'a str,
     told: String,
     faulty: bool,
 }
 
 impl<'a> Call<'a> {
-    pub fn new(alloc: Global, words: &'a str) -> Call<'a> {
+    pub fn new(alloc: Global, config: &'a Config, words: &'a str) -> Call<'a> {
         Call {
             alloc,
+            config,
             rest: words,
             told: String::new(alloc),
             faulty: false,
@@ -38,6 +41,11 @@ impl<'a> Call<'a> {
         let (word, rest) = self.rest.split_once(' ').unwrap_or((self.rest, ""));
         self.rest = rest;
         word
+    }
+
+    /// All that is left.
+    pub fn rest(&mut self) -> &'a str {
+        std::mem::replace(&mut self.rest, "")
     }
 
     /// A number in decimal digits; 0 where none is there.
@@ -71,6 +79,15 @@ impl<'a> Call<'a> {
         match format!(in self.alloc; "{value:?}") {
             Ok(text) => self.tell(text.as_str()),
             Err(_) => self.faulty = true,
+        }
+    }
+
+    /// Tells whether two values are the same, and both where they aren't.
+    pub fn compare<T: PartialEq + fmt::Debug>(&mut self, one: &T, other: &T) {
+        if one == other {
+            self.tell("same");
+        } else {
+            self.show(&(one, other));
         }
     }
 
@@ -117,17 +134,23 @@ impl<'a> Call<'a> {
     pub fn rule(&mut self) -> Option<Rule> {
         let family = self.family();
         let decoded = decode(self.alloc, family, &self.octets());
-        Some(self.good(decoded)?.0)
+        let (rule, _) = self.good(decoded)?;
+        Some(rule)
     }
 
     /// `N`, and so many rules.
-    pub fn rules(&mut self) -> Option<Vec<Rule>> {
+    pub fn rules(&mut self) -> Vec<Rule> {
         let mut rules = Vec::new(self.alloc);
         for _ in 0..self.number::<u64>() {
-            let rule = self.rule()?;
+            self.push_rule(&mut rules);
+        }
+        rules
+    }
+
+    fn push_rule(&mut self, rules: &mut Vec<Rule>) {
+        if let Some(rule) = self.rule() {
             self.good(rules.push(rule));
         }
-        Some(rules)
     }
 
     /// The rule's canonical NLRI.

@@ -6,71 +6,63 @@ ghost use Rattle.fs_compile.specs.Matcher.{StandsForLists, admitted_in};
 ghost use Rattle.fs_compile.specs.Reach.{number_of, reaches};
 
 use crate::call::Call;
-use crate::counter::put_rule;
-use fs_base::{Address, Config, Family, Memory, Path, Prefix, Segments, Steps};
+use crate::counter::put_all;
+use crate::surface::fields;
+use fs_base::{Address, Family, Memory, Prefix, Steps};
 use fs_compile::{Compiled, Fast, Spans};
 use fs_nlri::Rule;
 use fs_ops::NumList;
 use fs_order::Ranked;
-use fs_packet::{Link, View, matches, view};
+use fs_packet::{Link, Unread, View, matches, view};
 use fs_rules::{Admitted, Table};
 use fs_shadow::confirm;
-use std::alloc::Global;
 use std::sync::ledger::Ledger;
-
-/// The path of a peer's own routes, with which each of its rules is valid.
-pub fn empty_path(alloc: Global) -> Path {
-    Path {
-        origin: 0,
-        segments: Segments::new(Vec::new(alloc)),
-        local_pref: 100,
-        originator: None,
-        external: false,
-    }
-}
-
-/// Peer 1's routes of the rules.
-fn table<'a, L: Ledger>(
-    call: &mut Call<'_>,
-    config: &'a Config,
-    steps: &mut Steps<L>,
-) -> Option<Table<'a>> {
-    let rules = call.rules()?;
-    let mut table = Table::new(call.alloc, config);
-    for rule in &rules {
-        call.good(put_rule(call.alloc, rule, &mut table, steps));
-    }
-    Some(table)
-}
 
 /// Of peer 1's rules how many are admitted and held; whether a rule was held that is withdrawn; and the same behind the
 /// loss of the peer.
-pub fn held<L: Ledger>(call: &mut Call<'_>, config: &Config, steps: &mut Steps<L>) -> Option<()> {
+pub fn held<L: Ledger>(call: &mut Call<'_>, steps: &mut Steps<L>) -> Option<()> {
     let rule = Ranked { rule: call.rule()? };
-    let mut table = table(call, config, steps)?;
+    let mut table = Table::new(call.alloc, call.config);
+    put_all(call, &mut table, steps);
     call.show(&(table.count(Family::V4), table.held_by(1)));
-    withdraw_and_lose(call, &rule, &mut table, steps);
+    call.show(&table.withdraw_flow(1, &rule, steps));
+    table.lose(1, steps);
+    call.show(&(table.count(Family::V4), table.held_by(1)));
     Some(())
 }
 
-fn withdraw_and_lose<L: Ledger>(
-    call: &mut Call<'_>,
-    rule: &Ranked,
-    table: &mut Table<'_>,
-    steps: &mut Steps<L>,
-) {
-    call.show(&table.withdraw_flow(1, rule, steps));
-    table.lose(1, steps);
-    call.show(&(table.count(Family::V4), table.held_by(1)));
-}
-
-pub fn first<L: Ledger>(call: &mut Call<'_>, config: &Config, steps: &mut Steps<L>) -> Option<()> {
+/// What is asked of a packet: its first matches among rules, whether it matches one, or its fields.
+pub fn packet<L: Ledger>(call: &mut Call<'_>, asked: &str, steps: &mut Steps<L>) -> Option<()> {
     let link = Link::of(call.number())?;
     let octets = call.octets();
-    let view = view(link, &octets).ok()?;
-    let table = table(call, config, steps)?;
+    let seen: Result<View<'_>, Unread> = view(link, &octets);
+    match seen {
+        Ok(view) => ask(call, asked, &view, steps),
+        Err(unread) => {
+            call.show(&unread);
+            None
+        }
+    }
+}
+
+fn ask<L: Ledger>(
+    call: &mut Call<'_>,
+    asked: &str,
+    view: &View<'_>,
+    steps: &mut Steps<L>,
+) -> Option<()> {
+    match asked {
+        "first" => first(call, view, steps),
+        "test" => test(call, view, steps),
+        _ => fields(call, view),
+    }
+}
+
+fn first<L: Ledger>(call: &mut Call<'_>, view: &View<'_>, steps: &mut Steps<L>) -> Option<()> {
+    let mut table = Table::new(call.alloc, call.config);
+    put_all(call, &mut table, steps);
     if let Ok(compiled) = Compiled::build(call.alloc, &table) {
-        meet(call, &table, &compiled, &view, steps);
+        meet(call, &table, &compiled, view, steps);
     }
     Some(())
 }
@@ -146,23 +138,25 @@ fn number(address: Address) -> u128
     }
 }
 
-pub fn test<L: Ledger>(call: &mut Call<'_>, steps: &mut Steps<L>) -> Option<()> {
-    let link = Link::of(call.number())?;
-    let octets = call.octets();
-    let view = view(link, &octets).ok()?;
+fn test<L: Ledger>(call: &mut Call<'_>, view: &View<'_>, steps: &mut Steps<L>) -> Option<()> {
     let rule = call.rule()?;
     let fast = call.good(Fast::of(call.alloc, &rule))?;
-    call.show(&(fast.test(&view, steps), matches(&rule, &view)));
+    call.show(&(fast.test(view, steps), matches(&rule, view)));
     Some(())
 }
 
 pub fn spans(call: &mut Call<'_>) -> Option<()> {
-    let (one, _) = NumList::decode(call.alloc, &call.octets()).ok()?;
-    let (other, _) = NumList::decode(call.alloc, &call.octets()).ok()?;
-    let one = Spans::of(call.alloc, &one).ok()?;
-    let other = Spans::of(call.alloc, &other).ok()?;
+    let one = numbers(call)?;
+    let other = numbers(call)?;
     call.show(&one.within(&other));
     Some(())
+}
+
+/// The numbers of a list.
+fn numbers(call: &mut Call<'_>) -> Option<Spans> {
+    let list = NumList::decode(call.alloc, &call.octets());
+    let (list, _) = call.good(list)?;
+    call.good(Spans::of(call.alloc, &list))
 }
 
 pub fn confirmed(call: &mut Call<'_>) -> Option<()> {

@@ -5,20 +5,19 @@ ghost use Rattle.fs_rules.specs.Table.{has_related};
 ghost use Rattle.try_calls.specs.Counter.{HasOneMore, IsCountedBy, loss_of};
 
 use crate::call::Call;
-use crate::compiled::empty_path;
 use fs_actions::Actions;
-use fs_base::{Config, Memory, Prefix, Steps};
+use fs_base::{Memory, Path, Prefix, Segments, Steps};
 use fs_nlri::Rule;
 use fs_rules::Table;
 use fs_validate::destination;
 use std::alloc::Global;
 use std::sync::ledger::Ledger;
 
-pub fn bounds<L: Ledger>(call: &mut Call<'_>, config: &Config, steps: &mut Steps<L>) -> Option<()> {
+pub fn bounds<L: Ledger>(call: &mut Call<'_>, steps: &mut Steps<L>) -> Option<()> {
     let first = call.prefix()?;
     let second = call.prefix()?;
-    let rules = call.rules()?;
-    let mut table = Table::new(call.alloc, config);
+    let rules = call.rules();
+    let mut table = Table::new(call.alloc, call.config);
     let most = count(call.alloc, &mut table, &rules, first, second, steps);
     if let Some(most) = call.good(most) {
         call.show(&most);
@@ -48,8 +47,37 @@ fn count<L: Ledger>(
     Ok((destinations.len(), first, second, lost))
 }
 
+/// The path of a peer's own routes, with which each of its rules is valid.
+pub fn empty_path(alloc: Global) -> Path {
+    Path {
+        origin: 0,
+        segments: Segments::new(Vec::new(alloc)),
+        local_pref: 100,
+        originator: None,
+        external: false,
+    }
+}
+
+/// `RULES`: puts peer 1's routes of them into the table.
+pub fn put_all<L: Ledger>(call: &mut Call<'_>, table: &mut Table<'_>, steps: &mut Steps<L>) {
+    for _ in 0..call.number::<u64>() {
+        put_next(call, table, steps);
+    }
+}
+
+fn put_next<L: Ledger>(
+    call: &mut Call<'_>,
+    table: &mut Table<'_>,
+    steps: &mut Steps<L>,
+) -> Option<()> {
+    let rule = call.rule()?;
+    let put = put_rule(call.alloc, &rule, table, steps);
+    call.good(put)?;
+    Some(())
+}
+
 /// Puts peer 1's route of a rule, and answers the rule's destination. At most one step.
-pub fn put_rule<L: Ledger>(
+fn put_rule<L: Ledger>(
     alloc: Global,
     rule: &Rule,
     table: &mut Table<'_>,

@@ -7,15 +7,16 @@ mod compiled;
 mod counter;
 mod grammar;
 mod sessions;
+mod surface;
 mod updates;
 
 ghost use Rattle.std.specs.Prelude.{◌≡◌, ◌<◌};
 
 use call::Call;
-use compiled::{confirmed, first, held, spans, test};
+use compiled::{confirmed, held, spans};
 use counter::bounds;
 use fs_base::{Config, Steps};
-use fs_conf::read_config;
+use fs_conf::{ConfFault, read_config};
 use sessions::Ends;
 use std::marker::Brand;
 use std::process::ExitCode;
@@ -24,25 +25,10 @@ use std::{env, fs, io};
 use updates::{message, update, withdraw};
 
 /// Makes the call of a line. The calls of `session` and of `joint` follow one another.
-fn answer<L: Ledger>(
-    call: &mut Call<'_>,
-    config: &Config,
-    ends: &mut Ends<'_>,
-    steps: &mut Steps<L>,
-) -> Option<()> {
+fn answer<L: Ledger>(call: &mut Call<'_>, ends: &mut Ends<'_>, steps: &mut Steps<L>) -> Option<()> {
     match call.word() {
-        "numbers" => grammar::numbers(call),
-        "masks" => grammar::masks(call),
-        "rule" => grammar::rule(call),
-        "feed" => grammar::feed(call),
-        "long" => grammar::long(call),
-        "order" => grammar::order(call),
-        "prefixes" => grammar::prefixes(call),
-        "actions" => grammar::actions(call),
-        "bounds" => bounds(call, config, steps),
-        "held" => held(call, config, steps),
-        "first" => first(call, config, steps),
-        "test" => test(call, steps),
+        "bounds" => bounds(call, steps),
+        "held" => held(call, steps),
         "spans" => spans(call),
         "confirm" => confirmed(call),
         "message" => message(call),
@@ -50,7 +36,7 @@ fn answer<L: Ledger>(
         "withdraw" => withdraw(call),
         "session" => ends.ask_session(call),
         "joint" => ends.ask_joint(call),
-        _ => None,
+        word => surface::answer(call, word, steps),
     }
 }
 
@@ -62,14 +48,14 @@ fn differs<L: Ledger>(
     config: &Config,
     ends: &mut Ends<'_>,
     steps: &mut Steps<L>,
-) -> io::Result<bool> {
-    let mut call = Call::new(rt.alloc(), words);
-    let _ = answer(&mut call, config, ends, steps);
+) -> bool {
+    let mut call = Call::new(rt.alloc(), config, words);
+    let _ = answer(&mut call, ends, steps);
     let came = call.told();
     if came != due {
-        println!(rt; "{words}: expected {due}, came {came}")?;
+        let _ = println!(rt; "{words}: expected {due}, came {came}");
     }
-    Ok(came != due)
+    came != due
 }
 
 /// Follows the table, and prints how many calls it has, and how many of them differ.
@@ -83,10 +69,9 @@ fn follow<L: Ledger>(
     let (mut calls, mut differ) = (0u64, 0u64);
     for line in text.lines() {
         if let (false, Some((words, due))) = (line.starts_with('#'), line.split_once(" = ")) {
+            let is_other = differs(rt, words, due, config, ends, steps);
             calls = calls.saturating_add(1);
-            if differs(rt, words, due, config, ends, steps)? {
-                differ = differ.saturating_add(1);
-            }
+            differ = differ.saturating_add(is_other.into());
         }
     }
     println!(rt; "{calls} calls, {differ} differ")
@@ -98,6 +83,18 @@ fn file(rt: &HostRuntime, number: usize) -> Option<String> {
     fs::read_to_string(rt, name.as_str()).ok()
 }
 
+/// Follows the table beside ends of its own.
+fn begin<L: Ledger>(
+    rt: &HostRuntime,
+    text: &str,
+    config: &Config,
+    steps: &mut Steps<L>,
+) -> Option<()> {
+    config.peer(1)?;
+    let mut ends = Ends::new(rt.alloc(), config);
+    follow(rt, text, config, &mut ends, steps).ok()
+}
+
 fn run<L: Ledger>(blank: Blank, rt: &HostRuntime) -> Option<()>
     requires name { blank.name ≡ L.name }
     requires parts { blank.parts ≡ L.parts }
@@ -106,10 +103,11 @@ fn run<L: Ledger>(blank: Blank, rt: &HostRuntime) -> Option<()>
     let mut steps = Steps::<L>::new(blank);
     let text = file(rt, 1)?;
     let peers = file(rt, 2)?;
-    let config = read_config(rt.alloc(), peers.as_bytes()).ok()?;
-    config.peer(1)?;
-    let mut ends = Ends::new(rt.alloc(), &config);
-    follow(rt, text.as_str(), &config, &mut ends, &mut steps).ok()
+    let config: Result<Config, ConfFault> = read_config(rt.alloc(), peers.as_bytes());
+    match config {
+        Ok(config) => begin(rt, text.as_str(), &config, &mut steps),
+        Err(_) => None,
+    }
 }
 
 fn main(rt: HostRuntime) -> ExitCode {
