@@ -122,7 +122,8 @@ fn input(call: &mut Call<'_>, asked: &str) -> Option<()> {
     let octets = call.octets();
     call.good(files.add("input", octets));
     call.good(files.open_file(0, "input"));
-    if let Some(mut into) = call.good(vec![in call.alloc; 0u8; LONGEST]) {
+    let into = vec![in call.alloc; 0u8; LONGEST];
+    if let Ok(mut into) = into {
         match asked {
             "tape" => tape(call, &mut files, &mut into),
             "capture" => capture(call, &mut files, &mut into),
