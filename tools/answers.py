@@ -72,20 +72,20 @@ ANSWERS = [
         "`Failed` of the outside",
         "only where the count of faults rose in the call",
         [
-            "fs_base Files::open_file cause",
-            "fs_base Files::read cause",
-            "fs_base Sink::write cause",
-            "fs_base Wire::open_end cause",
-            "fs_base Wire::read cause",
-            "fs_base Wire::write cause",
-            "fs_base Wire::close cause",
+            "fs_outside Files::open_file cause",
+            "fs_outside Files::read cause",
+            "fs_outside Sink::write cause",
+            "fs_outside Wire::open_end cause",
+            "fs_outside Wire::read cause",
+            "fs_outside Wire::write cause",
+            "fs_outside Wire::close cause",
         ],
     ),
     (
         "`open_file` answers false",
         "exactly where no file has the name",
         [
-            "fs_base Files::open_file found",
+            "fs_outside Files::open_file found",
         ],
     ),
     (
@@ -128,8 +128,8 @@ ANSWERS = [
         "the first of them, with its place",
         [
             "fs_ops NumList::decode found fault",
-            "fs_ops NumList::decode_within found fault",
-            "fs_ops MaskList::decode found fault",
+            "fs_ops NumList::decode_within found fault barred",
+            "fs_ops MaskList::decode found fault barred",
         ],
     ),
     (
@@ -247,8 +247,8 @@ ANSWERS = [
         "no rule of that number, none that matches",
         "exactly where the number is past the last, or no rule from there on matches",
         [
-            "fs_rules Table::rule result",
-            "fs_rules Table::held_flow result",
+            "fs_rules Table::rule rule",
+            "fs_rules Table::held_flow held",
             "fs_rules Table::walk result",
             "fs_compile Compiled::first first",
             "fs_compile Compiled::next next",
@@ -259,7 +259,7 @@ ANSWERS = [
         "no link; `Unread`",
         "exactly the links that aren't listed; exactly the first test that fails",
         [
-            "fs_pcap Link::of result",
+            "fs_base Link::of result",
             "fs_packet view result",
         ],
     ),
@@ -363,7 +363,7 @@ ANSWERS = [
         "a step of both ends",
         "after want of memory each later one answers so, and changes nothing",
         [
-            "fs_speaker Joint::step again spent",
+            "fs_speaker Joint::step again err",
             "fs_speaker Joint::taken result",
             "fs_speaker Joint::closed result",
         ],
@@ -432,7 +432,6 @@ STANDS = [
             "fs_unicast Unicast::put err",
             "fs_unicast Unicast::put_telling err",
             "fs_actions Actions::push err",
-            "fs_speaker EventList::push err",
         ],
     ),
     (
@@ -531,7 +530,7 @@ STANDS = [
         "a step of both ends wants memory",
         "each later one answers so, and changes nothing",
         [
-            "fs_speaker Joint::step spent again",
+            "fs_speaker Joint::step err again",
         ],
     ),
     (
