@@ -185,7 +185,7 @@ def dripping(end):
 
 
 def tears_down(end):
-    """Takes the session up, and resets the connection before it has read all."""
+    """Takes the session up, and resets the connection while more is to come than the system keeps on the way."""
     end.sendall(REPLY)
     heard(end, 200)
     reset(end)
@@ -239,7 +239,7 @@ CASES = {
     "nobody listens": case_refused,
     "3,000 rules to a peer that is slow": lambda: announced(slowly, 3000) == (("sent 3000\n", 0), 3000),
     "a peer that sends on behind the end": lambda: announced(dripping) == (("sent 1\n", 0), 1),
-    "a reset among the rules": lambda: announced(tears_down, 3000)[0] == ("", 1),
+    "a reset among the rules": lambda: announced(tears_down, 60000)[0] == ("", 1),
     "a reset in answer to the OPEN": lambda: announced(reset)[0] == ("session ended\n", 8),
     "a wrong AS": lambda: announced(refuses(65000))[0] == ("session notified 2/2\n", 8),
     "a wrong AS at both ends": lambda: announced(refuses(65009))[0] == ("session 2/2\n", 8),
