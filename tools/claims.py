@@ -1,10 +1,14 @@
 #!/usr/bin/env python3
 """Lists the answers of tools/answers.py with the clauses that say when they come, what stands after a refusal, and
 every public call of the libraries with the clauses of its contract, the edits that the prover must refuse in its body,
-and whether the program of single calls makes it, or else whether a run of the whole program leads to it. Prints the
-tables of docs/CLAIMS.md; the text around them is kept there by hand. A clause or a call that isn't there ends it.
+and whether the program of single calls makes it, or else whether a run of the whole program leads to it. A clause or a
+call that isn't there ends it. .ci/run tries that; nobody keeps the tables.
 
-Usage: tools/claims.py > tables, or tools/claims.py --check docs/CLAIMS.md
+Usage: tools/claims.py > claims.md
+
+Clauses: the names of what a call ensures; `result` is a clause without a name. Edits in its body: wrong bodies that
+change a line of this very function. Called by: names are read, and not types. So a method of a common name counts only
+where the name before the dot tells of its type. *No program*: neither program makes the call or may lead to it.
 """
 
 import os
@@ -22,7 +26,6 @@ RUNS = ["welgutan", "try_runs"]
 TRAITS = "Speaker", "Files", "Sink", "Wire", "Clock", "Ord"
 # methods that types of the standard library have too
 COMMON = "as_slice", "begin", "copy", "is_empty", "len", "new", "next", "of", "push", "read", "remove", "take"
-BEGIN = "<!-- tables by tools/claims.py -->"
 
 
 def crates():
@@ -334,7 +337,6 @@ def tables():
     ways["try_runs"] = reached(RUNS, graph)
     out = []
     ensured = {}
-    total = 0
     for crate in libraries():
         names = exported(crate)
         rows = []
@@ -363,7 +365,6 @@ def tables():
                 ensured[crate, shown] = function["clauses"] or [] if trait is None else None
         if not rows:
             continue
-        total += len(rows)
         out.append(f"### `{crate}`\n")
         out.append("| call | clauses | edits in its body | called by |\n|---|---|---|---|")
         for shown, path, clauses, inside, seen in rows:
@@ -374,7 +375,7 @@ def tables():
         hidden = [name for name in rest if name not in listed]
         if hidden:
             out.append("In functions below these calls: " + ", ".join(f"`{n}`" for n in hidden) + ".\n")
-    return total, "\n".join([*answers(ensured), "## The calls\n", *out])
+    return "\n".join([*answers(ensured), "## The calls\n", *out])
 
 
 def promises():
@@ -422,15 +423,7 @@ def answers(ensured):
 
 
 def main():
-    total, text = tables()
-    if len(sys.argv) == 3 and sys.argv[1] == "--check":
-        with open(sys.argv[2]) as page:
-            kept = page.read().split(BEGIN)[1]
-        if kept.strip() != text.strip():
-            sys.exit("docs/CLAIMS.md isn't what tools/claims.py prints")
-        print(f"{total} calls, as they stand in the sources")
-        return
-    print(text)
+    print(tables())
 
 
 if __name__ == "__main__":
