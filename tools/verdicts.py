@@ -6,10 +6,13 @@
     tools/verdicts.py --join LINES ..
 
 The report tells packets and octets (those on the wire, with the link's header) by verdict, by rule, by the reason of
-what wasn't read, and of each second. A packet's second is that of its moment, the greatest time so far. With --list
+what wasn't read, and of each second. A verdict is `discarded`; of what passes `limited` with a rate, else `redirected`,
+else `marked`, else `passed`; or `unread`. A packet counts for each rule that it matched. A packet's second is that of its moment, the greatest time so far. With --list
 the rules have the words that `list` wrote; over a tape of version 2 a rule's number is that of the packet's moment, so
 give no listing there unless the rules stay. --split writes the packets of each verdict as a capture of their own.
---plot draws the packets a second through gnuplot. --json writes a line of JSON for each packet, at once, for jq.
+--plot draws the packets a second through gnuplot. --json writes a line of JSON for each packet, at once, for jq: its
+`number`, `time` in seconds (null of a simple packet), `octets`, `captured`, `source` and `destination` where they could
+be read, `verdict`, `rules`, and what else the line has.
 CAPTURE and LINES may be /dev/stdin.
 
 Both files are read in a stream, and what is kept doesn't grow with the packets. A line that isn't of `enforce`, a
