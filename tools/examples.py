@@ -1,0 +1,59 @@
+#!/usr/bin/env python3
+"""examples.py PROGRAM: runs each command that README and the documents show with `$`, and compares what they say it prints.
+
+An example is an indented line that begins with `$ `, and the lines below it up to the next such line or the block's end.
+Each is run by bash in a copy of crates/welgutan/data, where `welgutan` is PROGRAM.
+"""
+import pathlib
+import shutil
+import subprocess
+import sys
+import tempfile
+
+ROOT = pathlib.Path(__file__).resolve().parent.parent
+DATA = ROOT / "crates" / "welgutan" / "data"
+INDENT = "    "
+
+
+def examples(text):
+    """The commands of a document, each with the lines that it is to print."""
+    found = None
+    for line in [*text.split("\n"), ""]:
+        if line.startswith(INDENT + "$ "):
+            if found:
+                yield found
+            found = (line[len(INDENT) + 2 :], [])
+        elif found and line.startswith(INDENT):
+            found[1].append(line[len(INDENT) :])
+        elif found:
+            yield found
+            found = None
+
+
+def printed(command, folder, path):
+    ran = subprocess.run(["bash", "-c", command], cwd=folder, env={"PATH": path}, capture_output=True, text=True, timeout=60)
+    return ran.stdout.splitlines() + ran.stderr.splitlines()
+
+
+def main():
+    program = pathlib.Path(sys.argv[1]).resolve()
+    count = wrong = 0
+    with tempfile.TemporaryDirectory() as made:
+        folder = pathlib.Path(made)
+        (folder / "bin").mkdir()
+        (folder / "bin" / "welgutan").symlink_to(program)
+        shutil.copytree(DATA, folder / "data")
+        path = f"{folder / 'bin'}:{ROOT / 'tools'}:/usr/bin:/bin"
+        for page in [ROOT / "README.md", *sorted((ROOT / "docs").glob("*.md"))]:
+            for command, lines in examples(page.read_text()):
+                count += 1
+                found = printed(command, folder / "data", path)
+                if found != lines:
+                    wrong += 1
+                    print(f"{page.name}: $ {command}\nis said to print", *lines, "and prints", *found, sep="\n")
+    print(f"examples: {count} tried, {wrong} differ")
+    sys.exit(1 if wrong or not count else 0)
+
+
+if __name__ == "__main__":
+    main()
