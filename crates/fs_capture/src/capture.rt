@@ -1,5 +1,5 @@
 //! A capture, read packet by packet.
-ghost use Rattle.std.specs.Prelude.{◌≡◌, ◌≤◌, ◌++◌, [], None, IsSome, IsTrue, IfOk, IfSome, length};
+ghost use Rattle.std.specs.Prelude.{◌≡◌, ◌≤◌, ◌++◌, None, IsSome, IsTrue, IfOk, IfSome, length};
 ghost use Rattle.std.specs.Result.{IsErrOf};
 ghost use Rattle.fs_base.specs.Files.{OnlySlot};
 ghost use Rattle.fs_base.specs.Outside.{Rose};
@@ -37,7 +37,8 @@ impl Model for Capture {
 
 impl Capture {
     /// Begins to read, up to the limit. A capture whose first four octets are `0a 0d 0d 0a` is of the pcapng format,
-    /// every other of the libpcap format; these octets are put back, and read again by what reads the format.
+    /// every other of the libpcap format; these octets are put back, and read again by what reads the format. Octets of
+    /// its front may have been put back before.
     ///
     /// # Errors
     ///
@@ -45,7 +46,6 @@ impl Capture {
     /// ends within it; `Limit` where the limit is reached in it; `Read` where the files failed.
     pub fn begin<F: Files>(mut counted: Counted, files: &mut F) -> Result<Capture, CaptureFault>
         requires start { counted.taken ≡ 0 }
-        requires none { counted.back ≡ [] }
         ensures later { F.faults files.old ≤ F.faults files.new }
         ensures read { IsErrOf result Read → Rose (F.faults files.old) (F.faults files.new) }
         ensures slot { IfOk result (λ capture. capture.slot ≡ counted.slot) }
@@ -56,7 +56,7 @@ impl Capture {
 
         ensures begins { IsTrue F.tells
             → Begins
-            (captured_in counted.limit (F.left files.old counted.slot))
+            (captured_in counted.limit (counted.back ++ F.left files.old counted.slot))
             (λ capture. coming capture (F.left files.new counted.slot))
             result }
         ensures opened { F.opened files.new ≡ F.opened files.old }

@@ -1,5 +1,5 @@
 -- How the answer of `convert` follows from what its parts did.
-use Rattle.std.proofs.Common.{◌≡◌, ◌⊎◌, inl, inr, ◌≤◌, ◌∙◌, ℕ, List, [], Option, Some, None, Result, Ok, Err, refl, ap, sym, subst}
+use Rattle.std.proofs.Common.{◌≡◌, ◌⊎◌, inl, inr, ◌≤◌, ◌∙◌, ◌++◌, ℕ, List, [], Option, Some, None, Result, Ok, Err, refl, ap, sym, subst}
 use Rattle.std.specs.Result.{IfErr, IsErrAnd, MatchResult}
 use Rattle.fs_base.specs.Outside.{Rose}
 use Rattle.fs_base.specs.Sink.{Grew, GrewPart}
@@ -50,15 +50,15 @@ module _ (limit : ℕ) (holds : Names) (config dump : List ℕ) (accepted : Conf
 
 -- what it is to answer and write, where the dump was opened
 pub read_verdict : (config accepted : Config) (limit : ℕ) (names : Names) (name : List ℕ) (left : ℕ → List ℕ) (dump : DumpState) (lives : List Life)
-    → config ≡ accepted → names name ≡ Some (left 1) → IsBegun 1 limit dump → ((peer : ℕ) → lives_of lives peer ≡ None)
+    → config ≡ accepted → names name ≡ Some (left 1) → IsBegun 1 limit [] dump → ((peer : ℕ) → lives_of lives peer ≡ None)
     → verdict_of accepted limit (dump_stage names name)
     ≡ verdict_with (status_at (coming config dump (left dump.slot)).1) (tape_text Two (items_from config (lives_of lives) (coming config dump (left dump.slot)).0))
 read_verdict config accepted limit names name left dump lives same h b down =
     ap (λ (c : Option (List ℕ)). verdict_of accepted limit (or_stop Outside c)) h
     ∙ (λ i. verdict_with
-    (status_at (heard_to_come (sym same i).peers (sym b.limit_is i) (sym b.place_is i) (sym b.moment_is i) (left (sym b.slot_is i))).1)
+    (status_at (heard_to_come (sym same i).peers (sym b.limit_is i) (sym b.place_is i) (sym b.moment_is i) (sym b.back_is i ++ left (sym b.slot_is i))).1)
     (tape_text Two (items_from (sym same i) (sym lives_are i)
-    (heard_to_come (sym same i).peers (sym b.limit_is i) (sym b.place_is i) (sym b.moment_is i) (left (sym b.slot_is i))).0)))
+    (heard_to_come (sym same i).peers (sym b.limit_is i) (sym b.place_is i) (sym b.moment_is i) (sym b.back_is i ++ left (sym b.slot_is i))).0)))
   where
     lives_are : lives_of lives ≡ no_lives
     lives_are i peer = down peer i

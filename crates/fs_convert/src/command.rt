@@ -1,6 +1,6 @@
 //! The command `convert`.
 
-ghost use Rattle.std.specs.Prelude.{◌≡◌, ◌≢◌, ◌≤◌, ◌⊎◌, None, IsTrue, IfErr, IfOk, IfSome, MatchResult, length};
+ghost use Rattle.std.specs.Prelude.{◌≡◌, ◌≢◌, ◌≤◌, ◌⊎◌, [], None, IsTrue, IfErr, IfOk, IfSome, MatchResult, length};
 ghost use Rattle.fs_base.specs.Files.{OnlySlot};
 ghost use Rattle.fs_base.specs.Happened.{happened};
 ghost use Rattle.fs_base.specs.Outside.{Rose};
@@ -62,7 +62,7 @@ pub fn convert<F: Files, S: Sink>(
 fn open_dump<F: Files>(files: &mut F, name: &str, limit: u64) -> Result<Dump, Refusal>
     ensures late { IfErr result IsLate }
     ensures later { F.faults files.old ≤ F.faults files.new }
-    ensures begun { IfOk result (IsBegun 1 limit) }
+    ensures begun { IfOk result (IsBegun 1 limit []) }
     ensures within { IfOk result (λ dump. dump.place ≤ dump.limit) }
     ensures holds { IsTrue F.tells → F.holds files.new ≡ F.holds files.old }
 

@@ -1,5 +1,5 @@
 -- An MRT dump: records, one behind the other. Those of configured peers are heard.
-use Rattle.std.specs.Prelude.{ℕ, List, Option, Some, None, Result, Ok, Err, ◌≡◌, ◌≤◌, ◌<◌, take, ⊤}
+use Rattle.std.specs.Prelude.{ℕ, List, Option, Some, None, Result, Ok, Err, ◌≡◌, ◌≤◌, ◌<◌, ◌++◌, take, ⊤}
 use Rattle.fs_base.specs.declared.config.Config.{Config}
 use Rattle.fs_base.specs.declared.config.Peer.{Peer}
 use Rattle.fs_records.specs.Records.{End}
@@ -21,23 +21,26 @@ heard_to_come peers limit taken moment left = told_to_come (record_in peers) Cut
 abbrev pub dump_of : Config → ℕ → List ℕ → List Spoken × End DumpReason
 dump_of config limit content = heard_to_come config.peers limit 0 0 content
 
--- What a dump shows: its slot and limit, how many octets of it were taken, how it ended, where it did, and the moment
--- of the last record of a configured peer, 0 before the first.
+-- What a dump shows: its slot and limit, how many octets of it were taken, those that were put back, how it ended, where
+-- it did, and the moment of the last record of a configured peer, 0 before the first.
 pub record DumpState : Type 0 where
   pub slot : ℕ
   pub limit : ℕ
   pub place : ℕ
+  pub back : List ℕ
   pub end : Option (Ended DumpReason)
   pub moment : ℕ
 
+-- what is still to be heard of what its slot has left, behind what was put back
 abbrev pub coming : Config → DumpState → List ℕ → List Spoken × End DumpReason
-coming config dump left = heard_to_come config.peers dump.limit dump.place dump.moment left
+coming config dump left = heard_to_come config.peers dump.limit dump.place dump.moment (dump.back ++ left)
 
--- a dump of this slot and limit of which nothing was read yet
-pub record IsBegun (slot limit : ℕ) (dump : DumpState) : Type 0 where
+-- a dump of this slot and limit of which nothing was read yet, and these octets were put back
+pub record IsBegun (slot limit : ℕ) (back : List ℕ) (dump : DumpState) : Type 0 where
   pub slot_is : dump.slot ≡ slot
   pub limit_is : dump.limit ≡ limit
   pub place_is : dump.place ≡ 0
+  pub back_is : dump.back ≡ back
   pub open_is : dump.end ≡ None
   pub moment_is : dump.moment ≡ 0
 

@@ -1,5 +1,5 @@
 //! A dump, read record by record.
-ghost use Rattle.std.specs.Prelude.{◌≡◌, ◌≤◌, [], None, IsOk, IsSome, IsTrue, IfOk, IfSome, length};
+ghost use Rattle.std.specs.Prelude.{◌≡◌, ◌≤◌, None, IsOk, IsSome, IsTrue, IfOk, IfSome, length};
 ghost use Rattle.std.specs.Result.{IsErrOf};
 ghost use Rattle.fs_base.specs.Files.{OnlySlot};
 ghost use Rattle.fs_base.specs.Outside.{Rose};
@@ -25,7 +25,6 @@ pub struct Dump {
 }
 
 impl Model for Dump {
-    ghost use Rattle.std.specs.Prelude.{◌≡◌, []};
     ghost use Rattle.fs_mrt.specs.Dump.{DumpState};
 
     ghost Value = { DumpState };
@@ -35,25 +34,24 @@ impl Model for Dump {
           slot = dump.counted.slot;
           limit = dump.counted.limit;
           place = dump.counted.taken;
+          back = dump.counted.back;
           end = dump.end;
           moment = dump.records;
         } };
-
-    ghost invariant = { λ dump. dump.counted.back ≡ [] };
 }
 
 impl Dump {
     ghost use Rattle.fs_mrt.specs.Dump.{coming};
 
-    /// A dump of which nothing was read yet: it has no header, so this reads nothing and never fails.
+    /// A dump of which nothing was read yet: it has no header, so this reads nothing and never fails. Octets of its front
+    /// may have been put back; `next` reads these first.
     ///
     /// # Errors
     ///
     /// None.
     pub fn begin<F: Files>(counted: Counted, files: &mut F) -> Result<Dump, DumpFault>
         requires start { counted.taken ≡ 0 }
-        requires none { counted.back ≡ [] }
-        ensures begun { IfOk result (IsBegun counted.slot counted.limit) }
+        ensures begun { IfOk result (IsBegun counted.slot counted.limit counted.back) }
         ensures never { IsOk result }
         ensures within { IfOk result (λ dump. dump.place ≤ dump.limit) }
         ensures unread { files.new ≡ files.old }

@@ -9,36 +9,19 @@ use Rattle.fs_records.specs.declared.fault.Fault.{Fault}
 use Rattle.fs_records.specs.declared.fault.Fault.TheVariants.{Read, Limit, Bad}
 use Rattle.fs_scan.specs.Coming.{only_told}
 use Rattle.fs_scan.specs.Reads.{Calls, Fails, HasMore, Reads, ahead, end_of, ends_by, whole}
-use Rattle.fs_scan.specs.Scan.{Scanner, and, and_then, field, gives, got, partial}
+use Rattle.fs_scan.specs.Scan.{and, and_then, field, gives, got, partial}
 use Rattle.fs_scan.proofs.Lifting.{gives_for, reads_as, reads_ends, reads_then}
 use Rattle.byteorder.specs.Endian.{big_number}
 use Rattle.fs_pcap.specs.declared.order.Endian.{Endian}
 use Rattle.fs_pcapng.proofs.Bodies.{header_kind}
 use Rattle.fs_scan.proofs.Advancing.{part_advances}
-use Rattle.fs_scan.proofs.Again.{nothing_ahead}
+use Rattle.fs_scan.proofs.Again.{ahead_here, ahead_other, nothing_ahead, reads_ahead}
 use Rattle.fs_scan.proofs.Coming.{end_comes}
 use Rattle.fs_pcapng.specs.Block.{Packet, Stands, block_in, kind_behind, opened, section_in}
 use Rattle.fs_pcapng.specs.Pcapng.{Begins, nothing, packets_to_come, pcapng_of}
 use Rattle.fs_pcapng.specs.declared.fault.NgReason.{NgReason}
 use Rattle.fs_pcapng.specs.declared.fault.NgReason.TheVariants.{Cut}
 use Rattle.fs_pcapng.proofs.Takes.{block_takes}
-
--- a call behind which nothing is put back, as before it
-pub reads_ahead : {T A : Type 0} {scanner : Scanner A NgReason} {tells : T → A} {told : Bool} {calls calls' : Calls}
-    {left left' : ℕ → List ℕ} {holds holds' : List ℕ → Option (List ℕ)} {old new : Counted} {result : Result T (Fault NgReason)}
-    → old.back ≡ [] → new.back ≡ []
-    → Reads told calls calls' left left' holds holds' scanner Cut old new tells result
-    → Reads told calls calls' (ahead old left) (ahead new left') holds holds' scanner Cut old new tells result
-reads_ahead {scanner = scanner} {tells = tells} {told = told} {calls = calls} {calls' = calls'} {left = left} {left' = left'} {holds = holds}
-    {holds' = holds'} {old = old} {new = new} {result = result} none later h =
-    subst (λ l. Reads told calls calls' l (ahead new left') holds holds' scanner Cut old new tells result) (sym (nothing_ahead old left none))
-    (subst (λ l. Reads told calls calls' left l holds holds' scanner Cut old new tells result) (sym (nothing_ahead new left' later)) h)
-
-here : (counted : Counted) (left : ℕ → List ℕ) → ahead counted left counted.slot ≡ counted.back ++ left counted.slot
-here counted left = let test : (counted.slot == counted.slot) ≡ true = grind (arith, nat_tests) in rw test refl
-
-apart_from : (counted : Counted) (left : ℕ → List ℕ) (slot : ℕ) → slot ≢ counted.slot → ahead counted left slot ≡ left slot
-apart_from counted left slot apart = let test : (slot == counted.slot) ≡ false = let a = apart in grind (arith, nat_tests) in rw test refl
 
 module _ (limit : ℕ) (content : List ℕ) where
   picks : (test : Bool) → (length (window limit 0 content) == 0) && not (at_limit limit 0 content) ≡ test
@@ -92,7 +75,7 @@ module _ {told : Bool} {calls calls' : Calls} (left left' : ℕ → List ℕ) {h
       let one : 1 ≤ took.count = held.0 in
       let some : 0 < length (window old.limit old.taken content) = omega (arith, one, held.1) in
       let behind : ahead new left' new.slot ≡ left' old.slot = λ i. nothing_ahead new left' none i (h.slot i) in
-      ap (λ l. pcapng_of old.limit l) (sym (here old left))
+      ap (λ l. pcapng_of old.limit l) (sym (ahead_here old left))
       ∙ judged old.limit content (subst (λ n. 0 < length (window old.limit n content)) start some)
       ∙ ap (λ n. packets_to_come old.limit n nothing content) (sym start)
       ∙ ap only_told (part_advances block_in block_takes Cut nothing tells_so h)
@@ -105,13 +88,13 @@ module _ {told : Bool} {calls calls' : Calls} (left left' : ℕ → List ℕ) {h
   opens_not {fault = fault} coming start tells_so h =
       fails_to_open old.limit (old.back ++ left old.slot) coming fault
       (subst (λ n. Fails (ends_by (block_in nothing) Cut old.limit n (old.back ++ left old.slot)) fault) start
-      (subst (λ l. Fails (ends_by (block_in nothing) Cut old.limit old.taken l) fault) (here old left) (h.scanned tells_so)))
+      (subst (λ l. Fails (ends_by (block_in nothing) Cut old.limit old.taken l) fault) (ahead_here old left) (h.scanned tells_so)))
 
   pub opens_others : {result : Result T (Fault NgReason)} → IsTrue told
       → Reads told calls calls' (ahead old left) (ahead new left') holds holds' (block_in nothing) Cut old new (λ (_ : T). (None, now)) result
       → (other : ℕ) → other ≢ old.slot → left' other ≡ left other
   opens_others tells_so h other apart =
-      sym (apart_from new left' other (λ e. apart (e ∙ h.slot))) ∙ h.others tells_so other apart ∙ apart_from old left other apart
+      sym (ahead_other new left' other (λ e. apart (e ∙ h.slot))) ∙ h.others tells_so other apart ∙ ahead_other old left other apart
 
 module _ {T U : Type 0} {told : Bool} {calls mid late : Calls} (left : ℕ → List ℕ) {left' left'' : ℕ → List ℕ} {holds holds' holds'' : List ℕ → Option (List ℕ)}
     {old now new : Counted} {answer : T} (later : Stands) (kind : List ℕ) (start : old.taken ≡ 0) (is : big_number 4 kind ≡ 0x0a0d0d0a) where

@@ -1,5 +1,5 @@
 //! A capture, read packet by packet.
-ghost use Rattle.std.specs.Prelude.{◌≡◌, ◌≤◌, ◌+◌, ◌++◌, [], None, IsSome, IsTrue, IfOk, IfSome, length};
+ghost use Rattle.std.specs.Prelude.{◌≡◌, ◌≤◌, ◌+◌, ◌++◌, [], None, IsSome, IsTrue, IfOk, IfSome, OnErr, length};
 ghost use Rattle.std.specs.Result.{IsErrOf};
 ghost use Rattle.fs_base.specs.Files.{OnlySlot};
 ghost use Rattle.fs_base.specs.Outside.{Rose};
@@ -101,7 +101,7 @@ impl Ng {
     }
 
     /// Reads up to the next packet. Its octets stand at the front of `into`. `None`: the capture ended behind a block.
-    /// After that, and after any fault, each call answers the same again and reads nothing.
+    /// After that, and after any fault, each call answers the same again and reads nothing, and `link` stays.
     ///
     /// # Errors
     ///
@@ -125,6 +125,8 @@ impl Ng {
         ensures grows { self.old.end ≡ None → Grows self.old.place self.new.place self.new.limit result }
         ensures times { IfOk result (λ found. IfSome found (λ caught. caught.moment ≡ self.new.context.moment)) }
         ensures rises { self.old.context.moment ≤ self.new.context.moment }
+        ensures kept { IfOk result (λ found. found ≡ None → self.new.link ≡ self.old.link) }
+        ensures faulted { OnErr result (self.new.link ≡ self.old.link) }
 
         ensures advances { IsTrue F.tells
             → self.old.end ≡ None

@@ -123,9 +123,11 @@ module _ {R : Type 0} (told : Bool) (calls calls' : Calls) (left left' : ℕ →
     pub took : IsTrue told → Passed old.limit old.taken new.taken (left old.slot) (left' old.slot)
     pub opened : calls'.opened ≡ calls.opened
 
--- so of files before and behind a call; in a clause: `StartsIn F.Files files.old files.new ..`
+-- so of files before and behind a call, where octets may have been put back; in a clause:
+-- `StartsIn F.Files files.old files.new ..`
 abbrev pub StartsIn : {F R : Type 0} → files.Ghosts F → (old new : F) → (size : ℕ) → R → (before now : Counted)
     → (into : List ℕ) → Result Bool (Fault R) → Type 0
 StartsIn of_files old new size cut before now into result =
-    Starts of_files.tells (calls_of of_files old) (calls_of of_files new) (of_files.left old) (of_files.left new)
+    Starts of_files.tells (calls_of of_files old) (calls_of of_files new)
+    (ahead before (of_files.left old)) (ahead now (of_files.left new))
     (of_files.holds old) (of_files.holds new) size cut before now into result

@@ -1,5 +1,6 @@
 //! Taking and skipping the octets of fields.
 ghost use Rattle.std.specs.Prelude.{◌≡◌, ◌≤◌, ◌+◌, ◌<◌, ◌==◌, ◌&&◌, [], IfOk, IsTrue, length, not};
+ghost use Rattle.fs_base.specs.Draws.{Draws};
 ghost use Rattle.fs_scan.specs.Reads.{Scans, ScansAgain, StartsIn};
 ghost use Rattle.fs_scan.specs.Scan.{field, skips};
 
@@ -33,8 +34,8 @@ pub fn take_octets<F: Files, R: Copy + Drop>(
     Ok(())
 }
 
-/// Takes the octets of the first field of a part of the input. `false`: the input ended before the part, and nothing
-/// was taken.
+/// Takes the octets of the first field of a part of the input, those that were put back first. `false`: the input ended
+/// before the part, and nothing was taken.
 ///
 /// # Errors
 ///
@@ -45,11 +46,13 @@ pub fn take_first<F: Files, R: Copy + Drop>(
     files: &mut F,
     into: &mut [u8],
 ) -> Result<bool, Fault<R>>
-    requires room { 0 < length into.old }
-    requires none { counted.old.back ≡ [] }
-    ensures none { counted.new.back ≡ [] }
+    requires room { 4 ≤ length into.old }
+    ensures none { IfOk result (λ found. IsTrue found → counted.new.back ≡ []) }
+    ensures straight { counted.old.back ≡ [] → counted.new.back ≡ [] }
     ensures taken { IfOk result (λ found.
         IsTrue found → counted.new.taken ≡ counted.old.taken + length into.new) }
+    ensures took { IsTrue F.tells
+        → Draws counted.old counted.new (F.left files.old counted.old.slot) (F.left files.new counted.old.slot) }
     ensures starts { StartsIn F.Files files.old files.new (length into.new) cut counted.old counted.new into.new
         result }
 {

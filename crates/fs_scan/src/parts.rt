@@ -46,11 +46,11 @@ pub trait Parts {
     /// That what was read led from one state to another and told this, or nothing.
     ghost Moves: { Self → Self → Option Self.Told → Type 0 };
 
-    /// With how many octets a part begins, from 1 to `MOST_FIRST`.
+    /// With how many octets a part begins: at least as many as may be put back, at most `MOST_FIRST`.
     fn first_size(&self, given: &Self::Given) -> usize
         ensures exact { result ≡ first }
         ensures few { result ≤ 16 }
-        ensures some { 0 < result }
+        ensures some { 4 ≤ result }
         ensures takes { (state : Self) → Takes 1 (part_in first (behind given.now) state) };
 
     /// The fault of an input that ends within a part.

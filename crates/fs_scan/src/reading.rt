@@ -1,5 +1,5 @@
 //! Reading an input part by part, up to one that tells something.
-ghost use Rattle.std.specs.Prelude.{◌≡◌, ◌≤◌, ◌<◌, [], None, IsSome, IsTrue, IfOk, IfSome, length};
+ghost use Rattle.std.specs.Prelude.{◌≡◌, ◌≤◌, ◌<◌, ◌++◌, [], None, IsSome, IsTrue, IfOk, IfSome, length};
 ghost use Rattle.std.specs.Option.{option_map};
 ghost use Rattle.std.specs.Result.{IsErrOf};
 ghost use Rattle.fs_base.specs.Draws.{Draws};
@@ -16,7 +16,7 @@ use crate::parts::{MOST_FIRST, Parts};
 use fs_base::{Counted, Files};
 use fs_records::{Ended, Fault, answer, ended_by};
 
-/// Reads up to the next part of an input that tells something. `None`: the input ended behind a part. After that, and
+/// Reads up to the next part of an input that tells something. Octets that were put back are read first. `None`: the input ended behind a part. After that, and
 /// after any fault, each call answers the same again and reads nothing.
 ///
 /// # Errors
@@ -33,8 +33,7 @@ pub fn next_part<F: Files, P: Parts>(
     into: &mut [u8],
 ) -> Result<Option<P::Told>, Fault<P::Reason>>
     requires room { P.most ≤ length into.old }
-    requires none { counted.old.back ≡ [] }
-    ensures none { counted.new.back ≡ [] }
+    ensures straight { counted.old.back ≡ [] → counted.new.back ≡ [] }
     ensures room { length into.new ≡ length into.old }
     ensures later { F.faults files.old ≤ F.faults files.new }
     ensures read { end.old ≡ None → IsErrOf result Read → Rose (F.faults files.old) (F.faults files.new) }
@@ -52,11 +51,11 @@ pub fn next_part<F: Files, P: Parts>(
         → end.old ≡ None
         → Advances
         (told_to_come (part_in P.first (P.behind given.now)) P.cut counted.old.limit counted.old.taken parts.old
-        (F.left files.old counted.old.slot))
+        (counted.old.back ++ F.left files.old counted.old.slot))
         (λ told. with_part
         (P.part_of into.new told)
         (told_to_come (part_in P.first (P.behind given.now)) P.cut counted.new.limit counted.new.taken parts.new
-        (F.left files.new counted.old.slot)))
+        (counted.new.back ++ F.left files.new counted.old.slot)))
         result }
     ensures took { IsTrue F.tells
         → Draws counted.old counted.new (F.left files.old counted.old.slot) (F.left files.new counted.old.slot) }
@@ -80,8 +79,7 @@ fn next_told<F: Files, P: Parts>(
     into: &mut [u8],
 ) -> Result<Option<P::Told>, Fault<P::Reason>>
     requires room { P.most ≤ length into.old }
-    requires none { counted.old.back ≡ [] }
-    ensures none { counted.new.back ≡ [] }
+    ensures straight { counted.old.back ≡ [] → counted.new.back ≡ [] }
     ensures room { length into.new ≡ length into.old }
     ensures later { F.faults files.old ≤ F.faults files.new }
     ensures read { IsErrOf result Read → Rose (F.faults files.old) (F.faults files.new) }
@@ -93,11 +91,11 @@ fn next_told<F: Files, P: Parts>(
     ensures advances { IsTrue F.tells
         → Advances
         (told_to_come (part_in P.first (P.behind given.now)) P.cut counted.old.limit counted.old.taken parts.old
-        (F.left files.old counted.old.slot))
+        (counted.old.back ++ F.left files.old counted.old.slot))
         (λ told. with_part
         (P.part_of into.new told)
         (told_to_come (part_in P.first (P.behind given.now)) P.cut counted.new.limit counted.new.taken parts.new
-        (F.left files.new counted.old.slot)))
+        (counted.new.back ++ F.left files.new counted.old.slot)))
         result }
     ensures took { IsTrue F.tells
         → Draws counted.old counted.new (F.left files.old counted.old.slot) (F.left files.new counted.old.slot) }
@@ -123,8 +121,7 @@ fn advance<F: Files, P: Parts>(
     into: &mut [u8],
 ) -> Result<Option<Option<P::Told>>, Fault<P::Reason>>
     requires room { P.most ≤ length into.old }
-    requires none { counted.old.back ≡ [] }
-    ensures none { counted.new.back ≡ [] }
+    ensures straight { counted.old.back ≡ [] → counted.new.back ≡ [] }
     ensures room { length into.new ≡ length into.old }
     ensures later { F.faults files.old ≤ F.faults files.new }
     ensures read { IsErrOf result Read → Rose (F.faults files.old) (F.faults files.new) }
@@ -136,11 +133,11 @@ fn advance<F: Files, P: Parts>(
     ensures advances { IsTrue F.tells
         → Advances
         (parts_to_come (part_in P.first (P.behind given.now)) P.cut counted.old.limit counted.old.taken parts.old
-        (F.left files.old counted.old.slot))
+        (counted.old.back ++ F.left files.old counted.old.slot))
         (λ told. with_part
         (option_map (P.part_of into.new) told)
         (parts_to_come (part_in P.first (P.behind given.now)) P.cut counted.new.limit counted.new.taken parts.new
-        (F.left files.new counted.new.slot)))
+        (counted.new.back ++ F.left files.new counted.new.slot)))
         result }
     ensures took { IsTrue F.tells
         → Draws counted.old counted.new (F.left files.old counted.old.slot) (F.left files.new counted.old.slot) }

@@ -50,8 +50,8 @@ returns-then-count-into-clause-reads g c = rw c.short.ensures (record {
       let short : c.in-Ok.count < length c.fill.new.into = search rules in
       let within : c.args.counted.now.taken ≤ c.args.counted.now.limit = search rules in
       again_fails c.args.counted.now c.fill.new.counted (g.F.Files.left c.args.files.now) (g.F.Files.left c.fill.new.files)
-      c.in-Ok.ensures.kept_slot c.args.cut c.fill.new.into c.in-Ok.count (c.in-Ok.ensures.filled told) short within
-      c.in-Ok.ensures.taken c.in-Ok.ensures.kept_limit;
+      c.in-Ok.ensures.kept_slot c.fill.new.into c.in-Ok.count (c.in-Ok.ensures.filled told) short within
+      c.in-Ok.ensures.taken c.in-Ok.ensures.kept_limit c.args.cut;
   others = λ told.
       again_others c.args.counted.now c.fill.new.counted (g.F.Files.left c.args.files.now) (g.F.Files.left c.fill.new.files)
       c.in-Ok.ensures.kept_slot (c.in-Ok.ensures.others told).others;

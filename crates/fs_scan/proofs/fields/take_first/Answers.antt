@@ -1,9 +1,24 @@
 use Rattle.std.proofs.Common.{rules, arith, ◌<◌, ◌≤◌, ◌∙◌, length, sym}
-use Rattle.fs_base.proofs.Drawing.{draws_straight}
-use Rattle.fs_base.proofs.Filled.{fills_straight}
-use Rattle.fs_scan.proofs.Short.{field_fails, more_is, over_is, short_reads}
-use Rattle.fs_scan.proofs.Taking.{field_took}
+use Rattle.fs_scan.proofs.Again.{again_fails, again_more, again_others, again_over, again_passed, again_took}
+use Rattle.fs_scan.proofs.Short.{short_reads}
 use Rattle.fs_scan.proofs.fields.take_first.Goals as goal
+
+pub returns-in_default-clause-starts : goal.returns-in_default-clause-starts
+returns-in_default-clause-starts g c = record {
+  later = c.in_default.ensures.later;
+  failed = search rules;
+  slot = c.in_default.ensures.kept_slot;
+  limit = c.in_default.ensures.kept_limit;
+  started = λ told. (tt, λ e. absurd (e (search rules)));
+  others = λ told.
+      again_others c.args.counted.now c.fill.new.counted (g.F.Files.left c.args.files.now) (g.F.Files.left c.fill.new.files)
+      c.in_default.ensures.kept_slot (c.in_default.ensures.others told).others;
+  same = λ told. search rules;
+  took = λ told.
+      again_passed c.args.counted.now c.fill.new.counted (g.F.Files.left c.args.files.now) (g.F.Files.left c.fill.new.files)
+      c.in_default.ensures.kept_slot (c.in_default.ensures.took told);
+  opened = c.in_default.ensures.opened;
+}
 
 pub returns-then-count-into-clause-starts : goal.returns-then-count-into-clause-starts
 returns-then-count-into-clause-starts g c = record {
@@ -12,13 +27,16 @@ returns-then-count-into-clause-starts g c = record {
   slot = c.in-Ok.ensures.kept_slot;
   limit = c.in-Ok.ensures.kept_limit;
   started = λ told.
-      let filled = fills_straight _ _ _ _ _ _ _ _ c.requires.none c.in-Ok.ensures.back (c.in-Ok.ensures.filled told) in
       let whole : length c.fill.new.into ≤ c.in-Ok.count = omega arith in
-      field_took c.args.counted.now.limit c.args.counted.now.taken c.fill.new.counted.taken _ _ c.fill.new.into c.in-Ok.count
-      filled whole c.in-Ok.ensures.taken;
-  others = λ told. search rules;
+      again_took c.args.counted.now c.fill.new.counted (g.F.Files.left c.args.files.now) (g.F.Files.left c.fill.new.files)
+      c.in-Ok.ensures.kept_slot c.fill.new.into c.in-Ok.count (c.in-Ok.ensures.filled told) whole c.in-Ok.ensures.taken;
+  others = λ told.
+      again_others c.args.counted.now c.fill.new.counted (g.F.Files.left c.args.files.now) (g.F.Files.left c.fill.new.files)
+      c.in-Ok.ensures.kept_slot (c.in-Ok.ensures.others told).others;
   same = λ told. search rules;
-  took = λ told. draws_straight _ _ _ _ c.requires.none (c.in-Ok.ensures.took told);
+  took = λ told.
+      again_passed c.args.counted.now c.fill.new.counted (g.F.Files.left c.args.files.now) (g.F.Files.left c.fill.new.files)
+      c.in-Ok.ensures.kept_slot (c.in-Ok.ensures.took told);
   opened = c.in-Ok.ensures.opened;
 }
 
@@ -29,13 +47,17 @@ returns-then-is_over-clause-starts g c = record {
   slot = c.in-Ok.ensures.kept_slot;
   limit = c.in-Ok.ensures.kept_limit;
   started = λ told.
-      let filled = fills_straight _ _ _ _ _ _ _ _ c.requires.none c.in-Ok.ensures.back (c.in-Ok.ensures.filled told) in
       let short : c.in-Ok.count < length c.fill.new.into = omega (arith, c.in-Ok.ensures.bound) in
-      over_is c.args.counted.now.limit c.args.counted.now.taken c.fill.new.counted.taken _ _ c.fill.new.into c.in-Ok.count
-      filled short (search rules) c.in-Ok.ensures.taken (rw c.in-Ok.ensures.kept_limit at (sym c.is_over.ensures ∙ c.if-is_over.true));
-  others = λ told. search rules;
+      again_over c.args.counted.now c.fill.new.counted (g.F.Files.left c.args.files.now) (g.F.Files.left c.fill.new.files)
+      c.in-Ok.ensures.kept_slot c.fill.new.into c.in-Ok.count (c.in-Ok.ensures.filled told) short (search rules) c.in-Ok.ensures.taken
+      c.in-Ok.ensures.kept_limit (sym c.is_over.ensures ∙ c.if-is_over.true);
+  others = λ told.
+      again_others c.args.counted.now c.fill.new.counted (g.F.Files.left c.args.files.now) (g.F.Files.left c.fill.new.files)
+      c.in-Ok.ensures.kept_slot (c.in-Ok.ensures.others told).others;
   same = λ told. search rules;
-  took = λ told. draws_straight _ _ _ _ c.requires.none (c.in-Ok.ensures.took told);
+  took = λ told.
+      again_passed c.args.counted.now c.fill.new.counted (g.F.Files.left c.args.files.now) (g.F.Files.left c.fill.new.files)
+      c.in-Ok.ensures.kept_slot (c.in-Ok.ensures.took told);
   opened = c.in-Ok.ensures.opened;
 }
 
@@ -46,18 +68,21 @@ returns-clause-starts g c = rw c.short.ensures (record {
   slot = c.in-Ok.ensures.kept_slot;
   limit = c.in-Ok.ensures.kept_limit;
   started = λ told.
-      let filled = fills_straight _ _ _ _ _ _ _ _ c.requires.none c.in-Ok.ensures.back (c.in-Ok.ensures.filled told) in
       let short : c.in-Ok.count < length c.fill.new.into = omega (arith, c.in-Ok.ensures.bound) in
-      let within : c.args.counted.now.taken ≤ c.args.counted.now.limit = search rules in
-      let test = rw c.in-Ok.ensures.kept_limit at (sym c.is_over.ensures ∙ c.if-is_over.false) in
-      rw c.in-Ok.ensures.kept_limit (
-        field_fails c.args.cut c.args.counted.now.limit c.args.counted.now.taken c.fill.new.counted.taken _ _ c.fill.new.into c.in-Ok.count
-            filled short within c.in-Ok.ensures.taken,
-        λ e. more_is c.args.counted.now.limit c.args.counted.now.taken c.fill.new.counted.taken _ _ c.fill.new.into c.in-Ok.count
-            filled short within c.in-Ok.ensures.taken test,
+      let within : c.args.counted.now.taken ≤ c.args.counted.now.limit = search rules in (
+        again_fails c.args.counted.now c.fill.new.counted (g.F.Files.left c.args.files.now) (g.F.Files.left c.fill.new.files)
+            c.in-Ok.ensures.kept_slot c.fill.new.into c.in-Ok.count (c.in-Ok.ensures.filled told) short within c.in-Ok.ensures.taken
+            c.in-Ok.ensures.kept_limit c.args.cut,
+        λ e. again_more c.args.counted.now c.fill.new.counted (g.F.Files.left c.args.files.now) (g.F.Files.left c.fill.new.files)
+            c.in-Ok.ensures.kept_slot c.fill.new.into c.in-Ok.count (c.in-Ok.ensures.filled told) short within c.in-Ok.ensures.taken
+            c.in-Ok.ensures.kept_limit (sym c.is_over.ensures ∙ c.if-is_over.false),
       );
-  others = λ told. search rules;
+  others = λ told.
+      again_others c.args.counted.now c.fill.new.counted (g.F.Files.left c.args.files.now) (g.F.Files.left c.fill.new.files)
+      c.in-Ok.ensures.kept_slot (c.in-Ok.ensures.others told).others;
   same = λ told. search rules;
-  took = λ told. draws_straight _ _ _ _ c.requires.none (c.in-Ok.ensures.took told);
+  took = λ told.
+      again_passed c.args.counted.now c.fill.new.counted (g.F.Files.left c.args.files.now) (g.F.Files.left c.fill.new.files)
+      c.in-Ok.ensures.kept_slot (c.in-Ok.ensures.took told);
   opened = c.in-Ok.ensures.opened;
 })

@@ -5,7 +5,7 @@ use Rattle.fs_scan.proofs.reading.next_told.Goals as goal
 pub parts-preserved : goal.parts-preserved
 parts-preserved g c = record {
   room = search rules;
-  none = search rules;
+  straight = search rules;
   slot = search rules;
   limit = search rules;
   place = search rules;

@@ -1,4 +1,4 @@
-use Rattle.std.proofs.Common.{◌≡◌, ◌≢◌, ◌≤◌, ◌-◌, [], None, ℕ, length, IsTrue}
+use Rattle.std.proofs.Common.{◌≡◌, ◌≢◌, ◌≤◌, ◌++◌, ◌-◌, [], None, ℕ, length, IsTrue}
 use Rattle.fs_base.specs.Draws.{Draws}
 use Rattle.fs_scan.specs.Coming.{part_in, told_to_come}
 use Rattle.fs_scan.proofs.reading.next_told.Given as goal
@@ -8,7 +8,7 @@ invariant-parts g l =
     let chain = part_in g.P.Parts.first (g.P.Parts.behind l.given) in
     record {
       room : length l.into ≡ length l.fn.into;
-      none : l.counted.back ≡ [];
+      straight : l.fn.counted.back ≡ [] → l.counted.back ≡ [];
       slot : l.counted.slot ≡ l.fn.counted.slot;
       limit : l.counted.limit ≡ l.fn.counted.limit;
       place : l.fn.counted.taken ≤ l.counted.taken;
@@ -22,8 +22,8 @@ invariant-parts g l =
       opened : g.F.Files.opened l.files ≡ g.F.Files.opened l.fn.files;
       coming :
           IsTrue g.F.Files.tells
-          → told_to_come chain g.P.Parts.cut l.fn.counted.limit l.fn.counted.taken l.fn.parts (g.F.Files.left l.fn.files l.fn.counted.slot)
-          ≡ told_to_come chain g.P.Parts.cut l.counted.limit l.counted.taken l.parts (g.F.Files.left l.files l.counted.slot);
+          → told_to_come chain g.P.Parts.cut l.fn.counted.limit l.fn.counted.taken l.fn.parts (l.fn.counted.back ++ g.F.Files.left l.fn.files l.fn.counted.slot)
+          ≡ told_to_come chain g.P.Parts.cut l.counted.limit l.counted.taken l.parts (l.counted.back ++ g.F.Files.left l.files l.counted.slot);
     }
 
 abbrev pub decreases-parts : goal.decreases-parts
