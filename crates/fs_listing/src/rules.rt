@@ -3,14 +3,14 @@
 ghost use Rattle.std.specs.Prelude.{◌≡◌, ◌+◌, ◌++◌, map, option_map, OnOk};
 ghost use Rattle.hex.specs.Hex.{encode_lower};
 ghost use Rattle.fs_nlri.specs.Rule.{canonical_frame};
-ghost use Rattle.fs_rules.specs.Lent.{shown_admitted, shown_held};
+ghost use Rattle.fs_rules.specs.Lent.{shown_held, shown_lent};
 ghost use Rattle.fs_listing.specs.Rules.{actions_text, admitted_line, admitted_lines, family_text, head_text, invalid_line, invalid_lines, invalid_text, number_text, reason_of, tail_text};
 
 use fs_actions::Actions;
 use fs_base::{Family, Memory};
 use fs_line::{append, append_decimal, append_hex, family_name};
 use fs_nlri::{Rule, encode};
-use fs_rules::{Admitted, HeldFlow, Table};
+use fs_rules::{HeldFlow, LentRule, Table};
 use fs_validate::Validity;
 use std::alloc::Global;
 
@@ -34,10 +34,10 @@ pub fn append_rules(
 fn append_admitted(
     alloc: Global,
     family: Family,
-    rules: &[Admitted<'_>],
+    rules: &[LentRule<'_>],
     text: &mut Vec<u8>,
 ) -> Result<(), Memory>
-    ensures { OnOk result (text.new.items ≡ text.old.items ++ admitted_lines family 1 (map shown_admitted rules.now)) }
+    ensures { OnOk result (text.new.items ≡ text.old.items ++ admitted_lines family 1 (map shown_lent rules.now)) }
 {
     for (place, rule) in rules.iter().enumerate() {
         append_admitted_rule(alloc, family, place + 1, rule, text)?;
@@ -50,14 +50,14 @@ fn append_admitted_rule(
     alloc: Global,
     family: Family,
     number: usize,
-    rule: &Admitted<'_>,
+    rule: &LentRule<'_>,
     text: &mut Vec<u8>,
 ) -> Result<(), Memory>
-    ensures { OnOk result (text.new.items ≡ text.old.items ++ admitted_line family number (shown_admitted rule.now)) }
+    ensures { OnOk result (text.new.items ≡ text.old.items ++ admitted_line family number (shown_lent rule.now)) }
 {
     append_number(family, number, text)?;
     append_head(alloc, rule.rule, rule.peer, text)?;
-    append_tail(alloc, rule.actions, text)
+    append_tail(alloc, rule.actions.actions(), text)
 }
 
 /// Appends the family's name and the number of a rule.

@@ -1,5 +1,5 @@
 -- What a change does to the routes, to their validities and to the order.
-use Rattle.std.proofs.Common.{◌≡◌, ◌+◌, refl, sym, ap, subst, ◌∙◌, Bool, true, false, true≢false, ◌||◌, cond, List, [], ◌∷◌, filter, map, Option, Some, None, Ordering, Less, Equal, Greater, is_eq, nat_cmp, is_some}
+use Rattle.std.proofs.Common.{◌≡◌, ◌+◌, refl, sym, ap, subst, ◌∙◌, Bool, true, false, true≢false, ◌||◌, cond, List, [], ◌∷◌, filter, map, Option, Some, None, Ordering, Less, Equal, Greater, is_eq, nat_cmp, is_some, length, arith}
 use Rattle.std.specs.List.{list_any, AllByRecursion}
 use Rattle.std.specs.Ordering.{match_ordering, ordering_then, ordering_reverse}
 use Rattle.std.specs.Cmp.{IsTotalOrder, on_total, then_total, nat_cmp_total}
@@ -179,3 +179,12 @@ remove_nothing test (e ∷ es) h = at (test e.0) (remove_nothing test es) h wher
   at : (b : Bool) → (is_some (lookup test es) ≡ false → remove_entry test es ≡ es) → is_some (cond b (Some e.1) (lookup test es)) ≡ false → cond b es (e ∷ remove_entry test es) ≡ e ∷ es
   at true ih k = absurd (true≢false k)
   at false ih k = ap (λ fs. e ∷ fs) (ih k)
+
+-- what is there is gone behind
+pub removes_one : {K X : Type 0} (test : K → Bool) (es : List (K × X)) → is_some (lookup test es) ≡ true → length (remove_entry test es) + 1 ≡ length es
+removes_one test [] h = absurd (true≢false (sym h))
+removes_one test (e ∷ es) h = at (test e.0) (removes_one test es) h where
+  at : (b : Bool) → (is_some (lookup test es) ≡ true → length (remove_entry test es) + 1 ≡ length es) → is_some (cond b (Some e.1) (lookup test es)) ≡ true
+      → length (cond b es (e ∷ remove_entry test es)) + 1 ≡ length (e ∷ es)
+  at true ih k = omega arith
+  at false ih k = let i = ih k in omega (arith, i)

@@ -13,6 +13,7 @@ use Rattle.fs_validate.specs.declared.validity.Validity.{Validity}
 use Rattle.fs_rules.specs.Table.{Held, is_of_family}
 use Rattle.fs_rules.specs.declared.lent.Admitted.{Admitted}
 use Rattle.fs_rules.specs.declared.lent.HeldFlow.{HeldFlow}
+use Rattle.fs_rules.specs.declared.lent.LentRule.{LentRule}
 
 -- an admitted rule: with the peer and the actions of its most preferred valid route
 pub record Listed : Type 0 where
@@ -26,11 +27,14 @@ listed r = record { rule = r.rule; peer = r.peer; actions = r.actions }
 abbrev pub shown_admitted : Admitted → Listed
 shown_admitted a = record { rule = a.rule.now; peer = a.peer; actions = a.actions.now }
 
-abbrev pub all_admitted : List Admitted → List Listed
-all_admitted list = map shown_admitted list
+abbrev pub shown_lent : LentRule → Listed
+shown_lent a = record { rule = a.rule.now; peer = a.peer; actions = a.actions.now }
+
+abbrev pub all_admitted : List LentRule → List Listed
+all_admitted list = map shown_lent list
 
 -- these are added at the end
-abbrev pub AddsRules : List Listed → List Admitted → List Admitted → Type 0
+abbrev pub AddsRules : List Listed → List LentRule → List LentRule → Type 0
 AddsRules more old new = all_admitted new ≡ all_admitted old ++ more
 
 -- a held flow route with its validity over all held unicast routes

@@ -10,7 +10,7 @@ use std::rc::Rc;
 
 /// Actions that many routes may have: most of a peer's routes have the same.
 #[derive(Drop)]
-pub(crate) struct SharedActions {
+pub struct SharedActions {
     actions: Rc<Actions>,
 }
 
@@ -31,8 +31,12 @@ impl SharedActions {
         Ok(SharedActions { actions })
     }
 
-    /// The same actions once more.
-    pub(crate) fn share(&self) -> Result<SharedActions, Memory>
+    /// The same actions once more, of which none is copied.
+    ///
+    /// # Errors
+    ///
+    /// `Memory` where they are shared too often to be counted.
+    pub fn share(&self) -> Result<SharedActions, Memory>
         ensures { IfOk result (λ shared. shared ≡ self.now) }
     {
         let actions = self.actions.clone()?;
@@ -40,7 +44,7 @@ impl SharedActions {
     }
 
     /// The actions.
-    pub(crate) fn actions(&self) -> &Actions
+    pub fn actions(&self) -> &Actions
         ensures { result.now ≡ self.now }
     {
         self.actions.as_ref()

@@ -3,12 +3,12 @@
 ghost use Rattle.std.specs.Prelude.{◌≡◌, ◌≤◌, ◌<◌, ◌+◌, ◌^◌, ◌++◌, OnOk, map, filter, length, option_map, slice_get, nat_le, find};
 ghost use Rattle.fs_rules.specs.Blocks.{flat, AreCut, AreEachSorted};
 ghost use Rattle.fs_rules.specs.Group.{chosen, AreSorted, routes_of};
-ghost use Rattle.fs_rules.specs.Lent.{listed, shown_admitted, shown_held, all_admitted, all_held, AddsRules, AddsHeld};
+ghost use Rattle.fs_rules.specs.Lent.{listed, shown_admitted, shown_held, shown_lent, all_admitted, all_held, AddsRules, AddsHeld};
 ghost use Rattle.fs_rules.specs.Lists.{judgement, routes_chosen, listing, listings, judgements, nth_listing};
 ghost use Rattle.fs_rules.specs.Walk.{matching_from};
 
 use crate::block::Block;
-use crate::lent::{Admitted, HeldFlow};
+use crate::lent::{Admitted, HeldFlow, LentRule};
 use crate::lists;
 use fs_base::{Family, Memory};
 use fs_packet::View;
@@ -17,7 +17,7 @@ use fs_packet::View;
 pub(crate) fn push_admitted<'a>(
     family: Family,
     blocks: &'a [Block],
-    list: &mut Vec<Admitted<'a>>,
+    list: &mut Vec<LentRule<'a>>,
 ) -> Result<(), Memory>
     requires cut { AreCut blocks.now }
     requires sorted { AreSorted (routes_of (flat blocks.now)) }

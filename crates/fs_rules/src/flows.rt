@@ -4,13 +4,13 @@ ghost use Rattle.std.specs.Prelude.{◌≡◌, ◌≤◌, ◌+◌, ◌==◌, ◌
 ghost use Rattle.std.specs.List.{list_any, AllByRecursion};
 ghost use Rattle.fs_rules.specs.Table.{is_of_family, IsRuleOf, related_count, is_key};
 ghost use Rattle.fs_rules.specs.Group.{has_key, put_kept, mended, IsRightAt, AreSorted, routes_of, chosen, of_family};
-ghost use Rattle.fs_rules.specs.Lent.{listed, shown_admitted, shown_held, all_admitted, all_held};
+ghost use Rattle.fs_rules.specs.Lent.{listed, shown_admitted, shown_held, shown_lent, all_admitted, all_held};
 ghost use Rattle.fs_rules.specs.Lists.{judgement, routes_chosen, listing, listings, judgements, nth_listing};
 ghost use Rattle.fs_rules.specs.Walk.{next_match};
 
 use crate::groups::Groups;
 use crate::kept::Kept;
-use crate::lent::{Admitted, HeldFlow};
+use crate::lent::{Admitted, HeldFlow, LentRule};
 use fs_base::{Config, Family, Memory, Prefix, Steps};
 use fs_nlri::Rule;
 use fs_packet::View;
@@ -106,7 +106,7 @@ impl Flows {
     }
 
     /// The admitted rules of the family, in order.
-    pub(crate) fn admitted(&self, family: Family) -> Result<Vec<Admitted<'_>>, Memory>
+    pub(crate) fn admitted(&self, family: Family) -> Result<Vec<LentRule<'_>>, Memory>
         requires { AreSorted (routes_of self.now) }
         ensures list { IfOk result (λ list. all_admitted list.items ≡ listings family self.now) }
         ensures rules { AllByRecursion (λ k. IsRuleOf family k.route) (chosen family self.now) }

@@ -9,13 +9,13 @@ ghost use Rattle.fs_nlri.specs.Rule.{IsRule};
 ghost use Rattle.fs_rules.specs.Table.{is_key};
 ghost use Rattle.fs_rules.specs.Group.{has_key, put_kept, mended, IsRightAt, related_kept, AreSorted, routes_of, chosen, is_other_key};
 ghost use Rattle.fs_rules.specs.Groups.{IsSound, HasSortedGroups, AreInOrder, AreNoShorter, put_entry, keep_at, keep_each, IsHeldAt};
-ghost use Rattle.fs_rules.specs.Lent.{listed, shown_admitted, shown_held, all_admitted, all_held};
+ghost use Rattle.fs_rules.specs.Lent.{listed, shown_admitted, shown_held, shown_lent, all_admitted, all_held};
 ghost use Rattle.fs_rules.specs.Lists.{judgement, routes_chosen, listing, listings, judgements, nth_listing};
 ghost use Rattle.fs_rules.specs.Walk.{next_match};
 
 use crate::group::Group;
 use crate::kept::{Kept, destination_key};
-use crate::lent::{Admitted, HeldFlow};
+use crate::lent::{Admitted, HeldFlow, LentRule};
 use crate::reading::{self, push_admitted, push_held};
 use crate::search::retest_related;
 use fs_base::{Config, Family, Memory, Prefix, Steps};
@@ -145,7 +145,7 @@ impl Groups {
     }
 
     /// The admitted rules, in order.
-    pub(crate) fn admitted(&self, family: Family) -> Result<Vec<Admitted<'_>>, Memory>
+    pub(crate) fn admitted(&self, family: Family) -> Result<Vec<LentRule<'_>>, Memory>
         requires sorted { AreSorted (routes_of self.now) }
         requires sound { AllByRecursion (IsSound family) self.now }
         ensures { IfOk result (λ list. all_admitted list.items ≡ listings family self.now) }

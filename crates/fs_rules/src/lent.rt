@@ -1,5 +1,6 @@
 //! What the table lends of its routes.
 
+use crate::actions::SharedActions;
 use fs_actions::Actions;
 use fs_nlri::Rule;
 use fs_validate::Validity;
@@ -10,6 +11,14 @@ pub struct Admitted<'a> {
     pub rule: &'a Rule,
     pub peer: u16,
     pub actions: &'a Actions,
+}
+
+/// As [`Admitted`], of a list of all admitted rules: who keeps the actions beyond the table shares them, and copies none.
+#[derive(Clone, Copy, Drop)]
+pub struct LentRule<'a> {
+    pub rule: &'a Rule,
+    pub peer: u16,
+    pub actions: &'a SharedActions,
 }
 
 /// A held flow route, valid or not.

@@ -17,5 +17,6 @@ mod route;
 mod search;
 mod table;
 
-pub use lent::{Admitted, HeldFlow};
+pub use actions::SharedActions;
+pub use lent::{Admitted, HeldFlow, LentRule};
 pub use table::Table;

@@ -3,17 +3,28 @@
 ghost use Rattle.std.specs.Prelude.{◌≡◌, ◌≤◌, ◌<◌, ◌+◌, ◌^◌, ◌++◌, OnOk, map, filter, length, option_map, slice_get, ◌&&◌, nat_le, find};
 ghost use Rattle.fs_packet.specs.Matching.{is_match};
 ghost use Rattle.fs_rules.specs.Group.{chosen, AreSorted, routes_of};
-ghost use Rattle.fs_rules.specs.Lent.{listed, shown_admitted, shown_held, all_admitted, all_held, AddsRules, AddsHeld};
+ghost use Rattle.fs_rules.specs.Lent.{listed, shown_admitted, shown_held, shown_lent, all_admitted, all_held, AddsRules, AddsHeld};
 ghost use Rattle.fs_rules.specs.Lists.{judgement, routes_chosen, listing, listings, judgements, nth_listing};
 ghost use Rattle.fs_rules.specs.Walk.{matching_from};
 
 use crate::block::is_chosen;
 use crate::kept::Kept;
-use crate::lent::{Admitted, HeldFlow};
+use crate::lent::{Admitted, HeldFlow, LentRule};
 use fs_base::{Family, Memory};
 use fs_packet::{View, matches};
 
-fn lend(k: &Kept) -> Admitted<'_>
+fn lend(k: &Kept) -> LentRule<'_>
+    ensures { shown_lent result ≡ listing k.now }
+{
+    let route = k.route();
+    LentRule {
+        rule: &route.rule,
+        peer: route.peer,
+        actions: &route.actions,
+    }
+}
+
+fn lend_admitted(k: &Kept) -> Admitted<'_>
     ensures { shown_admitted result ≡ listing k.now }
 {
     let route = k.route();
@@ -39,7 +50,7 @@ fn lend_held(k: &Kept) -> HeldFlow<'_>
 pub(crate) fn push_admitted<'a>(
     family: Family,
     kept: &'a [Kept],
-    list: &mut Vec<Admitted<'a>>,
+    list: &mut Vec<LentRule<'a>>,
 ) -> Result<(), Memory>
     requires { AreSorted (routes_of kept.now) }
     ensures { OnOk result (AddsRules (listings family kept.now) list.old.items list.new.items) }
@@ -90,7 +101,7 @@ pub(crate) fn admitted_at(family: Family, kept: &[Kept], n: usize) -> Option<Adm
         let k = &kept[place];
         if is_chosen(family, kept, place, k, &mut rival) {
             if left == 0 {
-                return Some(lend(k));
+                return Some(lend_admitted(k));
             }
             left -= 1;
         }

@@ -3,14 +3,14 @@
 ghost use Rattle.std.specs.Prelude.{◌≡◌, ◌≤◌, ◌+◌, ◌<◌, ◌^◌, ◌++◌, OnOk, map, filter, length, option_map, slice_get};
 ghost use Rattle.fs_rules.specs.Group.{AreSorted, routes_of};
 ghost use Rattle.fs_rules.specs.Groups.{kept_in, HasSortedGroups};
-ghost use Rattle.fs_rules.specs.Lent.{listed, shown_admitted, shown_held, all_admitted, all_held, AddsRules, AddsHeld};
+ghost use Rattle.fs_rules.specs.Lent.{listed, shown_admitted, shown_held, shown_lent, all_admitted, all_held, AddsRules, AddsHeld};
 ghost use Rattle.fs_rules.specs.Lists.{judgement, listing};
 ghost use Rattle.fs_rules.specs.Reading.{chosen_in, listings_in, judgements_in, nth_listing_in, nth_judgement_in};
 ghost use Rattle.fs_rules.specs.Walk.{next_match};
 
 use crate::blocks;
 use crate::group::Group;
-use crate::lent::{Admitted, HeldFlow};
+use crate::lent::{Admitted, HeldFlow, LentRule};
 use fs_base::{Family, Memory};
 use fs_packet::View;
 use fs_unicast::PrefixKey;
@@ -21,7 +21,7 @@ pub(crate) fn push_admitted<'a>(
     groups: &'a BTreeMap<PrefixKey, Group>,
     rest: &'a Group,
     family: Family,
-    list: &mut Vec<Admitted<'a>>,
+    list: &mut Vec<LentRule<'a>>,
 ) -> Result<(), Memory>
     requires groups { HasSortedGroups groups.now.entries }
     requires rest { AreSorted (routes_of rest.now) }

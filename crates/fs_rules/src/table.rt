@@ -7,7 +7,7 @@ ghost use Rattle.std.specs.List.Sorted.{IsStrictlySortedBy};
 ghost use Rattle.std.specs.Map.{keys_of, remove_entry, lookup};
 ghost use Rattle.fs_unicast.specs.Unicast.{place_cmp, has_path};
 ghost use Rattle.fs_rules.specs.Table.{put_route, without_route, has_route, without_peer_unicast, without_peer_flows, related_count, related_sum, admitted, IsAdmitted, IsRuleOf, with_flow, with_path, without_path, without_peer, held_count, ValiditiesStay, AdmitsSame};
-ghost use Rattle.fs_rules.specs.Lent.{listed, shown_admitted, shown_held, held_flows, AreRising};
+ghost use Rattle.fs_rules.specs.Lent.{listed, shown_admitted, shown_held, shown_lent, held_flows, AreRising};
 ghost use Rattle.fs_rules.specs.Walk.{next_match};
 ghost use Rattle.fs_unicast.specs.Search.{held_by};
 
@@ -15,7 +15,7 @@ use crate::counts::Counts;
 use crate::flows::Flows;
 use crate::kept::Kept;
 use crate::latest::Latest;
-use crate::lent::{Admitted, HeldFlow};
+use crate::lent::{Admitted, HeldFlow, LentRule};
 use crate::route::{SharedRoute, validate};
 use fs_actions::Actions;
 use fs_base::{Config, Family, Memory, Path, Prefix, Steps};
@@ -98,7 +98,7 @@ impl<'a> Table<'a> {
 
     /// Keeps the path as the peer's unicast route at the prefix, in place of one that it holds, and validates the
     /// related flow routes anew. Where memory is refused nothing changes. At most as many steps as there are flow
-    /// routes whose destination covers the prefix or is covered by it.
+    /// routes whose destination covers the prefix or is covered by it, and none where the peer holds this very path.
     pub fn put_unicast<L: Ledger>(
         &mut self,
         peer: u16,
@@ -110,6 +110,7 @@ impl<'a> Table<'a> {
         ensures err { OnErr result (self.new ≡ self.old) }
         ensures later { steps.old ≤ steps.new }
         ensures steps { steps.new ≤ steps.old + related_count prefix self.old.flows }
+        ensures idle { self.new ≡ self.old → steps.new ≡ steps.old }
     {
         self.put_unicast_telling(peer, prefix, path, steps)?;
         Ok(())
@@ -130,6 +131,7 @@ impl<'a> Table<'a> {
         ensures same { IfOk result (λ changed. changed ≡ false → AdmitsSame self.old self.new) }
         ensures later { steps.old ≤ steps.new }
         ensures steps { steps.new ≤ steps.old + related_count prefix self.old.flows }
+        ensures idle { self.new ≡ self.old → steps.new ≡ steps.old }
     {
         let held = self.unicast.len();
         self.counts.reserve(peer)?;
@@ -158,7 +160,7 @@ impl<'a> Table<'a> {
 
     /// Takes the peer's unicast route at the prefix away, validates the related flow routes anew, and tells whether
     /// there was one. At most as many steps as there are flow routes whose destination covers the prefix or is
-    /// covered by it.
+    /// covered by it, and none where there was none.
     pub fn withdraw_unicast<L: Ledger>(
         &mut self,
         peer: u16,
@@ -169,6 +171,7 @@ impl<'a> Table<'a> {
         ensures held { result ≡ has_path peer prefix.now self.old.unicast }
         ensures later { steps.old ≤ steps.new }
         ensures steps { steps.new ≤ steps.old + related_count prefix.now self.old.flows }
+        ensures idle { self.new ≡ self.old → steps.new ≡ steps.old }
     {
         self.take_unicast(peer, prefix, steps).is_some()
     }
@@ -186,6 +189,7 @@ impl<'a> Table<'a> {
         ensures same { result ≡ false → AdmitsSame self.old self.new }
         ensures later { steps.old ≤ steps.new }
         ensures steps { steps.new ≤ steps.old + related_count prefix.now self.old.flows }
+        ensures idle { self.new ≡ self.old → steps.new ≡ steps.old }
     {
         self.take_unicast(peer, prefix, steps).unwrap_or(false)
     }
@@ -203,6 +207,7 @@ impl<'a> Table<'a> {
         ensures told { (unwrap_or result false ≡ false) ↔ ValiditiesStay self.old self.new }
         ensures later { steps.old ≤ steps.new }
         ensures steps { steps.new ≤ steps.old + related_count prefix.now self.old.flows }
+        ensures idle { self.new ≡ self.old → steps.new ≡ steps.old }
     {
         if !self.unicast.remove(peer, prefix) {
             return None;
@@ -285,8 +290,8 @@ impl<'a> Table<'a> {
     }
 
     /// The admitted rules of the family in order: each rule that has a valid route, with the most preferred one.
-    pub fn admitted(&self, family: Family) -> Result<Vec<Admitted<'_>>, Memory>
-        ensures list { IfOk result (λ list. map shown_admitted list.items ≡ map listed (admitted family self.now)) }
+    pub fn admitted(&self, family: Family) -> Result<Vec<LentRule<'_>>, Memory>
+        ensures list { IfOk result (λ list. map shown_lent list.items ≡ map listed (admitted family self.now)) }
         ensures admitted { IsAdmitted family self.now (admitted family self.now) }
         ensures rules { AllByRecursion (IsRuleOf family) (admitted family self.now) }
     {

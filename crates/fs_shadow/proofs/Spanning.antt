@@ -1,11 +1,11 @@
 -- The destination of the rule at a place.
 use Rattle.std.proofs.Common.{◌≡◌, ℕ, ◌<◌, None, List, length, get_or, ap, ◌∙◌, arith}
 use Rattle.std.proofs.lemmas.List.{get_or-map, length-map}
-use Rattle.fs_rules.specs.Lent.{Listed, all_admitted, shown_admitted}
-use Rattle.fs_rules.specs.declared.lent.Admitted.{Admitted}
+use Rattle.fs_rules.specs.Lent.{Listed, all_admitted, shown_lent}
+use Rattle.fs_rules.specs.declared.lent.LentRule.{LentRule}
 use Rattle.fs_compile.specs.Index.{span_of, spans_of}
 
-pub span_of_item : (list : List Admitted) (i : ℕ) (a : Admitted) → i < length list → get_or (spans_of (all_admitted list)) i None ≡ span_of (get_or list i a).rule.now
+pub span_of_item : (list : List LentRule) (i : ℕ) (a : LentRule) → i < length list → get_or (spans_of (all_admitted list)) i None ≡ span_of (get_or list i a).rule.now
 span_of_item list i a below =
-    get_or-map (λ (r : Listed). span_of r.rule) (all_admitted list) i (shown_admitted a) None (omega (arith, below, length-map list shown_admitted))
-    ∙ ap (λ (r : Listed). span_of r.rule) (get_or-map shown_admitted list i a (shown_admitted a) below)
+    get_or-map (λ (r : Listed). span_of r.rule) (all_admitted list) i (shown_lent a) None (omega (arith, below, length-map list shown_lent))
+    ∙ ap (λ (r : Listed). span_of r.rule) (get_or-map shown_lent list i a (shown_lent a) below)

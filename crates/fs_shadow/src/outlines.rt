@@ -4,14 +4,14 @@ ghost use Rattle.std.specs.Prelude.{◌≡◌, IfOk};
 ghost use Rattle.std.specs.List.{list_all, list_any};
 ghost use Rattle.fs_nlri.specs.Component.{parts_of};
 ghost use Rattle.fs_nlri.specs.Sound.{AreSound};
-ghost use Rattle.fs_rules.specs.Lent.{all_admitted, shown_admitted};
+ghost use Rattle.fs_rules.specs.Lent.{all_admitted, shown_lent};
 ghost use Rattle.fs_shadow.specs.Extents.{AreMeasuresOf, measure_lies_in};
 ghost use Rattle.fs_shadow.specs.Outlines.{AreOutlinesOf, IsOutlineOf, outline_takes_all};
 
 use crate::extents::Measure;
 use fs_base::{Family, Memory};
 use fs_nlri::Component;
-use fs_rules::Admitted;
+use fs_rules::LentRule;
 use std::alloc::Global;
 
 /// An admitted rule.
@@ -24,11 +24,11 @@ pub(crate) struct Outline {
 }
 
 impl Outline {
-    fn of(alloc: Global, admitted: &Admitted<'_>) -> Result<Outline, Memory>
-        ensures { IfOk result (IsOutlineOf (shown_admitted admitted.now)) }
+    fn of(alloc: Global, admitted: &LentRule<'_>) -> Result<Outline, Memory>
+        ensures { IfOk result (IsOutlineOf (shown_lent admitted.now)) }
     {
         Ok(Outline {
-            goes_on: admitted.actions.more(),
+            goes_on: admitted.actions.actions().more(),
             family: admitted.rule.family(),
             measures: measures_of(alloc, admitted.rule.components())?,
         })
@@ -45,7 +45,7 @@ impl Outline {
 }
 
 /// The outline of each rule.
-pub(crate) fn outlines_of(alloc: Global, list: &[Admitted<'_>]) -> Result<Vec<Outline>, Memory>
+pub(crate) fn outlines_of(alloc: Global, list: &[LentRule<'_>]) -> Result<Vec<Outline>, Memory>
     ensures { IfOk result (λ outlines. AreOutlinesOf (all_admitted list.now) outlines.items) }
 {
     let mut outlines = Vec::with_capacity(alloc, list.len())?;

@@ -15,7 +15,7 @@ ghost use Rattle.fs_shadow.specs.Reporting.{covered_by, report_of};
 use crate::outlines::{Outline, outlines_of};
 use fs_base::{Family, Memory};
 use fs_nlri::Rule;
-use fs_rules::{Admitted, Table};
+use fs_rules::{LentRule, Table};
 use std::alloc::Global;
 
 /// The admitted rules of the family that can never act, by their numbers from 0, in order: those that an earlier rule
@@ -36,7 +36,7 @@ pub fn report(
 }
 
 /// The report of these rules.
-fn report_of(alloc: Global, list: &[Admitted<'_>]) -> Result<Vec<(usize, usize)>, Memory>
+fn report_of(alloc: Global, list: &[LentRule<'_>]) -> Result<Vec<(usize, usize)>, Memory>
     requires { AreInOrder (all_admitted list.now) }
     ensures { IfOk result (λ pairs. pairs.items ≡ report_of (all_admitted list.now)) }
 {
@@ -48,7 +48,7 @@ fn report_of(alloc: Global, list: &[Admitted<'_>]) -> Result<Vec<(usize, usize)>
 
 /// Appends the report of these rules.
 fn append_report(
-    list: &[Admitted<'_>],
+    list: &[LentRule<'_>],
     outlines: &[Outline],
     pairs: &mut Vec<(usize, usize)>,
 ) -> Result<(), Memory>
@@ -101,7 +101,7 @@ fn first_taker(earlier: &[Outline], start: usize, later: &Outline) -> Option<usi
 
 /// The first of the earlier rules that may contain the rule of this number or a later one, where no rule before `start`
 /// does.
-fn stretch_start(list: &[Admitted<'_>], start: usize, number: usize) -> usize
+fn stretch_start(list: &[LentRule<'_>], start: usize, number: usize) -> usize
     requires inside { number < length list.now }
     requires before { start ≤ number }
     ensures within { result ≤ number }
@@ -115,7 +115,7 @@ fn stretch_start(list: &[Admitted<'_>], start: usize, number: usize) -> usize
 }
 
 /// Whether no rule before that of this number contains it or a later one, as the destinations tell.
-fn begins_anew(list: &[Admitted<'_>], number: usize) -> bool
+fn begins_anew(list: &[LentRule<'_>], number: usize) -> bool
     requires { number < length list.now }
     ensures { result ≡ begins_anew (spans_of (all_admitted list.now)) number }
 {

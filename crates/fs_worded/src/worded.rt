@@ -5,12 +5,12 @@ ghost use Rattle.std.specs.String.{string_bytes};
 ghost use Rattle.fs_base.specs.declared.config.Config.{Config};
 ghost use Rattle.fs_tape.specs.Tape.{Item};
 ghost use Rattle.fs_desk.specs.Desk.{Played};
-ghost use Rattle.fs_rules.specs.Lent.{shown_admitted};
+ghost use Rattle.fs_rules.specs.Lent.{shown_lent};
 ghost use Rattle.fs_worded.specs.Worded.{family_words, rule_line, rule_lines, words_of_held, worded};
 
 use fs_base::{Family, Memory};
 use fs_desk::Desk;
-use fs_rules::{Admitted, Table};
+use fs_rules::{LentRule, Table};
 use fs_text::print;
 use std::alloc::Global;
 
@@ -45,9 +45,9 @@ fn append_family(family: Family, table: &Table<'_>, text: &mut String) -> Result
 }
 
 /// Appends the lines of these rules.
-fn append_rules(rules: &[Admitted<'_>], text: &mut String) -> Result<(), Memory>
+fn append_rules(rules: &[LentRule<'_>], text: &mut String) -> Result<(), Memory>
     ensures { OnOk result (string_bytes text.new
-        ≡ string_bytes text.old ++ rule_lines (map shown_admitted rules.now)) }
+        ≡ string_bytes text.old ++ rule_lines (map shown_lent rules.now)) }
 {
     for rule in rules {
         append_rule(rule, text)?;
@@ -56,10 +56,10 @@ fn append_rules(rules: &[Admitted<'_>], text: &mut String) -> Result<(), Memory>
 }
 
 /// Appends the line of a rule.
-fn append_rule(rule: &Admitted<'_>, text: &mut String) -> Result<(), Memory>
-    ensures { OnOk result (string_bytes text.new ≡ string_bytes text.old ++ rule_line (shown_admitted rule.now)) }
+fn append_rule(rule: &LentRule<'_>, text: &mut String) -> Result<(), Memory>
+    ensures { OnOk result (string_bytes text.new ≡ string_bytes text.old ++ rule_line (shown_lent rule.now)) }
 {
-    print(rule.rule, rule.actions, text)?;
+    print(rule.rule, rule.actions.actions(), text)?;
     text.push_str("\n")?;
     Ok(())
 }

@@ -1,10 +1,10 @@
 use Rattle.std.proofs.Common.{ap, ◌++◌, map}
-use Rattle.fs_rules.specs.Lent.{listed, shown_admitted}
+use Rattle.fs_rules.specs.Lent.{listed, shown_lent}
 use Rattle.fs_rules.proofs.Cutting.{chosen_whole, sorted_each}
 use Rattle.fs_rules.proofs.blocks.push_admitted.Goals as goal
 
 pub loop-block-init : goal.loop-block-init
 loop-block-init c = record {
-  list = ap (λ ks. map shown_admitted c.args.list.now.items ++ map (λ k. listed k.route) ks) (chosen_whole c.args.family c.args.blocks.now c.requires.cut);
+  list = ap (λ ks. map shown_lent c.args.list.now.items ++ map (λ k. listed k.route) ks) (chosen_whole c.args.family c.args.blocks.now c.requires.cut);
   sorted = sorted_each c.args.blocks.now c.requires.sorted;
 }

@@ -1,11 +1,11 @@
 use Rattle.std.proofs.Common.{◌≡◌, ◌++◌, map}
 use Rattle.fs_rules.specs.Groups.{HasSortedGroups}
-use Rattle.fs_rules.specs.Lent.{listed, shown_admitted}
+use Rattle.fs_rules.specs.Lent.{listed, shown_lent}
 use Rattle.fs_rules.specs.Reading.{chosen_in}
 use Rattle.fs_rules.proofs.reading.push_admitted.Given as goal
 
 abbrev pub invariant-loop-group : goal.invariant-loop-group
 invariant-loop-group l = record {
-  list : map shown_admitted l.list.items ++ map (λ k. listed k.route) (chosen_in l.family l.group-iterator l.rest) ≡ map shown_admitted l.fn.list.items ++ map (λ k. listed k.route) (chosen_in l.family l.groups.entries l.rest);
+  list : map shown_lent l.list.items ++ map (λ k. listed k.route) (chosen_in l.family l.group-iterator l.rest) ≡ map shown_lent l.fn.list.items ++ map (λ k. listed k.route) (chosen_in l.family l.groups.entries l.rest);
   sorted : HasSortedGroups l.group-iterator;
 }

@@ -1,6 +1,6 @@
 use Rattle.std.proofs.Common.{◌≡◌, ℕ, ◌+◌, ◌<◌, ◌≤◌, ◌++◌, if◌then◌else◌, length, sym, subst, ◌∙◌, arith}
 use Rattle.std.proofs.lemmas.List.{length-map}
-use Rattle.fs_rules.specs.Lent.{all_admitted, shown_admitted}
+use Rattle.fs_rules.specs.Lent.{all_admitted, shown_lent}
 use Rattle.fs_shadow.specs.Reporting.{report_of}
 use Rattle.fs_shadow.proofs.Destinations.{AreApart}
 use Rattle.fs_shadow.proofs.Reported.{apart_later, got_at, none_before, outlines_size, report_ends, report_step, stretch_apart}
@@ -8,7 +8,7 @@ use Rattle.fs_shadow.proofs.reporting.append_report.Goals as goal
 
 pub stretch_start-start-requires-clause-inside : goal.stretch_start-start-requires-clause-inside
 stretch_start-start-requires-clause-inside c =
-    omega (arith, c.loop-number-test.true, outlines_size (all_admitted c.args.list.now) c.args.outlines.now c.requires.outlines, length-map c.args.list.now shown_admitted)
+    omega (arith, c.loop-number-test.true, outlines_size (all_admitted c.args.list.now) c.args.outlines.now c.requires.outlines, length-map c.args.list.now shown_lent)
 
 pub loop-number-preserved : goal.loop-number-preserved
 loop-number-preserved c = record {

@@ -3,13 +3,13 @@ use Rattle.std.specs.List.{AllByRecursion}
 use Rattle.fs_base.proofs.Lists.{each_mapped}
 use Rattle.fs_rules.specs.Table.{IsRuleOf}
 use Rattle.fs_rules.specs.Group.{routes_of, chosen}
-use Rattle.fs_rules.specs.Lent.{shown_admitted}
+use Rattle.fs_rules.specs.Lent.{shown_lent}
 use Rattle.fs_rules.proofs.Chosen.{admitted_is, listed_is, ok_along}
 use Rattle.fs_rules.proofs.Complete.{is_admitted_list, sorted_now}
 use Rattle.fs_rules.proofs.table.Table.admitted.Goals as goal
 
 pub returns-clause-list : goal.returns-clause-list
-returns-clause-list c = ok_along (λ list. map shown_admitted list.items) _ _ c.admitted.result (listed_is c.args.family c.self.inside.config.now c.self.inside.unicast c.self.inside.flows c.args.self.now c.self.invariant.keeps c.self.view_is) c.admitted.ensures.list
+returns-clause-list c = ok_along (λ list. map shown_lent list.items) _ _ c.admitted.result (listed_is c.args.family c.self.inside.config.now c.self.inside.unicast c.self.inside.flows c.args.self.now c.self.invariant.keeps c.self.view_is) c.admitted.ensures.list
 
 pub returns-clause-admitted : goal.returns-clause-admitted
 returns-clause-admitted c = is_admitted_list c.args.family c.args.self.now (sorted_now (routes_of c.self.inside.flows) c.args.self.now c.self.invariant.keeps.sorted (ap (λ held. held.flows) c.self.view_is))

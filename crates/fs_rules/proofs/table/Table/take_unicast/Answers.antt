@@ -1,11 +1,11 @@
-use Rattle.std.proofs.Common.{◌≡◌, refl, sym, ap, ◌∙◌, subst}
+use Rattle.std.proofs.Common.{◌≡◌, refl, sym, ap, ◌∙◌, subst, length, arith}
 use Rattle.std.specs.BTreeMap.{is_at}
 use Rattle.std.specs.Map.{remove_entry}
 use Rattle.fs_unicast.specs.Unicast.{place_cmp}
 use Rattle.fs_rules.specs.Counts.{IsKept}
 use Rattle.fs_rules.specs.Group.{routes_of}
-use Rattle.fs_rules.specs.Table.{ValiditiesStay}
-use Rattle.fs_rules.proofs.Changes.{routes_mended, remove_nothing}
+use Rattle.fs_rules.specs.Table.{Held, ValiditiesStay}
+use Rattle.fs_rules.proofs.Changes.{routes_mended, remove_nothing, removes_one}
 use Rattle.fs_rules.proofs.Chosen.{held_of, unicast_changed, keeps_after, agree_taken}
 use Rattle.fs_rules.proofs.Counting.{counted_taken}
 use Rattle.fs_rules.proofs.Validities.{validities_same, told_validities}
@@ -33,3 +33,9 @@ pub returns-then-not-remove-clause-told : goal.returns-then-not-remove-clause-to
 returns-then-not-remove-clause-told g c = ((λ h. subst (λ u. ValiditiesStay c.args.self.now (held_of c.self.inside.config.now u (routes_of c.self.inside.flows))) (sym same) (subst (ValiditiesStay c.args.self.now) (sym c.self.view_is) (validities_same c.args.self.now))), (λ m. refl)) where
   same : c.remove.new.self ≡ c.self.inside.unicast
   same = c.remove.ensures.removed ∙ remove_nothing (is_at (place_cmp (record { prefix = c.args.prefix.now; peer = c.args.peer }))) c.self.inside.unicast (sym c.remove.ensures.held ∙ c.if-not-remove.true)
+
+pub returns-clause-idle : goal.returns-clause-idle
+returns-clause-idle g c = λ e.
+    let one = removes_one (is_at (place_cmp (record { prefix = c.args.prefix.now; peer = c.args.peer }))) c.self.inside.unicast (sym c.remove.ensures.held ∙ c.if-not-remove.false) in
+    let same = ap length (sym c.remove.ensures.removed ∙ ap (λ (held : Held). held.unicast) (e ∙ sym c.self.view_is)) in
+    absurd (omega (arith, one, same))
