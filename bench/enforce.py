@@ -1,11 +1,13 @@
 #!/usr/bin/env python3
 """Times `enforce` on a made-up capture and reports packets per second and the peak of memory.
 
-    bench/enforce.py PROGRAM [--packets N] [--rules N] [--runs N] [--keep DIR]
+    bench/enforce.py PROGRAM [--mix ports|atk] [--packets N] [--rules N] [--runs N] [--keep DIR]
 
 One peer announces 192.0.2.0/24 and flow rules under it, each for one destination port of TCP. Every other packet goes
-to the prefix, to a port that is drawn from twice as many as there are rules; the rest go elsewhere. The draw is the
-same in each run, so that results compare.
+to the prefix, to a port that is drawn from twice as many as there are rules; the rest go elsewhere. With `--mix atk` the
+rules are for one host under attack: reflected UDP by source ports and length, SYN floods, ranges of ports, some by their
+source too. Half of the packets are drawn from rules, a quarter miss them by their source, and a quarter go elsewhere. The
+draw is the same in each run, so that results compare.
 """
 
 import argparse
@@ -31,6 +33,10 @@ PATH = bytes.fromhex("40010100 400206 02010000fde9")
 OPEN = bytes.fromhex("04 fde9 00b4 c6336401 08 0206 41040000fde9")
 UNICAST = bytes.fromhex("0000 0014 40010100 400206 02010000fde9 400304c6336401 18c00002")
 FIRST_PORT = 1000
+ATTACKED = bytes([192, 0, 2, 9])
+# Ports from which servers reflect more than they are sent.
+REFLECTORS = (17, 19, 53, 111, 123, 137, 161, 389, 520, 1434, 1900, 5353, 11211, 27015)
+SERVICES = (22, 25, 53, 80, 443, 8080)
 
 
 def message(kind, body):
@@ -39,7 +45,11 @@ def message(kind, body):
 
 def flow_update(port):
     """An UPDATE that discards TCP to one port of 192.0.2.0/24."""
-    nlri = bytes.fromhex("0118c00002 038106 0591") + struct.pack(">H", port)
+    return discard(bytes.fromhex("0118c00002 038106 0591") + struct.pack(">H", port))
+
+
+def discard(nlri):
+    """An UPDATE of a rule that discards."""
     reach = bytes.fromhex("0001 85 00 00") + bytes([len(nlri)]) + nlri
     attributes = (
         b"\x80\x0e" + bytes([len(reach)]) + reach + PATH + bytes.fromhex("c01008 8006fde900000000")
@@ -52,9 +62,13 @@ def record(kind, peer, payload=b""):
 
 
 def tape(rules):
+    return tape_of(flow_update(FIRST_PORT + rule) for rule in range(rules))
+
+
+def tape_of(updates):
     parts = [b"FSTAPE1\n", record(1, 1), record(2, 1, message(1, OPEN) + message(4, b""))]
     parts.append(record(2, 1, message(2, UNICAST)))
-    parts += [record(2, 1, flow_update(FIRST_PORT + rule)) for rule in range(rules)]
+    parts += [record(2, 1, update) for update in updates]
     return b"".join(parts)
 
 
@@ -67,18 +81,75 @@ def draws():
 
 
 def packet(destination, port):
-    ip = bytes.fromhex("45000028 00000000 40060000 cb007105") + destination
-    return ip + struct.pack(">HH", 50000, port) + bytes.fromhex("00000000 00000000 50022000 00000000")
+    return ipv4(b"\xcb\x00\x71\x05", destination, 6, 50000, port, 40)
+
+
+def ipv4(source, destination, protocol, source_port, port, length):
+    """The first 40 octets of a packet, of TCP with SYN."""
+    ip = struct.pack(">BBHIBBH", 0x45, 0, length, 0, 64, protocol, 0) + source + destination
+    return ip + struct.pack(">HH", source_port, port) + bytes.fromhex("00000000 00000000 50022000 00000000")
+
+
+def operators(kind, *pairs):
+    """A component of numbers of two octets, each with its operator."""
+    codes = [operator | 0x10 for operator, _ in pairs]
+    codes[-1] |= 0x80
+    return bytes([kind]) + b"".join(struct.pack(">BH", code, number) for code, (_, number) in zip(codes, pairs))
+
+
+def attack(drawn):
+    """A rule for the host under attack; and of a packet that it matches the source, the protocol, the ports and the
+    length."""
+    low, high, number, port = (next(drawn) for _ in range(4))
+    source, protocol, source_port, port = struct.pack(">I", high % 2**32), 17, 1024 + high % 60000, 1 + port % 60000
+    length = 60 + low % 1300
+    value = b"\x01\x20" + ATTACKED + (b"\x02\x10" + source[:2] if number % 5 < 2 else b"")
+    if number % 20 < 9:
+        ports = sorted({REFLECTORS[(low + step * high) % len(REFLECTORS)] for step in range(1 + number % 4)})
+        source_port = ports[0]
+        value += b"\x03\x81\x11" + operators(6, *((1, one) for one in ports)) + operators(10, (3, length))
+    elif number % 20 < 15:
+        protocol, port = 6, port if low % 2 else SERVICES[high % len(SERVICES)]
+        value += b"\x03\x81\x06" + operators(5, (1, port)) + b"\x09\x81\x02"
+    else:
+        value += b"\x03\x81\x11" + operators(5, (3, port), (0x45, port + low % 4000))
+    return value, (source, protocol, source_port, port, length)
+
+
+def attack_packets(packets, matched):
+    drawn = draws()
+    for number in range(packets):
+        source, *others = matched[next(drawn) % len(matched)]
+        if number % 4 > 1:
+            source = struct.pack(">I", next(drawn) % 2**32)
+        yield ipv4(source, ATTACKED if number % 4 < 3 else source[::-1], *others)
+
+
+def port_packets(packets, rules):
+    drawn = draws()
+    for number in range(packets):
+        port = FIRST_PORT + next(drawn) % (2 * rules)
+        prefix = b"\xc0\x00\x02" if number % 2 == 0 else b"\xcb\x00\x71"
+        yield packet(prefix + bytes([next(drawn) % 256]), port)
+
+
+def attacked(rules):
+    """The UPDATEs of so many rules for the host under attack, and of each a packet that it matches."""
+    drawn, matched = draws(), {}
+    while len(matched) < rules:
+        value, fields = attack(drawn)
+        matched[value] = fields
+    return [discard(value) for value in matched], list(matched.values())
 
 
 def write_capture(path, packets, rules):
-    drawn = draws()
+    write_packets(path, port_packets(packets, rules))
+
+
+def write_packets(path, packets):
     with open(path, "wb") as out:
         out.write(struct.pack("<IHHIIII", 0xA1B2C3D4, 2, 4, 0, 0, 262144, 101))
-        for number in range(packets):
-            port = FIRST_PORT + next(drawn) % (2 * rules)
-            prefix = b"\xc0\x00\x02" if number % 2 == 0 else b"\xcb\x00\x71"
-            octets = packet(prefix + bytes([next(drawn) % 256]), port)
+        for number, octets in enumerate(packets):
             out.write(struct.pack("<IIII", number // 1000, number % 1000, len(octets), len(octets)))
             out.write(octets)
 
@@ -93,6 +164,7 @@ def run_once(command, folder):
 def main():
     parser = argparse.ArgumentParser(description=__doc__.split("\n", 1)[0])
     parser.add_argument("program", type=pathlib.Path)
+    parser.add_argument("--mix", choices=("ports", "atk"), default="ports")
     parser.add_argument("--packets", type=int, default=1_000_000)
     parser.add_argument("--rules", type=int, default=100)
     parser.add_argument("--runs", type=int, default=3)
@@ -101,12 +173,17 @@ def main():
     if not 1 <= options.rules <= 64000:
         parser.error("--rules is from 1 to 64000")
 
-    with tempfile.TemporaryDirectory() as made:
-        folder = options.keep or pathlib.Path(made)
+    with tempfile.TemporaryDirectory() as name:
+        folder = options.keep or pathlib.Path(name)
         folder.mkdir(parents=True, exist_ok=True)
         (folder / "config").write_text(CONFIG)
-        (folder / "tape").write_bytes(tape(options.rules))
-        write_capture(folder / "capture", options.packets, options.rules)
+        if options.mix == "atk":
+            updates, matched = attacked(options.rules)
+            (folder / "tape").write_bytes(tape_of(updates))
+            write_packets(folder / "capture", attack_packets(options.packets, matched))
+        else:
+            (folder / "tape").write_bytes(tape(options.rules))
+            write_capture(folder / "capture", options.packets, options.rules)
         words = [str(folder / name) for name in ("config", "tape", "capture")]
         best = None
         for _ in range(options.runs):

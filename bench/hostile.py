@@ -15,7 +15,7 @@ import subprocess
 import sys
 import tempfile
 
-from enforce import CONFIG, OPEN, PATH, draws, message, packet, record
+from enforce import CONFIG, OPEN, PATH, attack_packets, attacked, draws, message, packet, record, tape_of
 
 ATTRIBUTES = PATH + bytes.fromhex("400304c6336401")
 MAGIC = b"FSTAPE1\n"
@@ -108,6 +108,24 @@ def no_destination(count):
     parts = [up(1)]
     parts += [flow(port(number) + b"\x06\x91" + struct.pack(">H", number // 65536)) for number in drawn_order(count)]
     return b"".join(parts), EMPTY_CAPTURE
+
+
+def capture_of(packets):
+    return EMPTY_CAPTURE + b"".join(struct.pack("<IIII", 0, 0, len(octets), len(octets)) + octets for octets in packets)
+
+
+def packets_to_one_destination(count):
+    """Packets to a host under attack, for which as many rules are."""
+    updates, matched = attacked(count)
+    return tape_of(updates)[len(MAGIC):], capture_of(attack_packets(100000, matched))
+
+
+def packets_of_no_destination(count):
+    """Packets, a quarter of them to a port for which one of as many rules without a destination is."""
+    tape, _ = no_destination(count)
+    drawn = draws()
+    ports = (next(drawn) % (4 * count) for _ in range(100000))
+    return tape, capture_of(packet(bytes([192, 0, 2, 1]), port % 65536) for port in ports)
 
 
 def and_group(count):
@@ -269,6 +287,8 @@ SHAPES = [
     ("a wide route given again", given_again, 3000),
     ("one destination", one_destination, 30000),
     ("no destination", no_destination, 30000),
+    ("packets to one destination", packets_to_one_destination, 8000),
+    ("packets, rules without a destination", packets_of_no_destination, 8000),
     ("pairs in one group", and_group, 1000),
     ("headers in a chain", header_chains, 4000),
     ("rules withdrawn, never held", never_held, 50000),

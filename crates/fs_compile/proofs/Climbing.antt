@@ -1,13 +1,13 @@
 -- The search through buckets, from one to its parent: what it passes holds no rule that matches, and what it tests is near.
-use Rattle.std.proofs.Common.{◌≡◌, ℕ, ◌+◌, ◌-◌, ◌<◌, ◌≤◌, ◌⊎◌, inl, inr, max, refl, sym, subst, ◌∙◌, Bool, true, false, true≢false, Option, Some, None, MatchOption, IfSome, cond, map, List, length, get_or, count_by, arith}
+use Rattle.std.proofs.Common.{◌≡◌, ℕ, ◌+◌, ◌-◌, ◌<◌, ◌≤◌, ◌⊎◌, inl, inr, max, sym, ap, subst, ◌∙◌, Bool, true, false, true≢false, Option, Some, None, MatchOption, IfSome, cond, map, List, length, get_or, count_by, arith}
 use Rattle.std.proofs.lemmas.Bool.{cases_lt}
 use Rattle.std.proofs.lemmas.List.{get_or-map}
 use Rattle.std.proofs.lemmas.List.Sums.{sum_by-take-le}
 use Rattle.fs_base.proofs.Bools.{false_from}
 use Rattle.fs_compile.specs.declared.nodes.Node.{Node}
 use Rattle.fs_compile.specs.Buckets.{AreBuckets, node_at}
-use Rattle.fs_compile.specs.Search.{AreNear, Found, Missed, Within, marked}
-use Rattle.fs_compile.proofs.Counts.{marked_all, marked_later, marked_run}
+use Rattle.fs_compile.specs.Search.{AreNear, Found, Missed, Within, marked, tested_to}
+use Rattle.fs_compile.proofs.Counts.{marked_all, marked_later, marked_tested}
 
 -- Stretches joined.
 pub missed_join : (hits : List Bool) (lo start low to : ℕ) → low ≡ max lo start → Missed hits lo start → Missed hits low to → Missed hits lo to
@@ -141,67 +141,47 @@ next_starts lasts nodes homes count at s inside = (own, up, omega (arith, all, t
   few = s.few
 
 -- The steps: none for a bucket that isn't searched; of one that is, each rule tested is near.
-pub skipped_cost : (lasts : List ℕ) (nodes : List (Node ℕ)) (homes : List ℕ) (count at : ℕ) (near : List Bool) → AreBuckets lasts nodes homes count → at < length lasts
-    → marked (node_at nodes at).start near ≤ marked (node_at nodes (node_at nodes at).parent).start near
-skipped_cost lasts nodes homes count at near s inside =
+pub skipped_cost : (lasts : List ℕ) (nodes : List (Node ℕ)) (homes : List ℕ) (count at lo : ℕ) (near : List Bool) → AreBuckets lasts nodes homes count → at < length lasts
+    → marked (max lo (node_at nodes at).start) near ≤ marked (max lo (node_at nodes (node_at nodes at).parent).start) near
+skipped_cost lasts nodes homes count at lo near s inside =
     let n = next_starts lasts nodes homes count at s inside in
     let a : (node_at nodes at).start ≤ (node_at nodes (at + 1)).start = n.0 in
     let b : (node_at nodes (at + 1)).start ≤ (node_at nodes (node_at nodes at).parent).start = n.1 in
-    marked_later (node_at nodes at).start (node_at nodes (node_at nodes at).parent).start near (omega (arith, a, b))
+    marked_later (max lo (node_at nodes at).start) (max lo (node_at nodes (node_at nodes at).parent).start) near (omega (arith, a, b))
 
-pub searched_cost : (lasts : List ℕ) (nodes : List (Node ℕ)) (homes : List ℕ) (count d at lo low : ℕ) (near : List Bool) → AreBuckets lasts nodes homes count
-    → AreNear lasts nodes homes d count near → at < length lasts → d ≤ get_or lasts at 0 → (node_at nodes at).first ≤ d → low ≡ max lo (node_at nodes at).start
-    → marked (node_at nodes at).start near + ((node_at nodes (at + 1)).start - low) ≤ marked (node_at nodes (node_at nodes at).parent).start near
-searched_cost lasts nodes homes count d at lo low near s n inside ends begins e =
-    omega (arith, run, later, e) where
-      parts : ((node_at nodes at).start ≤ (node_at nodes (at + 1)).start) × ((node_at nodes (at + 1)).start ≤ (node_at nodes (node_at nodes at).parent).start) × ((node_at nodes (at + 1)).start ≤ count)
-      parts = next_starts lasts nodes homes count at s inside
+searched_cost : (lasts : List ℕ) (nodes : List (Node ℕ)) (homes : List ℕ) (count d at low stop : ℕ) (near : List Bool) → AreBuckets lasts nodes homes count
+    → AreNear lasts nodes homes d count near → at < length lasts → d ≤ get_or lasts at 0 → (node_at nodes at).first ≤ d
+    → (node_at nodes at).start ≤ low → stop ≤ (node_at nodes (at + 1)).start → marked low near + (stop - low) ≤ marked (max low stop) near
+searched_cost lasts nodes homes count d at low stop near s n inside ends begins from to = marked_tested near low stop most each where
+  most : stop ≤ length near
+  most =
+      let a : (node_at nodes (at + 1)).start ≤ count = (next_starts lasts nodes homes count at s inside).2 in
+      let size : length near ≡ count = n.size in
+      omega (arith, size, a, to)
 
-      own : (node_at nodes at).start ≤ (node_at nodes (at + 1)).start
-      own = parts.0
+  each : (k : ℕ) → low ≤ k → k < stop → get_or near k false ≡ true
+  each k above below =
+      let before = home_before lasts nodes homes count (at + 1) k s (omega (arith, inside)) (omega (arith, below, to)) in
+      let least : at ≤ get_or homes k 0 = home_from lasts nodes homes count at k s (omega (arith, inside)) before.0 (omega (arith, from, above)) in
+      let most : get_or homes k 0 < at + 1 = before.1 in
+      let same : at ≡ get_or homes k 0 = omega (arith, least, most) in
+      n.held k before.0 (subst (λ h. (node_at nodes h).first ≤ d) same begins) (subst (λ h. d ≤ get_or lasts h 0) same ends)
 
-      later : marked (node_at nodes (at + 1)).start near ≤ marked (node_at nodes (node_at nodes at).parent).start near
-      later = marked_later (node_at nodes (at + 1)).start (node_at nodes (node_at nodes at).parent).start near parts.1
+-- a scan in which each rule tested is near
+scanned_cost : (hits near : List Bool) (low to before after : ℕ) (r : Option ℕ) → MatchOption r (Missed hits low to) (Found hits low to)
+    → ((stop : ℕ) → stop ≤ to → marked low near + (stop - low) ≤ marked (max low stop) near)
+    → after ≤ before + (tested_to r to - low) → after + marked low near ≤ before + marked (tested_to r (max low to)) near
+scanned_cost hits near low to before after None found cost own = let c : marked low near + (to - low) ≤ marked (max low to) near = cost to (omega arith) in omega (arith, c, own)
+scanned_cost hits near low to before after (Some k) found cost own =
+    let above : low ≤ k = found.above in
+    let below : k < to = found.below in
+    let same : max low (k + 1) ≡ k + 1 = omega (arith, above) in
+    let c : marked low near + (k + 1 - low) ≤ marked (k + 1) near = subst (λ n. marked low near + (k + 1 - low) ≤ marked n near) same (cost (k + 1) (omega (arith, below))) in
+    omega (arith, c, own)
 
-      size : length near ≡ count
-      size = n.size
-
-      most : (node_at nodes (at + 1)).start ≤ length near
-      most = let a : (node_at nodes (at + 1)).start ≤ count = parts.2 in omega (arith, size, a)
-
-      each : (k : ℕ) → (node_at nodes at).start ≤ k → k < (node_at nodes (at + 1)).start → get_or near k false ≡ true
-      each k low below =
-          let before = home_before lasts nodes homes count (at + 1) k s (omega (arith, inside)) below in
-          let from : at ≤ get_or homes k 0 = home_from lasts nodes homes count at k s (omega (arith, inside)) before.0 low in
-          let to : get_or homes k 0 < at + 1 = before.1 in
-          let same : at ≡ get_or homes k 0 = omega (arith, from, to) in
-          n.held k before.0 (subst (λ h. (node_at nodes h).first ≤ d) same begins) (subst (λ h. d ≤ get_or lasts h 0) same ends)
-
-      run : marked (node_at nodes at).start near + ((node_at nodes (at + 1)).start - (node_at nodes at).start) ≤ marked (node_at nodes (at + 1)).start near
-      run =
-          let whole : (node_at nodes (at + 1)).start ≡ (node_at nodes at).start + ((node_at nodes (at + 1)).start - (node_at nodes at).start) = omega (arith, own) in
-          marked_run near (node_at nodes at).start ((node_at nodes (at + 1)).start - (node_at nodes at).start) (node_at nodes (at + 1)).start whole most each
-
--- the rules without a bucket are all near
-pub tail_cost : (lasts : List ℕ) (nodes : List (Node ℕ)) (homes : List ℕ) (count d at lo low : ℕ) (near : List Bool) → AreBuckets lasts nodes homes count
-    → AreNear lasts nodes homes d count near → at ≡ length lasts → low ≡ max lo (length homes)
-    → marked (node_at nodes at).start near + (count - low) ≤ count_by (λ b. b) near
-tail_cost lasts nodes homes count d at lo low near s n e l = omega (arith, run, whole, start, l, few) where
-  few : length homes ≤ count
-  few = s.few
-
-  size : length near ≡ count
-  size = n.size
-
-  start : marked (node_at nodes at).start near ≡ marked (length homes) near
-  start = subst (λ i. marked (node_at nodes i).start near ≡ marked (length homes) near) (sym e) (subst (λ i. marked i near ≡ marked (length homes) near) (sym s.tail) refl)
-
-  run : marked (length homes) near + (count - length homes) ≤ marked count near
-  run = let split : count ≡ length homes + (count - length homes) = omega (arith, few) in
-      marked_run near (length homes) (count - length homes) count split (omega (arith, size)) (λ k a b. n.bare k a b)
-
-  whole : marked count near ≡ count_by (λ b. b) near
-  whole = marked_all near count (omega (arith, size))
+tested_later : (r : Option ℕ) (n m : ℕ) (near : List Bool) → marked n near ≤ marked m near → marked (tested_to r n) near ≤ marked (tested_to r m) near
+tested_later None n m near h = h
+tested_later (Some k) n m near h = omega arith
 
 option_weaker : {A : Type 0} (P P' : Type 0) (Q Q' : A → Type 0) (r : Option A) → (P → P') → ((k : A) → Q k → Q' k) → MatchOption r P Q → MatchOption r P' Q'
 option_weaker P P' Q Q' None f g h = f h
@@ -224,16 +204,30 @@ searched_found lasts nodes homes count d at lo low node end hits near r s n w in
     most : (node_at nodes (at + 1)).start ≤ count
     most = (next_starts lasts nodes homes count at s inside).2
 
-pub searched_steps : (lasts : List ℕ) (nodes : List (Node ℕ)) (homes : List ℕ) (count d at lo low before after : ℕ) (node end : Node ℕ) (near : List Bool)
+pub searched_steps : (lasts : List ℕ) (nodes : List (Node ℕ)) (homes : List ℕ) (count d at lo low before after : ℕ) (node end : Node ℕ) (hits near : List Bool) (r : Option ℕ)
     → AreBuckets lasts nodes homes count → AreNear lasts nodes homes d count near → at < length lasts → d ≤ get_or lasts at 0
     → node ≡ node_at nodes at → end ≡ node_at nodes (at + 1) → low ≡ max lo node.start → node.first ≤ d
-    → after ≤ before + (end.start - low)
-    → after + marked (node_at nodes at).start near ≤ before + marked (node_at nodes (node_at nodes at).parent).start near
-searched_steps lasts nodes homes count d at lo low before after node end near s n inside ends e f l begins cost =
-    let most : after ≤ before + ((node_at nodes (at + 1)).start - low) = subst (λ (x : Node ℕ). after ≤ before + (x.start - low)) f cost in
-    let own : marked (node_at nodes at).start near + ((node_at nodes (at + 1)).start - low) ≤ marked (node_at nodes (node_at nodes at).parent).start near =
-    searched_cost lasts nodes homes count d at lo low near s n inside ends (subst (λ (x : Node ℕ). x.first ≤ d) e begins) (subst (λ (x : Node ℕ). low ≡ max lo x.start) e l) in
-    omega (arith, most, own)
+    → MatchOption r (Missed hits low end.start) (Found hits low end.start) → after ≤ before + (tested_to r end.start - low)
+    → after + marked (max lo (node_at nodes at).start) near ≤ before + marked (tested_to r (max lo (node_at nodes (node_at nodes at).parent).start)) near
+searched_steps lasts nodes homes count d at lo low before after node end hits near r s n inside ends e f l begins found cost =
+    subst (λ m. after + marked m near ≤ before + marked (tested_to r (max lo (node_at nodes (node_at nodes at).parent).start)) near) low_is (omega (arith, own, later)) where
+      low_is : low ≡ max lo (node_at nodes at).start
+      low_is = subst (λ (x : Node ℕ). low ≡ max lo x.start) e l
+
+      end_is : end.start ≡ (node_at nodes (at + 1)).start
+      end_is = ap (λ (x : Node ℕ). x.start) f
+
+      own : after + marked low near ≤ before + marked (tested_to r (max low end.start)) near
+      own = scanned_cost hits near low end.start before after r found
+          (λ stop to. searched_cost lasts nodes homes count d at low stop near s n inside ends (subst (λ (x : Node ℕ). x.first ≤ d) e begins) (omega (arith, low_is)) (omega (arith, to, end_is))) cost
+
+      later : marked (tested_to r (max low end.start)) near ≤ marked (tested_to r (max lo (node_at nodes (node_at nodes at).parent).start)) near
+      later =
+          let parts = next_starts lasts nodes homes count at s inside in
+          let a : (node_at nodes at).start ≤ (node_at nodes (at + 1)).start = parts.0 in
+          let b : (node_at nodes (at + 1)).start ≤ (node_at nodes (node_at nodes at).parent).start = parts.1 in
+          tested_later r (max low end.start) (max lo (node_at nodes (node_at nodes at).parent).start) near
+          (marked_later (max low end.start) (max lo (node_at nodes (node_at nodes at).parent).start) near (omega (arith, low_is, end_is, a, b)))
 
 -- one more that doesn't match
 pub missed_more : (hits : List Bool) (lo n : ℕ) → Missed hits lo n → get_or hits n false ≡ false → Missed hits lo (n + 1)
@@ -266,10 +260,28 @@ pub found_inside : (hits : List Bool) (low to start count : ℕ) (r : Option ℕ
 found_inside hits low to start count None above below found = tt
 found_inside hits low to start count (Some k) above below found = let a : low ≤ k = found.above in let b : k < to = found.below in (omega (arith, above, a), omega (arith, below, b))
 
--- what is tested behind the last bucket
-pub climbed_cost : (lasts : List ℕ) (nodes : List (Node ℕ)) (homes : List ℕ) (count d at lo low before between after : ℕ) (near : List Bool) → AreBuckets lasts nodes homes count
+-- what is tested behind the last bucket, where all rules are near
+pub climbed_cost : (lasts : List ℕ) (nodes : List (Node ℕ)) (homes : List ℕ) (count d at lo low before between after : ℕ) (hits near : List Bool) (r : Option ℕ) → AreBuckets lasts nodes homes count
     → AreNear lasts nodes homes d count near → at ≡ length lasts → low ≡ max lo (length homes)
-    → between ≤ before + marked (node_at nodes at).start near → after ≤ between + (count - low) → after ≤ before + count_by (λ b. b) near
-climbed_cost lasts nodes homes count d at lo low before between after near sound n last least inv own =
-    let rest : marked (node_at nodes at).start near + (count - low) ≤ count_by (λ b. b) near = tail_cost lasts nodes homes count d at lo low near sound n last least in
-    omega (arith, inv, own, rest)
+    → MatchOption r (Missed hits low count) (Found hits low count)
+    → between + marked lo near ≤ before + marked (max lo (node_at nodes at).start) near → after ≤ between + (tested_to r count - low)
+    → after + marked lo near ≤ before + marked (tested_to r count) near
+climbed_cost lasts nodes homes count d at lo low before between after hits near r s n last least found inv cost = omega (arith, so_far, own, whole) where
+  size : length near ≡ count
+  size = n.size
+
+  so_far : between + marked lo near ≤ before + marked low near
+  so_far =
+      let start : (node_at nodes at).start ≡ length homes = ap (λ i. (node_at nodes i).start) last ∙ s.tail in
+      let same : max lo (node_at nodes at).start ≡ low = omega (arith, start, least) in
+      subst (λ m. between + marked lo near ≤ before + marked m near) same inv
+
+  own : after + marked low near ≤ between + marked (tested_to r (max low count)) near
+  own = scanned_cost hits near low count between after r found
+      (λ stop to. marked_tested near low stop (omega (arith, size, to)) (λ k above below. n.bare k (omega (arith, least, above)) (omega (arith, below, to)))) cost
+
+  whole : marked (tested_to r (max low count)) near ≤ marked (tested_to r count) near
+  whole =
+      let all : marked (max low count) near ≤ count_by (λ b. b) near = marked_most (max low count) near in
+      let most : marked count near ≡ count_by (λ b. b) near = marked_all near count (omega (arith, size)) in
+      tested_later r (max low count) count near (omega (arith, all, most))

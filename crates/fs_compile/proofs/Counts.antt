@@ -1,5 +1,5 @@
 -- Counts of what holds in the front of a list of tests.
-use Rattle.std.proofs.Common.{◌≡◌, ℕ, zero, suc, ◌+◌, ◌-◌, ◌<◌, ◌≤◌, ◌⊎◌, inl, inr, refl, sym, ap, subst, ◌∙◌, Bool, true, false, List, length, get_or, count_by, arith, take_all}
+use Rattle.std.proofs.Common.{◌≡◌, ℕ, zero, suc, ◌+◌, ◌-◌, ◌<◌, ◌≤◌, ◌⊎◌, inl, inr, refl, sym, ap, subst, ◌∙◌, max, Bool, true, false, List, length, get_or, count_by, arith, take_all}
 use Rattle.std.proofs.lemmas.Bool.{cases_lt}
 use Rattle.fs_compile.specs.Search.{marked}
 use Rattle.std.proofs.lemmas.List.Sums.{count_by_more_no, count_by_more_yes}
@@ -29,7 +29,7 @@ marked_later n m near h = let whole : m ≡ n + (m - n) = omega (arith, h) in al
       subst (λ x. marked n near ≤ marked x near) (sym same) (omega (arith, first, step))
 
 -- a stretch in which all hold
-pub marked_run : (near : List Bool) (i n j : ℕ) → j ≡ i + n → j ≤ length near → ((k : ℕ) → i ≤ k → k < j → get_or near k false ≡ true) → marked i near + n ≤ marked j near
+marked_run : (near : List Bool) (i n j : ℕ) → j ≡ i + n → j ≤ length near → ((k : ℕ) → i ≤ k → k < j → get_or near k false ≡ true) → marked i near + n ≤ marked j near
 marked_run near i zero j e most all = let same : j ≡ i = omega (arith, e) in subst (λ x. marked i near + 0 ≤ marked x near) (sym same) (omega arith)
 marked_run near i (suc n) j e most all =
     let short : i + n ≤ length near = omega (arith, e, most) in
@@ -40,6 +40,20 @@ marked_run near i (suc n) j e most all =
     let more : marked (i + n + 1) near ≡ marked (i + n) near + 1 = count_by_more_yes (λ b. b) near (i + n) false inside (all (i + n) low within) in
     let same : j ≡ i + n + 1 = omega (arith, e) in
     subst (λ x. marked i near + suc n ≤ marked x near) (sym same) (omega (arith, before, more))
+
+-- what is tested of a stretch in which all hold
+pub marked_tested : (near : List Bool) (low stop : ℕ) → stop ≤ length near → ((k : ℕ) → low ≤ k → k < stop → get_or near k false ≡ true)
+    → marked low near + (stop - low) ≤ marked (max low stop) near
+marked_tested near low stop most all = by (cases_lt low stop) where
+  by : (low < stop) ⊎ (stop ≤ low) → marked low near + (stop - low) ≤ marked (max low stop) near
+  by (inl less) =
+      let whole : stop ≡ low + (stop - low) = omega (arith, less) in
+      let same : max low stop ≡ stop = omega (arith, less) in
+      subst (λ n. marked low near + (stop - low) ≤ marked n near) (sym same) (marked_run near low (stop - low) stop whole most all)
+  by (inr past) =
+      let none : stop - low ≡ 0 = omega (arith, past) in
+      let same : max low stop ≡ low = omega (arith, past) in
+      subst (λ n. marked low near + (stop - low) ≤ marked n near) (sym same) (omega (arith, none))
 
 pub marked_all : (near : List Bool) (n : ℕ) → length near ≤ n → marked n near ≡ count_by (λ b. b) near
 marked_all near n h = ap (λ (xs : List Bool). count_by (λ b. b) xs) (take_all n near h)

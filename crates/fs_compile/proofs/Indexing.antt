@@ -1,15 +1,17 @@
 -- What the search over the buckets of an index says of the rules that it stands for.
-use Rattle.std.proofs.Common.{◌≡◌, ℕ, zero, suc, ◌+◌, ◌-◌, ◌<◌, ◌≤◌, ◌⊎◌, inl, inr, refl, sym, ap, ap₂, subst, ◌∙◌, ◌++◌, Bool, true, false, true≢false, cond, if◌then◌else◌, Option, Some, None, MatchOption, List, [], ◌∷◌, length, get_or, drop, map, count_by, get_or-drop, drop_of_length-le, arith}
+use Rattle.std.proofs.Common.{◌≡◌, ℕ, zero, suc, ◌+◌, ◌-◌, ◌<◌, ◌≤◌, ◌⊎◌, inl, inr, refl, sym, ap, ap₂, subst, ◌∙◌, ◌++◌, Bool, true, false, true≢false, cond, if◌then◌else◌, Option, Some, None, MatchOption, max, List, [], ◌∷◌, length, get_or, drop, map, count_by, get_or-drop, drop_of_length-le, arith}
 use Rattle.std.specs.List.{AllByRecursion}
 use Rattle.std.proofs.lemmas.Bool.{cases_lt}
 use Rattle.std.proofs.lemmas.List.{drop-map, get_or_past}
-use Rattle.std.proofs.lemmas.List.Sums.{sum_by-cons}
+use Rattle.std.proofs.lemmas.List.Sums.{sum_by-cons, sum_by-take-drop}
 use Rattle.fs_base.specs.declared.prefix.Family.{Family}
+use Rattle.fs_base.specs.declared.prefix.Family.TheVariants.{V4, V6}
 use Rattle.fs_packet.specs.Fields.{Viewed, family_of}
 use Rattle.fs_packet.specs.Matching.{is_match}
 use Rattle.fs_rules.specs.Lent.{Listed}
 use Rattle.fs_rules.specs.Walk.{first_from}
 use Rattle.fs_compile.specs.declared.buckets.Buckets.{Buckets}
+use Rattle.fs_compile.specs.declared.compiled.Compiled.{Compiled}
 use Rattle.fs_compile.specs.declared.fast.Fast.{Fast}
 use Rattle.fs_compile.specs.declared.nodes.Node.{Node}
 use Rattle.fs_compile.specs.declared.search.Hit.{Hit}
@@ -18,10 +20,11 @@ use Rattle.fs_compile.specs.Buckets.{node_at}
 use Rattle.fs_compile.specs.Facts.{AreFacts, Facts, IsSmall}
 use Rattle.fs_compile.specs.Fast.{StandsFor}
 use Rattle.fs_compile.specs.Index.{AreHoused, Indexed, IsIndexOf, IsOfFamily, StandForEach, spans_of}
-use Rattle.fs_compile.specs.Matcher.{next_from}
-use Rattle.fs_compile.specs.Reach.{number_of, reaches, reaching}
+use Rattle.fs_compile.specs.Matcher.{StandsForLists, next_from}
+use Rattle.fs_compile.specs.Reach.{number_of, reaches, reaching, reaching_behind, reaching_from}
 use Rattle.fs_compile.specs.Runs.{AreNesting, AreNodes, AreRuns}
-use Rattle.fs_compile.specs.Search.{Found, IsNear, Missed, Within, hit_number, hits}
+use Rattle.fs_compile.specs.Search.{Found, IsNear, Missed, Within, hit_number, hits, marked, tested_to}
+use Rattle.fs_compile.proofs.Climbing.{marked_most}
 use Rattle.fs_compile.proofs.Placing.{held_of}
 use Rattle.fs_compile.proofs.Reaching.{bare_reaches, match_reaches, reaches_span, span_reaches}
 
@@ -173,11 +176,43 @@ search_is view facts rules index lent address n r e are at h found =
       own : MatchOption r (Missed (hits facts lent) n (length lent)) (λ hit. Found (hits facts lent) n (length lent) hit.number)
       own = found (near_of view rules) (near_at view facts rules index lent address e are at h) (subst (λ (bs : List Bool). Within bs (near_of view rules)) (sym same) (near_matched view rules h.each))
 
-pub steps_are : (view : Viewed) (facts : Facts) (rules : List Listed) (index : Indexed) (lent : List Fast) (address before after : ℕ) → lent ≡ index.rules → AreFacts view facts
+-- the rules that reach the packet, before a number and from it on
+near_rest : (view : Viewed) (rules : List Listed) (n : ℕ) → marked n (near_of view rules) + reaching_from n view rules ≡ reaching view rules
+near_rest view rules n =
+    ap (λ (m : ℕ). marked n (near_of view rules) + m) (sym (ap (count_by (λ b. b)) (drop-map (λ (r : Listed). reaches view r.rule) n rules) ∙ near_count view (drop n rules)))
+    ∙ (sum_by-take-drop (λ (b : Bool). cond b 1 0) (near_of view rules) n ∙ near_count view rules)
+
+-- a bound over tests that are near, said of what is still ahead
+ahead : (view : Viewed) (rules : List Listed) (from most before after : ℕ) (r : Option ℕ) → after + marked from (near_of view rules) ≤ before + marked (tested_to r most) (near_of view rules)
+    → after + reaching_behind r view rules ≤ before + reaching_from from view rules
+ahead view rules from most before after None h =
+    let a : marked from (near_of view rules) + reaching_from from view rules ≡ reaching view rules = near_rest view rules from in
+    let b : marked most (near_of view rules) ≤ count_by (λ b. b) (near_of view rules) = marked_most most (near_of view rules) in
+    let c : count_by (λ b. b) (near_of view rules) ≡ reaching view rules = near_count view rules in
+    omega (arith, h, a, b, c)
+ahead view rules from most before after (Some k) h =
+    let a : marked from (near_of view rules) + reaching_from from view rules ≡ reaching view rules = near_rest view rules from in
+    let b : marked (k + 1) (near_of view rules) + reaching_from (k + 1) view rules ≡ reaching view rules = near_rest view rules (k + 1) in
+    omega (arith, h, a, b)
+
+pub steps_are : (view : Viewed) (facts : Facts) (rules : List Listed) (index : Indexed) (lent : List Fast) (address from before after : ℕ) (r : Option ℕ) → lent ≡ index.rules → AreFacts view facts
     → address ≡ number_of facts.destination → IsIndexOf view.family rules index
-    → ((near : List Bool) → IsNear index.buckets address (length lent) near → after ≤ before + count_by (λ b. b) near) → after ≤ before + reaching view rules
-steps_are view facts rules index lent address before after e are at h bound =
-    subst (λ (n : ℕ). after ≤ before + n) (near_count view rules) (bound (near_of view rules) (near_at view facts rules index lent address e are at h))
+    → ((near : List Bool) → IsNear index.buckets address (length lent) near → after + marked from near ≤ before + marked (tested_to r (length lent)) near)
+    → after + reaching_behind r view rules ≤ before + reaching_from from view rules
+steps_are view facts rules index lent address from before after r e are at h bound =
+    ahead view rules from (length lent) before after r (bound (near_of view rules) (near_at view facts rules index lent address e are at h))
+
+-- no more are ahead than there are
+pub no_more_steps : (view : Viewed) (rules : List Listed) (from before after : ℕ) (r : Option ℕ) → after + reaching_behind r view rules ≤ before + reaching_from from view rules → after ≤ before + reaching view rules
+no_more_steps view rules from before after r h =
+    let a : marked from (near_of view rules) + reaching_from from view rules ≡ reaching view rules = near_rest view rules from in
+    omega (arith, h, a)
+
+-- no family has more rules than the one that has more of them
+pub no_more_rules : (rules : Family → List Listed) (compiled : Compiled) (most : ℕ) → StandsForLists rules compiled → most ≡ max (length compiled.v4.rules) (length compiled.v6.rules)
+    → (family : Family) → length (rules family) ≤ most
+no_more_rules rules compiled most h e V4 = let size : length compiled.v4.rules ≡ length (rules V4) = stand_size (rules V4) compiled.v4.rules h.v4.stands in omega (arith, e, size)
+no_more_rules rules compiled most h e V6 = let size : length compiled.v6.rules ≡ length (rules V6) = stand_size (rules V6) compiled.v6.rules h.v6.stands in omega (arith, e, size)
 
 -- behind the last rule nothing is found
 pub none_behind : (view : Viewed) (rules : List Listed) (index : Indexed) (family : Family) (n : ℕ) → IsIndexOf family rules index → length index.rules ≤ n → None ≡ next_from n view rules

@@ -16,3 +16,5 @@ pub mod Indexing
 pub mod Walking
 pub mod Widths
 pub mod Numbering
+pub mod Marking
+pub mod Sieving

@@ -1,8 +1,10 @@
 -- One test more of a rule, in a free place among its ranges or behind them.
-use Rattle.std.proofs.Common.{◌≡◌, ◌≢◌, ℕ, zero, suc, ◌+◌, ◌<◌, ◌≤◌, List, [], ◌∷◌, length, drop, get_or, set, Bool, true, false, ◌&&◌, nat_le, Some, refl, sym, ap, subst, ◌∙◌, arith}
+use Rattle.std.proofs.Common.{◌≡◌, ◌≢◌, ℕ, zero, suc, ◌+◌, ◌<◌, ◌≤◌, List, [], ◌∷◌, length, drop, get_or, set, Bool, true, false, ◌&&◌, ◌==◌, nat_le, Some, refl, sym, ap, subst, ◌∙◌, arith}
 use Rattle.std.specs.List.{list_all}
 use Rattle.std.proofs.Math.Seq.{drop-cons}
 use Rattle.std.proofs.lemmas.List.{drop_all, get_or-set_other, get_or-set_same}
+use Rattle.fs_base.proofs.Bools.{and_first, and_second}
+use Rattle.fs_base.specs.Bits.{afi_of}
 use Rattle.fs_nlri.specs.declared.component.Component.{Component}
 use Rattle.fs_nlri.specs.Component.{part_of, parts_of}
 use Rattle.fs_nlri.specs.Sound.{AreSound}
@@ -122,6 +124,17 @@ facts_are view facts h = λ i. record { family = h.family i; destination = h.des
 pub held_of : (view : Viewed) (facts : Facts) (fast : Fast) → AreFacts view facts → facts_hold facts fast ≡ fast_holds view fast
 unfolding fast_holds
 held_of view facts fast h = ap (λ (x : Facts). facts_hold x fast) (facts_are view facts h)
+
+-- what a rule that holds is made of holds
+rule_held : (facts : Facts) (fast : Fast) → facts_hold facts fast ≡ true → all_pass facts fast.ranges fast.tests.items ≡ true
+unfolding facts_hold
+rule_held facts fast h = and_second (afi_of fast.family == afi_of facts.family) (all_pass facts fast.ranges fast.tests.items) h
+
+pub ranges_held : (facts : Facts) (fast : Fast) → facts_hold facts fast ≡ true → ranges_hold facts fast.ranges ≡ true
+ranges_held facts fast h = and_first (ranges_hold facts fast.ranges) (list_all (passes facts) fast.tests.items) (rule_held facts fast h)
+
+pub tests_held : (facts : Facts) (fast : Fast) → facts_hold facts fast ≡ true → list_all (passes facts) fast.tests.items ≡ true
+tests_held facts fast h = and_second (ranges_hold facts fast.ranges) (list_all (passes facts) fast.tests.items) (rule_held facts fast h)
 
 all_free : (k : ℕ) → 0 ≤ k → k < 4 → (field_at free_ranges k ≡ 0) × (bounds_at free_ranges k ≡ (0, 0))
 all_free zero low high = (refl, refl)

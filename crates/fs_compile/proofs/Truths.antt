@@ -1,6 +1,8 @@
 -- Laws of truth values, and of tests of numbers.
-use Rattle.std.proofs.Common.{◌≡◌, ℕ, ◌<◌, ◌≤◌, ◌==◌, Bool, true, false, ◌&&◌, nat_lt, refl, sym, arith}
+use Rattle.std.proofs.Common.{◌≡◌, ℕ, ◌<◌, ◌≤◌, ◌==◌, Bool, true, false, true≢false, ◌&&◌, nat_lt, List, get_or, length, refl, sym, ◌∙◌, arith}
+use Rattle.std.specs.List.{list_all}
 use Rattle.std.proofs.lemmas.Bool.Decides.{nat_tests}
+use Rattle.std.proofs.lemmas.List.Folds.{list_all_at}
 
 pub same_truth : (p q : Bool) → (p ≡ true → q ≡ true) → (q ≡ true → p ≡ true) → p ≡ q
 same_truth true true f g = refl
@@ -41,3 +43,10 @@ less a b h = grind (arith, nat_tests)
 
 pub not_less : (a b : ℕ) → b ≤ a → nat_lt a b ≡ false
 not_less a b h = grind (arith, nat_tests)
+
+-- what all pass each passes
+pub holds_at : {X : Type 0} (p : X → Bool) (xs : List X) (i : ℕ) (d : X) → i < length xs → list_all p xs ≡ true → p (get_or xs i d) ≡ true
+holds_at p xs i d below h = by (p (get_or xs i d)) refl where
+  by : (b : Bool) → p (get_or xs i d) ≡ b → p (get_or xs i d) ≡ true
+  by true e = e
+  by false e = absurd (true≢false (sym h ∙ list_all_at p xs i d below e))

@@ -8,8 +8,8 @@ use Rattle.fs_base.specs.Prefix.{last_address}
 use Rattle.fs_nlri.proofs.Destination.{IsMade}
 use Rattle.fs_nlri.specs.Rule.{destination_of, shown}
 use Rattle.fs_order.specs.Laws.{last_shown}
-use Rattle.fs_rules.specs.Lent.{Listed, all_admitted, shown_admitted}
-use Rattle.fs_rules.specs.declared.lent.Admitted.{Admitted}
+use Rattle.fs_rules.specs.Lent.{Listed, all_admitted, shown_lent}
+use Rattle.fs_rules.specs.declared.lent.LentRule.{LentRule}
 use Rattle.fs_compile.specs.Index.{IsOfFamily, span_by, span_of, spans_of}
 use Rattle.fs_compile.proofs.Reaching.{family_of_destination, made_destination}
 
@@ -62,8 +62,8 @@ all_width family w [] e each = tt
 all_width family w (r ∷ rs) e each = (ap width_of each.0.same ∙ sym e, all_width family w rs e each.1)
 
 -- what holds of each rule holds of that of a number
-pub rule_at : (P : Listed → Type 0) (list : List Admitted) (i : ℕ) (a : Admitted) → AllByRecursion P (all_admitted list) → i < length list
-    → a ≡ get_or list i a → P (shown_admitted a)
+pub rule_at : (P : Listed → Type 0) (list : List LentRule) (i : ℕ) (a : LentRule) → AllByRecursion P (all_admitted list) → i < length list
+    → a ≡ get_or list i a → P (shown_lent a)
 rule_at P [] i a each below e = absurd (no_less i below)
-rule_at P (x ∷ xs) zero a each below e = subst (λ b. P (shown_admitted b)) (sym e) each.0
+rule_at P (x ∷ xs) zero a each below e = subst (λ b. P (shown_lent b)) (sym e) each.0
 rule_at P (x ∷ xs) (suc i) a each below e = rule_at P xs i a each.1 (omega (arith, below)) e

@@ -1,5 +1,5 @@
 -- The fields of a packet as numbers: one that the packet doesn't have is above each that a field can have.
-use Rattle.std.specs.Prelude.{◌≡◌, ℕ, ◌%◌, ◌^◌, ◌<◌, List, [], ◌∷◌, slice_index, Option, Some, None}
+use Rattle.std.specs.Prelude.{◌≡◌, ℕ, ◌%◌, ◌/◌, ◌==◌, if◌then◌else◌, ◌^◌, ◌<◌, List, [], ◌∷◌, slice_index, Option, Some, None}
 use Rattle.fs_base.specs.declared.config.Address.{Address}
 use Rattle.fs_base.specs.declared.config.Address.TheVariants.{V4, V6}
 use Rattle.fs_packet.specs.Fields.{Viewed, family_of}
@@ -45,6 +45,15 @@ numbers_of view =
 
 abbrev pub number_of : Facts → (field : ℕ) → ℕ
 number_of facts field = slice_index facts.numbers (field % 16)
+
+-- the first 64 bits of an address of IPv6; one of IPv4 has none
+abbrev pub front_of : Address → ℕ
+front_of (V4 address) = 2 ^ 32
+front_of (V6 address) = address % 2 ^ 128 / 2 ^ 64
+
+-- the number by which rules are told apart on a field; 14 stands for the front of the source
+abbrev pub key_of : Facts → (field : ℕ) → ℕ
+key_of facts field = if field == 14 then front_of facts.source else number_of facts field
 
 -- a packet's fields, with these numbers
 abbrev pub facts_with : Viewed → List ℕ → Facts

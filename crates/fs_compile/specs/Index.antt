@@ -12,10 +12,11 @@ use Rattle.fs_compile.specs.Addresses.{numbers_in, nodes_in}
 use Rattle.fs_compile.specs.Buckets.{node_at}
 use Rattle.fs_compile.specs.Fast.{StandsFor}
 
--- the buckets of the rules' destinations, and the rules in order
+-- the buckets of the rules' destinations, and the rules in order with their actions
 pub record Indexed : Type 0 where
   pub buckets : Buckets
   pub rules : List Fast
+  pub actions : List (List (List ℕ))
 
 -- the first and the last address of a destination
 abbrev pub span_by : Option (Family × ℕ × ℕ) → Option (ℕ × ℕ)
@@ -26,6 +27,9 @@ span_of rule = span_by (destination_of rule)
 
 abbrev pub spans_of : List Listed → List (Option (ℕ × ℕ))
 spans_of rules = map (λ r. span_of r.rule) rules
+
+abbrev pub actions_of : List Listed → List (List (List ℕ))
+actions_of rules = map (λ r. r.actions) rules
 
 -- each stands for its rule
 abbrev pub StandForEach : List Listed → List Fast → Type 0
@@ -51,3 +55,4 @@ pub record IsIndexOf (family : Family) (rules : List Listed) (index : Indexed) :
   pub stands : StandForEach rules index.rules
   pub housed : AreHoused (spans_of rules) index.buckets
   pub each : AllByRecursion (IsOfFamily family) rules
+  pub actions_are : index.actions ≡ actions_of rules

@@ -9,6 +9,8 @@ pub mod Tests
 pub mod Addresses
 pub mod Buckets
 pub mod Search
+pub mod Columns
+pub mod Filters
 pub mod Runs
 pub mod Reach
 pub mod Index

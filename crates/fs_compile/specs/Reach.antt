@@ -1,5 +1,5 @@
 -- Which rules a search for a packet may test: those whose destination covers the packet's, and those that have none.
-use Rattle.std.specs.Prelude.{ℕ, ◌==◌, Bool, true, Option, Some, None, List}
+use Rattle.std.specs.Prelude.{ℕ, ◌==◌, ◌+◌, Bool, true, Option, Some, None, List, drop}
 use Rattle.std.specs.List.{count_by}
 use Rattle.fs_base.specs.declared.prefix.Family.{Family}
 use Rattle.fs_base.specs.declared.config.Address.{Address}
@@ -27,3 +27,12 @@ reaches view rule = covers_address (destination_of rule) view.destination
 -- how many of the rules these are
 abbrev pub reaching : Viewed → List Listed → ℕ
 reaching view rules = count_by (λ r. reaches view r.rule) rules
+
+-- of those from a number on
+abbrev pub reaching_from : ℕ → Viewed → List Listed → ℕ
+reaching_from n view rules = reaching view (drop n rules)
+
+-- of those behind what a search found; none where it found nothing
+abbrev pub reaching_behind : Option ℕ → Viewed → List Listed → ℕ
+reaching_behind None view rules = 0
+reaching_behind (Some n) view rules = reaching_from (n + 1) view rules

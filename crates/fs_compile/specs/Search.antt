@@ -1,5 +1,5 @@
 -- The search for an address through buckets.
-use Rattle.std.specs.Prelude.{◌≡◌, ℕ, ◌+◌, ◌<◌, ◌≤◌, Bool, true, false, Option, option_map, List, length, take, get_or, map}
+use Rattle.std.specs.Prelude.{◌≡◌, ℕ, ◌+◌, ◌<◌, ◌≤◌, Bool, true, false, Option, Some, None, option_map, List, length, take, get_or, map}
 use Rattle.std.specs.List.{count_by}
 use Rattle.fs_compile.specs.declared.buckets.Buckets.{Buckets}
 use Rattle.fs_compile.specs.declared.fast.Fast.{Fast}
@@ -64,6 +64,11 @@ Starts b place = IsStart (numbers_in b.lasts) (nodes_in b.nodes) b.homes.items p
 
 abbrev pub hit_number : Option Hit → Option ℕ
 hit_number found = option_map (λ hit. hit.number) found
+
+-- where the rules that a search tests end: behind what it found, or at the end of what it seeks in
+abbrev pub tested_to : Option ℕ → ℕ → ℕ
+tested_to None to = to
+tested_to (Some n) to = n + 1
 
 -- where a search for the address goes on behind what was found
 abbrev pub behind_hit : (address : ℕ) → Hit → Place

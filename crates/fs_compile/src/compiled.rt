@@ -1,10 +1,9 @@
 //! The admitted rules of a table, compiled.
 
-ghost use Rattle.std.specs.Prelude.{◌≡◌, ◌≤◌, ◌+◌, IfOk, List};
+ghost use Rattle.std.specs.Prelude.{◌≡◌, ◌≤◌, ◌+◌, IfOk, List, length};
 ghost use Rattle.fs_base.specs.declared.prefix.Family.{Family};
-ghost use Rattle.fs_base.specs.declared.prefix.Family.TheVariants.{V4, V6};
-ghost use Rattle.fs_rules.specs.Lent.{Listed, all_admitted};
-ghost use Rattle.fs_compile.specs.Index.{IsIndexOf};
+ghost use Rattle.fs_rules.specs.Lent.{Listed};
+ghost use Rattle.fs_compile.specs.Index.{IsIndexOf, actions_of};
 ghost use Rattle.fs_compile.specs.Matcher.{StandsForLists, WalksByNext, admitted_in, next_from};
 ghost use Rattle.fs_compile.specs.Matches.{AreMatchesOf};
 ghost use Rattle.fs_compile.specs.Reach.{reaching};
@@ -13,23 +12,15 @@ use crate::index::Index;
 use crate::matches::Matches;
 use fs_base::{Family, Memory, Steps};
 use fs_packet::View;
-use fs_rules::{Admitted, Table};
+use fs_rules::{SharedActions, Table};
 use std::alloc::Global;
 use std::sync::ledger::Ledger;
 
-/// The admitted rules of both families, compiled for packets. It keeps no part of the table.
+/// The admitted rules of both families, compiled for packets, with their actions. It keeps no part of the table.
 #[derive(Drop)]
 pub struct Compiled {
     v4: Index,
     v6: Index,
-}
-
-/// The admitted rules of a table: those of each family in order, and all compiled.
-#[derive(Drop)]
-pub struct Rules<'t> {
-    pub v4: Vec<Admitted<'t>>,
-    pub v6: Vec<Admitted<'t>>,
-    pub compiled: Compiled,
 }
 
 impl Compiled {
@@ -41,8 +32,29 @@ impl Compiled {
     pub fn build(alloc: Global, table: &Table<'_>) -> Result<Compiled, Memory>
         ensures { IfOk result (StandsForLists (admitted_in table.now)) }
     {
-        let Rules { compiled, .. } = rules_of(alloc, table)?;
-        Ok(compiled)
+        Ok(Compiled {
+            v4: admitted_index(alloc, table, Family::V4)?,
+            v6: admitted_index(alloc, table, Family::V6)?,
+        })
+    }
+
+    /// The actions of the family's rules, in order.
+    pub fn actions(&self, family: Family) -> &[SharedActions]
+        ensures { (rules : Family → List Listed)
+            → StandsForLists rules self.now
+            → result.now ≡ actions_of (rules family) }
+    {
+        self.index(family).actions()
+    }
+
+    /// As many rules as the family with more of them has: no walk has more.
+    pub fn most(&self) -> usize
+        ensures { (rules : Family → List Listed)
+            → StandsForLists rules self.now
+            → (family : Family)
+            → length (rules family) ≤ result }
+    {
+        self.v4.len().max(self.v6.len())
     }
 
     /// The least number, from 0, of a rule of the packet's family that matches it. At most as many steps as the
@@ -103,40 +115,12 @@ impl Compiled {
     }
 }
 
-/// The rules that the table admits now, listed and compiled.
-///
-/// # Errors
-///
-/// As of [`Compiled::build`].
-pub fn rules_of<'t>(alloc: Global, table: &'t Table<'_>) -> Result<Rules<'t>, Memory>
-    ensures v4 { IfOk result (λ rules. all_admitted rules.v4.items ≡ admitted_in table.now V4) }
-    ensures v6 { IfOk result (λ rules. all_admitted rules.v6.items ≡ admitted_in table.now V6) }
-    ensures compiled { IfOk result (λ rules. StandsForLists (admitted_in table.now) rules.compiled) }
-{
-    let (v4, index_v4) = admitted_index(alloc, table, Family::V4)?;
-    let (v6, index_v6) = admitted_index(alloc, table, Family::V6)?;
-    Ok(Rules {
-        v4,
-        v6,
-        compiled: Compiled {
-            v4: index_v4,
-            v6: index_v6,
-        },
-    })
-}
-
-/// The rules of the family that the table admits, and their index.
-fn admitted_index<'t>(
-    alloc: Global,
-    table: &'t Table<'_>,
-    family: Family,
-) -> Result<(Vec<Admitted<'t>>, Index), Memory>
-    ensures list { IfOk result (λ made. all_admitted made.0.items ≡ admitted_in table.now family) }
-    ensures index { IfOk result (λ made. IsIndexOf family (admitted_in table.now family) made.1) }
+/// The rules of the family that the table admits, compiled.
+fn admitted_index(alloc: Global, table: &Table<'_>, family: Family) -> Result<Index, Memory>
+    ensures { IfOk result (IsIndexOf family (admitted_in table.now family)) }
 {
     let list = table.admitted(family)?;
-    let index = Index::of(alloc, family, &list)?;
-    Ok((list, index))
+    Index::of(alloc, family, &list)
 }
 
 /// A law of the walk: taken by a search from number to number, it is the walk over the rules in order.

@@ -1,8 +1,8 @@
 //! The fields of a packet on which rules are tested.
 
-ghost use Rattle.std.specs.Prelude.{◌≡◌, ◌<◌, ◌^◌};
+ghost use Rattle.std.specs.Prelude.{◌≡◌, ◌/◌, ◌<◌, ◌^◌};
 ghost use Rattle.fs_packet.specs.Fields.{family_of};
-ghost use Rattle.fs_compile.specs.Facts.{AreFacts, IsSmallAddress, IsSmallField, address_number, field_number, number_of};
+ghost use Rattle.fs_compile.specs.Facts.{AreFacts, IsSmallAddress, IsSmallField, address_number, field_number, front_of, key_of, number_of};
 
 use fs_base::Address;
 use fs_packet::View;
@@ -10,6 +10,9 @@ use std::marker::Model;
 
 /// Above each number that a field can have: what stands for a field that the packet doesn't have.
 pub(crate) const ABSENT: u64 = 1 << 32;
+
+/// In place of a field's type, the first 64 bits of a source address of IPv6.
+pub(crate) const FRONT: u8 = 14;
 
 /// The fields that a rule is tested on. The numbers among them are read from the packet once, the others where a rule
 /// asks for them.
@@ -61,6 +64,18 @@ impl<'a> Facts<'a> {
         }
     }
 
+    /// The number by which rules are told apart on a field: of that name the first 64 bits of a source of IPv6, else the
+    /// field's.
+    pub(crate) fn key(&self, field: u8) -> u64
+        ensures { result ≡ key_of self.now field }
+    {
+        if field == FRONT {
+            front(self.view.source())
+        } else {
+            self.number(field)
+        }
+    }
+
     /// The number of the field that a component of the type tests.
     pub(crate) fn number(&self, field: u8) -> u64
         ensures { result ≡ number_of self.now field }
@@ -109,4 +124,21 @@ fn label(field: Option<u32>) -> u64
         Some(number) => number.into(),
         None => ABSENT,
     }
+}
+
+/// The first 64 bits of an address of IPv6; one of IPv4 has none.
+fn front(address: Address) -> u64
+    ensures { result ≡ front_of address }
+{
+    match address {
+        Address::V4(_) => ABSENT,
+        Address::V6(address) => top(address),
+    }
+}
+
+/// The first 64 bits of 128.
+pub(crate) fn top(bits: u128) -> u64
+    ensures { result ≡ bits / 2 ^ 64 }
+{
+    (bits >> 64) as u64
 }

@@ -1,17 +1,19 @@
 //! A rule compiled for packets.
 
-ghost use Rattle.std.specs.Prelude.{◌≡◌, ◌+◌, ◌≤◌, IfOk, OnOk, ℕ};
+ghost use Rattle.std.specs.Prelude.{◌≡◌, ◌+◌, ◌≤◌, true, IfOk, OnOk, ℕ};
 ghost use Rattle.std.specs.List.{list_all};
 ghost use Rattle.fs_nlri.specs.Component.{parts_of};
 ghost use Rattle.fs_nlri.specs.Parts.{Ruled};
 ghost use Rattle.fs_nlri.specs.Sound.{AreSound};
 ghost use Rattle.fs_packet.specs.Matching.{is_match};
-ghost use Rattle.fs_compile.specs.Facts.{IsSmall};
+ghost use Rattle.fs_compile.specs.Columns.{allows};
+ghost use Rattle.fs_compile.specs.Facts.{Facts, IsSmall, front_of, key_of, number_of};
 ghost use Rattle.fs_compile.specs.Fast.{AreFree, AreTestsOf, IsPlaced, StandsFor, facts_hold, fast_holds, holds_of_facts};
 ghost use Rattle.fs_compile.specs.Tests.{passes};
 
 use crate::components::test_of;
-use crate::facts::Facts;
+use crate::facts::{FRONT, Facts};
+use crate::limits::Limit;
 use crate::ranges::{PLACES, Ranges};
 use crate::tests::Test;
 use fs_base::{Family, Memory, Steps};
@@ -61,6 +63,35 @@ impl Fast {
         self.holds(facts)
     }
 
+    /// Within which numbers the field is of each packet that the rule matches.
+    pub(crate) fn limit(&self, field: u8) -> Limit<'_>
+        ensures { (facts : Facts) → facts_hold facts self.now ≡ true → allows result (key_of facts field) ≡ true }
+    {
+        if field == FRONT {
+            front_limit_of(&self.tests)
+        } else {
+            self.number_limit(field)
+        }
+    }
+
+    /// The field on which sources of the rule's family are told apart.
+    pub(crate) fn source_field(&self) -> u8 {
+        match self.family {
+            Family::V4 => 2,
+            Family::V6 => FRONT,
+        }
+    }
+
+    fn number_limit(&self, field: u8) -> Limit<'_>
+        ensures { (facts : Facts) → facts_hold facts self.now ≡ true → allows result (number_of facts field) ≡ true }
+    {
+        match self.ranges.of(field) {
+            Some((low, high)) => Limit::Range(low.into(), high.into()),
+            None => limit_of(&self.tests, field),
+        }
+    }
+
+    #[inline(always)]
     fn holds(&self, facts: &Facts<'_>) -> bool
         ensures { result ≡ holds_of_facts facts.now self.now }
     {
@@ -70,6 +101,7 @@ impl Fast {
     }
 }
 
+#[inline(always)]
 fn all_pass(tests: &[Test], facts: &Facts<'_>) -> bool
     ensures { result ≡ list_all (passes facts.now) tests.now }
 {
@@ -79,6 +111,34 @@ fn all_pass(tests: &[Test], facts: &Facts<'_>) -> bool
         }
     }
     true
+}
+
+/// Within which numbers the field is of each packet that passes the tests.
+fn limit_of(tests: &[Test], field: u8) -> Limit<'_>
+    ensures { (facts : Facts)
+        → list_all (passes facts) tests.now ≡ true
+        → allows result (number_of facts field) ≡ true }
+{
+    for test in tests {
+        if let Some(limit) = test.limit(field) {
+            return limit;
+        }
+    }
+    Limit::Any
+}
+
+/// Within which numbers the front of the source is of each packet that passes the tests.
+fn front_limit_of(tests: &[Test]) -> Limit<'_>
+    ensures { (facts : Facts)
+        → list_all (passes facts) tests.now ≡ true
+        → allows result (front_of facts.source) ≡ true }
+{
+    for test in tests {
+        if let Some(limit) = test.front_limit() {
+            return limit;
+        }
+    }
+    Limit::Any
 }
 
 /// The tests of the components: the first ranges, and what doesn't stand among them.

@@ -4,13 +4,16 @@
 
 mod addresses;
 mod buckets;
+mod columns;
 mod compiled;
 mod components;
 mod facts;
 mod fast;
+mod filters;
 mod gaps;
 mod groups;
 mod index;
+mod limits;
 mod matches;
 mod nodes;
 mod numbers;
@@ -22,7 +25,7 @@ mod singles;
 mod spans;
 mod tests;
 
-pub use compiled::{Compiled, Rules, rules_of, walks_by_next};
+pub use compiled::{Compiled, walks_by_next};
 pub use fast::Fast;
 pub use matches::Matches;
 pub use spans::Spans;

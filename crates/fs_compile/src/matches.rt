@@ -6,7 +6,7 @@ ghost use Rattle.fs_rules.specs.Lent.{Listed};
 ghost use Rattle.fs_compile.specs.Facts.{AreFacts};
 ghost use Rattle.fs_compile.specs.Matcher.{next_from};
 ghost use Rattle.fs_compile.specs.Matches.{AreMatchesOf, behind};
-ghost use Rattle.fs_compile.specs.Reach.{number_of, reaching};
+ghost use Rattle.fs_compile.specs.Reach.{number_of, reaching, reaching_behind, reaching_from};
 
 use crate::facts::Facts;
 use crate::index::Index;
@@ -70,8 +70,9 @@ impl<'a> Matches<'a> {
         }
     }
 
-    /// The number, from 0, of the next rule that matches. At most as many steps as the family has rules whose
-    /// destination covers the packet's, or that have none (of IPv6 none with offset 0). Takes no memory.
+    /// The number, from 0, of the next rule that matches. It tests the rules whose destination covers the packet's, or
+    /// that have none (of IPv6 none with offset 0), from where the last search ended up to the rule found, a step for
+    /// each at most: a walk tests none twice. Takes no memory.
     #[inline(always)]
     pub fn next<L: Ledger>(&mut self, steps: &mut Steps<L>) -> Option<usize>
         ensures next { (view : Viewed) (rules : List Listed)
@@ -85,6 +86,9 @@ impl<'a> Matches<'a> {
         ensures steps { (view : Viewed) (rules : List Listed)
             → AreMatchesOf view rules self.old
             → steps.new ≤ steps.old + reaching view rules }
+        ensures walk { (view : Viewed) (rules : List Listed)
+            → AreMatchesOf view rules self.old
+            → steps.new + reaching_behind result view rules ≤ steps.old + reaching_from self.old.from view rules }
     {
         let hit = self.index.search(&self.facts, self.place, steps)?;
         self.place.bucket = hit.bucket;

@@ -1,9 +1,11 @@
 //! The numbers that a list holds of, for the tests of many packets.
 
-ghost use Rattle.std.specs.Prelude.{◌≡◌, IfOk};
+ghost use Rattle.std.specs.Prelude.{◌≡◌, ℕ, true, IfOk, IfSome};
+ghost use Rattle.fs_compile.specs.Columns.{allows};
 ghost use Rattle.fs_compile.specs.Numbers.{AreNumbersOf, has, has_field, numbers_range};
 
 use crate::facts::ABSENT;
+use crate::limits::Limit;
 use crate::spans::Spans;
 use fs_base::Memory;
 use fs_ops::NumList;
@@ -31,6 +33,7 @@ impl Numbers {
     }
 
     /// Whether the number is one of these.
+    #[inline(always)]
     fn contains(&self, number: u64) -> bool
         ensures { result ≡ has self.now number }
     {
@@ -41,10 +44,23 @@ impl Numbers {
     }
 
     /// Whether the number is one of a field that is there, and one of these.
+    #[inline(always)]
     pub(crate) fn contains_field(&self, number: u64) -> bool
         ensures { result ≡ has_field self.now number }
     {
         number < ABSENT && self.contains(number)
+    }
+
+    /// The numbers, where they are kept as ranges.
+    pub(crate) fn limit(&self) -> Option<Limit<'_>>
+        ensures { (number : ℕ)
+            → has_field self.now number ≡ true
+            → IfSome result (λ limit. allows limit number ≡ true) }
+    {
+        match self {
+            Numbers::Ranges(spans) => Some(Limit::Ranges(spans.ranges())),
+            Numbers::Pairs(_) => None,
+        }
     }
 
     /// The first and the last of the numbers of fields, where they are one range; see `Spans::range`.

@@ -1,6 +1,8 @@
 //! Ranges of a packet's fields.
 
-ghost use Rattle.std.specs.Prelude.{◌≡◌, ℕ, ◌<◌};
+ghost use Rattle.std.specs.Prelude.{◌≡◌, ℕ, ◌<◌, true, IfSome};
+ghost use Rattle.fs_compile.specs.Facts.{Facts, number_of};
+ghost use Rattle.fs_compile.specs.Spans.{is_in};
 ghost use Rattle.fs_compile.specs.Ranges.{is_in_range, free_ranges, range_at, range_holds, ranges_hold, with_range};
 
 use crate::facts::Facts;
@@ -53,6 +55,7 @@ impl Ranges {
     }
 
     /// Whether all four hold.
+    #[inline(always)]
     pub(crate) fn hold(&self, facts: &Facts<'_>) -> bool
         ensures { result ≡ ranges_hold facts.now self.now }
     {
@@ -62,6 +65,21 @@ impl Ranges {
             && self.holds_at(3, facts)
     }
 
+    /// The range of the field.
+    pub(crate) fn of(&self, field: u8) -> Option<(u32, u32)>
+        ensures { (facts : Facts)
+            → ranges_hold facts self.now ≡ true
+            → IfSome result (λ range. is_in (number_of facts field) range ≡ true) }
+    {
+        for place in 0..PLACES {
+            if self.fields[place] == field {
+                return Some(self.bounds[place]);
+            }
+        }
+        None
+    }
+
+    #[inline(always)]
     fn holds_at(&self, place: usize, facts: &Facts<'_>) -> bool
         requires { place < 4 }
         ensures { result ≡ range_at facts.now self.now place }
@@ -71,6 +89,7 @@ impl Ranges {
     }
 }
 
+#[inline(always)]
 fn is_in_range(field: u8, low: u32, high: u32, facts: &Facts<'_>) -> bool
     ensures { result ≡ is_in_range facts.now field low high }
 {

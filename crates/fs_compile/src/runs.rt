@@ -11,7 +11,7 @@ ghost use Rattle.fs_compile.specs.Runs.{AreNodes, ArePlain, EndsWith, Joined, Op
 use crate::addresses::Addresses;
 use crate::nodes::{Node, Nodes};
 use fs_base::{Family, Memory};
-use fs_rules::Admitted;
+use fs_rules::LentRule;
 use std::alloc::Global;
 
 /// Runs of rules with one destination, in the order of rules: by their first and last addresses and by the numbers at
@@ -40,7 +40,7 @@ impl Runs {
 }
 
 /// The runs of the rules that have a destination. They stand before those that have none.
-pub(crate) fn runs_of(alloc: Global, family: Family, list: &[Admitted<'_>]) -> Result<Runs, Memory>
+pub(crate) fn runs_of(alloc: Global, family: Family, list: &[LentRule<'_>]) -> Result<Runs, Memory>
     requires few { length list.now < 2 ^ 32 }
     requires each { AllByRecursion (IsOfFamily family) (all_admitted list.now) }
     ensures runs { IfOk result (RunsOf (spans_of (all_admitted list.now))) }

@@ -1,15 +1,16 @@
 //! The search for a rule that matches a packet: through the buckets that hold its destination, then through the rules
 //! without a destination.
 
-ghost use Rattle.std.specs.Prelude.{◌≡◌, ◌<◌, ◌≤◌, ◌+◌, ◌-◌, ◌^◌, List, Bool, ℕ, get_or, length, take, IfSome, MatchOption};
-ghost use Rattle.std.specs.List.{count_by};
+ghost use Rattle.std.specs.Prelude.{◌≡◌, ◌<◌, ◌≤◌, ◌+◌, ◌-◌, ◌^◌, List, Bool, ℕ, get_or, length, max, take, IfSome, MatchOption};
 ghost use Rattle.fs_compile.specs.Addresses.{numbers_in, nodes_in};
 ghost use Rattle.fs_compile.specs.Buckets.{node_at};
-ghost use Rattle.fs_compile.specs.Search.{AreSound, Found, IsNear, Missed, Starts, Within, behind_hit, hits, marked, parent_at, start_at};
+ghost use Rattle.fs_compile.specs.Filters.{AreFilters};
+ghost use Rattle.fs_compile.specs.Search.{AreSound, Found, IsNear, Missed, Starts, Within, behind_hit, hit_number, hits, marked, parent_at, start_at, tested_to};
 
 use crate::buckets::Buckets;
 use crate::facts::Facts;
 use crate::fast::Fast;
+use crate::filters::{FEW_RULES, Filters};
 use fs_base::Steps;
 use std::sync::ledger::Ledger;
 
@@ -28,7 +29,8 @@ pub(crate) struct Hit {
     pub(crate) bucket: usize,
 }
 
-/// The first rule that matches of those from `from` on before `to`. As many steps as these are.
+/// The first rule that matches of those from `from` on before `to`. As many steps as rules up to that one.
+#[inline(never)]
 fn scan<L: Ledger>(
     rules: &[Fast],
     facts: &Facts<'_>,
@@ -41,7 +43,7 @@ fn scan<L: Ledger>(
         (Missed (hits facts.now rules.now) from to)
         (Found (hits facts.now rules.now) from to) }
     ensures later { steps.old ≤ steps.new }
-    ensures steps { steps.new ≤ steps.old + (to - from) }
+    ensures steps { steps.new ≤ steps.old + (tested_to result to - from) }
 {
     for number in from..to {
         if rules[number].test_facts(facts, steps) {
@@ -51,16 +53,73 @@ fn scan<L: Ledger>(
     None
 }
 
+/// The first rule that matches of those from `from` on before `to`, by the filter of the run where it's long. As many
+/// steps at most as rules up to that one.
+#[inline(always)]
+fn scan_run<L: Ledger>(
+    rules: &[Fast],
+    filters: &Filters,
+    facts: &Facts<'_>,
+    from: usize,
+    to: usize,
+    long: bool,
+    steps: &mut Steps<L>,
+) -> Option<usize>
+    requires within { to ≤ length rules.now }
+    requires few { length rules.now < 2 ^ 32 }
+    requires filters { AreFilters rules.now filters.now }
+    ensures found { MatchOption result
+        (Missed (hits facts.now rules.now) from to)
+        (Found (hits facts.now rules.now) from to) }
+    ensures later { steps.old ≤ steps.new }
+    ensures steps { steps.new ≤ steps.old + (tested_to result to - from) }
+{
+    if long && to.wrapping_sub(from) > FEW_RULES {
+        scan_long(rules, filters, facts, from, to, steps)
+    } else {
+        scan(rules, facts, from, to, steps)
+    }
+}
+
+/// The same, by the filter of the run if there is one.
+#[inline(never)]
+fn scan_long<L: Ledger>(
+    rules: &[Fast],
+    filters: &Filters,
+    facts: &Facts<'_>,
+    from: usize,
+    to: usize,
+    steps: &mut Steps<L>,
+) -> Option<usize>
+    requires within { to ≤ length rules.now }
+    requires few { length rules.now < 2 ^ 32 }
+    requires filters { AreFilters rules.now filters.now }
+    ensures found { MatchOption result
+        (Missed (hits facts.now rules.now) from to)
+        (Found (hits facts.now rules.now) from to) }
+    ensures later { steps.old ≤ steps.new }
+    ensures steps { steps.new ≤ steps.old + (tested_to result to - from) }
+{
+    match filters.of(from, to) {
+        Some(filter) => filter.scan(rules, facts, from, to, steps),
+        None => scan(rules, facts, from, to, steps),
+    }
+}
+
 /// The first rule that matches of those in the bucket of the place, if that holds the address.
 #[inline(always)]
 fn scan_bucket<L: Ledger>(
     buckets: &Buckets,
     rules: &[Fast],
+    filters: &Filters,
     facts: &Facts<'_>,
     place: Place,
+    long: bool,
     steps: &mut Steps<L>,
 ) -> Option<usize>
     requires sound { AreSound buckets.now (length rules.now) }
+    requires few { length rules.now < 2 ^ 32 }
+    requires filters { AreFilters rules.now filters.now }
     requires within { place.bucket < length (numbers_in buckets.now.lasts) }
     requires ends { place.address ≤ get_or (numbers_in buckets.now.lasts) place.bucket 0 }
     ensures found { (near : List Bool)
@@ -75,34 +134,41 @@ fn scan_bucket<L: Ledger>(
     ensures later { steps.old ≤ steps.new }
     ensures steps { (near : List Bool)
         → IsNear buckets.now place.address (length rules.now) near
-        → steps.new + marked (start_at buckets.now place.bucket) near
-        ≤ steps.old + marked (start_at buckets.now (parent_at buckets.now place.bucket)) near }
+        → steps.new + marked (max place.from (start_at buckets.now place.bucket)) near
+        ≤ steps.old
+        + marked (tested_to result (max place.from (start_at buckets.now (parent_at buckets.now place.bucket)))) near }
 {
     let node = buckets.nodes.at(place.bucket);
     if place.address < node.first {
         return None;
     }
     let end = buckets.nodes.at(place.bucket + 1).start;
-    scan(
+    scan_run(
         rules,
+        filters,
         facts,
         place.from.max(node.start as usize),
         end as usize,
+        long,
         steps,
     )
 }
 
 /// The first rule that matches, from the place on: in the buckets that hold the address, then among the rules without a
-/// destination. As many steps at most as rules are in these.
+/// destination. As many steps at most as rules are in these from the place up to that one.
 #[inline(always)]
 pub(crate) fn climb<L: Ledger>(
     buckets: &Buckets,
     rules: &[Fast],
+    filters: &Filters,
     facts: &Facts<'_>,
     start: Place,
+    long: bool,
     steps: &mut Steps<L>,
 ) -> Option<Hit>
     requires sound { AreSound buckets.now (length rules.now) }
+    requires few { length rules.now < 2 ^ 32 }
+    requires filters { AreFilters rules.now filters.now }
     requires starts { Starts buckets.now start }
     ensures found { (near : List Bool)
         → IsNear buckets.now start.address (length rules.now) near
@@ -115,18 +181,19 @@ pub(crate) fn climb<L: Ledger>(
     ensures later { steps.old ≤ steps.new }
     ensures steps { (near : List Bool)
         → IsNear buckets.now start.address (length rules.now) near
-        → steps.new ≤ steps.old + count_by (λ b. b) near }
+        → steps.new + marked start.from near
+        ≤ steps.old + marked (tested_to (hit_number result) (length rules.now)) near }
 {
     let mut bucket = start.bucket;
     while bucket < buckets.lasts.len() {
         let place = Place { bucket, ..start };
-        if let Some(number) = scan_bucket(buckets, rules, facts, place, steps) {
+        if let Some(number) = scan_bucket(buckets, rules, filters, facts, place, long, steps) {
             return Some(Hit { number, bucket });
         }
         bucket = buckets.nodes.at(bucket).parent as usize;
     }
     let tail = start.from.max(buckets.homes.len());
-    let number = scan(rules, facts, tail, rules.len(), steps)?;
+    let number = scan_run(rules, filters, facts, tail, rules.len(), long, steps)?;
     Some(Hit { number, bucket })
 }
 

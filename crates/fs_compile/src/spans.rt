@@ -65,6 +65,7 @@ impl Spans {
     }
 
     /// Whether the list that these numbers are of holds of the number.
+    #[inline(always)]
     pub fn contains(&self, number: u64) -> bool
         ensures { result ≡ contains self.now number }
     {
@@ -77,6 +78,12 @@ impl Spans {
             ↔ ((n : ℕ) → n < 2 ^ 64 → IsTrue (contains self.now n) → IsTrue (contains other.now n)) }
     {
         all_enclosed(&self.ranges, &other.ranges)
+    }
+
+    pub(crate) fn ranges(&self) -> &[(u64, u64)]
+        ensures { result.now ≡ self.now }
+    {
+        &self.ranges
     }
 
     /// Of the numbers below 2^32, which fields have, the first and the last, where they and all between are these;
@@ -103,6 +110,7 @@ fn clipped(first: u64, last: u64) -> (u32, u32)
     }
 }
 
+#[inline(always)]
 fn any_contains(ranges: &[(u64, u64)], number: u64) -> bool
     ensures { result ≡ contains ranges.now number }
 {

@@ -1,9 +1,12 @@
 //! The test of one component.
 
-ghost use Rattle.std.specs.Prelude.{◌≡◌};
+ghost use Rattle.std.specs.Prelude.{◌≡◌, true, IfSome};
+ghost use Rattle.fs_compile.specs.Columns.{allows};
+ghost use Rattle.fs_compile.specs.Facts.{Facts, front_of, number_of};
 ghost use Rattle.fs_compile.specs.Tests.{flags_pass, is_under, passes, test_range};
 
-use crate::facts::Facts;
+use crate::facts::{Facts, top};
+use crate::limits::Limit;
 use crate::numbers::Numbers;
 use crate::pattern::Pattern;
 use crate::ranges::Range;
@@ -27,6 +30,7 @@ pub(crate) enum Test {
 }
 
 impl Test {
+    #[inline(always)]
     pub(crate) fn passes(&self, facts: &Facts<'_>) -> bool
         ensures { result ≡ passes facts.now self.now }
     {
@@ -40,6 +44,35 @@ impl Test {
             Test::Fragment(list) => list.eval(facts.view.fragment().into()),
             Test::Destination(pattern) => is_under(pattern, facts.view.destination()),
             Test::Source(pattern) => is_under(pattern, facts.view.source()),
+        }
+    }
+
+    /// Within which numbers the field is of each packet that passes the test, if the test is of the field.
+    pub(crate) fn limit(&self, field: u8) -> Option<Limit<'_>>
+        ensures { (facts : Facts)
+            → passes facts self.now ≡ true
+            → IfSome result (λ limit. allows limit (number_of facts field) ≡ true) }
+    {
+        match self {
+            Test::Within(range) if range.field == field => {
+                Some(Limit::Range(range.low.into(), range.high.into()))
+            }
+            Test::OneOf(of, numbers) if *of == field => numbers.limit(),
+            _ => None,
+        }
+    }
+
+    /// Within which numbers the front of the source is of each packet that passes the test, if the test is of it.
+    pub(crate) fn front_limit(&self) -> Option<Limit<'_>>
+        ensures { (facts : Facts)
+            → passes facts self.now ≡ true
+            → IfSome result (λ limit. allows limit (front_of facts.source) ≡ true) }
+    {
+        match self {
+            Test::Source(pattern) if pattern.offset == 0 => {
+                Some(Limit::Range(top(pattern.low), top(pattern.high)))
+            }
+            _ => None,
         }
     }
 
@@ -61,6 +94,7 @@ impl Test {
 
 /// Whether the list holds of the TCP flags. A value of one octet has no bits above the flags' octet, so one number
 /// serves values of either width.
+#[inline(always)]
 fn flags_pass(list: &MaskList, octets: Option<u16>) -> bool
     ensures { result ≡ flags_pass list.now octets }
 {
@@ -70,6 +104,7 @@ fn flags_pass(list: &MaskList, octets: Option<u16>) -> bool
     }
 }
 
+#[inline(always)]
 fn is_under(pattern: &Pattern, address: Address) -> bool
     ensures { result ≡ is_under pattern.now address }
 {

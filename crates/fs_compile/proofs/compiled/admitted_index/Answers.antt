@@ -1,4 +1,4 @@
-use Rattle.std.proofs.Common.{List, sym, ap, subst, ◌∙◌}
+use Rattle.std.proofs.Common.{List, IfOk, sym, ap, subst, ◌∙◌}
 use Rattle.std.specs.List.{AllByRecursion}
 use Rattle.fs_rules.specs.Lent.{Listed, all_admitted}
 use Rattle.fs_rules.specs.Table.{admitted}
@@ -15,5 +15,5 @@ pub of-requires-clause-nesting : goal.of-requires-clause-nesting
 of-requires-clause-nesting c = subst (λ (rs : List Listed). AreNesting (spans_of rs)) (sym (ap all_admitted c.deref.ensures.value ∙ c.in_ok-list.ensures.list))
     (nesting c.args.family (admitted c.args.family c.args.table.now) c.in_ok-list.ensures.rules c.in_ok-list.ensures.admitted.ordered)
 
-pub returns-clause-index : goal.returns-clause-index
-returns-clause-index c = subst (λ (rs : List Listed). IsIndexOf c.args.family rs c.in_ok-index.index) (ap all_admitted c.deref.ensures.value ∙ c.in_ok-list.ensures.list) c.in_ok-index.ensures
+pub returns : goal.returns
+returns c = subst (λ (rs : List Listed). IfOk c.of.result (IsIndexOf c.args.family rs)) (ap all_admitted c.deref.ensures.value ∙ c.in_ok-list.ensures.list) c.of.ensures

@@ -7,17 +7,17 @@ use Rattle.fs_nlri.specs.Rule.{destination_of, shown}
 use Rattle.std.specs.List.{AllByRecursion}
 use Rattle.fs_base.specs.Bits.{width_of}
 use Rattle.fs_compile.specs.Addresses.{width_in}
-use Rattle.fs_rules.specs.Lent.{Listed, all_admitted, shown_admitted}
-use Rattle.fs_rules.specs.declared.lent.Admitted.{Admitted}
+use Rattle.fs_rules.specs.Lent.{Listed, all_admitted, shown_lent}
+use Rattle.fs_rules.specs.declared.lent.LentRule.{LentRule}
 use Rattle.fs_compile.specs.Index.{IsOfFamily, span_by, span_of, spans_of}
 use Rattle.fs_compile.proofs.Widths.{all_width, last_narrow, rule_at}
 use Rattle.fs_compile.proofs.runs.runs_of.Goals as goal
 
 -- the span of the rule of a number
-span_at : (list : List Admitted) (i : ℕ) (a : Admitted) → i < length list → a ≡ get_or list i a → get_or (spans_of (all_admitted list)) i None ≡ span_of a.rule.now
+span_at : (list : List LentRule) (i : ℕ) (a : LentRule) → i < length list → a ≡ get_or list i a → get_or (spans_of (all_admitted list)) i None ≡ span_of a.rule.now
 span_at list i a below is =
-    get_or-map (λ (r : Listed). span_of r.rule) (all_admitted list) i (shown_admitted a) None (omega (arith, below, length-map list shown_admitted))
-    ∙ ap (λ (r : Listed). span_of r.rule) (get_or-map shown_admitted list i a (shown_admitted a) below ∙ ap shown_admitted (sym is))
+    get_or-map (λ (r : Listed). span_of r.rule) (all_admitted list) i (shown_lent a) None (omega (arith, below, length-map list shown_lent))
+    ∙ ap (λ (r : Listed). span_of r.rule) (get_or-map shown_lent list i a (shown_lent a) below ∙ ap shown_lent (sym is))
 
 bare_span : (o : Option Prefix) (rule : Ruled) → o ≡ None → option_map shown o ≡ destination_of rule → span_of rule ≡ None
 bare_span o rule none e = ap span_by (sym e ∙ ap (option_map shown) none)
@@ -47,8 +47,8 @@ loop-admitted-preserved c = record {
 pub add-requires-clause-width : goal.add-requires-clause-width
 add-requires-clause-width c =
     subst (λ w. c.last.result < 2 ^ w) (sym (ap width_of own.same) ∙ wide)
-    (last_narrow c.args.family (shown_admitted c.admitted-item.result) c.in-Some.destination c.last.result own c.in-Some.ensures.shown c.last.ensures) where
-      own : IsOfFamily c.args.family (shown_admitted c.admitted-item.result)
+    (last_narrow c.args.family (shown_lent c.admitted-item.result) c.in-Some.destination c.last.result own c.in-Some.ensures.shown c.last.ensures) where
+      own : IsOfFamily c.args.family (shown_lent c.admitted-item.result)
       own = rule_at (IsOfFamily c.args.family) c.args.list.now c.loop-admitted.admitted-index c.admitted-item.result c.requires.each (omega (arith, c.loop-admitted-test.true)) c.admitted-item.is
 
       wide : width_of c.admitted-item.result.rule.now.family ≡ width_in c.loop-admitted.runs.lasts

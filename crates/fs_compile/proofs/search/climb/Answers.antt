@@ -1,16 +1,26 @@
-use Rattle.std.proofs.Common.{◌≡◌, ◌+◌, ◌<◌, ◌≤◌, ℕ, length, get_or, count_by, max, sym, subst, arith}
+use Rattle.std.proofs.Common.{◌≡◌, ◌+◌, ◌<◌, ◌≤◌, ℕ, Option, Some, None, length, get_or, max, sym, rules, subst, arith}
 use Rattle.fs_compile.specs.declared.nodes.Node.{Node}
+use Rattle.fs_compile.specs.declared.search.Hit.{Hit}
 use Rattle.fs_compile.specs.Addresses.{numbers_in, nodes_in}
-use Rattle.fs_compile.specs.Search.{Missed, hits, marked, parent_at, start_at}
-use Rattle.fs_compile.proofs.Climbing.{climbed_cost, marked_most, missed_none, parent_ends}
+use Rattle.fs_compile.specs.Search.{Missed, hit_number, hits, marked, start_at, tested_to}
+use Rattle.fs_compile.proofs.Counts.{marked_later}
+use Rattle.fs_compile.proofs.Climbing.{climbed_cost, missed_none, parent_ends}
 use Rattle.fs_compile.proofs.search.climb.Goals as goal
 
 pub returns-in-Some-clause-steps : goal.returns-in-Some-clause-steps
 returns-in-Some-clause-steps g c = λ near n.
     let inv = c.loop-bucket.invariant.steps near n in
-    let own = c.scan_bucket.ensures.steps near n in
-    let most : marked (start_at c.args.buckets.now (parent_at c.args.buckets.now c.loop-bucket.bucket)) near ≤ count_by (λ b. b) near = marked_most (start_at c.args.buckets.now (parent_at c.args.buckets.now c.loop-bucket.bucket)) near in
-    omega (arith, inv, own, most)
+    let own = c.in-Some.ensures.steps near n in
+    omega (arith, inv, own)
+
+pub loop-bucket-init : goal.loop-bucket-init
+loop-bucket-init g c = record {
+  within = c.requires.starts.within;
+  ends = c.requires.starts.ends;
+  later = omega arith;
+  missed = search rules;
+  steps = λ near n. let more = marked_later c.args.start.from (max c.args.start.from (start_at c.args.buckets.now c.args.start.bucket)) near (omega arith) in omega (arith, more);
+}
 
 pub loop-bucket-preserved : goal.loop-bucket-preserved
 loop-bucket-preserved g c = record {
@@ -23,16 +33,17 @@ loop-bucket-preserved g c = record {
       subst (λ (x : Node ℕ). Missed (hits c.args.facts.now c.args.rules.now) c.args.start.from (start_at c.args.buckets.now x.parent)) (sym c.at-bucket.ensures)
       (missed_none _ _ c.scan_bucket.result (c.scan_bucket.ensures.found near n w (c.loop-bucket.invariant.missed near n w)) c.in_default.is);
   steps = λ near n.
-      subst (λ (x : Node ℕ). c.scan_bucket.new.steps ≤ c.args.steps.now + marked (start_at c.args.buckets.now x.parent) near) (sym c.at-bucket.ensures)
-      (let inv = c.loop-bucket.invariant.steps near n in let own = c.scan_bucket.ensures.steps near n in omega (arith, inv, own));
+      subst (λ (x : Node ℕ). c.scan_bucket.new.steps + marked c.args.start.from near ≤ c.args.steps.now + marked (max c.args.start.from (start_at c.args.buckets.now x.parent)) near) (sym c.at-bucket.ensures)
+      (let inv = c.loop-bucket.invariant.steps near n in let own = c.in_default.ensures.steps near n in omega (arith, inv, own));
 } where
   inside : c.loop-bucket.bucket < length (numbers_in c.args.buckets.now.lasts)
   inside = let t = c.loop-bucket-test.true in let l = c.len.ensures in omega (arith, t, l)
 
 pub returns-in_err-number-clause-steps : goal.returns-in_err-number-clause-steps
 returns-in_err-number-clause-steps g c = λ near n.
-    climbed_cost (numbers_in c.args.buckets.now.lasts) (nodes_in c.args.buckets.now.nodes) c.args.buckets.now.homes.items (length c.args.rules.now) c.args.start.address c.loop-bucket.bucket c.args.start.from c.max-tail.result
-    c.args.steps.now c.loop-bucket.steps c.scan.new.steps near c.requires.sound n last low (c.loop-bucket.invariant.steps near n) c.scan.ensures.steps where
+    subst (λ (hit : Option Hit). c.scan_run.new.steps + marked c.args.start.from near ≤ c.args.steps.now + marked (tested_to (hit_number hit) (length c.args.rules.now)) near) (sym c.from_residual.ensures)
+    (climbed_cost (numbers_in c.args.buckets.now.lasts) (nodes_in c.args.buckets.now.nodes) c.args.buckets.now.homes.items (length c.args.rules.now) c.args.start.address c.loop-bucket.bucket c.args.start.from c.max-tail.result
+    c.args.steps.now c.loop-bucket.steps c.scan_run.new.steps (hits c.args.facts.now c.args.rules.now) near None c.requires.sound n last low c.in_err-number.ensures.found (c.loop-bucket.invariant.steps near n) c.in_err-number.ensures.steps) where
       last : c.loop-bucket.bucket ≡ length (numbers_in c.args.buckets.now.lasts)
       last = let t = c.loop-bucket-test.false in let l = c.len.ensures in let w = c.loop-bucket.invariant.within in omega (arith, t, l, w)
 
@@ -42,7 +53,7 @@ returns-in_err-number-clause-steps g c = λ near n.
 pub returns-clause-steps : goal.returns-clause-steps
 returns-clause-steps g c = λ near n.
     climbed_cost (numbers_in c.args.buckets.now.lasts) (nodes_in c.args.buckets.now.nodes) c.args.buckets.now.homes.items (length c.args.rules.now) c.args.start.address c.loop-bucket.bucket c.args.start.from c.max-tail.result
-    c.args.steps.now c.loop-bucket.steps c.scan.new.steps near c.requires.sound n last low (c.loop-bucket.invariant.steps near n) c.scan.ensures.steps where
+    c.args.steps.now c.loop-bucket.steps c.scan_run.new.steps (hits c.args.facts.now c.args.rules.now) near (Some c.in_ok-number.number) c.requires.sound n last low c.in_ok-number.ensures.found (c.loop-bucket.invariant.steps near n) c.in_ok-number.ensures.steps where
       last : c.loop-bucket.bucket ≡ length (numbers_in c.args.buckets.now.lasts)
       last = let t = c.loop-bucket-test.false in let l = c.len.ensures in let w = c.loop-bucket.invariant.within in omega (arith, t, l, w)
 

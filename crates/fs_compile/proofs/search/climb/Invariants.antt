@@ -1,4 +1,4 @@
-use Rattle.std.proofs.Common.{◌+◌, ◌-◌, ◌<◌, ◌≤◌, List, Bool, get_or, length}
+use Rattle.std.proofs.Common.{◌+◌, ◌-◌, ◌<◌, ◌≤◌, List, Bool, get_or, length, max}
 use Rattle.fs_compile.specs.Addresses.{numbers_in}
 use Rattle.fs_compile.specs.Search.{IsNear, Missed, Within, hits, marked, start_at}
 use Rattle.fs_compile.proofs.search.climb.Given as goal
@@ -11,7 +11,7 @@ invariant-loop-bucket g l = record {
   missed : (near : List Bool) → IsNear l.buckets l.start.address (length l.rules) near → Within (hits l.facts l.rules) near
       → Missed (hits l.facts l.rules) l.start.from (start_at l.buckets l.bucket);
   steps : (near : List Bool) → IsNear l.buckets l.start.address (length l.rules) near
-      → l.steps ≤ l.initial.steps + marked (start_at l.buckets l.bucket) near;
+      → l.steps + marked l.start.from near ≤ l.initial.steps + marked (max l.start.from (start_at l.buckets l.bucket)) near;
 }
 
 abbrev pub decreases-loop-bucket : goal.decreases-loop-bucket

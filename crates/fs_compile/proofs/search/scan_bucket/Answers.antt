@@ -1,4 +1,4 @@
-use Rattle.std.proofs.Common.{◌<◌, ◌≤◌, ℕ, length, ap, subst, arith}
+use Rattle.std.proofs.Common.{◌<◌, ◌≤◌, ℕ, length, max, ap, subst, arith}
 use Rattle.fs_compile.specs.declared.nodes.Node.{Node}
 use Rattle.fs_compile.specs.Addresses.{numbers_in, nodes_in}
 use Rattle.fs_compile.specs.Search.{hits, marked, parent_at, start_at}
@@ -12,23 +12,24 @@ returns-then-place-node-clause-found g c = λ near n w missed.
 
 pub returns-then-place-node-clause-steps : goal.returns-then-place-node-clause-steps
 returns-then-place-node-clause-steps g c = λ near n.
-    let cost : marked (start_at c.args.buckets.now c.args.place.bucket) near ≤ marked (start_at c.args.buckets.now (parent_at c.args.buckets.now c.args.place.bucket)) near =
-    skipped_cost (numbers_in c.args.buckets.now.lasts) (nodes_in c.args.buckets.now.nodes) c.args.buckets.now.homes.items (length c.args.rules.now) c.args.place.bucket near c.requires.sound c.requires.within in
+    let cost : marked (max c.args.place.from (start_at c.args.buckets.now c.args.place.bucket)) near ≤ marked (max c.args.place.from (start_at c.args.buckets.now (parent_at c.args.buckets.now c.args.place.bucket))) near =
+    skipped_cost (numbers_in c.args.buckets.now.lasts) (nodes_in c.args.buckets.now.nodes) c.args.buckets.now.homes.items (length c.args.rules.now) c.args.place.bucket c.args.place.from near c.requires.sound c.requires.within in
     omega (arith, cost)
 
 pub returns-clause-found : goal.returns-clause-found
 returns-clause-found g c = λ near n w missed.
     searched_found (numbers_in c.args.buckets.now.lasts) (nodes_in c.args.buckets.now.nodes) c.args.buckets.now.homes.items (length c.args.rules.now) c.args.place.address c.args.place.bucket c.args.place.from c.max.result
-    c.at-node.result c.at-end.result (hits c.args.facts.now c.args.rules.now) near c.scan.result c.requires.sound n w c.requires.within c.requires.ends c.at-node.ensures c.at-end.ensures c.max.ensures missed c.scan.ensures.found
+    c.at-node.result c.at-end.result (hits c.args.facts.now c.args.rules.now) near c.scan_run.result c.requires.sound n w c.requires.within c.requires.ends c.at-node.ensures c.at-end.ensures c.max.ensures missed c.scan_run.ensures.found
 
 pub returns-clause-steps : goal.returns-clause-steps
 returns-clause-steps g c = λ near n.
     searched_steps (numbers_in c.args.buckets.now.lasts) (nodes_in c.args.buckets.now.nodes) c.args.buckets.now.homes.items (length c.args.rules.now) c.args.place.address c.args.place.bucket c.args.place.from c.max.result
-    c.args.steps.now c.scan.new.steps c.at-node.result c.at-end.result near c.requires.sound n c.requires.within c.requires.ends c.at-node.ensures c.at-end.ensures c.max.ensures c.if-place-node.false c.scan.ensures.steps
+    c.args.steps.now c.scan_run.new.steps c.at-node.result c.at-end.result (hits c.args.facts.now c.args.rules.now) near c.scan_run.result c.requires.sound n c.requires.within c.requires.ends c.at-node.ensures c.at-end.ensures c.max.ensures c.if-place-node.false
+    c.scan_run.ensures.found c.scan_run.ensures.steps
 
 pub returns-clause-inside : goal.returns-clause-inside
 returns-clause-inside g c =
-    found_inside (hits c.args.facts.now c.args.rules.now) c.max.result c.at-end.result.start (start_at c.args.buckets.now c.args.place.bucket) (length c.args.rules.now) c.scan.result low high c.scan.ensures.found where
+    found_inside (hits c.args.facts.now c.args.rules.now) c.max.result c.at-end.result.start (start_at c.args.buckets.now c.args.place.bucket) (length c.args.rules.now) c.scan_run.result low high c.scan_run.ensures.found where
       low : start_at c.args.buckets.now c.args.place.bucket ≤ c.max.result
       low = let m = c.max.ensures in let s = ap (λ (node : Node ℕ). node.start) c.at-node.ensures in omega (arith, m, s)
 

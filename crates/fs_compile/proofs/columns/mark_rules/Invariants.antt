@@ -1,0 +1,9 @@
+use Rattle.std.proofs.Common.{◌≡◌, length}
+use Rattle.fs_compile.specs.Columns.{AreMarked}
+use Rattle.fs_compile.proofs.columns.mark_rules.Given as goal
+
+abbrev pub invariant-loop-number : goal.invariant-loop-number
+invariant-loop-number l = record {
+  size : length l.rows ≡ length l.initial.rows;
+  marked : AreMarked l.rules l.first l.number l.field l.bounds l.rows l.words;
+}

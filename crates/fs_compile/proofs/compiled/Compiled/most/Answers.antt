@@ -1,0 +1,7 @@
+use Rattle.std.proofs.Common.{arith}
+use Rattle.fs_compile.proofs.Indexing.{no_more_rules}
+use Rattle.fs_compile.proofs.compiled.Compiled.most.Goals as goal
+
+pub returns : goal.returns
+returns c = λ rules stands.
+    no_more_rules rules c.args.self.now c.max.result stands (let most = c.max.ensures in let v4 = c.len.ensures in let v6 = c.len-2.ensures in omega (arith, most, v4, v6))

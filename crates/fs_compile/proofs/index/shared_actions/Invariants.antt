@@ -1,0 +1,7 @@
+use Rattle.std.proofs.Common.{◌≡◌, ◌++◌, drop}
+use Rattle.fs_rules.specs.Lent.{all_admitted}
+use Rattle.fs_compile.specs.Index.{actions_of}
+use Rattle.fs_compile.proofs.index.shared_actions.Given as goal
+
+abbrev pub invariant-loop-admitted : goal.invariant-loop-admitted
+invariant-loop-admitted l = l.actions.items ++ actions_of (all_admitted (drop l.admitted-index l.list)) ≡ actions_of (all_admitted l.list)

@@ -1,0 +1,60 @@
+-- The numbers of a field in classes, and which rules of a run a packet may match whose number is of a class.
+use Rattle.std.specs.Prelude.{◌≡◌, ℕ, ◌+◌, ◌-◌, ◌*◌, ◌/◌, ◌%◌, ◌<◌, ◌≤◌, Bool, true, false, List, get_or, length}
+use Rattle.std.specs.Int.{bit_at}
+use Rattle.fs_compile.specs.declared.columns.Column.{Column}
+use Rattle.fs_compile.specs.declared.fast.Fast.{Fast}
+use Rattle.fs_compile.specs.declared.limits.Limit.{Limit}
+use Rattle.fs_compile.specs.declared.limits.Limit.TheVariants.{Any, Range, Ranges}
+use Rattle.fs_compile.specs.Buckets.{AreRising}
+use Rattle.fs_compile.specs.Facts.{Facts, key_of}
+use Rattle.fs_compile.specs.Search.{hits}
+use Rattle.fs_compile.specs.Spans.{contains, is_in}
+
+-- the number is one of these
+abbrev pub allows : Limit → ℕ → Bool
+allows Any number = true
+allows (Range low high) number = is_in number (low, high)
+allows (Ranges ranges) number = contains ranges.now number
+
+-- the class of a number: classes before it end below the number, and it and those behind don't
+pub record IsClass (bounds : List ℕ) (number class : ℕ) : Type 0 where
+  pub within : class ≤ length bounds
+  pub below : (b : ℕ) → b < class → get_or bounds b 0 < number
+  pub from : (b : ℕ) → class ≤ b → b < length bounds → number ≤ get_or bounds b 0
+
+-- so many words have a bit for each of so many rules
+abbrev pub words_for : ℕ → ℕ
+words_for count = (count + 63) / 64
+
+-- the bit of a rule in the row of a class
+abbrev pub bit_in : (rows : List ℕ) → (words class rule : ℕ) → ℕ
+bit_in rows words class rule = bit_at (get_or rows (class * words + rule / 64) 0) (rule % 64)
+
+-- as many words, and no bit was cleared
+pub record Grown (old new : List ℕ) : Type 0 where
+  pub size : length new ≡ length old
+  pub kept : (word bit : ℕ) → bit_at (get_or old word 0) bit ≡ 1 → bit_at (get_or new word 0) bit ≡ 1
+
+-- there is a row for each class
+pub record AreRowsOf (bounds rows : List ℕ) (words : ℕ) : Type 0 where
+  pub rising : AreRising bounds
+  pub size : length rows ≡ (length bounds + 1) * words
+
+-- where a packet matches a rule of the run, the rule's bit is set in the row of the packet's class
+abbrev pub AreMarked : (rules : List Fast) → (first end field : ℕ) → (bounds rows : List ℕ) → (words : ℕ) → Type 0
+AreMarked rules first end field bounds rows words =
+    (facts : Facts) (number class : ℕ) → first ≤ number → number < end
+    → get_or (hits facts rules) number false ≡ true
+    → IsClass bounds (key_of facts field) class
+    → bit_in rows words class (number - first) ≡ 1
+
+-- the column of a run of rules
+pub record IsColumn (rules : List Fast) (first end : ℕ) (column : Column) : Type 0 where
+  pub shaped : AreRowsOf column.bounds.items column.rows.items (words_for (end - first))
+  pub marked : AreMarked rules first end column.field column.bounds.items column.rows.items (words_for (end - first))
+
+-- a row: where a rule of the run is matched its bit is set
+pub record IsRow (tests : List Bool) (first end : ℕ) (row : List ℕ) : Type 0 where
+  pub room : end ≤ first + length row * 64
+  pub marked : (number : ℕ) → first ≤ number → number < end → get_or tests number false ≡ true
+      → bit_at (get_or row ((number - first) / 64) 0) ((number - first) % 64) ≡ 1

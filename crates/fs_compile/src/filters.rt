@@ -1,0 +1,184 @@
+//! Which rules of a long run a packet may match.
+
+ghost use Rattle.std.specs.Prelude.{◌≡◌, ℕ, ◌+◌, ◌-◌, ◌^◌, ◌<◌, ◌≤◌, IfOk, IfSome, List, MatchOption, length};
+ghost use Rattle.std.specs.Int.{bit_at};
+ghost use Rattle.fs_compile.specs.Filters.{AreFilters, AreRows, IsFilter, word_of};
+ghost use Rattle.fs_compile.specs.Search.{Found, Missed, hits, tested_to};
+
+use crate::columns::{Column, words_of};
+use crate::facts::Facts;
+use crate::fast::Fast;
+use fs_base::{Memory, Steps};
+use std::alloc::Global;
+use std::sync::ledger::Ledger;
+
+/// A run of so many rules, or fewer, is searched rule by rule.
+pub(crate) const FEW_RULES: usize = 32;
+
+/// The rules from the number `first` on before `end`, by the fields in which most rules differ.
+#[derive(Drop)]
+pub(crate) struct Filter {
+    pub(crate) first: usize,
+    pub(crate) end: usize,
+    pub(crate) source: Column,
+    pub(crate) protocol: Column,
+    pub(crate) destination_port: Column,
+    pub(crate) source_port: Column,
+    pub(crate) length: Column,
+}
+
+/// The filters of the long runs of a family's rules, in order.
+#[derive(Drop)]
+pub(crate) struct Filters {
+    pub(crate) runs: Vec<Filter>,
+}
+
+impl Filters {
+    /// The filter of the run in which the rules from `from` on before `to` are, if there is one.
+    pub(crate) fn of(&self, from: usize, to: usize) -> Option<&Filter>
+        ensures { (rules : List Fast)
+            → AreFilters rules self.now
+            → IfSome result (λ filter. IsFilter rules filter.now × (filter.now.first ≤ from) × (to ≤ filter.now.end)) }
+    {
+        let place = self.runs.partition_point(|filter| filter.end < to);
+        match self.runs.get(place) {
+            Some(filter) if filter.first <= from && to <= filter.end => Some(filter),
+            _ => None,
+        }
+    }
+}
+
+/// The rows of a packet's classes.
+#[derive(Clone, Copy, Drop)]
+pub(crate) struct Rows<'a> {
+    pub(crate) source: &'a [u64],
+    pub(crate) protocol: &'a [u64],
+    pub(crate) destination_port: &'a [u64],
+    pub(crate) source_port: &'a [u64],
+    pub(crate) length: &'a [u64],
+}
+
+impl<'a> Rows<'a> {
+    /// The bits of 64 rules that are set in all rows.
+    #[inline(always)]
+    fn word(&self, place: usize) -> u64
+        requires source { place < length self.now.source.now }
+        requires protocol { place < length self.now.protocol.now }
+        requires destination_port { place < length self.now.destination_port.now }
+        requires source_port { place < length self.now.source_port.now }
+        requires length { place < length self.now.length.now }
+        ensures { result ≡ word_of self.now place }
+    {
+        self.source[place]
+            & self.protocol[place]
+            & self.destination_port[place]
+            & self.source_port[place]
+            & self.length[place]
+    }
+}
+
+impl Filter {
+    /// Of the rules from the number `first` on before `end`.
+    pub(crate) fn of(
+        alloc: Global,
+        rules: &[Fast],
+        first: usize,
+        end: usize,
+    ) -> Result<Filter, Memory>
+        requires some { first < end }
+        requires within { end ≤ length rules.now }
+        requires few { length rules.now < 2 ^ 32 }
+        ensures { IfOk result (IsFilter rules.now) }
+    {
+        let source = rules[first].source_field();
+        Ok(Filter {
+            first,
+            end,
+            source: Column::of(alloc, rules, first, end, source)?,
+            protocol: Column::of(alloc, rules, first, end, 3)?,
+            destination_port: Column::of(alloc, rules, first, end, 5)?,
+            source_port: Column::of(alloc, rules, first, end, 6)?,
+            length: Column::of(alloc, rules, first, end, 10)?,
+        })
+    }
+
+    /// The first rule that matches of those from `from` on before `to`. As many steps at most as rules up to that one.
+    pub(crate) fn scan<L: Ledger>(
+        &self,
+        rules: &[Fast],
+        facts: &Facts<'_>,
+        from: usize,
+        to: usize,
+        steps: &mut Steps<L>,
+    ) -> Option<usize>
+        requires filter { IsFilter rules.now self.now }
+        requires few { length rules.now < 2 ^ 32 }
+        requires from { self.now.first ≤ from }
+        requires to { to ≤ self.now.end }
+        ensures found { MatchOption result
+            (Missed (hits facts.now rules.now) from to)
+            (Found (hits facts.now rules.now) from to) }
+        ensures later { steps.old ≤ steps.new }
+        ensures steps { steps.new ≤ steps.old + (tested_to result to - from) }
+    {
+        let words = words_of(self.end - self.first);
+        let rows = Rows {
+            source: self.source.row(facts, words),
+            protocol: self.protocol.row(facts, words),
+            destination_port: self.destination_port.row(facts, words),
+            source_port: self.source_port.row(facts, words),
+            length: self.length.row(facts, words),
+        };
+        scan_rows(rules, facts, &rows, self.first, from, to, steps)
+    }
+}
+
+/// The first rule that matches of those from `from` on before `to`, of which only those are tested whose bits are set.
+fn scan_rows<L: Ledger>(
+    rules: &[Fast],
+    facts: &Facts<'_>,
+    rows: &Rows<'_>,
+    first: usize,
+    from: usize,
+    to: usize,
+    steps: &mut Steps<L>,
+) -> Option<usize>
+    requires rows { AreRows (hits facts.now rules.now) first to rows.now }
+    requires first { first ≤ from }
+    requires to { to ≤ length rules.now }
+    requires few { length rules.now < 2 ^ 32 }
+    ensures found { MatchOption result
+        (Missed (hits facts.now rules.now) from to)
+        (Found (hits facts.now rules.now) from to) }
+    ensures later { steps.old ≤ steps.new }
+    ensures steps { steps.new ≤ steps.old + (tested_to result to - from) }
+{
+    let mut number = from;
+    'candidates: while number < to {
+        let bit = (number - first) % 64;
+        let clear = clear_from(rows.word((number - first) / 64), bit);
+        number += clear;
+        if bit + clear < 64 && number < to {
+            if rules[number].test_facts(facts, steps) {
+                return Some(number);
+            }
+            number += 1;
+        }
+    }
+    None
+}
+
+/// How many bits of the word are clear from one on, one after the other.
+#[inline(always)]
+fn clear_from(word: u64, bit: usize) -> usize
+    requires { bit < 64 }
+    ensures within { bit + result ≤ 64 }
+    ensures clear { (j : ℕ) → j < result → bit_at word (bit + j) ≡ 0 }
+{
+    let rest = word >> bit;
+    if rest == 0 {
+        64 - bit
+    } else {
+        rest.trailing_zeros() as usize
+    }
+}
