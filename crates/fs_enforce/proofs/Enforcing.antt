@@ -1,28 +1,22 @@
 -- How the answer of `enforce` follows from those of its stages.
-use Rattle.std.proofs.Common.{◌≡◌, ◌⊎◌, inl, inr, ◌∙◌, ℕ, List, [], Option, Some, None, ap, sym, subst}
-use Rattle.fs_base.specs.Sink.{Grew}
-use Rattle.fs_base.proofs.Grew.{Grew-refl}
+use Rattle.std.proofs.Common.{◌≡◌, ◌⊎◌, inl, inr, ◌∙◌, ℕ, List, Option, ap, sym, subst}
 use Rattle.fs_records.specs.Records.{End, done, limited, bad}
-use Rattle.fs_capture.specs.Capture.{Recorded, capture_of}
+use Rattle.fs_capture.specs.Capture.{Recorded}
 use Rattle.fs_capture.specs.declared.fault.CaptureReason.{CaptureReason}
 use Rattle.fs_base.specs.declared.config.Config.{Config}
-use Rattle.fs_rules.specs.Table.{Held}
 use Rattle.fs_tape.specs.Tape.{Timed}
 use Rattle.fs_tape.specs.declared.magic.Version.{Version}
 use Rattle.fs_tape.specs.declared.magic.Version.TheVariants.{One, Two}
-use Rattle.fs_desk.specs.Desk.{Desked}
+use Rattle.fs_desk.specs.Desk.{Desked, Played}
 use Rattle.fs_enforce.specs.Command.{EnforcesSo}
 use Rattle.fs_stages.specs.Load.{Names, config_stage}
-use Rattle.fs_desk.specs.Leaves.{Leaves}
 use Rattle.fs_stages.specs.Play.{HasVersion, HaveNoMoments, IsWhole, tape_stage, accepted_stage, untimed}
-use Rattle.fs_enforce.specs.Judge.{always, capture_stage, status_at, verdict_of}
-use Rattle.fs_enforce.specs.Moments.{AnswersAt, verdict_at}
-use Rattle.fs_enforce.proofs.MomentAnswers.{always_judged, at_for}
-use Rattle.fs_stages.specs.Refusal.{Answers, Stage, Found, and_then, or_stop, status_of, HasReason}
+use Rattle.fs_stages.specs.Player.{PlayerState, Stands}
+use Rattle.fs_enforce.specs.Judge.{capture_stage, status_at}
+use Rattle.fs_enforce.specs.Moments.{AnswersAt}
+use Rattle.fs_stages.specs.Refusal.{Stage, Found, and_then, status_of, HasReason}
 use Rattle.fs_stages.specs.declared.refusal.Refusal.{Refusal}
-use Rattle.fs_stages.specs.declared.refusal.Refusal.TheVariants.{Outside}
 use Rattle.fs_stages.proofs.Stages.{accepted_with, ends_early, reason_then}
-use Rattle.fs_desk.proofs.Leaves.{played_leaves}
 
 -- the configuration ended the run
 pub config_ends : (limit : ℕ) (holds : Names) (config tape capture : List ℕ) (failed failed' : Type 0) (a : Option (List ℕ)) (refusal : Refusal)
@@ -42,72 +36,48 @@ tape_ends limit holds holds' config tape capture accepted failed failed' a refus
     (reason_then (tape_stage accepted limit holds tape) (λ items. Found (accepted, items)) failed refusal told) in
     inl (ends_early (accepted_stage limit holds config tape) failed failed' a refusal whole f)
 
--- the capture was judged, by what a tape of the first version leaves
-pub capture_judged : (limit : ℕ) (holds tape_holds capture_holds : Names) (config tape capture : List ℕ) (accepted : Config) (version : Version) (desk : Desked) (table : Held) (failed failed' : Type 0) (before now : Option (List ℕ)) (answer : ℕ)
+-- the capture was judged, by what the tape holds at the packets' moments
+pub answers_so : (limit : ℕ) (holds tape_holds capture_holds : Names) (config tape capture : List ℕ) (accepted : Config) (version : Version) (desk : Desked) (failed : Type 0) (before now : Option (List ℕ)) (answer : ℕ)
     → config_stage limit holds config ≡ Found accepted → tape_holds ≡ holds → capture_holds ≡ tape_holds
-    → IsWhole accepted limit tape_holds tape version desk → version ≡ One
-    → table ≡ desk.held → Answers (verdict_of (always table) (capture_stage limit capture_holds capture)) failed before now answer → (answer ≡ 6 → Grew before now [])
-    → (failed → failed')
-    → EnforcesSo limit holds config tape capture failed' before now answer
-capture_judged limit holds tape_holds capture_holds config tape capture accepted version desk table failed failed' before now answer e same same' w v t a six f =
-    let items : List Timed = w.played.items in
-    let found : tape_stage accepted limit holds tape ≡ Found items = subst (λ (names : Names). tape_stage accepted limit names tape ≡ Found items) same w.played.found in
+    → (w : IsWhole accepted limit tape_holds tape version desk)
+    → AnswersAt accepted w.played.items (capture_stage limit capture_holds capture) failed before now answer
+    → EnforcesSo limit holds config tape capture failed before now answer
+answers_so limit holds tape_holds capture_holds config tape capture accepted version desk failed before now answer e same same' w a =
+    let found : tape_stage accepted limit holds tape ≡ Found w.played.items = subst (λ (names : Names). tape_stage accepted limit names tape ≡ Found w.played.items) same w.played.found in
     inr (record {
       accepted = accepted;
-      items = items;
+      items = w.played.items;
       found = accepted_with limit holds config tape accepted e ∙ ap (λ (s : Stage (List Timed)). and_then s (λ items. Found (accepted, items))) found;
-      judged = always_judged accepted items table (capture_stage limit holds capture) failed failed' before now answer
-          (subst (λ (z : Version). HaveNoMoments z items) v w.moments)
-          (subst (λ (h : Held). Leaves accepted (untimed items) h) (sym t) (played_leaves accepted (untimed items) desk w.played.played))
-          (subst (λ (names : Names). Answers (verdict_of (always table) (capture_stage limit names capture)) failed before now answer) (same' ∙ same) a) six f;
+      judged = subst (λ (names : Names). AnswersAt accepted w.played.items (capture_stage limit names capture) failed before now answer) (same' ∙ same) a;
     })
-
--- or by what one of the second version holds at the packets' moments
-pub moments_judged : (limit : ℕ) (holds tape_holds capture_holds : Names) (config tape capture : List ℕ) (accepted : Config) (version : Version) (desk : Desked) (failed failed' : Type 0) (before now : Option (List ℕ)) (answer : ℕ)
-    → config_stage limit holds config ≡ Found accepted → tape_holds ≡ holds → capture_holds ≡ tape_holds
-    → IsWhole accepted limit tape_holds tape version desk → version ≡ Two
-    → ((items : List Timed) → tape_stage accepted limit capture_holds tape ≡ Found items → HasVersion limit capture_holds tape Two
-    → AnswersAt accepted items (capture_stage limit capture_holds capture) failed before now answer)
-    → (failed → failed') → EnforcesSo limit holds config tape capture failed' before now answer
-moments_judged limit holds tape_holds capture_holds config tape capture accepted version desk failed failed' before now answer e same same' w v judge f =
-    let items : List Timed = w.played.items in
-    let found : tape_stage accepted limit holds tape ≡ Found items = subst (λ (names : Names). tape_stage accepted limit names tape ≡ Found items) same w.played.found in
-    let told : tape_stage accepted limit capture_holds tape ≡ Found items = subst (λ (names : Names). tape_stage accepted limit names tape ≡ Found items) (sym same') w.played.found in
-    let second : HasVersion limit capture_holds tape Two =
-    subst (λ (names : Names). HasVersion limit names tape Two) (sym same') (subst (HasVersion limit tape_holds tape) v w.has_version) in
-    inr (record {
-      accepted = accepted;
-      items = items;
-      found = accepted_with limit holds config tape accepted e ∙ ap (λ (s : Stage (List Timed)). and_then s (λ items. Found (accepted, items))) found;
-      judged = at_for accepted items (capture_stage limit holds capture) failed failed' before now answer
-          (subst (λ (names : Names). AnswersAt accepted items (capture_stage limit names capture) failed before now answer) (same' ∙ same) (judge items told second)) f;
-    })
-
--- nothing was written, and memory was wanting
-pub kept_at_six : {S : Type 0} (written : S → Option (List ℕ)) (old new : S) (answer : ℕ) → (answer ≡ 6 → new ≡ old) → answer ≡ 6 → Grew (written old) (written new) []
-kept_at_six {S} written old new answer kept six = subst (λ (s : S). Grew (written old) (written s) []) (sym (kept six)) (Grew-refl (written old))
 
 -- no status of a capture that was judged is that of a tape's fault
-pub never_tape : {A : Type 0} (config : Config) (items : List Timed) (stage : Stage Recorded) (content : Option (List ℕ)) (limit : ℕ) (failed : Type 0) (before now : Option (List ℕ)) (answer : ℕ)
-    → stage ≡ and_then (or_stop Outside content) (λ octets. Found (capture_of limit octets))
-    → AnswersAt config items stage failed before now answer → answer ≡ 4 → A
-never_tape {A} config items stage content limit failed before now answer s a four = by content s a.answers.status_is
+pub never_tape : {A : Type 0} (config : Config) (items : List Timed) (found : Recorded) (failed : Type 0) (before now : Option (List ℕ)) (answer : ℕ)
+    → AnswersAt config items (Found found) failed before now answer → answer ≡ 4 → A
+never_tape {A} config items found failed before now answer a four = by a.answers.status_is
   where
     of_end : (end : End CaptureReason) → 4 ≡ status_at end → A
     of_end done h = absurd cc
     of_end limited h = absurd cc
     of_end (bad reason place) h = absurd cc
 
-    by : (content : Option (List ℕ)) → stage ≡ and_then (or_stop Outside content) (λ octets. Found (capture_of limit octets))
-        → (answer ≡ (verdict_at a.came.held a.came.judged stage).status) ⊎ (answer ≡ 6) ⊎ ((answer ≡ 1) × failed) → A
-    by None e (inl h) = let wrong : 4 ≡ 1 = sym four ∙ h ∙ ap (λ (s : Stage Recorded). (verdict_at a.came.held a.came.judged s).status) e in absurd cc
-    by (Some octets) e (inl h) =
-        of_end (capture_of limit octets).end (sym four ∙ h ∙ ap (λ (s : Stage Recorded). (verdict_at a.came.held a.came.judged s).status) e)
-    by content e (inr (inl h)) = let wrong : 4 ≡ 6 = sym four ∙ h in absurd cc
-    by content e (inr (inr h)) = let wrong : 4 ≡ 1 = sym four ∙ h.0 in absurd cc
+    by : (answer ≡ status_at found.end) ⊎ (answer ≡ 6) ⊎ ((answer ≡ 1) × failed) → A
+    by (inl h) = of_end found.end (sym four ∙ h)
+    by (inr (inl h)) = let wrong : 4 ≡ 6 = sym four ∙ h in absurd cc
+    by (inr (inr h)) = let wrong : 4 ≡ 1 = sym four ∙ h.0 in absurd cc
 
 -- a tape of the second version is one
 pub is_second : (limit : ℕ) (holds holds' : Names) (config : Config) (tape : List ℕ) (version : Version) (desk : Desked)
     → holds' ≡ holds → IsWhole config limit holds' tape version desk → version ≡ Two → HasVersion limit holds tape Two
 is_second limit holds holds' config tape version desk same w v =
     subst (λ (names : Names). HasVersion limit names tape Two) same (subst (HasVersion limit holds' tape) v w.has_version)
+
+-- a tape of the first version that was played whole is a player with nothing ahead
+pub whole_played : (limit : ℕ) (holds : Names) (config : Config) (tape : List ℕ) (version : Version) (desk : Desked) (player : PlayerState) (left : List ℕ)
+    → (w : IsWhole config limit holds tape version desk) → version ≡ One
+    → ((items : List Timed) (left : List ℕ) → Played desk.config (untimed items) desk → HaveNoMoments One items → Stands items 0 player left)
+    → Stands w.played.items 0 player left
+whole_played limit holds config tape version desk player left w v stands =
+    stands w.played.items left
+    (subst (λ (c : Config). Played c (untimed w.played.items) desk) (sym w.played.played.config_is) w.played.played)
+    (subst (λ (z : Version). HaveNoMoments z w.played.items) v w.moments)

@@ -1,8 +1,6 @@
 -- How the answer of a run follows from what was judged at the packets' moments.
-use Rattle.std.proofs.Common.{◌≡◌, ◌≢◌, ◌⊎◌, inl, inr, ◌∙◌, ◌≤◌, ℕ, List, [], ◌∷◌, Bool, true, Option, Result, Ok, Err, length, take, filter, refl, ap, sym, subst, append-nil, arith}
-use Rattle.std.specs.Prelude.{nat_le, if◌then◌else◌}
+use Rattle.std.proofs.Common.{◌≡◌, ◌≢◌, ◌⊎◌, inl, inr, ◌∙◌, ◌≤◌, ℕ, List, [], ◌∷◌, Option, Result, Ok, Err, length, take, refl, ap, sym, subst, arith}
 use Rattle.std.specs.Result.{IsErrAnd}
-use Rattle.std.proofs.lemmas.Bool.Decides.{nat_tests}
 use Rattle.std.proofs.lemmas.Grind.{common_steps}
 use Rattle.fs_base.specs.Sink.{Grew, GrewPart}
 use Rattle.fs_base.specs.declared.config.Config.{Config}
@@ -14,17 +12,14 @@ use Rattle.fs_capture.specs.Capture.{Captured, Recorded, recorded}
 use Rattle.fs_capture.specs.declared.fault.CaptureReason.{CaptureReason}
 use Rattle.fs_rules.specs.Table.{Held}
 use Rattle.fs_tape.specs.Tape.{Timed}
-use Rattle.fs_tape.specs.declared.magic.Version.TheVariants.{One}
-use Rattle.fs_desk.specs.Leaves.{Leaves}
-use Rattle.fs_stages.specs.Play.{HaveNoMoments, untimed}
-use Rattle.fs_stages.specs.Refusal.{Answers, Stage, Found, Stopped, answered, status_of}
+use Rattle.fs_stages.specs.Refusal.{Stage, Found, Stopped, answered, status_of}
 use Rattle.fs_stages.specs.declared.refusal.Refusal.{Refusal}
 use Rattle.fs_stages.specs.declared.refusal.Refusal.TheVariants.{Outside}
 use Rattle.fs_stages.specs.Player.{IsUnplayed}
 use Rattle.fs_stages.proofs.LookingAhead.{rose_on}
 use Rattle.fs_stages.proofs.Stages.{answers_for, rose_earlier, rose_later}
-use Rattle.fs_enforce.specs.Judge.{always, lines_from, rules_by, status_at, verdict_of}
-use Rattle.fs_enforce.specs.Moments.{AnswersAt, BreaksBehind, CameTo, EndsBefore, HoldAt, JudgesSo, came_lines, packets_of, verdict_at}
+use Rattle.fs_enforce.specs.Judge.{always, lines_from, rules_by, status_at}
+use Rattle.fs_enforce.specs.Moments.{AnswersAt, BreaksBehind, CameTo, EndsBefore, JudgesSo, came_lines, packets_of, verdict_at}
 
 -- of no packets there are no lines
 
@@ -73,47 +68,7 @@ none_judged config items stage failed failed' a refusal h f = record {
     all (inr (inl e)) six one = absurd (six (ap status_of e))
     all (inr (inr e)) six one = absurd (one (ap status_of e.0))
 
--- the same routes at each moment, of a tape without moments
-
-until_all : (t : ℕ) (items : List Timed) → HaveNoMoments One items → filter (λ (x : Timed). nat_le x.moment t) items ≡ items
-until_all t [] all = refl
-until_all t (x ∷ items) all =
-    let in_time : nat_le x.moment t ≡ true = before x.moment (all.0 refl) in
-    ap (λ (b : Bool). if b then x ∷ filter (λ (x : Timed). nat_le x.moment t) items else filter (λ (x : Timed). nat_le x.moment t) items) in_time
-    ∙ ap (λ (l : List Timed). x ∷ l) (until_all t items all.1)
-  where
-    before : (m : ℕ) → m ≡ 0 → nat_le m t ≡ true
-    before m e = grind (arith, nat_tests, e)
-
-always_hold : (config : Config) (items : List Timed) (table : Held) (packets : List Captured) → HaveNoMoments One items → Leaves config (untimed items) table
-    → HoldAt config items (always table) packets
-always_hold config items table [] none l = tt
-always_hold config items table (packet ∷ packets) none l =
-    (subst (λ (i : List Timed). Leaves config (untimed i) table) (sym (until_all packet.moment items none)) l, always_hold config items table packets none l)
-
-same_verdict : (held : ℕ → Held) (stage : Stage Recorded) → verdict_of held stage ≡ verdict_at held (packets_of stage) stage
-same_verdict held (Found capture) = refl
-same_verdict held (Stopped refusal) = refl
-
-pub always_judged : (config : Config) (items : List Timed) (table : Held) (stage : Stage Recorded) (failed failed' : Type 0) (before now : Option (List ℕ)) (answer : ℕ)
-    → HaveNoMoments One items → Leaves config (untimed items) table
-    → Answers (verdict_of (always table) stage) failed before now answer → (answer ≡ 6 → Grew before now []) → (failed → failed')
-    → AnswersAt config items stage failed' before now answer
-always_judged config items table stage failed failed' before now answer none l a six f = record {
-  came = record {
-    held = always table;
-    judged = packets_of stage;
-    rest = [];
-    parts = sym (append-nil (packets_of stage));
-    leaves = always_hold config items table (packets_of stage) none l;
-  };
-  answers = answers_for (verdict_at (always table) (packets_of stage) stage) failed failed' before now answer
-      (rw (← same_verdict (always table) stage) a) f;
-  all = λ six one. refl;
-  wanting = λ e. (0, nothing_of (always table) (packets_of stage) stage before now (six e));
-}
-
-pub at_for : (config : Config) (items : List Timed) (stage : Stage Recorded) (failed failed' : Type 0) (before now : Option (List ℕ)) (answer : ℕ)
+at_for : (config : Config) (items : List Timed) (stage : Stage Recorded) (failed failed' : Type 0) (before now : Option (List ℕ)) (answer : ℕ)
     → AnswersAt config items stage failed before now answer → (failed → failed') → AnswersAt config items stage failed' before now answer
 at_for config items stage failed failed' before now answer a f = record {
   came = a.came;
@@ -159,46 +114,50 @@ part_lines config items found failed before now refusal came e f part = record {
   wanting = λ six. let wrong : 1 ≡ 6 = sym (ap status_of e) ∙ six in absurd cc;
 }
 
-flushed : {T : Type 0} (config : Config) (items : List Timed) (found : List Captured × End CaptureReason) (before mid now : Option (List ℕ)) (pending : List ℕ) (failed other : Type 0) (result : Result T Refusal)
-    → JudgesSo config items found before mid [] pending failed result → Grew mid now pending → (failed → other)
+flushed : {T : Type 0} (config : Config) (items : List Timed) (found : List Captured × End CaptureReason) (left : List Captured) (before mid now : Option (List ℕ)) (pending : List ℕ) (failed other : Type 0) (result : Result T Refusal)
+    → JudgesSo config items found left before mid [] pending failed result → Grew mid now pending → (failed → other)
     → AnswersAt config items (Found (recorded found)) other before now (answered result)
-flushed config items found before mid now pending failed other (Ok value) w grew f =
+flushed config items found left before mid now pending failed other (Ok value) w grew f =
     whole_lines config items found other before now 0 w.0 (inl (sym (ap status_at w.2))) (λ six. w.1) (goes_flush now w.3 grew)
-flushed config items found before mid now pending failed other (Err refusal) w grew f = by w.1
+flushed config items found left before mid now pending failed other (Err refusal) w grew f = by w.1
   where
-    by : BreaksBehind found.1 w.0 before mid [] pending failed refusal → AnswersAt config items (Found (recorded found)) other before now (status_of refusal)
+    by : BreaksBehind found.1 left w.0 before mid [] pending failed refusal → AnswersAt config items (Found (recorded found)) other before now (status_of refusal)
     by (inl h) = whole_lines config items found other before now (status_of refusal) w.0 (inl (sym h.0)) (λ six. h.1) (goes_flush now h.2 grew)
-    by (inr (inl h)) = whole_lines config items found other before now (status_of refusal) w.0 (inr (ap status_of h.0)) (λ six. absurd (six (ap status_of h.0))) (goes_flush now h.1 grew)
+    by (inr (inl h)) = whole_lines config items found other before now (status_of refusal) w.0 (inr (ap status_of h.0)) (λ six. absurd (six (ap status_of h.0))) (goes_flush now h.2 grew)
     by (inr (inr h)) = part_lines config items found other before now refusal w.0 h.0 (f h.1) (partly_flushed before mid now pending (came_lines w.0) h.2 (part_whole mid now pending grew))
 
-unflushed : {T : Type 0} (config : Config) (items : List Timed) (found : List Captured × End CaptureReason) (before mid now : Option (List ℕ)) (pending : List ℕ) (failed other : Type 0) (result : Result T Refusal) (refusal : Refusal)
-    → JudgesSo config items found before mid [] pending failed result → GrewPart mid now pending → other → refusal ≡ Outside
+unflushed : {T : Type 0} (config : Config) (items : List Timed) (found : List Captured × End CaptureReason) (left : List Captured) (before mid now : Option (List ℕ)) (pending : List ℕ) (failed other : Type 0) (result : Result T Refusal) (refusal : Refusal)
+    → JudgesSo config items found left before mid [] pending failed result → GrewPart mid now pending → other → refusal ≡ Outside
     → AnswersAt config items (Found (recorded found)) other before now (status_of refusal)
-unflushed config items found before mid now pending failed other (Ok value) refusal w part o e =
+unflushed config items found left before mid now pending failed other (Ok value) refusal w part o e =
     part_lines config items found other before now refusal w.0 e o (goes_flush_part now w.3 part)
-unflushed config items found before mid now pending failed other (Err cause) refusal w part o e = by w.1
+unflushed config items found left before mid now pending failed other (Err cause) refusal w part o e = by w.1
   where
-    by : BreaksBehind found.1 w.0 before mid [] pending failed cause → AnswersAt config items (Found (recorded found)) other before now (status_of refusal)
+    by : BreaksBehind found.1 left w.0 before mid [] pending failed cause → AnswersAt config items (Found (recorded found)) other before now (status_of refusal)
     by (inl h) = part_lines config items found other before now refusal w.0 e o (goes_flush_part now h.2 part)
-    by (inr (inl h)) = part_lines config items found other before now refusal w.0 e o (goes_flush_part now h.1 part)
+    by (inr (inl h)) = part_lines config items found other before now refusal w.0 e o (goes_flush_part now h.2 part)
     by (inr (inr h)) = part_lines config items found other before now refusal w.0 e o (partly_flushed before mid now pending (came_lines w.0) h.2 part)
 
-pub moments_flushed : {T : Type 0} (config : Config) (items : List Timed) (stage : Stage Recorded) (found : List Captured × End CaptureReason) (before mid now : Option (List ℕ)) (first pending : List ℕ) (failed other : Type 0) (result : Result T Refusal)
-    → stage ≡ Found (recorded found) → first ≡ [] → JudgesSo config items found before mid first pending failed result → Grew mid now pending → (failed → other)
-    → AnswersAt config items stage other before now (answered result)
-moments_flushed config items stage found before mid now first pending failed other result s e w grew f =
-    subst (λ (st : Stage Recorded). AnswersAt config items st other before now (answered result)) (sym s)
-    (flushed config items found before mid now pending failed other result
-    (subst (λ (p : List ℕ). JudgesSo config items found before mid p pending failed result) e w) grew f)
+pub moments_flushed : {T : Type 0} (config : Config) (items : List Timed) (found : List Captured × End CaptureReason) (left : List Captured) (before mid now : Option (List ℕ)) (first pending : List ℕ) (failed other : Type 0) (result : Result T Refusal)
+    → first ≡ [] → JudgesSo config items found left before mid first pending failed result → Grew mid now pending → (failed → other)
+    → AnswersAt config items (Found (recorded found)) other before now (answered result)
+moments_flushed config items found left before mid now first pending failed other result e w grew f =
+    flushed config items found left before mid now pending failed other result
+    (subst (λ (p : List ℕ). JudgesSo config items found left before mid p pending failed result) e w) grew f
 
-pub moments_unflushed : {T U : Type 0} (config : Config) (items : List Timed) (stage : Stage Recorded) (found : List Captured × End CaptureReason) (before mid now : Option (List ℕ)) (first pending : List ℕ) (failed other : Type 0) (result : Result T Refusal) (answer : Result U Refusal)
-    → stage ≡ Found (recorded found) → first ≡ [] → JudgesSo config items found before mid first pending failed result → GrewPart mid now pending → other
-    → IsErrAnd answer (λ e. e ≡ Outside) → AnswersAt config items stage other before now (answered answer)
-moments_unflushed config items stage found before mid now first pending failed other result (Ok value) s e w part o h = absurd h
-moments_unflushed config items stage found before mid now first pending failed other result (Err refusal) s e w part o h =
-    subst (λ (st : Stage Recorded). AnswersAt config items st other before now (status_of refusal)) (sym s)
-    (unflushed config items found before mid now pending failed other result refusal
-    (subst (λ (p : List ℕ). JudgesSo config items found before mid p pending failed result) e w) part o h)
+pub moments_unflushed : {T U : Type 0} (config : Config) (items : List Timed) (found : List Captured × End CaptureReason) (left : List Captured) (before mid now : Option (List ℕ)) (first pending : List ℕ) (failed other : Type 0) (result : Result T Refusal) (answer : Result U Refusal)
+    → first ≡ [] → JudgesSo config items found left before mid first pending failed result → GrewPart mid now pending → other
+    → IsErrAnd answer (λ e. e ≡ Outside) → AnswersAt config items (Found (recorded found)) other before now (answered answer)
+moments_unflushed config items found left before mid now first pending failed other result (Ok value) e w part o h = absurd h
+moments_unflushed config items found left before mid now first pending failed other result (Err refusal) e w part o h =
+    unflushed config items found left before mid now pending failed other result refusal
+    (subst (λ (p : List ℕ). JudgesSo config items found left before mid p pending failed result) e w) part o h
+
+-- of a capture that was opened so
+pub answers_opened : (config : Config) (items : List Timed) (stage : Stage Recorded) (found : Recorded) (failed failed' : Type 0) (before now : Option (List ℕ)) (answer : ℕ)
+    → stage ≡ Found found → AnswersAt config items (Found found) failed before now answer → (failed → failed') → AnswersAt config items stage failed' before now answer
+answers_opened config items stage found failed failed' before now answer e a f =
+    subst (λ (s : Stage Recorded). AnswersAt config items s failed' before now answer) (sym e) (at_for config items (Found found) failed failed' before now answer a f)
 
 -- the capture was opened, or why it wasn't
 
@@ -210,13 +169,6 @@ ends_so stage end failed refusal e s =
 -- the tape that was opened again couldn't be played
 pub unplayed_before : (stage : Stage Recorded) (before mid after : ℕ) (refusal : Refusal) → before ≤ mid → IsUnplayed (Rose mid after) refusal → EndsBefore stage (Rose before after) refusal
 unplayed_before stage before mid after refusal l h = inr (rose_on before mid after refusal l h)
-
--- the same configuration and packets
-pub judges_as : {T : Type 0} (config config' : Config) (items : List Timed) (found found' : List Captured × End CaptureReason) (before mid : Option (List ℕ)) (first pending : List ℕ) (failed : Type 0) (result : Result T Refusal)
-    → config' ≡ config → found' ≡ found → JudgesSo config' items found' before mid first pending failed result → JudgesSo config items found before mid first pending failed result
-judges_as config config' items found found' before mid first pending failed result a b j =
-    subst (λ (x : Config). JudgesSo x items found before mid first pending failed result) a
-    (subst (λ (x : List Captured × End CaptureReason). JudgesSo config' items x before mid first pending failed result) b j)
 
 -- a count that rose in a part rose in the whole
 pub rose_wider : (f f1 f2 s s1 s2 : ℕ) → f ≤ f1 → s1 ≤ s2 → Rose f1 f2 ⊎ Rose s s1 → Rose f f2 ⊎ Rose s s2

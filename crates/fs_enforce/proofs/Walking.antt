@@ -1,139 +1,30 @@
 -- How the walk goes on from one matching rule to the next.
-use Rattle.std.proofs.Common.{◌≡◌, ◌+◌, ◌<◌, ◌≤◌, ℕ, List, [], ◌∷◌, ◌++◌, Bool, true, false, Option, Some, None, if◌then◌else◌, length, map, drop, get_or, refl, ap, sym, subst, ◌∙◌, IfSome, arith, append_assoc, append-nil, add-one, drop-cons, rules}
-use Rattle.std.proofs.lemmas.List.{drop-map, length-map, map-append}
-use Rattle.std.proofs.lemmas.Grind.{common_steps}
+use Rattle.std.proofs.Common.{◌≡◌, ◌+◌, ◌<◌, ◌≤◌, ℕ, zero, suc, List, [], ◌∷◌, ◌++◌, Bool, true, false, Option, Some, None, IfSome, Ok, Err, if◌then◌else◌, length, drop, get_or, refl, ap, sym, subst, ◌∙◌, arith, append_assoc, append-nil}
+use Rattle.std.proofs.lemmas.List.{map-append, length-map}
 use Rattle.fs_base.specs.declared.prefix.Family.{Family}
-use Rattle.fs_base.specs.declared.prefix.Family.TheVariants.{V4, V6}
-use Rattle.fs_enforce.specs.Judge.{lent_rules, rules_for}
-use Rattle.fs_enforce.specs.Matcher.{WalksBy}
-use Rattle.fs_compile.specs.Matcher.{StandsForLists}
+use Rattle.fs_base.specs.declared.link.Link.{Link}
+use Rattle.fs_compile.specs.Index.{actions_of}
+use Rattle.fs_compile.specs.Matcher.{StandsForLists, WalksOn, admitted_in}
 use Rattle.fs_compile.specs.Matches.{AreMatchesOf, Matching, behind}
 use Rattle.fs_compile.specs.declared.compiled.Compiled.{Compiled}
+use Rattle.fs_compile.proofs.Walking.{walks_by_next_law}
 use Rattle.fs_line.specs.declared.walked.Walked.{Walked}
 use Rattle.fs_line.specs.Walked.{entry_of, entries}
-use Rattle.fs_packet.specs.Fields.{Viewed}
-use Rattle.fs_packet.specs.Matching.{is_match}
-use Rattle.fs_rules.specs.Lent.{Listed, shown_admitted}
-use Rattle.fs_rules.specs.Walk.{first_from, goes_on, walk_from}
-use Rattle.fs_rules.specs.declared.lent.Admitted.{Admitted}
+use Rattle.fs_packet.specs.Fields.{Viewed, unread_number}
+use Rattle.fs_packet.specs.declared.fields.Unread.{Unread}
+use Rattle.fs_rules.specs.Lent.{Listed}
+use Rattle.fs_rules.specs.Table.{Held}
+use Rattle.fs_rules.specs.Walk.{first_from, goes_on, walk_from, walk_of}
+use Rattle.fs_line.specs.Line.{line_of, unread_line_of}
+use Rattle.fs_enforce.specs.Judge.{AdmittedRules, admitted_rules, packet_text, rules_for, seen_of, text_by}
+use Rattle.fs_enforce.specs.Matcher.{HasRoom, StandsFor, WalksWith}
 
--- the walk over these rules, of which the first has this place
-abbrev pub walk_at : ℕ → Viewed → List Admitted → List (ℕ × List (List ℕ))
-walk_at place view rules = walk_from (place + 1) view (map shown_admitted rules)
-
--- The walk from a place on begins with the rule found, and goes on behind it if its terminal bit is set.
-pub record NextAt (view : Viewed) (rules : List Admitted) (place found : ℕ) : Type 0 where
-  pub later : place ≤ found
-  pub within : found < length rules
-  pub walks : (d : Admitted) → walk_at place view (drop place rules)
-      ≡ (found + 1, (get_or rules found d).actions.now) ∷ (if goes_on (get_or rules found d).actions.now then walk_at (found + 1) view (drop (found + 1) rules) else [])
-
-abbrev pub NextIs : Viewed → List Admitted → ℕ → Option ℕ → Type 0
-NextIs view rules place None = walk_at place view (drop place rules) ≡ []
-NextIs view rules place (Some found) = NextAt view rules place found
-
-chosen : {A : Type 0} (b : Bool) (x y : A) → b ≡ true → (if b then x else y) ≡ x
-chosen true x y h = refl
-chosen false x y h = absurd cc
-
-not_chosen : {A : Type 0} (b : Bool) (x y : A) → b ≡ false → (if b then x else y) ≡ y
-not_chosen true x y h = absurd cc
-not_chosen false x y h = refl
-
-heads : {A : Type 0} (x y : A) (xs ys : List A) → x ∷ xs ≡ y ∷ ys → (x ≡ y) × (xs ≡ ys)
-heads x y xs ys e = (cc, cc)
-
-from_place : (rules : List Admitted) (place : ℕ) (d : Admitted) → place < length rules → drop place rules ≡ get_or rules place d ∷ drop (place + 1) rules
-from_place rules place d below = rw (drop-cons rules place d, add-one) refl
-
-below_length : (rules : List Admitted) (place : ℕ) (x : Admitted) (xs : List Admitted) → x ∷ xs ≡ drop place rules → place < length rules
-below_length rules place x xs e = let size : length (x ∷ xs) ≡ length (drop place rules) = ap length e in grind (arith, common_steps)
-
-matched : (view : Viewed) (rules : List Admitted) (place : ℕ) (x : Admitted) (xs : List Admitted)
-    → x ∷ xs ≡ drop place rules → is_match x.rule.now view ≡ true → NextAt view rules place place
-matched view rules place x xs e m = record {
-  later = omega arith;
-  within = below_length rules place x xs e;
-  walks = λ d.
-      let parts = heads x (get_or rules place d) xs (drop (place + 1) rules) (e ∙ from_place rules place d (below_length rules place x xs e)) in
-      ap (walk_at place view) (sym e)
-      ∙ chosen (is_match x.rule.now view) _ _ m
-      ∙ ap (λ (r : Admitted). (place + 1, r.actions.now) ∷ (if goes_on r.actions.now then walk_at (place + 1) view xs else [])) parts.0
-      ∙ ap (λ (more : List Admitted). (place + 1, (get_or rules place d).actions.now) ∷ (if goes_on (get_or rules place d).actions.now then walk_at (place + 1) view more else [])) parts.1;
-}
-
-passed_over : (view : Viewed) (rules : List Admitted) (place : ℕ) (x : Admitted) (xs : List Admitted)
-    → x ∷ xs ≡ drop place rules → is_match x.rule.now view ≡ false → walk_at place view (drop place rules) ≡ walk_at (place + 1) view (drop (place + 1) rules)
-passed_over view rules place x xs e m =
-    let parts = heads x (get_or rules place x) xs (drop (place + 1) rules) (e ∙ from_place rules place x (below_length rules place x xs e)) in
-    ap (walk_at place view) (sym e) ∙ not_chosen (is_match x.rule.now view) _ _ m ∙ ap (walk_at (place + 1) view) parts.1
-
-skipped : (view : Viewed) (rules : List Admitted) (place : ℕ) (found : Option ℕ)
-    → walk_at place view (drop place rules) ≡ walk_at (place + 1) view (drop (place + 1) rules) → NextIs view rules (place + 1) found → NextIs view rules place found
-skipped view rules place None e n = e ∙ n
-skipped view rules place (Some found) e n = record {
-  later = let after : place + 1 ≤ found = n.later in omega (arith, after);
-  within = n.within;
-  walks = λ d. e ∙ n.walks d;
-}
-
-next_of : (view : Viewed) (rules : List Admitted) (xs : List Admitted) (place : ℕ) → xs ≡ drop place rules → NextIs view rules place (first_from place view (map shown_admitted xs))
-next_of view rules [] place e = ap (walk_at place view) (sym e)
-next_of view rules (x ∷ xs) place e = by (is_match x.rule.now view) (matched view rules place x xs e) (λ m.
-    skipped view rules place (first_from (place + 1) view (map shown_admitted xs)) (passed_over view rules place x xs e m)
-    (next_of view rules xs (place + 1) (heads x (get_or rules place x) xs (drop (place + 1) rules) (e ∙ from_place rules place x (below_length rules place x xs e))).1))
-  where
-    by : (b : Bool) → (b ≡ true → NextIs view rules place (Some place)) → (b ≡ false → NextIs view rules place (first_from (place + 1) view (map shown_admitted xs)))
-        → NextIs view rules place (if b then Some place else first_from (place + 1) view (map shown_admitted xs))
-    by true yes_it no_it = yes_it refl
-    by false yes_it no_it = no_it refl
-
--- what the first match from a place on is, by its clause
-pub next_found : (view : Viewed) (rules : List Admitted) (place : ℕ) (found : Option ℕ)
-    → found ≡ first_from place view (map shown_admitted (drop place rules)) → NextIs view rules place found
-next_found view rules place found e = rw e (next_of view rules (drop place rules) place refl)
+abbrev Walk : Type 0
+Walk = List (ℕ × List (List ℕ))
 
 -- So far these were walked, and the rest of the walk is that from a place on.
-abbrev pub Walking : Viewed → List Admitted → ℕ → List Walked → Type 0
-Walking view rules place walked = entries walked ++ walk_at place view (drop place rules) ≡ walk_at 0 view rules
-
--- no rule is left that matches
-pub walked_all : (view : Viewed) (rules : List Admitted) (place : ℕ) (walked : List Walked)
-    → Walking view rules place walked → NextIs view rules place None → entries walked ≡ walk_at 0 view rules
-walked_all view rules place walked w n = sym (append-nil (entries walked)) ∙ ap (λ (more : List (ℕ × List (List ℕ))). entries walked ++ more) (sym n) ∙ w
-
-one_more : (view : Viewed) (rules : List Admitted) (place found : ℕ) (walked : List Walked) (next : Walked) (rule : Admitted) (rest : List (ℕ × List (List ℕ)))
-    → Walking view rules place walked → walk_at place view (drop place rules) ≡ (found + 1, rule.actions.now) ∷ rest
-    → entry_of next ≡ (found + 1, rule.actions.now) → entries (walked ++ next ∷ []) ++ rest ≡ walk_at 0 view rules
-one_more view rules place found walked next rule rest w n e =
-    ap (λ (front : List (ℕ × List (List ℕ))). front ++ rest) (map-append entry_of walked (next ∷ []))
-    ∙ append_assoc (entries walked) (entry_of next ∷ []) rest
-    ∙ ap (λ (entry : ℕ × List (List ℕ)). entries walked ++ entry ∷ rest) e
-    ∙ ap (λ (more : List (ℕ × List (List ℕ))). entries walked ++ more) (sym n)
-    ∙ w
-
--- a rule was found whose terminal bit is set
-pub walking_on : (view : Viewed) (rules : List Admitted) (place found : ℕ) (walked : List Walked) (next : Walked) (d : Admitted)
-    → Walking view rules place walked → NextAt view rules place found
-    → entry_of next ≡ (found + 1, (get_or rules found d).actions.now) → goes_on (get_or rules found d).actions.now ≡ true
-    → Walking view rules (found + 1) (walked ++ next ∷ [])
-walking_on view rules place found walked next d w n e g =
-    one_more view rules place found walked next (get_or rules found d) (walk_at (found + 1) view (drop (found + 1) rules)) w
-    (n.walks d
-    ∙ ap (λ (more : List (ℕ × List (List ℕ))). (found + 1, (get_or rules found d).actions.now) ∷ more)
-    (chosen (goes_on (get_or rules found d).actions.now) _ _ g)) e
-
--- or is clear
-pub walking_ends : (view : Viewed) (rules : List Admitted) (place found : ℕ) (walked : List Walked) (next : Walked) (d : Admitted)
-    → Walking view rules place walked → NextAt view rules place found
-    → entry_of next ≡ (found + 1, (get_or rules found d).actions.now) → goes_on (get_or rules found d).actions.now ≡ false
-    → entries (walked ++ next ∷ []) ≡ walk_at 0 view rules
-walking_ends view rules place found walked next d w n e g =
-    sym (append-nil (entries (walked ++ next ∷ [])))
-    ∙ one_more view rules place found walked next (get_or rules found d) [] w
-    (n.walks d
-    ∙ ap (λ (more : List (ℕ × List (List ℕ))). (found + 1, (get_or rules found d).actions.now) ∷ more)
-    (not_chosen (goes_on (get_or rules found d).actions.now) _ _ g)) e
+abbrev pub WalkGoesOn : Viewed → List Listed → ℕ → List Walked → Type 0
+WalkGoesOn view list place walked = entries walked ++ walk_from (place + 1) view (drop place list) ≡ walk_of view list
 
 -- a search from a place on finds the first match, which is one of the rules
 abbrev pub FindsFrom : ℕ → Viewed → List Listed → Option ℕ → Type 0
@@ -148,27 +39,119 @@ finds view rules place found e inside = (e, inside)
 pub matches_on : (view : Viewed) (rules : List Listed) (old new : Matching) (n : ℕ) → new ≡ behind (Some n) old → AreMatchesOf view rules old → AreMatchesOf view rules new
 matches_on view rules old new n e m = subst (AreMatchesOf view rules) (sym e) (record { facts = m.facts; rules_are = m.rules_are })
 
--- of the rules as the table lends them
+-- what a search from a place on finds is where the walk goes on
+found_on : (view : Viewed) (list : List Listed) (place : ℕ) (found : Option ℕ) → FindsFrom place view list found
+    → WalksOn view list found (walk_from (place + 1) view (drop place list))
+found_on view list place found f =
+    subst (λ (o : Option ℕ). WalksOn view list o (walk_from (place + 1) view (drop place list))) (sym f.0) (walks_by_next_law view list place)
 
-pub found_among : (view : Viewed) (rules : List Admitted) (place : ℕ) (found : Option ℕ) → FindsFrom place view (map shown_admitted rules) found
-    → found ≡ first_from place view (map shown_admitted (drop place rules))
-found_among view rules place found f = f.0 ∙ ap (first_from place view) (drop-map shown_admitted place rules)
+-- no rule is left that matches
+pub walk_over : (view : Viewed) (list : List Listed) (place : ℕ) (walked : List Walked)
+    → WalkGoesOn view list place walked → FindsFrom place view list None → entries walked ≡ walk_of view list
+walk_over view list place walked w f =
+    sym (append-nil (entries walked))
+    ∙ ap (λ (more : Walk). entries walked ++ more) (sym (found_on view list place None f))
+    ∙ w
 
-pub among : (view : Viewed) (rules : List Admitted) (place k : ℕ) → FindsFrom place view (map shown_admitted rules) (Some k) → (place ≤ k) × (k < length rules)
-among view rules place k f = (f.1.0, omega (arith, f.1.1, length-map rules shown_admitted))
+actions_at : (list : List Listed) (k : ℕ) (a : List (List ℕ)) (r : Listed) → k < length list → get_or (actions_of list) k a ≡ (get_or list k r).actions
+actions_at [] k a r l = absurd (none k l)
+  where
+    none : (k : ℕ) → k < 0 → ⊥
+    none k l = omega (arith, l)
+actions_at (rule ∷ list) zero a r l = refl
+actions_at (rule ∷ list) (suc k) a r l = actions_at list k a r (omega (arith, l))
 
-pub walks_v4 : (view : Viewed) (v4 v6 : List Admitted) (compiled : Compiled) → StandsForLists (λ family. rules_for family (lent_rules v4 v6)) compiled
-    → view.family ≡ V4 → WalksBy view (map shown_admitted v4) compiled
-walks_v4 view v4 v6 compiled s e = record {
-  lists = λ family. rules_for family (lent_rules v4 v6);
+-- of a list in which something is found
+some_rule : (list : List Listed) (found : ℕ) → found < length list → Listed
+some_rule [] found l = absurd (none found l)
+  where
+    none : (k : ℕ) → k < 0 → ⊥
+    none k l = omega (arith, l)
+some_rule (rule ∷ list) found l = rule
+
+one_more : (view : Viewed) (list : List Listed) (place found : ℕ) (walked : List Walked) (next : Walked) (actions : List (List ℕ)) (rest : Walk)
+    → WalkGoesOn view list place walked → walk_from (place + 1) view (drop place list) ≡ (found + 1, actions) ∷ rest
+    → entry_of next ≡ (found + 1, actions) → entries (walked ++ next ∷ []) ++ rest ≡ walk_of view list
+one_more view list place found walked next actions rest w n e =
+    ap (λ (front : Walk). front ++ rest) (map-append entry_of walked (next ∷ []))
+    ∙ append_assoc (entries walked) (entry_of next ∷ []) rest
+    ∙ ap (λ (entry : ℕ × List (List ℕ)). entries walked ++ entry ∷ rest) e
+    ∙ ap (λ (more : Walk). entries walked ++ more) (sym n)
+    ∙ w
+
+chosen : {A : Type 0} (b c : Bool) (x y : A) → b ≡ c → (if b then x else y) ≡ (if c then x else y)
+chosen b c x y h = ap (λ (t : Bool). if t then x else y) h
+
+-- a rule was found whose terminal bit is set
+pub walk_on : (view : Viewed) (list : List Listed) (place found : ℕ) (walked : List Walked) (next : Walked) (actions : List (List (List ℕ))) (a : List (List ℕ))
+    → WalkGoesOn view list place walked → FindsFrom place view list (Some found) → actions ≡ actions_of list
+    → entry_of next ≡ (found + 1, get_or actions found a) → goes_on (get_or actions found a) ≡ true
+    → WalkGoesOn view list (found + 1) (walked ++ next ∷ [])
+walk_on view list place found walked next actions a w f same e g =
+    let r : Listed = some_rule list found f.1.1 in
+    let at : get_or actions found a ≡ (get_or list found r).actions = ap (λ (l : List (List (List ℕ))). get_or l found a) same ∙ actions_at list found a r f.1.1 in
+    let two : found + 2 ≡ found + 1 + 1 = omega arith in
+    one_more view list place found walked next (get_or list found r).actions (walk_from (found + 1 + 1) view (drop (found + 1) list)) w
+    (found_on view list place (Some found) f r
+    ∙ ap (λ (more : Walk). (found + 1, (get_or list found r).actions) ∷ more)
+    (chosen (goes_on (get_or list found r).actions) true _ _ (ap goes_on (sym at) ∙ g)
+    ∙ ap (λ (n : ℕ). walk_from n view (drop (found + 1) list)) two))
+    (e ∙ ap (λ (x : List (List ℕ)). (found + 1, x)) at)
+
+-- or is clear
+pub walk_ends : (view : Viewed) (list : List Listed) (place found : ℕ) (walked : List Walked) (next : Walked) (actions : List (List (List ℕ))) (a : List (List ℕ))
+    → WalkGoesOn view list place walked → FindsFrom place view list (Some found) → actions ≡ actions_of list
+    → entry_of next ≡ (found + 1, get_or actions found a) → goes_on (get_or actions found a) ≡ false
+    → entries (walked ++ next ∷ []) ≡ walk_of view list
+walk_ends view list place found walked next actions a w f same e g =
+    let r : Listed = some_rule list found f.1.1 in
+    let at : get_or actions found a ≡ (get_or list found r).actions = ap (λ (l : List (List (List ℕ))). get_or l found a) same ∙ actions_at list found a r f.1.1 in
+    sym (append-nil (entries (walked ++ next ∷ [])))
+    ∙ one_more view list place found walked next (get_or list found r).actions [] w
+    (found_on view list place (Some found) f r
+    ∙ ap (λ (more : Walk). (found + 1, (get_or list found r).actions) ∷ more)
+    (chosen (goes_on (get_or list found r).actions) false _ _ (ap goes_on (sym at) ∙ g)))
+    (e ∙ ap (λ (x : List (List ℕ)). (found + 1, x)) at)
+
+-- the place found is one of the actions
+pub place_among : (view : Viewed) (list : List Listed) (place found : ℕ) (actions : List (List (List ℕ))) → FindsFrom place view list (Some found)
+    → actions ≡ actions_of list → (place ≤ found) × (found < length actions)
+place_among view list place found actions f same =
+    let size : length actions ≡ length list = ap length same ∙ length-map list (λ (rule : Listed). rule.actions) in
+    (f.1.0, omega (arith, size, f.1.1))
+
+-- the rules that a table admits
+pub stands_for : (held : Held) (compiled : Compiled) → StandsForLists (admitted_in held) compiled → StandsFor (admitted_rules held) compiled
+stands_for held compiled s = record { v4 = s.v4; v6 = s.v6 }
+
+-- the rules of the packet's family
+pub walks_with : (view : Viewed) (family : Family) (rules : AdmittedRules) (compiled : Compiled) (actions : List (List (List ℕ))) → StandsFor rules compiled → family ≡ view.family
+    → actions ≡ actions_of (rules_for family rules) → WalksWith view (rules_for view.family rules) compiled actions
+walks_with view family rules compiled actions s e a = record {
+  lists = λ family. rules_for family rules;
   stands = s;
-  rules_are = ap (λ (family : Family). rules_for family (lent_rules v4 v6)) e;
+  rules_are = refl;
+  actions_are = a ∙ ap (λ (f : Family). actions_of (rules_for f rules)) e;
 }
 
-pub walks_v6 : (view : Viewed) (v4 v6 : List Admitted) (compiled : Compiled) → StandsForLists (λ family. rules_for family (lent_rules v4 v6)) compiled
-    → view.family ≡ V6 → WalksBy view (map shown_admitted v6) compiled
-walks_v6 view v4 v6 compiled s e = record {
-  lists = λ family. rules_for family (lent_rules v4 v6);
-  stands = s;
-  rules_are = ap (λ (family : Family). rules_for family (lent_rules v4 v6)) e;
-}
+-- there is room for them
+pub room_for : (family : Family) (rules : AdmittedRules) (compiled : Compiled) (actions : List (List (List ℕ))) (room : ℕ) → StandsFor rules compiled → HasRoom compiled room
+    → actions ≡ actions_of (rules_for family rules) → length actions ≤ room
+room_for family rules compiled actions room s h a =
+    let size : length actions ≡ length (rules_for family rules) = ap length a ∙ length-map (rules_for family rules) (λ (rule : Listed). rule.actions) in
+    let few : length (rules_for family rules) ≤ room = h (λ family. rules_for family rules) s family in
+    omega (arith, size, few)
+
+-- what is left of a bound is left of the whole
+pub fewer_steps : (new old ahead behind bound : ℕ) → new + ahead ≤ old + behind → old + behind ≤ bound → new + ahead ≤ bound
+fewer_steps new old ahead behind bound a b = omega (arith, a, b)
+
+-- the line of a packet that could be read, by its family
+pub packet_line : (number : ℕ) (rules : AdmittedRules) (link : Option Link) (octets : List ℕ) (view : Viewed)
+    → seen_of link octets ≡ Ok view → line_of number (walk_of view (rules_for view.family rules)) ≡ packet_text number rules link octets
+packet_line number rules link octets view e = sym (ap (text_by number rules) e)
+
+-- and of one that couldn't
+pub unread_line : (number : ℕ) (rules : AdmittedRules) (link : Option Link) (octets : List ℕ) (unread : Unread) (reason : ℕ)
+    → seen_of link octets ≡ Err unread → reason ≡ unread_number unread → unread_line_of number reason ≡ packet_text number rules link octets
+unread_line number rules link octets unread reason e r = ap (unread_line_of number) r ∙ sym (ap (text_by number rules) e)

@@ -1,5 +1,5 @@
 -- The lines of a capture's packets under the rules that are admitted, and what becomes of them.
-use Rattle.std.specs.Prelude.{ℕ, ◌+◌, List, [], ◌∷◌, ◌++◌, map, Option, Some, None, Result, Ok, Err, ◌≡◌, ◌⊎◌, MatchResult}
+use Rattle.std.specs.Prelude.{ℕ, ◌+◌, List, [], ◌∷◌, ◌++◌, map, Option, Some, None, Result, Ok, Err, ◌≡◌, ◌⊎◌, take}
 use Rattle.fs_base.specs.declared.prefix.Family.{Family}
 use Rattle.fs_base.specs.declared.prefix.Family.TheVariants.{V4, V6}
 use Rattle.fs_line.specs.Line.{line_of, unread_line_of}
@@ -10,16 +10,13 @@ use Rattle.fs_packet.specs.declared.fields.Unread.{Unread}
 use Rattle.fs_packet.specs.declared.fields.Unread.TheVariants.{Foreign}
 use Rattle.fs_capture.specs.Capture.{Captured, Recorded, capture_of, packet_from}
 use Rattle.fs_rules.specs.Table.{admitted, Held}
-use Rattle.fs_rules.specs.Lent.{Listed, listed, shown_admitted}
-use Rattle.fs_rules.specs.declared.lent.Admitted.{Admitted}
+use Rattle.fs_rules.specs.Lent.{Listed, listed}
 use Rattle.fs_rules.specs.Walk.{walk_of}
 use Rattle.fs_records.specs.Records.{End, done, limited, bad}
 use Rattle.fs_capture.specs.declared.fault.CaptureReason.{CaptureReason}
-use Rattle.fs_stages.specs.Refusal.{Verdict, Stage, Found, Stopped, and_then, or_stop, status_of}
+use Rattle.fs_stages.specs.Refusal.{Stage, Found, and_then, or_stop, status_of}
 use Rattle.fs_stages.specs.declared.refusal.Refusal.TheVariants.{Outside, Capture as CaptureRefusal, Limit as AtLimit}
 use Rattle.fs_stages.specs.Load.{Names}
-use Rattle.fs_base.specs.Happened.{Happened, FilesFailed, SinkFailed}
-use Rattle.fs_line.specs.Output.{Goes, Partly}
 use Rattle.fs_stages.specs.declared.refusal.Refusal.{Refusal}
 use Rattle.fs_base.specs.Parts.{with_part}
 use Rattle.fs_capture.specs.declared.caught.Caught.{Caught}
@@ -33,10 +30,6 @@ pub record AdmittedRules : Type 0 where
 
 abbrev pub admitted_rules : Held → AdmittedRules
 admitted_rules held = record { v4 = map listed (admitted V4 held); v6 = map listed (admitted V6 held) }
-
--- the rules as the table lends them
-abbrev pub lent_rules : (v4 v6 : List Admitted) → AdmittedRules
-lent_rules v4 v6 = record { v4 = map shown_admitted v4; v6 = map shown_admitted v6 }
 
 abbrev pub rules_for : Family → AdmittedRules → List Listed
 rules_for V4 rules = rules.v4
@@ -83,11 +76,6 @@ status_at done = 0
 status_at limited = 7
 status_at (bad reason place) = 5
 
--- of a capture, under the routes held at each moment
-abbrev pub verdict_of : (ℕ → Held) → Stage Recorded → Verdict
-verdict_of held (Found capture) = record { status = status_at capture.end; text = output_of held capture }
-verdict_of held (Stopped refusal) = record { status = status_of refusal; text = [] }
-
 -- the refusal for a fault of a capture
 abbrev pub refused_by : Fault CaptureReason → Refusal
 refused_by Read = Outside
@@ -103,21 +91,17 @@ Yields before now into None = before ≡ ([], done)
 abbrev pub Ceases : List Captured × End CaptureReason → Type 0 → Refusal → Type 0
 Ceases before failed refusal = ((before.0 ≡ []) × (status_at before.1 ≡ status_of refusal)) ⊎ ((refusal ≡ Outside) × failed)
 
--- why judging ends early: the capture ends so, behind all its lines, or a call on the outside failed
-abbrev pub Breaks : End CaptureReason → (before now : Option (List ℕ)) (pending pending_now text : List ℕ) → Type 0 → Refusal → Type 0
-Breaks end before now pending pending_now text failed refusal =
-    ((status_at end ≡ status_of refusal) × Goes before now pending pending_now text)
-    ⊎ ((refusal ≡ Outside) × (failed × Partly before now pending pending_now text))
+-- the packet in hand, if there is one, and those to come behind it; its octets stand at the front of the buffer
+abbrev pub in_hand : Option Caught → List ℕ → List Captured × End CaptureReason → List Captured × End CaptureReason
+in_hand None into rest = rest
+in_hand (Some caught) into rest = with_part (packet_from caught into) rest
 
--- what packets are judged by, and the text of lines that is pending
-pub record JudgingState : Type 0 where
-  pub rules : AdmittedRules
-  pub pending : List ℕ
+-- the packet that was found, and those to come behind it; where none was the capture is done
+abbrev pub found_behind : Option Caught → List ℕ → List Captured × End CaptureReason → List Captured × End CaptureReason
+found_behind None into rest = ([], done)
+found_behind (Some caught) into rest = with_part (packet_from caught into) rest
 
--- The packets to come were all judged, up to the capture's end; or judging broke off.
-abbrev pub JudgesAll : {T : Type 0} → (old : JudgingState) → (coming : List Captured × End CaptureReason) → Happened → (pending : List ℕ) → Result T Refusal → Type 0
-JudgesAll old coming call pending result =
-    MatchResult result
-    (λ _. (coming.1 ≡ done) × Goes call.before.written call.now.written old.pending pending (lines_from 0 (λ moment. old.rules) coming.0))
-    (Breaks coming.1 call.before.written call.now.written old.pending pending (lines_from 0 (λ moment. old.rules) coming.0)
-    (FilesFailed call ⊎ SinkFailed call))
+-- the line of the packet in hand, if there is one
+abbrev pub hand_text : ℕ → AdmittedRules → Option Caught → List ℕ → List ℕ
+hand_text number rules None into = []
+hand_text number rules (Some caught) into = packet_text number rules caught.link (take caught.taken into)

@@ -1,5 +1,4 @@
 pub mod Judge
-pub mod Snapshot
 pub mod Matcher
 pub mod Moments
 pub mod Command

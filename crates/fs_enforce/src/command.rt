@@ -7,18 +7,16 @@ ghost use Rattle.fs_stages.specs.Play.{HasVersion};
 ghost use Rattle.fs_stages.specs.Refusal.{answered};
 ghost use Rattle.fs_tape.specs.declared.magic.Version.TheVariants.{Two};
 
-use crate::judge::judge;
-use crate::moments::judge_moments;
+use crate::capture::open_capture;
+use crate::judge::judge_capture;
 use crate::names::InputNames;
 use fs_base::{Files, Sink};
-use fs_stages::{Refusal, load_config, play_whole};
+use fs_stages::{Player, Refusal, load_config, play_whole};
 use fs_tape::Version;
 use std::alloc::Global;
-use std::mem::forget;
 
 /// Plays the tape, and writes a line for each packet of the capture: by the rules that a tape of the first version
 /// leaves admitted, and by those that one of the second version admits at the packet's moment. That one is read twice.
-/// The table of the first one's routes isn't freed: the program ends behind it.
 ///
 /// # Errors
 ///
@@ -46,12 +44,19 @@ pub fn enforce<F: Files, S: Sink>(
 {
     let config = load_config(alloc, files, names.config, limit)?;
     let whole = play_whole(alloc, files, &config, names.tape, limit)?;
+    let mut capture = open_capture(files, names.capture, limit)?;
     match whole.version {
-        Version::One => {
-            let judged = judge(alloc, files, sink, whole.desk.table(), names.capture, limit);
-            forget(whole); // the program ends here: no route is given back by itself
-            judged
+        Version::One => judge_capture(
+            alloc,
+            files,
+            sink,
+            &mut capture,
+            Player::ended(alloc, whole),
+        ),
+        Version::Two => {
+            drop(whole); // the second reading begins with an empty table
+            let player = Player::begin(alloc, files, &config, names.tape, limit)?;
+            judge_capture(alloc, files, sink, &mut capture, player)
         }
-        Version::Two => judge_moments(alloc, files, sink, &config, names, limit),
     }
 }

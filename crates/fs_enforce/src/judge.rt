@@ -1,218 +1,247 @@
-//! The packets of a capture, judged by the admitted rules.
+//! The packets of a capture, each judged by the rules that the tape admits at its moment.
 
-ghost use Rattle.std.specs.Prelude.{◌≡◌, ◌≤◌, ◌<◌, ◌^◌, ◌⊎◌, [], None, IsTrue};
-ghost use Rattle.std.specs.Prelude.{IfErr, IfOk, IfSome, MatchResult, OnErr, OnOk, length};
-ghost use Rattle.fs_base.specs.Files.{OnlySlot};
+ghost use Rattle.std.specs.Prelude.{◌≡◌, ◌≢◌, ◌≤◌, ◌<◌, ◌^◌, ◌⊎◌, ℕ, List, [], Option, None, true, IsTrue, IfOk, IfSome, MatchResult, length};
+ghost use Rattle.std.specs.Option.{is_some};
 ghost use Rattle.fs_base.specs.Happened.{happened};
-ghost use Rattle.fs_base.specs.Outside.{HasCause, Rose};
-ghost use Rattle.fs_base.specs.Sink.{Grew, GrewPart};
-ghost use Rattle.fs_capture.specs.Capture.{coming};
+ghost use Rattle.fs_base.specs.Outside.{Rose};
+ghost use Rattle.fs_capture.specs.Capture.{Captured, coming, recorded};
+ghost use Rattle.fs_capture.specs.declared.fault.CaptureReason.{CaptureReason};
+ghost use Rattle.fs_desk.specs.Leaves.{Leaves};
 ghost use Rattle.fs_pcap.specs.Head.{longest_record};
-ghost use Rattle.fs_enforce.specs.Judge.{admitted_rules, always, capture_stage, Ceases, JudgesAll, packet_text, refused_by, seen_of, verdict_of, Yields};
-ghost use Rattle.fs_packet.specs.Reading.{read_into};
-ghost use Rattle.fs_stages.specs.Refusal.{Answers, IsAtPacket, IsLate, answered};
-ghost use Rattle.fs_line.specs.Output.{Sends};
+ghost use Rattle.fs_records.specs.Records.{End};
+ghost use Rattle.fs_stages.specs.Play.{until};
+ghost use Rattle.fs_stages.specs.Player.{Stands, due_item};
+ghost use Rattle.fs_stages.specs.Refusal.{Found, answered};
+ghost use Rattle.fs_tape.specs.Tape.{Timed};
+ghost use Rattle.fs_enforce.specs.Judge.{admitted_rules, found_behind, in_hand};
+ghost use Rattle.fs_enforce.specs.Matcher.{StandsFor};
+ghost use Rattle.fs_enforce.specs.Moments.{AnswersAt, BreaksOff, Follows, JudgesMoments};
 
-use crate::matcher::Matcher;
-use fs_base::{Counted, Failed, Files, Link, Memory, Sink};
-use fs_capture::{Capture, CaptureFault, Caught};
-use fs_line::{Output, write_unread_line};
-use fs_packet::{Unread, View, read_view};
+use crate::capture::next_packet;
+use crate::following::Following;
+use crate::lines::{Lines, judge_hand, judge_packet};
+use fs_base::{Files, Sink};
+use fs_capture::{Capture, Caught};
+use fs_desk::same_routes;
 use fs_pcap::LONGEST_RECORD;
-use fs_rules::Table;
-use fs_stages::{CAPTURE_SLOT, Refusal, open};
+use fs_stages::{Player, Refusal};
 use std::alloc::Global;
-use std::marker::Model;
+use std::mem::forget;
 
-/// Writes a line for each packet of the capture. All lines are handed to the sink before it returns.
+/// Writes a line for each packet of the capture, by the rules that the tape admits at the packet's moment. All lines
+/// are handed to the sink before it returns. The table of the tape's routes isn't freed: the program ends behind it.
 ///
 /// # Errors
 ///
-/// `Outside` where the file isn't there, or the files or the sink failed; `Capture` where the capture has a fault,
-/// behind the lines of the packets before it; `Limit` where it has at least `limit` octets without a fault; `Memory`
-/// where the machine refused memory.
-pub fn judge<F: Files, S: Sink>(
+/// `Outside` where the files or the sink failed; `Capture` where the capture has a fault, behind the lines of the
+/// packets before it; `Limit` where it has too many octets; what ends the tape, and `Memory` where the machine refused
+/// memory, behind the lines of the packets that were judged before. Where nothing of the tape is ahead, memory is
+/// wanting before the first packet is read, or not at all.
+pub(crate) fn judge_capture<F: Files, S: Sink>(
     alloc: Global,
     files: &mut F,
     sink: &mut S,
-    table: &Table<'_>,
-    name: &str,
-    limit: u64,
+    capture: &mut Capture,
+    player: Player<'_>,
 ) -> Result<(), Refusal>
+    requires slot { capture.old.slot ≡ 2 }
+    requires open { capture.old.end ≡ None }
+    requires moment { capture.old.moment ≡ 0 }
+    requires within { capture.old.place ≤ capture.old.limit }
+    requires fits { capture.old.limit < 2 ^ 64 }
+    requires tape { player.tape.slot ≡ 1 }
     ensures files_later { F.faults files.old ≤ F.faults files.new }
     ensures sink_later { S.faults sink.old ≤ S.faults sink.new }
-    ensures late { IfErr result IsLate }
-    ensures unwritten { answered result ≡ 6 → sink.new ≡ sink.old }
+    ensures late { answered result ≢ 3 }
+    ensures unwritten { player.entry.ahead ≡ None
+        → answered result ≡ 6
+        → (sink.new ≡ sink.old) × (files.new ≡ files.old) × (capture.new ≡ capture.old) }
 
-    ensures answers { IsTrue F.tells
-        → Answers
-        (verdict_of (always table.now) (capture_stage limit (F.holds files.old) name.now))
+    ensures judges { IsTrue F.tells
+        → (items : List Timed)
+        → Stands items 0 player.entry (F.left files.old 1)
+        → AnswersAt player.entry.desk.config items
+        (Found (recorded (coming capture.old (F.left files.old 2))))
         (Rose (F.faults files.old) (F.faults files.new) ⊎ Rose (S.faults sink.old) (S.faults sink.new))
         (S.written sink.old)
         (S.written sink.new)
         (answered result) }
 {
-    open(files, CAPTURE_SLOT, name)?;
-    let mut capture = match Capture::begin(Counted::new(CAPTURE_SLOT, limit), files) {
-        Ok(capture) => capture,
-        Err(fault) => return Err(refusal_of(fault)),
-    };
-    let mut judging = Judging::new(alloc, table)?;
     let mut buffer = vec![in alloc; 0u8; LONGEST_RECORD]?;
-    let judged = judge_packets(files, &mut capture, &mut judging, &mut buffer, sink);
-    judging.flush(sink)?;
+    let mut lines = Lines::new(alloc)?;
+    let mut following = Following::new(alloc, player)?;
+    let judged = judge_all(
+        files,
+        capture,
+        &mut following,
+        &mut buffer,
+        &mut lines,
+        sink,
+    );
+    forget(following); // the program ends here: no route is given back by itself
     judged
 }
 
-/// Judges what is left of the capture.
-fn judge_packets<F: Files, S: Sink>(
+/// Judges all packets of the capture, and writes out their lines.
+fn judge_all<F: Files, S: Sink>(
     files: &mut F,
     capture: &mut Capture,
-    judging: &mut Judging<'_>,
+    following: &mut Following<'_>,
     buffer: &mut [u8],
+    lines: &mut Lines,
     sink: &mut S,
 ) -> Result<(), Refusal>
     requires room { longest_record ≤ length buffer.old }
+    requires slot { capture.old.slot ≡ 2 }
+    requires open { capture.old.end ≡ None }
+    requires moment { capture.old.moment ≡ 0 }
+    requires within { capture.old.place ≤ capture.old.limit }
+    requires fits { capture.old.limit < 2 ^ 64 }
+    requires tape { following.old.player.tape.slot ≡ 1 }
+    requires stands { StandsFor (admitted_rules following.old.player.desk.held) following.old.rules }
+    requires none { (lines.old.output ≡ []) × (lines.old.number ≡ 0) }
+    ensures files_later { F.faults files.old ≤ F.faults files.new }
+    ensures sink_later { S.faults sink.old ≤ S.faults sink.new }
+    ensures late { answered result ≢ 3 }
+    ensures unwritten { following.old.player.ahead ≡ None
+        → answered result ≡ 6
+        → (sink.new ≡ sink.old) × (files.new ≡ files.old) × (capture.new ≡ capture.old) }
+
+    ensures judges { IsTrue F.tells
+        → (items : List Timed)
+        → Stands items 0 following.old.player (F.left files.old 1)
+        → AnswersAt following.old.player.desk.config items
+        (Found (recorded (coming capture.old (F.left files.old 2))))
+        (Rose (F.faults files.old) (F.faults files.new) ⊎ Rose (S.faults sink.old) (S.faults sink.new))
+        (S.written sink.old)
+        (S.written sink.new)
+        (answered result) }
+{
+    let judged = judge_packets(files, capture, following, buffer, lines, sink);
+    lines.output.flush(sink)?;
+    judged
+}
+
+/// Judges the packets of the capture. Memory is taken between the items of a packet's moment and that packet, and before
+/// the first one.
+fn judge_packets<F: Files, S: Sink>(
+    files: &mut F,
+    capture: &mut Capture,
+    following: &mut Following<'_>,
+    buffer: &mut [u8],
+    lines: &mut Lines,
+    sink: &mut S,
+) -> Result<(), Refusal>
+    requires room { longest_record ≤ length buffer.old }
+    requires slot { capture.old.slot ≡ 2 }
     requires open { capture.old.end ≡ None }
     requires within { capture.old.place ≤ capture.old.limit }
     requires fits { capture.old.limit < 2 ^ 64 }
-    ensures late { IfErr result IsAtPacket }
+    requires tape { following.old.player.tape.slot ≡ 1 }
+    requires stands { StandsFor (admitted_rules following.old.player.desk.held) following.old.rules }
+    requires first { lines.old.number ≡ 0 }
     ensures files_later { F.faults files.old ≤ F.faults files.new }
     ensures sink_later { S.faults sink.old ≤ S.faults sink.new }
+    ensures late { answered result ≢ 3 }
+    ensures early { following.old.player.ahead ≡ None
+        → answered result ≡ 6
+        → (sink.new ≡ sink.old)
+        × (files.new ≡ files.old)
+        × (capture.new ≡ capture.old)
+        × (lines.new.output ≡ lines.old.output) }
 
     ensures judged { IsTrue F.tells
-        → JudgesAll judging.old
-        (coming capture.old (F.left files.old capture.old.slot))
+        → (items : List Timed)
+        → Stands items capture.old.moment following.old.player (F.left files.old 1)
+        → JudgesMoments following.old.player.desk.config items
+        (coming capture.old (F.left files.old 2))
+        (coming capture.new (F.left files.new 2)).0
         (happened F.Files S.Sink files.old files.new sink.old sink.new)
-        judging.new.pending
-        result }
+        lines.old.output lines.new.output result }
 {
-    let mut number = 0;
-    'packets: while let Some(caught) = next_packet(files, capture, buffer)? {
-        number += 1;
-        let octets = &buffer[..caught.taken];
-        judging.judge_packet(caught.link, octets, number, sink)?;
+    same_routes(); // what is held at one moment is one list
+    let mut hand = None;
+    'changes: while let Some(caught) = judge_on(
+        files, capture, following, buffer, lines, sink, hand,
+    )? {
+        following.follow(files, caught.moment)?;
+        hand = Some(caught);
     }
     Ok(())
 }
 
-/// The capture's next packet, or None at its end. Its octets stand at the front of the buffer.
-pub(crate) fn next_packet<F: Files>(
+/// Judges packets while the tape stands still: the one in hand, if there is one, and those of the capture up to the first
+/// before which an item is to be played, which is handed back. `None` at the capture's end. All memory is taken before
+/// the first of them.
+fn judge_on<F: Files, S: Sink>(
     files: &mut F,
     capture: &mut Capture,
+    following: &Following<'_>,
     buffer: &mut [u8],
+    lines: &mut Lines,
+    sink: &mut S,
+    hand: Option<Caught>,
 ) -> Result<Option<Caught>, Refusal>
     requires room { longest_record ≤ length buffer.old }
+    requires slot { capture.old.slot ≡ 2 }
     requires open { capture.old.end ≡ None }
-    ensures late { IfErr result IsAtPacket }
-    ensures later { F.faults files.old ≤ F.faults files.new }
-    ensures holds { IsTrue F.tells → F.holds files.new ≡ F.holds files.old }
+    requires within { capture.old.place ≤ capture.old.limit }
+    requires fits { capture.old.limit < 2 ^ 64 }
+    requires stands { StandsFor (admitted_rules following.now.player.desk.held) following.now.rules }
+    requires number { lines.old.number ≤ capture.old.place }
+    requires hand { IfSome hand (λ caught.
+        (caught.taken ≤ longest_record) × (lines.old.number < capture.old.place)) }
+    ensures files_later { F.faults files.old ≤ F.faults files.new }
+    ensures sink_later { S.faults sink.old ≤ S.faults sink.new }
+    ensures late { answered result ≢ 3 }
     ensures slot { capture.new.slot ≡ capture.old.slot }
     ensures limit { capture.new.limit ≡ capture.old.limit }
-    ensures times { IfOk result (λ found. IfSome found (λ caught.
-        (capture.new.moment ≡ caught.moment) × (capture.old.moment ≤ capture.new.moment))) }
-    ensures open { IfOk result (λ found. IfSome found (λ _. capture.new.end ≡ None)) }
-    ensures grows { IfOk result (λ found. IfSome found (λ caught.
-        (capture.old.place < capture.new.place)
+    ensures early { answered result ≡ 6
+        → (sink.new ≡ sink.old)
+        × (files.new ≡ files.old)
+        × (capture.new ≡ capture.old)
+        × (lines.new.output ≡ lines.old.output) }
+    ensures found { IfOk result (λ found. IfSome found (λ caught.
+        (capture.new.end ≡ None)
+        × (capture.old.place < capture.new.place)
         × (capture.new.place ≤ capture.new.limit)
-        × (caught.taken ≤ longest_record))) }
+        × (lines.new.number < capture.new.place)
+        × (caught.taken ≤ longest_record)
+        × (capture.new.moment ≡ caught.moment)
+        × (is_some (due_item following.now.player.ahead following.now.player.tape.moment caught.moment) ≡ true))) }
 
-    ensures gives { IsTrue F.tells
+    ensures judged { IsTrue F.tells
+        → (items : List Timed)
+        → (all : List Captured × End CaptureReason)
+        → (first : Option (List ℕ))
+        → (pending : List ℕ)
+        → Stands items capture.old.moment following.now.player (F.left files.old 1)
+        → IfSome hand (λ caught.
+        Leaves following.now.player.desk.config (until caught.moment items) following.now.player.desk.held)
+        → Follows following.now.player.desk.config items all
+        (in_hand hand buffer.old (coming capture.old (F.left files.old 2)))
+        first (S.written sink.old) pending lines.old.output lines.old.number
         → MatchResult result
-        (Yields (coming capture.old (F.left files.old capture.old.slot))
-        (coming capture.new (F.left files.new capture.old.slot)) buffer.new)
-        (Ceases (coming capture.old (F.left files.old capture.old.slot))
-        (Rose (F.faults files.old) (F.faults files.new))) }
-    ensures others { OnlySlot F.tells F.left F.holds capture.old.slot files.old files.new }
+        (λ found.
+        IfSome found (λ _. Stands items capture.new.moment following.now.player (F.left files.new 1))
+        × Follows following.now.player.desk.config items all
+        (found_behind found buffer.new (coming capture.new (F.left files.new 2)))
+        first (S.written sink.new) pending lines.new.output lines.new.number)
+        (BreaksOff following.now.player.desk.config items all
+        (coming capture.new (F.left files.new 2)).0
+        first (S.written sink.new) pending lines.new.output
+        (Rose (F.faults files.old) (F.faults files.new) ⊎ Rose (S.faults sink.old) (S.faults sink.new))) }
 {
-    match capture.next(files, buffer) {
-        Ok(found) => Ok(found),
-        Err(fault) => Err(refusal_of(fault)),
-    }
-}
-
-/// The refusal for a capture's fault.
-pub(crate) fn refusal_of(fault: CaptureFault) -> Refusal
-    ensures result { result ≡ refused_by fault }
-    ensures late { IsAtPacket result }
-{
-    match fault {
-        CaptureFault::Read => Refusal::Outside,
-        CaptureFault::Limit => Refusal::Limit,
-        CaptureFault::Bad { .. } => Refusal::Capture,
-    }
-}
-
-/// Reads a packet behind this link type into the view.
-///
-/// # Errors
-///
-/// Why it isn't read: so where the link type isn't known.
-#[inline(always)]
-pub(crate) fn read_packet<'a>(
-    link: Option<Link>,
-    octets: &'a [u8],
-    view: &mut View<'a>,
-) -> Result<(), Unread>
-    ensures { read_into result view.new ≡ seen_of link octets.now }
-{
-    match link {
-        Some(link) => read_view(link, octets, view),
-        None => Err(Unread::Foreign),
-    }
-}
-
-/// What judging packets takes beside them: the admitted rules of each family, and the output of lines. All memory of it
-/// is taken before the first packet.
-#[derive(Drop)]
-struct Judging<'t> {
-    matcher: Matcher<'t>,
-    output: Output,
-}
-
-impl<'t> Model for Judging<'t> {
-    ghost use Rattle.fs_enforce.specs.Judge.{JudgingState};
-
-    ghost Value = { JudgingState };
-
-    ghost view = { λ a. record { rules = a.matcher; pending = a.output } };
-}
-
-impl<'t> Judging<'t> {
-    fn new(alloc: Global, table: &'t Table<'_>) -> Result<Judging<'t>, Memory>
-        ensures { IfOk result (λ judging. judging ≡ record { rules = admitted_rules table.now; pending = [] }) }
-    {
-        Ok(Judging {
-            matcher: Matcher::new(alloc, table)?,
-            output: Output::new(alloc)?,
-        })
-    }
-
-    /// Writes the line of a record, whose number counts from 1.
-    fn judge_packet<S: Sink>(
-        &mut self,
-        link: Option<Link>,
-        octets: &[u8],
-        number: u64,
-        sink: &mut S,
-    ) -> Result<(), Failed>
-        ensures same { self.new ≡ record self.old { pending = self.new.pending } }
-        ensures sends { Sends S.Sink sink.old sink.new self.old.pending self.new.pending
-            (packet_text number self.old.rules link octets.now) result }
-    {
-        let mut view = View::blank();
-        match read_packet(link, octets, &mut view) {
-            Ok(()) => self.matcher.judge(&view, number, &mut self.output, sink),
-            Err(unread) => write_unread_line(&mut self.output, sink, number, unread.number()),
+    same_routes(); // what is held at one moment is one list
+    let rules = &following.rules;
+    let mut walked = Vec::with_capacity(following.alloc, rules.most())?;
+    judge_hand(rules, hand, buffer, &mut walked, lines, sink)?;
+    'packets: while let Some(caught) = next_packet(files, capture, buffer)? {
+        if following.player.is_due(caught.moment) {
+            return Ok(Some(caught));
         }
+        let octets = &buffer[..caught.taken];
+        judge_packet(rules, caught.link, octets, &mut walked, lines, sink)?;
     }
-
-    /// Writes out the lines that are pending.
-    fn flush<S: Sink>(&mut self, sink: &mut S) -> Result<(), Failed>
-        ensures ok { OnOk result (Grew (S.written sink.old) (S.written sink.new) self.old.pending) }
-        ensures err { OnErr result (GrewPart (S.written sink.old) (S.written sink.new) self.old.pending) }
-        ensures cause { HasCause (S.faults sink.old) (S.faults sink.new) result }
-    {
-        self.output.flush(sink)
-    }
+    Ok(None)
 }

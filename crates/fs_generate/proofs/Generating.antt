@@ -95,21 +95,21 @@ on_ok (Err e) f p = tt
 
 -- one packet more was counted
 
-pub passed_after : (rules now : AdmittedRules) (seed count before after : ℕ) (octets : List ℕ) → now ≡ rules → octets ≡ packet_of (pair_behind seed (seed + count))
-    → before ≡ passed_of rules (packets seed count) → after ≡ before + one_if (is_passed now (view_of Raw octets)) → after ≡ passed_of rules (packets seed (count + 1))
-passed_after rules now seed count before after octets n o b a =
+pub passed_after : (rules : AdmittedRules) (seed count before after : ℕ) (octets : List ℕ) (passed : Bool) → octets ≡ packet_of (pair_behind seed (seed + count))
+    → before ≡ passed_of rules (packets seed count) → after ≡ before + one_if passed → passed ≡ is_passed rules (view_of Raw octets) → after ≡ passed_of rules (packets seed (count + 1))
+passed_after rules seed count before after octets passed o b a p =
     a
-    ∙ ap (λ (m : ℕ). m + one_if (is_passed now (view_of Raw octets))) b
-    ∙ ap (λ (r : AdmittedRules). passed_of rules (packets seed count) + one_if (is_passed r (view_of Raw octets))) n
+    ∙ ap (λ (m : ℕ). m + one_if passed) b
+    ∙ ap (λ (t : Bool). passed_of rules (packets seed count) + one_if t) p
     ∙ ap (λ (list : List ℕ). passed_of rules (packets seed count) + one_if (is_passed rules (view_of Raw list))) o
     ∙ sym (passed_more rules seed count)
 
-pub dropped_after : (rules now : AdmittedRules) (seed count before after : ℕ) (octets : List ℕ) → now ≡ rules → octets ≡ packet_of (pair_behind seed (seed + count))
-    → before ≡ dropped_of rules (packets seed count) → after ≡ before + one_if (is_dropped now (view_of Raw octets)) → after ≡ dropped_of rules (packets seed (count + 1))
-dropped_after rules now seed count before after octets n o b a =
+pub dropped_after : (rules : AdmittedRules) (seed count before after : ℕ) (octets : List ℕ) (dropped : Bool) → octets ≡ packet_of (pair_behind seed (seed + count))
+    → before ≡ dropped_of rules (packets seed count) → after ≡ before + one_if dropped → dropped ≡ is_dropped rules (view_of Raw octets) → after ≡ dropped_of rules (packets seed (count + 1))
+dropped_after rules seed count before after octets dropped o b a p =
     a
-    ∙ ap (λ (m : ℕ). m + one_if (is_dropped now (view_of Raw octets))) b
-    ∙ ap (λ (r : AdmittedRules). dropped_of rules (packets seed count) + one_if (is_dropped r (view_of Raw octets))) n
+    ∙ ap (λ (m : ℕ). m + one_if dropped) b
+    ∙ ap (λ (t : Bool). dropped_of rules (packets seed count) + one_if t) p
     ∙ ap (λ (list : List ℕ). dropped_of rules (packets seed count) + one_if (is_dropped rules (view_of Raw list))) o
     ∙ sym (dropped_more rules seed count)
 
@@ -118,14 +118,13 @@ few_more true before now counter f e = omega (arith, f, e)
 few_more false before now counter f e = omega (arith, f, e)
 
 -- the line by what was counted
-pub line_is : (count rules passed dropped : ℕ) (held : Held) (matcher : AdmittedRules) → matcher ≡ admitted_rules held → rules ≡ length (admitted V4 held)
-    → passed ≡ passed_of matcher (packets_of_seed count) → dropped ≡ dropped_of matcher (packets_of_seed count)
+pub line_is : (count rules passed dropped : ℕ) (held : Held) → rules ≡ length (admitted V4 held)
+    → passed ≡ passed_of (admitted_rules held) (packets_of_seed count) → dropped ≡ dropped_of (admitted_rules held) (packets_of_seed count)
     → gen_line count rules passed dropped ≡ gen_text count held
-line_is count rules passed dropped held matcher m r p d =
+line_is count rules passed dropped held r p d =
     ap (λ (n : ℕ). gen_line count n passed dropped) r
-    ∙ ap (λ (n : ℕ). gen_line count (length (admitted V4 held)) n dropped) (p ∙ ap (λ (a : AdmittedRules). passed_of a (packets_of_seed count)) m)
-    ∙ ap (λ (n : ℕ). gen_line count (length (admitted V4 held)) (passed_of (admitted_rules held) (packets_of_seed count)) n)
-    (d ∙ ap (λ (a : AdmittedRules). dropped_of a (packets_of_seed count)) m)
+    ∙ ap (λ (n : ℕ). gen_line count (length (admitted V4 held)) n dropped) p
+    ∙ ap (λ (n : ℕ). gen_line count (length (admitted V4 held)) (passed_of (admitted_rules held) (packets_of_seed count)) n) d
 
 -- no step was played yet
 pub played_none : (config : Config) (items : List Item) (seed : ℕ) (desk : Desked) → Played config items desk → Played config (items ++ steps seed 0) desk

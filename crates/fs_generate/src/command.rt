@@ -1,10 +1,13 @@
 //! The command `gen`.
 
-ghost use Rattle.std.specs.Prelude.{◌≡◌, ◌<◌, ◌+◌, ◌-◌, ◌^◌, ◌++◌, ◌⊎◌, List, IfErr, IfOk, IsSome, OnOk};
+ghost use Rattle.std.specs.Prelude.{◌≡◌, ◌++◌, ◌⊎◌, List, IfErr, IfOk, IsSome, OnOk, vec_capacity};
 ghost use Rattle.fs_base.specs.Config.{peer_of};
 ghost use Rattle.fs_base.specs.Outside.{Rose};
 ghost use Rattle.fs_base.specs.declared.config.Config.{Config};
-ghost use Rattle.fs_generate.specs.Command.{GeneratesSo, dropped_of, gen_line, gen_text, is_dropped, is_passed, one_if, passed_of};
+ghost use Rattle.fs_enforce.specs.Judge.{AdmittedRules};
+ghost use Rattle.fs_enforce.specs.Matcher.{HasRoom, IsSound, StandsFor};
+ghost use Rattle.fs_generate.specs.Command.{GeneratesSo, dropped_of, gen_line, gen_text, is_dropped, is_passed, passed_of};
+ghost use Rattle.fs_generate.specs.Tally.{drops, passes};
 ghost use Rattle.fs_stages.specs.Refusal.{IsLate, answered};
 ghost use Rattle.fs_desk.specs.Desk.{Played};
 ghost use Rattle.fs_gen.specs.Configuration.{three_peers};
@@ -16,10 +19,11 @@ ghost use Rattle.fs_tape.specs.Tape.{Item};
 
 use crate::tally::{Fate, Tally};
 use fs_base::{Config, Family, Link, Memory, Sink};
+use fs_compile::Compiled;
 use fs_desk::Desk;
-use fs_enforce::Matcher;
+use fs_enforce::drops;
 use fs_gen::{Draws, keepalive, open_message, three_peers};
-use fs_line::{append, append_decimal};
+use fs_line::{Walked, append, append_decimal};
 use fs_packet::{View, read_view};
 use fs_rules::Table;
 use fs_stages::{Refusal, write_text};
@@ -113,16 +117,28 @@ fn gen_text(
     requires seed { draws.old ≡ behind_pairs count count }
     ensures { IfOk result (λ text. text.items ≡ gen_text count table.now) }
 {
-    let mut matcher = Matcher::new(alloc, table)?;
-    let tally = count_packets(&mut matcher, draws, count);
+    let rules = Compiled::build(alloc, table)?;
+    let mut walked = Vec::with_capacity(alloc, rules.most())?;
+    let tally = count_packets(&rules, &mut walked, draws, count);
     gen_line(alloc, count, table.count(Family::V4), tally)
 }
 
-/// Counts what becomes of the packets.
-fn count_packets(matcher: &mut Matcher<'_>, draws: &mut Draws, count: u32) -> Tally
+/// Counts what becomes of the packets. No memory is taken: `walked` has room for each rule of a family.
+fn count_packets<'r>(
+    rules: &'r Compiled,
+    walked: &mut Vec<Walked<'r>>,
+    draws: &mut Draws,
+    count: u32,
+) -> Tally
+    requires sound { IsSound rules.now }
+    requires room { HasRoom rules.now (vec_capacity walked.old) }
     requires seed { draws.old ≡ behind_pairs count count }
-    ensures passed { result.passed ≡ passed_of matcher.old (packets_of_seed count) }
-    ensures dropped { result.dropped ≡ dropped_of matcher.old (packets_of_seed count) }
+    ensures passed { (admitted : AdmittedRules)
+        → StandsFor admitted rules.now
+        → result.passed ≡ passed_of admitted (packets_of_seed count) }
+    ensures dropped { (admitted : AdmittedRules)
+        → StandsFor admitted rules.now
+        → result.dropped ≡ dropped_of admitted (packets_of_seed count) }
 {
     let mut tally = Tally {
         passed: 0,
@@ -130,26 +146,29 @@ fn count_packets(matcher: &mut Matcher<'_>, draws: &mut Draws, count: u32) -> Ta
     };
     'packets: for _ in 0..count {
         let packet = draws.pair().packet();
-        tally = count_packet(matcher, &packet, tally);
+        tally = tally.with(fate_of(rules, &packet, walked));
     }
     tally
 }
 
-/// Counts one packet more, which has no link header.
-fn count_packet(matcher: &mut Matcher<'_>, octets: &[u8], tally: Tally) -> Tally
-    requires passed { tally.passed < 2 ^ 32 - 1 }
-    requires dropped { tally.dropped < 2 ^ 32 - 1 }
-    ensures same { matcher.new ≡ matcher.old }
-    ensures passed { result.passed ≡ tally.passed + one_if (is_passed matcher.old (view_of Raw octets.now)) }
-    ensures dropped { result.dropped ≡ tally.dropped + one_if (is_dropped matcher.old (view_of Raw octets.now)) }
+/// What becomes of a packet that has no link header.
+fn fate_of<'r>(rules: &'r Compiled, octets: &[u8], walked: &mut Vec<Walked<'r>>) -> Fate
+    requires sound { IsSound rules.now }
+    requires room { HasRoom rules.now (vec_capacity walked.old) }
+    ensures room { vec_capacity walked.new ≡ vec_capacity walked.old }
+    ensures passes { (admitted : AdmittedRules)
+        → StandsFor admitted rules.now
+        → passes result ≡ is_passed admitted (view_of Raw octets.now) }
+    ensures drops { (admitted : AdmittedRules)
+        → StandsFor admitted rules.now
+        → drops result ≡ is_dropped admitted (view_of Raw octets.now) }
 {
     let mut view = View::blank();
-    let fate = match read_view(Link::Raw, octets, &mut view) {
-        Ok(()) if matcher.drops(&view) => Fate::Dropped,
+    match read_view(Link::Raw, octets, &mut view) {
+        Ok(()) if drops(rules, &view, walked) => Fate::Dropped,
         Ok(()) => Fate::Passed,
         Err(_) => Fate::Unread,
-    };
-    tally.with(fate)
+    }
 }
 
 /// The line of these counts.

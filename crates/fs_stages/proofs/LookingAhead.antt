@@ -1,6 +1,7 @@
 -- A player that holds one item ahead.
-use Rattle.std.proofs.Common.{◌≡◌, inl, inr, ◌≤◌, ◌<◌, ◌-◌, ℕ, suc, List, [], ◌∷◌, ◌++◌, Bool, true, false, Option, Some, None, refl, ap, sym, ◌∙◌, subst, append_assoc, arith, filter}
+use Rattle.std.proofs.Common.{◌≡◌, inl, inr, ◌≤◌, ◌<◌, ◌-◌, ℕ, suc, List, [], ◌∷◌, ◌++◌, Bool, true, false, Option, Some, None, refl, ap, sym, ◌∙◌, subst, append_assoc, append-nil, arith, filter}
 use Rattle.std.specs.Prelude.{nat_le, if◌then◌else◌, option_map, Result, Ok, Err, IfSome, MatchResult}
+use Rattle.std.specs.Option.{is_some}
 use Rattle.std.specs.Result.{IsErrAnd}
 use Rattle.std.specs.List.{AllByRecursion}
 use Rattle.std.proofs.lemmas.Bool.Decides.{nat_tests}
@@ -14,7 +15,7 @@ use Rattle.fs_tape.specs.Tape.{IsItem, Item, TapeState, Timed, coming, item_from
 use Rattle.fs_tape.specs.declared.fault.TapeReason.{TapeReason}
 use Rattle.fs_tape.specs.declared.item.TapeItem.{TapeItem}
 use Rattle.fs_tape.specs.declared.magic.Version.{Version}
-use Rattle.fs_tape.specs.declared.magic.Version.TheVariants.{Two}
+use Rattle.fs_tape.specs.declared.magic.Version.TheVariants.{One, Two}
 use Rattle.fs_tape.proofs.Rising.{moments_rise}
 use Rattle.fs_desk.specs.Desk.{Desked, Played, Plays}
 use Rattle.fs_desk.specs.Leaves.{Leaves}
@@ -22,7 +23,7 @@ use Rattle.fs_desk.proofs.Leaves.{played_leaves}
 use Rattle.fs_stages.specs.declared.refusal.Refusal.{Refusal}
 use Rattle.fs_stages.specs.Load.{Names}
 use Rattle.fs_stages.specs.Refusal.{Stage, Found, Stopped, HasReason}
-use Rattle.fs_stages.specs.Play.{Gives, HasVersion, IsOpened, played_to, tape_stage, until, untimed}
+use Rattle.fs_stages.specs.Play.{Gives, HasVersion, HaveNoMoments, IsOpened, played_to, tape_stage, until, untimed}
 use Rattle.fs_stages.specs.Player.{IsReady, IsUnplayed, PlayerState, Stands, due_item, items_ahead, to_play}
 use Rattle.fs_stages.proofs.Playing.{all_more, untimed_more}
 
@@ -46,6 +47,15 @@ unplayed stage a failed refusal e (inr h) = h
 one_version : {A : Type 0} (x : Option A) (view : A → Result Version (End TapeReason)) (a b : Version) → option_map view x ≡ Some (Ok a) → option_map view x ≡ Some (Ok b) → a ≡ b
 one_version x view a b e f = let both : Some (Ok a) ≡ Some (Ok b) = sym e ∙ f in cc
 
+-- what is said of an item ahead
+if_then : {A P : Type 0} (o : Option A) → P → IfSome o (λ _. P)
+if_then None p = tt
+if_then (Some a) p = p
+
+if_ahead : {A P : Type 0} (o : Option A) (a : A) → o ≡ Some a → IfSome o (λ _. P) → P
+if_ahead None a e h = absurd cc
+if_ahead (Some b) a e h = h
+
 abbrev pub player_with : TapeState → Option TapeItem → List ℕ → Desked → PlayerState
 player_with tape ahead into desk = record { tape = tape; ahead = ahead; into = into; desk = desk }
 
@@ -66,7 +76,7 @@ stands_first config limit holds name left left' items tape tape' ahead into desk
       ends = sym (ap (λ (r : List Timed × End TapeReason). r.1) all);
       early = tt;
       played = subst (λ (c : Config). Played c [] desk) (sym config_is) p;
-      version_is = same ∙ one_version (holds name) (version_of limit) tape.version Two o.has_version v;
+      version_is = if_then ahead (same ∙ one_version (holds name) (version_of limit) tape.version Two o.has_version v);
     }
 
 -- the item ahead was played, and the next one was read
@@ -90,7 +100,7 @@ stands_step items t old new left left' item h m s plays same g v =
       played = subst (λ (c : Config). Played c (untimed (s.gone ++ first ∷ [])) new.desk) (sym same)
           (subst (λ (z : List Item). Played old.desk.config z new.desk) (sym (untimed_more s.gone (first ∷ [])))
           (plays old.desk.config (untimed s.gone) s.played));
-      version_is = v ∙ s.version_is;
+      version_is = if_then new.ahead (v ∙ if_ahead old.ahead item h s.version_is);
     }
 
 -- a later moment is no less late
@@ -115,7 +125,7 @@ from_later at t [] l all = tt
 from_later at t (x ∷ items) l all = (omega (arith, l, all.0), from_later at t items l all.1)
 
 late : (ahead : Option TapeItem) (at t : ℕ) (into : List ℕ) (rest : List Timed × End TapeReason)
-    → due_item ahead at t ≡ None → AreFrom at rest.0 → AllByRecursion (λ (x : Timed). t < x.moment) (items_ahead ahead at into rest).0
+    → due_item ahead at t ≡ None → IfSome ahead (λ _. AreFrom at rest.0) → AllByRecursion (λ (x : Timed). t < x.moment) (items_ahead ahead at into rest).0
 late None at t into rest h all = tt
 late (Some item) at t into rest h all =
     let below : t < at = by (nat_le at t) refl h in
@@ -157,13 +167,37 @@ pub leaves_until : (items : List Timed) (t : ℕ) (player : PlayerState) (left :
 leaves_until items t player left s none =
     let behind : AllByRecursion (λ (x : Timed). t < x.moment) (to_play player left).0 =
     late player.ahead player.tape.moment t player.into (coming player.desk.config player.tape left) none
-    (rises player.desk.config player.tape.version player.tape.limit player.tape.place player.tape.moment left s.version_is) in
+    (rising player.ahead player.tape.version s.version_is) in
     let same : filter (λ (x : Timed). nat_le x.moment t) items ≡ s.gone =
     ap (filter (λ (x : Timed). nat_le x.moment t)) s.parts ∙ until_gone t s.gone (to_play player left).0 s.early behind in
     subst (λ (l : List Timed). Leaves player.desk.config (untimed l) player.desk.held) (sym same)
     (played_leaves player.desk.config (untimed s.gone) player.desk s.played)
+  where
+    rising : (o : Option TapeItem) (version : Version) → IfSome o (λ _. version ≡ Two)
+        → IfSome o (λ _. AreFrom player.tape.moment (items_to_come player.desk.config version player.tape.limit player.tape.place player.tape.moment left).0)
+    rising None version h = tt
+    rising (Some item) version h = rises player.desk.config version player.tape.limit player.tape.place player.tape.moment left h
 
--- the same rules are admitted
+-- so of a test for an item that is due
+pub none_due : (o : Option TapeItem) → is_some o ≡ false → o ≡ None
+none_due None h = refl
+none_due (Some item) h = absurd cc
+
+-- a tape without moments was played to its end
+no_moments : (items : List Timed) → HaveNoMoments One items → AllByRecursion (λ (x : Timed). x.moment ≤ 0) items
+no_moments [] all = tt
+no_moments (x ∷ items) all = (let none : x.moment ≡ 0 = all.0 refl in omega (arith, none), no_moments items all.1)
+
+pub stands_ended : (items : List Timed) (tape : TapeState) (into : List ℕ) (desk : Desked) (left : List ℕ)
+    → Played desk.config (untimed items) desk → HaveNoMoments One items → Stands items 0 (player_with tape None into desk) left
+stands_ended items tape into desk left p none = record {
+  gone = items;
+  parts = sym (append-nil items);
+  ends = refl;
+  early = no_moments items none;
+  played = p;
+  version_is = tt;
+}
 
 pub rose_on : (before mid after : ℕ) (refusal : Refusal) → before ≤ mid → IsUnplayed (Rose mid after) refusal → IsUnplayed (Rose before after) refusal
 rose_on before mid after refusal l (inl h) = inl h
@@ -231,3 +265,7 @@ pub ready_ahead : (o : Option TapeItem) (tape : TapeState) (place : ℕ) (config
 ready_ahead None tape place config config' e known unended grows = tt
 ready_ahead (Some item) tape place config config' e known unended grows =
     (subst (λ (c : Config). IsItem c item) (sym e) known, unended, grows.1)
+
+pub with_room : (o : Option TapeItem) (R : Type 0) (P : TapeItem → Type 0) → R → IfSome o P → IfSome o (λ item. R × P item)
+with_room None R P r h = tt
+with_room (Some item) R P r h = (r, h)

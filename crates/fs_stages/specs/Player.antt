@@ -1,5 +1,5 @@
 -- A tape that is played up to moments, by a player that holds one item ahead.
-use Rattle.std.specs.Prelude.{ℕ, List, [], ◌≡◌, ◌≤◌, ◌++◌, ◌⊎◌, Option, Some, None, if◌then◌else◌, nat_le}
+use Rattle.std.specs.Prelude.{ℕ, List, [], ◌≡◌, ◌≤◌, ◌++◌, ◌⊎◌, Option, Some, None, IfSome, if◌then◌else◌, nat_le}
 use Rattle.std.specs.List.{AllByRecursion}
 use Rattle.fs_base.specs.Parts.{with_part}
 use Rattle.fs_records.specs.Records.{End, done}
@@ -40,14 +40,14 @@ due_item None at moment = None
 due_item (Some item) at moment = if nat_le at moment then Some item else None
 
 -- Of a tape with these items some were played, none of them with a moment above t, and the desk stands as these leave
--- it. The others are still to be played.
+-- it. The others are still to be played, and where there are any the tape has moments.
 pub record Stands (items : List Timed) (t : ℕ) (player : PlayerState) (left : List ℕ) : Type 0 where
   pub gone : List Timed
   pub parts : items ≡ gone ++ (to_play player left).0
   pub ends : (to_play player left).1 ≡ done
   pub early : AllByRecursion (λ (timed : Timed). timed.moment ≤ t) gone
   pub played : Played player.desk.config (untimed gone) player.desk
-  pub version_is : player.tape.version ≡ Two
+  pub version_is : IfSome player.ahead (λ _. player.tape.version ≡ Two)
 
 -- of a tape without a fault that was read before: memory was wanting, or a call on the files failed
 abbrev pub IsUnplayed : Type 0 → Refusal → Type 0

@@ -19,10 +19,11 @@ use fs_desk::Desk;
 use fs_tape::{LONGEST_PAYLOAD, Tape, TapeFault, TapeItem, Version};
 use std::alloc::Global;
 
-/// A tape that was played whole: the desk behind it, and the tape's version.
+/// A tape that was played whole: the desk behind it, the tape at its end, and its version.
 #[derive(Drop)]
 pub struct WholeTape<'a> {
     pub desk: Desk<'a>,
+    pub tape: Tape,
     pub version: Version,
 }
 
@@ -77,13 +78,18 @@ pub fn play_whole<'a, F: Files>(
         (λ whole. IsWhole config.entry.now limit (F.holds files.old) name.now whole.version whole.desk)
         (HasReason (tape_stage config.entry.now limit (F.holds files.old) name.now)
         (Rose (F.faults files.old) (F.faults files.new))) }
+    ensures slot { IfOk result (λ whole. whole.tape.slot ≡ 1) }
 {
     let mut tape = open_tape(files, name, limit)?;
     let version = tape.format();
     let mut desk = Desk::new(alloc, config)?;
     let mut buffer = vec![in alloc; 0u8; LONGEST_PAYLOAD]?;
     match play_items(alloc, files, &mut tape, config, &mut desk, &mut buffer) {
-        Ok(()) => Ok(WholeTape { desk, version }),
+        Ok(()) => Ok(WholeTape {
+            desk,
+            tape,
+            version,
+        }),
         Err(refusal) => Err(refusal),
     }
 }
@@ -124,6 +130,7 @@ fn play_items<F: Files>(
     requires config { desk.old.config ≡ config.now }
     ensures later { F.faults files.old ≤ F.faults files.new }
     ensures holds { IsTrue F.tells → F.holds files.new ≡ F.holds files.old }
+    ensures slot { tape.new.slot ≡ tape.old.slot }
 
     ensures played { IsTrue F.tells
         → MatchResult result

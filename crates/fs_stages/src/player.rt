@@ -1,6 +1,6 @@
 //! A tape that is played up to moments.
 
-use crate::play::{next_item, open_tape, play_item};
+use crate::play::{WholeTape, next_item, open_tape, play_item};
 use crate::refusal::Refusal;
 use fs_base::{Config, Files};
 use fs_desk::Desk;
@@ -28,21 +28,23 @@ impl<'a> Model for Player<'a> {
 
     ghost view = { λ p. record { tape = p.tape; ahead = p.ahead; into = p.buffer.items; desk = p.desk } };
 
-    ghost invariant = { λ p.
-        (longest_payload ≤ length p.buffer.items) × IfSome p.ahead (IsReady p.tape p.desk.config) };
+    ghost invariant = { λ p. IfSome p.ahead (λ item.
+        (longest_payload ≤ length p.buffer.items) × IsReady p.tape p.desk.config item) };
 }
 
 impl<'a> Player<'a> {
-    ghost use Rattle.std.specs.Prelude.{ℕ, ◌≡◌, ◌≢◌, ◌≤◌, ◌<◌, false, List, Some, IfOk, IfSome, IsTrue, MatchResult};
+    ghost use Rattle.std.specs.Option.{is_some};
+    ghost use Rattle.std.specs.Prelude.{ℕ, ◌≡◌, ◌≢◌, ◌≤◌, ◌<◌, false, List, None, Some, IfOk, IfSome, IsTrue, MatchResult};
     ghost use Rattle.fs_base.specs.Files.{OnlySlot};
     ghost use Rattle.fs_base.specs.Outside.{Rose};
+    ghost use Rattle.fs_desk.specs.Desk.{Played};
     ghost use Rattle.fs_desk.specs.Leaves.{Leaves};
     ghost use Rattle.fs_rules.specs.Table.{AdmitsSame};
-    ghost use Rattle.fs_stages.specs.Play.{HasVersion, tape_stage, until};
+    ghost use Rattle.fs_stages.specs.Play.{HasVersion, HaveNoMoments, tape_stage, until, untimed};
     ghost use Rattle.fs_stages.specs.Player.{IsUnplayed, Stands, due_item};
     ghost use Rattle.fs_stages.specs.Refusal.{Found, answered};
     ghost use Rattle.fs_tape.specs.Tape.{Timed};
-    ghost use Rattle.fs_tape.specs.declared.magic.Version.TheVariants.{Two};
+    ghost use Rattle.fs_tape.specs.declared.magic.Version.TheVariants.{One, Two};
 
     /// Opens the tape, and reads its first item ahead. Nothing is played yet.
     ///
@@ -84,6 +86,28 @@ impl<'a> Player<'a> {
         })
     }
 
+    /// A tape of the first version that was played whole: nothing of it is ahead, at any moment. No memory is taken.
+    pub fn ended(alloc: Global, whole: WholeTape<'a>) -> Player<'a>
+        ensures desk { result.desk ≡ whole.entry.desk }
+        ensures ahead { result.ahead ≡ None }
+        ensures slot { result.tape.slot ≡ whole.entry.tape.slot }
+
+        ensures stands { (items : List Timed)
+            → (left : List ℕ)
+            → Played whole.entry.desk.config (untimed items) whole.entry.desk
+            → HaveNoMoments One items
+            → Stands items 0 result left }
+    {
+        let WholeTape { desk, tape, .. } = whole;
+        Player {
+            tape,
+            desk,
+            ahead: None,
+            buffer: Vec::new(alloc),
+            replies: Vec::new(alloc),
+        }
+    }
+
     /// Plays the items whose moments are at most this one, and tells whether the rules that are admitted may be others
     /// than before.
     ///
@@ -113,6 +137,19 @@ impl<'a> Player<'a> {
             changed = changed || told;
         }
         Ok(changed)
+    }
+
+    /// Whether an item is to be played at this moment. Where none is, the desk holds what the tape leaves then.
+    pub fn is_due(&self, moment: u64) -> bool
+        ensures due { result ≡ is_some (due_item self.now.ahead self.now.tape.moment moment) }
+
+        ensures still { result ≡ false
+            → (items : List Timed)
+            → (left : List ℕ)
+            → Stands items moment self.now left
+            → Leaves self.now.desk.config (until moment items) self.now.desk.held }
+    {
+        self.due(moment).is_some()
     }
 
     /// The item ahead, where its moment has come.

@@ -1,6 +1,6 @@
 //! Texts that leave in one piece.
 
-ghost use Rattle.std.specs.Prelude.{◌≡◌, ◌≢◌, ◌≤◌, IfErr, List};
+ghost use Rattle.std.specs.Prelude.{◌≡◌, ◌≢◌, ◌≤◌, IfErr, IsOk, List, length};
 ghost use Rattle.fs_base.specs.Outside.{Rose};
 ghost use Rattle.fs_stages.specs.Refusal.{IsLate, answered};
 ghost use Rattle.fs_stages.specs.Writing.{Writes};
@@ -8,7 +8,7 @@ ghost use Rattle.fs_stages.specs.Writing.{Writes};
 use crate::refusal::Refusal;
 use fs_base::{Sink, write_all};
 
-/// Writes a text in one piece.
+/// Writes a text in one piece. An empty one leaves the sink untouched.
 ///
 /// # Errors
 ///
@@ -16,6 +16,7 @@ use fs_base::{Sink, write_all};
 pub fn write_text<S: Sink>(text: &[u8], sink: &mut S) -> Result<(), Refusal>
     ensures late { IfErr result IsLate }
     ensures known { answered result ≢ 6 }
+    ensures idle { length text.now ≡ 0 → IsOk result × (sink.new ≡ sink.old) }
     ensures later { S.faults sink.old ≤ S.faults sink.new }
     ensures written { Writes text.now
         (Rose (S.faults sink.old) (S.faults sink.new)) (S.written sink.old) (S.written sink.new) result }

@@ -1,24 +1,37 @@
-use Rattle.std.proofs.Common.{◌≡◌, ◌≤◌, ◌-◌, length, IsTrue, None}
+use Rattle.std.proofs.Common.{◌≡◌, ◌≤◌, ◌<◌, ◌-◌, length, List, IfSome, IsTrue, None}
 use Rattle.fs_capture.specs.Capture.{coming}
+use Rattle.fs_desk.specs.Leaves.{Leaves}
 use Rattle.fs_pcap.specs.Head.{longest_record}
-use Rattle.fs_enforce.proofs.Judging.{Judging}
+use Rattle.fs_tape.specs.Tape.{Timed}
+use Rattle.fs_stages.specs.Play.{until}
+use Rattle.fs_stages.specs.Player.{Stands}
+use Rattle.fs_enforce.specs.Judge.{admitted_rules, in_hand}
+use Rattle.fs_enforce.specs.Matcher.{StandsFor}
+use Rattle.fs_enforce.specs.Moments.{Follows}
 use Rattle.fs_enforce.proofs.judge.judge_packets.Given as goal
 
-abbrev pub invariant-packets : goal.invariant-packets
-invariant-packets g l = record {
+abbrev pub invariant-changes : goal.invariant-changes
+invariant-changes g l = record {
   room : longest_record ≤ length l.buffer;
   unended : l.capture.end ≡ None;
-  slot : l.capture.slot ≡ l.fn.capture.slot;
+  slot : l.capture.slot ≡ 2;
   limit : l.capture.limit ≡ l.fn.capture.limit;
   within : l.capture.place ≤ l.capture.limit;
-  number : l.number ≤ l.capture.place;
-  same : l.judging ≡ record l.fn.judging { pending = l.judging.pending };
+  number : l.lines.number ≤ l.capture.place;
+  hand : IfSome l.hand (λ caught. (caught.taken ≤ longest_record) × (l.lines.number < l.capture.place));
+  tape : l.following.player.tape.slot ≡ 1;
+  config : l.following.player.desk.config ≡ l.fn.following.player.desk.config;
+  stands : StandsFor (admitted_rules l.following.player.desk.held) l.following.rules;
+  still : l.fn.following.player.ahead ≡ None
+      → (l.sink ≡ l.fn.sink) × (l.files ≡ l.fn.files) × (l.capture ≡ l.fn.capture) × (l.lines.output ≡ l.fn.lines.output) × (l.following.player.ahead ≡ None);
   files_later : g.F.Files.faults l.fn.files ≤ g.F.Files.faults l.files;
   sink_later : g.S.Sink.faults l.fn.sink ≤ g.S.Sink.faults l.sink;
-  judging : IsTrue g.F.Files.tells
-      → Judging (λ moment. l.fn.judging.rules) (coming l.fn.capture (g.F.Files.left l.fn.files l.fn.capture.slot)) (coming l.capture (g.F.Files.left l.files l.capture.slot))
-      (g.S.Sink.written l.fn.sink) (g.S.Sink.written l.sink) l.fn.judging.pending l.judging.pending l.number;
+  judging : IsTrue g.F.Files.tells → (items : List Timed) → Stands items l.fn.capture.moment l.fn.following.player (g.F.Files.left l.fn.files 1)
+      → Stands items l.capture.moment l.following.player (g.F.Files.left l.files 1)
+      × IfSome l.hand (λ caught. Leaves l.following.player.desk.config (until caught.moment items) l.following.player.desk.held)
+      × Follows l.following.player.desk.config items (coming l.fn.capture (g.F.Files.left l.fn.files 2)) (in_hand l.hand l.buffer (coming l.capture (g.F.Files.left l.files 2)))
+      (g.S.Sink.written l.fn.sink) (g.S.Sink.written l.sink) l.fn.lines.output l.lines.output l.lines.number;
 }
 
-abbrev pub decreases-packets : goal.decreases-packets
-decreases-packets g l = l.capture.limit - l.capture.place
+abbrev pub decreases-changes : goal.decreases-changes
+decreases-changes g l = l.capture.limit - l.capture.place

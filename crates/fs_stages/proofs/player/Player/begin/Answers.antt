@@ -1,8 +1,9 @@
 use Rattle.std.proofs.Common.{◌≤◌, ℕ, List, arith, length, subst, sym}
+use Rattle.std.specs.Vec.{with_items}
 use Rattle.std.proofs.lemmas.List.{with_items_is}
 use Rattle.fs_tape.specs.Header.{longest_payload}
-use Rattle.fs_stages.specs.Player.{Stands}
-use Rattle.fs_stages.proofs.LookingAhead.{match_err, player_with, ready_ahead, slots_then, stands_begun, unbegun}
+use Rattle.fs_stages.specs.Player.{IsReady, Stands}
+use Rattle.fs_stages.proofs.LookingAhead.{match_err, player_with, ready_ahead, slots_then, stands_begun, unbegun, with_room}
 use Rattle.fs_stages.proofs.player.Player.begin.Goals as goal
 
 pub returns-in_err-ahead-clause-begun : goal.returns-in_err-ahead-clause-begun
@@ -18,12 +19,12 @@ returns-in_err-ahead-clause-others g c =
     c.in_ok-tape.ensures.others c.in_ok-tape.ensures.state.slot_is c.in_err-ahead.ensures.others
 
 pub invariant_of-result : goal.invariant_of-result
-invariant_of-result g c = (
-  let room : longest_payload ≤ length c.next_item.new.buffer = omega (arith, c.in_ok-buffer.ensures.len) in
-      subst (λ (l : List ℕ). longest_payload ≤ length l) (sym (with_items_is c.in_ok-buffer.buffer c.next_item.new.buffer (omega arith))) room,
-  ready_ahead c.in_ok-ahead.ahead c.next_item.new.tape c.in_ok-tape.tape.place c.args.config.now c.in_ok-desk.desk.config c.in_ok-desk.ensures.played.config_is
-      c.in_ok-ahead.ensures.known c.in_ok-ahead.ensures.open c.in_ok-ahead.ensures.grows,
-)
+invariant_of-result g c =
+    let room : longest_payload ≤ length c.next_item.new.buffer = omega (arith, c.in_ok-buffer.ensures.len) in
+    with_room c.in_ok-ahead.ahead (longest_payload ≤ length (with_items c.in_ok-buffer.buffer c.next_item.new.buffer).items) (IsReady c.next_item.new.tape c.in_ok-desk.desk.config)
+    (subst (λ (l : List ℕ). longest_payload ≤ length l) (sym (with_items_is c.in_ok-buffer.buffer c.next_item.new.buffer (omega arith))) room)
+    (ready_ahead c.in_ok-ahead.ahead c.next_item.new.tape c.in_ok-tape.tape.place c.args.config.now c.in_ok-desk.desk.config c.in_ok-desk.ensures.played.config_is
+    c.in_ok-ahead.ensures.known c.in_ok-ahead.ensures.open c.in_ok-ahead.ensures.grows)
 
 pub returns-clause-begun : goal.returns-clause-begun
 returns-clause-begun g c = λ told items e v.

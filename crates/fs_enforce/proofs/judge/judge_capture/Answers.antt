@@ -1,0 +1,42 @@
+use Rattle.std.proofs.Common.{◌⊎◌, ◌∙◌, inl, inr, ap, refl, subst, sym}
+use Rattle.fs_base.specs.Outside.{Rose}
+use Rattle.fs_capture.specs.Capture.{coming, recorded}
+use Rattle.fs_stages.specs.Player.{PlayerState, Stands}
+use Rattle.fs_stages.specs.Refusal.{Found, answered}
+use Rattle.fs_stages.specs.declared.refusal.Refusal.TheVariants.{Memory}
+use Rattle.fs_stages.proofs.Stages.{answered_err}
+use Rattle.fs_enforce.specs.Moments.{AnswersAt}
+use Rattle.fs_enforce.proofs.MomentAnswers.{none_judged}
+use Rattle.fs_enforce.proofs.judge.judge_capture.Goals as goal
+
+pub returns-in_err-buffer-clause-judges : goal.returns-in_err-buffer-clause-judges
+returns-in_err-buffer-clause-judges g c = λ told items s.
+    answered_err (λ n. AnswersAt c.args.player.desk.config items (Found (recorded (coming c.args.capture.now (g.F.Files.left c.args.files.now 2))))
+    (Rose (g.F.Files.faults c.args.files.now) (g.F.Files.faults c.args.files.now) ⊎ Rose (g.S.Sink.faults c.args.sink.now) (g.S.Sink.faults c.args.sink.now)) (g.S.Sink.written c.args.sink.now) (g.S.Sink.written c.args.sink.now) n)
+    c.from_residual.result Memory c.from_residual.ensures.1
+    (none_judged _ _ _ (Rose (g.F.Files.faults c.args.files.now) (g.F.Files.faults c.args.files.now)) _ _ Memory (inr (inl refl)) (λ r. inl r))
+
+pub returns-in_err-lines-clause-judges : goal.returns-in_err-lines-clause-judges
+returns-in_err-lines-clause-judges g c = λ told items s.
+    answered_err (λ n. AnswersAt c.args.player.desk.config items (Found (recorded (coming c.args.capture.now (g.F.Files.left c.args.files.now 2))))
+    (Rose (g.F.Files.faults c.args.files.now) (g.F.Files.faults c.args.files.now) ⊎ Rose (g.S.Sink.faults c.args.sink.now) (g.S.Sink.faults c.args.sink.now)) (g.S.Sink.written c.args.sink.now) (g.S.Sink.written c.args.sink.now) n)
+    c.from_residual-in_err-lines.result Memory c.from_residual-in_err-lines.ensures.1
+    (none_judged _ _ _ (Rose (g.F.Files.faults c.args.files.now) (g.F.Files.faults c.args.files.now)) _ _ Memory (inr (inl refl)) (λ r. inl r))
+
+pub returns-in_err-following-clause-judges : goal.returns-in_err-following-clause-judges
+returns-in_err-following-clause-judges g c = λ told items s.
+    answered_err (λ n. AnswersAt c.args.player.desk.config items (Found (recorded (coming c.args.capture.now (g.F.Files.left c.args.files.now 2))))
+    (Rose (g.F.Files.faults c.args.files.now) (g.F.Files.faults c.args.files.now) ⊎ Rose (g.S.Sink.faults c.args.sink.now) (g.S.Sink.faults c.args.sink.now)) (g.S.Sink.written c.args.sink.now) (g.S.Sink.written c.args.sink.now) n)
+    c.from_residual-in_err-following.result Memory c.from_residual-in_err-following.ensures.1
+    (none_judged _ _ _ (Rose (g.F.Files.faults c.args.files.now) (g.F.Files.faults c.args.files.now)) _ _ Memory (inr (inl refl)) (λ r. inl r))
+
+pub returns-clause-judges : goal.returns-clause-judges
+returns-clause-judges g c = λ told items s.
+    subst (λ (p : PlayerState). AnswersAt p.desk.config items (Found (recorded (coming c.args.capture.now (g.F.Files.left c.args.files.now 2))))
+    (Rose (g.F.Files.faults c.args.files.now) (g.F.Files.faults c.judge_all-judged.new.files) ⊎ Rose (g.S.Sink.faults c.args.sink.now) (g.S.Sink.faults c.judge_all-judged.new.sink))
+    (g.S.Sink.written c.args.sink.now) (g.S.Sink.written c.judge_all-judged.new.sink) (answered c.judge_all-judged.result)) c.in_ok-following.ensures.same
+    (c.judge_all-judged.ensures.judges told items
+    (subst (λ (p : PlayerState). Stands items 0 p (g.F.Files.left c.args.files.now 1)) (sym c.in_ok-following.ensures.same) s))
+
+pub returns-clause-unwritten : goal.returns-clause-unwritten
+returns-clause-unwritten g c = λ none six. c.judge_all-judged.ensures.unwritten (ap (λ (p : PlayerState). p.ahead) c.in_ok-following.ensures.same ∙ none) six

@@ -1,4 +1,0 @@
-use Rattle.fs_enforce.proofs.matcher.Matcher.judge.Given as goal
-
-abbrev pub ghosts-walk_family : goal.ghosts-walk_family
-ghosts-walk_family g a = record { name = a.blank.name; parts = a.blank.parts }

@@ -1,6 +1,0 @@
-use Rattle.fs_enforce.proofs.Judging.{match_err}
-use Rattle.fs_enforce.proofs.moments.Following.follow.Goals as goal
-
-pub returns-in_err-play_to-clause-played : goal.returns-in_err-play_to-clause-played
-returns-in_err-play_to-clause-played g c = λ told items s.
-    match_err _ _ c.from_residual.result c.from_residual.ensures.1 (λ refusal same. rw same (c.in_err-play_to.ensures.played told items s))

@@ -1,0 +1,69 @@
+//! The tape, as it is followed along a capture.
+
+ghost use Rattle.std.specs.Prelude.{◌≡◌, ◌≢◌, ◌≤◌, List, IsTrue, IfOk, MatchResult};
+ghost use Rattle.fs_base.specs.Files.{OnlySlot};
+ghost use Rattle.fs_base.specs.Outside.{Rose};
+ghost use Rattle.fs_desk.specs.Leaves.{Leaves};
+ghost use Rattle.fs_stages.specs.Play.{until};
+ghost use Rattle.fs_stages.specs.Player.{IsUnplayed, Stands};
+ghost use Rattle.fs_stages.specs.Refusal.{answered};
+ghost use Rattle.fs_tape.specs.Tape.{Timed};
+ghost use Rattle.fs_enforce.specs.Judge.{admitted_rules};
+ghost use Rattle.fs_enforce.specs.Matcher.{StandsFor};
+
+use fs_base::{Files, Memory};
+use fs_compile::Compiled;
+use fs_stages::{Player, Refusal};
+use std::alloc::Global;
+
+/// The tape, and the rules that are admitted where it stands, compiled.
+#[derive(Drop)]
+pub(crate) struct Following<'a> {
+    pub(crate) alloc: Global,
+    pub(crate) player: Player<'a>,
+    pub(crate) rules: Compiled,
+}
+
+impl<'a> Following<'a> {
+    pub(crate) fn new(alloc: Global, player: Player<'a>) -> Result<Following<'a>, Memory>
+        ensures same { IfOk result (λ following. following.player ≡ player.entry) }
+        ensures stands { IfOk result (λ following.
+            StandsFor (admitted_rules player.entry.desk.held) following.rules) }
+    {
+        let rules = Compiled::build(alloc, player.table())?;
+        Ok(Following {
+            alloc,
+            player,
+            rules,
+        })
+    }
+
+    /// Plays the tape up to this moment. The rules are compiled anew where they may be others than before.
+    ///
+    /// # Errors
+    ///
+    /// `Outside` where the files failed, `Tape` and `Limit` where the tape ends so, `Memory` where the machine refused
+    /// memory.
+    pub(crate) fn follow<F: Files>(&mut self, files: &mut F, moment: u64) -> Result<(), Refusal>
+        requires { StandsFor (admitted_rules self.old.player.desk.held) self.old.rules }
+        ensures later { F.faults files.old ≤ F.faults files.new }
+        ensures slot { self.new.player.tape.slot ≡ self.old.player.tape.slot }
+        ensures config { self.new.player.desk.config ≡ self.old.player.desk.config }
+        ensures late { answered result ≢ 3 }
+        ensures stands { IfOk result (λ _. StandsFor (admitted_rules self.new.player.desk.held) self.new.rules) }
+
+        ensures played { IsTrue F.tells
+            → (items : List Timed)
+            → Stands items moment self.old.player (F.left files.old self.old.player.tape.slot)
+            → MatchResult result
+            (λ _. Stands items moment self.new.player (F.left files.new self.old.player.tape.slot)
+            × Leaves self.old.player.desk.config (until moment items) self.new.player.desk.held)
+            (IsUnplayed (Rose (F.faults files.old) (F.faults files.new))) }
+        ensures others { OnlySlot F.tells F.left F.holds self.old.player.tape.slot files.old files.new }
+    {
+        if self.player.play_to(files, moment)? {
+            self.rules = Compiled::build(self.alloc, self.player.table())?;
+        }
+        Ok(())
+    }
+}
