@@ -1,7 +1,7 @@
 //! A line of the table: the words that a call is given, and what is told of its answer.
 
 use fs_base::{Config, Family, Prefix};
-use fs_nlri::{Rule, decode, encode};
+use fs_nlri::{Feed, Rule};
 use std::alloc::Global;
 use std::fmt;
 use std::str::FromStr;
@@ -48,30 +48,47 @@ impl<'a> Call<'a> {
         std::mem::replace(&mut self.rest, "")
     }
 
+    fn parsed<T: FromStr + Default>(&mut self, word: &str) -> T
+    where
+        T::Err: Drop,
+    {
+        let number = word.parse::<T>().ok();
+        self.faulty |= number.is_none();
+        number.unwrap_or_default()
+    }
+
     /// A number in decimal digits; 0 where none is there.
     pub fn number<T: FromStr + Default>(&mut self) -> T
     where
         T::Err: Drop,
     {
-        let number = self.word().parse::<T>().ok();
-        self.faulty |= number.is_none();
-        number.unwrap_or_default()
+        let word = self.word();
+        self.parsed(word)
     }
 
-    /// The octets of a word in hexadecimal; `-` has none.
+    /// The octets of a word in hexadecimal, part by part: `HEX*N` are these N times, and a point parts them. `-` has none.
     pub fn octets(&mut self) -> Vec<u8> {
+        let mut octets = Vec::new(self.alloc);
         let word = self.word();
-        let digits = word.strip_prefix("-").unwrap_or(word);
-        let octets = hex::decode(self.alloc, digits.as_bytes()).ok();
-        self.faulty |= octets.is_none();
-        octets.unwrap_or(Vec::new(self.alloc))
+        for part in word.strip_prefix("-").unwrap_or(word).split('.') {
+            self.append(part, &mut octets);
+        }
+        octets
+    }
+
+    fn append(&mut self, part: &str, octets: &mut Vec<u8>) {
+        let (digits, times) = part.split_once('*').unwrap_or((part, "1"));
+        let decoded = hex::decode(self.alloc, digits.as_bytes());
+        if let Some(piece) = self.good(decoded) {
+            for _ in 0..self.parsed::<u64>(times) {
+                self.good(octets.extend_from_slice(&piece));
+            }
+        }
     }
 
     pub fn tell(&mut self, word: &str) {
         let space = if self.told.is_empty() { "" } else { " " };
-        if self.told.push_str(space).is_err() || self.told.push_str(word).is_err() {
-            self.faulty = true;
-        }
+        self.faulty |= self.told.push_str(space).is_err() || self.told.push_str(word).is_err();
     }
 
     /// Tells a value as `Debug` prints it.
@@ -82,13 +99,9 @@ impl<'a> Call<'a> {
         }
     }
 
-    /// Tells whether two values are the same, and both where they aren't.
+    /// Tells whether two values, which `Debug` can print, are the same.
     pub fn compare<T: PartialEq + fmt::Debug>(&mut self, one: &T, other: &T) {
-        if one == other {
-            self.tell("same");
-        } else {
-            self.show(&(one, other));
-        }
+        self.tell(if one == other { "same" } else { "other" });
     }
 
     /// Tells octets in hexadecimal, `-` where there are none.
@@ -130,33 +143,15 @@ impl<'a> Call<'a> {
         Prefix::new(family, bits, self.number())
     }
 
-    /// `FAMILY NLRI`
-    pub fn rule(&mut self) -> Option<Rule> {
-        let family = self.family();
-        let decoded = decode(self.alloc, family, &self.octets());
-        let (rule, _) = self.good(decoded)?;
-        Some(rule)
-    }
-
-    /// `N`, and so many rules.
+    /// `FAMILY OCTETS`: rules one behind the other.
     pub fn rules(&mut self) -> Vec<Rule> {
+        let family = self.family();
+        let octets = self.octets();
         let mut rules = Vec::new(self.alloc);
-        for _ in 0..self.number::<u64>() {
-            self.push_rule(&mut rules);
+        if let Some(mut feed) = self.good(Feed::new(self.alloc, family)) {
+            self.good(feed.feed(&octets, &mut rules));
+            self.good(feed.end());
         }
         rules
-    }
-
-    fn push_rule(&mut self, rules: &mut Vec<Rule>) {
-        if let Some(rule) = self.rule() {
-            self.good(rules.push(rule));
-        }
-    }
-
-    /// The rule's canonical NLRI.
-    pub fn show_rule(&mut self, rule: &Rule) {
-        let mut out = Vec::new(self.alloc);
-        self.good(encode(rule, &mut out));
-        self.show_octets(&out);
     }
 }

@@ -1,44 +1,29 @@
-//! Public calls, each made once over ample memory, and its answer compared. The first argument names the table, whose
-//! head says how its lines are written, the second one the configuration.
+//! Public calls, each made once over ample memory by the name of its crate, with the types of its answer, and what it
+//! answers compared; structs are read field by field. The first argument names the table, whose head says how its lines
+//! are written, the second one the configuration.
+//!
+//! `try_runs` makes the other objects of the outside and `run_within`, `welgutan` makes `run`.
 #![tactic(auto)]
 
 mod call;
-mod compiled;
-mod counter;
 mod grammar;
+mod inputs;
+mod messages;
+mod packets;
 mod sessions;
 mod surface;
-mod updates;
+mod table;
 
 ghost use Rattle.std.specs.Prelude.{◌≡◌, ◌<◌};
 
 use call::Call;
-use compiled::{confirmed, held, spans};
-use counter::bounds;
 use fs_base::{Config, Steps};
 use fs_conf::{ConfFault, read_config};
-use sessions::Ends;
 use std::marker::Brand;
 use std::process::ExitCode;
 use std::sync::ledger::{Blank, Ledger};
 use std::{env, fs, io};
-use updates::{message, update, withdraw};
-
-/// Makes the call of a line. The calls of `session` and of `joint` follow one another.
-fn answer<L: Ledger>(call: &mut Call<'_>, ends: &mut Ends<'_>, steps: &mut Steps<L>) -> Option<()> {
-    match call.word() {
-        "bounds" => bounds(call, steps),
-        "held" => held(call, steps),
-        "spans" => spans(call),
-        "confirm" => confirmed(call),
-        "message" => message(call),
-        "update" => update(call),
-        "withdraw" => withdraw(call),
-        "session" => ends.ask_session(call),
-        "joint" => ends.ask_joint(call),
-        word => surface::answer(call, word, steps),
-    }
-}
+use surface::answer;
 
 /// Whether a call's answer isn't the one that is due; the call is printed then.
 fn differs<L: Ledger>(
@@ -46,11 +31,10 @@ fn differs<L: Ledger>(
     words: &str,
     due: &str,
     config: &Config,
-    ends: &mut Ends<'_>,
     steps: &mut Steps<L>,
 ) -> bool {
     let mut call = Call::new(rt.alloc(), config, words);
-    let _ = answer(&mut call, ends, steps);
+    let _ = answer(&mut call, steps);
     let came = call.told();
     if came != due {
         let _ = println!(rt; "{words}: expected {due}, came {came}");
@@ -63,13 +47,12 @@ fn follow<L: Ledger>(
     rt: &HostRuntime,
     text: &str,
     config: &Config,
-    ends: &mut Ends<'_>,
     steps: &mut Steps<L>,
 ) -> io::Result<()> {
     let (mut calls, mut differ) = (0u64, 0u64);
     for line in text.lines() {
         if let (false, Some((words, due))) = (line.starts_with('#'), line.split_once(" = ")) {
-            let is_other = differs(rt, words, due, config, ends, steps);
+            let is_other = differs(rt, words, due, config, steps);
             calls = calls.saturating_add(1);
             differ = differ.saturating_add(is_other.into());
         }
@@ -83,18 +66,6 @@ fn file(rt: &HostRuntime, number: usize) -> Option<String> {
     fs::read_to_string(rt, name.as_str()).ok()
 }
 
-/// Follows the table beside ends of its own.
-fn begin<L: Ledger>(
-    rt: &HostRuntime,
-    text: &str,
-    config: &Config,
-    steps: &mut Steps<L>,
-) -> Option<()> {
-    config.peer(1)?;
-    let mut ends = Ends::new(rt.alloc(), config);
-    follow(rt, text, config, &mut ends, steps).ok()
-}
-
 fn run<L: Ledger>(blank: Blank, rt: &HostRuntime) -> Option<()>
     requires name { blank.name ≡ L.name }
     requires parts { blank.parts ≡ L.parts }
@@ -104,10 +75,7 @@ fn run<L: Ledger>(blank: Blank, rt: &HostRuntime) -> Option<()>
     let text = file(rt, 1)?;
     let peers = file(rt, 2)?;
     let config: Result<Config, ConfFault> = read_config(rt.alloc(), peers.as_bytes());
-    match config {
-        Ok(config) => begin(rt, text.as_str(), &config, &mut steps),
-        Err(_) => None,
-    }
+    follow(rt, text.as_str(), &config.ok()?, &mut steps).ok()
 }
 
 fn main(rt: HostRuntime) -> ExitCode {
