@@ -9,6 +9,7 @@ mod fields;
 mod making;
 mod message;
 mod named;
+mod noted_wire;
 mod octets;
 mod outcome;
 mod records;

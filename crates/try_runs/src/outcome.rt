@@ -3,6 +3,7 @@
 use crate::fault::Fault;
 use crate::fields::size;
 use crate::named::NamedFiles;
+use crate::noted_wire::NotedWire;
 use crate::octets::Octets;
 use crate::terms::Terms;
 use fs_base::{MemClock, MemFiles, MemSink, MemWire, RealClock, RealFiles, RealOut, RealWire};
@@ -15,13 +16,14 @@ const ROOM: usize = 1 << 20;
 /// The file that a run over the real outside writes.
 const WRITTEN: &str = "written";
 
-/// How a run ended: its status, what it wrote, and what it wrote through each end of the wire.
+/// How a run ended: its status, what it wrote, what it wrote through each end of the wire, and its calls on the wire.
 #[derive(Drop)]
 pub struct Outcome {
     pub status: u8,
     pub written: Octets,
     pub first: Octets,
     pub second: Octets,
+    pub called: Octets,
 }
 
 /// Adds the files that the words name.
@@ -83,6 +85,7 @@ fn run_into_sink(
     wire.narrow(size(terms.most.moved).max(1));
     wire.give(0, Vec::from_slice(alloc, terms.first.given.as_slice())?);
     wire.give(1, Vec::from_slice(alloc, terms.second.given.as_slice())?);
+    let mut wire = NotedWire::new(alloc, wire);
     run_over_wire(alloc, words, terms, files, sink, &mut wire)
 }
 
@@ -92,15 +95,17 @@ fn run_over_wire(
     terms: &Terms,
     files: &mut MemFiles,
     sink: &mut MemSink,
-    wire: &mut MemWire,
+    noted: &mut NotedWire<MemWire>,
 ) -> Result<Outcome, Fault> {
     let mut clock = MemClock::new(Vec::from_slice(alloc, &terms.moments)?);
     let limit = terms.limit.max(1);
-    let status = fs_cli::run_within(alloc, words, limit, files, sink, wire, &mut clock);
+    let status = fs_cli::run_within(alloc, words, limit, files, sink, noted, &mut clock);
     let mut outcome = Outcome::new(alloc, status);
     outcome.written.append(sink.text());
-    outcome.first.append(wire.written(0));
-    outcome.second.append(wire.written(1));
+    outcome.first.append(noted.wire.written(0));
+    outcome.second.append(noted.wire.written(1));
+    outcome.called.append(noted.calls.as_slice());
+    noted.calls.check()?;
     Ok(outcome)
 }
 
@@ -112,6 +117,7 @@ impl Outcome {
             written: Octets::new(alloc),
             first: Octets::new(alloc),
             second: Octets::new(alloc),
+            called: Octets::new(alloc),
         }
     }
 }

@@ -8,7 +8,7 @@ use crate::octets::Octets;
 use crate::outcome::{Outcome, run_in_memory, run_outside};
 use crate::shape::fill_number;
 use crate::tally::Tally;
-use crate::terms::{End, Failing, Terms};
+use crate::terms::{Due, Failing, Terms};
 use std::alloc::Global;
 use std::str;
 
@@ -101,6 +101,7 @@ impl Runner {
             | "narrow_output" => self.terms.set(word, rest),
             "gives" => self.give(rest),
             "said" => self.expect_said(rest),
+            "called" => self.expect_calls(rest),
             "ends" | "stops" | "real" => self.end_case(rt, word, rest),
             "calls" => self.count_calls(rt, rest),
             "wire_calls" => self.count_wire_calls(rt, rest),
@@ -170,10 +171,19 @@ impl Runner {
     /// What is written through an end of the wire: the end and the octets.
     fn expect_said(&mut self, rest: &str) -> Result<(), Fault> {
         let (digits, field) = halves(rest);
-        let end = self.terms.end(digits)?;
-        end.is_said = true;
-        self.named.append_octets(field, &mut end.said);
-        end.said.check()
+        let said = self.terms.end(digits)?.said.open();
+        self.named.append_octets(field, said);
+        said.check()
+    }
+
+    /// Calls on the wire, with commas between them.
+    fn expect_calls(&mut self, calls: &str) -> Result<(), Fault> {
+        let called = self.terms.called.open();
+        if !calls.is_empty() {
+            called.word(calls);
+            called.word(", ");
+        }
+        called.check()
     }
 
     /// A file, in one line: its name and its octets.
@@ -233,20 +243,15 @@ impl Runner {
                 (outcome.status, written),
             )?;
         }
-        self.compare_said(rt, outcome)
+        self.compare_wire(rt, outcome)
     }
 
-    /// Compares what was written through the ends of the wire, where that is said.
-    fn compare_said(&mut self, rt: &HostRuntime, outcome: &Outcome) -> Result<(), Fault> {
-        let case = self.case.as_str();
-        compare_end(rt, &mut self.tally, case, &self.terms.first, &outcome.first)?;
-        compare_end(
-            rt,
-            &mut self.tally,
-            case,
-            &self.terms.second,
-            &outcome.second,
-        )
+    /// Compares what was written through the ends of the wire, and the calls on it, where that is said.
+    fn compare_wire(&mut self, rt: &HostRuntime, outcome: &Outcome) -> Result<(), Fault> {
+        let (case, tally, terms) = (self.case.as_str(), &mut self.tally, &self.terms);
+        compare_due(rt, tally, case, &terms.first.said, &outcome.first)?;
+        compare_due(rt, tally, case, &terms.second.said, &outcome.second)?;
+        compare_due(rt, tally, case, &terms.called, &outcome.called)
     }
 
     /// The next run has the same words, and the rest as at first.
@@ -324,18 +329,22 @@ impl Runner {
     }
 }
 
-/// Compares what was written through an end of the wire, where that is said.
-fn compare_end(
+/// Compares what came with what is due, where that is said.
+fn compare_due(
     rt: &HostRuntime,
     tally: &mut Tally,
     case: &str,
-    end: &End,
+    due: &Due,
     came: &Octets,
 ) -> Result<(), Fault> {
-    let said = end.said.as_slice();
+    let said = due.octets.as_slice();
     let came = came.as_slice();
-    if end.is_said && tally.differs(said == came) {
-        println!(rt; "{case}: expected to be said {said:?}, came {came:?}")?;
+    if !due.is_said || !tally.differs(said == came) {
+        return Ok(());
+    }
+    match (str::from_utf8(said), str::from_utf8(came)) {
+        (Ok(said), Ok(came)) => println!(rt; "{case}: expected {said:?}, came {came:?}")?,
+        _ => println!(rt; "{case}: expected to be said {said:?}, came {came:?}")?,
     }
     Ok(())
 }

@@ -27,16 +27,23 @@ pub struct Most {
     pub moved: u64,
 }
 
-/// An end of the wire: what it gives, and what must be written through it, if that is said.
+/// What must come, if that is said.
 #[derive(Drop)]
-pub struct End {
-    pub given: Octets,
-    pub said: Octets,
+pub struct Due {
+    pub octets: Octets,
     pub is_said: bool,
 }
 
+/// An end of the wire: what it gives, and what must be written through it.
+#[derive(Drop)]
+pub struct End {
+    pub given: Octets,
+    pub said: Due,
+}
+
 /// What a run is given: the limit, the room of its output, the calls that fail, the most octets of a call, what the clock
-/// answers and the ends of the wire. And what it must write, and the status that is due where calls fail in turn.
+/// answers and the ends of the wire. And what it must write, the calls that it must make on the wire, and the status that is
+/// due where calls fail in turn.
 #[derive(Drop)]
 pub struct Terms {
     pub limit: u64,
@@ -47,6 +54,7 @@ pub struct Terms {
     pub moments: Vec<u64>,
     pub first: End,
     pub second: End,
+    pub called: Due,
     pub written: Octets,
 }
 
@@ -61,13 +69,28 @@ impl Failing {
     }
 }
 
+impl Due {
+    /// It isn't said.
+    fn new(alloc: Global) -> Due {
+        Due {
+            octets: Octets::new(alloc),
+            is_said: false,
+        }
+    }
+
+    /// More of it.
+    pub fn open(&mut self) -> &mut Octets {
+        self.is_said = true;
+        &mut self.octets
+    }
+}
+
 impl End {
     /// It gives nothing, and what is written through it isn't said.
     fn new(alloc: Global) -> End {
         End {
             given: Octets::new(alloc),
-            said: Octets::new(alloc),
-            is_said: false,
+            said: Due::new(alloc),
         }
     }
 }
@@ -89,6 +112,7 @@ impl Terms {
             moments: Vec::new(alloc),
             first: End::new(alloc),
             second: End::new(alloc),
+            called: Due::new(alloc),
             written: Octets::new(alloc),
         }
     }
