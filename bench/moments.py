@@ -2,15 +2,21 @@
 """Times `enforce` over a tape of version 2, along which packets and items take turns.
 
     bench/moments.py PROGRAM [--packets N] [--items N] [--rules N,N,..] [--runs N]
+    bench/moments.py PROGRAM --day [--beside PROGRAM] [--packets N] [--runs N]
 
 One peer announces a /24 and one rule for each of many destinations. Then packets come, each at its own moment, with
 items between them at even distances. Reported are packets per second in three cases: without items; with a unicast
 route elsewhere that comes and goes, which changes no mark, so that the rules stay; and with a rule that comes and goes,
 so that they are taken and compiled anew each time. Of the third the time of one change is reported, over several
 numbers of rules.
+
+With --day one tape holds 1,000 rules and 100,000 changes, as of a day: a rule drawn from all goes, or comes back, and at
+each hundredth its unicast route does. Told are the seconds and the peak of memory of `enforce` over it, of both programs
+in turn, and whether they write the same lines.
 """
 
 import argparse
+import hashlib
 import pathlib
 import struct
 import subprocess
@@ -93,6 +99,45 @@ def changes(packets, items, rules):
     return b"".join(parts)
 
 
+def day(packets, items, rules):
+    """A rule, or each hundredth time its route, of a drawn destination goes if it is there, and comes if it isn't."""
+    state, gone, bare, parts = 1, set(), set(), []
+    for turn, moment in enumerate(moments(packets, items)):
+        state = (state * 6364136223846793005 + 1442695040888963407) % 2**64
+        number = (state >> 32) % rules
+        away, comes, goes = (bare, route_comes, route_goes) if turn % 100 == 99 else (gone, rule_comes, rule_goes)
+        told = destination(number) if away is bare else number
+        parts.append(record(2, moment, comes(told) if number in away else goes(told)))
+        away ^= {number}
+    return b"".join(parts)
+
+
+def day_of(program, folder):
+    """The seconds and the peak of memory in kilobytes, by GNU time, and a sum of what was written."""
+    words = [str(folder / name) for name in ("config", "tape", "capture")]
+    with open(folder / "lines", "wb") as lines:
+        told = subprocess.run(["/usr/bin/time", "-f", "%e %M", program, "enforce", *words], stdout=lines, stderr=subprocess.PIPE)
+    if told.returncode != 0:
+        sys.exit(f"status {told.returncode}")
+    seconds, peak = told.stderr.split()[-2:]
+    return float(seconds), int(peak), hashlib.sha256((folder / "lines").read_bytes()).hexdigest()
+
+
+def one_day(programs, packets, runs, folder):
+    rules, items = 1000, 100000
+    capture(folder / "capture", packets, rules)
+    (folder / "tape").write_bytes(start(rules) + day(packets, items, rules))
+    told = {}
+    for _ in range(runs):
+        for program in programs:
+            told.setdefault(program, []).append(day_of(program, folder))
+    for program, times in told.items():
+        seconds, peak = min(seconds for seconds, _, _ in times), max(peak for _, peak, _ in times)
+        print(f"{program}: {rules} rules, {items} changes, {packets} packets: {seconds:.2f} s, {peak / 1000:.1f} MB")
+    if len({written for times in told.values() for _, _, written in times}) > 1:
+        sys.exit("the lines differ")
+
+
 def capture(path, packets, rules):
     with open(path, "wb") as out:
         out.write(struct.pack("<IHHIIII", 0xA1B2C3D4, 2, 4, 0, 0, 262144, 101))
@@ -127,10 +172,14 @@ def main():
     words.add_argument("--items", type=int, default=10000)
     words.add_argument("--rules", default="100,1000,10000,100000")
     words.add_argument("--runs", type=int, default=1)
+    words.add_argument("--day", action="store_true")
+    words.add_argument("--beside", action="append", default=[])
     asked = words.parse_args()
     with tempfile.TemporaryDirectory() as name:
         folder = pathlib.Path(name)
         (folder / "config").write_text(CONFIG)
+        if asked.day:
+            return one_day([asked.program, *asked.beside], asked.packets, asked.runs, folder)
         for rules in [int(word) for word in asked.rules.split(",")]:
             capture(folder / "capture", asked.packets, rules)
             front = start(rules)
