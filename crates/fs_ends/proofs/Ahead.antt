@@ -103,6 +103,13 @@ starts_own old new out out' starts = by old.started starts
     by true s = (ap before_all s.0, ap (λ (n : Announcing). n.line) s.0)
     by false s = (ap before_all s.0, ap (λ (n : Announcing). n.line) s.0)
 
+pub starts_sent : (old new : Announcing) (out out' : List ℕ) → StartsWith old.started old new out out' → new.appended ≡ old.appended
+starts_sent old new out out' starts = by old.started starts
+  where
+    by : (b : Bool) → StartsWith b old new out out' → new.appended ≡ old.appended
+    by true s = ap (λ (n : Announcing). n.appended) s.0
+    by false s = ap (λ (n : Announcing). n.appended) s.0
+
 -- none is left once an established end says nothing more
 pub says_all : (old new : Announcing) (started : Bool) (out out' : List ℕ) → old.line.closed ≡ None → is_established (state_in old.line) ≡ true → started ≡ true → SaysText (next_text old) false old new out out'
     → ahead_of new started ≡ 0

@@ -1,4 +1,5 @@
 pub mod Opening
 pub mod HoldTime
+pub mod Course
 pub mod Teller
 pub mod Tell

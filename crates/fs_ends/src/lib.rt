@@ -5,6 +5,6 @@ mod steps;
 mod tell;
 mod teller;
 
-pub use steps::{closes, is_established, say, start, sum};
+pub use steps::{closes, is_established, is_settled, say, start, sum};
 pub use tell::{Ending, announce_over};
 pub use teller::Teller;

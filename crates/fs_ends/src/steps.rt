@@ -2,7 +2,7 @@
 
 ghost use Rattle.std.specs.Prelude.{◌≡◌, ◌≢◌, ◌≤◌, ◌+◌, Bool, None, IfOk, OnOk};
 ghost use Rattle.fs_speaker.specs.Announcer.{SaysText, StartsWith, is_established, next_text};
-ghost use Rattle.fs_ends.specs.Teller.{ahead_of};
+ghost use Rattle.fs_ends.specs.Teller.{ahead_of, is_settled};
 
 use fs_base::Memory;
 use fs_speaker::{Announcer, Closed, State};
@@ -62,6 +62,13 @@ pub fn is_established(state: State) -> bool
         State::Established => true,
         State::WaitOpen | State::WaitKeep | State::Closed => false,
     }
+}
+
+/// Whether the end is established, or has closed.
+pub fn is_settled(announcer: &Announcer<'_>) -> bool
+    ensures { result ≡ is_settled announcer.now.line }
+{
+    announcer.closed().is_some() || is_established(announcer.state())
 }
 
 /// The count of octets, with so many more.

@@ -1,18 +1,18 @@
 //! An announcing end over a wire.
 
-ghost use Rattle.std.specs.Prelude.{◌≡◌, ◌≤◌, false, true, IfOk, Some};
-ghost use Rattle.std.specs.Option.{is_some};
+ghost use Rattle.std.specs.Prelude.{◌≡◌, ◌≤◌, false, IfOk};
 ghost use Rattle.std.specs.Result.{IsErrOf};
 ghost use Rattle.fs_base.specs.Outside.{Rose};
 ghost use Rattle.fs_base.specs.declared.config.Config.{Config};
 ghost use Rattle.fs_base.specs.declared.config.Peer.{Peer};
 ghost use Rattle.fs_speaker.specs.declared.Sending.{Sending};
 ghost use Rattle.fs_ends.specs.Tell.{TellsOver, begins_with};
+ghost use Rattle.fs_ends.specs.Teller.{is_settled};
 
 use crate::teller::Teller;
 use fs_base::{Clock, Wire};
 use fs_speaker::Closed;
-use fs_talk::{Heard, Room, TalkFault, hear_out, say_all};
+use fs_talk::{Heard, Room, Speaker, TalkFault, hear_out, say_all};
 
 /// How a session over a wire ended.
 #[derive(Clone, Copy, Debug, PartialEq, Eq, Drop)]
@@ -42,6 +42,7 @@ pub fn announce_over<W: Wire, C: Clock>(
 ) -> Result<Ending, TalkFault>
     requires some { 1 ≤ limit }
     requires fresh { teller.old.count ≡ 0 }
+    requires open { is_settled teller.old.announcer.line ≡ false }
     ensures later { W.faults wire.old ≤ W.faults wire.new }
     ensures failed { IsErrOf result TalkFault.Failed → Rose (W.faults wire.old) (W.faults wire.new) }
     ensures tells { IfOk result (λ ending. (config : Config) (peer : Peer) (sending : Sending)
@@ -51,21 +52,17 @@ pub fn announce_over<W: Wire, C: Clock>(
 {
     say_all(wire, 1, teller, room)?;
     match hear_out(wire, clock, 1, teller, limit, room)? {
-        Heard::Ready => {
+        Heard::Over => {
+            if let Some(why) = teller.closed() {
+                return Ok(Ending::Closed(why));
+            }
+            if limit <= teller.count() {
+                return Ok(Ending::AtLimit);
+            }
             say_all(wire, 1, teller, room)?;
             Ok(Ending::Done)
         }
-        Heard::Over => Ok(closing_of(teller)),
         Heard::AtLimit => Ok(Ending::AtLimit),
         Heard::All => Ok(Ending::Ended),
-    }
-}
-
-fn closing_of(teller: &Teller<'_>) -> Ending
-    ensures { (why : Closed) → teller.now.announcer.line.closed ≡ Some why → result ≡ Ending.Closed why }
-{
-    match teller.closed() {
-        Some(why) => Ending::Closed(why),
-        None => Ending::Ended,
     }
 }

@@ -1,11 +1,12 @@
 //! The announcing end, up to the message that establishes its session.
 
-ghost use Rattle.std.specs.Prelude.{◌≡◌, ◌≤◌, ◌<◌, ◌++◌, [], ℕ, List, true, false, length, drop, IfOk, IfSome, OnOk};
-ghost use Rattle.fs_speaker.specs.Announcer.{is_established};
+ghost use Rattle.std.specs.Prelude.{◌≡◌, ◌≤◌, ◌<◌, true, false, length, drop, IfOk, IfSome, OnOk};
+ghost use Rattle.fs_speaker.specs.Announcer.{is_established, machine_in};
+ghost use Rattle.fs_speaker.specs.End.{TicksOver};
 ghost use Rattle.fs_speaker.specs.Line.{state_in};
-ghost use Rattle.fs_ends.specs.Teller.{ahead_of, KeepsOwn, MessageTaken, Takes, Wakes};
+ghost use Rattle.fs_ends.specs.Teller.{ahead_of, KeepsOwn, SaysTo, Takes, Wakes};
 
-use crate::steps::{closes, is_established, say, start, sum};
+use crate::steps::{closes, is_established, is_settled, say, start, sum};
 use fs_base::{Config, Memory};
 use fs_speaker::{Announcer, Closed, Sending};
 use fs_talk::Speaker;
@@ -21,18 +22,20 @@ pub struct Teller<'a> {
 }
 
 impl<'a> Teller<'a> {
-    ghost use Rattle.std.specs.Prelude.{◌∷◌};
     ghost use Rattle.fs_speaker.specs.Announcer.{announcing, CanSend};
     ghost use Rattle.fs_speaker.specs.Line.{fresh};
     ghost use Rattle.fs_speaker.specs.Sending.{sender_of};
-    ghost use Rattle.fs_ends.specs.Teller.{HasHeard, SaysMore, ahead_of, before_all};
+    ghost use Rattle.fs_ends.specs.Teller.{HasHeard, ahead_of, before_all, is_settled};
+    ghost use Rattle.fs_talk.specs.Round.{Says};
 
     /// The end of the peer with the lowest number, before its OPEN.
     pub fn new(alloc: Global, config: &'a Config, sending: Sending) -> Result<Teller<'a>, Memory>
         requires { CanSend config.now (sender_of config.now.peers) sending }
-        ensures { IfOk result (λ made. IfSome (sender_of config.now.peers) (λ peer.
+        ensures open { IfOk result (λ made. is_settled made.announcer.line ≡ false) }
+        ensures fresh { IfOk result (λ made. made.count ≡ 0) }
+        ensures made { IfOk result (λ made. IfSome (sender_of config.now.peers) (λ peer.
             (made.announcer ≡ announcing config.now peer sending fresh false 0)
-            × ((made.started ≡ false) × (made.count ≡ 0)))) }
+            × (made.started ≡ false))) }
     {
         Ok(Teller {
             announcer: Announcer::new(alloc, config, sending)?,
@@ -54,12 +57,13 @@ impl<'a> Teller<'a> {
         ensures same { OnOk result (self.new.announcer.line ≡ self.old.announcer.line) }
         ensures own { OnOk result (before_all self.new.announcer ≡ before_all self.old.announcer) }
         ensures count { self.new.count ≡ self.old.count }
+        ensures sent { OnOk result (self.new.announcer.appended ≡ self.old.announcer.appended) }
         ensures ahead { ahead_of self.new.announcer self.new.started ≤ ahead_of self.old.announcer self.old.started }
         ensures fewer { OnOk result (self.old.started ≡ false
             → ahead_of self.new.announcer self.new.started < ahead_of self.old.announcer self.old.started) }
-        ensures begins { OnOk result ((moments octets : List ℕ) → SaysMore
-            (HasHeard self.old.announcer self.old.started self.old.count moments octets)
-            (HasHeard self.new.announcer self.new.started self.new.count moments octets)
+        ensures begins { OnOk result (Says
+            (HasHeard self.old.announcer self.old.started self.old.count)
+            (HasHeard self.new.announcer self.new.started self.new.count)
             out.old.items out.new.items) }
     {
         if self.started {
@@ -74,7 +78,10 @@ impl<'a> Teller<'a> {
 /// The clock, at a moment.
 fn wake(announcer: &mut Announcer<'_>, moment: u64, out: &mut Vec<u8>) -> Result<(), Memory>
     requires { is_established (state_in announcer.old.line) ≡ false }
-    ensures wakes { OnOk result (Wakes moment announcer.old announcer.new out.old.items out.new.items) }
+    ensures wakes { OnOk result (Wakes (machine_in announcer.old) moment announcer.old.line announcer.new.line) }
+    ensures ticks { OnOk result (TicksOver
+        (machine_in announcer.old) moment announcer.old.line announcer.new.line out.old.items out.new.items) }
+    ensures early { is_established (state_in announcer.new.line) ≡ false }
     ensures same { KeepsOwn announcer.old announcer.new }
 {
     match announcer.tick(moment, out) {
@@ -83,64 +90,48 @@ fn wake(announcer: &mut Announcer<'_>, moment: u64, out: &mut Vec<u8>) -> Result
     }
 }
 
-/// Takes the piece up to the end of one message, and answers how many octets that were; None where none are left, or
-/// the end is established or has closed.
-fn take_message(
-    announcer: &mut Announcer<'_>,
-    piece: &[u8],
-    out: &mut Vec<u8>,
-) -> Result<Option<usize>, Memory>
-    ensures some { IfOk result (λ taken. IfSome taken (λ count. (count ≤ length piece.now) × (0 < count))) }
-    ensures taken { IfOk result (MessageTaken announcer.old announcer.new piece.now out.old.items out.new.items) }
-    ensures same { KeepsOwn announcer.old announcer.new }
-{
-    if piece.is_empty() {
-        return Ok(None);
-    }
-    if is_established(announcer.state()) {
-        return Ok(None);
-    }
-    match announcer.feed(piece, out) {
-        Ok(count) => Ok(Some(count)),
-        Err(why) => {
-            closes(why)?;
-            Ok(None)
-        }
-    }
-}
-
-/// Takes the piece message by message, up to and with the one that establishes the session. Answers how many octets
-/// that were, all of them where none does.
+/// Takes the piece message by message, up to and with the one that establishes the session, or up to what closes it.
+/// Answers how many octets that were, all of them where none establishes it.
 fn take_until(
     announcer: &mut Announcer<'_>,
+    moment: u64,
     piece: &[u8],
     out: &mut Vec<u8>,
 ) -> Result<usize, Memory>
+    requires { is_established (state_in announcer.old.line) ≡ false }
     ensures bound { IfOk result (λ count. count ≤ length piece.now) }
-    ensures taken { IfOk result (λ count.
-        Takes announcer.old announcer.new piece.now (drop count piece.now) out.old.items out.new.items) }
+    ensures says { OnOk result (SaysTo
+        (machine_in announcer.old) moment announcer.old.line announcer.new.line piece.now out.old.items out.new.items) }
+    ensures taken { IfOk result (λ count. Takes
+        (machine_in announcer.old) moment announcer.old.line announcer.new.line piece.now (drop count piece.now)) }
     ensures all { IfOk result (λ count.
         is_established (state_in announcer.new.line) ≡ false → count ≡ length piece.now) }
     ensures same { KeepsOwn announcer.old announcer.new }
 {
     let mut rest = piece;
-    'messages: while let Some(count) = take_message(announcer, rest, out)? {
-        rest = &rest[count..];
+    'messages: loop {
+        match announcer.feed_at(moment, rest, out) {
+            Ok(count) => rest = &rest[count..],
+            Err(why) => {
+                closes(why)?;
+                return Ok(piece.len());
+            }
+        }
+        if is_established(announcer.state()) {
+            return Ok(piece.len() - rest.len());
+        }
+        if rest.is_empty() {
+            return Ok(piece.len());
+        }
     }
-    if is_established(announcer.state()) {
-        return Ok(piece.len() - rest.len());
-    }
-    Ok(piece.len())
 }
 
 impl<'a> Speaker for Teller<'a> {
-    ghost use Rattle.std.specs.Option.{is_some};
-    ghost use Rattle.fs_talk.specs.Round.{moments_in, octets_in};
-    ghost use Rattle.fs_ends.specs.Teller.{HasHeard, ahead_of, before_all};
+    ghost use Rattle.fs_ends.specs.Teller.{HasHeard, ahead_of, before_all, is_settled};
 
-    ghost stands = { λ t heard said. HasHeard t.announcer t.started t.count (moments_in heard) (octets_in heard) said };
+    ghost stands = { λ t heard said. HasHeard t.announcer t.started t.count heard said };
 
-    ghost over = { λ t. is_some t.announcer.line.closed };
+    ghost over = { λ t. is_settled t.announcer.line };
 
     ghost ready = { λ t. is_established (state_in t.announcer.line) };
 
@@ -150,15 +141,14 @@ impl<'a> Speaker for Teller<'a> {
 
     ghost begun = { λ t. t.started };
 
+    ghost sent = { λ t. t.announcer.appended };
+
     ghost own = { λ t. record { announcer = before_all t.announcer; started = false; count = 0 } };
 
     fn hear(&mut self, moment: u64, piece: &[u8], out: &mut Vec<u8>) -> Result<(), Memory> {
-        if self.is_ready() {
-            return Ok(());
-        }
         self.begin(out)?;
         wake(&mut self.announcer, moment, out)?;
-        let count = take_until(&mut self.announcer, piece, out)?;
+        let count = take_until(&mut self.announcer, moment, piece, out)?;
         self.count = sum(self.count, count)?;
         Ok(())
     }
@@ -175,7 +165,7 @@ impl<'a> Speaker for Teller<'a> {
     }
 
     fn is_over(&self) -> bool {
-        self.announcer.closed().is_some()
+        is_settled(&self.announcer)
     }
 
     fn is_ready(&self) -> bool {

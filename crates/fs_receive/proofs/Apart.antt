@@ -20,7 +20,7 @@ use Rattle.fs_talk.specs.Joined.{Heard, moments_of, of_first, of_second}
 use Rattle.fs_talk.specs.Round.{Pieces, moments_in, octets_in}
 use Rattle.fs_receive.specs.Hearer.{ClosesIn, ExpiresAt, HasClosed}
 use Rattle.fs_receive.specs.Pair.{LieApart, Reaches, RunsLate, told_by}
-use Rattle.fs_receive.specs.Course.{course}
+use Rattle.fs_ends.specs.Course.{course}
 use Rattle.fs_receive.proofs.Expiring.{Expired, bounded_late, closed_late}
 use Rattle.fs_receive.proofs.Lasting.{expires_late}
 use Rattle.fs_receive.proofs.Staying.{stands}
@@ -134,7 +134,7 @@ late_first config peer whose events replied c = by c.closes
   where
     by : ExpiresAt config whose c.earlier c.moment replied (Fault 4 0) ⊎ ClosesIn config peer whose c.earlier c.moment c.piece replied (Fault 4 0)
         → RunsLate (receiver config whose) (of_first events) (moments_of events)
-    by (inl x) = runs_late (receiver config whose) (of_first events) c.earlier c.later (c.moment, c.piece) c.split c.lived x.due (moments_of events) (λ least a. apart_first least events a)
+    by (inl x) = runs_late (receiver config whose) (of_first events) c.earlier [] (c.moment, c.piece) c.split c.lived x.due (moments_of events) (λ least a. apart_first least events a)
     by (inr y) = absurd (bounded_late config whose ((octets_in c.earlier ++ c.piece) ++ []) (ap (λ (z : List Update × Last). z.1) (y.over.stays [])))
 
 pub late_second : (config : Config) (sending : Sending) (events : List Heard) → (told_by config sending (of_second events)).point.closed ≡ Some (Fault 4 0)

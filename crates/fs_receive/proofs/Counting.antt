@@ -1,6 +1,5 @@
 -- How many of the octets that an announcing end heard count: those up to and with the message that establishes it.
 use Rattle.std.proofs.Common.{◌≡◌, ℕ, ◌+◌, ◌-◌, ◌≤◌, List, [], ◌++◌, length, drop, Bool, true, false, if◌then◌else◌, Option, Some, None, Result, Ok, Err, refl, ap, sym, ◌∙◌, subst, arith, append_assoc, append-nil, length-append, length-drop}
-use Rattle.std.specs.Option.{is_some}
 use Rattle.std.proofs.lemmas.List.{drop_all}
 use Rattle.std.proofs.lemmas.Option.{none-some}
 use Rattle.fs_ends.specs.Opening.{opened_by}
@@ -14,7 +13,8 @@ use Rattle.fs_speaker.specs.Session.{Last, at_start, still}
 use Rattle.fs_speaker.specs.Transition.{Machine}
 use Rattle.fs_speaker.specs.declared.Closed.{Closed}
 use Rattle.fs_session.specs.declared.transition.Phase.{Phase}
-use Rattle.fs_receive.specs.Sender.{CountsBy, CountsOn, CountsTo, CountsUp, KeepsHand, KeepsSettled, is_settled}
+use Rattle.fs_receive.specs.Sender.{CountsBy, CountsOn, CountsTo, CountsUp, KeepsHand, KeepsSettled}
+use Rattle.fs_ends.specs.Teller.{is_settled}
 use Rattle.fs_receive.proofs.Settling.{alive_before, open_settled}
 
 abbrev Opened : Type 0
@@ -33,12 +33,6 @@ counts_start machine line piece e = (
 pub counts_shut : (machine : Machine) (old line : Lined) (piece rest : List ℕ) (count : ℕ) (result : Result ℕ Closed) (why : Closed) → result ≡ Err why
     → line.closed ≡ closed_after result → CountsOn machine old line piece rest count
 counts_shut machine old line piece rest count result why is shut e = absurd (none-some why (sym e ∙ shut ∙ ap closed_after is))
-
-pub counts_over : (machine : Machine) (line : Lined) (octets : List ℕ) (count : ℕ) → is_some line.closed ≡ true → CountsTo machine line count octets
-counts_over machine line octets count over e = absurd (never (sym (ap (λ (c : Option Closed). is_some c) e) ∙ over))
-  where
-    never : false ≡ true → ⊥
-    never h = cc
 
 -- Of a piece one step more.
 module _ (machine : Machine) (old line new : Lined) (moment : ℕ) (piece rest : List ℕ) (needed needed' count : ℕ) where

@@ -34,9 +34,9 @@ use Rattle.fs_desk.specs.Limit.{bounded_from, first_over, too_many}
 use Rattle.fs_ends.specs.Opening.{opened_by, opens, front_message}
 use Rattle.fs_speaker.specs.End.{ticks}
 use Rattle.fs_talk.specs.Round.{Pieces}
-use Rattle.fs_receive.specs.Course.{hears, course}
+use Rattle.fs_ends.specs.Course.{hears, course}
 use Rattle.fs_speaker.proofs.Lasting.{last_update}
-use Rattle.fs_receive.proofs.Courses.{Steps, by_pieces, steps, course_more}
+use Rattle.fs_ends.proofs.Courses.{Steps, by_pieces, steps, course_more}
 
 abbrev Made : Type 0
 Made = Result (Phase × Option Update) Closed

@@ -21,7 +21,7 @@ use Rattle.fs_session.specs.declared.transition.Phase.{Phase}
 use Rattle.fs_speaker.proofs.Handing.{ran, runs_none, runs_step}
 use Rattle.fs_speaker.proofs.SessionSteps.{going, plays_none, plays_step}
 use Rattle.fs_speaker.proofs.Lasting.{last_update}
-use Rattle.fs_receive.proofs.Answering.{awaits_open}
+use Rattle.fs_ends.proofs.Quieting.{awaits_open}
 
 abbrev Made : Type 0
 Made = Result (Phase × Option Update) Closed

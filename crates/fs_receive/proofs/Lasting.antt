@@ -22,7 +22,7 @@ use Rattle.fs_session.specs.declared.times.Times.{Times}
 use Rattle.fs_session.specs.declared.transition.Phase.{Phase}
 use Rattle.fs_speaker.proofs.Handing.{ran, runs_none, runs_step}
 use Rattle.fs_talk.specs.Round.{Pieces, moments_in}
-use Rattle.fs_receive.specs.Course.{after, hears, course, course_from}
+use Rattle.fs_ends.specs.Course.{after, hears, course, course_from}
 
 abbrev Made : Type 0
 Made = Result (Phase × Option Update) Closed

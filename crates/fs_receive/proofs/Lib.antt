@@ -1,4 +1,3 @@
-mod Courses
 mod Receiving
 mod Listened
 mod Answering

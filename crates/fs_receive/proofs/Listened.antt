@@ -19,7 +19,7 @@ use Rattle.fs_ends.specs.declared.tell.Ending.TheVariants.{Done, Ended as EndedE
 use Rattle.fs_talk.specs.Listening.{EndsSo as StopsSo, HeardOut, HearsOut}
 use Rattle.fs_talk.specs.Round.{Pieces, Stance, octets_in}
 use Rattle.fs_talk.specs.declared.listening.Heard.{Heard}
-use Rattle.fs_talk.specs.declared.listening.Heard.TheVariants.{All, Over, Ready, AtLimit as MetIt}
+use Rattle.fs_talk.specs.declared.listening.Heard.TheVariants.{All, Over, AtLimit as MetIt}
 use Rattle.fs_talk.proofs.Telling.{told_as}
 use Rattle.fs_receive.specs.Hearer.{HasClosed, IsHearing, Receives, bare, is_ended, tape_of}
 use Rattle.fs_receive.specs.Listen.{EndsSo, IsReceiving, Listens, ListensOver, ListensSo, MeetsLimit, is_settled, EndsHearing}
@@ -80,16 +80,16 @@ module _ (first last : Desked) (peer peer' first_count count limit : ℕ) (same 
   config_is : last.config ≡ first.config
   config_is = ap (λ (d : Desked). d.config) own
 
-  listens_so : (ending : Ending) (heard : Heard) (over ready : Bool) (hears : HearsOut heard s0 s1 over ready count 0 limit t0 t1 answers answers')
-      → ((pieces : Pieces) (said left : List ℕ) (r : Receives last peer count pieces said) → StopsSo heard over ready count limit left → ListensSo ending last peer r.whose limit pieces said left)
+  listens_so : (ending : Ending) (heard : Heard) (over : Bool) (hears : HearsOut heard s0 s1 over count 0 limit t0 t1 answers answers')
+      → ((pieces : Pieces) (said left : List ℕ) (r : Receives last peer count pieces said) → StopsSo heard over count limit left → ListensSo ending last peer r.whose limit pieces said left)
       → ListensOver ending first.config last peer limit t0 t1 answers answers'
-  listens_so ending heard over ready hears ends = record {
+  listens_so ending heard over hears ends = record {
     given = hears.given;
     grew = hears.grew;
-    told = told_as (HeardOut heard s0 s1 over ready count 0 limit hears.given) (Listens ending first.config last peer limit hears.given) one t0 t1 hears.told;
+    told = told_as (HeardOut heard s0 s1 over count 0 limit hears.given) (Listens ending first.config last peer limit hears.given) one t0 t1 hears.told;
   }
     where
-      one : (a b : WireEnds) → HeardOut heard s0 s1 over ready count 0 limit hears.given a b → Listens ending first.config last peer limit hears.given a b
+      one : (a b : WireEnds) → HeardOut heard s0 s1 over count 0 limit hears.given a b → Listens ending first.config last peer limit hears.given a b
       one a b l =
           let r : Receives last peer count l.listened.heard l.listened.said =
           subst (λ (n : ℕ). Receives last n count l.listened.heard l.listened.said) same (l.listened.part.stands [] [] start) in
@@ -105,20 +105,17 @@ module _ (first last : Desked) (peer peer' first_count count limit : ℕ) (same 
             ends = ends l.listened.heard l.listened.said b.first.left r l.ends;
           }
 
-  pub listens_as : (heard : Heard) (ending : Ending) (over : Bool) → HearsOut heard s0 s1 over false count 0 limit t0 t1 answers answers' → over ≡ is_ended (standing_at_desk last peer)
+  pub listens_as : (heard : Heard) (ending : Ending) (over : Bool) → HearsOut heard s0 s1 over count 0 limit t0 t1 answers answers' → over ≡ is_ended (standing_at_desk last peer)
       → EndsHearing heard (standing_at_desk last peer) ending → ListensOver ending first.config last peer limit t0 t1 answers answers'
-  listens_as heard ending over hears o is = listens_so ending heard over false hears (λ pieces said left r stops. by heard is pieces said left r stops)
+  listens_as heard ending over hears o is = listens_so ending heard over hears (λ pieces said left r stops. by heard is pieces said left r stops)
     where
-      all : (pieces : Pieces) (said left : List ℕ) (r : Receives last peer count pieces said) → StopsSo All over false count limit left → (b : Bool) → is_settled (standing_at_desk last peer) ≡ b
+      all : (pieces : Pieces) (said left : List ℕ) (r : Receives last peer count pieces said) → StopsSo All over count limit left → (b : Bool) → is_settled (standing_at_desk last peer) ≡ b
           → ListensSo (if b then Done else EndedEarly) last peer r.whose limit pieces said left
-      all pieces said left r e true s = ends_so last peer count limit pieces said left r true s (sym o ∙ e.0) e.1.0 e.1.1.1
-      all pieces said left r e false s = ends_so last peer count limit pieces said left r false s (sym o ∙ e.0) e.1.0 e.1.1.1
-
-      never : false ≡ true → ⊥
-      never e = cc
+      all pieces said left r e true s = ends_so last peer count limit pieces said left r true s (sym o ∙ e.0) e.1.0 e.1.1
+      all pieces said left r e false s = ends_so last peer count limit pieces said left r false s (sym o ∙ e.0) e.1.0 e.1.1
 
       by : (heard : Heard) → EndsHearing heard (standing_at_desk last peer) ending → (pieces : Pieces) (said left : List ℕ) (r : Receives last peer count pieces said)
-          → StopsSo heard over false count limit left → ListensSo ending last peer r.whose limit pieces said left
+          → StopsSo heard over count limit left → ListensSo ending last peer r.whose limit pieces said left
       by Over is pieces said left r e =
           let found = ended_there (standing_at_desk last peer) (sym o ∙ e) in
           subst (λ (x : Ending). ListensSo x last peer r.whose limit pieces said left) (sym (is found.0 found.1)) (closes_so last peer count limit pieces said left r found.0 found.1)
@@ -126,4 +123,3 @@ module _ (first last : Desked) (peer peer' first_count count limit : ℕ) (same 
           subst (λ (x : Ending). ListensSo x last peer r.whose limit pieces said left) (sym is) (meets_so last peer count limit pieces said left r (sym o ∙ e.0) e.1)
       by All is pieces said left r e =
           subst (λ (x : Ending). ListensSo x last peer r.whose limit pieces said left) (sym is) (all pieces said left r e (is_settled (standing_at_desk last peer)) refl)
-      by Ready is pieces said left r e = absurd (never e.1.1)

@@ -1,5 +1,5 @@
 -- What two ends that are joined know of each other.
-use Rattle.std.proofs.Common.{◌≡◌, ◌⊎◌, inl, inr, ℕ, ◌+◌, ◌≤◌, List, [], ◌∷◌, ◌++◌, length, map, min, Bool, true, Option, Some, None, Result, Ok, Err, refl, ap, sym, ◌∙◌, subst, append_assoc, arith}
+use Rattle.std.proofs.Common.{◌≡◌, ◌⊎◌, inl, inr, ℕ, List, [], ◌∷◌, ◌++◌, length, map, min, Bool, true, Option, Some, None, Result, Ok, Err, refl, ap, sym, ◌∙◌, subst, append_assoc, arith}
 use Rattle.std.specs.List.{AllByRecursion}
 use Rattle.std.proofs.lemmas.Option.{none-some}
 use Rattle.fs_base.specs.declared.config.Config.{Config}
@@ -27,7 +27,7 @@ use Rattle.fs_speaker.specs.declared.State.TheVariants.{WaitOpen, WaitKeep, Esta
 use Rattle.fs_session.specs.declared.transition.Phase.{Phase}
 use Rattle.fs_speaker.proofs.Arriving.{at_most, body_long, one_message, open_fits, update_fits}
 use Rattle.fs_speaker.proofs.SessionSteps.{machine_waits}
-use Rattle.fs_ends.specs.Teller.{keepalives}
+use Rattle.fs_ends.proofs.Courses.{keepalives}
 use Rattle.fs_talk.specs.Round.{Pieces}
 use Rattle.fs_receive.specs.Hearer.{course_of}
 use Rattle.fs_speaker.specs.JointLaws.{CanArrive}

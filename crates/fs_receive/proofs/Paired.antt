@@ -24,7 +24,8 @@ use Rattle.fs_session.specs.declared.transition.Phase.{Phase}
 use Rattle.fs_message.specs.Stream.{first_message}
 use Rattle.fs_desk.specs.Desk.{Desked, standing_at_desk}
 use Rattle.fs_desk.specs.Limit.{bounded, bounded_from, bounded_session, first_over, too_many}
-use Rattle.fs_ends.specs.Teller.{ahead_of, before_all, keepalives, opening_of}
+use Rattle.fs_ends.specs.Teller.{ahead_of, before_all, is_settled, opening_of}
+use Rattle.fs_ends.proofs.Courses.{keepalives}
 use Rattle.fs_ends.specs.Tell.{EndsBefore, MetLimit, begins_with}
 use Rattle.fs_ends.specs.declared.tell.Ending.{Ending}
 use Rattle.fs_ends.specs.declared.tell.Ending.TheVariants.{Done, Closed as WasClosed, Ended as EndedEarly, AtLimit}
@@ -37,8 +38,8 @@ use Rattle.fs_receive.specs.Hearer.{HasClosed, Receives, bare, is_ended, course_
 use Rattle.fs_receive.specs.Listen.{IsReceiving}
 use Rattle.fs_speaker.specs.JointLaws.{CanArrive}
 use Rattle.fs_receive.specs.Pair.{Arrives, ComesUp, EndsEarly, IsUnhindered, Pairs, PairsOver, PairsSo, RunsLate, SaysFront, told_by, EndsTalk}
-use Rattle.fs_receive.specs.Sender.{Began, Speaks, SpeaksUpTo, TookOpen, is_settled, rules_in, text_in, woven}
-use Rattle.fs_receive.specs.Course.{course}
+use Rattle.fs_receive.specs.Sender.{Began, Speaks, SpeaksUpTo, TookOpen, rules_in, text_in, without_rules, woven}
+use Rattle.fs_ends.specs.Course.{course}
 use Rattle.fs_speaker.specs.End.{IsAt}
 use Rattle.fs_receive.proofs.Apart.{late_first, late_second}
 use Rattle.fs_receive.proofs.Counting.{Opens, opens_so}
@@ -52,7 +53,8 @@ use Rattle.fs_receive.proofs.Timely.{timely_first, timely_second}
 use Rattle.fs_receive.proofs.Unhindered.{Fronts, never_first, unread}
 use Rattle.fs_ends.proofs.Ahead.{not_some}
 use Rattle.std.proofs.lemmas.List.{take_all}
-use Rattle.fs_receive.proofs.Settling.{open_settled, unawaited}
+use Rattle.fs_receive.proofs.Settling.{open_settled}
+use Rattle.fs_ends.proofs.Quieting.{unawaited}
 
 -- before its first octet
 speaks_none : (config : Config) (whose : Peer) (sending : Sending) → Speaks (begins_with config whose sending) false [] []
@@ -64,10 +66,16 @@ speaks_none config whose sending = record {
   rules_are = refl;
   ending = [];
   said_is = refl;
+  kept = refl;
+  lived = λ earlier last e. absurd (nothing earlier last e);
   unended = λ e. refl;
   began = λ e. (refl, (refl, (refl, refl)));
   unstarted = λ e. (refl, refl);
 }
+  where
+    nothing : (earlier : Pieces) (last : ℕ × List ℕ) → [] ≡ earlier ++ last ∷ [] → ⊥
+    nothing [] last e = cc
+    nothing (event ∷ earlier) last e = cc
 
 pub speaks_start : (end : Announcing) (started : Bool) (count : ℕ) (config : Config) (whose : Peer) (sending : Sending) → end ≡ begins_with config whose sending → started ≡ false → count ≡ 0
     → SpeaksUpTo end started count [] []
@@ -163,7 +171,7 @@ module _ (first last : Desked) (peer peer' first_count count limit : ℕ) (same 
   open_is : b.started ≡ true → opening_of b ≡ open_sent config whose sending
   open_is go = opening_is ∙ ap (λ (g : Bool). if g then open_sent config whose sending else []) go
 
-  front_of : (heard : Pieces) (announced : List ℕ) → Speaks b started heard announced → SaysFront config whose sending announced
+  front_of : (heard : Pieces) (announced : List ℕ) → Speaks b started heard announced → SaysFront config whose sending heard announced
   front_of heard announced s = record {
     started = b.started;
     four = s.four;
@@ -173,6 +181,7 @@ module _ (first last : Desked) (peer peer' first_count count limit : ℕ) (same 
     ending = s.ending;
     said_is = s.said_is ∙ ap (λ (z : List ℕ). opening_of b ++ (z ++ s.ending)) (text_of s.four s.parts)
         ∙ ap (λ (z : List ℕ). z ++ (woven (text_sent config whose s.four sending) s.parts ++ s.ending)) opening_is;
+    kept = s.kept ∙ ap (λ (m : Machine). (course m heard).text) machine_is;
   }
 
   -- both ends as they are where no more is heard
@@ -238,6 +247,8 @@ module _ (first last : Desked) (peer peer' first_count count limit : ℕ) (same 
             wrote_second = e.other.wrote;
             asked = o.asked;
             front = front_of (of_second o.events) e.announced (e.other.stands [] [] begins).0;
+            lived = λ earlier last split.
+                subst (λ (m : Machine). (course m earlier).point.closed ≡ None) machine_is ((e.other.stands [] [] begins).0.lived earlier last split);
             late = λ h. late_so o.events e.announced e.replied now x.given o.asked
                 (subst (λ (n : Ending). PairsSo n config whose sending last peer limit o.events e.announced e.replied now) h made.0);
             arrives = λ u. made.1 (subst (λ (ms : List ℕ). IsUnhindered config whose sending limit ms e.announced e.replied) (sym o.asked) u);
@@ -508,6 +519,9 @@ module _ (first last : Desked) (peer peer' first_count count limit : ℕ) (same 
           parts = past.0.0;
           rules_are = rules_so;
           said_is = said_so;
+          kept =
+              sym (ap without_rules past.0.1) ∙ sym (append-nil (without_rules s.parts)) ∙ ap (λ (z : List ℕ). without_rules s.parts ++ z) (sym (s.unended open_b)) ∙ s.kept
+              ∙ ap (λ (m : Machine). (course m (of_second events)).text) machine_is;
           four_is = four_so;
           updates = updates_so;
         }

@@ -29,8 +29,8 @@ use Rattle.fs_desk.specs.Life.{life}
 use Rattle.fs_desk.specs.Receive.{IsFed, IsUp, point_of}
 use Rattle.fs_talk.specs.Round.{Hears, Pieces, octets_in}
 use Rattle.fs_receive.specs.Hearer.{HasClosed, IsHearing, Receives, StandsBy, is_ended, tape_of, course_of}
-use Rattle.fs_receive.specs.Course.{after, hears}
-use Rattle.fs_receive.proofs.Courses.{course_more}
+use Rattle.fs_ends.specs.Course.{after, hears}
+use Rattle.fs_ends.proofs.Courses.{course_more}
 
 own : (n : ℕ) → (n == n) ≡ true
 own n = grind (arith, nat_tests)
@@ -132,39 +132,8 @@ ended_there Down e = absurd cc
 ended_there (LiveIn state) e = absurd cc
 ended_there (Ended why) e = (why, refl)
 
--- nothing behind a closing counts
-closed_later : (config : Config) (peer : ℕ) (whose : Peer) (heard : Pieces) (said : List ℕ) (why : Closed) (event : ℕ × List ℕ)
-    → HasClosed config peer whose heard said why → HasClosed config peer whose (heard ++ event ∷ []) said why
-closed_later config peer whose heard said why event h = record {
-  earlier = h.earlier;
-  moment = h.moment;
-  piece = h.piece;
-  later = h.later ++ event ∷ [];
-  split = ap (λ (z : Pieces). z ++ event ∷ []) h.split ∙ append_assoc h.earlier ((h.moment, h.piece) ∷ h.later) (event ∷ []);
-  lived = h.lived;
-  closes = h.closes;
-}
-
 abbrev stance : Desked → ℕ → ℕ → Pieces → List ℕ → Type 0
 stance desk peer count heard said = Receives desk peer count heard said
-
--- an ended session hears nothing
-pub hears_ended : (desk : Desked) (peer count count' moment : ℕ) (piece out : List ℕ) → is_ended (standing_at_desk desk peer) ≡ true → count' ≡ count + length piece
-    → Hears (stance desk peer count) (stance desk peer count') moment piece out out
-hears_ended desk peer count count' moment piece out e k heard said r =
-    let found = ended_there (standing_at_desk desk peer) e in (
-      [],
-      (
-        sym (append-nil out),
-        subst (Receives desk peer count' (heard ++ (moment, piece) ∷ [])) (sym (append-nil said)) (record {
-          whose = r.whose;
-          whose_is = r.whose_is;
-          stands = subst (λ (at : Standing). StandsBy at desk peer r.whose (heard ++ (moment, piece) ∷ []) said) (sym found.1)
-              (closed_later desk.config peer r.whose heard said found.0 (moment, piece) (closed_of desk peer r.whose heard said found.0 found.1 r.stands));
-          counted = counted_more heard moment count count' piece r.counted k;
-        }),
-      ),
-    )
 
 -- the moments of a session that heard the clock
 moved_stays : (moment : ℕ) (now : Times) → at_moment moment (at_moment moment now) ≡ at_moment moment now
@@ -283,7 +252,6 @@ hears_slept old new peer moment whose heard said piece out out' config_is count'
             earlier = heard;
             moment = moment;
             piece = piece;
-            later = [];
             split = refl;
             lived = open_here old new peer moment whose heard said out out' h;
             closes = inl (record { due = s.due; why_is = refl; said_is = ap (λ (z : List ℕ). z ++ notice_text 4 0) h.said_is });
@@ -391,7 +359,6 @@ module _ (old mid new : Desked) (peer moment : ℕ) (whose : Peer) (heard : Piec
         earlier = heard;
         moment = moment;
         piece = piece;
-        later = [];
         split = refl;
         lived = open_here old mid peer moment whose heard said a b h;
         closes = inr (record {

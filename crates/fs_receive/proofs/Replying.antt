@@ -18,13 +18,13 @@ use Rattle.fs_speaker.specs.declared.State.TheVariants.{WaitOpen, WaitKeep, Esta
 use Rattle.fs_session.specs.declared.times.Times.{Times}
 use Rattle.fs_session.specs.declared.transition.Phase.{Phase}
 use Rattle.fs_speaker.proofs.Handing.{ran, runs_none, runs_step}
-use Rattle.fs_ends.specs.Teller.{keepalives}
+use Rattle.fs_ends.proofs.Courses.{keepalives}
 use Rattle.fs_talk.specs.Round.{Pieces}
 use Rattle.fs_receive.specs.Hearer.{course_of}
-use Rattle.fs_receive.specs.Course.{after, hears, course}
-use Rattle.fs_receive.proofs.Answering.{awaits_open}
+use Rattle.fs_ends.specs.Course.{after, hears, course}
+use Rattle.fs_ends.proofs.Quieting.{awaits_open}
 use Rattle.fs_receive.proofs.Holding.{Keeps, keeps}
-use Rattle.fs_receive.proofs.Courses.{Steps, by_pieces, lived, course_more}
+use Rattle.fs_ends.proofs.Courses.{Steps, by_pieces, lived, course_more}
 
 abbrev Made : Type 0
 Made = Result (Phase × Option Update) Closed

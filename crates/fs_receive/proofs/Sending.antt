@@ -1,6 +1,5 @@
 -- An announcing end that hears a piece at a moment.
 use Rattle.std.proofs.Common.{◌≡◌, ◌⊎◌, inl, inr, ℕ, suc, zero, ◌+◌, List, [], ◌∷◌, ◌++◌, drop, arith, take, Bool, true, false, if◌then◌else◌, Option, Some, None, refl, ap, sym, ◌∙◌, subst, append_assoc, append-nil}
-use Rattle.std.specs.Option.{is_some}
 use Rattle.std.proofs.lemmas.Grind.{flat_map-append}
 use Rattle.std.proofs.lemmas.Option.{none-some}
 use Rattle.fs_base.specs.declared.config.Config.{Config}
@@ -25,11 +24,13 @@ use Rattle.fs_session.specs.declared.times.Times.{Times}
 use Rattle.fs_session.specs.declared.transition.Phase.{Phase}
 use Rattle.fs_ends.specs.Teller.{opening_of}
 use Rattle.fs_talk.specs.Round.{Hears, Pieces, Says, octets_in}
-use Rattle.fs_receive.specs.Sender.{Began, CountsTo, Speaks, SpeaksUpTo, TookOpen, part_text, rule_in, rules_in, text_in, woven}
-use Rattle.fs_receive.specs.Course.{hears, course}
-use Rattle.fs_receive.proofs.Answering.{Goes, Opens, Quiet as IsQuiet, awaits_open, opens_by, quiet_by}
+use Rattle.fs_ends.proofs.Hearing.{but_last}
+use Rattle.fs_receive.specs.Sender.{Began, CountsTo, Speaks, SpeaksUpTo, TookOpen, part_text, rule_in, rules_in, text_in, without_rules, woven}
+use Rattle.fs_ends.specs.Course.{course}
+use Rattle.fs_receive.proofs.Answering.{Opens, opens_by}
+use Rattle.fs_ends.proofs.Quieting.{Goes, Quiet as IsQuiet, awaits_open, quiet_by}
 use Rattle.fs_receive.proofs.Receiving.{octets_more}
-use Rattle.fs_receive.proofs.Courses.{course_more}
+use Rattle.fs_ends.proofs.Courses.{course_more}
 
 never : true ≡ false → ⊥
 never e = cc
@@ -127,7 +128,8 @@ closed_there : (machine : Machine) (moment : ℕ) (now : Point) (piece : List �
 closed_there machine moment now piece why e =
     ap (λ (o : Option Closed). elim o [ Some why ↦ handed now [] [] | None ↦ runs_by machine now.phase (at_moment moment now.times) (now.waiting ++ piece) ]) e
 
-module _ (a : Announcing) (line : Lined) (heard : Pieces) (said : List ℕ) (moment : ℕ) (piece o0 o2 : List ℕ) (s : Speaks a true heard said) where
+module _ (a : Announcing) (line : Lined) (heard : Pieces) (said : List ℕ) (moment : ℕ) (piece o0 o2 : List ℕ) (s : Speaks a true heard said)
+    (alive : (course (machine_in a) heard).point.closed ≡ None) where
   abbrev machine : Machine
   machine = machine_in a
 
@@ -153,10 +155,30 @@ module _ (a : Announcing) (line : Lined) (heard : Pieces) (said : List ℕ) (mom
     at_all : StandsAt machine line (course machine all).point
     at_all = subst (λ (h : Handed). StandsAt machine line h.point) (sym (course_more machine heard (moment, piece))) stands
 
-    -- the end is closed, or closes: nothing is told of it but what it said
+    open_a : a.line.closed ≡ None
+    open_a = s.at.closed_is ∙ alive
+
+    at_here : IsAt machine a.line here
+    at_here = s.at.open_is alive
+
+    -- what it said without its OPEN and the UPDATEs
+    kept_all : (keeps : List (Option Sent)) (more ending : List ℕ) → woke.text ++ made.text ≡ more → more ≡ without_rules keeps ++ ending
+        → without_rules (s.parts ++ keeps) ++ ending ≡ (course machine all).text
+    kept_all keeps more ending t e =
+        ap (λ (z : List ℕ). z ++ ending) (woven_more (λ sent. []) s.parts keeps)
+        ∙ append_assoc (without_rules s.parts) (without_rules keeps) ending
+        ∙ ap (λ (z : List ℕ). without_rules s.parts ++ z) (sym e ∙ sym t)
+        ∙ ap (λ (z : List ℕ). z ++ (woke.text ++ made.text))
+        (sym (append-nil (without_rules s.parts)) ∙ ap (λ (z : List ℕ). without_rules s.parts ++ z) (sym (s.unended open_a)) ∙ s.kept)
+        ∙ sym (ap (λ (h : Handed). h.text) (course_more machine heard (moment, piece)))
+
+    lived_all : (earlier : Pieces) (last : ℕ × List ℕ) → all ≡ earlier ++ last ∷ [] → (course machine earlier).point.closed ≡ None
+    lived_all earlier last e = subst (λ (z : Pieces). (course machine z).point.closed ≡ None) (but_last heard earlier (moment, piece) last e) alive
+
+    -- the end closes: nothing is told of it but what it said
     shut : (why : Closed) (more ending : List ℕ) (keeps : List (Option Sent)) → made.point.closed ≡ Some why → woke.text ++ made.text ≡ more → rules_in keeps ≡ []
-        → said ++ more ≡ opening_of a ++ (woven (text_in a s.four) (s.parts ++ keeps) ++ ending) → Answer
-    shut why more ending keeps c t n text = (
+        → more ≡ without_rules keeps ++ ending → said ++ more ≡ opening_of a ++ (woven (text_in a s.four) (s.parts ++ keeps) ++ ending) → Answer
+    shut why more ending keeps c t n k text = (
       more,
       (
         grows ∙ ap (λ (z : List ℕ). o0 ++ z) t,
@@ -168,6 +190,8 @@ module _ (a : Announcing) (line : Lined) (heard : Pieces) (said : List ℕ) (mom
           rules_are = rules_more s.parts keeps ∙ ap (λ (z : List Sent). rules_in s.parts ++ z) n ∙ append-nil (rules_in s.parts) ∙ s.rules_are;
           ending = ending;
           said_is = text;
+          kept = kept_all keeps more ending t k;
+          lived = lived_all;
           unended = λ e. absurd (none-some why (sym e ∙ stands.closed_is ∙ c));
           began = λ e. absurd (none-some why (sym e ∙ stands.closed_is ∙ c));
           unstarted = λ e. absurd (never e);
@@ -185,161 +209,141 @@ module _ (a : Announcing) (line : Lined) (heard : Pieces) (said : List ℕ) (mom
         (sym (append_assoc (woven (text_in a s.four) s.parts) (woven (text_in a s.four) keeps) ending)
         ∙ ap (λ (z : List ℕ). z ++ ending) (sym (woven_more (text_in a s.four) s.parts keeps)))
 
-    was_closed : (why : Closed) → here.closed ≡ Some why → Answer
-    was_closed why e =
-        let quiet : woke ≡ handed here [] [] = ap (λ (c : Option Closed). elim c [
-          | Some why ↦ handed here [] []
-          | None ↦ ticks (tick_at here.phase.hold (at_moment moment here.times)) here.waiting here.phase (at_moment moment here.times)
-        ]) e in
-        let woke_shut : woke.point.closed ≡ Some why = ap (λ (h : Handed). h.point.closed) quiet ∙ e in
-        let there = closed_there machine moment woke.point piece why woke_shut in
-        shut why [] s.ending [] (ap (λ (h : Handed). h.point.closed) there ∙ woke_shut) (ap (λ (h : Handed). h.text ++ made.text) quiet ∙ ap (λ (h : Handed). h.text) there) refl
-        (append-nil said ∙ s.said_is ∙ ap (λ (z : List (Option Sent)). opening_of a ++ (woven (text_in a s.four) z ++ s.ending)) (sym (append-nil s.parts)))
+    expires : Expired woke → Answer
+    expires x =
+        let there = closed_there machine moment woke.point piece (Fault 4 0) x.closed_is in
+        shut (Fault 4 0) (notice_text 4 0) (notice_text 4 0) [] (ap (λ (h : Handed). h.point.closed) there ∙ x.closed_is)
+        (ap (λ (z : List ℕ). z ++ made.text) x.text_is ∙ ap (λ (h : Handed). notice_text 4 0 ++ h.text) there ∙ append-nil (notice_text 4 0)) refl refl
+        (said_more [] (notice_text 4 0) (s.unended open_a))
 
-    module _ (alive : here.closed ≡ None) where
-      open_a : a.line.closed ≡ None
-      open_a = s.at.closed_is ∙ alive
+    -- it goes on, with these parts more
+    goes_on : (four : Bool) (keeps : List (Option Sent)) → ((text : Sent → List ℕ) → woke.text ++ made.text ≡ woven text keeps) → rules_in keeps ≡ []
+        → woven (text_in a s.four) s.parts ≡ woven (text_in a four) s.parts
+        → (line.closed ≡ None → Began line.phase.state end four all (s.parts ++ keeps)) → Answer
+    goes_on four keeps t n same began = (
+      woven (text_in a four) keeps,
+      (
+        grows ∙ ap (λ (z : List ℕ). o0 ++ z) (t (text_in a four)),
+        record {
+          started_is = s.started_is;
+          at = at_all;
+          four = four;
+          parts = s.parts ++ keeps;
+          rules_are = rules_more s.parts keeps ∙ ap (λ (z : List Sent). rules_in s.parts ++ z) n ∙ append-nil (rules_in s.parts) ∙ s.rules_are;
+          ending = [];
+          said_is =
+              ap (λ (z : List ℕ). z ++ woven (text_in a four) keeps)
+              (s.said_is ∙ ap (λ (z : List ℕ). opening_of a ++ (woven (text_in a s.four) s.parts ++ z)) (s.unended open_a)
+              ∙ ap (λ (z : List ℕ). opening_of a ++ z) (append-nil (woven (text_in a s.four) s.parts) ∙ same))
+              ∙ append_assoc (opening_of a) (woven (text_in a four) s.parts) (woven (text_in a four) keeps)
+              ∙ ap (λ (z : List ℕ). opening_of a ++ z) (sym (woven_more (text_in a four) s.parts keeps) ∙ sym (append-nil (woven (text_in a four) (s.parts ++ keeps))));
+          kept = kept_all keeps (without_rules keeps) [] (t (λ sent. [])) (sym (append-nil (without_rules keeps)));
+          lived = lived_all;
+          unended = λ e. refl;
+          began = began;
+          unstarted = λ e. absurd (never e);
+        },
+      ),
+    )
 
-      at_here : IsAt machine a.line here
-      at_here = s.at.open_is alive
+    module _ (keeps : List (Option Sent)) (k : Stays here woke keeps) where
+      abbrev later : Handed
+      later = runs_by machine here.phase (at_moment moment k.times) (here.waiting ++ piece)
 
-      expires : Expired woke → Answer
-      expires x =
-          let there = closed_there machine moment woke.point piece (Fault 4 0) x.closed_is in
-          shut (Fault 4 0) (notice_text 4 0) (notice_text 4 0) [] (ap (λ (h : Handed). h.point.closed) there ∙ x.closed_is)
-          (ap (λ (z : List ℕ). z ++ made.text) x.text_is ∙ ap (λ (h : Handed). notice_text 4 0 ++ h.text) there ∙ append-nil (notice_text 4 0)) refl
-          (said_more [] (notice_text 4 0) (s.unended open_a))
+      made_is : made ≡ later
+      made_is = ap (λ (p : Point). hand machine moment p piece) k.point_is
 
-      -- it goes on, with these parts more
-      goes_on : (four : Bool) (keeps : List (Option Sent)) → ((text : Sent → List ℕ) → woke.text ++ made.text ≡ woven text keeps) → rules_in keeps ≡ []
-          → woven (text_in a s.four) s.parts ≡ woven (text_in a four) s.parts
-          → (line.closed ≡ None → Began line.phase.state end four all (s.parts ++ keeps)) → Answer
-      goes_on four keeps t n same began = (
-        woven (text_in a four) keeps,
-        (
-          grows ∙ ap (λ (z : List ℕ). o0 ++ z) (t (text_in a four)),
-          record {
-            started_is = s.started_is;
-            at = at_all;
-            four = four;
-            parts = s.parts ++ keeps;
-            rules_are = rules_more s.parts keeps ∙ ap (λ (z : List Sent). rules_in s.parts ++ z) n ∙ append-nil (rules_in s.parts) ∙ s.rules_are;
-            ending = [];
-            said_is =
-                ap (λ (z : List ℕ). z ++ woven (text_in a four) keeps)
-                (s.said_is ∙ ap (λ (z : List ℕ). opening_of a ++ (woven (text_in a s.four) s.parts ++ z)) (s.unended open_a)
-                ∙ ap (λ (z : List ℕ). opening_of a ++ z) (append-nil (woven (text_in a s.four) s.parts) ∙ same))
-                ∙ append_assoc (opening_of a) (woven (text_in a four) s.parts) (woven (text_in a four) keeps)
-                ∙ ap (λ (z : List ℕ). opening_of a ++ z) (sym (woven_more (text_in a four) s.parts keeps) ∙ sym (append-nil (woven (text_in a four) (s.parts ++ keeps))));
-            unended = λ e. refl;
-            began = began;
-            unstarted = λ e. absurd (never e);
-          },
-        ),
-      )
+      line_phase : line.closed ≡ None → line.phase ≡ later.point.phase
+      line_phase e = (stands.open_is (sym stands.closed_is ∙ e)).phase_is ∙ ap (λ (h : Handed). h.point.phase) made_is
 
-      module _ (keeps : List (Option Sent)) (k : Stays here woke keeps) where
-        abbrev later : Handed
-        later = runs_by machine here.phase (at_moment moment k.times) (here.waiting ++ piece)
+      later_open : line.closed ≡ None → later.point.closed ≡ None
+      later_open e = sym (ap (λ (h : Handed). h.point.closed) made_is) ∙ sym stands.closed_is ∙ e
 
-        made_is : made ≡ later
-        made_is = ap (λ (p : Point). hand machine moment p piece) k.point_is
+      -- past its OPEN
+      past : awaits_open here.phase.state ≡ false → Answer
+      past e =
+          let quiet : IsQuiet a.config (needs_of a.sending.rules) here.phase later = quiet_by a.config (needs_of a.sending.rules) here.phase (at_moment moment k.times) (here.waiting ++ piece) e in
+          let before : Past a s.four heard s.parts =
+          past_of a.line.phase.state a s.four heard s.parts (ap (λ (p : Phase). awaits_open p.state) at_here.phase_is ∙ e) (s.began open_a) in
+          goes_on s.four keeps
+          (λ text. ap (λ (z : List ℕ). z ++ made.text) (k.text_is text) ∙ ap (λ (h : Handed). woven text keeps ++ h.text) made_is ∙ ap (λ (z : List ℕ). woven text keeps ++ z) quiet.text_is ∙ append-nil (woven text keeps))
+          k.none refl
+          (λ f.
+          let g : Goes here.phase later.point.phase = quiet.goes (later_open f) in
+          of_past line.phase.state end s.four all (s.parts ++ keeps) (ap (λ (p : Phase). awaits_open p.state) (line_phase f) ∙ g.past) (
+            (before.0.0 ++ keeps, ap (λ (z : List (Option Sent)). z ++ keeps) before.0.1),
+            (
+              before.1.0 ∙ ap (λ (p : Phase). p.four) at_here.phase_is ∙ sym g.four_is ∙ sym (ap (λ (p : Phase). p.four) (line_phase f)),
+              subst (TookOpen a.config s.four) (sym (octets_more heard moment piece)) (took_more a.config s.four (octets_in heard) piece before.1.1),
+            ),
+          ))
 
-        line_phase : line.closed ≡ None → line.phase ≡ later.point.phase
-        line_phase e = (stands.open_is (sym stands.closed_is ∙ e)).phase_is ∙ ap (λ (h : Handed). h.point.phase) made_is
-
-        later_open : line.closed ≡ None → later.point.closed ≡ None
-        later_open e = sym (ap (λ (h : Handed). h.point.closed) made_is) ∙ sym stands.closed_is ∙ e
-
-        -- past its OPEN
-        past : awaits_open here.phase.state ≡ false → Answer
-        past e =
-            let quiet : IsQuiet a.config (needs_of a.sending.rules) here.phase later = quiet_by a.config (needs_of a.sending.rules) here.phase (at_moment moment k.times) (here.waiting ++ piece) e in
-            let before : Past a s.four heard s.parts =
-            past_of a.line.phase.state a s.four heard s.parts (ap (λ (p : Phase). awaits_open p.state) at_here.phase_is ∙ e) (s.began open_a) in
-            goes_on s.four keeps
-            (λ text. ap (λ (z : List ℕ). z ++ made.text) (k.text_is text) ∙ ap (λ (h : Handed). woven text keeps ++ h.text) made_is ∙ ap (λ (z : List ℕ). woven text keeps ++ z) quiet.text_is ∙ append-nil (woven text keeps))
-            k.none refl
-            (λ f.
-            let g : Goes here.phase later.point.phase = quiet.goes (later_open f) in
-            of_past line.phase.state end s.four all (s.parts ++ keeps) (ap (λ (p : Phase). awaits_open p.state) (line_phase f) ∙ g.past) (
-              (before.0.0 ++ keeps, ap (λ (z : List (Option Sent)). z ++ keeps) before.0.1),
-              (
-                before.1.0 ∙ ap (λ (p : Phase). p.four) at_here.phase_is ∙ sym g.four_is ∙ sym (ap (λ (p : Phase). p.four) (line_phase f)),
-                subst (TookOpen a.config s.four) (sym (octets_more heard moment piece)) (took_more a.config s.four (octets_in heard) piece before.1.1),
-              ),
-            ))
-
-        -- before it
-        opening : here.phase.state ≡ WaitOpen → Answer
-        opening e = by (opens_by a.config (needs_of a.sending.rules) here.phase (at_moment moment k.times) (here.waiting ++ piece) e)
-          where
-            before : (s.parts ≡ []) × ((a.appended ≡ 0) × ((a.line.phase.hold ≡ 0) × (here.waiting ≡ octets_in heard)))
-            before = subst (λ (state : State). Began state a s.four heard s.parts) (ap (λ (p : Phase). p.state) at_here.phase_is ∙ e) (s.began open_a)
-
-            no_keeps : keeps ≡ []
-            no_keeps = k.timed (sym (ap (λ (p : Phase). p.hold) at_here.phase_is) ∙ before.1.1.0)
-
-            unkept : (text : Sent → List ℕ) → woke.text ≡ []
-            unkept text = k.text_is text ∙ ap (woven text) no_keeps
-
-            octets_are : here.waiting ++ piece ≡ octets_in all
-            octets_are = ap (λ (z : List ℕ). z ++ piece) before.1.1.1 ∙ sym (octets_more heard moment piece)
-
-            no_parts : (four : Bool) → woven (text_in a s.four) s.parts ≡ woven (text_in a four) s.parts
-            no_parts four = ap (woven (text_in a s.four)) before.0 ∙ sym (ap (woven (text_in a four)) before.0)
-
-            text_so : (text : Sent → List ℕ) → woke.text ++ made.text ≡ later.text
-            text_so text = ap (λ (z : List ℕ). z ++ made.text) (unkept text) ∙ ap (λ (h : Handed). h.text) made_is
-
-            by : Opens a.config (needs_of a.sending.rules) (here.waiting ++ piece) here.phase later → Answer
-            by (inl w) =
-                goes_on s.four [] (λ text. text_so text ∙ w.text_is) refl refl
-                (λ f.
-                subst (λ (state : State). Began state end s.four all (s.parts ++ [])) (sym (ap (λ (p : Phase). p.state) (line_phase f) ∙ ap (λ (p : Phase). p.state) w.phase_is ∙ e)) (
-                  append-nil s.parts ∙ before.0,
-                  (
-                    before.1.0,
-                    (
-                      ap (λ (p : Phase). p.hold) (line_phase f) ∙ ap (λ (p : Phase). p.hold) w.phase_is ∙ sym (ap (λ (p : Phase). p.hold) at_here.phase_is) ∙ before.1.1.0,
-                      ap (λ (h : Handed). h.point.waiting) (course_more machine heard (moment, piece)) ∙ ap (λ (h : Handed). h.point.waiting) made_is ∙ w.waiting_is ∙ octets_are,
-                    ),
-                  ),
-                ))
-            by (inr (inl t)) =
-                goes_on later.point.phase.four (None ∷ [])
-                (λ text. text_so text ∙ t.text_is ∙ sym (append-nil (message_text 4 []))) refl (no_parts later.point.phase.four)
-                (λ f.
-                of_past line.phase.state end later.point.phase.four all (s.parts ++ None ∷ []) (ap (λ (p : Phase). awaits_open p.state) (line_phase f) ∙ t.past (later_open f)) (
-                  ([], ap (λ (z : List (Option Sent)). z ++ None ∷ []) before.0),
-                  (sym (ap (λ (p : Phase). p.four) (line_phase f)), subst (TookOpen a.config later.point.phase.four) octets_are (t.took (later_open f))),
-                ))
-            by (inr (inr x)) =
-                shut x.why [] [] [] (ap (λ (h : Handed). h.point.closed) made_is ∙ x.closed_is) (text_so (text_in a s.four) ∙ x.text_is) refl
-                (said_more [] [] (s.unended open_a))
-
-        either_way : Answer
-        either_way = at here.phase.state refl
-          where
-            at : (state : State) → here.phase.state ≡ state → Answer
-            at WaitOpen e = opening e
-            at WaitKeep e = past (ap awaits_open e)
-            at Established e = past (ap awaits_open e)
-            at IsClosed e = past (ap awaits_open e)
-
-      is_open : Answer
-      is_open = by (clock moment here alive)
+      -- before it
+      opening : here.phase.state ≡ WaitOpen → Answer
+      opening e = by (opens_by a.config (needs_of a.sending.rules) here.phase (at_moment moment k.times) (here.waiting ++ piece) e)
         where
-          by : ((keeps : List (Option Sent)) × Stays here woke keeps) ⊎ Expired woke → Answer
-          by (inl k) = either_way k.0 k.1
-          by (inr x) = expires x
+          before : (s.parts ≡ []) × ((a.appended ≡ 0) × ((a.line.phase.hold ≡ 0) × (here.waiting ≡ octets_in heard)))
+          before = subst (λ (state : State). Began state a s.four heard s.parts) (ap (λ (p : Phase). p.state) at_here.phase_is ∙ e) (s.began open_a)
+
+          no_keeps : keeps ≡ []
+          no_keeps = k.timed (sym (ap (λ (p : Phase). p.hold) at_here.phase_is) ∙ before.1.1.0)
+
+          unkept : (text : Sent → List ℕ) → woke.text ≡ []
+          unkept text = k.text_is text ∙ ap (woven text) no_keeps
+
+          octets_are : here.waiting ++ piece ≡ octets_in all
+          octets_are = ap (λ (z : List ℕ). z ++ piece) before.1.1.1 ∙ sym (octets_more heard moment piece)
+
+          no_parts : (four : Bool) → woven (text_in a s.four) s.parts ≡ woven (text_in a four) s.parts
+          no_parts four = ap (woven (text_in a s.four)) before.0 ∙ sym (ap (woven (text_in a four)) before.0)
+
+          text_so : (text : Sent → List ℕ) → woke.text ++ made.text ≡ later.text
+          text_so text = ap (λ (z : List ℕ). z ++ made.text) (unkept text) ∙ ap (λ (h : Handed). h.text) made_is
+
+          by : Opens a.config (needs_of a.sending.rules) (here.waiting ++ piece) here.phase later → Answer
+          by (inl w) =
+              goes_on s.four [] (λ text. text_so text ∙ w.text_is) refl refl
+              (λ f.
+              subst (λ (state : State). Began state end s.four all (s.parts ++ [])) (sym (ap (λ (p : Phase). p.state) (line_phase f) ∙ ap (λ (p : Phase). p.state) w.phase_is ∙ e)) (
+                append-nil s.parts ∙ before.0,
+                (
+                  before.1.0,
+                  (
+                    ap (λ (p : Phase). p.hold) (line_phase f) ∙ ap (λ (p : Phase). p.hold) w.phase_is ∙ sym (ap (λ (p : Phase). p.hold) at_here.phase_is) ∙ before.1.1.0,
+                    ap (λ (h : Handed). h.point.waiting) (course_more machine heard (moment, piece)) ∙ ap (λ (h : Handed). h.point.waiting) made_is ∙ w.waiting_is ∙ octets_are,
+                  ),
+                ),
+              ))
+          by (inr (inl t)) =
+              goes_on later.point.phase.four (None ∷ [])
+              (λ text. text_so text ∙ t.text_is ∙ sym (append-nil (message_text 4 []))) refl (no_parts later.point.phase.four)
+              (λ f.
+              of_past line.phase.state end later.point.phase.four all (s.parts ++ None ∷ []) (ap (λ (p : Phase). awaits_open p.state) (line_phase f) ∙ t.past (later_open f)) (
+                ([], ap (λ (z : List (Option Sent)). z ++ None ∷ []) before.0),
+                (sym (ap (λ (p : Phase). p.four) (line_phase f)), subst (TookOpen a.config later.point.phase.four) octets_are (t.took (later_open f))),
+              ))
+          by (inr (inr x)) =
+              shut x.why [] [] [] (ap (λ (h : Handed). h.point.closed) made_is ∙ x.closed_is) (text_so (text_in a s.four) ∙ x.text_is) refl refl
+              (said_more [] [] (s.unended open_a))
+
+      either_way : Answer
+      either_way = at here.phase.state refl
+        where
+          at : (state : State) → here.phase.state ≡ state → Answer
+          at WaitOpen e = opening e
+          at WaitKeep e = past (ap awaits_open e)
+          at Established e = past (ap awaits_open e)
+          at IsClosed e = past (ap awaits_open e)
+
+    is_open : Answer
+    is_open = by (clock moment here alive)
+      where
+        by : ((keeps : List (Option Sent)) × Stays here woke keeps) ⊎ Expired woke → Answer
+        by (inl k) = either_way k.0 k.1
+        by (inr x) = expires x
 
     pub spoke : (more : List ℕ) × ((o2 ≡ o0 ++ more) × Speaks end true all (said ++ more))
-    spoke = at here.closed refl
-      where
-        at : (c : Option Closed) → here.closed ≡ c → Answer
-        at None e = is_open e
-        at (Some why) e = was_closed why e
+    spoke = is_open
 
 -- nothing is said
 pub says_same : (a : Announcing) (started : Bool) (out : List ℕ) → Says (Speaks a started) (Speaks a started) out out
@@ -369,6 +373,8 @@ begins_from a new started out out' e starts heard said s =
               ∙ ap (λ (z : List (Option Sent)). woven (text_in a s.four) z ++ s.ending) before.0 ∙ before.1)
               ∙ sym (append-nil opening)
               ∙ ap (λ (z : List ℕ). opening ++ z) (sym (ap (λ (z : List (Option Sent)). woven (text_in a s.four) z ++ s.ending) before.0 ∙ before.1));
+          kept = s.kept;
+          lived = s.lived;
           unended = s.unended;
           began = λ f. began_same a.line.phase.state (s.began f);
           unstarted = λ f. absurd (never f);
@@ -432,6 +438,10 @@ says_next a new started had out out' go alive says heard said s = by (is_establi
               ∙ ap (λ (z : List ℕ). opening_of a ++ (woven (text_in a s.four) s.parts ++ z))
               (found.1.0 ∙ ap (λ (b : Bool). text_in a b sent) (sym past.1.0) ∙ sym (append-nil (text_in a s.four sent)))
               ∙ ap (λ (z : List ℕ). opening_of a ++ z) (sym (woven_more (text_in a s.four) s.parts (Some sent ∷ [])) ∙ sym (append-nil (woven (text_in a s.four) (s.parts ++ Some sent ∷ []))));
+          kept =
+              append-nil (without_rules (s.parts ++ Some sent ∷ [])) ∙ woven_more (λ sent. []) s.parts (Some sent ∷ [])
+              ∙ ap (λ (z : List ℕ). without_rules s.parts ++ z) (sym (s.unended alive)) ∙ s.kept;
+          lived = s.lived;
           unended = λ g. refl;
           began = λ g.
               of_past a.line.phase.state (one_sent a) s.four heard (s.parts ++ Some sent ∷ []) unawaited
@@ -473,14 +483,14 @@ says_next a new started had out out' go alive says heard said s = by (is_establi
     by true e = by_text texts e refl (subst (λ (o : Option (List ℕ)). SaysText o had a new out out') (next_is true e) says)
 
 -- an open end hears a piece at a moment
-pub hears_piece : (a b c : Announcing) (started : Bool) (moment : ℕ) (piece o0 o1 o2 : List ℕ) → started ≡ true → b ≡ with_line a b.line → c ≡ with_line b c.line
+pub hears_piece : (a b c : Announcing) (started : Bool) (moment : ℕ) (piece o0 o1 o2 : List ℕ) → started ≡ true → a.line.closed ≡ None → b ≡ with_line a b.line → c ≡ with_line b c.line
     → TicksOver (machine_in a) moment a.line b.line o0 o1 → HandsOver (machine_in b) moment b.line c.line piece [] [] o1 o2
     → Hears (Speaks a started) (Speaks c started) moment piece o0 o2
-hears_piece a b c started moment piece o0 o1 o2 go first later ticks_over hands heard said s =
+hears_piece a b c started moment piece o0 o1 o2 go alive first later ticks_over hands heard said s =
     subst (λ (g : Bool). (more : List ℕ) × ((o2 ≡ o0 ++ more) × Speaks c g (heard ++ (moment, piece) ∷ []) (said ++ more))) (sym go)
     (subst (λ (n : Announcing). (more : List ℕ) × ((o2 ≡ o0 ++ more) × Speaks n true (heard ++ (moment, piece) ∷ []) (said ++ more)))
     (sym (later ∙ ap (λ (n : Announcing). with_line n c.line) first))
-    (spoke a c.line heard said moment piece o0 o2 t made.0
+    (spoke a c.line heard said moment piece o0 o2 t (sym t.at.closed_is ∙ alive) made.0
     (made.1.1 ∙ ap (λ (z : List ℕ). z ++ (hand (machine_in a) moment woke.point piece).text) ticked_so.1 ∙ append_assoc o0 woke.text (hand (machine_in a) moment woke.point piece).text)))
   where
     t : Speaks a true heard said
@@ -509,45 +519,6 @@ begins_hears a b c started started' moment piece o0 o1 o2 first later heard said
       (
         l.1.0 ∙ ap (λ (z : List ℕ). z ++ l.0) f.1.0 ∙ append_assoc o0 f.0 l.0,
         subst (Speaks c started' (heard ++ (moment, piece) ∷ [])) (append_assoc said f.0 l.0) l.1.1,
-      ),
-    )
-
--- a closed one hears nothing
-pub hears_shut : (a : Announcing) (started : Bool) (moment : ℕ) (piece out : List ℕ) → is_some a.line.closed ≡ true → Hears (Speaks a started) (Speaks a started) moment piece out out
-hears_shut a started moment piece out h heard said s = by a.line.closed refl
-  where
-    machine : Machine
-    machine = machine_in a
-
-    here : Point
-    here = (course machine heard).point
-
-    made : (why : Closed) → here.closed ≡ Some why → (hears machine (moment, piece) here).point ≡ here
-    made why e =
-        let quiet : ticked moment here ≡ handed here [] [] = ap (λ (c : Option Closed). elim c [
-          | Some why ↦ handed here [] []
-          | None ↦ ticks (tick_at here.phase.hold (at_moment moment here.times)) here.waiting here.phase (at_moment moment here.times)
-        ]) e in
-        ap (λ (p : Point). (hand machine moment p piece).point) (ap (λ (h : Handed). h.point) quiet) ∙ ap (λ (h : Handed). h.point) (closed_there machine moment here piece why e)
-
-    by : (c : Option Closed) → a.line.closed ≡ c → (more : List ℕ) × ((out ≡ out ++ more) × Speaks a started (heard ++ (moment, piece) ∷ []) (said ++ more))
-    by None e = absurd (never (sym (sym (ap is_some e) ∙ h)))
-    by (Some why) e = (
-      [],
-      (
-        sym (append-nil out),
-        subst (Speaks a started (heard ++ (moment, piece) ∷ [])) (sym (append-nil said)) (record {
-          started_is = s.started_is;
-          at = subst (StandsAt machine a.line) (sym (ap (λ (h : Handed). h.point) (course_more machine heard (moment, piece)) ∙ made why (sym s.at.closed_is ∙ e))) s.at;
-          four = s.four;
-          parts = s.parts;
-          rules_are = s.rules_are;
-          ending = s.ending;
-          said_is = s.said_is;
-          unended = s.unended;
-          began = λ f. absurd (none-some why (sym f ∙ e));
-          unstarted = s.unstarted;
-        }),
       ),
     )
 

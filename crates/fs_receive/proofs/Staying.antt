@@ -31,13 +31,13 @@ use Rattle.fs_session.specs.declared.transition.Phase.{Phase}
 use Rattle.fs_speaker.proofs.Handing.{ran, runs_none, runs_step}
 use Rattle.fs_speaker.proofs.SessionSteps.{going, machine_takes, machine_waits, plays_none, plays_step, session_rest, step_found}
 use Rattle.fs_ends.specs.HoldTime.{Spans, most}
-use Rattle.fs_ends.specs.Teller.{keepalives}
+use Rattle.fs_ends.proofs.Courses.{keepalives}
 use Rattle.fs_talk.specs.Round.{Pieces, moments_in, octets_in}
 use Rattle.fs_receive.specs.Hearer.{course_of}
 use Rattle.fs_speaker.specs.JointLaws.{CanArrive}
 use Rattle.fs_receive.specs.Pair.{IsTimely, told_by}
-use Rattle.fs_receive.specs.Course.{course}
-use Rattle.fs_receive.proofs.Answering.{awaits_open}
+use Rattle.fs_ends.specs.Course.{course}
+use Rattle.fs_ends.proofs.Quieting.{awaits_open}
 use Rattle.fs_speaker.proofs.Lasting.{goes_by, goes_on, last_by, last_update}
 use Rattle.fs_receive.proofs.Holding.{Unheld, closed_still, hold_is, hold_kept, runs_unheld, same_still}
 use Rattle.fs_receive.proofs.Lasting.{expires_late}
@@ -45,7 +45,7 @@ use Rattle.fs_speaker.proofs.Arriving.{one_message, open_fits}
 use Rattle.fs_receive.proofs.Meeting.{least, peer_opens}
 use Rattle.fs_receive.proofs.Receiving.{octets_more}
 use Rattle.fs_receive.proofs.Replying.{keepalives_front}
-use Rattle.fs_receive.proofs.Courses.{Steps, by_pieces, lived, steps, course_more}
+use Rattle.fs_ends.proofs.Courses.{Steps, by_pieces, lived, steps, course_more}
 use Rattle.fs_ends.proofs.Moments.{positive}
 
 abbrev Made : Type 0

@@ -35,7 +35,7 @@ use Rattle.fs_receive.specs.Hearer.{ClosesIn, ExpiresAt, HasClosed, course_of}
 use Rattle.fs_receive.specs.Pair.{IsTimely, MayHold}
 use Rattle.fs_receive.specs.Sender.{TookOpen, rules_in, woven}
 use Rattle.fs_receive.proofs.Limits.{within}
-use Rattle.fs_receive.proofs.Answering.{awaits_open}
+use Rattle.fs_ends.proofs.Quieting.{awaits_open}
 use Rattle.fs_speaker.proofs.Lasting.{last_update}
 use Rattle.fs_receive.proofs.Holding.{Keeps, closed_still, keeps, same_still}
 use Rattle.fs_receive.proofs.Meeting.{answers, meets, open_first, own_message, parts_arrive, peer_opens}
@@ -206,17 +206,17 @@ module _ (config : Config) (whose : Peer) (sending : Sending) (can : CanArrive c
       abbrev rest_of : Bool → List ℕ
       rest_of four = woven (text_sent config whose four sending) (None ∷ f.parts)
 
-      octets_are : octets_in heard ≡ to_there ++ octets_in h.later
+      octets_are : octets_in heard ≡ to_there ++ octets_in []
       octets_are =
-          ap octets_in h.split ∙ flat_map-append (λ (e : ℕ × List ℕ). e.1) h.earlier ((h.moment, h.piece) ∷ h.later)
-          ∙ sym (append_assoc (octets_in h.earlier) h.piece (octets_in h.later))
+          ap octets_in h.split ∙ flat_map-append (λ (e : ℕ × List ℕ). e.1) h.earlier ((h.moment, h.piece) ∷ [])
+          ∙ sym (append_assoc (octets_in h.earlier) h.piece (octets_in []))
 
       abbrev beyond : List ℕ
-      beyond = octets_in h.later ++ (left ++ f.behind)
+      beyond = octets_in [] ++ (left ++ f.behind)
 
       whole : to_there ++ beyond ≡ open_sent config whose sending ++ rest_of f.four
       whole =
-          sym (append_assoc to_there (octets_in h.later) (left ++ f.behind))
+          sym (append_assoc to_there (octets_in []) (left ++ f.behind))
           ∙ ap (λ (z : List ℕ). z ++ (left ++ f.behind)) (sym octets_are)
           ∙ sym (append_assoc (octets_in heard) left f.behind)
           ∙ ap (λ (z : List ℕ). z ++ f.behind) (sym reads)
@@ -228,7 +228,7 @@ module _ (config : Config) (whose : Peer) (sending : Sending) (can : CanArrive c
       no_expiry : ExpiresAt config whose h.earlier h.moment said why → ⊥
       no_expiry x =
           never_due config whose sending (receiver config whose) h.earlier h.moment h.lived (hearer_hold config whose sending h.earlier (h.piece ++ beyond) (rest_of f.four) can whole_earlier h.lived)
-          (timely_up_to config h.earlier h.later h.moment h.piece (subst (λ (z : Pieces). IsTimely config (moments_in z)) h.split timely))
+          (timely_up_to config h.earlier [] h.moment h.piece (subst (λ (z : Pieces). IsTimely config (moments_in z)) h.split timely))
           x.due
 
       -- while it hadn't heard the OPEN it said nothing

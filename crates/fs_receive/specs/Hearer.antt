@@ -18,7 +18,7 @@ use Rattle.fs_desk.specs.Desk.{Desked, Played, session_at, standing_at_desk}
 use Rattle.fs_desk.specs.Limit.{bounded_replies}
 use Rattle.fs_desk.specs.Receive.{IsOver, point_of}
 use Rattle.fs_talk.specs.Round.{Pieces, octets_in}
-use Rattle.fs_receive.specs.Course.{course}
+use Rattle.fs_ends.specs.Course.{course}
 
 -- the tape of a peer that came up and sent these octets
 abbrev pub tape_of : ℕ → List ℕ → List Item
@@ -58,15 +58,13 @@ pub record ClosesIn (config : Config) (peer : ℕ) (whose : Peer) (earlier : Pie
   pub said_is : said
       ≡ (course_of config whose earlier).text ++ ((ticked moment (course_of config whose earlier).point).text ++ more)
 
--- A session that has closed: up to one of the pieces it is open, and there it closes, by the clock or by its octets.
--- Nothing behind that counts.
+-- A session that has closed: up to the last of the pieces it is open, and there it closes, by the clock or by its octets.
 pub record HasClosed (config : Config) (peer : ℕ) (whose : Peer) (heard : Pieces) (said : List ℕ) (why : Closed)
     : Type 0 where
   pub earlier : Pieces
   pub moment : ℕ
   pub piece : List ℕ
-  pub later : Pieces
-  pub split : heard ≡ earlier ++ (moment, piece) ∷ later
+  pub split : heard ≡ earlier ++ (moment, piece) ∷ []
   pub lived : (course_of config whose earlier).point.closed ≡ None
   pub closes : ExpiresAt config whose earlier moment said why ⊎ ClosesIn config peer whose earlier moment piece said why
 

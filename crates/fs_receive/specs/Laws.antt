@@ -12,7 +12,7 @@ use Rattle.fs_speaker.specs.declared.Closed.TheVariants.{Fault}
 use Rattle.fs_session.specs.declared.times.Tick.TheVariants.{Expires}
 use Rattle.fs_session.specs.declared.transition.Phase.{Phase}
 use Rattle.fs_talk.specs.Round.{Pieces, moments_in}
-use Rattle.fs_receive.specs.Course.{course}
+use Rattle.fs_ends.specs.Course.{course}
 
 -- Either end, wherever pieces at moments leave it open: where its hold time has expired at one moment more, it agreed on
 -- one above 0, and of these moments a later one lies at least so much above an earlier one.

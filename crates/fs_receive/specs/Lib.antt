@@ -1,4 +1,3 @@
-pub mod Course
 pub mod Hearer
 pub mod Listen
 pub mod Sender

@@ -1,5 +1,5 @@
 -- What a receiving end hears and says over a wire, and how that ends.
-use Rattle.std.specs.Prelude.{◌≡◌, ⊤, ℕ, ◌≤◌, ◌<◌, List, [], ◌++◌, length, if◌then◌else◌, Bool, true, false, Option, Some}
+use Rattle.std.specs.Prelude.{◌≡◌, ℕ, ◌≤◌, ◌<◌, List, [], ◌++◌, length, if◌then◌else◌, Bool, true, false, Option, Some}
 use Rattle.fs_base.specs.Config.{peer_of}
 use Rattle.fs_base.specs.Sink.{Grew}
 use Rattle.fs_base.specs.Wire.{Told, WireEnds}
@@ -17,7 +17,7 @@ use Rattle.fs_ends.specs.declared.tell.Ending.{Ending}
 use Rattle.fs_ends.specs.declared.tell.Ending.TheVariants.{Done, Closed as WasClosed, Ended, AtLimit}
 use Rattle.fs_talk.specs.Round.{Pieces, moments_in, octets_in}
 use Rattle.fs_talk.specs.declared.listening.Heard.{Heard}
-use Rattle.fs_talk.specs.declared.listening.Heard.TheVariants.{All, Over, Ready, AtLimit as MetIt}
+use Rattle.fs_talk.specs.declared.listening.Heard.TheVariants.{All, Over, AtLimit as MetIt}
 use Rattle.fs_receive.specs.Hearer.{HasClosed, tape_of, course_of}
 
 -- the peer is up, and its session is established
@@ -53,13 +53,11 @@ ListensSo Ended desk peer whose limit heard said left = EndsSo false desk peer w
 ListensSo AtLimit desk peer whose limit heard said left = MeetsLimit desk peer whose limit heard said
 ListensSo (WasClosed why) desk peer whose limit heard said left = HasClosed desk.config peer whose heard said why
 
--- The ending of a session of which no more is heard: a receiving end that has closed closes it, and no receiving end says
--- all that it has to say without hearing more.
+-- The ending of a session of which no more is heard: a receiving end that has closed closes it.
 abbrev pub EndsHearing : Heard → Standing → Ending → Type 0
 EndsHearing Over standing ending = (why : Closed) → standing ≡ HasEnded why → ending ≡ WasClosed why
 EndsHearing MetIt standing ending = ending ≡ AtLimit
 EndsHearing All standing ending = ending ≡ (if is_settled standing then Done else Ended)
-EndsHearing Ready standing ending = ⊤
 
 -- The end of the wire gave these pieces of what it had left, each before the clock answered its moment, and this was
 -- written through it.

@@ -33,8 +33,9 @@ use Rattle.fs_talk.specs.declared.joined.Talk.{Talk}
 use Rattle.fs_talk.specs.declared.joined.Talk.TheVariants.{Done as AllSaid, FirstOver, SecondOver, AtLimit as MetIt, Broken}
 use Rattle.fs_receive.specs.Hearer.{HasClosed}
 use Rattle.fs_receive.specs.Listen.{IsReceiving}
-use Rattle.fs_receive.specs.Sender.{rules_in, woven, is_settled}
-use Rattle.fs_receive.specs.Course.{course}
+use Rattle.fs_ends.specs.Teller.{is_settled}
+use Rattle.fs_receive.specs.Sender.{rules_in, without_rules, woven}
+use Rattle.fs_ends.specs.Course.{course}
 
 -- Of these moments none lies so far behind another that a hold time could have passed between them.
 abbrev pub IsTimely : Config → List ℕ → Type 0
@@ -72,8 +73,8 @@ pub record ComesUp (config : Config) (sending : Sending) (limit : ℕ) (told : P
   pub within : length (octets_in told) < limit + length behind
 
 -- The announcing end said its OPEN, a KEEPALIVE, and then the UPDATEs of all rules in their order, each once, with
--- KEEPALIVEs between them; and the receiving end heard all of it, and took exactly the rules' updates. Neither end's
--- octets close it, and they are fewer than the limit.
+-- KEEPALIVEs between them: as many as it answers to the pieces that it heard, and as the clock appends. The receiving end
+-- heard all of it, and took exactly the rules' updates. Neither end's octets close it, and they are fewer than the limit.
 pub record Arrives (config : Config) (whose : Peer) (sending : Sending) (desk : Desked) (peer limit : ℕ)
     (heard told : Pieces) (announced replied : List ℕ) : Type 0 where
   pub receives : IsReceiving desk peer whose heard replied
@@ -85,6 +86,7 @@ pub record Arrives (config : Config) (whose : Peer) (sending : Sending) (desk : 
   pub rules_are : rules_in parts ≡ sending.rules
   pub said_is : announced
       ≡ open_sent config whose sending ++ woven (text_sent config whose four sending) (None ∷ parts)
+  pub kept : without_rules (None ∷ parts) ≡ (told_by config sending told).text
   pub four_is : CanArrive config whose sending → four ≡ true
   pub updates : CanArrive config whose sending
       → bounded_session config peer announced
@@ -153,8 +155,10 @@ pub record RunsLate (machine : Machine) (heard : Pieces) (moments : List ℕ) : 
   pub apart : LieApart (1000 * phase.hold) moments
 
 -- However it ends, the announcing end said of its OPEN, KEEPALIVEs, the UPDATEs of all rules in their order, each once,
--- only a front; and where its hold time has expired, a NOTIFICATION behind that.
-pub record SaysFront (config : Config) (whose : Peer) (sending : Sending) (announced : List ℕ) : Type 0 where
+-- only a front; and where its hold time has expired, a NOTIFICATION behind that. Without its OPEN and the UPDATEs that is
+-- what it answers to the pieces that it heard, and what the clock appends.
+pub record SaysFront (config : Config) (whose : Peer) (sending : Sending) (told : Pieces) (announced : List ℕ)
+    : Type 0 where
   pub started : Bool
   pub four : Bool
   pub parts : List (Option Sent)
@@ -164,10 +168,12 @@ pub record SaysFront (config : Config) (whose : Peer) (sending : Sending) (annou
   pub said_is : announced
       ≡ (if started then open_sent config whose sending else [])
       ++ (woven (text_sent config whose four sending) parts ++ ending)
+  pub kept : without_rules parts ++ ending ≡ (told_by config sending told).text
 
 -- Each end heard, in pieces at these moments, of what the other said all but what is in flight, and what it said was
 -- written through it. The desk has the configuration that it began with. Where nothing hinders the rules, all of them
--- arrive. It ends with Hold Timer Expired only where the hold time of an end did expire.
+-- arrive. It ends with Hold Timer Expired only where the hold time of an end did expire. The announcing end was open
+-- behind all pieces that it heard but the last.
 pub record Pairs (ending : Ending) (config : Config) (whose : Peer) (sending : Sending) (desk : Desked) (peer limit : ℕ)
     (given : List ℕ) (before now : WireEnds) : Type 0 where
   pub config_is : desk.config ≡ config
@@ -179,7 +185,9 @@ pub record Pairs (ending : Ending) (config : Config) (whose : Peer) (sending : S
   pub wrote_first : now.first.written ≡ before.first.written ++ replied
   pub wrote_second : now.second.written ≡ before.second.written ++ announced
   pub asked : moments_of events ≡ given
-  pub front : SaysFront config whose sending announced
+  pub front : SaysFront config whose sending (of_second events) announced
+  pub lived : (earlier : Pieces) (last : ℕ × List ℕ) → of_second events ≡ earlier ++ last ∷ []
+      → (told_by config sending earlier).point.closed ≡ None
   pub arrives : IsUnhindered config whose sending limit given announced replied → ending ≡ Done
   pub late : ending ≡ WasClosed (Fault 4 0)
       → RunsLate (receiver config whose) (of_first events) given

@@ -1,6 +1,5 @@
 -- The announcing end of a session over a wire, by the pieces that it heard and what it said.
-use Rattle.std.specs.Prelude.{◌≡◌, ◌||◌, ◌+◌, ℕ, List, [], ◌∷◌, ◌++◌, length, take, flat_map, Bool, true, false, Option, Some, None, Ok}
-use Rattle.std.specs.Option.{is_some}
+use Rattle.std.specs.Prelude.{◌≡◌, ◌+◌, ℕ, List, [], ◌∷◌, ◌++◌, length, take, flat_map, Bool, true, false, Option, Some, None, Ok}
 use Rattle.fs_base.specs.declared.config.Config.{Config}
 use Rattle.fs_message.specs.Deframer.{pending}
 use Rattle.fs_message.specs.Open.{open_of}
@@ -9,7 +8,7 @@ use Rattle.fs_message.specs.Write.{message_text}
 use Rattle.fs_message.specs.declared.open_.Open.{Open}
 use Rattle.fs_speaker.specs.End.{StandsAt}
 use Rattle.fs_speaker.specs.Announcer.{Announcing, is_established, machine_in, with_line}
-use Rattle.fs_speaker.specs.Line.{Lined, state_in}
+use Rattle.fs_speaker.specs.Line.{Lined}
 use Rattle.fs_speaker.specs.Sending.{text_sent}
 use Rattle.fs_speaker.specs.Session.{at_start, still}
 use Rattle.fs_speaker.specs.Transition.{Machine}
@@ -18,9 +17,9 @@ use Rattle.fs_speaker.specs.declared.State.{State}
 use Rattle.fs_speaker.specs.declared.State.TheVariants.{WaitOpen}
 use Rattle.fs_session.specs.declared.transition.Phase.{Phase}
 use Rattle.fs_ends.specs.Opening.{opened_by}
-use Rattle.fs_ends.specs.Teller.{opening_of}
+use Rattle.fs_ends.specs.Teller.{is_settled, opening_of}
 use Rattle.fs_talk.specs.Round.{Pieces, octets_in}
-use Rattle.fs_receive.specs.Course.{course}
+use Rattle.fs_ends.specs.Course.{course}
 
 -- KEEPALIVEs, and between them the UPDATEs of rules
 abbrev pub part_text : (Sent → List ℕ) → Option Sent → List ℕ
@@ -33,6 +32,10 @@ woven text parts = flat_map (part_text text) parts
 abbrev pub rule_in : Option Sent → List Sent
 rule_in None = []
 rule_in (Some sent) = sent ∷ []
+
+-- the same without the UPDATEs
+abbrev pub without_rules : List (Option Sent) → List ℕ
+without_rules parts = woven (λ sent. []) parts
 
 -- the rules among them, in their order
 abbrev pub rules_in : List (Option Sent) → List Sent
@@ -61,7 +64,8 @@ Began state end four heard parts =
     × ((four ≡ end.line.phase.four) × TookOpen end.config four (octets_in heard))
 
 -- What it said: its OPEN, KEEPALIVEs and the UPDATEs of the first rules in their order, each once; and where its hold
--- time has expired, a NOTIFICATION.
+-- time has expired, a NOTIFICATION. Without its OPEN and the UPDATEs that is what it answers to the pieces and what the
+-- clock appends. It was open behind all of them but the last.
 pub record Speaks (end : Announcing) (started : Bool) (heard : Pieces) (said : List ℕ) : Type 0 where
   pub started_is : end.started ≡ started
   pub at : StandsAt (machine_in end) end.line (course (machine_in end) heard).point
@@ -70,6 +74,9 @@ pub record Speaks (end : Announcing) (started : Bool) (heard : Pieces) (said : L
   pub rules_are : rules_in parts ≡ take end.appended end.sending.rules
   pub ending : List ℕ
   pub said_is : said ≡ opening_of end ++ (woven (text_in end four) parts ++ ending)
+  pub kept : without_rules parts ++ ending ≡ (course (machine_in end) heard).text
+  pub lived : (earlier : Pieces) (last : ℕ × List ℕ) → heard ≡ earlier ++ last ∷ []
+      → (course (machine_in end) earlier).point.closed ≡ None
   pub unended : end.line.closed ≡ None → ending ≡ []
   pub began : end.line.closed ≡ None → Began end.line.phase.state end four heard parts
   pub unstarted : started ≡ false → (parts ≡ []) × (ending ≡ [])
@@ -113,10 +120,6 @@ KeepsHand old new = new.closed ≡ None
 abbrev pub SpeaksUpTo : Announcing → Bool → ℕ → Pieces → List ℕ → Type 0
 SpeaksUpTo end started count heard said =
     Speaks end started heard said × CountsTo (machine_in end) end.line count (octets_in heard)
-
--- it is established, or has closed
-abbrev pub is_settled : Lined → Bool
-is_settled line = is_some line.closed || is_established (state_in line)
 
 -- only what it keeps of the other's octets changes, and one that is settled stays so
 abbrev pub KeepsSettled : Announcing → Announcing → Type 0

@@ -77,13 +77,12 @@ impl<'a> Speaker for Hearer<'a> {
 
     ghost begun = { λ h. true };
 
+    ghost sent = { λ h. 0 };
+
     ghost own = { λ h. record { desk = bare h.desk; peer = h.peer; count = 0 } };
 
     fn hear(&mut self, moment: u64, piece: &[u8], out: &mut Vec<u8>) -> Result<(), Memory> {
         self.count = sum(self.count, piece.len())?;
-        if self.is_over() {
-            return Ok(());
-        }
         self.desk.tick(self.peer, moment, out)?;
         if self.is_over() {
             return Ok(());

@@ -1,10 +1,10 @@
 //! A receiving end over a wire.
 
-ghost use Rattle.std.specs.Prelude.{◌≡◌, ◌≤◌, if◌then◌else◌, IfOk, []};
+ghost use Rattle.std.specs.Prelude.{◌≡◌, ◌≤◌, if◌then◌else◌, false, IfOk, []};
 ghost use Rattle.std.specs.Result.{IsErrOf};
 ghost use Rattle.fs_base.specs.Outside.{Rose};
 ghost use Rattle.fs_desk.specs.Desk.{standing_at_desk};
-ghost use Rattle.fs_receive.specs.Hearer.{Receives};
+ghost use Rattle.fs_receive.specs.Hearer.{Receives, is_ended};
 ghost use Rattle.fs_receive.specs.Listen.{EndsHearing, ListensOver, is_settled};
 ghost use Rattle.fs_speaker.specs.declared.Closed.{Closed};
 
@@ -29,6 +29,7 @@ pub fn listen_over<W: Wire, C: Clock>(
 ) -> Result<Ending, TalkFault>
     requires some { 1 ≤ limit }
     requires fresh { Receives hearer.old.desk hearer.old.peer hearer.old.count [] [] }
+    requires open { is_ended (standing_at_desk hearer.old.desk hearer.old.peer) ≡ false }
     ensures later { W.faults wire.old ≤ W.faults wire.new }
     ensures failed { IsErrOf result TalkFault.Failed → Rose (W.faults wire.old) (W.faults wire.new) }
     ensures listens { IfOk result (λ ending.
@@ -47,7 +48,6 @@ fn ending_of(heard: Heard, standing: Standing) -> Ending
         Heard::Over => closing_of(standing),
         Heard::AtLimit => Ending::AtLimit,
         Heard::All => end_of(standing),
-        Heard::Ready => Ending::Done,
     }
 }
 

@@ -4,10 +4,10 @@ ghost use Rattle.std.specs.Prelude.{◌≡◌, ◌≤◌, ◌<◌, [], true, fal
 ghost use Rattle.fs_speaker.specs.End.{HandsOver, TicksOver};
 ghost use Rattle.fs_speaker.specs.Announcer.{machine_in};
 ghost use Rattle.fs_ends.specs.Teller.{ahead_of, before_all};
-ghost use Rattle.fs_receive.specs.Sender.{CountsOn, KeepsHand, KeepsSettled, Speaks, SpeaksUpTo, is_settled};
+ghost use Rattle.fs_receive.specs.Sender.{CountsOn, KeepsHand, KeepsSettled, Speaks, SpeaksUpTo};
 
 use fs_base::{Config, Memory};
-use fs_ends::{closes, is_established, say, start, sum};
+use fs_ends::{closes, is_settled, say, start, sum};
 use fs_speaker::{Announcer, Closed, Sending};
 use fs_talk::Speaker;
 use std::alloc::Global;
@@ -58,6 +58,7 @@ impl<'a> Sender<'a> {
         ensures own { OnOk result (before_all self.new.announcer ≡ before_all self.old.announcer) }
         ensures same { OnOk result (self.new.announcer.line ≡ self.old.announcer.line) }
         ensures count { self.new.count ≡ self.old.count }
+        ensures sent { OnOk result (self.new.announcer.appended ≡ self.old.announcer.appended) }
         ensures ahead { ahead_of self.new.announcer self.new.started ≤ ahead_of self.old.announcer self.old.started }
         ensures fewer { OnOk result (self.old.started ≡ false
             → ahead_of self.new.announcer self.new.started < ahead_of self.old.announcer self.old.started) }
@@ -73,13 +74,6 @@ impl<'a> Sender<'a> {
         self.started = true;
         Ok(())
     }
-}
-
-/// Whether the end says what it has to say without hearing more: it is established, or has closed.
-fn is_settled(announcer: &Announcer<'_>) -> bool
-    ensures { result ≡ is_settled announcer.now.line }
-{
-    announcer.closed().is_some() || is_established(announcer.state())
 }
 
 /// The clock, at a moment.
@@ -135,6 +129,7 @@ fn take_all(
 
 impl<'a> Speaker for Sender<'a> {
     ghost use Rattle.std.specs.Option.{is_some};
+    ghost use Rattle.fs_ends.specs.Teller.{is_settled};
 
     ghost stands = { λ s heard said. SpeaksUpTo s.announcer s.started s.count heard said };
 
@@ -148,12 +143,11 @@ impl<'a> Speaker for Sender<'a> {
 
     ghost begun = { λ s. s.started };
 
+    ghost sent = { λ s. s.announcer.appended };
+
     ghost own = { λ s. record { announcer = before_all s.announcer; started = false; count = 0 } };
 
     fn hear(&mut self, moment: u64, piece: &[u8], out: &mut Vec<u8>) -> Result<(), Memory> {
-        if self.is_over() {
-            return Ok(());
-        }
         let was_ready = self.is_ready();
         self.begin(out)?;
         wake(&mut self.announcer, moment, out)?;

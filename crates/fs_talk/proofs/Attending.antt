@@ -1,5 +1,5 @@
 -- What an end hears of a stream, round by round.
-use Rattle.std.proofs.Common.{◌≡◌, ℕ, List, [], ◌∷◌, ◌++◌, Bool, Option, refl, ap, ◌∙◌}
+use Rattle.std.proofs.Common.{◌≡◌, ℕ, List, [], ◌∷◌, ◌++◌, ◌+◌, Bool, Option, length, length-append, arith, refl, ap, ◌∙◌}
 use Rattle.std.proofs.lemmas.List.{map-append}
 use Rattle.fs_base.specs.Sink.{Grew}
 use Rattle.fs_base.specs.Wire.{Told, WireEnds, end_at}
@@ -38,17 +38,18 @@ listens_more s0 s1 s2 place moment count said before now later answers asked las
 }
 
 -- the last round, and why it is the last
-pub hears_out : (heard : Heard) (s0 s1 s2 : Stance) (over ready : Bool) (heard_so_far place limit moment count said : ℕ) (before now later : Option WireEnds)
+pub hears_out : (heard : Heard) (s0 s1 s2 : Stance) (over : Bool) (heard_so_far place limit moment count said : ℕ) (before now later : Option WireEnds)
     (answers asked last : Option (List ℕ)) → Listens s0 s1 place before now answers asked → Told (Round s1 s2 place moment count said) now later
-    → Grew asked last (moment ∷ []) → ((left : List ℕ) → (count ≡ 0 → left ≡ []) → EndsSo heard over ready heard_so_far limit left)
-    → HearsOut heard s0 s2 over ready heard_so_far place limit before later answers last
-hears_out heard s0 s1 s2 over ready heard_so_far place limit moment count said before now later answers asked last l round grew ends = record {
-  given = l.given ++ moment ∷ [];
+    → Grew asked last (moment ∷ []) → ((left : List ℕ) → (count ≡ 0 → left ≡ []) → EndsSo heard over heard_so_far limit left)
+    → HearsOut heard s0 s2 over heard_so_far place limit before later answers last
+hears_out heard s0 s1 s2 over heard_so_far place limit moment count said before now later answers asked last l round grew ends = let given : List ℕ = l.given in record {
+  given = given ++ moment ∷ [];
   grew = Grew-trans answers asked last l.given (moment ∷ []) l.grew grew;
   told = told_and (Listened s0 s1 place l.given) (Round s1 s2 place moment count said)
-      (HeardOut heard s0 s2 over ready heard_so_far place limit (l.given ++ moment ∷ []))
-      (λ a b c l t. record {
-        listened = listened_more s0 s1 s2 place _ moment count said a b c l t;
+      (HeardOut heard s0 s2 over heard_so_far place limit (given ++ moment ∷ []))
+      (λ a b c so_far t. record {
+        listened = listened_more s0 s1 s2 place given moment count said a b c so_far t;
+        some = let one : length (given ++ moment ∷ []) ≡ length given + 1 = length-append given (moment ∷ []) in omega (arith, one);
         ends = ends (end_at place c).left t.none;
       }) before now later l.told round;
 }

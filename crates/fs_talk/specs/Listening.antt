@@ -1,10 +1,10 @@
 -- What an end hears of a stream.
-use Rattle.std.specs.Prelude.{ℕ, List, [], ◌≡◌, ◌<◌, ◌≤◌, Bool, true, false, Option}
+use Rattle.std.specs.Prelude.{ℕ, List, [], ◌≡◌, ◌<◌, ◌≤◌, Bool, true, false, Option, length}
 use Rattle.fs_base.specs.Sink.{Grew}
 use Rattle.fs_base.specs.Wire.{Told, WireEnds, end_at}
 use Rattle.fs_talk.specs.Round.{Part, Pieces, Stance, moments_in}
 use Rattle.fs_talk.specs.declared.listening.Heard.{Heard}
-use Rattle.fs_talk.specs.declared.listening.Heard.TheVariants.{All, Over, Ready, AtLimit}
+use Rattle.fs_talk.specs.declared.listening.Heard.TheVariants.{All, Over, AtLimit}
 
 -- The end heard pieces, each at the moment that the clock answered behind its read, and said octets.
 pub record Listened (old new : Stance) (place : ℕ) (given : List ℕ) (before now : WireEnds) : Type 0 where
@@ -19,22 +19,22 @@ pub record Listens (old new : Stance) (place : ℕ) (before now : Option WireEnd
   pub grew : Grew answers answers' given
   pub told : Told (Listened old new place given) before now
 
--- Why the end hears no more: it has closed; it heard so many octets as the limit; it is ready; or the stream ended.
-abbrev pub EndsSo : Heard → (over ready : Bool) → (count limit : ℕ) → (left : List ℕ) → Type 0
-EndsSo Over over ready count limit left = over ≡ true
-EndsSo AtLimit over ready count limit left = (over ≡ false) × (limit ≤ count)
-EndsSo Ready over ready count limit left = (over ≡ false) × ((count < limit) × (ready ≡ true))
-EndsSo All over ready count limit left = (over ≡ false) × ((count < limit) × ((ready ≡ false) × (left ≡ [])))
+-- Why no more is heard: the end hears no more; it heard so many octets as the limit; or the stream ended.
+abbrev pub EndsSo : Heard → (over : Bool) → (count limit : ℕ) → (left : List ℕ) → Type 0
+EndsSo Over over count limit left = over ≡ true
+EndsSo AtLimit over count limit left = (over ≡ false) × (limit ≤ count)
+EndsSo All over count limit left = (over ≡ false) × ((count < limit) × (left ≡ []))
 
-pub record HeardOut (heard : Heard) (old new : Stance) (over ready : Bool) (count place limit : ℕ) (given : List ℕ) (before now : WireEnds)
+pub record HeardOut (heard : Heard) (old new : Stance) (over : Bool) (count place limit : ℕ) (given : List ℕ) (before now : WireEnds)
     : Type 0 where
   pub listened : Listened old new place given before now
-  pub ends : EndsSo heard over ready count limit (end_at place now).left
+  pub some : 0 < length given
+  pub ends : EndsSo heard over count limit (end_at place now).left
 
 pub record HearsOut
-    (heard : Heard) (old new : Stance) (over ready : Bool) (count place limit : ℕ) (before now : Option WireEnds)
+    (heard : Heard) (old new : Stance) (over : Bool) (count place limit : ℕ) (before now : Option WireEnds)
     (answers answers' : Option (List ℕ))
     : Type 0 where
   pub given : List ℕ
   pub grew : Grew answers answers' given
-  pub told : Told (HeardOut heard old new over ready count place limit given) before now
+  pub told : Told (HeardOut heard old new over count place limit given) before now

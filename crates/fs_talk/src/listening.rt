@@ -1,6 +1,6 @@
 //! Hearing a stream to its end.
 
-ghost use Rattle.std.specs.Prelude.{◌≡◌, ◌≤◌, ◌<◌, ℕ, IfOk, OnOk};
+ghost use Rattle.std.specs.Prelude.{◌≡◌, ◌≤◌, ◌<◌, false, IfOk, OnOk};
 ghost use Rattle.std.specs.Result.{IsErrOf};
 ghost use Rattle.fs_base.specs.Outside.{Rose};
 ghost use Rattle.fs_talk.specs.Listening.{HearsOut};
@@ -16,17 +16,14 @@ use fs_base::{Clock, Wire};
 pub enum Heard {
     /// The stream ended.
     All,
-    /// The end has closed.
+    /// The end hears no more.
     Over,
-    /// The end says what it has to say without hearing more.
-    Ready,
     /// It heard as many octets as the limit.
     AtLimit,
 }
 
 /// Hears what comes at an end, each piece at the moment that the clock answers behind its read, and writes what the
-/// speaker says to it, until the speaker has closed, has heard `limit` octets up to where it was ready, is ready, or
-/// the stream ends.
+/// speaker says to it, until the speaker hears no more, has heard `limit` octets, or the stream ends.
 ///
 /// # Errors
 ///
@@ -41,9 +38,12 @@ pub fn hear_out<W: Wire, C: Clock, S: Speaker>(
 ) -> Result<Heard, TalkFault>
     requires place { end ≤ 1 }
     requires some { S.count speaker.old < limit }
+    requires open { S.over speaker.old ≡ false }
+    requires deaf { (s : S) → S.over s ≡ false → S.ready s ≡ false }
     ensures later { W.faults wire.old ≤ W.faults wire.new }
     ensures failed { IsErrOf result TalkFault.Failed → Rose (W.faults wire.old) (W.faults wire.new) }
     ensures bound { OnOk result (S.count speaker.new ≤ limit) }
+    ensures sent { OnOk result (S.sent speaker.new ≡ S.sent speaker.old) }
     ensures own { OnOk result (S.own speaker.new ≡ S.own speaker.old) }
     ensures heard { IfOk result (λ heard.
         HearsOut
@@ -51,7 +51,6 @@ pub fn hear_out<W: Wire, C: Clock, S: Speaker>(
         (S.stands speaker.old)
         (S.stands speaker.new)
         (S.over speaker.new)
-        (S.ready speaker.new)
         (S.count speaker.new)
         end
         limit
@@ -67,9 +66,6 @@ pub fn hear_out<W: Wire, C: Clock, S: Speaker>(
         }
         if limit <= speaker.count() {
             return Ok(Heard::AtLimit);
-        }
-        if speaker.is_ready() {
-            return Ok(Heard::Ready);
         }
         if round.count == 0 {
             return Ok(Heard::All);

@@ -77,6 +77,7 @@ pub fn take_round<W: Wire, C: Clock, S: Speaker>(
 ) -> Result<Taken, TalkFault>
     requires place { end ≤ 1 }
     requires some { 1 ≤ left }
+    requires open { S.over speaker.old ≡ false }
     ensures later { W.faults wire.old ≤ W.faults wire.new }
     ensures failed { IsErrOf result TalkFault.Failed → Rose (W.faults wire.old) (W.faults wire.new) }
     ensures within { IfOk result (λ taken. taken.count ≤ left) }
@@ -91,6 +92,7 @@ pub fn take_round<W: Wire, C: Clock, S: Speaker>(
         S.ready speaker.new ≡ false → S.count speaker.new ≡ S.count speaker.old + taken.count) }
     ensures bound { IfOk result (λ taken. S.count speaker.new ≤ S.count speaker.old + taken.count) }
     ensures ahead { OnOk result (S.ahead speaker.new ≤ S.ahead speaker.old) }
+    ensures sent { OnOk result (S.sent speaker.new ≡ S.sent speaker.old) }
     ensures own { OnOk result (S.own speaker.new ≡ S.own speaker.old) }
 {
     let most = left.min(PIECE as u64) as usize;

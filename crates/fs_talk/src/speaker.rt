@@ -10,7 +10,7 @@ pub trait Speaker {
     /// That the end stands where hearing these pieces at their moments, and having said these octets, leaves it.
     ghost stands: { Self → Pieces → List ℕ → Type 0 };
 
-    /// Whether it has closed.
+    /// Whether it hears no more: it has closed, or needs to hear no more.
     ghost over: { Self → Bool };
 
     /// Whether it says what it has to say without hearing more.
@@ -25,6 +25,9 @@ pub trait Speaker {
     /// Whether it has said what it says before it hears anything.
     ghost begun: { Self → Bool };
 
+    /// How many messages it has said that it says once it is ready.
+    ghost sent: { Self → ℕ };
+
     /// The end without what it heard and said: whose it is, and what it is to say. That stays.
     ghost own: { Self → Self };
 
@@ -34,12 +37,14 @@ pub trait Speaker {
     ///
     /// `Memory` where the machine refused memory.
     fn hear(&mut self, moment: u64, piece: &[u8], out: &mut Vec<u8>) -> Result<(), Memory>
+        requires { over self.old ≡ false }
         ensures hears { OnOk result
             (Hears (stands self.old) (stands self.new) moment piece.now out.old.items out.new.items) }
         ensures ready { IsTrue (ready self.old) → OnOk result (IsTrue (ready self.new)) }
         ensures count { OnOk result (ready self.new ≡ false → count self.new ≡ count self.old + length piece.now) }
         ensures bound { OnOk result (count self.new ≤ count self.old + length piece.now) }
         ensures ahead { ahead self.new ≤ ahead self.old }
+        ensures sent { OnOk result (sent self.new ≡ sent self.old) }
         ensures own { OnOk result (own self.new ≡ own self.old) };
 
     /// Appends the next message that it says unasked, and answers whether there was one.
@@ -58,7 +63,7 @@ pub trait Speaker {
         ensures count { OnOk result (count self.new ≡ count self.old) }
         ensures own { OnOk result (own self.new ≡ own self.old) };
 
-    /// Whether it has closed.
+    /// Whether it hears no more.
     fn is_over(&self) -> bool
         ensures { result ≡ over self.now };
 

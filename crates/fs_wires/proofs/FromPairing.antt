@@ -95,6 +95,7 @@ met ending config peer sending desk limit given text lists a b c d f =
         wrote_second = p.wrote_second ∙ ap (λ (e : WireEnds). e.second.written ++ p.announced) d;
         asked = p.asked;
         front = p.front;
+        lived = p.lived;
         arrives = p.arrives;
         late = p.late;
         ends = p.ends;

@@ -14,7 +14,7 @@ use Rattle.fs_speaker.specs.Session.{at_start, still}
 use Rattle.fs_speaker.specs.Side.{announcer}
 use Rattle.fs_speaker.specs.Transition.{Machine}
 use Rattle.fs_talk.proofs.Telling.{told_and}
-use Rattle.fs_talk.specs.Round.{octets_in}
+use Rattle.fs_talk.specs.Round.{Pieces, moments_in, octets_in}
 use Rattle.fs_ends.specs.declared.tell.Ending.{Ending}
 use Rattle.fs_ends.specs.declared.tell.Ending.TheVariants.{Done, Closed as HasClosed, Ended, AtLimit}
 use Rattle.fs_ends.specs.Opening.{opened_by}
@@ -43,11 +43,14 @@ is_reached least size l = grind (arith, nat_tests, l)
 below_sum : (limit size : ℕ) → size < limit → size < limit + length {A = ℕ} []
 below_sum limit size l = omega (arith, l)
 
-module _ (config : Config) (peer : Peer) (sending : Sending) (limit : ℕ) (moments octets said left : List ℕ) where
+module _ (config : Config) (peer : Peer) (sending : Sending) (limit : ℕ) (heard : Pieces) (said left : List ℕ) where
   abbrev machine : Machine
   machine = announcer config (needs_of sending.rules)
 
-  due_done : SaidAll config peer sending limit octets said → Done ≡ ending_of machine limit octets
+  abbrev octets : List ℕ
+  octets = octets_in heard
+
+  due_done : SaidAll config peer sending limit heard said → Done ≡ ending_of machine limit octets
   due_done s = sym (
       ap (ending_by limit (length octets)) s.found
       ∙ ending_at limit (length octets) s.phase s.behind false true (is_below (limit + length s.behind) (length octets) s.within) s.up)
@@ -62,17 +65,17 @@ module _ (config : Config) (peer : Peer) (sending : Sending) (limit : ℕ) (mome
       ap (ending_by limit (length octets)) e.found
       ∙ ending_at limit (length octets) e.phase [] false false (is_below (limit + length {A = ℕ} []) (length octets) (below_sum limit (length octets) e.within)) e.down)
 
-  due_closed : (why : Closed) → ClosesSo machine moments octets why → IsDue (HasClosed why) machine limit moments octets
+  due_closed : (why : Closed) → ClosesSo machine (moments_in heard) octets why → IsDue (HasClosed why) machine limit (moments_in heard) octets
   due_closed why (inl c) = inl (sym (
       ap (λ (z : List ℕ). ending_by limit (length octets) (opened_by machine at_start z)) (sym (append-nil octets))
       ∙ ap (ending_by limit (length octets)) (c [])))
   due_closed why (inr x) = inr (ap HasClosed x.0, x.1)
 
-  due_of : (ending : Ending) → TellsSo ending config peer sending limit moments octets said left → IsDue ending machine limit moments octets
+  due_of : (ending : Ending) → TellsSo ending config peer sending limit heard said left → IsDue ending machine limit (moments_in heard) octets
   due_of Done t = inl (due_done t)
-  due_of (HasClosed why) t = due_closed why t
-  due_of Ended t = inl (due_ended t)
-  due_of AtLimit t = inl (due_limit t)
+  due_of (HasClosed why) t = due_closed why t.1.0
+  due_of Ended t = inl (due_ended t.0)
+  due_of AtLimit t = inl (due_limit t.0)
 
 -- what was told of a connection that was opened, spoken through, and closed
 
@@ -82,12 +85,15 @@ dialled before now = now ≡ record { first = before.first; second = opened_end 
 spoken : (ending : Ending) (config : Config) (peer : Peer) (sending : Sending) (limit : ℕ) (given : List ℕ) (a b c : WireEnds)
     → dialled a b → Tells ending config peer sending limit given b c → Speaks ending config peer sending limit given a c
 spoken ending config peer sending limit given a b c d t = record {
-  octets = octets_in t.heard;
+  heard = t.heard;
   said = t.said;
   read = sym (ap (λ (e : WireEnds). e.second.left) d) ∙ t.read;
   wrote = t.wrote ∙ ap (λ (e : WireEnds). e.second.written ++ t.said) d;
+  asked = t.asked;
+  listened = t.listened;
   ends = t.ends;
-  due = due_of config peer sending limit given (octets_in t.heard) t.said c.second.left ending t.ends;
+  due = subst (λ (moments : List ℕ). IsDue ending (announcer config (needs_of sending.rules)) limit moments (octets_in t.heard)) t.asked
+      (due_of config peer sending limit t.heard t.said c.second.left ending t.ends);
 }
 
 closed_so : (ending : Ending) (config : Config) (peer : Peer) (sending : Sending) (limit : ℕ) (given : List ℕ) (a b c : WireEnds)
@@ -110,20 +116,20 @@ connected ending config peer sending limit t0 t1 t2 t3 answers answers' p opens 
 }
 
 -- as the peer that the rules are sent for
-pub connected_as : (ending : Ending) (config : Config) (sending : Sending) (limit count : ℕ) (teller : Announcing) (started : Bool) (t0 t1 t2 t3 : Option WireEnds) (answers answers' : Option (List ℕ))
+pub connected_as : (ending : Ending) (config : Config) (sending : Sending) (limit : ℕ) (teller : Announcing) (started : Bool) (t0 t1 t2 t3 : Option WireEnds) (answers answers' : Option (List ℕ))
     → CanSend config (sender_of config.peers) sending
-    → IfSome (sender_of config.peers) (λ peer. (teller ≡ announcing config peer sending fresh false 0) × ((started ≡ false) × (count ≡ 0)))
+    → IfSome (sender_of config.peers) (λ peer. (teller ≡ announcing config peer sending fresh false 0) × (started ≡ false))
     → Told dialled t0 t1
     → ((config : Config) (peer : Peer) (sending : Sending) → teller ≡ begins_with config peer sending → started ≡ false → TellsOver ending config peer sending limit t1 t2 answers answers')
     → Told EndCloses t2 t3
     → Connected ending config sending limit (record { ends = t0; ends_now = t3; answers = answers; answers_now = answers' })
-connected_as ending config sending limit count teller started t0 t1 t2 t3 answers answers' can made opens tells closes = by (sender_of config.peers) refl can made
+connected_as ending config sending limit teller started t0 t1 t2 t3 answers answers' can made opens tells closes = by (sender_of config.peers) refl can made
   where
     by : (o : Option Peer) → sender_of config.peers ≡ o → CanSend config o sending
-        → IfSome o (λ peer. (teller ≡ announcing config peer sending fresh false 0) × ((started ≡ false) × (count ≡ 0)))
+        → IfSome o (λ peer. (teller ≡ announcing config peer sending fresh false 0) × (started ≡ false))
         → Connected ending config sending limit (record { ends = t0; ends_now = t3; answers = answers; answers_now = answers' })
     by None e c m = absurd c
-    by (Some peer) e c m = connected ending config peer sending limit t0 t1 t2 t3 answers answers' e opens (tells config peer sending m.0 m.1.0) closes
+    by (Some peer) e c m = connected ending config peer sending limit t0 t1 t2 t3 answers answers' e opens (tells config peer sending m.0 m.1) closes
 
 -- the run ended before anything was written
 

@@ -1,6 +1,5 @@
 -- How what `listen` answers follows from its stages.
-use Rattle.std.proofs.Common.{◌≡◌, ◌⊎◌, inl, inr, ◌∙◌, ℕ, List, [], ◌∷◌, ◌++◌, length, nat_le, Bool, true, false, if◌then◌else◌, Option, Some, None, append_assoc, append-nil, refl, ap, sym, subst}
-use Rattle.std.proofs.lemmas.Grind.{flat_map-append}
+use Rattle.std.proofs.Common.{◌≡◌, ◌⊎◌, inl, inr, ◌∙◌, ℕ, List, [], ◌∷◌, ◌++◌, length, nat_le, Bool, true, false, if◌then◌else◌, Option, Some, None, append-nil, refl, ap, sym, subst}
 use Rattle.std.proofs.lemmas.Option.{same_Some}
 use Rattle.fs_base.specs.Config.{peer_of}
 use Rattle.fs_base.specs.Wire.{EndCloses, Told, WireEnds}
@@ -27,25 +26,19 @@ use Rattle.fs_stages.specs.declared.refusal.Refusal.{Refusal}
 use Rattle.fs_stages.specs.declared.refusal.Refusal.TheVariants.{Config as Refused}
 use Rattle.fs_stages.proofs.Stages.{answers_for, ends_early, reason_then}
 use Rattle.fs_wires.specs.Announcing.{IsBrokenOff}
+use Rattle.fs_ends.proofs.Hearing.{octets_more}
 use Rattle.fs_wires.specs.Conversation.{Conversation}
 use Rattle.fs_wires.specs.Listening.{Begins, HasExpired, Heard, Hears, IsHeard, ListenedSo, ListensThrough, ending_by, ending_of, hearing_stage, listening, with_peer}
 use Rattle.fs_wires.specs.Listed.{ListsDesk, TellsListing, verdict_by}
 use Rattle.fs_speaker.proofs.Lowest.{sender_told}
 use Rattle.fs_wires.proofs.FromStages.{is_below, is_reached}
 
--- the octets up to a piece, and those behind it
-octets_split : (earlier : Pieces) (moment : ℕ) (piece : List ℕ) (later : Pieces)
-    → octets_in (earlier ++ (moment, piece) ∷ later) ≡ (octets_in earlier ++ piece) ++ octets_in later
-octets_split earlier moment piece later =
-    flat_map-append (λ (e : ℕ × List ℕ). e.1) earlier ((moment, piece) ∷ later) ∙ sym (append_assoc (octets_in earlier) piece (octets_in later))
-
-pub closes_behind : (config : Config) (peer : Peer) (heard earlier later : Pieces) (moment : ℕ) (piece said more : List ℕ) (why : Closed)
-    → heard ≡ earlier ++ (moment, piece) ∷ later → ClosesIn config peer.number peer earlier moment piece said why
+pub closes_behind : (config : Config) (peer : Peer) (heard earlier : Pieces) (moment : ℕ) (piece said more : List ℕ) (why : Closed)
+    → heard ≡ earlier ++ (moment, piece) ∷ [] → ClosesIn config peer.number peer earlier moment piece said why
     → (bounded_from config peer (octets_in heard ++ more)).1 ≡ closed why
-closes_behind config peer heard earlier later moment piece said more why split c =
-    ap (λ (z : List ℕ). (bounded_from config peer (z ++ more)).1) (ap octets_in split ∙ octets_split earlier moment piece later)
-    ∙ ap (λ (z : List ℕ). (bounded_from config peer z).1) (append_assoc (octets_in earlier ++ piece) (octets_in later) more)
-    ∙ ap (λ (p : List Update × Last). p.1) (c.over.stays (octets_in later ++ more))
+closes_behind config peer heard earlier moment piece said more why split c =
+    ap (λ (z : List ℕ). (bounded_from config peer (z ++ more)).1) (ap octets_in split ∙ octets_more earlier moment piece)
+    ∙ ap (λ (p : List Update × Last). p.1) (c.over.stays more)
 
 pub expired_so : (config : Config) (peer : Peer) (heard : Pieces) (said : List ℕ) (why : Closed) (t : ClosesOnce config peer.number peer heard said why)
     → ExpiresAt config peer t.earlier t.moment said why → HasExpired config peer heard
@@ -53,7 +46,6 @@ expired_so config peer heard said why t x = record {
   earlier = t.earlier;
   moment = t.moment;
   piece = t.piece;
-  later = t.later;
   split = t.split;
   lived = t.lived;
   due = x.due;
@@ -87,7 +79,7 @@ module _ (desk : Desked) (peer : Peer) (limit : ℕ) (heard : Pieces) (said left
       by (inl x) = inr (ap HasClosed x.why_is, expired_so desk.config peer heard said why t x)
       by (inr c) = inl (sym (ap (ending_by limit (length (octets_in heard)))
           (ap (λ (z : List ℕ). (bounded_from desk.config peer z).1) (sym (append-nil (octets_in heard)))
-          ∙ closes_behind desk.config peer heard t.earlier t.later t.moment t.piece said [] why t.split c)))
+          ∙ closes_behind desk.config peer heard t.earlier t.moment t.piece said [] why t.split c)))
 
   due_of : (ending : Ending) → ListensSo ending desk peer.number peer limit heard said left → IsHeard ending desk.config peer limit heard
   due_of Done t = inl (due_still desk.config peer limit (octets_in heard) t.receives.phase false true (found_from t.receives.phase t.receives.found) (is_below limit (length (octets_in heard)) t.within) t.settled)

@@ -18,6 +18,7 @@ use Rattle.fs_ends.specs.declared.tell.Ending.TheVariants.{Done, Closed as HasCl
 use Rattle.fs_ends.specs.Opening.{opened_by}
 use Rattle.fs_ends.specs.Tell.{EndsBefore, MetLimit}
 use Rattle.fs_ends.specs.Teller.{ClosesSo, HasExpired}
+use Rattle.fs_talk.specs.Round.{moments_in, octets_in}
 use Rattle.fs_conf.specs.Config.{config_of}
 use Rattle.fs_conf.specs.Rules.{rules_of}
 use Rattle.fs_stages.specs.Load.{Names, config_stage, fetch, rules_stage, sending_stage}
@@ -160,22 +161,23 @@ module _ (config : Config) (peer : Peer) (sending : Sending) (limit : ℕ) (give
 
   only_done_so : (ending : Ending) → Speaks ending config peer sending limit given before now → ending ≡ Done
   only_done_so Done s = refl
-  only_done_so (HasClosed why) s = absurd (at s.ends)
+  only_done_so (HasClosed why) s = absurd (at s.ends.1.0)
     where
-      at : ClosesSo machine given s.octets why → ⊥
+      at : ClosesSo machine (moments_in s.heard) (octets_in s.heard) why → ⊥
       at (inl c) = never_both why phase behind (sym (c now.second.left) ∙ ap (opened_by machine at_start) (sym s.read) ∙ opens)
-      at (inr x) = timely (subst (HasExpired machine given) (sym s.read) (expired_more machine given s.octets now.second.left x.1))
-  only_done_so Ended s = absurd (at s.ends)
+      at (inr x) = timely (subst (HasExpired machine given) (sym s.read)
+          (expired_more machine given (octets_in s.heard) now.second.left (subst (λ (moments : List ℕ). HasExpired machine moments (octets_in s.heard)) s.asked x.1)))
+  only_done_so Ended s = absurd (at s.ends.0)
     where
-      at : EndsBefore machine limit s.octets now.second.left → ⊥
+      at : EndsBefore machine limit (octets_in s.heard) now.second.left → ⊥
       at e =
-          let all : before.second.to_receive ≡ s.octets = s.read ∙ ap (λ (z : List ℕ). s.octets ++ z) e.none ∙ append-nil s.octets in
+          let all : before.second.to_receive ≡ (octets_in s.heard) = s.read ∙ ap (λ (z : List ℕ). (octets_in s.heard) ++ z) e.none ∙ append-nil (octets_in s.heard) in
           let same : phase ≡ e.phase = same_phase phase e.phase behind [] (sym opens ∙ ap (opened_by machine at_start) all ∙ e.found) in
           true≢false (sym (subst (λ (p : Phase). is_established p.state ≡ true) same up) ∙ e.down)
-  only_done_so AtLimit s = absurd (at s.ends)
+  only_done_so AtLimit s = absurd (at s.ends.0)
     where
-      at : MetLimit machine limit s.octets → ⊥
-      at m = too_many limit (length m.behind) (length s.octets) (length before.second.to_receive) (length now.second.left) m.met (ap (λ (z : List ℕ). length z) s.read ∙ length-append s.octets now.second.left) within
+      at : MetLimit machine limit (octets_in s.heard) → ⊥
+      at m = too_many limit (length m.behind) (length (octets_in s.heard)) (length before.second.to_receive) (length now.second.left) m.met (ap (λ (z : List ℕ). length z) s.read ∙ length-append (octets_in s.heard) now.second.left) within
 
 module _ (limit : ℕ) (holds : Names) (config rules : List ℕ) (call : Happened) (talk : Conversation) (answer : ℕ) where
   served_done : (s : IsServed limit holds config rules talk) (accepted : Config) (sending : Sending) (ending : Ending) → sending_stage limit holds config rules ≡ Found (accepted, sending)

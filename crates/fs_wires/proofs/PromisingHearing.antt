@@ -120,7 +120,7 @@ module _ (config : Config) (peer : Peer) (text : List ℕ) (limit : ℕ) (given 
           ⊎ ClosesIn config peer.number peer closed_there.earlier closed_there.moment closed_there.piece s.said why → ⊥
       at (inl x) = timely s.heard now.first.left s.read s.asked (expired_so config peer s.heard s.said why closed_there x)
       at (inr c) = never_both why phase
-          (sym (closes_behind config peer s.heard closed_there.earlier closed_there.later closed_there.moment closed_there.piece s.said now.first.left why closed_there.split c)
+          (sym (closes_behind config peer s.heard closed_there.earlier closed_there.moment closed_there.piece s.said now.first.left why closed_there.split c)
           ∙ ap (λ (z : List ℕ). (bounded_from config peer z).1) (sym s.read) ∙ stays)
   only_done_so Ended s = absurd (at s.ends)
     where

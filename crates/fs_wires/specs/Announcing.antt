@@ -1,5 +1,5 @@
 -- What `announce` answers, writes, and says to the other end.
-use Rattle.std.specs.Prelude.{◌≡◌, ◌⊎◌, ℕ, ◌+◌, List, ◌++◌, length, nat_le, if◌then◌else◌, Option, Some}
+use Rattle.std.specs.Prelude.{◌≡◌, ◌⊎◌, ℕ, ◌+◌, List, [], ◌∷◌, ◌++◌, length, nat_le, if◌then◌else◌, Option, Some}
 use Rattle.fs_base.specs.Happened.{Happened, FilesFailed, SinkFailed, WireFailed}
 use Rattle.fs_base.specs.Sink.{Grew}
 use Rattle.fs_base.specs.Wire.{Told, WireEnds}
@@ -14,9 +14,11 @@ use Rattle.fs_speaker.specs.Side.{announcer}
 use Rattle.fs_speaker.specs.Transition.{Machine}
 use Rattle.fs_ends.specs.declared.tell.Ending.{Ending}
 use Rattle.fs_ends.specs.declared.tell.Ending.TheVariants.{Done, Closed as HasClosed, Ended, AtLimit}
+use Rattle.fs_ends.specs.Course.{course}
 use Rattle.fs_ends.specs.Opening.{opened_by}
 use Rattle.fs_ends.specs.Tell.{TellsSo}
-use Rattle.fs_ends.specs.Teller.{HasExpired}
+use Rattle.fs_ends.specs.Teller.{HasExpired, IsListening}
+use Rattle.fs_talk.specs.Round.{Pieces, moments_in, octets_in}
 use Rattle.fs_stages.specs.Load.{Names, sending_stage}
 use Rattle.fs_stages.specs.Refusal.{Answers, EndsEarly, Found, Verdict}
 use Rattle.fs_stages.specs.declared.refusal.Refusal.{Refusal}
@@ -40,16 +42,19 @@ abbrev pub IsDue : Ending → Machine → (limit : ℕ) → (moments octets : Li
 IsDue ending machine limit moments octets =
     (ending ≡ ending_of machine limit octets) ⊎ ((ending ≡ HasClosed (Fault 4 0)) × HasExpired machine moments octets)
 
--- Of what the other end was to give these octets were read, each before the clock answered a moment, and this was
--- written to it.
+-- Of what the other end was to give these pieces were read, each before the clock answered a moment, and this was
+-- written to it. Behind all pieces but the last the end was open and not established.
 pub record Speaks (ending : Ending) (config : Config) (peer : Peer) (sending : Sending) (limit : ℕ) (given : List ℕ)
     (before now : WireEnds) : Type 0 where
-  pub octets : List ℕ
+  pub heard : Pieces
   pub said : List ℕ
-  pub read : before.second.to_receive ≡ octets ++ now.second.left
+  pub read : before.second.to_receive ≡ octets_in heard ++ now.second.left
   pub wrote : now.second.written ≡ before.second.written ++ said
-  pub ends : TellsSo ending config peer sending limit given octets said now.second.left
-  pub due : IsDue ending (announcer config (needs_of sending.rules)) limit given octets
+  pub asked : moments_in heard ≡ given
+  pub listened : (earlier : Pieces) (last : ℕ × List ℕ) → heard ≡ earlier ++ last ∷ []
+      → IsListening (course (announcer config (needs_of sending.rules)) earlier).point
+  pub ends : TellsSo ending config peer sending limit heard said now.second.left
+  pub due : IsDue ending (announcer config (needs_of sending.rules)) limit given (octets_in heard)
 
 -- The same, where wire and clock tell, as the configuration's peer with the lowest number.
 pub record Connected (ending : Ending) (config : Config) (sending : Sending) (limit : ℕ) (talk : Conversation) : Type 0 where

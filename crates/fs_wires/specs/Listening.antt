@@ -49,14 +49,13 @@ ending_by limit size (still phase) =
 abbrev pub ending_of : Config → Peer → ℕ → List ℕ → Ending
 ending_of config peer limit octets = ending_by limit (length octets) (bounded_from config peer octets).1
 
--- The hold time expired: the pieces up to one of them leave the session open, and at that one's moment the time on which
+-- The hold time expired: the pieces up to the last leave the session open, and at the last one's moment the time on which
 -- they agree has passed since a message came (RFC 4271, section 6.5).
 pub record HasExpired (config : Config) (peer : Peer) (heard : Pieces) : Type 0 where
   pub earlier : Pieces
   pub moment : ℕ
   pub piece : List ℕ
-  pub later : Pieces
-  pub split : heard ≡ earlier ++ (moment, piece) ∷ later
+  pub split : heard ≡ earlier ++ (moment, piece) ∷ []
   pub lived : (course_of config peer earlier).point.closed ≡ None
   pub due : tick_at (course_of config peer earlier).point.phase.hold
       (at_moment moment (course_of config peer earlier).point.times)

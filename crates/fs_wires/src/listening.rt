@@ -89,6 +89,7 @@ fn hear<W: Wire, C: Clock>(
 ) -> Result<Ending, Refusal>
     requires some { 1 ≤ order.now.limit }
     requires fresh { Receives hearer.old.desk hearer.old.peer hearer.old.count [] [] }
+    requires open { is_ended (standing_at_desk hearer.old.desk hearer.old.peer) ≡ false }
     ensures later { W.faults wire.old ≤ W.faults wire.new }
     ensures broken { IfErr result (IsBrokenOff (Rose (W.faults wire.old) (W.faults wire.new))) }
     ensures heard { IfOk result (λ ending.

@@ -3,7 +3,8 @@ use Rattle.std.proofs.lemmas.Result.{on_ok_weaker}
 use Rattle.fs_speaker.proofs.Waking.{ticks_on, ticks_shut}
 use Rattle.fs_speaker.specs.Announcer.{machine_in}
 use Rattle.fs_receive.proofs.Counting.{woke_hand}
-use Rattle.fs_receive.proofs.Settling.{woke_over, woke_settled}
+use Rattle.fs_receive.proofs.Settling.{woke_settled}
+use Rattle.fs_ends.proofs.Feeding.{woke_over}
 use Rattle.fs_receive.proofs.sender.wake.Goals as goal
 
 pub returns-in-Ok-clause-wakes : goal.returns-in-Ok-clause-wakes

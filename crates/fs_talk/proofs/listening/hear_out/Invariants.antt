@@ -1,4 +1,4 @@
-use Rattle.std.proofs.Common.{◌≡◌, ◌≤◌, ◌<◌, ◌-◌}
+use Rattle.std.proofs.Common.{◌≡◌, ◌≤◌, ◌<◌, ◌-◌, false}
 use Rattle.fs_talk.specs.Listening.{Listens}
 use Rattle.fs_talk.proofs.listening.hear_out.Given as goal
 
@@ -6,6 +6,8 @@ abbrev pub invariant-loop-round : goal.invariant-loop-round
 invariant-loop-round g l = record {
   later : g.W.Wire.faults l.fn.wire ≤ g.W.Wire.faults l.wire;
   within : g.S.Speaker.count l.speaker < l.fn.limit;
+  opened : g.S.Speaker.over l.speaker ≡ false;
+  sent : g.S.Speaker.sent l.speaker ≡ g.S.Speaker.sent l.fn.speaker;
   own : g.S.Speaker.own l.speaker ≡ g.S.Speaker.own l.fn.speaker;
   listens :
       Listens

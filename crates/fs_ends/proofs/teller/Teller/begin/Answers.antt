@@ -1,15 +1,14 @@
 use Rattle.std.proofs.Common.{rules, refl}
-use Rattle.fs_ends.proofs.Ahead.{begins_fewer, begins_least, starts_own}
-use Rattle.fs_ends.proofs.Telling.{begins_from, begun}
+use Rattle.fs_ends.proofs.Ahead.{begins_fewer, begins_least, starts_own, starts_sent}
+use Rattle.fs_ends.proofs.Hearing.{begins_from, says_same}
 use Rattle.fs_ends.proofs.teller.Teller.begin.Goals as goal
 
 pub returns-then-self-clause-begins : goal.returns-then-self-clause-begins
-returns-then-self-clause-begins c = λ moments octets. begun c.args.self.now.announcer c.args.self.now.started c.args.self.now.count c.args.out.now.items c.args.out.now.items refl moments octets
+returns-then-self-clause-begins c = says_same c.args.self.now.announcer c.args.self.now.started c.args.self.now.count c.args.out.now.items c.args.out.now.items refl
 
 pub returns-clause-begins : goal.returns-clause-begins
-returns-clause-begins c = λ moments octets.
-    begins_from c.args.self.now.announcer c.start.new.announcer c.args.self.now.started c.args.self.now.count c.args.out.now.items c.start.new.out.items (search rules) c.in_ok-start.ensures.open
-    c.in_ok-start.ensures.starts moments octets
+returns-clause-begins c =
+    begins_from c.args.self.now.announcer c.start.new.announcer c.args.self.now.started c.args.self.now.count c.args.out.now.items c.start.new.out.items (search rules) c.in_ok-start.ensures.starts
 
 pub returns-clause-own : goal.returns-clause-own
 returns-clause-own c = (starts_own c.args.self.now.announcer c.start.new.announcer c.args.out.now.items c.start.new.out.items c.in_ok-start.ensures.starts).0
@@ -24,3 +23,6 @@ returns-clause-ahead c =
 pub returns-clause-fewer : goal.returns-clause-fewer
 returns-clause-fewer c = λ e.
     begins_fewer c.args.self.now.announcer c.start.new.announcer c.args.self.now.started c.args.out.now.items c.start.new.out.items e c.in_ok-start.ensures.open c.in_ok-start.ensures.starts
+
+pub returns-clause-sent : goal.returns-clause-sent
+returns-clause-sent c = starts_sent c.args.self.now.announcer c.start.new.announcer c.args.out.now.items c.start.new.out.items c.in_ok-start.ensures.starts

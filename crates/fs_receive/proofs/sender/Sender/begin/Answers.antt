@@ -1,5 +1,5 @@
 use Rattle.std.proofs.Common.{rules}
-use Rattle.fs_ends.proofs.Ahead.{begins_fewer, begins_least, starts_own}
+use Rattle.fs_ends.proofs.Ahead.{begins_fewer, begins_least, starts_own, starts_sent}
 use Rattle.fs_receive.proofs.Sending.{begins_from, says_same}
 use Rattle.fs_receive.proofs.sender.Sender.begin.Goals as goal
 
@@ -23,3 +23,6 @@ returns-clause-ahead c =
 pub returns-clause-fewer : goal.returns-clause-fewer
 returns-clause-fewer c = λ e.
     begins_fewer c.args.self.now.announcer c.start.new.announcer c.args.self.now.started c.args.out.now.items c.start.new.out.items e c.in_ok-start.ensures.open c.in_ok-start.ensures.starts
+
+pub returns-clause-sent : goal.returns-clause-sent
+returns-clause-sent c = starts_sent c.args.self.now.announcer c.start.new.announcer c.args.out.now.items c.start.new.out.items c.in_ok-start.ensures.starts

@@ -1,18 +1,15 @@
-use Rattle.std.proofs.Common.{◌≡◌, Bool, true, false, ap, sym, ◌∙◌, ◌+◌, ℕ, ◌++◌}
-use Rattle.fs_speaker.specs.Announcer.{machine_in}
-use Rattle.fs_receive.proofs.Counting.{counts_over, counts_piece}
-use Rattle.fs_receive.proofs.Sending.{begins_hears, counts_hears, hears_piece, hears_shut}
+use Rattle.std.proofs.Common.{◌≡◌, Bool, true, false, ap, ◌∙◌, ◌+◌, ℕ}
+use Rattle.std.specs.Option.{is_some}
+use Rattle.fs_speaker.specs.Announcer.{Announcing, machine_in}
+use Rattle.fs_speaker.specs.Line.{Lined}
+use Rattle.fs_ends.proofs.Ahead.{not_some}
+use Rattle.fs_receive.proofs.Counting.{counts_piece}
+use Rattle.fs_receive.proofs.Sending.{begins_hears, counts_hears, hears_piece}
 use Rattle.std.proofs.Common.{rules}
 use Rattle.fs_receive.proofs.sender.SenderSpeaker.hear.Goals as goal
 
 both : {b : Bool} → b ≡ true → b ≡ false → ⊥
 both e f = cc
-
-pub returns-then-is_over-clause-hears : goal.returns-then-is_over-clause-hears
-returns-then-is_over-clause-hears c =
-    counts_hears c.args.self.now.announcer c.args.self.now.announcer c.args.self.now.started c.args.self.now.started c.args.self.now.count c.args.self.now.count c.args.moment c.args.piece.now c.args.out.now.items
-    c.args.out.now.items (λ octets k. counts_over (machine_in c.args.self.now.announcer) c.args.self.now.announcer.line (octets ++ c.args.piece.now) c.args.self.now.count (sym c.is_over.ensures ∙ c.if-is_over.true))
-    (hears_shut c.args.self.now.announcer c.args.self.now.started c.args.moment c.args.piece.now c.args.out.now.items (sym c.is_over.ensures ∙ c.if-is_over.true))
 
 pub returns-in_ok-self-clause-hears : goal.returns-in_ok-self-clause-hears
 returns-in_ok-self-clause-hears c =
@@ -22,7 +19,7 @@ returns-in_ok-self-clause-hears c =
     (begins_hears c.args.self.now.announcer c.begin.new.self.announcer c.take_all.new.announcer c.args.self.now.started c.begin.new.self.started c.args.moment c.args.piece.now c.args.out.now.items c.begin.new.out.items
     c.take_all.new.out.items c.in_ok-begin.ensures.begins
     (hears_piece c.begin.new.self.announcer c.wake.new.announcer c.take_all.new.announcer c.begin.new.self.started c.args.moment c.args.piece.now c.begin.new.out.items c.wake.new.out.items c.take_all.new.out.items
-    c.in_ok-begin.ensures.started c.wake.ensures.same.0 c.take_all.ensures.same.0 c.in_ok-wake.ensures.wakes c.in_ok-needed.ensures.hands))
+    c.in_ok-begin.ensures.started (not_some c.begin.new.self.announcer.line.closed (ap (λ (l : Lined). is_some l.closed) c.in_ok-begin.ensures.same ∙ c.requires)) c.wake.ensures.same.0 c.take_all.ensures.same.0 c.in_ok-wake.ensures.wakes c.in_ok-needed.ensures.hands))
 
 pub returns-else-not-was_ready-clause-hears : goal.returns-else-not-was_ready-clause-hears
 returns-else-not-was_ready-clause-hears c =
@@ -32,4 +29,12 @@ returns-else-not-was_ready-clause-hears c =
     (begins_hears c.args.self.now.announcer c.begin.new.self.announcer c.take_all.new.announcer c.args.self.now.started c.begin.new.self.started c.args.moment c.args.piece.now c.args.out.now.items c.begin.new.out.items
     c.take_all.new.out.items c.in_ok-begin.ensures.begins
     (hears_piece c.begin.new.self.announcer c.wake.new.announcer c.take_all.new.announcer c.begin.new.self.started c.args.moment c.args.piece.now c.begin.new.out.items c.wake.new.out.items c.take_all.new.out.items
-    c.in_ok-begin.ensures.started c.wake.ensures.same.0 c.take_all.ensures.same.0 c.in_ok-wake.ensures.wakes c.in_ok-needed.ensures.hands))
+    c.in_ok-begin.ensures.started (not_some c.begin.new.self.announcer.line.closed (ap (λ (l : Lined). is_some l.closed) c.in_ok-begin.ensures.same ∙ c.requires)) c.wake.ensures.same.0 c.take_all.ensures.same.0 c.in_ok-wake.ensures.wakes c.in_ok-needed.ensures.hands))
+
+pub returns-in_ok-self-clause-sent : goal.returns-in_ok-self-clause-sent
+returns-in_ok-self-clause-sent c =
+    ap (λ (n : Announcing). n.appended) c.take_all.ensures.same.0 ∙ ap (λ (n : Announcing). n.appended) c.wake.ensures.same.0 ∙ c.in_ok-begin.ensures.sent
+
+pub returns-else-not-was_ready-clause-sent : goal.returns-else-not-was_ready-clause-sent
+returns-else-not-was_ready-clause-sent c =
+    ap (λ (n : Announcing). n.appended) c.take_all.ensures.same.0 ∙ ap (λ (n : Announcing). n.appended) c.wake.ensures.same.0 ∙ c.in_ok-begin.ensures.sent

@@ -1,6 +1,7 @@
 -- One piece more.
-use Rattle.std.proofs.Common.{◌≡◌, ◌⊎◌, inl, inr, ℕ, List, [], ◌∷◌, ◌++◌, Option, Some, None, refl, ap, sym, ◌∙◌, subst, append_assoc, append-nil}
+use Rattle.std.proofs.Common.{◌≡◌, ◌⊎◌, inl, inr, ℕ, suc, zero, List, [], ◌∷◌, ◌++◌, Option, Some, None, refl, ap, sym, ◌∙◌, subst, append_assoc, append-nil}
 use Rattle.std.proofs.lemmas.Option.{none-some}
+use Rattle.fs_message.specs.Write.{message_text}
 use Rattle.fs_speaker.specs.End.{first_point, ticked, ticks}
 use Rattle.fs_speaker.specs.Handed.{Handed, Point, hand, handed, point, runs_by}
 use Rattle.fs_speaker.specs.Times.{at_moment, tick_at, written_now}
@@ -10,9 +11,13 @@ use Rattle.fs_speaker.specs.declared.Closed.TheVariants.{Fault}
 use Rattle.fs_session.specs.declared.times.Tick.{Tick}
 use Rattle.fs_session.specs.declared.times.Tick.TheVariants.{Quiet, Keeps, Expires}
 use Rattle.fs_session.specs.declared.times.Times.{Times}
-use Rattle.fs_ends.specs.Teller.{keepalives}
 use Rattle.fs_talk.specs.Round.{Pieces}
-use Rattle.fs_receive.specs.Course.{after, hears, course, course_from}
+use Rattle.fs_ends.specs.Course.{after, hears, course, course_from}
+
+-- so many KEEPALIVEs
+abbrev pub keepalives : ℕ → List ℕ
+keepalives zero = []
+keepalives (suc n) = keepalives n ++ message_text 4 []
 
 more : (machine : Machine) (now : Handed) (heard : Pieces) (event : ℕ × List ℕ)
     → course_from machine now (heard ++ event ∷ []) ≡ after (course_from machine now heard) (hears machine event (course_from machine now heard).point)
