@@ -16,13 +16,13 @@ use Rattle.fs_speaker.proofs.ReplySteps.{Shows, told, wrong_first}
 use Rattle.fs_speaker.proofs.SessionSteps.{Transition}
 use Rattle.fs_ends.specs.Opening.{front_message, opened_by, opens}
 
-abbrev Opened : Type 0
+abbrev pub Opened : Type 0
 Opened = Last × List ℕ
 
-abbrev chosen : Phase → List ℕ → (Phase → Opened) → Opened
+abbrev pub chosen : Phase → List ℕ → (Phase → Opened) → Opened
 chosen next behind rest = if is_established next.state then (still next, behind) else rest next
 
-abbrev going : Transition → List ℕ → (Phase → Opened) → Opened
+abbrev pub going : Transition → List ℕ → (Phase → Opened) → Opened
 going (Ok next) behind rest = chosen next.0 behind rest
 going (Err why) behind rest = (closed why, [])
 
@@ -56,13 +56,13 @@ front_shrinks octets found h = by (first_message octets) refl h
         let same : first.1 ≡ found.1 = ap (λ (o : Option ((Message × List ℕ) × List ℕ)). elim o [ None ↦ first.1 | Some x ↦ x.1 ]) e in
         subst (λ (z : List ℕ). length z < length octets) same (message_shrinks octets first f)
 
-opened_first : (machine : Machine) (now : Phase) (octets : List ℕ) (found : Message × List ℕ) → first_message octets ≡ Some found
+pub opened_first : (machine : Machine) (now : Phase) (octets : List ℕ) (found : Message × List ℕ) → first_message octets ≡ Some found
     → opened_by machine now octets ≡ going (transition_by machine now found.0) found.1 (λ next. opened_by machine next found.1)
 opened_first machine now octets found h =
     ap (λ (parts : List (Message × List ℕ) × List ℕ). opens machine now parts.0 (wrong_at parts.1)) (parts_step front_message front_shrinks octets (found, found.1) (front_some octets found h))
     ∙ opens_step machine now found (parts_of front_message found.1).0 (wrong_at (parts_of front_message found.1).1)
 
-opened_rest : (machine : Machine) (now : Phase) (octets : List ℕ) → first_message octets ≡ None
+pub opened_rest : (machine : Machine) (now : Phase) (octets : List ℕ) → first_message octets ≡ None
     → opened_by machine now octets ≡ (rest_closes now (wrong_at octets), [])
 opened_rest machine now octets h =
     ap (λ (parts : List (Message × List ℕ) × List ℕ). opens machine now parts.0 (wrong_at parts.1)) (parts_end front_message octets (front_none octets h))

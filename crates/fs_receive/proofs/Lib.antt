@@ -15,3 +15,5 @@ mod Apart
 mod Limits
 mod Unhindered
 mod Paired
+mod Tied
+mod Sendable
