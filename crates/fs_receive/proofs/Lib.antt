@@ -17,3 +17,4 @@ mod Unhindered
 mod Paired
 mod Tied
 mod Sendable
+mod Refusing

@@ -1,6 +1,6 @@
 -- When a session closes for its hold time: the moments of an end that hears pieces lie so far apart. No octets do that.
 -- And what an announcing end hears up to the message that establishes its session is as the session has it.
-use Rattle.std.specs.Prelude.{◌≡◌, ◌≢◌, ℕ, ◌*◌, ◌^◌, ◌<◌, List, [], ◌∷◌, ◌++◌, map, take, None, Some}
+use Rattle.std.specs.Prelude.{◌≡◌, ◌≢◌, ◌⊎◌, ℕ, ◌*◌, ◌^◌, ◌<◌, List, [], ◌∷◌, ◌++◌, map, take, None, Some}
 use Rattle.std.specs.List.{AllByRecursion}
 use Rattle.fs_base.specs.declared.config.Config.{Config}
 use Rattle.fs_base.specs.declared.config.Peer.{Peer}
@@ -8,6 +8,7 @@ use Rattle.fs_desk.specs.Limit.{bounded_from}
 use Rattle.fs_ends.specs.HoldTime.{Spans}
 use Rattle.fs_ends.specs.Opening.{opened_by}
 use Rattle.fs_speaker.specs.Announcer.{CanSend}
+use Rattle.fs_speaker.specs.JointLaws.{IsUnnamed}
 use Rattle.fs_speaker.specs.Laws.{IsSent}
 use Rattle.fs_speaker.specs.Sending.{update_sent}
 use Rattle.fs_speaker.specs.World.{run}
@@ -16,7 +17,7 @@ use Rattle.fs_speaker.specs.declared.event.Event.{Event}
 use Rattle.fs_speaker.specs.Session.{Last, closed, session_by, still}
 use Rattle.fs_speaker.specs.Times.{at_moment, tick_at}
 use Rattle.fs_speaker.specs.Transition.{Machine}
-use Rattle.fs_speaker.specs.declared.Closed.TheVariants.{Fault}
+use Rattle.fs_speaker.specs.declared.Closed.TheVariants.{Fault, Notified}
 use Rattle.fs_session.specs.declared.times.Tick.TheVariants.{Expires}
 use Rattle.fs_session.specs.declared.transition.Phase.{Phase}
 use Rattle.fs_talk.specs.Round.{Pieces, moments_in}
@@ -75,3 +76,12 @@ SendsFront =
     (config : Config) (peer : Peer) (sending : Sending) (events : List Event) → AreRead config peer sending
     → CanSend config (Some peer) sending
     → (n : ℕ) × ((run config peer sending events).taken ≡ take n (map (update_sent config peer sending) sending.rules))
+
+-- Where the announcing end's identifier is 0.0.0.0, the receiving end closes only by refusing it (RFC 4271, section 6.2),
+-- and the announcing end only by that NOTIFICATION, whatever happens between them.
+abbrev pub ClosesUnnamed : Type 0
+ClosesUnnamed =
+    (config : Config) (peer : Peer) (sending : Sending) (events : List Event) → IsUnnamed config peer sending
+    → (((run config peer sending events).taker.closed ≡ None) ⊎ ((run config peer sending events).taker.closed ≡ Some (Fault 2 3)))
+    × (((run config peer sending events).teller.closed ≡ None)
+    ⊎ ((run config peer sending events).teller.closed ≡ Some (Notified 2 3)))

@@ -1,6 +1,6 @@
 //! Laws of the definitions.
 
-ghost use Rattle.fs_receive.specs.Laws.{ExpiresLate, NeverExpires, OpeningIsSession, SendsFront};
+ghost use Rattle.fs_receive.specs.Laws.{ClosesUnnamed, ExpiresLate, NeverExpires, OpeningIsSession, SendsFront};
 
 use fs_speaker::{takes_a_front, takes_none_unnamed};
 
@@ -28,3 +28,9 @@ pub fn sends_a_front()
     takes_a_front();
     takes_none_unnamed();
 }
+
+/// Of two joined ends of which the announcing one has the identifier 0.0.0.0 the receiving one closes only by refusing it
+/// (RFC 4271, section 6.2), and the announcing one only by that NOTIFICATION.
+pub fn closes_unnamed()
+    ensures { ClosesUnnamed }
+{}

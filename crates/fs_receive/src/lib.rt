@@ -8,7 +8,7 @@ mod pair;
 mod sender;
 
 pub use hearer::Hearer;
-pub use laws::{expires_late, never_expires, opens_the_session, sends_a_front};
+pub use laws::{closes_unnamed, expires_late, never_expires, opens_the_session, sends_a_front};
 pub use listen::listen_over;
 pub use pair::pair_over;
 pub use sender::Sender;
