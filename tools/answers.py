@@ -33,20 +33,21 @@ STATUSES = [
     ),
     (
         "5",
-        "exactly where the capture has a fault, and it is reached",
-        "runs causes",
+        "exactly where the capture has a fault, and it is reached; only of `enforce`, whatever the files tell",
+        "runs causes possible",
     ),
     (
         "6",
-        "free; what was written is a front of the text, and of `enforce` over a tape of version 1 nothing",
-        "runs memory_writes_nothing",
+        "free; what was written is a front of the text, of `enforce` the lines of all packets that it judged, and "
+        "over a tape of version 1 nothing",
+        "runs memory_writes_nothing memory_keeps_judged",
     ),
     (
         "7",
         "exactly where an input whose turn comes reaches the limit with no fault before it, or what an end of the "
         "wire heard reaches it and closes no session, for a missing family neither; where an agreed hold time has "
-        "passed, 8 may come in its place",
-        "runs causes",
+        "passed, 8 may come in its place; a survey writes nothing then",
+        "runs causes limit_writes_nothing",
     ),
     (
         "8",
@@ -61,8 +62,8 @@ STATUSES = [
     ),
     (
         "10",
-        "exactly where the dump has a fault",
-        "runs causes",
+        "exactly where the dump has a fault; only of `convert`, whatever the files tell",
+        "runs causes possible",
     ),
 ]
 

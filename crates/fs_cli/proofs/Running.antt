@@ -1,5 +1,7 @@
 -- What the clauses of a run say follows from what it does.
-use Rattle.std.proofs.Common.{◌≡◌, ◌≢◌, ◌⊎◌, ◌++◌, append-nil, inl, inr, ◌<◌, ◌∙◌, ℕ, List, Option, Some, None, Result, IsTrue, refl, ap, sym, subst, arith, true, false, Bool, if◌then◌else◌, length, nat_le}
+use Rattle.std.proofs.Common.{◌≡◌, ◌≢◌, ◌⊎◌, ◌++◌, append-nil, inl, inr, ◌<◌, ◌∙◌, ◌==◌, ℕ, List, [], ◌∷◌, Option, Some, None, Result, Ok, Err, IsTrue, refl, ap, sym, subst, arith, true, false, Bool, not, if◌then◌else◌, filter, length, nat_le}
+use Rattle.std.specs.List.{AllByRecursion}
+use Rattle.std.specs.Prelude.{⊤}
 use Rattle.std.proofs.lemmas.Bool.Decides.{nat_tests}
 use Rattle.fs_base.specs.Happened.{Happened, happened, with_wire, FilesFailed, SinkFailed, WireFailed, FilesStood, SinkStood, WireStood}
 use Rattle.fs_base.specs.Sink.{Grew}
@@ -23,8 +25,8 @@ use Rattle.fs_wires.proofs.Promising.{announce_promises, announce_status}
 use Rattle.fs_wires.specs.PromisedHearing.{ListenPromises}
 use Rattle.fs_wires.proofs.PromisingHearing.{listen_promises, listen_status}
 use Rattle.fs_wires.proofs.PromisingPair.{pair_promises, pair_status}
-use Rattle.fs_cli.specs.Program.{ChecksSo, Does, Runs, HasNoMoments, HasStatus, HasCauses, Completes, Promises, objects, FailedOver, OutsideFailed, WireServed, Objects, AreTold, FilesKept, SinkKept, WireKept, ClockKept, names_in, happened_in, talk_in, speaks}
-use Rattle.fs_enforce.specs.Command.{EnforcesSo, Enforced, Inputs, inputs, inputs_stage, status_for}
+use Rattle.fs_cli.specs.Program.{ChecksSo, Does, IsOneOf, Runs, HasNoMoments, HasStatus, HasCauses, Completes, Promises, objects, FailedOver, OutsideFailed, WireServed, Objects, AreTold, FilesKept, SinkKept, WireKept, ClockKept, names_in, happened_in, talk_in, speaks, statuses}
+use Rattle.fs_enforce.specs.Command.{EnforcesSo, Enforced, Wants, Inputs, inputs, inputs_stage, status_for}
 use Rattle.fs_generate.specs.Command.{GeneratesSo, Generated}
 use Rattle.fs_stages.specs.Load.{Names, fetch, config_stage}
 use Rattle.fs_cli.specs.Command.{Form, Enforce, Surveys, Converts, Check, Gen, form_of, Announce, Listen, Pair}
@@ -41,7 +43,7 @@ use Rattle.fs_enforce.specs.Judge.{capture_stage, lines_from, output_of, rules_b
 use Rattle.fs_enforce.specs.Moments.{AnswersAt, HoldAt, verdict_at}
 use Rattle.fs_stages.specs.Refusal.{Answers, answered, Stage, Found, Stopped, and_then, or_stop, status_of}
 use Rattle.fs_stages.specs.declared.refusal.Refusal.{Refusal}
-use Rattle.fs_stages.specs.declared.refusal.Refusal.TheVariants.{Outside, Config as Refused, Limit}
+use Rattle.fs_stages.specs.declared.refusal.Refusal.TheVariants.{Outside, Config as Refused, Tape, Capture, Dump, Memory, Limit, Session}
 use Rattle.fs_wires.proofs.Statuses.{Caused, early_status, late_status, never_early, never_zero, not_rose, same_found}
 use Rattle.fs_wires.proofs.Accepted.{some_found, then_found}
 
@@ -384,10 +386,46 @@ runs_generated tells limit holds form call talk answer r zero count e =
     (subst (λ (f : Option Form). Runs tells limit holds f call talk answer) e r).1 zero
 
 -- what a command did, as what is answered
-pub does_as : (tells : Bool) (limit : ℕ) (holds : Names) (form other : Form) (call : Happened) (talk : Conversation) (status answer : ℕ)
-    → form ≡ other → status ≡ answer → Does tells limit holds other call talk status → Does tells limit holds form call talk answer
-does_as tells limit holds form other call talk status answer e a d =
-    subst (λ (f : Form). Does tells limit holds f call talk answer) (sym e) (subst (λ (n : ℕ). Does tells limit holds other call talk n) a d)
+pub runs_as : (tells : Bool) (limit : ℕ) (holds : Names) (form other : Form) (call : Happened) (talk : Conversation) (status answer : ℕ)
+    → form ≡ other → status ≡ answer → IsOneOf (statuses other) status → Does tells limit holds other call talk status
+    → Runs tells limit holds (Some form) call talk answer
+runs_as tells limit holds form other call talk status answer e a one d =
+    subst (λ (f : Form). Runs tells limit holds (Some f) call talk answer) (sym e)
+    (subst (λ (n : ℕ). Runs tells limit holds (Some other) call talk n) a (one, d))
+
+-- the statuses of refusals, without some
+
+abbrev pub every : List ℕ
+every = 0 ∷ 1 ∷ 3 ∷ 4 ∷ 5 ∷ 6 ∷ 7 ∷ 8 ∷ 10 ∷ []
+
+every_one : {T : Type 0} (r : Result T Refusal) → IsOneOf every (answered r)
+every_one (Ok t) = inl refl
+every_one (Err Outside) = inr (inl refl)
+every_one (Err Refused) = inr (inr (inl refl))
+every_one (Err (Tape reason place)) = inr (inr (inr (inl refl)))
+every_one (Err Capture) = inr (inr (inr (inr (inl refl))))
+every_one (Err Memory) = inr (inr (inr (inr (inr (inl refl)))))
+every_one (Err Limit) = inr (inr (inr (inr (inr (inr (inl refl))))))
+every_one (Err Session) = inr (inr (inr (inr (inr (inr (inr (inl refl)))))))
+every_one (Err Dump) = inr (inr (inr (inr (inr (inr (inr (inr (inl refl))))))))
+
+kept : (s x : ℕ) (b : Bool) (xs : List ℕ) (n : ℕ) → (x == s) ≡ b → n ≢ s → (n ≡ x) ⊎ IsOneOf xs n → IsOneOf (if not b then x ∷ xs else xs) n
+kept s x true xs n e other (inl h) = let same : x ≡ s = grind (arith, nat_tests, e) in absurd (other (h ∙ same))
+kept s x true xs n e other (inr h) = h
+kept s x false xs n e other h = h
+
+without : (s : ℕ) (xs : List ℕ) (n : ℕ) → n ≢ s → IsOneOf xs n → IsOneOf (filter (λ x. not (x == s)) xs) n
+without s [] n other h = h
+without s (x ∷ xs) n other (inl h) = kept s x (x == s) (filter (λ z. not (z == s)) xs) n refl other (inl h)
+without s (x ∷ xs) n other (inr h) = kept s x (x == s) (filter (λ z. not (z == s)) xs) n refl other (inr (without s xs n other h))
+
+abbrev pub but : List ℕ → List ℕ
+but [] = every
+but (s ∷ others) = filter (λ x. not (x == s)) (but others)
+
+pub one_but : {T : Type 0} (r : Result T Refusal) (others : List ℕ) → AllByRecursion (λ s. answered r ≢ s) others → IsOneOf (but others) (answered r)
+one_but r [] all = every_one r
+one_but r (s ∷ others) all = without s (but others) (answered r) all.0 (one_but r others all.1)
 
 pub runs_announced : (tells : Bool) (limit : ℕ) (holds : Names) (form : Option Form) (call : Happened) (talk : Conversation) (answer : ℕ)
     → IsTrue tells → Runs tells limit holds form call talk answer
@@ -415,6 +453,15 @@ pub wants_enforce : {S T : Type 0} (tells : Bool) (limit : ℕ) (holds : Names) 
 wants_enforce tells limit holds form config tape capture old new result answer e a kept six none =
     let premise = none config tape capture e in kept premise.0 (a ∙ six) premise.1
 
+-- what is said of the files of `enforce`
+pub enforce_as : (Says : List ℕ → List ℕ → List ℕ → Type 0) (form : Form) (config tape capture config' tape' capture' : List ℕ)
+    → form ≡ Enforce config tape capture → form ≡ Enforce config' tape' capture' → Says config tape capture → Says config' tape' capture'
+enforce_as Says form config tape capture config' tape' capture' e asked p = subst of (sym e ∙ asked) p
+  where
+    of : Form → Type 0
+    of (Enforce a b d) = Says a b d
+    of _ = ⊤
+
 -- the promises of a run, whose words ask for no command
 
 pub promises_none : {F S W C : Type 0} (limit : ℕ) (of_files : files.Ghosts F) (of_sink : sink.Ghosts S) (of_wire : wire.Ghosts W) (of_clock : clock.Ghosts C) (files : F) (sink : S) (wire : W) (clock : C)
@@ -426,13 +473,16 @@ promises_none limit of_files of_sink of_wire of_clock files sink wire clock word
     record {
       runs = subst (λ (f : Option Form). Runs of_files.tells limit (of_files.holds files) f call talk 2) e (refl, Grew-refl (of_sink.written sink));
       no_command = (λ two. sym e, λ none. refl);
+      possible = λ asked is. not_asked asked (form_of words) e is;
       nothing_done = λ none. (refl, refl, refl, refl);
       check_opens_nothing = λ subject word asked. refl;
       gen_opens_nothing = λ count asked. refl;
       wire_unused = λ form asked silent. (refl, refl);
       config_writes_nothing = λ three. (refl, refl, refl);
+      limit_writes_nothing = λ seven survey config tape asked. refl;
       tape_writes_nothing = λ told four config tape capture asked. refl;
       memory_writes_nothing = λ six form asked none. refl;
+      memory_keeps_judged = λ told six. absurd cc;
       causes = λ told. subst (λ (f : Option Form). HasCauses limit (of_files.holds files) f call talk 2) e tt;
       complete = λ told stood sink_stood served. subst (λ (f : Option Form). Completes limit (of_files.holds files) f talk 2) e tt;
       headline = λ told zero config tape capture asked. absurd cc;
@@ -458,33 +508,41 @@ some_form form other o e asked = let same : Some form ≡ Some other = e ∙ ask
 
 pub promises_some : {F S W C : Type 0} (limit : ℕ) (w : Objects F S W C) (words : List (List ℕ)) (form : Form) (answer : ℕ)
     → Some form ≡ form_of words
-    → Does w.of_files.tells limit (names_in w) form (happened_in w) (talk_in w) answer
+    → Runs w.of_files.tells limit (names_in w) (Some form) (happened_in w) (talk_in w) answer
     → answer ≢ 2
     → (answer ≡ 3 → SinkKept w × WireKept w × ClockKept w)
     → (answer ≡ 6 → HasNoMoments w.of_files.tells limit (names_in w) form → SinkKept w)
+    → (answer ≡ 7 → (survey : Survey) (config tape : List ℕ) → form ≡ Surveys survey config tape → SinkKept w)
     → (AreTold w → answer ≡ 4 → (config tape capture : List ℕ) → form ≡ Enforce config tape capture → SinkKept w)
+    → (AreTold w → answer ≡ 6 → (config tape capture : List ℕ) → form ≡ Enforce config tape capture
+    → Wants limit (names_in w) config tape capture (w.of_files.left w.files_before 2) (w.of_files.left w.files_behind 2) (happened_in w))
     → ((subject : Subject) (word : List ℕ) → form ≡ Check subject word → FilesKept w)
     → ((count : ℕ) → form ≡ Gen count → FilesKept w)
     → (speaks form ≡ false → WireKept w × ClockKept w)
     → Promises limit w words answer
-promises_some limit w words form answer e does known quiet wanting still unopened generates silent =
+promises_some limit w words form answer e run known quiet wanting bounded still unfinished unopened generates silent =
     let call : Happened = happened_in w in
     let talk : Conversation = talk_in w in
     let holds : Names = names_in w in
     let ran : Runs w.of_files.tells limit holds (form_of words) call talk answer =
-    subst (λ (f : Option Form). Runs w.of_files.tells limit holds f call talk answer) e (known, does) in
+    subst (λ (f : Option Form). Runs w.of_files.tells limit holds f call talk answer) e run in
     record {
       runs = ran;
       no_command = (λ two. absurd (known two), λ none. no_form form (form_of words) e none);
+      possible = λ asked is. subst (λ (f : Form). IsOneOf (statuses f) answer) (some_form form asked (form_of words) e is) run.0;
       nothing_done = λ none. no_form form (form_of words) e none;
       check_opens_nothing = λ subject word asked. unopened subject word (some_form form (Check subject word) (form_of words) e asked);
       gen_opens_nothing = λ count asked. generates count (some_form form (Gen count) (form_of words) e asked);
       wire_unused = λ asked is unspoken. silent (ap speaks (some_form form asked (form_of words) e is) ∙ unspoken);
       config_writes_nothing = quiet;
+      limit_writes_nothing = λ seven survey config tape asked.
+          bounded seven survey config tape (some_form form (Surveys survey config tape) (form_of words) e asked);
       tape_writes_nothing = λ told four config tape capture asked.
           still told four config tape capture (some_form form (Enforce config tape capture) (form_of words) e asked);
       memory_writes_nothing = λ six asked is none.
           wanting six (subst (HasNoMoments w.of_files.tells limit holds) (sym (some_form form asked (form_of words) e is)) none);
+      memory_keeps_judged = λ told six config tape capture asked.
+          unfinished told six config tape capture (some_form form (Enforce config tape capture) (form_of words) e asked);
       causes = λ told. runs_causes w.of_files.tells limit holds (form_of words) call talk answer told ran;
       complete = λ told stood sink_stood served.
           causes_complete limit holds (form_of words) call talk answer stood sink_stood served

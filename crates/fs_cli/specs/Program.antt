@@ -1,5 +1,5 @@
 -- What a run of the program promises, and what it answers and writes.
-use Rattle.std.specs.Prelude.{◌≡◌, ◌⊎◌, ℕ, List, [], Bool, true, false, Option, Result, Ok, Err, if◌then◌else◌, ◌≢◌, ◌↔◌, IsTrue, IfSome, Some, None}
+use Rattle.std.specs.Prelude.{◌≡◌, ◌⊎◌, ℕ, List, [], ◌∷◌, Bool, true, false, Option, Result, Ok, Err, if◌then◌else◌, ◌↔◌, IsTrue, IfSome, Some, None}
 use Rattle.fs_base.specs.Happened.{Happened, SinkFailed, happened, with_wire, FilesFailed, FilesStood, SinkStood, WireFailed, WireStood, Wrote}
 use Rattle.fs_base.specs.Sink.{Grew, GrewPart}
 use Rattle.fs_check.specs.Report.{Reports}
@@ -8,7 +8,7 @@ use Rattle.fs_check.specs.declared.command.CheckFault.{CheckFault}
 use Rattle.fs_check.specs.declared.command.CheckFault.TheVariants.{Failed, Memory}
 use Rattle.fs_stages.specs.Refusal.{Verdict, Answers}
 use Rattle.fs_convert.specs.Command.{Converts as ConvertsDump, Converted, convert_status}
-use Rattle.fs_enforce.specs.Command.{Enforces, Enforced, inputs_stage, status_for}
+use Rattle.fs_enforce.specs.Command.{Enforces, Enforced, Wants, inputs_stage, status_for}
 use Rattle.fs_generate.specs.Command.{Generates, Generated}
 use Rattle.fs_stages.specs.Load.{Names}
 use Rattle.fs_wires.specs.Announcing.{Announces}
@@ -70,10 +70,24 @@ Does tells limit holds (Announce config rules address) call talk answer = IsTrue
 Does tells limit holds (Listen config address) call talk answer = IsTrue tells → ListensTo limit holds config call talk answer
 Does tells limit holds (Pair config rules) call talk answer = IsTrue tells → Joins limit holds config rules call talk answer
 
+-- it is one of these
+abbrev pub IsOneOf : List ℕ → ℕ → Type 0
+IsOneOf [] answer = ⊥
+IsOneOf (status ∷ statuses) answer = (answer ≡ status) ⊎ IsOneOf statuses answer
+
+-- the statuses that a command may end with, whatever the outside tells
+abbrev pub statuses : Form → List ℕ
+statuses (Enforce config tape capture) = 0 ∷ 1 ∷ 3 ∷ 4 ∷ 5 ∷ 6 ∷ 7 ∷ []
+statuses (Surveys survey config tape) = 0 ∷ 1 ∷ 3 ∷ 4 ∷ 6 ∷ 7 ∷ []
+statuses (Converts config dump) = 0 ∷ 1 ∷ 3 ∷ 6 ∷ 7 ∷ 10 ∷ []
+statuses (Check subject word) = 0 ∷ 1 ∷ 6 ∷ 9 ∷ []
+statuses (Gen count) = 0 ∷ 1 ∷ 6 ∷ []
+statuses form = 0 ∷ 1 ∷ 3 ∷ 4 ∷ 5 ∷ 6 ∷ 7 ∷ 8 ∷ 10 ∷ []
+
 -- words that ask for no command answer 2 and write nothing
 abbrev pub Runs : (tells : Bool) (limit : ℕ) (holds : Names) → Option Form → Happened → Conversation → ℕ → Type 0
 Runs tells limit holds None call talk answer = (answer ≡ 2) × Wrote call []
-Runs tells limit holds (Some form) call talk answer = (answer ≢ 2) × Does tells limit holds form call talk answer
+Runs tells limit holds (Some form) call talk answer = IsOneOf (statuses form) answer × Does tells limit holds form call talk answer
 
 -- The status that the files and the words call for, and over a wire what an end gave, in the order of work.
 abbrev pub HasStatus : (limit : ℕ) (holds : Names) → Form → Conversation → ℕ → Type 0
@@ -190,7 +204,9 @@ pub record Promises {F S W C : Type 0} (limit : ℕ) (w : Objects F S W C) (word
   pub runs : Runs w.of_files.tells limit (names_in w) (form_of words) (happened_in w) (talk_in w) answer
   -- The status is 2 exactly where the words ask for no command.
   pub no_command : (answer ≡ 2) ↔ (form_of words ≡ None)
-  -- Then no file is opened, nothing is written, and neither the wire nor the clock is used.
+  -- A command ends with one of its statuses, whatever the outside tells.
+  pub possible : (form : Form) → form_of words ≡ Some form → IsOneOf (statuses form) answer
+  -- Where the words ask for no command no file is opened, nothing is written, and neither the wire nor the clock is used.
   pub nothing_done : form_of words ≡ None → FilesKept w × SinkKept w × WireKept w × ClockKept w
   -- `check` opens no file.
   pub check_opens_nothing : (subject : Subject) (word : List ℕ)
@@ -201,6 +217,9 @@ pub record Promises {F S W C : Type 0} (limit : ℕ) (w : Objects F S W C) (word
   pub wire_unused : (form : Form) → form_of words ≡ Some form → speaks form ≡ false → WireKept w × ClockKept w
   -- At 3 nothing is written, and neither the wire nor the clock is used, whatever the files tell.
   pub config_writes_nothing : answer ≡ 3 → SinkKept w × WireKept w × ClockKept w
+  -- At 7 a survey writes nothing, whatever the files tell.
+  pub limit_writes_nothing : answer ≡ 7 → (survey : Survey) (config tape : List ℕ)
+      → form_of words ≡ Some (Surveys survey config tape) → SinkKept w
   -- At 4 `enforce` writes nothing, where the files tell.
   pub tape_writes_nothing : AreTold w → answer ≡ 4 → (config tape capture : List ℕ)
       → form_of words ≡ Some (Enforce config tape capture) → SinkKept w
@@ -208,6 +227,11 @@ pub record Promises {F S W C : Type 0} (limit : ℕ) (w : Objects F S W C) (word
   -- memory.
   pub memory_writes_nothing : answer ≡ 6 → (form : Form) → form_of words ≡ Some form
       → HasNoMoments w.of_files.tells limit (names_in w) form → SinkKept w
+  -- At 6 `enforce` has written the lines of all packets that it judged. The others are left in the capture, but for at
+  -- most one that was read; over a tape of the first version these are all.
+  pub memory_keeps_judged : AreTold w → answer ≡ 6 → (config tape capture : List ℕ)
+      → form_of words ≡ Some (Enforce config tape capture)
+      → Wants limit (names_in w) config tape capture (w.of_files.left w.files_before 2) (w.of_files.left w.files_behind 2) (happened_in w)
   -- Each status has its cause: what the words, the files and the other end call for, want of memory, or a failed call.
   pub causes : AreTold w → HasCauses limit (names_in w) (form_of words) (happened_in w) (talk_in w) answer
   -- Where no call failed, only want of memory prevents the status that words and files call for.

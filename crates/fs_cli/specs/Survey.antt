@@ -1,5 +1,5 @@
 -- What the commands that survey a tape answer and write.
-use Rattle.std.specs.Prelude.{◌≡◌, ◌⊎◌, ◌<◌, ℕ, List, [], Option, Some, Result, length}
+use Rattle.std.specs.Prelude.{◌≡◌, ◌≢◌, ◌⊎◌, ◌<◌, ℕ, List, [], Option, Some, Result, length}
 use Rattle.std.specs.Result.{IsErrAnd}
 use Rattle.fs_base.specs.Happened.{Happened, FilesFailed, SinkFailed, Wrote}
 use Rattle.fs_base.specs.Sink.{Grew}
@@ -67,6 +67,10 @@ SaysOf refusal failed before now result =
 abbrev pub listed_status : {A : Type 0} → Stage A → ℕ
 listed_status (Found accepted) = 0
 listed_status (Stopped refusal) = status_of refusal
+
+-- a status of the configuration or of the tape: of no other input, and of no session
+abbrev pub IsOfSurvey : ℕ → Type 0
+IsOfSurvey status = (status ≢ 5) × (status ≢ 8) × (status ≢ 10)
 
 -- Of the files that these names hold, both without a fault and within the limit, the survey was written: of the items of
 -- the tape, and of the routes that they leave held.

@@ -1,11 +1,13 @@
 //! The program.
 
-ghost use Rattle.std.specs.Prelude.{◌≡◌, ◌≢◌, ◌≤◌, ◌^◌, ℕ, IsErrOf, IsTrue, List, false, map, string_bytes};
+ghost use Rattle.std.specs.Prelude.{◌≡◌, ◌≢◌, ◌≤◌, ◌^◌, ◌∷◌, [], ℕ, IsErrOf, IsTrue, List, Some, false, map, string_bytes};
 ghost use Rattle.fs_base.specs.Happened.{at_sink, happened, with_wire};
 ghost use Rattle.fs_base.specs.Outside.{Rose};
 ghost use Rattle.fs_cli.specs.declared.command.Subject.{Subject};
-ghost use Rattle.fs_cli.specs.Program.{Checks, Does, HasNoMoments, Promises, WroteOn, speaks, objects};
-ghost use Rattle.fs_cli.specs.Command.{form_shown, Check, Enforce, Gen};
+ghost use Rattle.fs_cli.specs.declared.survey.Survey.{Survey};
+ghost use Rattle.fs_cli.specs.Program.{Checks, HasNoMoments, IsOneOf, Promises, Runs, WroteOn, speaks, objects};
+ghost use Rattle.fs_cli.specs.Command.{form_shown, Check, Enforce, Gen, Surveys};
+ghost use Rattle.fs_enforce.specs.Command.{Wants};
 ghost use Rattle.fs_stages.specs.Refusal.{answered};
 ghost use Rattle.fs_wires.specs.Conversation.{conversation};
 
@@ -84,7 +86,7 @@ fn perform<F: Files, S: Sink, W: Wire, C: Clock>(
     clock: &mut C,
 ) -> u8
     requires { 1 ≤ job.limit }
-    ensures does { Does F.tells job.entry.limit (F.holds files.old) (form_shown job.entry.command)
+    ensures runs { Runs F.tells job.entry.limit (F.holds files.old) (Some (form_shown job.entry.command))
         (with_wire W.Wire wire.old wire.new (happened F.Files S.Sink files.old files.new sink.old sink.new))
         (conversation W.Wire C.Clock wire.old wire.new clock.old clock.new) result }
     ensures known { result ≢ 2 }
@@ -92,11 +94,22 @@ fn perform<F: Files, S: Sink, W: Wire, C: Clock>(
     ensures wanting { result ≡ 6
         → HasNoMoments F.tells job.entry.limit (F.holds files.old) (form_shown job.entry.command)
         → sink.new ≡ sink.old }
+    ensures limited { result ≡ 7
+        → (survey : Survey)
+        → (config tape : List ℕ)
+        → form_shown job.entry.command ≡ Surveys survey config tape
+        → sink.new ≡ sink.old }
     ensures still { IsTrue F.tells
         → result ≡ 4
         → (config tape capture : List ℕ)
         → form_shown job.entry.command ≡ Enforce config tape capture
         → sink.new ≡ sink.old }
+    ensures unfinished { IsTrue F.tells
+        → result ≡ 6
+        → (config tape capture : List ℕ)
+        → form_shown job.entry.command ≡ Enforce config tape capture
+        → Wants job.entry.limit (F.holds files.old) config tape capture (F.left files.old 2) (F.left files.new 2)
+        (happened F.Files S.Sink files.old files.new sink.old sink.new) }
     ensures unopened { (subject : Subject)
         → (word : List ℕ)
         → form_shown job.entry.command ≡ Check subject word
@@ -197,6 +210,7 @@ fn say<S: Sink>(
 /// Says of the word what it is.
 fn run_check<S: Sink>(alloc: Global, sink: &mut S, subject: Subject, word: &str) -> u8
     ensures checks { Checks subject word.now (at_sink S.Sink sink.old sink.new) result }
+    ensures possible { IsOneOf (0 ∷ 1 ∷ 6 ∷ 9 ∷ []) result }
     ensures known { (result ≢ 2) × (result ≢ 3) × (result ≢ 4) }
     ensures quiet { result ≡ 6 → sink.new ≡ sink.old }
 {

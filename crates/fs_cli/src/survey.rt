@@ -1,15 +1,15 @@
 //! The commands that play a tape and survey what it leaves.
 
-ghost use Rattle.std.specs.Prelude.{◌≡◌, ◌≤◌, ◌⊎◌, IfErr, IfOk, IsTrue, List};
+ghost use Rattle.std.specs.Prelude.{◌≡◌, ◌≤◌, ◌⊎◌, IfOk, IsTrue, List};
 ghost use Rattle.fs_base.specs.Happened.{happened};
 ghost use Rattle.fs_base.specs.Outside.{Rose};
 ghost use Rattle.fs_base.specs.declared.config.Config.{Config};
 ghost use Rattle.fs_tape.specs.Tape.{Item};
 ghost use Rattle.fs_listing.specs.TapeFault.{tape_fault_line};
 ghost use Rattle.fs_desk.specs.Desk.{Played};
-ghost use Rattle.fs_stages.specs.Refusal.{IsLate, answered};
+ghost use Rattle.fs_stages.specs.Refusal.{IsLate, IsOfTape, answered, status_of};
 ghost use Rattle.fs_stages.specs.Writing.{Writes};
-ghost use Rattle.fs_cli.specs.Survey.{Lists, SaysOf, text_for};
+ghost use Rattle.fs_cli.specs.Survey.{IsOfSurvey, Lists, SaysOf, text_for};
 
 use fs_base::{Files, Memory, Sink};
 use fs_desk::Desk;
@@ -54,7 +54,8 @@ pub fn survey_tape<F: Files, S: Sink>(
 ) -> Result<(), Refusal>
     ensures files_later { F.faults files.old ≤ F.faults files.new }
     ensures sink_later { S.faults sink.old ≤ S.faults sink.new }
-    ensures quiet { (answered result ≡ 3) ⊎ (answered result ≡ 6) → sink.new ≡ sink.old }
+    ensures possible { IsOfSurvey (answered result) }
+    ensures quiet { (answered result ≡ 3) ⊎ (answered result ≡ 6) ⊎ (answered result ≡ 7) → sink.new ≡ sink.old }
 
     ensures lists { IsTrue F.tells
         → Lists (text_for survey) limit (F.holds files.old) names.now.config.now names.now.tape.now
@@ -80,7 +81,7 @@ fn write_survey<S: Sink>(
     desk: &Desk<'_>,
     sink: &mut S,
 ) -> Result<(), Refusal>
-    ensures late { IfErr result IsLate }
+    ensures late { IsLate (answered result) }
     ensures unwritten { answered result ≡ 6 → sink.new ≡ sink.old }
     ensures later { S.faults sink.old ≤ S.faults sink.new }
 
@@ -108,8 +109,10 @@ fn survey_text(alloc: Global, survey: Survey, desk: &Desk<'_>) -> Result<Vec<u8>
 
 /// Writes what is said at a refusal of the tape, and hands the refusal on.
 fn tell_refusal<S: Sink>(alloc: Global, refusal: Refusal, sink: &mut S) -> Result<(), Refusal>
+    requires { IsOfTape (status_of refusal) }
     ensures later { S.faults sink.old ≤ S.faults sink.new }
-    ensures quiet { (answered result ≡ 3) ⊎ (answered result ≡ 6) → sink.new ≡ sink.old }
+    ensures possible { IsOfTape (answered result) }
+    ensures quiet { (answered result ≡ 3) ⊎ (answered result ≡ 6) ⊎ (answered result ≡ 7) → sink.new ≡ sink.old }
     ensures said { SaysOf refusal (Rose (S.faults sink.old) (S.faults sink.new))
         (S.written sink.old) (S.written sink.new) result }
 {
@@ -130,7 +133,7 @@ fn write_tape_fault<S: Sink>(
     place: u64,
     sink: &mut S,
 ) -> Result<(), Refusal>
-    ensures late { IfErr result IsLate }
+    ensures late { IsLate (answered result) }
     ensures unwritten { answered result ≡ 6 → sink.new ≡ sink.old }
     ensures later { S.faults sink.old ≤ S.faults sink.new }
     ensures written { Writes (tape_fault_line reason place)

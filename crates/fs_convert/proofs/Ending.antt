@@ -1,6 +1,6 @@
 -- How the answer of `convert` follows from what its parts did.
 use Rattle.std.proofs.Common.{◌≡◌, ◌⊎◌, inl, inr, ◌≤◌, ◌∙◌, ◌++◌, ℕ, List, [], Option, Some, None, Result, Ok, Err, refl, ap, sym, subst}
-use Rattle.std.specs.Result.{IfErr, IsErrAnd, MatchResult}
+use Rattle.std.specs.Result.{IsErrAnd, MatchResult}
 use Rattle.fs_base.specs.Outside.{Rose}
 use Rattle.fs_base.specs.Sink.{Grew, GrewPart}
 use Rattle.fs_base.specs.declared.config.Config.{Config}
@@ -11,7 +11,7 @@ use Rattle.fs_mrt.specs.Dump.{DumpState, IsBegun, coming, heard_to_come}
 use Rattle.fs_mrt.specs.declared.fault.DumpReason.{DumpReason}
 use Rattle.fs_records.specs.Records.{End, done}
 use Rattle.fs_stages.specs.Load.{Names, config_stage}
-use Rattle.fs_stages.specs.Refusal.{Answers, Found, HasReason, IsAtPacket, Stage, Verdict, answered, or_stop, status_of, verdict_with}
+use Rattle.fs_stages.specs.Refusal.{Answers, Found, HasReason, Stage, Verdict, answered, or_stop, status_of, verdict_with}
 use Rattle.fs_stages.specs.declared.refusal.Refusal.{Refusal}
 use Rattle.fs_stages.specs.declared.refusal.Refusal.TheVariants.{Outside}
 use Rattle.fs_stages.proofs.Stages.{answers_for, answers_memory, answers_outside, ends_early, rose_earlier, rose_later}
@@ -19,7 +19,7 @@ use Rattle.fs_tape.specs.Laws.{tape_text}
 use Rattle.fs_tape.specs.declared.magic.Version.TheVariants.{Two}
 use Rattle.fs_convert.specs.Lives.{Life, lives_of, no_lives}
 use Rattle.fs_convert.specs.Making.{items_from}
-use Rattle.fs_convert.specs.Command.{Breaks, ConvertsSo, dump_stage, status_at, verdict_of}
+use Rattle.fs_convert.specs.Command.{Breaks, ConvertsSo, IsAtRecord, dump_stage, status_at, verdict_of}
 
 -- before the dump is read
 
@@ -155,11 +155,9 @@ module _ (limit : ℕ) (holds names : Names) (config dump : List ℕ) (accepted 
 
 -- no status of a dump that was opened is that of a configuration, or of want of memory
 
-pub never_quiet : {T A : Type 0} (r : Result T Refusal) → IfErr r IsAtPacket → (answered r ≡ 3) ⊎ (answered r ≡ 6) → A
-never_quiet (Ok t) h (inl e) = absurd cc
-never_quiet (Ok t) h (inr e) = absurd cc
-never_quiet (Err refusal) h (inl e) = absurd (h.0 e)
-never_quiet (Err refusal) h (inr e) = absurd (h.2 e)
+pub never_quiet : {A : Type 0} (status : ℕ) → IsAtRecord status → (status ≡ 3) ⊎ (status ≡ 6) → A
+never_quiet status h (inl e) = absurd (h.1 e)
+never_quiet status h (inr e) = absurd (h.2 e)
 
 pub outside_quiet : {T A : Type 0} (r : Result T Refusal) → IsErrAnd r (λ e. e ≡ Outside) → (answered r ≡ 3) ⊎ (answered r ≡ 6) → A
 outside_quiet (Ok t) h q = absurd h

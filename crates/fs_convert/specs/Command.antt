@@ -1,5 +1,5 @@
 -- What `convert` is given, and what it answers and writes (the order of work: configuration, dump).
-use Rattle.std.specs.Prelude.{ℕ, List, [], ◌≡◌, ◌⊎◌, ◌<◌, ◌++◌, Option, Some, None, Result, MatchResult, length}
+use Rattle.std.specs.Prelude.{ℕ, List, [], ◌≡◌, ◌≢◌, ◌⊎◌, ◌<◌, ◌++◌, Option, Some, None, Result, MatchResult, length}
 use Rattle.fs_base.specs.Happened.{Happened, FilesFailed, SinkFailed, Wrote}
 use Rattle.fs_base.specs.Language.{IsOctets}
 use Rattle.fs_base.specs.Parts.{with_part}
@@ -78,6 +78,14 @@ pub record Converted (limit : ℕ) (holds : Names) (config dump : List ℕ) (cal
   pub items_are : remade accepted limit dump_octets ≡ (items, done)
   pub wrote : Wrote call (tape_text Two items)
   pub read_back : (tape_limit : ℕ) → IsOctets dump_octets → GivesBack accepted tape_limit items
+
+-- a status of the configuration or of the dump: of no other input, and of no session
+abbrev pub IsOfDump : ℕ → Type 0
+IsOfDump status = (status ≢ 4) × (status ≢ 5) × (status ≢ 8)
+
+-- a status at a record: of the dump, and memory wasn't wanting
+abbrev pub IsAtRecord : ℕ → Type 0
+IsAtRecord status = IsOfDump status × (status ≢ 3) × (status ≢ 6)
 
 -- the refusal for a fault of a dump
 abbrev pub refused_by : Fault DumpReason → Refusal

@@ -1,12 +1,12 @@
 //! The command `convert`.
 
-ghost use Rattle.std.specs.Prelude.{◌≡◌, ◌≢◌, ◌≤◌, ◌⊎◌, [], None, IsTrue, IfErr, IfOk, IfSome, MatchResult, length};
+ghost use Rattle.std.specs.Prelude.{◌≡◌, ◌≤◌, ◌⊎◌, [], None, IsTrue, IfOk, IfSome, MatchResult, length};
 ghost use Rattle.fs_base.specs.Files.{OnlySlot};
 ghost use Rattle.fs_base.specs.Happened.{happened};
 ghost use Rattle.fs_base.specs.Outside.{Rose};
 ghost use Rattle.fs_mrt.specs.Dump.{Grows, IsBegun, coming};
-ghost use Rattle.fs_stages.specs.Refusal.{IsAtPacket, IsLate, answered};
-ghost use Rattle.fs_convert.specs.Command.{Ceases, Converts, IsOpened, MakesAll, Yields, refused_by};
+ghost use Rattle.fs_stages.specs.Refusal.{answered, status_of};
+ghost use Rattle.fs_convert.specs.Command.{Ceases, Converts, IsAtRecord, IsOfDump, IsOpened, MakesAll, Yields, refused_by};
 
 use crate::making::Making;
 use fs_base::{Config, Counted, Files, Sink};
@@ -42,6 +42,7 @@ pub fn convert<F: Files, S: Sink>(
 ) -> Result<(), Refusal>
     ensures files_later { F.faults files.old ≤ F.faults files.new }
     ensures sink_later { S.faults sink.old ≤ S.faults sink.new }
+    ensures possible { IsOfDump (answered result) }
     ensures quiet { (answered result ≡ 3) ⊎ (answered result ≡ 6) → sink.new ≡ sink.old }
 
     ensures converts { IsTrue F.tells
@@ -60,7 +61,7 @@ pub fn convert<F: Files, S: Sink>(
 
 /// Opens the dump, up to its first record.
 fn open_dump<F: Files>(files: &mut F, name: &str, limit: u64) -> Result<Dump, Refusal>
-    ensures late { IfErr result IsLate }
+    ensures possible { IsOfDump (answered result) }
     ensures later { F.faults files.old ≤ F.faults files.new }
     ensures begun { IfOk result (IsBegun 1 limit []) }
     ensures within { IfOk result (λ dump. dump.place ≤ dump.limit) }
@@ -89,7 +90,7 @@ fn convert_dump<F: Files, S: Sink>(
     requires room { 65536 ≤ length buffer.old }
     requires open { dump.old.end ≡ None }
     requires within { dump.old.place ≤ dump.old.limit }
-    ensures late { IfErr result IsAtPacket }
+    ensures possible { IsAtRecord (answered result) }
     ensures files_later { F.faults files.old ≤ F.faults files.new }
     ensures sink_later { S.faults sink.old ≤ S.faults sink.new }
 
@@ -117,7 +118,7 @@ fn next_heard<F: Files>(
     requires room { 65536 ≤ length buffer.old }
     requires open { dump.old.end ≡ None }
     ensures room { length buffer.new ≡ length buffer.old }
-    ensures late { IfErr result IsAtPacket }
+    ensures possible { IsAtRecord (answered result) }
     ensures later { F.faults files.old ≤ F.faults files.new }
     ensures holds { IsTrue F.tells → F.holds files.new ≡ F.holds files.old }
     ensures slot { dump.new.slot ≡ dump.old.slot }
@@ -143,7 +144,7 @@ fn next_heard<F: Files>(
 /// The refusal for a dump's fault.
 fn refusal_of(fault: DumpFault) -> Refusal
     ensures result { result ≡ refused_by fault }
-    ensures late { IsAtPacket result }
+    ensures possible { IsAtRecord (status_of result) }
 {
     match fault {
         DumpFault::Read => Refusal::Outside,

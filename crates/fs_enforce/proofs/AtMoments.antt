@@ -22,10 +22,10 @@ use Rattle.fs_stages.specs.declared.refusal.Refusal.TheVariants.{Outside, Memory
 use Rattle.fs_stages.specs.Play.{until}
 use Rattle.fs_stages.specs.Player.{IsUnplayed, PlayerState, Stands, due_item}
 use Rattle.fs_tape.specs.declared.item.TapeItem.{TapeItem}
-use Rattle.fs_stages.specs.Refusal.{IsAtPacket, answered, status_of}
+use Rattle.fs_stages.specs.Refusal.{answered, status_of}
 use Rattle.fs_stages.proofs.LookingAhead.{stands_later}
 use Rattle.fs_stages.proofs.Playing.{all_more}
-use Rattle.fs_enforce.specs.Judge.{AdmittedRules, Ceases, admitted_rules, always, hand_text, in_hand, lines_from, output_of, packet_text, rules_by, status_at}
+use Rattle.fs_enforce.specs.Judge.{AdmittedRules, Ceases, IsAtPacket, admitted_rules, always, hand_text, in_hand, lines_from, output_of, packet_text, rules_by, status_at}
 use Rattle.fs_enforce.specs.Moments.{BreaksBehind, BreaksOff, CameTo, Follows, HoldAt, IsUnjudged, LeaveSameAt, came_lines}
 
 -- tapes that leave the same routes leave one list of held routes
@@ -353,10 +353,6 @@ pub six_of : {T : Type 0} (r : Result T Refusal) (cause : Refusal) → IsErrAnd 
 six_of (Ok t) cause h six = absurd h
 six_of (Err e) cause h six = ap status_of (sym h) ∙ six
 
-pub packet_late : {T : Type 0} (r : Result T Refusal) (cause : Refusal) → IsErrAnd r (λ e. e ≡ cause) → IsAtPacket cause → answered r ≢ 3
-packet_late (Ok t) cause h at three = absurd h
-packet_late (Err e) cause h at three = at.0 (ap status_of (sym h) ∙ three)
-
-pub packet_wants_none : {T A : Type 0} (r : Result T Refusal) (cause : Refusal) → IsErrAnd r (λ e. e ≡ cause) → IsAtPacket cause → answered r ≡ 6 → A
+pub packet_wants_none : {T A : Type 0} (r : Result T Refusal) (cause : Refusal) → IsErrAnd r (λ e. e ≡ cause) → IsAtPacket (status_of cause) → answered r ≡ 6 → A
 packet_wants_none (Ok t) cause h at six = absurd h
-packet_wants_none (Err e) cause h at six = absurd (at.2 (ap status_of (sym h) ∙ six))
+packet_wants_none (Err e) cause h at six = absurd (at.1 (ap status_of (sym h) ∙ six))

@@ -1,19 +1,19 @@
 -- How the answer of `enforce` follows from those of its stages.
-use Rattle.std.proofs.Common.{◌≡◌, ◌⊎◌, inl, inr, ◌∙◌, ℕ, List, Option, ap, sym, subst}
+use Rattle.std.proofs.Common.{◌≡◌, ◌⊎◌, inl, inr, ◌∙◌, ℕ, List, [], Option, ap, sym, subst}
 use Rattle.fs_records.specs.Records.{End, done, limited, bad}
-use Rattle.fs_capture.specs.Capture.{Recorded}
+use Rattle.fs_capture.specs.Capture.{CaptureState, Recorded, coming, recorded}
 use Rattle.fs_capture.specs.declared.fault.CaptureReason.{CaptureReason}
 use Rattle.fs_base.specs.declared.config.Config.{Config}
 use Rattle.fs_tape.specs.Tape.{Timed}
 use Rattle.fs_tape.specs.declared.magic.Version.{Version}
 use Rattle.fs_tape.specs.declared.magic.Version.TheVariants.{One, Two}
 use Rattle.fs_desk.specs.Desk.{Desked, Played}
-use Rattle.fs_enforce.specs.Command.{EnforcesSo}
+use Rattle.fs_enforce.specs.Command.{EnforcesSo, Unfinished}
 use Rattle.fs_stages.specs.Load.{Names, config_stage}
 use Rattle.fs_stages.specs.Play.{HasVersion, HaveNoMoments, IsWhole, tape_stage, accepted_stage, untimed}
 use Rattle.fs_stages.specs.Player.{PlayerState, Stands}
 use Rattle.fs_enforce.specs.Judge.{capture_stage, status_at}
-use Rattle.fs_enforce.specs.Moments.{AnswersAt}
+use Rattle.fs_enforce.specs.Moments.{AnswersAt, WroteJudged, packets_of}
 use Rattle.fs_stages.specs.Refusal.{Stage, Found, and_then, status_of, HasReason}
 use Rattle.fs_stages.specs.declared.refusal.Refusal.{Refusal}
 use Rattle.fs_stages.proofs.Stages.{accepted_with, ends_early, reason_then}
@@ -36,6 +36,10 @@ tape_ends limit holds holds' config tape capture accepted failed failed' a refus
     (reason_then (tape_stage accepted limit holds tape) (λ items. Found (accepted, items)) failed refusal told) in
     inl (ends_early (accepted_stage limit holds config tape) failed failed' a refusal whole f)
 
+found_in : {limit : ℕ} {holds tape_holds : Names} {tape : List ℕ} {accepted : Config} {version : Version} {desk : Desked} → tape_holds ≡ holds
+    → (w : IsWhole accepted limit tape_holds tape version desk) → tape_stage accepted limit holds tape ≡ Found w.played.items
+found_in {limit} {tape = tape} {accepted = accepted} same w = subst (λ (names : Names). tape_stage accepted limit names tape ≡ Found w.played.items) same w.played.found
+
 -- the capture was judged, by what the tape holds at the packets' moments
 pub answers_so : (limit : ℕ) (holds tape_holds capture_holds : Names) (config tape capture : List ℕ) (accepted : Config) (version : Version) (desk : Desked) (failed : Type 0) (before now : Option (List ℕ)) (answer : ℕ)
     → config_stage limit holds config ≡ Found accepted → tape_holds ≡ holds → capture_holds ≡ tape_holds
@@ -43,13 +47,37 @@ pub answers_so : (limit : ℕ) (holds tape_holds capture_holds : Names) (config 
     → AnswersAt accepted w.played.items (capture_stage limit capture_holds capture) failed before now answer
     → EnforcesSo limit holds config tape capture failed before now answer
 answers_so limit holds tape_holds capture_holds config tape capture accepted version desk failed before now answer e same same' w a =
-    let found : tape_stage accepted limit holds tape ≡ Found w.played.items = subst (λ (names : Names). tape_stage accepted limit names tape ≡ Found w.played.items) same w.played.found in
     inr (record {
       accepted = accepted;
       items = w.played.items;
-      found = accepted_with limit holds config tape accepted e ∙ ap (λ (s : Stage (List Timed)). and_then s (λ items. Found (accepted, items))) found;
+      found = accepted_with limit holds config tape accepted e ∙ ap (λ (s : Stage (List Timed)). and_then s (λ items. Found (accepted, items))) (found_in same w);
       judged = subst (λ (names : Names). AnswersAt accepted w.played.items (capture_stage limit names capture) failed before now answer) (same' ∙ same) a;
     })
+
+-- at want of memory behind configuration and tape
+pub unfinished_so : (limit : ℕ) (holds tape_holds capture_holds : Names) (config tape capture left : List ℕ) (accepted : Config) (version : Version) (desk : Desked) (before now : Option (List ℕ)) (reader : CaptureState)
+    → config_stage limit holds config ≡ Found accepted → tape_holds ≡ holds → capture_holds ≡ tape_holds
+    → (w : IsWhole accepted limit tape_holds tape version desk)
+    → (judged : WroteJudged accepted w.played.items (packets_of (capture_stage limit capture_holds capture)) (coming reader left).0 before now)
+    → ((HasVersion limit holds tape Two → ⊥) → judged.came.judged ≡ [])
+    → Unfinished limit holds config tape capture left before now
+unfinished_so limit holds tape_holds capture_holds config tape capture left accepted version desk before now reader e same same' w judged none =
+    let both = subst (λ (names : Names).
+    (judged : WroteJudged accepted w.played.items (packets_of (capture_stage limit names capture)) (coming reader left).0 before now)
+    × ((HasVersion limit holds tape Two → ⊥) → judged.came.judged ≡ [])) (same' ∙ same) (judged, none) in
+    record {
+      accepted = accepted;
+      items = w.played.items;
+      found = accepted_with limit holds config tape accepted e ∙ ap (λ (s : Stage (List Timed)). and_then s (λ items. Found (accepted, items))) (found_in same w);
+      reader = reader;
+      judged = both.0;
+      none = both.1;
+    }
+
+-- all packets of a capture that was opened so are to come
+pub all_to_come : (stage : Stage Recorded) (reader : CaptureState) (before now : List ℕ) → stage ≡ Found (recorded (coming reader before)) → now ≡ before
+    → packets_of stage ≡ (coming reader now).0
+all_to_come stage reader before now e same = ap packets_of e ∙ ap (λ (octets : List ℕ). (coming reader octets).0) (sym same)
 
 -- no status of a capture that was judged is that of a tape's fault
 pub never_tape : {A : Type 0} (config : Config) (items : List Timed) (found : Recorded) (failed : Type 0) (before now : Option (List ℕ)) (answer : ℕ)

@@ -1,12 +1,12 @@
 -- How the answer of a run follows from what was judged at the packets' moments.
-use Rattle.std.proofs.Common.{◌≡◌, ◌≢◌, ◌⊎◌, inl, inr, ◌∙◌, ◌≤◌, ℕ, List, [], ◌∷◌, Option, Result, Ok, Err, length, take, refl, ap, sym, subst, arith}
+use Rattle.std.proofs.Common.{◌≡◌, ◌≢◌, ◌⊎◌, inl, inr, ◌∙◌, ◌≤◌, ℕ, List, [], Option, Result, Ok, Err, refl, ap, sym, subst}
 use Rattle.std.specs.Result.{IsErrAnd}
-use Rattle.std.proofs.lemmas.Grind.{common_steps}
 use Rattle.fs_base.specs.Sink.{Grew, GrewPart}
 use Rattle.fs_base.specs.declared.config.Config.{Config}
 use Rattle.fs_base.proofs.Grew.{Grew-refl, part_whole, part_none}
-use Rattle.fs_records.specs.Records.{End}
+use Rattle.fs_records.specs.Records.{End, done, limited, bad}
 use Rattle.fs_base.specs.Outside.{Rose}
+use Rattle.fs_line.specs.Output.{Goes}
 use Rattle.fs_line.proofs.Outputs.{partly_flushed, goes_flush, goes_flush_part}
 use Rattle.fs_capture.specs.Capture.{Captured, Recorded, recorded}
 use Rattle.fs_capture.specs.declared.fault.CaptureReason.{CaptureReason}
@@ -18,8 +18,8 @@ use Rattle.fs_stages.specs.declared.refusal.Refusal.TheVariants.{Outside}
 use Rattle.fs_stages.specs.Player.{IsUnplayed}
 use Rattle.fs_stages.proofs.LookingAhead.{rose_on}
 use Rattle.fs_stages.proofs.Stages.{answers_for, rose_earlier, rose_later}
-use Rattle.fs_enforce.specs.Judge.{always, lines_from, rules_by, status_at}
-use Rattle.fs_enforce.specs.Moments.{AnswersAt, BreaksBehind, CameTo, EndsBefore, JudgesSo, came_lines, packets_of, verdict_at}
+use Rattle.fs_enforce.specs.Judge.{always, status_at}
+use Rattle.fs_enforce.specs.Moments.{AnswersAt, BreaksBehind, CameTo, EndsBefore, JudgesSo, WroteJudged, came_lines, packets_of, verdict_at}
 
 -- of no packets there are no lines
 
@@ -27,20 +27,10 @@ none_text : (held : ℕ → Held) (stage : Stage Recorded) → (verdict_at held 
 none_text held (Found capture) = refl
 none_text held (Stopped refusal) = refl
 
-take_none : (packets : List Captured) → take 0 packets ≡ []
-take_none [] = refl
-take_none (packet ∷ packets) = refl
-
-nothing_of : (held : ℕ → Held) (judged : List Captured) (stage : Stage Recorded) (before now : Option (List ℕ)) → Grew before now []
-    → Grew before now (verdict_at held (take 0 judged) stage).text
-nothing_of held judged stage before now g =
-    subst (λ (text : List ℕ). Grew before now text)
-    (sym (ap (λ (packets : List Captured). (verdict_at held packets stage).text) (take_none judged) ∙ none_text held stage)) g
-
 abbrev none_held : Config → Held
 none_held config = record { config = config; unicast = []; flows = [] }
 
-abbrev came_to_none : (config : Config) (items : List Timed) (packets : List Captured) → CameTo config items packets
+abbrev pub came_to_none : (config : Config) (items : List Timed) (packets : List Captured) → CameTo config items packets
 came_to_none config items packets = record { held = always (none_held config); judged = []; rest = packets; parts = refl; leaves = tt }
 
 -- no packet was judged
@@ -54,7 +44,6 @@ none_judged config items stage failed failed' a refusal h f = record {
     whole = λ six one. subst (λ (text : List ℕ). Grew a a text) (sym (none_text (always (none_held config)) stage)) (Grew-refl a);
   };
   all = λ six one. all h six one;
-  wanting = λ six. (0, nothing_of (always (none_held config)) [] stage a a (Grew-refl a));
 }
   where
     status : EndsBefore stage failed refusal
@@ -74,13 +63,9 @@ at_for config items stage failed failed' before now answer a f = record {
   came = a.came;
   answers = answers_for (verdict_at a.came.held a.came.judged stage) failed failed' before now answer a.answers f;
   all = a.all;
-  wanting = a.wanting;
 }
 
 -- what judging the packets did and what writing out did, as the answer of the whole
-
-all_of : (packets : List Captured) → take (length packets) packets ≡ packets
-all_of packets = grind (arith, common_steps)
 
 whole_lines : (config : Config) (items : List Timed) (found : List Captured × End CaptureReason) (failed : Type 0) (before now : Option (List ℕ)) (answer : ℕ) (came : CameTo config items found.0)
     → (answer ≡ status_at found.1) ⊎ (answer ≡ 6) → (answer ≢ 6 → came.rest ≡ []) → Grew before now (came_lines came)
@@ -93,7 +78,6 @@ whole_lines config items found failed before now answer came status rest grew = 
     whole = λ six one. grew;
   };
   all = λ six one. rest six;
-  wanting = λ six. (length came.judged, subst (λ (packets : List Captured). Grew before now (lines_from 0 (rules_by came.held) packets)) (sym (all_of came.judged)) grew);
 }
   where
     by : (answer ≡ status_at found.1) ⊎ (answer ≡ 6) → (answer ≡ status_at found.1) ⊎ (answer ≡ 6) ⊎ ((answer ≡ 1) × failed)
@@ -111,7 +95,6 @@ part_lines config items found failed before now refusal came e f part = record {
     whole = λ six one. absurd (one (ap status_of e));
   };
   all = λ six one. absurd (one (ap status_of e));
-  wanting = λ six. let wrong : 1 ≡ 6 = sym (ap status_of e) ∙ six in absurd cc;
 }
 
 flushed : {T : Type 0} (config : Config) (items : List Timed) (found : List Captured × End CaptureReason) (left : List Captured) (before mid now : Option (List ℕ)) (pending : List ℕ) (failed other : Type 0) (result : Result T Refusal)
@@ -175,6 +158,30 @@ pub rose_wider : (f f1 f2 s s1 s2 : ℕ) → f ≤ f1 → s1 ≤ s2 → Rose f1 
 rose_wider f f1 f2 s s1 s2 l m (inl r) = inl (rose_earlier f f1 f2 l r)
 rose_wider f f1 f2 s s1 s2 l m (inr r) = inr (rose_later s s1 s2 r m)
 
-pub outside_late : {T : Type 0} (r : Result T Refusal) → IsErrAnd r (λ e. e ≡ Outside) → answered r ≢ 3
-outside_late (Ok t) h e = absurd h
-outside_late (Err refusal) h e = let wrong : status_of Outside ≡ 3 = ap status_of (sym h) ∙ e in absurd cc
+-- at want of memory
+
+-- no packet was read
+abbrev pub wrote_none : (config : Config) (items : List Timed) (packets left : List Captured) (before now : Option (List ℕ)) → packets ≡ left → Grew before now []
+    → WroteJudged config items packets left before now
+wrote_none config items packets left before now e g = record { came = came_to_none config items packets; unjudged = inl e; wrote = g }
+
+-- those that were judged were written out
+pub wrote_judged : {T : Type 0} (config : Config) (items : List Timed) (found : List Captured × End CaptureReason) (left : List Captured) (before mid now : Option (List ℕ)) (first pending : List ℕ) (failed : Type 0) (result : Result T Refusal)
+    → first ≡ [] → JudgesSo config items found left before mid first pending failed result → Grew mid now pending → answered result ≡ 6
+    → WroteJudged config items found.0 left before now
+wrote_judged config items found left before mid now first pending failed (Ok value) e w grew six = absurd cc
+wrote_judged config items found left before mid now first pending failed (Err refusal) e w grew six = by w.1
+  where
+    of_end : (end : End CaptureReason) → status_at end ≡ 6 → ⊥
+    of_end done h = absurd cc
+    of_end limited h = absurd cc
+    of_end (bad reason place) h = absurd cc
+
+    by : BreaksBehind found.1 left w.0 before mid first pending failed refusal → WroteJudged config items found.0 left before now
+    by (inl h) = absurd (of_end found.1 (h.0 ∙ six))
+    by (inr (inl h)) = record {
+      came = w.0;
+      unjudged = h.1;
+      wrote = goes_flush now (subst (λ (p : List ℕ). Goes before mid p pending (came_lines w.0)) e h.2) grew;
+    }
+    by (inr (inr h)) = let wrong : 1 ≡ 6 = sym (ap status_of h.0) ∙ six in absurd cc

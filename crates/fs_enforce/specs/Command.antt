@@ -1,17 +1,18 @@
 -- What `enforce` is given, and what it answers and writes (the order of work: configuration, tape, capture).
-use Rattle.std.specs.Prelude.{ℕ, List, ◌≡◌, ◌⊎◌, ◌<◌, Option, Some, length}
+use Rattle.std.specs.Prelude.{ℕ, List, [], ◌≡◌, ◌⊎◌, ◌<◌, Option, Some, length}
 use Rattle.fs_records.specs.Records.{done}
 use Rattle.fs_base.specs.declared.config.Config.{Config}
 use Rattle.fs_tape.specs.Tape.{Timed, tape_of}
-use Rattle.fs_capture.specs.Capture.{Recorded, capture_of}
+use Rattle.fs_capture.specs.Capture.{CaptureState, Recorded, capture_of, coming}
 use Rattle.fs_stages.specs.Refusal.{Stage, Found, Stopped, and_then, status_of, EndsEarly}
 use Rattle.fs_stages.specs.Load.{Names}
 use Rattle.fs_base.specs.Happened.{Happened, FilesFailed, SinkFailed, Wrote}
 use Rattle.fs_conf.specs.Config.{config_of}
 use Rattle.fs_rules.specs.Table.{Held}
-use Rattle.fs_stages.specs.Play.{accepted_stage}
+use Rattle.fs_stages.specs.Play.{HasVersion, accepted_stage}
+use Rattle.fs_tape.specs.declared.magic.Version.TheVariants.{Two}
 use Rattle.fs_enforce.specs.Judge.{capture_stage, status_at, output_of}
-use Rattle.fs_enforce.specs.Moments.{AnswersAt, HoldAt}
+use Rattle.fs_enforce.specs.Moments.{AnswersAt, HoldAt, WroteJudged, packets_of}
 
 pub record Inputs : Type 0 where
   pub config : Config
@@ -48,6 +49,21 @@ EnforcesSo limit holds config tape capture failed before now answer =
 abbrev pub Enforces : ℕ → Names → (config tape capture : List ℕ) → Happened → ℕ → Type 0
 Enforces limit holds config tape capture call answer =
     EnforcesSo limit holds config tape capture (FilesFailed call ⊎ SinkFailed call) call.before.written call.now.written answer
+
+-- At want of memory behind configuration and tape the lines of all packets that were judged were written, and the others
+-- are left in the capture, but for at most one that was read; over a tape of the first version none was judged.
+pub record Unfinished (limit : ℕ) (holds : Names) (config tape capture left : List ℕ) (before now : Option (List ℕ)) : Type 0 where
+  pub accepted : Config
+  pub items : List Timed
+  pub found : accepted_stage limit holds config tape ≡ Found (accepted, items)
+  pub reader : CaptureState
+  pub judged : WroteJudged accepted items (packets_of (capture_stage limit holds capture)) (coming reader left).0 before now
+  pub none : (HasVersion limit holds tape Two → ⊥) → judged.came.judged ≡ []
+
+-- That; or the capture wasn't opened, and nothing was written.
+abbrev pub Wants : ℕ → Names → (config tape capture left_before left : List ℕ) → Happened → Type 0
+Wants limit holds config tape capture left_before left call =
+    ((left ≡ left_before) × Wrote call []) ⊎ Unfinished limit holds config tape capture left call.before.written call.now.written
 
 -- Of the files that these names hold, all of them without a fault and within the limit, the lines of the capture's
 -- packets were written: of the ordered walk over the rules that validation admits from the routes that the tape holds at

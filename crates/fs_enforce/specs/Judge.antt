@@ -1,5 +1,5 @@
 -- The lines of a capture's packets under the rules that are admitted, and what becomes of them.
-use Rattle.std.specs.Prelude.{ℕ, ◌+◌, List, [], ◌∷◌, ◌++◌, map, Option, Some, None, Result, Ok, Err, ◌≡◌, ◌⊎◌, take}
+use Rattle.std.specs.Prelude.{ℕ, ◌+◌, List, [], ◌∷◌, ◌++◌, map, Option, Some, None, Result, Ok, Err, MatchResult, ◌≡◌, ◌≢◌, ◌⊎◌, take}
 use Rattle.fs_base.specs.declared.prefix.Family.{Family}
 use Rattle.fs_base.specs.declared.prefix.Family.TheVariants.{V4, V6}
 use Rattle.fs_line.specs.Line.{line_of, unread_line_of}
@@ -17,6 +17,8 @@ use Rattle.fs_capture.specs.declared.fault.CaptureReason.{CaptureReason}
 use Rattle.fs_stages.specs.Refusal.{Stage, Found, and_then, or_stop, status_of}
 use Rattle.fs_stages.specs.declared.refusal.Refusal.TheVariants.{Outside, Capture as CaptureRefusal, Limit as AtLimit}
 use Rattle.fs_stages.specs.Load.{Names}
+use Rattle.fs_stages.specs.Play.{EndsBy, IsOpenOrDone}
+use Rattle.fs_stages.specs.Player.{PlayerState}
 use Rattle.fs_stages.specs.declared.refusal.Refusal.{Refusal}
 use Rattle.fs_base.specs.Parts.{with_part}
 use Rattle.fs_capture.specs.declared.caught.Caught.{Caught}
@@ -75,6 +77,23 @@ abbrev pub status_at : End CaptureReason → ℕ
 status_at done = 0
 status_at limited = 7
 status_at (bad reason place) = 5
+
+-- a status of the capture: of no other input, and of no session
+abbrev pub IsOfCapture : ℕ → Type 0
+IsOfCapture status = (status ≢ 3) × (status ≢ 4) × (status ≢ 8) × (status ≢ 10)
+
+-- a status at a packet: of the capture, and memory wasn't wanting
+abbrev pub IsAtPacket : ℕ → Type 0
+IsAtPacket status = IsOfCapture status × (status ≢ 6)
+
+-- a status of the capture, or of the tape that is followed
+abbrev pub IsOfPackets : ℕ → Type 0
+IsOfPackets status = (status ≢ 3) × (status ≢ 8) × (status ≢ 10)
+
+-- Where judging ends well the tape that is followed is open or done, and a fault of the tape is the one that ended it.
+abbrev pub EndsTape : {T : Type 0} → PlayerState → Result T Refusal → Type 0
+EndsTape player result =
+    MatchResult result (λ _. IsOpenOrDone player.tape player.ahead) (λ refusal. status_of refusal ≡ 4 → EndsBy player.tape refusal)
 
 -- the refusal for a fault of a capture
 abbrev pub refused_by : Fault CaptureReason → Refusal

@@ -1,5 +1,5 @@
 -- The lines of a capture's packets, each under the routes that a tape holds at its moment, and what becomes of them.
-use Rattle.std.specs.Prelude.{ℕ, List, [], ◌∷◌, ◌++◌, Option, Result, ◌≡◌, ◌≢◌, ◌⊎◌, MatchResult, length, take}
+use Rattle.std.specs.Prelude.{ℕ, List, [], ◌∷◌, ◌++◌, Option, Result, ◌≡◌, ◌≢◌, ◌⊎◌, MatchResult, length}
 use Rattle.std.specs.List.{AllByRecursion}
 use Rattle.fs_base.specs.Happened.{Happened, FilesFailed, SinkFailed}
 use Rattle.fs_base.specs.Sink.{Grew}
@@ -90,13 +90,17 @@ verdict_at held judged (Found capture) = verdict_with (status_at capture.end) (l
 verdict_at held judged (Stopped refusal) = verdict_with (status_of refusal) []
 
 -- The packets of a capture were judged under the routes that the tape holds at their moments. All of them were, but for
--- want of memory and for a call on the outside that failed. At want of memory whole lines are written, of the first
--- packets that judging came to.
+-- want of memory and for a call on the outside that failed.
 pub record AnswersAt (config : Config) (items : List Timed) (stage : Stage Recorded) (failed : Type 0) (before now : Option (List ℕ)) (answer : ℕ) : Type 0 where
   pub came : CameTo config items (packets_of stage)
   pub answers : Answers (verdict_at came.held came.judged stage) failed before now answer
   pub all : answer ≢ 6 → answer ≢ 1 → came.rest ≡ []
-  pub wanting : answer ≡ 6 → (k : ℕ) × Grew before now (verdict_at came.held (take k came.judged) stage).text
+
+-- The lines of all packets that were judged were written. The others are left, but for at most one that was read.
+pub record WroteJudged (config : Config) (items : List Timed) (packets left : List Captured) (before now : Option (List ℕ)) : Type 0 where
+  pub came : CameTo config items packets
+  pub unjudged : IsUnjudged came.rest left
+  pub wrote : Grew before now (came_lines came)
 
 -- a capture was opened of which this is to come
 abbrev pub IsCaptureOpened : ℕ → Names → List ℕ → List ℕ → CaptureState → Type 0

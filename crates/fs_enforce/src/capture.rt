@@ -1,13 +1,13 @@
 //! The capture that is judged: opened, and read packet by packet.
 
-ghost use Rattle.std.specs.Prelude.{◌≡◌, ◌≢◌, ◌≤◌, ◌<◌, ◌^◌, None, IsTrue, IfErr, IfOk, IfSome, MatchResult, length};
+ghost use Rattle.std.specs.Prelude.{◌≡◌, ◌≤◌, ◌<◌, ◌^◌, None, IsTrue, IfOk, IfSome, MatchResult, length};
 ghost use Rattle.fs_base.specs.Files.{OnlySlot};
 ghost use Rattle.fs_base.specs.Outside.{Rose};
 ghost use Rattle.fs_capture.specs.Capture.{coming};
 ghost use Rattle.fs_pcap.specs.Head.{longest_record};
-ghost use Rattle.fs_enforce.specs.Judge.{capture_stage, Ceases, refused_by, Yields};
+ghost use Rattle.fs_enforce.specs.Judge.{capture_stage, Ceases, IsAtPacket, refused_by, Yields};
 ghost use Rattle.fs_enforce.specs.Moments.{EndsBefore, IsCaptureOpened};
-ghost use Rattle.fs_stages.specs.Refusal.{IsAtPacket, answered};
+ghost use Rattle.fs_stages.specs.Refusal.{answered, status_of};
 
 use fs_base::{Counted, Files};
 use fs_capture::{Capture, CaptureFault, Caught};
@@ -25,7 +25,7 @@ pub(crate) fn open_capture<F: Files>(
     limit: u64,
 ) -> Result<Capture, Refusal>
     ensures later { F.faults files.old ≤ F.faults files.new }
-    ensures late { answered result ≢ 3 }
+    ensures possible { IsAtPacket (answered result) }
     ensures slot { IfOk result (λ capture. capture.slot ≡ 2) }
     ensures end { IfOk result (λ capture. capture.end ≡ None) }
     ensures moment { IfOk result (λ capture. capture.moment ≡ 0) }
@@ -57,7 +57,7 @@ pub(crate) fn next_packet<F: Files>(
 ) -> Result<Option<Caught>, Refusal>
     requires room { longest_record ≤ length buffer.old }
     requires open { capture.old.end ≡ None }
-    ensures late { IfErr result IsAtPacket }
+    ensures possible { IsAtPacket (answered result) }
     ensures later { F.faults files.old ≤ F.faults files.new }
     ensures slot { capture.new.slot ≡ capture.old.slot }
     ensures limit { capture.new.limit ≡ capture.old.limit }
@@ -86,7 +86,7 @@ pub(crate) fn next_packet<F: Files>(
 /// The refusal for a capture's fault.
 fn refusal_of(fault: CaptureFault) -> Refusal
     ensures result { result ≡ refused_by fault }
-    ensures late { IsAtPacket result }
+    ensures possible { IsAtPacket (status_of result) }
 {
     match fault {
         CaptureFault::Read => Refusal::Outside,

@@ -1,8 +1,8 @@
 //! The command `enforce`.
 
-ghost use Rattle.std.specs.Prelude.{◌≡◌, ◌≤◌, IsTrue};
+ghost use Rattle.std.specs.Prelude.{◌≡◌, ◌≢◌, ◌≤◌, IsTrue};
 ghost use Rattle.fs_base.specs.Happened.{happened};
-ghost use Rattle.fs_enforce.specs.Command.{Enforces};
+ghost use Rattle.fs_enforce.specs.Command.{Enforces, Wants};
 ghost use Rattle.fs_stages.specs.Play.{HasVersion};
 ghost use Rattle.fs_stages.specs.Refusal.{answered};
 ghost use Rattle.fs_tape.specs.declared.magic.Version.TheVariants.{Two};
@@ -32,6 +32,7 @@ pub fn enforce<F: Files, S: Sink>(
 ) -> Result<(), Refusal>
     ensures files_later { F.faults files.old ≤ F.faults files.new }
     ensures sink_later { S.faults sink.old ≤ S.faults sink.new }
+    ensures possible { (answered result ≢ 8) × (answered result ≢ 10) }
     ensures quiet { answered result ≡ 3 → sink.new ≡ sink.old }
     ensures still { IsTrue F.tells → answered result ≡ 4 → sink.new ≡ sink.old }
     ensures unwritten { IsTrue F.tells → answered result ≡ 6
@@ -41,6 +42,11 @@ pub fn enforce<F: Files, S: Sink>(
         → Enforces limit (F.holds files.old) names.now.config.now names.now.tape.now names.now.capture.now
         (happened F.Files S.Sink files.old files.new sink.old sink.new)
         (answered result) }
+    ensures wanting { IsTrue F.tells
+        → answered result ≡ 6
+        → Wants limit (F.holds files.old) names.now.config.now names.now.tape.now names.now.capture.now
+        (F.left files.old 2) (F.left files.new 2)
+        (happened F.Files S.Sink files.old files.new sink.old sink.new) }
 {
     let config = load_config(alloc, files, names.config, limit)?;
     let whole = play_whole(alloc, files, &config, names.tape, limit)?;

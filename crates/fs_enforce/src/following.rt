@@ -1,12 +1,12 @@
 //! The tape, as it is followed along a capture.
 
-ghost use Rattle.std.specs.Prelude.{◌≡◌, ◌≢◌, ◌≤◌, List, IsTrue, IfOk, MatchResult};
+ghost use Rattle.std.specs.Prelude.{◌≡◌, ◌≤◌, List, IsTrue, IfOk, MatchResult};
 ghost use Rattle.fs_base.specs.Files.{OnlySlot};
 ghost use Rattle.fs_base.specs.Outside.{Rose};
 ghost use Rattle.fs_desk.specs.Leaves.{Leaves};
-ghost use Rattle.fs_stages.specs.Play.{until};
+ghost use Rattle.fs_stages.specs.Play.{EndsBy, IsOpenOrDone, until};
 ghost use Rattle.fs_stages.specs.Player.{IsUnplayed, Stands};
-ghost use Rattle.fs_stages.specs.Refusal.{answered};
+ghost use Rattle.fs_stages.specs.Refusal.{IsOfTape, answered};
 ghost use Rattle.fs_tape.specs.Tape.{Timed};
 ghost use Rattle.fs_enforce.specs.Judge.{admitted_rules};
 ghost use Rattle.fs_enforce.specs.Matcher.{StandsFor};
@@ -49,7 +49,11 @@ impl<'a> Following<'a> {
         ensures later { F.faults files.old ≤ F.faults files.new }
         ensures slot { self.new.player.tape.slot ≡ self.old.player.tape.slot }
         ensures config { self.new.player.desk.config ≡ self.old.player.desk.config }
-        ensures late { answered result ≢ 3 }
+        ensures possible { IsOfTape (answered result) }
+        ensures ends { IsOpenOrDone self.old.player.tape self.old.player.ahead
+            → MatchResult result
+            (λ _. IsOpenOrDone self.new.player.tape self.new.player.ahead)
+            (EndsBy self.new.player.tape) }
         ensures stands { IfOk result (λ _. StandsFor (admitted_rules self.new.player.desk.held) self.new.rules) }
 
         ensures played { IsTrue F.tells

@@ -1,6 +1,6 @@
 //! The packets of a capture, each judged by the rules that the tape admits at its moment.
 
-ghost use Rattle.std.specs.Prelude.{◌≡◌, ◌≢◌, ◌≤◌, ◌<◌, ◌^◌, ◌⊎◌, ℕ, List, [], Option, None, true, IsTrue, IfOk, IfSome, MatchResult, length};
+ghost use Rattle.std.specs.Prelude.{◌≡◌, ◌≤◌, ◌<◌, ◌^◌, ◌⊎◌, ℕ, List, [], Option, None, true, IsTrue, IfOk, IfSome, MatchResult, length};
 ghost use Rattle.std.specs.Option.{is_some};
 ghost use Rattle.fs_base.specs.Happened.{happened};
 ghost use Rattle.fs_base.specs.Outside.{Rose};
@@ -9,13 +9,13 @@ ghost use Rattle.fs_capture.specs.declared.fault.CaptureReason.{CaptureReason};
 ghost use Rattle.fs_desk.specs.Leaves.{Leaves};
 ghost use Rattle.fs_pcap.specs.Head.{longest_record};
 ghost use Rattle.fs_records.specs.Records.{End};
-ghost use Rattle.fs_stages.specs.Play.{until};
+ghost use Rattle.fs_stages.specs.Play.{IsOpenOrDone, until};
 ghost use Rattle.fs_stages.specs.Player.{Stands, due_item};
 ghost use Rattle.fs_stages.specs.Refusal.{Found, answered};
 ghost use Rattle.fs_tape.specs.Tape.{Timed};
-ghost use Rattle.fs_enforce.specs.Judge.{admitted_rules, found_behind, in_hand};
+ghost use Rattle.fs_enforce.specs.Judge.{admitted_rules, EndsTape, found_behind, in_hand, IsOfCapture, IsOfPackets};
 ghost use Rattle.fs_enforce.specs.Matcher.{StandsFor};
-ghost use Rattle.fs_enforce.specs.Moments.{AnswersAt, BreaksOff, Follows, JudgesMoments};
+ghost use Rattle.fs_enforce.specs.Moments.{AnswersAt, BreaksOff, Follows, JudgesMoments, WroteJudged};
 
 use crate::capture::next_packet;
 use crate::following::Following;
@@ -50,9 +50,10 @@ pub(crate) fn judge_capture<F: Files, S: Sink>(
     requires within { capture.old.place ≤ capture.old.limit }
     requires fits { capture.old.limit < 2 ^ 64 }
     requires tape { player.tape.slot ≡ 1 }
+    requires ends { IsOpenOrDone player.tape player.ahead }
     ensures files_later { F.faults files.old ≤ F.faults files.new }
     ensures sink_later { S.faults sink.old ≤ S.faults sink.new }
-    ensures late { answered result ≢ 3 }
+    ensures possible { IsOfPackets (answered result) }
     ensures unwritten { player.entry.ahead ≡ None
         → answered result ≡ 6
         → (sink.new ≡ sink.old) × (files.new ≡ files.old) × (capture.new ≡ capture.old) }
@@ -66,6 +67,14 @@ pub(crate) fn judge_capture<F: Files, S: Sink>(
         (S.written sink.old)
         (S.written sink.new)
         (answered result) }
+    ensures wanting { IsTrue F.tells
+        → answered result ≡ 6
+        → (items : List Timed)
+        → Stands items 0 player.entry (F.left files.old 1)
+        → WroteJudged player.entry.desk.config items
+        (coming capture.old (F.left files.old 2)).0
+        (coming capture.new (F.left files.new 2)).0
+        (S.written sink.old) (S.written sink.new) }
 {
     let mut buffer = vec![in alloc; 0u8; LONGEST_RECORD]?;
     let mut lines = Lines::new(alloc)?;
@@ -98,11 +107,13 @@ fn judge_all<F: Files, S: Sink>(
     requires within { capture.old.place ≤ capture.old.limit }
     requires fits { capture.old.limit < 2 ^ 64 }
     requires tape { following.old.player.tape.slot ≡ 1 }
+    requires ends { IsOpenOrDone following.old.player.tape following.old.player.ahead }
     requires stands { StandsFor (admitted_rules following.old.player.desk.held) following.old.rules }
     requires none { (lines.old.output ≡ []) × (lines.old.number ≡ 0) }
     ensures files_later { F.faults files.old ≤ F.faults files.new }
     ensures sink_later { S.faults sink.old ≤ S.faults sink.new }
-    ensures late { answered result ≢ 3 }
+    ensures possible { IsOfPackets (answered result) }
+    ensures ends { EndsTape following.new.player result }
     ensures unwritten { following.old.player.ahead ≡ None
         → answered result ≡ 6
         → (sink.new ≡ sink.old) × (files.new ≡ files.old) × (capture.new ≡ capture.old) }
@@ -116,6 +127,14 @@ fn judge_all<F: Files, S: Sink>(
         (S.written sink.old)
         (S.written sink.new)
         (answered result) }
+    ensures wanting { IsTrue F.tells
+        → answered result ≡ 6
+        → (items : List Timed)
+        → Stands items 0 following.old.player (F.left files.old 1)
+        → WroteJudged following.old.player.desk.config items
+        (coming capture.old (F.left files.old 2)).0
+        (coming capture.new (F.left files.new 2)).0
+        (S.written sink.old) (S.written sink.new) }
 {
     let judged = judge_packets(files, capture, following, buffer, lines, sink);
     lines.output.flush(sink)?;
@@ -138,11 +157,13 @@ fn judge_packets<F: Files, S: Sink>(
     requires within { capture.old.place ≤ capture.old.limit }
     requires fits { capture.old.limit < 2 ^ 64 }
     requires tape { following.old.player.tape.slot ≡ 1 }
+    requires ends { IsOpenOrDone following.old.player.tape following.old.player.ahead }
     requires stands { StandsFor (admitted_rules following.old.player.desk.held) following.old.rules }
     requires first { lines.old.number ≡ 0 }
     ensures files_later { F.faults files.old ≤ F.faults files.new }
     ensures sink_later { S.faults sink.old ≤ S.faults sink.new }
-    ensures late { answered result ≢ 3 }
+    ensures possible { IsOfPackets (answered result) }
+    ensures ends { EndsTape following.new.player result }
     ensures early { following.old.player.ahead ≡ None
         → answered result ≡ 6
         → (sink.new ≡ sink.old)
@@ -193,7 +214,7 @@ fn judge_on<F: Files, S: Sink>(
         (caught.taken ≤ longest_record) × (lines.old.number < capture.old.place)) }
     ensures files_later { F.faults files.old ≤ F.faults files.new }
     ensures sink_later { S.faults sink.old ≤ S.faults sink.new }
-    ensures late { answered result ≢ 3 }
+    ensures possible { IsOfCapture (answered result) }
     ensures slot { capture.new.slot ≡ capture.old.slot }
     ensures limit { capture.new.limit ≡ capture.old.limit }
     ensures early { answered result ≡ 6

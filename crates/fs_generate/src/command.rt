@@ -1,6 +1,6 @@
 //! The command `gen`.
 
-ghost use Rattle.std.specs.Prelude.{◌≡◌, ◌++◌, ◌⊎◌, List, IfErr, IfOk, IsSome, OnOk, vec_capacity};
+ghost use Rattle.std.specs.Prelude.{◌≡◌, ◌++◌, ◌⊎◌, List, IfOk, IsSome, OnOk, vec_capacity};
 ghost use Rattle.fs_base.specs.Config.{peer_of};
 ghost use Rattle.fs_base.specs.Outside.{Rose};
 ghost use Rattle.fs_base.specs.declared.config.Config.{Config};
@@ -38,7 +38,7 @@ use std::alloc::Global;
 /// `Memory` where the machine refused memory, and then nothing is written; `Outside` where the sink failed, and then a
 /// front of the line is.
 pub fn generate<S: Sink>(alloc: Global, sink: &mut S, count: u32) -> Result<(), Refusal>
-    ensures late { IfErr result IsLate }
+    ensures late { IsLate (answered result) }
     ensures unwritten { answered result ≡ 6 → sink.new ≡ sink.old }
     ensures generates { GeneratesSo count (Rose (S.faults sink.old) (S.faults sink.new))
         (S.written sink.old) (S.written sink.new) (answered result) }

@@ -1,13 +1,13 @@
 -- How the answer of a run follows from those of its stages.
 use Rattle.std.proofs.Common.{◌≡◌, ◌⊎◌, inl, inr, ◌≤◌, arith, ◌∙◌, ℕ, List, [], Option, Result, Ok, Err, take, refl, ap, sym, subst}
-use Rattle.std.specs.Result.{IfErr, IsErrAnd, IsErrOf}
+use Rattle.std.specs.Result.{IsErrAnd, IsErrOf}
 use Rattle.std.proofs.lemmas.Grind.{common_steps}
 use Rattle.fs_base.specs.Outside.{Rose}
 use Rattle.fs_base.specs.declared.config.Config.{Config}
 use Rattle.fs_base.proofs.Grew.{Grew-refl, part_none}
 use Rattle.fs_stages.specs.Load.{Names, config_stage}
 use Rattle.fs_stages.specs.Play.{tape_stage, accepted_stage}
-use Rattle.fs_stages.specs.Refusal.{Verdict, answered, Answers, EndsEarly, IsAtPacket, IsLate, Stage, Found, and_then, status_of, HasReason}
+use Rattle.fs_stages.specs.Refusal.{Verdict, answered, Answers, EndsEarly, Stage, Found, and_then, status_of, HasReason}
 use Rattle.fs_stages.specs.declared.refusal.Refusal.{Refusal}
 use Rattle.fs_stages.specs.declared.refusal.Refusal.TheVariants.{Outside, Memory}
 
@@ -70,24 +70,7 @@ pub either_rose : (before mid now : ℕ) (other : Type 0) → before ≤ mid →
 either_rose before mid now other l (inl r) = inl (rose_earlier before mid now l r)
 either_rose before mid now other l (inr h) = inr h
 
--- a refusal that a `?` hands on is late where its cause is
-pub late_err : {T : Type 0} (r : Result T Refusal) (cause : Refusal) → IsErrAnd r (λ e. e ≡ cause) → IsLate cause → IfErr r IsLate
-late_err (Ok t) cause h l = absurd h
-late_err (Err e) cause h l = subst IsLate (sym h) l
-
--- a refusal at a packet is late, and is never for want of memory
-pub late_of : {T : Type 0} (r : Result T Refusal) → IfErr r IsAtPacket → IfErr r IsLate
-late_of (Ok t) h = tt
-late_of (Err e) h = (h.0, h.1)
-
-pub never_memory : {T A : Type 0} (r : Result T Refusal) → IfErr r IsAtPacket → answered r ≡ 6 → A
-never_memory (Ok t) h e = absurd cc
-never_memory (Err refusal) h e = absurd (h.2 e)
-
--- a call on the outside that failed is late, and is never want of memory
-pub late_outside : {T : Type 0} (r : Result T Refusal) → IsErrAnd r (λ e. e ≡ Outside) → IfErr r IsLate
-late_outside r h = late_err r Outside h (λ e. absurd cc, λ e. absurd cc)
-
+-- a call on the outside that failed is never want of memory
 pub outside_wants_none : {T A : Type 0} (r : Result T Refusal) → IsErrAnd r (λ e. e ≡ Outside) → answered r ≡ 6 → A
 outside_wants_none (Ok t) h e = absurd h
 outside_wants_none (Err refusal) h e =

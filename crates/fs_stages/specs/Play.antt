@@ -1,14 +1,15 @@
 -- The stage of the tape, and a tape as the program plays it.
-use Rattle.std.specs.Prelude.{ℕ, List, ◌≡◌, ◌++◌, [], map, filter, nat_le, Option, Some, None, Ok, option_map}
+use Rattle.std.specs.Prelude.{ℕ, List, ◌≡◌, ◌⊎◌, ◌++◌, [], map, filter, nat_le, Option, Some, None, Ok, option_map}
 use Rattle.std.specs.List.{AllByRecursion}
 use Rattle.fs_records.specs.Records.{End, done, limited, bad}
 use Rattle.fs_base.specs.declared.config.Config.{Config}
 use Rattle.fs_tape.specs.Tape.{Item, TapeState, Timed, coming, item_from, tape_of, timed, version_of}
 use Rattle.fs_tape.specs.declared.fault.TapeReason.{TapeReason}
 use Rattle.fs_stages.specs.Refusal.{Stage, Found, Stopped, and_then, or_stop}
-use Rattle.fs_stages.specs.declared.refusal.Refusal.TheVariants.{Outside, Tape as TapeRefusal, Limit as AtLimit}
+use Rattle.fs_stages.specs.declared.refusal.Refusal.TheVariants.{Outside, Tape as TapeRefusal, Limit as AtLimit, Memory}
 use Rattle.fs_stages.specs.Load.{Names, config_stage}
 use Rattle.fs_base.specs.Parts.{with_part}
+use Rattle.fs_records.specs.declared.fault.Ended.TheVariants.{Done, Stopped}
 use Rattle.fs_records.specs.declared.fault.Fault.{Fault}
 use Rattle.fs_records.specs.declared.fault.Fault.TheVariants.{Read, Limit, Bad}
 use Rattle.fs_tape.specs.declared.item.TapeItem.{TapeItem}
@@ -59,6 +60,16 @@ abbrev pub refused_by : Fault TapeReason → Refusal
 refused_by Read = Outside
 refused_by Limit = AtLimit
 refused_by (Bad reason place) = TapeRefusal reason place
+
+-- a tape is open where an item was given, and done where none was
+abbrev pub IsOpenOrDone : TapeState → Option TapeItem → Type 0
+IsOpenOrDone tape None = tape.end ≡ Some Done
+IsOpenOrDone tape (Some item) = tape.end ≡ None
+
+-- a tape ended by the fault that is refused so; or memory was wanting
+abbrev pub EndsBy : TapeState → Refusal → Type 0
+EndsBy tape refusal =
+    (refusal ≡ Memory) ⊎ ((fault : Fault TapeReason) × (tape.end ≡ Some (Stopped fault)) × (refusal ≡ refused_by fault))
 
 -- the items of a tape without a fault were played
 pub record IsPlayed (config : Config) (stage : Stage (List Timed)) (desk : Desked) : Type 0 where

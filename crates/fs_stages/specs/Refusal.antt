@@ -42,13 +42,17 @@ abbrev pub answered : {T : Type 0} → Result T Refusal → ℕ
 answered (Ok t) = 0
 answered (Err refusal) = status_of refusal
 
--- a refusal that isn't of an input read before the capture
-abbrev pub IsLate : Refusal → Type 0
-IsLate refusal = (status_of refusal ≢ 3) × (status_of refusal ≢ 4)
+-- a status of the configuration or of the rules file: of no other input, and of no session
+abbrev pub IsOfFile : ℕ → Type 0
+IsOfFile status = (status ≢ 4) × (status ≢ 5) × (status ≢ 8) × (status ≢ 10)
 
--- a refusal at a packet: that is late, and memory wasn't wanting
-abbrev pub IsAtPacket : Refusal → Type 0
-IsAtPacket refusal = (status_of refusal ≢ 3) × (status_of refusal ≢ 4) × (status_of refusal ≢ 6)
+-- a status of the tape
+abbrev pub IsOfTape : ℕ → Type 0
+IsOfTape status = (status ≢ 3) × (status ≢ 5) × (status ≢ 8) × (status ≢ 10)
+
+-- a status of no input and of no session: memory was wanting, or a call on the outside failed, or the job is done
+abbrev pub IsLate : ℕ → Type 0
+IsLate status = (status ≢ 3) × (status ≢ 4) × (status ≢ 5) × (status ≢ 7) × (status ≢ 8) × (status ≢ 10)
 
 -- the status of a run, and all that it is to write
 pub record Verdict : Type 0 where

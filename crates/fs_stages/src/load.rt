@@ -1,11 +1,11 @@
 //! Opening files, and reading the configuration and the rules file.
 
-ghost use Rattle.std.specs.Prelude.{◌≡◌, ◌≤◌, IfErr, IfOk, IsTrue, Some, MatchResult};
+ghost use Rattle.std.specs.Prelude.{◌≡◌, ◌≢◌, ◌≤◌, IfOk, IsTrue, Some, MatchResult};
 ghost use Rattle.fs_base.specs.Files.{OnlySlot};
 ghost use Rattle.fs_base.specs.Outside.{Rose};
 ghost use Rattle.fs_speaker.specs.Announcer.{CanSend};
 ghost use Rattle.fs_speaker.specs.Sending.{sender_of};
-ghost use Rattle.fs_stages.specs.Refusal.{IsLate, HasReason, Reaches, or_stop};
+ghost use Rattle.fs_stages.specs.Refusal.{IsLate, IsOfFile, HasReason, Reaches, answered, or_stop};
 ghost use Rattle.fs_stages.specs.declared.refusal.Refusal.TheVariants.{Outside};
 ghost use Rattle.fs_stages.specs.Load.{config_stage, fetch, rules_stage};
 
@@ -34,7 +34,8 @@ pub const CAPTURE_SLOT: u8 = 2;
 /// `Outside` where no file has the name, or the files failed.
 pub fn open<F: Files>(files: &mut F, slot: u8, name: &str) -> Result<(), Refusal>
     requires { slot ≤ 2 }
-    ensures late { IfErr result IsLate }
+    ensures late { IsLate (answered result) }
+    ensures known { answered result ≢ 6 }
     ensures later { F.faults files.old ≤ F.faults files.new }
     ensures holds { IsTrue F.tells → F.holds files.new ≡ F.holds files.old }
 
@@ -66,12 +67,14 @@ fn load<F: Files>(
     requires { slot ≤ 2 }
     ensures later { F.faults files.old ≤ F.faults files.new }
     ensures holds { IsTrue F.tells → F.holds files.new ≡ F.holds files.old }
+    ensures possible { IsOfFile (answered result) }
 
     ensures reaches { IsTrue F.tells
         → Reaches (λ octets. octets.items)
         (fetch limit (F.holds files.old) name.now)
         (Rose (F.faults files.old) (F.faults files.new))
         result }
+    ensures others { OnlySlot F.tells F.left F.holds slot files.old files.new }
 {
     open(files, slot, name)?;
     match fs_base::read_whole(alloc, files, slot, limit) {
@@ -96,12 +99,14 @@ pub fn load_config<F: Files>(
 ) -> Result<Config, Refusal>
     ensures later { F.faults files.old ≤ F.faults files.new }
     ensures holds { IsTrue F.tells → F.holds files.new ≡ F.holds files.old }
+    ensures possible { IsOfFile (answered result) }
 
     ensures reaches { IsTrue F.tells
         → Reaches (λ config. config)
         (config_stage limit (F.holds files.old) name.now)
         (Rose (F.faults files.old) (F.faults files.new))
         result }
+    ensures others { OnlySlot F.tells F.left F.holds 0 files.old files.new }
 {
     let octets = load(alloc, files, CONFIG_SLOT, name, limit)?;
     match fs_conf::read_config(alloc, &octets) {
@@ -125,6 +130,7 @@ pub fn load_rules<F: Files>(
 ) -> Result<Sending, Refusal>
     ensures later { F.faults files.old ≤ F.faults files.new }
     ensures holds { IsTrue F.tells → F.holds files.new ≡ F.holds files.old }
+    ensures possible { IsOfFile (answered result) }
     ensures sendable { IfOk result (CanSend config.now (sender_of config.now.peers)) }
 
     ensures reaches { IsTrue F.tells

@@ -1,15 +1,16 @@
 //! Playing a tape.
 
-ghost use Rattle.std.specs.Prelude.{◌≡◌, ◌≢◌, ◌≤◌, ◌<◌, None, false, length};
-ghost use Rattle.std.specs.Prelude.{IsTrue, IfOk, IfSome, OnOk, MatchResult};
+ghost use Rattle.std.specs.Prelude.{◌≡◌, ◌≤◌, ◌<◌, None, Some, false, length};
+ghost use Rattle.std.specs.Prelude.{IsOk, IsTrue, IfOk, IfSome, OnOk, MatchResult};
 ghost use Rattle.fs_base.specs.Files.{OnlySlot};
 ghost use Rattle.fs_base.specs.Outside.{Rose};
 ghost use Rattle.fs_base.specs.declared.config.Config.{Config};
+ghost use Rattle.fs_records.specs.declared.fault.Ended.TheVariants.{Done};
 ghost use Rattle.fs_rules.specs.Table.{AdmitsSame};
 ghost use Rattle.fs_tape.specs.Header.{IsTimed, longest_payload};
 ghost use Rattle.fs_tape.specs.Tape.{IsBegun, IsItem, coming, item_from};
-ghost use Rattle.fs_stages.specs.Refusal.{HasReason, answered, status_of};
-ghost use Rattle.fs_stages.specs.Play.{tape_stage, played_to, IsOpened, IsPlayed, IsWhole, Gives, PlaysOn, refused_by};
+ghost use Rattle.fs_stages.specs.Refusal.{HasReason, IsOfTape, answered, status_of};
+ghost use Rattle.fs_stages.specs.Play.{tape_stage, played_to, EndsBy, IsOpenOrDone, IsOpened, IsPlayed, IsWhole, Gives, PlaysOn, refused_by};
 ghost use Rattle.fs_desk.specs.Desk.{Plays};
 
 use crate::load::{TAPE_SLOT, open};
@@ -41,6 +42,7 @@ pub fn play_tape<'a, F: Files>(
 ) -> Result<Desk<'a>, Refusal>
     ensures later { F.faults files.old ≤ F.faults files.new }
     ensures holds { IsTrue F.tells → F.holds files.new ≡ F.holds files.old }
+    ensures possible { IsOfTape (answered result) }
 
     ensures played { IsTrue F.tells
         → MatchResult result
@@ -72,6 +74,7 @@ pub fn play_whole<'a, F: Files>(
 ) -> Result<WholeTape<'a>, Refusal>
     ensures later { F.faults files.old ≤ F.faults files.new }
     ensures holds { IsTrue F.tells → F.holds files.new ≡ F.holds files.old }
+    ensures possible { IsOfTape (answered result) }
 
     ensures played { IsTrue F.tells
         → MatchResult result
@@ -79,6 +82,8 @@ pub fn play_whole<'a, F: Files>(
         (HasReason (tape_stage config.entry.now limit (F.holds files.old) name.now)
         (Rose (F.faults files.old) (F.faults files.new))) }
     ensures slot { IfOk result (λ whole. whole.tape.slot ≡ 1) }
+    ensures done { IfOk result (λ whole. whole.tape.end ≡ Some Done) }
+    ensures others { OnlySlot F.tells F.left F.holds 1 files.old files.new }
 {
     let mut tape = open_tape(files, name, limit)?;
     let version = tape.format();
@@ -99,7 +104,7 @@ pub(crate) fn open_tape<F: Files>(files: &mut F, name: &str, limit: u64) -> Resu
     ensures later { F.faults files.old ≤ F.faults files.new }
     ensures state { IfOk result (IsBegun 1 limit) }
     ensures within { IfOk result (λ tape. tape.place ≤ tape.limit) }
-    ensures late { answered result ≢ 3 }
+    ensures possible { IsOfTape (answered result) }
 
     ensures opened { IsTrue F.tells
         → MatchResult result
@@ -129,8 +134,9 @@ fn play_items<F: Files>(
     requires within { tape.old.place ≤ tape.old.limit }
     requires config { desk.old.config ≡ config.now }
     ensures later { F.faults files.old ≤ F.faults files.new }
-    ensures holds { IsTrue F.tells → F.holds files.new ≡ F.holds files.old }
     ensures slot { tape.new.slot ≡ tape.old.slot }
+    ensures possible { IsOfTape (answered result) }
+    ensures done { IsOk result → tape.new.end ≡ Some Done }
 
     ensures played { IsTrue F.tells
         → MatchResult result
@@ -138,6 +144,7 @@ fn play_items<F: Files>(
         desk.old desk.new)
         (HasReason (played_to (coming config.now tape.old (F.left files.old tape.old.slot)))
         (Rose (F.faults files.old) (F.faults files.new))) }
+    ensures others { OnlySlot F.tells F.left F.holds tape.old.slot files.old files.new }
 {
     let mut replies = Vec::new(alloc);
     'items: while let Some(item) = next_item(files, tape, config, buffer)? {
@@ -182,11 +189,12 @@ pub(crate) fn next_item<F: Files>(
     ensures slot { tape.new.slot ≡ tape.old.slot }
     ensures limit { tape.new.limit ≡ tape.old.limit }
     ensures version { tape.new.version ≡ tape.old.version }
-    ensures late { answered result ≢ 3 }
+    ensures possible { IsOfTape (answered result) }
     ensures timed { IfOk result (λ found.
         IfSome found (λ _. IsTimed tape.old.version tape.old.moment tape.new.moment)) }
     ensures known { IfOk result (λ found. IfSome found (IsItem config.now)) }
     ensures open { IfOk result (λ found. IfSome found (λ _. tape.new.end ≡ None)) }
+    ensures ends { MatchResult result (IsOpenOrDone tape.new) (EndsBy tape.new) }
     ensures grows { IfOk result (λ found. IfSome found (λ _.
         (tape.old.place < tape.new.place) × (tape.new.place ≤ tape.new.limit))) }
 
@@ -207,7 +215,7 @@ pub(crate) fn next_item<F: Files>(
 /// The refusal for a tape's fault.
 fn refusal_of(fault: TapeFault) -> Refusal
     ensures result { result ≡ refused_by fault }
-    ensures late { status_of result ≢ 3 }
+    ensures possible { IsOfTape (status_of result) }
 {
     match fault {
         TapeFault::Read => Refusal::Outside,

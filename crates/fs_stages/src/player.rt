@@ -34,15 +34,16 @@ impl<'a> Model for Player<'a> {
 
 impl<'a> Player<'a> {
     ghost use Rattle.std.specs.Option.{is_some};
-    ghost use Rattle.std.specs.Prelude.{ℕ, ◌≡◌, ◌≢◌, ◌≤◌, ◌<◌, false, List, None, Some, IfOk, IfSome, IsTrue, MatchResult};
+    ghost use Rattle.std.specs.Prelude.{ℕ, ◌≡◌, ◌≤◌, ◌<◌, false, List, None, Some, IfOk, IfSome, IsTrue, MatchResult};
     ghost use Rattle.fs_base.specs.Files.{OnlySlot};
     ghost use Rattle.fs_base.specs.Outside.{Rose};
     ghost use Rattle.fs_desk.specs.Desk.{Played};
     ghost use Rattle.fs_desk.specs.Leaves.{Leaves};
+    ghost use Rattle.fs_records.specs.declared.fault.Ended.TheVariants.{Done};
     ghost use Rattle.fs_rules.specs.Table.{AdmitsSame};
-    ghost use Rattle.fs_stages.specs.Play.{HasVersion, HaveNoMoments, tape_stage, until, untimed};
+    ghost use Rattle.fs_stages.specs.Play.{EndsBy, HasVersion, HaveNoMoments, IsOpenOrDone, tape_stage, until, untimed};
     ghost use Rattle.fs_stages.specs.Player.{IsUnplayed, Stands, due_item};
-    ghost use Rattle.fs_stages.specs.Refusal.{Found, answered};
+    ghost use Rattle.fs_stages.specs.Refusal.{Found, IsOfTape, answered};
     ghost use Rattle.fs_tape.specs.Tape.{Timed};
     ghost use Rattle.fs_tape.specs.declared.magic.Version.TheVariants.{One, Two};
 
@@ -62,7 +63,8 @@ impl<'a> Player<'a> {
         ensures later { F.faults files.old ≤ F.faults files.new }
         ensures slot { IfOk result (λ player. player.tape.slot ≡ 1) }
         ensures config { IfOk result (λ player. player.desk.config ≡ config.entry.now) }
-        ensures late { answered result ≢ 3 }
+        ensures possible { IsOfTape (answered result) }
+        ensures ends { IfOk result (λ player. IsOpenOrDone player.tape player.ahead) }
 
         ensures begun { IsTrue F.tells
             → (items : List Timed)
@@ -91,6 +93,7 @@ impl<'a> Player<'a> {
         ensures desk { result.desk ≡ whole.entry.desk }
         ensures ahead { result.ahead ≡ None }
         ensures slot { result.tape.slot ≡ whole.entry.tape.slot }
+        ensures ends { whole.entry.tape.end ≡ Some Done → IsOpenOrDone result.tape result.ahead }
 
         ensures stands { (items : List Timed)
             → (left : List ℕ)
@@ -119,7 +122,9 @@ impl<'a> Player<'a> {
         ensures later { F.faults files.old ≤ F.faults files.new }
         ensures slot { self.new.tape.slot ≡ self.old.tape.slot }
         ensures config { self.new.desk.config ≡ self.old.desk.config }
-        ensures late { answered result ≢ 3 }
+        ensures possible { IsOfTape (answered result) }
+        ensures ends { IsOpenOrDone self.old.tape self.old.ahead
+            → MatchResult result (λ _. IsOpenOrDone self.new.tape self.new.ahead) (EndsBy self.new.tape) }
 
         ensures played { IsTrue F.tells
             → (items : List Timed)
@@ -175,7 +180,8 @@ impl<'a> Player<'a> {
         ensures slot { self.new.tape.slot ≡ self.old.tape.slot }
         ensures limit { self.new.tape.limit ≡ self.old.tape.limit }
         ensures config { self.new.desk.config ≡ self.old.desk.config }
-        ensures late { answered result ≢ 3 }
+        ensures possible { IsOfTape (answered result) }
+        ensures ends { MatchResult result (λ _. IsOpenOrDone self.new.tape self.new.ahead) (EndsBy self.new.tape) }
         ensures grows { IfOk result (λ _. IfSome self.new.ahead (λ _.
             (self.old.tape.place < self.new.tape.place) × (self.new.tape.place ≤ self.new.tape.limit))) }
 

@@ -1,6 +1,6 @@
 //! Texts that leave in one piece.
 
-ghost use Rattle.std.specs.Prelude.{◌≡◌, ◌≢◌, ◌≤◌, IfErr, IsOk, List, length};
+ghost use Rattle.std.specs.Prelude.{◌≡◌, ◌≢◌, ◌≤◌, IsOk, List, length};
 ghost use Rattle.fs_base.specs.Outside.{Rose};
 ghost use Rattle.fs_stages.specs.Refusal.{IsLate, answered};
 ghost use Rattle.fs_stages.specs.Writing.{Writes};
@@ -14,7 +14,7 @@ use fs_base::{Sink, write_all};
 ///
 /// `Outside` where the sink failed, and then a front of the text is written.
 pub fn write_text<S: Sink>(text: &[u8], sink: &mut S) -> Result<(), Refusal>
-    ensures late { IfErr result IsLate }
+    ensures late { IsLate (answered result) }
     ensures known { answered result ≢ 6 }
     ensures idle { length text.now ≡ 0 → IsOk result × (sink.new ≡ sink.old) }
     ensures later { S.faults sink.old ≤ S.faults sink.new }

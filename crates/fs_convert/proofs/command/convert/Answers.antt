@@ -33,7 +33,7 @@ returns-in_err-flush-clause-converts g c = λ told.
     c.convert_dump-converted.ensures.sink_later c.in_err-flush.ensures.cause.failed c.in_err-flush.ensures.err c.from_residual-in_err-flush.ensures.1
 
 pub returns-clause-quiet : goal.returns-clause-quiet
-returns-clause-quiet g c = never_quiet c.convert_dump-converted.result c.convert_dump-converted.ensures.late
+returns-clause-quiet g c = never_quiet _ c.convert_dump-converted.ensures.possible
 
 pub returns-clause-converts : goal.returns-clause-converts
 returns-clause-converts g c = λ told.

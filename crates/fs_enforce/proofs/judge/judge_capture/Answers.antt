@@ -1,12 +1,13 @@
 use Rattle.std.proofs.Common.{◌⊎◌, ◌∙◌, inl, inr, ap, refl, subst, sym}
 use Rattle.fs_base.specs.Outside.{Rose}
+use Rattle.fs_base.proofs.Grew.{Grew-refl}
 use Rattle.fs_capture.specs.Capture.{coming, recorded}
 use Rattle.fs_stages.specs.Player.{PlayerState, Stands}
 use Rattle.fs_stages.specs.Refusal.{Found, answered}
 use Rattle.fs_stages.specs.declared.refusal.Refusal.TheVariants.{Memory}
 use Rattle.fs_stages.proofs.Stages.{answered_err}
-use Rattle.fs_enforce.specs.Moments.{AnswersAt}
-use Rattle.fs_enforce.proofs.MomentAnswers.{none_judged}
+use Rattle.fs_enforce.specs.Moments.{AnswersAt, WroteJudged}
+use Rattle.fs_enforce.proofs.MomentAnswers.{none_judged, wrote_none}
 use Rattle.fs_enforce.proofs.judge.judge_capture.Goals as goal
 
 pub returns-in_err-buffer-clause-judges : goal.returns-in_err-buffer-clause-judges
@@ -40,3 +41,22 @@ returns-clause-judges g c = λ told items s.
 
 pub returns-clause-unwritten : goal.returns-clause-unwritten
 returns-clause-unwritten g c = λ none six. c.judge_all-judged.ensures.unwritten (ap (λ (p : PlayerState). p.ahead) c.in_ok-following.ensures.same ∙ none) six
+
+pub returns-in_err-buffer-clause-wanting : goal.returns-in_err-buffer-clause-wanting
+returns-in_err-buffer-clause-wanting g c = λ told six items s.
+    wrote_none c.args.player.desk.config items (coming c.args.capture.now (g.F.Files.left c.args.files.now 2)).0 _ (g.S.Sink.written c.args.sink.now) _ refl (Grew-refl (g.S.Sink.written c.args.sink.now))
+
+pub returns-in_err-lines-clause-wanting : goal.returns-in_err-lines-clause-wanting
+returns-in_err-lines-clause-wanting g c = λ told six items s.
+    wrote_none c.args.player.desk.config items (coming c.args.capture.now (g.F.Files.left c.args.files.now 2)).0 _ (g.S.Sink.written c.args.sink.now) _ refl (Grew-refl (g.S.Sink.written c.args.sink.now))
+
+pub returns-in_err-following-clause-wanting : goal.returns-in_err-following-clause-wanting
+returns-in_err-following-clause-wanting g c = λ told six items s.
+    wrote_none c.args.player.desk.config items (coming c.args.capture.now (g.F.Files.left c.args.files.now 2)).0 _ (g.S.Sink.written c.args.sink.now) _ refl (Grew-refl (g.S.Sink.written c.args.sink.now))
+
+pub returns-clause-wanting : goal.returns-clause-wanting
+returns-clause-wanting g c = λ told six items s.
+    subst (λ (p : PlayerState). WroteJudged p.desk.config items (coming c.args.capture.now (g.F.Files.left c.args.files.now 2)).0
+    (coming c.judge_all-judged.new.capture (g.F.Files.left c.judge_all-judged.new.files 2)).0 (g.S.Sink.written c.args.sink.now) (g.S.Sink.written c.judge_all-judged.new.sink)) c.in_ok-following.ensures.same
+    (c.judge_all-judged.ensures.wanting told six items
+    (subst (λ (p : PlayerState). Stands items 0 p (g.F.Files.left c.args.files.now 1)) (sym c.in_ok-following.ensures.same) s))

@@ -4,11 +4,12 @@ use Rattle.fs_capture.specs.Capture.{coming, packet_from}
 use Rattle.fs_pcap.specs.Head.{longest_record}
 use Rattle.fs_base.specs.Outside.{Rose}
 use Rattle.fs_stages.specs.Player.{Stands}
-use Rattle.fs_enforce.specs.Judge.{Ceases, admitted_rules}
+use Rattle.fs_enforce.specs.Judge.{Ceases, IsOfCapture, admitted_rules}
 use Rattle.fs_enforce.specs.Matcher.{HasRoom}
 use Rattle.fs_enforce.specs.Moments.{Follows}
 use Rattle.fs_stages.proofs.LookingAhead.{match_err}
-use Rattle.fs_enforce.proofs.AtMoments.{awaits, followed_ceased, followed_hand, followed_more, followed_read, followed_stopped, followed_wanting, hand_counted, hand_fits, hand_unjudged, number_fits, packet_late, packet_wants_none, read_on, stopped_hand}
+use Rattle.fs_stages.proofs.Stages.{answered_err}
+use Rattle.fs_enforce.proofs.AtMoments.{awaits, followed_ceased, followed_hand, followed_more, followed_read, followed_stopped, followed_wanting, hand_counted, hand_fits, hand_unjudged, number_fits, packet_wants_none, read_on, stopped_hand}
 use Rattle.fs_enforce.proofs.judge.judge_on.Goals as goal
 
 pub returns-in_err-walked-clause-judged : goal.returns-in_err-walked-clause-judged
@@ -80,11 +81,12 @@ judge_packet-requires-clause-fits g c =
     number_fits c.packets.lines.number c.packets.capture.place c.next_packet.new.capture.place c.next_packet.new.capture.limit c.args.capture.now.limit
     c.packets.invariant.number grows.0 grows.1 (c.in_ok-caught.ensures.limit ∙ c.packets.invariant.limit) c.requires.fits
 
-pub returns-in_err-caught-clause-late : goal.returns-in_err-caught-clause-late
-returns-in_err-caught-clause-late g c = packet_late c.from_residual-in_err-caught.result c.in_err-caught.field-0.0 c.from_residual-in_err-caught.ensures.1 c.in_err-caught.ensures.late
+pub returns-in_err-caught-clause-possible : goal.returns-in_err-caught-clause-possible
+returns-in_err-caught-clause-possible g c =
+    answered_err IsOfCapture c.from_residual-in_err-caught.result c.in_err-caught.field-0.0 c.from_residual-in_err-caught.ensures.1 c.in_err-caught.ensures.possible.0
 
 pub returns-in_err-caught-clause-early : goal.returns-in_err-caught-clause-early
-returns-in_err-caught-clause-early g c = packet_wants_none c.from_residual-in_err-caught.result c.in_err-caught.field-0.0 c.from_residual-in_err-caught.ensures.1 c.in_err-caught.ensures.late
+returns-in_err-caught-clause-early g c = packet_wants_none c.from_residual-in_err-caught.result c.in_err-caught.field-0.0 c.from_residual-in_err-caught.ensures.1 c.in_err-caught.ensures.possible
 
 pub returns-in_err-caught-clause-judged : goal.returns-in_err-caught-clause-judged
 returns-in_err-caught-clause-judged g c = λ told items all first pending s l f.

@@ -1,4 +1,4 @@
-use Rattle.std.proofs.Common.{◌⊎◌, ◌∙◌, inr, [], refl, subst, sym, arith, rules, le_trans}
+use Rattle.std.proofs.Common.{◌⊎◌, ◌∙◌, inr, [], ap, refl, subst, sym, arith, rules, le_trans}
 use Rattle.fs_base.specs.declared.config.Config.{Config}
 use Rattle.fs_base.specs.Outside.{Rose}
 use Rattle.fs_desk.specs.Leaves.{Leaves}
@@ -6,7 +6,10 @@ use Rattle.fs_capture.specs.Capture.{coming, packet_from}
 use Rattle.fs_records.specs.Records.{done}
 use Rattle.fs_stages.specs.Play.{until}
 use Rattle.fs_enforce.specs.Moments.{BreaksOff, Follows}
+use Rattle.fs_stages.specs.Refusal.{status_of}
 use Rattle.fs_stages.proofs.LookingAhead.{match_err}
+use Rattle.fs_stages.proofs.Stages.{answered_err}
+use Rattle.fs_enforce.specs.Judge.{IsOfPackets}
 use Rattle.fs_enforce.proofs.AtMoments.{breaks_wider, capture_apart, followed_as, followed_done, followed_first, followed_unplayed, never_due, rose_back, six_of, stands_as, stands_at}
 use Rattle.fs_enforce.proofs.judge.judge_packets.Goals as goal
 
@@ -20,6 +23,7 @@ changes-init g c = record {
   number = omega (arith, c.requires.first);
   hand = tt;
   tape = c.requires.tape;
+  ends = c.requires.ends;
   config = refl;
   stands = c.requires.stands;
   still = λ none. (refl, refl, refl, refl, none);
@@ -40,6 +44,7 @@ changes-preserved g c =
       number = omega (arith, found.3);
       hand = (found.4, found.3);
       tape = c.in_ok-follow.ensures.slot ∙ c.changes.invariant.tape;
+      ends = c.in_ok-follow.ensures.ends c.changes.invariant.ends;
       config = c.in_ok-follow.ensures.config ∙ c.changes.invariant.config;
       stands = c.in_ok-follow.ensures.stands;
       still = λ none. never_due c.changes.following.player.ahead c.changes.following.player.tape.moment c.in-Some.caught.moment (c.changes.invariant.still none).4 found.6;
@@ -56,6 +61,24 @@ changes-preserved g c =
                 c.in_ok-follow.ensures.config ((c.in_ok-follow.ensures.others told).others 2 (capture_apart c.changes.following.player.tape.slot c.changes.invariant.tape)) on.1,
           );
     }
+
+pub returns-in_err-caught-clause-possible : goal.returns-in_err-caught-clause-possible
+returns-in_err-caught-clause-possible g c =
+    let p = c.in_err-caught.ensures.possible in
+    answered_err IsOfPackets c.from_residual.result c.in_err-caught.field-0.0 c.from_residual.ensures.1 (p.0, p.2, p.3)
+
+pub returns-in_err-caught-clause-ends : goal.returns-in_err-caught-clause-ends
+returns-in_err-caught-clause-ends g c =
+    match_err _ _ c.from_residual.result c.from_residual.ensures.1 (λ refusal same four. absurd (c.in_err-caught.ensures.possible.1 (sym (ap status_of same) ∙ four)))
+
+pub returns-in_err-follow-clause-possible : goal.returns-in_err-follow-clause-possible
+returns-in_err-follow-clause-possible g c =
+    let p = c.in_err-follow.ensures.possible in
+    answered_err IsOfPackets c.from_residual-in_err-follow.result c.in_err-follow.field-0.0 c.from_residual-in_err-follow.ensures.1 (p.0, p.2, p.3)
+
+pub returns-in_err-follow-clause-ends : goal.returns-in_err-follow-clause-ends
+returns-in_err-follow-clause-ends g c =
+    match_err _ _ c.from_residual-in_err-follow.result c.from_residual-in_err-follow.ensures.1 (λ refusal same four. rw same (c.in_err-follow.ensures.ends c.changes.invariant.ends))
 
 pub returns-in_err-caught-clause-early : goal.returns-in_err-caught-clause-early
 returns-in_err-caught-clause-early g c = λ none six.

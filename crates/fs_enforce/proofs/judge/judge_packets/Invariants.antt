@@ -3,7 +3,7 @@ use Rattle.fs_capture.specs.Capture.{coming}
 use Rattle.fs_desk.specs.Leaves.{Leaves}
 use Rattle.fs_pcap.specs.Head.{longest_record}
 use Rattle.fs_tape.specs.Tape.{Timed}
-use Rattle.fs_stages.specs.Play.{until}
+use Rattle.fs_stages.specs.Play.{IsOpenOrDone, until}
 use Rattle.fs_stages.specs.Player.{Stands}
 use Rattle.fs_enforce.specs.Judge.{admitted_rules, in_hand}
 use Rattle.fs_enforce.specs.Matcher.{StandsFor}
@@ -20,6 +20,7 @@ invariant-changes g l = record {
   number : l.lines.number ≤ l.capture.place;
   hand : IfSome l.hand (λ caught. (caught.taken ≤ longest_record) × (l.lines.number < l.capture.place));
   tape : l.following.player.tape.slot ≡ 1;
+  ends : IsOpenOrDone l.following.player.tape l.following.player.ahead;
   config : l.following.player.desk.config ≡ l.fn.following.player.desk.config;
   stands : StandsFor (admitted_rules l.following.player.desk.held) l.following.rules;
   still : l.fn.following.player.ahead ≡ None

@@ -1,6 +1,7 @@
 use Rattle.std.proofs.Common.{◌≡◌, ◌∙◌, ℕ, subst, sym, arith, rules}
 use Rattle.fs_base.specs.Parts.{with_part}
 use Rattle.fs_tape.specs.Tape.{coming, item_from, timed}
+use Rattle.fs_stages.proofs.LookingAhead.{slots_then}
 use Rattle.fs_stages.proofs.Playing.{playing_more, playing_done, no_moment}
 use Rattle.fs_stages.proofs.play.play_items.Goals as goal
 
@@ -14,7 +15,9 @@ items-preserved g c = record {
   within = (rw c.in-Some.is at c.in_ok-item.ensures.grows).1;
   config = c.in_ok-play_item.ensures.config ∙ c.items.invariant.config;
   later = omega (arith, c.items.invariant.later, c.in_ok-item.ensures.later);
-  holds = λ told. c.in_ok-item.ensures.holds told ∙ c.items.invariant.holds told;
+  others =
+      slots_then g.F.Files.tells g.F.Files.left g.F.Files.holds c.args.tape.now.slot c.items.tape.slot c.args.files.now c.items.files c.next_item.new.files
+      c.items.invariant.others c.items.invariant.slot c.in_ok-item.ensures.others;
   playing = λ told.
       playing_more c.args.config.now c.args.tape.now.version _ _ _ c.args.desk.now c.items.desk c.play_item.new.desk (timed c.next_item.new.tape.moment (item_from c.in-Some.item c.next_item.new.buffer)) (c.items.invariant.playing told)
       (subst (λ (slot : ℕ).

@@ -3,6 +3,7 @@ use Rattle.fs_base.specs.Outside.{Rose}
 use Rattle.fs_tape.specs.Tape.{coming}
 use Rattle.fs_stages.specs.Play.{PlaysOn, played_to, tape_stage}
 use Rattle.fs_stages.specs.Refusal.{HasReason}
+use Rattle.fs_stages.proofs.LookingAhead.{slots_then}
 use Rattle.fs_stages.proofs.Playing.{played_whole, refused_whole}
 use Rattle.fs_stages.proofs.play.play_whole.Goals as goal
 
@@ -26,3 +27,13 @@ returns-clause-played g c = λ told.
     c.in_ok-tape.ensures.later
     (subst (λ (n : ℕ). HasReason (played_to (coming c.args.config.now c.in_ok-tape.tape (g.F.Files.left c.open_tape.new.files n))) (Rose (g.F.Files.faults c.open_tape.new.files) (g.F.Files.faults c.play_items.new.files)) c.in-Err.refusal)
     c.in_ok-tape.ensures.state.slot_is (c.in-Err.ensures.played told))
+
+pub returns-in-Ok-clause-others : goal.returns-in-Ok-clause-others
+returns-in-Ok-clause-others g c =
+    slots_then g.F.Files.tells g.F.Files.left g.F.Files.holds 1 c.in_ok-tape.tape.slot c.args.files.now c.open_tape.new.files c.play_items.new.files
+    c.in_ok-tape.ensures.others c.in_ok-tape.ensures.state.slot_is c.in-Ok.ensures.others
+
+pub returns-clause-others : goal.returns-clause-others
+returns-clause-others g c =
+    slots_then g.F.Files.tells g.F.Files.left g.F.Files.holds 1 c.in_ok-tape.tape.slot c.args.files.now c.open_tape.new.files c.play_items.new.files
+    c.in_ok-tape.ensures.others c.in_ok-tape.ensures.state.slot_is c.in-Err.ensures.others
