@@ -17,6 +17,7 @@ mod runner;
 mod shape;
 mod tally;
 mod terms;
+mod turning_files;
 
 use case_files::CaseFiles;
 use fault::Fault;

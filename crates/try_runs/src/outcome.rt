@@ -6,6 +6,7 @@ use crate::named::NamedFiles;
 use crate::noted_wire::NotedWire;
 use crate::octets::Octets;
 use crate::terms::Terms;
+use crate::turning_files::TurningFiles;
 use fs_base::{MemClock, MemFiles, MemSink, MemWire, RealClock, RealFiles, RealOut, RealWire};
 use std::alloc::Global;
 use std::fs;
@@ -34,14 +35,25 @@ fn add_files(
     files: &mut MemFiles,
 ) -> Result<(), Fault> {
     for word in words {
-        if let Some(content) = named.content(word.as_str()) {
-            let content = Vec::from_slice(alloc, content)?;
-            if files.add(word.as_str(), content).is_err() {
-                return Err(Fault::Memory);
-            }
-        }
+        add_file(alloc, named, word.as_str(), files)?;
     }
     Ok(())
+}
+
+/// Adds the file of this name, if there is one.
+fn add_file(
+    alloc: Global,
+    named: &NamedFiles,
+    name: &str,
+    files: &mut MemFiles,
+) -> Result<(), Fault> {
+    let Some(content) = named.content(name) else {
+        return Ok(());
+    };
+    match files.add(name, Vec::from_slice(alloc, content)?) {
+        Ok(()) => Ok(()),
+        Err(_) => Err(Fault::Memory),
+    }
 }
 
 /// Runs the words over the files that they name, with output, a wire and a clock in memory.
@@ -54,6 +66,9 @@ pub fn run_in_memory(
     let mut files = MemFiles::new(alloc, Vec::from_slice(alloc, &terms.failing.files)?);
     files.narrow(size(terms.most.read).max(1));
     add_files(alloc, named, words, &mut files)?;
+    let other = terms.turn.other.as_str();
+    add_file(alloc, named, other, &mut files)?;
+    let mut files = TurningFiles::new(files, terms.turn.name.as_str(), other);
     run_over_files(alloc, words, terms, &mut files)
 }
 
@@ -61,7 +76,7 @@ fn run_over_files(
     alloc: Global,
     words: &[String],
     terms: &Terms,
-    files: &mut MemFiles,
+    files: &mut TurningFiles<'_, MemFiles>,
 ) -> Result<Outcome, Fault> {
     let failing = Vec::from_slice(alloc, &terms.failing.output)?;
     let Ok(mut sink) = MemSink::new(alloc, size(terms.room), failing) else {
@@ -75,7 +90,7 @@ fn run_into_sink(
     alloc: Global,
     words: &[String],
     terms: &Terms,
-    files: &mut MemFiles,
+    files: &mut TurningFiles<'_, MemFiles>,
     sink: &mut MemSink,
 ) -> Result<Outcome, Fault> {
     let failing = Vec::from_slice(alloc, &terms.failing.wire)?;
@@ -93,7 +108,7 @@ fn run_over_wire(
     alloc: Global,
     words: &[String],
     terms: &Terms,
-    files: &mut MemFiles,
+    files: &mut TurningFiles<'_, MemFiles>,
     sink: &mut MemSink,
     noted: &mut NotedWire<MemWire>,
 ) -> Result<Outcome, Fault> {

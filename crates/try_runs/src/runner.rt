@@ -99,6 +99,7 @@ impl Runner {
             | "narrow"
             | "narrow_files"
             | "narrow_output" => self.terms.set(word, rest),
+            "turns" => self.turn(rest),
             "gives" => self.give(rest),
             "said" => self.expect_said(rest),
             "called" => self.expect_calls(rest),
@@ -157,6 +158,14 @@ impl Runner {
     fn add_word(&mut self, word: &str) -> Result<(), Fault> {
         let word = String::from_str(self.alloc, word)?;
         self.words.push(word)?;
+        Ok(())
+    }
+
+    /// A file that has another content when it is opened again: its name, and that of the other.
+    fn turn(&mut self, rest: &str) -> Result<(), Fault> {
+        let (name, other) = word_of(rest)?;
+        self.terms.turn.name.push_str(name)?;
+        self.terms.turn.other.push_str(other)?;
         Ok(())
     }
 

@@ -19,6 +19,13 @@ pub struct Failing {
     pub wire: Vec<u64>,
 }
 
+/// A file of another content: from its second opening on the file of this name is that of the other.
+#[derive(Drop)]
+pub struct Turn {
+    pub name: String,
+    pub other: String,
+}
+
 /// How many octets a call moves at most.
 #[derive(Clone, Copy, Drop)]
 pub struct Most {
@@ -42,7 +49,7 @@ pub struct End {
 }
 
 /// What a run is given: the limit, the room of its output, the calls that fail, the most octets of a call, what the clock
-/// answers and the ends of the wire. And what it must write, the calls that it must make on the wire, and the status that is
+/// answers, a file of another content and the ends of the wire. And what it must write, the calls that it must make on the wire, and the status that is
 /// due where calls fail in turn.
 #[derive(Drop)]
 pub struct Terms {
@@ -52,6 +59,7 @@ pub struct Terms {
     pub most: Most,
     pub failing: Failing,
     pub moments: Vec<u64>,
+    pub turn: Turn,
     pub first: End,
     pub second: End,
     pub called: Due,
@@ -110,6 +118,10 @@ impl Terms {
             },
             failing: Failing::new(alloc),
             moments: Vec::new(alloc),
+            turn: Turn {
+                name: String::new(alloc),
+                other: String::new(alloc),
+            },
             first: End::new(alloc),
             second: End::new(alloc),
             called: Due::new(alloc),
