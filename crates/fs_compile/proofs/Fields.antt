@@ -6,14 +6,12 @@ use Rattle.fs_base.specs.declared.Memory.{Memory}
 use Rattle.fs_nlri.specs.Parts.{ListBody, part}
 use Rattle.fs_packet.specs.Fields.{Viewed}
 use Rattle.fs_packet.specs.Matching.{holds_of, list_matches}
-use Rattle.fs_compile.specs.declared.numbers.Numbers.{Numbers}
-use Rattle.fs_compile.specs.declared.numbers.Numbers.TheVariants.{Ranges, Pairs}
 use Rattle.fs_compile.specs.declared.tests.Test.{Test}
-use Rattle.fs_compile.specs.declared.tests.Test.TheVariants.{Within, OneOf}
+use Rattle.fs_compile.specs.declared.tests.Test.TheVariants.{Within, OneOf, PortWithin}
 use Rattle.fs_compile.specs.Facts.{IsSmall, IsSmallField, facts_of, field_number, number_of}
-use Rattle.fs_compile.specs.Numbers.{AreNumbersOf, IsOnlyRange, has, has_field, numbers_range}
+use Rattle.fs_compile.specs.Numbers.{AreNumbersOf, IsOnlyRange, has_field}
 use Rattle.fs_compile.specs.Ranges.{range}
-use Rattle.fs_compile.specs.Spans.{clipped, is_in}
+use Rattle.fs_compile.specs.Spans.{clipped, contains, field_range, is_in}
 use Rattle.fs_compile.specs.Tests.{IsFieldTest, IsTestOf}
 use Rattle.fs_compile.proofs.Enclosing.{from_in}
 use Rattle.fs_compile.proofs.Truths.{and_false, less, not_less, same_truth}
@@ -47,28 +45,27 @@ clipped_same first last n small = at (nat_lt first (2 ^ 32)) refl
     at false e = nothing_in n ∙ sym (ap (λ (b : Bool). b && nat_le n last) (beyond e))
 
 -- the numbers below 2^32 are those of the range, and its last is one of them
-pub record IsRangeOf (numbers : Numbers) (r : ℕ × ℕ) : Type 0 where
+pub record IsRangeOf (numbers : List (ℕ × ℕ)) (r : ℕ × ℕ) : Type 0 where
   pub low : r.1 < 2 ^ 32
-  pub same : (n : ℕ) → n < 2 ^ 32 → is_in n r ≡ has numbers n
+  pub same : (n : ℕ) → n < 2 ^ 32 → is_in n r ≡ contains numbers n
 
 or_false : (a : Bool) → (a || false) ≡ a
 or_false true = refl
 or_false false = refl
 
-range_of : (numbers : Numbers) (r : ℕ × ℕ) → numbers_range numbers ≡ Some r → IsRangeOf numbers r
-range_of (Ranges []) r h = subst (λ (s : ℕ × ℕ). IsRangeOf (Ranges []) s) (some_is (1, 0) r h) (record { low = omega arith; same = λ n small. nothing_in n })
-range_of (Ranges (one ∷ [])) r h = subst (λ (s : ℕ × ℕ). IsRangeOf (Ranges (one ∷ [])) s) (some_is (clipped one.0 one.1) r h) (record {
+range_of : (numbers : List (ℕ × ℕ)) (r : ℕ × ℕ) → field_range numbers ≡ Some r → IsRangeOf numbers r
+range_of [] r h = subst (λ (s : ℕ × ℕ). IsRangeOf [] s) (some_is (1, 0) r h) (record { low = omega arith; same = λ n small. nothing_in n })
+range_of (one ∷ []) r h = subst (λ (s : ℕ × ℕ). IsRangeOf (one ∷ []) s) (some_is (clipped one.0 one.1) r h) (record {
   low = clipped_low one.0 one.1;
   same = λ n small. clipped_same one.0 one.1 n small ∙ sym (or_false (is_in n one));
 })
-range_of (Ranges (one ∷ next ∷ ranges)) r h = cc
-range_of (Pairs pairs) r h = cc
+range_of (one ∷ next ∷ ranges) r h = cc
 
-in_range : (pairs : List (ℕ × ℕ)) (numbers : Numbers) (r : ℕ × ℕ) (n : ℕ) (number : Option ℕ) → AreNumbersOf pairs numbers → IsRangeOf numbers r → n ≡ field_number number → IsSmallField number → is_in n r ≡ holds_of pairs number
+in_range : (pairs numbers : List (ℕ × ℕ)) (r : ℕ × ℕ) (n : ℕ) (number : Option ℕ) → AreNumbersOf pairs numbers → IsRangeOf numbers r → n ≡ field_number number → IsSmallField number → is_in n r ≡ holds_of pairs number
 in_range pairs numbers r n None are h e small = ap (λ (k : ℕ). is_in k r) e ∙ and_false (nat_le r.0 (2 ^ 32)) (nat_le (2 ^ 32) r.1) (lt-leb (2 ^ 32) r.1 h.low)
 in_range pairs numbers r n (Some k) are h e small = ap (λ (k : ℕ). is_in k r) e ∙ h.same k small ∙ are k (omega arith)
 
-pub within_test : (field : ℕ) (pairs : List (ℕ × ℕ)) (numbers : Numbers) (low high : ℕ) → AreNumbersOf pairs numbers → numbers_range numbers ≡ Some (low, high) → IsFieldTest field pairs (Within (range field low high))
+pub within_test : (field : ℕ) (pairs numbers : List (ℕ × ℕ)) (low high : ℕ) → AreNumbersOf pairs numbers → field_range numbers ≡ Some (low, high) → IsFieldTest field pairs (Within (range field low high))
 within_test field pairs numbers low high are h = λ facts number e small. in_range pairs numbers (low, high) (number_of facts field) number are (range_of numbers (low, high) h) e small
 
 in_only : (pairs : List (ℕ × ℕ)) (r : ℕ × ℕ) (n : ℕ) (number : Option ℕ) → r.1 < 2 ^ 32 → IsOnlyRange pairs r → n ≡ field_number number → IsSmallField number → is_in n r ≡ holds_of pairs number
@@ -78,12 +75,18 @@ in_only pairs r n (Some k) low only e small = ap (λ (k : ℕ). is_in k r) e ∙
 pub range_test : (field : ℕ) (pairs : List (ℕ × ℕ)) (low high : ℕ) → high < 2 ^ 32 → IsOnlyRange pairs (low, high) → IsFieldTest field pairs (Within (range field low high))
 range_test field pairs low high small only = λ facts number e is_small. in_only pairs (low, high) (number_of facts field) number small only e is_small
 
-pub has_same : (pairs : List (ℕ × ℕ)) (numbers : Numbers) (n : ℕ) (number : Option ℕ) → AreNumbersOf pairs numbers → n ≡ field_number number → IsSmallField number → has_field numbers n ≡ holds_of pairs number
-has_same pairs numbers n None are e small = ap (λ (k : ℕ). has_field numbers k) e ∙ ap (λ (b : Bool). b && has numbers (2 ^ 32)) (not_less (2 ^ 32) (2 ^ 32) (omega arith))
-has_same pairs numbers n (Some k) are e small = ap (λ (k : ℕ). has_field numbers k) e ∙ ap (λ (b : Bool). b && has numbers k) (less k (2 ^ 32) small) ∙ are k (omega arith)
+pub has_same : (pairs numbers : List (ℕ × ℕ)) (n : ℕ) (number : Option ℕ) → AreNumbersOf pairs numbers → n ≡ field_number number → IsSmallField number → has_field numbers n ≡ holds_of pairs number
+has_same pairs numbers n None are e small = ap (λ (k : ℕ). has_field numbers k) e ∙ ap (λ (b : Bool). b && contains numbers (2 ^ 32)) (not_less (2 ^ 32) (2 ^ 32) (omega arith))
+has_same pairs numbers n (Some k) are e small = ap (λ (k : ℕ). has_field numbers k) e ∙ ap (λ (b : Bool). b && contains numbers k) (less k (2 ^ 32) small) ∙ are k (omega arith)
 
-pub one_of_test : (field : ℕ) (pairs : List (ℕ × ℕ)) (numbers : Numbers) → AreNumbersOf pairs numbers → IsFieldTest field pairs (OneOf field numbers)
+pub one_of_test : (field : ℕ) (pairs numbers : List (ℕ × ℕ)) → AreNumbersOf pairs numbers → IsFieldTest field pairs (OneOf field numbers)
 one_of_test field pairs numbers are = λ facts number e small. has_same pairs numbers (number_of facts field) number are e small
+
+-- either port in one range
+pub port_within : (pairs numbers : List (ℕ × ℕ)) (low high : ℕ) → AreNumbersOf pairs numbers → field_range numbers ≡ Some (low, high) → IsTestOf (part 4 (ListBody pairs)) (PortWithin low high)
+port_within pairs numbers low high are h = λ view small i.
+    in_range pairs numbers (low, high) (field_number view.source_port) view.source_port are (range_of numbers (low, high) h) refl small.source_port i
+    || in_range pairs numbers (low, high) (field_number view.destination_port) view.destination_port are (range_of numbers (low, high) h) refl small.destination_port i
 
 -- the field that a type tests
 pub field_is : (kind : ℕ) (pairs : List (ℕ × ℕ)) (field : Viewed → Option ℕ) (r : Result Test Memory) → ((view : Viewed) → number_of (facts_of view) kind ≡ field_number (field view)) → ((view : Viewed) → IsSmall view → IsSmallField (field view))

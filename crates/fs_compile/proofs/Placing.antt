@@ -14,7 +14,7 @@ use Rattle.fs_compile.specs.declared.fast.Fast.{Fast}
 use Rattle.fs_compile.specs.declared.ranges.Range.{Range}
 use Rattle.fs_compile.specs.declared.ranges.Ranges.{Ranges}
 use Rattle.fs_compile.specs.declared.tests.Test.{Test}
-use Rattle.fs_compile.specs.declared.tests.Test.TheVariants.{Within, OneOf, Ports, TcpFlags, Fragment, Destination, Source}
+use Rattle.fs_compile.specs.declared.tests.Test.TheVariants.{Within, OneOf, PortWithin, Ports, TcpFlags, Fragment, Destination, Source}
 use Rattle.fs_compile.specs.Facts.{Facts, AreFacts, IsSmall, facts_of, number_of}
 use Rattle.fs_compile.specs.Fast.{AreFree, AreTestsOf, IsPlaced, all_pass, facts_hold, fast_holds}
 use Rattle.fs_compile.specs.Ranges.{bounds_at, field_at, free_ranges, is_in_range, range_at, range_holds, ranges_hold, with_range}
@@ -58,6 +58,7 @@ one_of_four (suc (suc (suc (suc n)))) old new x below here free others = absurd 
 range_is : (facts : Facts) (test : Test) (range : Range) → test_range test ≡ Some range → passes facts test ≡ range_holds facts range
 range_is facts (Within inner) range h = let same : inner ≡ range = cc in ap (range_holds facts) same
 range_is facts (OneOf field numbers) range h = cc
+range_is facts (PortWithin low high) range h = cc
 range_is facts (Ports numbers) range h = cc
 range_is facts (TcpFlags pairs) range h = cc
 range_is facts (Fragment pairs) range h = cc

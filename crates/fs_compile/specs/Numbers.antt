@@ -1,24 +1,14 @@
--- Which numbers a list holds of, in either of the forms in which they are kept.
-use Rattle.std.specs.Prelude.{◌≡◌, ℕ, ◌+◌, ◌^◌, ◌<◌, Bool, true, not, ◌&&◌, nat_le, nat_lt, List, [], ◌∷◌, Option, None}
+-- Which numbers a list holds of, and lists of simple forms.
+use Rattle.std.specs.Prelude.{◌≡◌, ℕ, ◌+◌, ◌^◌, ◌<◌, Bool, true, not, ◌&&◌, nat_le, nat_lt, List, [], ◌∷◌}
 use Rattle.fs_ops.specs.Evaluation.{compares, has_bit, holds}
-use Rattle.fs_compile.specs.declared.numbers.Numbers.{Numbers}
-use Rattle.fs_compile.specs.declared.numbers.Numbers.TheVariants.{Ranges, Pairs}
-use Rattle.fs_compile.specs.Spans.{contains, field_range, is_in}
-
-abbrev pub has : Numbers → ℕ → Bool
-has (Ranges ranges) n = contains ranges n
-has (Pairs pairs) n = holds (compares n) pairs
+use Rattle.fs_compile.specs.Spans.{contains, is_in}
 
 -- no number of a field is above these
-abbrev pub has_field : Numbers → ℕ → Bool
-has_field numbers n = nat_lt n (2 ^ 32) && has numbers n
+abbrev pub has_field : (ranges : List (ℕ × ℕ)) → ℕ → Bool
+has_field ranges n = nat_lt n (2 ^ 32) && contains ranges n
 
-abbrev pub numbers_range : Numbers → Option (ℕ × ℕ)
-numbers_range (Ranges ranges) = field_range ranges
-numbers_range (Pairs pairs) = None
-
-abbrev pub AreNumbersOf : List (ℕ × ℕ) → Numbers → Type 0
-AreNumbersOf pairs numbers = (n : ℕ) → n < 2 ^ 64 → has numbers n ≡ holds (compares n) pairs
+abbrev pub AreNumbersOf : (pairs ranges : List (ℕ × ℕ)) → Type 0
+AreNumbersOf pairs ranges = (n : ℕ) → n < 2 ^ 64 → contains ranges n ≡ holds (compares n) pairs
 
 -- the operator says that a number is equal to its value, and no more
 abbrev pub is_equality : ℕ → Bool

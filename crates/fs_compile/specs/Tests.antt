@@ -9,10 +9,10 @@ use Rattle.fs_packet.specs.Matching.{holds_of, part_matches}
 use Rattle.fs_compile.specs.declared.pattern.Pattern.{Pattern}
 use Rattle.fs_compile.specs.declared.ranges.Range.{Range}
 use Rattle.fs_compile.specs.declared.tests.Test.{Test}
-use Rattle.fs_compile.specs.declared.tests.Test.TheVariants.{Within, OneOf, Ports, TcpFlags, Fragment, Destination, Source}
+use Rattle.fs_compile.specs.declared.tests.Test.TheVariants.{Within, OneOf, PortWithin, Ports, TcpFlags, Fragment, Destination, Source}
 use Rattle.fs_compile.specs.Facts.{Facts, IsSmall, IsSmallField, facts_of, field_number, number_of}
 use Rattle.fs_compile.specs.Numbers.{has_field}
-use Rattle.fs_compile.specs.Ranges.{range_holds}
+use Rattle.fs_compile.specs.Ranges.{is_in_range, range_holds}
 
 -- the flags and the four bits before them
 abbrev pub flags_pass : List (ℕ × ℕ) → Option ℕ → Bool
@@ -29,6 +29,7 @@ is_under pattern (V6 address) = lies_under pattern (address * 2 ^ pattern.offset
 abbrev pub passes : Facts → Test → Bool
 passes facts (Within range) = range_holds facts range
 passes facts (OneOf field numbers) = has_field numbers (number_of facts field)
+passes facts (PortWithin low high) = is_in_range facts 6 low high || is_in_range facts 5 low high
 passes facts (Ports numbers) = has_field numbers (number_of facts 6) || has_field numbers (number_of facts 5)
 passes facts (TcpFlags pairs) = flags_pass pairs facts.tcp_octets
 passes facts (Fragment pairs) = holds (masks facts.fragment) pairs

@@ -3,16 +3,16 @@
 ghost use Rattle.std.specs.Prelude.{◌≡◌, ◌<◌, ◌^◌, IfOk, IfSome};
 ghost use Rattle.fs_base.specs.Prefix.{last_address};
 ghost use Rattle.fs_nlri.specs.Component.{body_of, part_of};
-ghost use Rattle.fs_nlri.specs.Parts.{V4Body, V6Body, part};
+ghost use Rattle.fs_nlri.specs.Parts.{ListBody, V4Body, V6Body, part};
 ghost use Rattle.fs_nlri.specs.Sound.{IsSoundBody};
 ghost use Rattle.fs_compile.specs.Ranges.{range};
 ghost use Rattle.fs_compile.specs.Numbers.{IsOnlyRange, is_equality, is_joined_most, is_least};
 ghost use Rattle.fs_compile.specs.Tests.{IsFieldTest, IsPatternOf, IsTestOf};
 
 use crate::facts::ABSENT;
-use crate::numbers::Numbers;
 use crate::pattern::Pattern;
 use crate::ranges::Range;
+use crate::spans::Spans;
 use crate::tests::Test;
 use fs_base::{Family, Memory, Prefix};
 use fs_nlri::{Component, PrefixForm};
@@ -28,7 +28,7 @@ pub(crate) fn test_of(alloc: Global, component: &Component) -> Result<Test, Memo
         Component::Destination(form) => Ok(destination_test(form)),
         Component::Source(form) => Ok(source_test(form)),
         Component::Protocol(list) => field_test(alloc, 3, list),
-        Component::Port(list) => Ok(Test::Ports(Numbers::of(alloc, list)?)),
+        Component::Port(list) => ports_test(alloc, list),
         Component::DestinationPort(list) => field_test(alloc, 5, list),
         Component::SourcePort(list) => field_test(alloc, 6, list),
         Component::IcmpType(list) => field_test(alloc, 7, list),
@@ -145,9 +145,19 @@ fn is_joined_most(operator: u8) -> bool
 fn numbers_test(alloc: Global, field: u8, list: &NumList) -> Result<Test, Memory>
     ensures { IfOk result (IsFieldTest field list.now) }
 {
-    let numbers = Numbers::of(alloc, list)?;
+    let numbers = Spans::of(alloc, list)?;
     match numbers.range() {
         Some((low, high)) => Ok(Test::Within(Range { field, low, high })),
         None => Ok(Test::OneOf(field, numbers)),
+    }
+}
+
+fn ports_test(alloc: Global, list: &NumList) -> Result<Test, Memory>
+    ensures { IfOk result (IsTestOf (part 4 (ListBody list.now))) }
+{
+    let numbers = Spans::of(alloc, list)?;
+    match numbers.range() {
+        Some((low, high)) => Ok(Test::PortWithin(low, high)),
+        None => Ok(Test::Ports(numbers)),
     }
 }

@@ -16,7 +16,6 @@ mod index;
 mod limits;
 mod matches;
 mod nodes;
-mod numbers;
 mod pattern;
 mod ranges;
 mod runs;

@@ -90,7 +90,7 @@ impl Ranges {
 }
 
 #[inline(always)]
-fn is_in_range(field: u8, low: u32, high: u32, facts: &Facts<'_>) -> bool
+pub(crate) fn is_in_range(field: u8, low: u32, high: u32, facts: &Facts<'_>) -> bool
     ensures { result ≡ is_in_range facts.now field low high }
 {
     let number = facts.number(field);

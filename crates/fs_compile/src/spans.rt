@@ -4,6 +4,7 @@ ghost use Rattle.std.specs.Prelude.{◌≡◌, ◌↔◌, ℕ, ◌^◌, ◌<◌,
 ghost use Rattle.fs_ops.specs.OperatorList.{first_joins};
 ghost use Rattle.std.specs.List.{list_all, list_any};
 ghost use Rattle.fs_ops.specs.Evaluation.{compares, holds};
+ghost use Rattle.fs_compile.specs.Numbers.{has_field};
 ghost use Rattle.fs_compile.specs.Spans.{AreApart, clipped, contains, encloses, field_range};
 
 use crate::facts::ABSENT;
@@ -14,6 +15,9 @@ use fs_base::Memory;
 use fs_ops::NumList;
 use std::alloc::Global;
 use std::marker::Model;
+
+/// So many ranges, or fewer, are tried one by one.
+const FEW_RANGES: usize = 8;
 
 /// The numbers that a list holds of, as ranges from a first number to a last, in order, with a gap before each next.
 #[derive(Drop)]
@@ -61,15 +65,28 @@ impl Spans {
         append_gaps(&mut held, &mut missed)?;
         held.clear();
         append_gaps(&mut missed, &mut held)?;
+        held.shrink_to_fit();
         Ok(Spans { ranges: held })
     }
 
-    /// Whether the list that these numbers are of holds of the number.
+    /// Whether the list that these numbers are of holds of the number. Among many ranges it halves.
     #[inline(always)]
     pub fn contains(&self, number: u64) -> bool
         ensures { result ≡ contains self.now number }
     {
-        any_contains(&self.ranges, number)
+        if self.ranges.len() <= FEW_RANGES {
+            any_contains(&self.ranges, number)
+        } else {
+            is_enclosed((number, number), &self.ranges)
+        }
+    }
+
+    /// Whether the number is one of a field that is there, and one of these.
+    #[inline(always)]
+    pub(crate) fn contains_field(&self, number: u64) -> bool
+        ensures { result ≡ has_field self.now number }
+    {
+        number < ABSENT && self.contains(number)
     }
 
     /// Whether each of these numbers is one of the others. Takes no memory.
@@ -135,6 +152,7 @@ fn all_enclosed(ranges: &[(u64, u64)], others: &[(u64, u64)]) -> bool
 }
 
 /// Whether the range lies in one of the others: in the first that doesn't end before it does.
+#[inline(never)]
 fn is_enclosed(range: (u64, u64), others: &[(u64, u64)]) -> bool
     requires { AreApart 0 others.now }
     ensures { result ≡ list_any (encloses range) others.now }

@@ -7,9 +7,9 @@ ghost use Rattle.fs_compile.specs.Tests.{flags_pass, is_under, passes, test_rang
 
 use crate::facts::{Facts, top};
 use crate::limits::Limit;
-use crate::numbers::Numbers;
 use crate::pattern::Pattern;
-use crate::ranges::Range;
+use crate::ranges::{Range, is_in_range};
+use crate::spans::Spans;
 use fs_base::Address;
 use fs_ops::MaskList;
 
@@ -19,9 +19,11 @@ pub(crate) enum Test {
     /// A field lies in the range; prefixes of IPv4 are ranges too.
     Within(Range),
     /// The field of the type is one of the numbers.
-    OneOf(u8, Numbers),
+    OneOf(u8, Spans),
+    /// The source port or the destination port lies in the range.
+    PortWithin(u32, u32),
     /// The source port or the destination port is one of the numbers.
-    Ports(Numbers),
+    Ports(Spans),
     TcpFlags(MaskList),
     Fragment(MaskList),
     /// Bits of an IPv6 address.
@@ -37,6 +39,9 @@ impl Test {
         match self {
             Test::Within(range) => range.holds(facts),
             Test::OneOf(field, numbers) => numbers.contains_field(facts.number(*field)),
+            Test::PortWithin(low, high) => {
+                is_in_range(6, *low, *high, facts) || is_in_range(5, *low, *high, facts)
+            }
             Test::Ports(numbers) => {
                 numbers.contains_field(facts.number(6)) || numbers.contains_field(facts.number(5))
             }
@@ -57,7 +62,7 @@ impl Test {
             Test::Within(range) if range.field == field => {
                 Some(Limit::Range(range.low.into(), range.high.into()))
             }
-            Test::OneOf(of, numbers) if *of == field => numbers.limit(),
+            Test::OneOf(of, numbers) if *of == field => Some(Limit::Ranges(numbers.ranges())),
             _ => None,
         }
     }
@@ -83,6 +88,7 @@ impl Test {
         match self {
             Test::Within(range) => Some(*range),
             Test::OneOf(_, _) => None,
+            Test::PortWithin(_, _) => None,
             Test::Ports(_) => None,
             Test::TcpFlags(_) => None,
             Test::Fragment(_) => None,
