@@ -1,74 +1,92 @@
 -- The rules that a packet may match, by the bits of words.
-use Rattle.std.proofs.Common.{◌≡◌, ℕ, ◌+◌, ◌-◌, ◌*◌, ◌/◌, ◌%◌, ◌^◌, ◌<◌, ◌≤◌, ◌⊎◌, inl, inr, min, refl, sym, subst, ap, ◌∙◌, Bool, true, false, bit_and, map, List, get_or, length, w64, arith}
+use Rattle.std.proofs.Common.{◌≡◌, ℕ, ◌+◌, ◌-◌, ◌*◌, ◌/◌, ◌%◌, ◌^◌, ◌<◌, ◌≤◌, ◌⊎◌, inl, inr, min, sym, subst, ap, ◌∙◌, Bool, true, false, bit_and, map, List, get_or, length, w64, arith}
 use Rattle.std.specs.Int.{bit_at, trailing_zeros}
 use Rattle.std.proofs.Math.Nat.{div-div-eq-div-mul, div-le_self}
 use Rattle.std.proofs.lemmas.Bool.{cases_lt}
 use Rattle.std.proofs.lemmas.List.{get_or-map}
 use Rattle.std.proofs.lemmas.Nat.{pow-add}
-use Rattle.std.proofs.lemmas.Nat.Bits.{bit_at-trailing_zeros, bit_at-zero, bit_at_above, bit_at_and}
+use Rattle.std.proofs.lemmas.Nat.Bits.{bit_at-trailing_zeros, bit_at-zero, bit_at_and}
 use Rattle.fs_base.proofs.Bools.{false_from}
 use Rattle.fs_compile.specs.declared.filters.Rows.{Rows}
 use Rattle.fs_compile.specs.Columns.{IsRow}
-use Rattle.fs_compile.specs.Filters.{AreRows, word_of}
+use Rattle.fs_compile.specs.Filters.{AreRows, front_of, word_of}
 use Rattle.fs_compile.specs.Search.{Missed}
 
 -- the bits of a number without its lowest ones
 shifted : (n a i : ℕ) → bit_at (n / 2 ^ a) i ≡ bit_at n (a + i)
 shifted n a i = ap (λ (m : ℕ). m % 2) (div-div-eq-div-mul n (2 ^ a) (2 ^ i) ∙ ap (λ (p : ℕ). n / p) (sym (pow-add 2 a i)))
 
-pub none_set : (word bit j : ℕ) → word / 2 ^ bit ≡ 0 → bit_at word (bit + j) ≡ 0
-none_set word bit j h = sym (shifted word bit j) ∙ ap (λ (n : ℕ). bit_at n j) h ∙ bit_at-zero j
-
 not_both : (n : ℕ) → n ≡ 1 → n ≡ 0 → ⊥
 not_both n set clear = omega (arith, set, clear)
 
-lowest : (word bit : ℕ) → word < 2 ^ 64 → 0 < word / 2 ^ bit
-    → (trailing_zeros w64 (word / 2 ^ bit) < 64) × (bit_at (word / 2 ^ bit) (trailing_zeros w64 (word / 2 ^ bit)) ≡ 1) × ((i : ℕ) → i < trailing_zeros w64 (word / 2 ^ bit) → bit_at (word / 2 ^ bit) i ≡ 0)
-lowest word bit small some = bit_at-trailing_zeros w64 (word / 2 ^ bit) some (let a : word / 2 ^ bit ≤ word = div-le_self word (2 ^ bit) in omega (arith, a, small))
+-- the lowest bit that is set, and those below it
+pub lowest : (rest : ℕ) → rest < 2 ^ 64 → 0 < rest → (trailing_zeros w64 rest < 64) × (bit_at rest (trailing_zeros w64 rest) ≡ 1) × ((i : ℕ) → i < trailing_zeros w64 rest → bit_at rest i ≡ 0)
+lowest rest small some = bit_at-trailing_zeros w64 rest some small
 
-pub next_within : (word bit : ℕ) → word < 2 ^ 64 → 0 < word / 2 ^ bit → bit + trailing_zeros w64 (word / 2 ^ bit) ≤ 64
-next_within word bit small some = by (cases_lt 64 (bit + trailing_zeros w64 (word / 2 ^ bit))) where
-  by : (64 < bit + trailing_zeros w64 (word / 2 ^ bit)) ⊎ (bit + trailing_zeros w64 (word / 2 ^ bit) ≤ 64) → bit + trailing_zeros w64 (word / 2 ^ bit) ≤ 64
-  by (inl over) =
-      let set : bit_at (word / 2 ^ bit) (trailing_zeros w64 (word / 2 ^ bit)) ≡ 1 = (lowest word bit small some).1 in
-      let above : bit_at word (bit + trailing_zeros w64 (word / 2 ^ bit)) ≡ 0 = bit_at_above word 64 (bit + trailing_zeros w64 (word / 2 ^ bit)) small (omega (arith, over)) in
-      absurd (not_both (bit_at word (bit + trailing_zeros w64 (word / 2 ^ bit))) (sym (shifted word bit (trailing_zeros w64 (word / 2 ^ bit))) ∙ set) above)
-  by (inr within) = within
-
-pub clear_before : (word bit j : ℕ) → word < 2 ^ 64 → 0 < word / 2 ^ bit → j < trailing_zeros w64 (word / 2 ^ bit) → bit_at word (bit + j) ≡ 0
-clear_before word bit j small some before = sym (shifted word bit j) ∙ (lowest word bit small some).2 j before
+pub fits_shifted : (word n : ℕ) → word < 2 ^ 64 → word / 2 ^ n < 2 ^ 64
+fits_shifted word n small = let a : word / 2 ^ n ≤ word = div-le_self word (2 ^ n) in omega (arith, a, small)
 
 both_set : (a b i : ℕ) → bit_at a i ≡ 1 → bit_at b i ≡ 1 → bit_at (bit_and a b) i ≡ 1
 both_set a b i h k = bit_at_and a b i ∙ at (bit_at a i) (bit_at b i) h k where
   at : (x y : ℕ) → x ≡ 1 → y ≡ 1 → min x y ≡ 1
   at x y e f = omega (arith, e, f)
 
-set_in_all : (tests : List Bool) (rows : Rows) (first to k : ℕ) → AreRows tests first to rows → first ≤ k → k < to → get_or tests k false ≡ true
-    → bit_at (word_of rows ((k - first) / 64)) ((k - first) % 64) ≡ 1
-set_in_all tests rows first to k are from before hit =
-    both_set _ _ ((k - first) % 64)
+none_in_front : (front back more i : ℕ) → front ≡ 0 → bit_at (bit_and (bit_and front back) more) i ≡ 0
+none_in_front front back more i h = bit_at_and (bit_and front back) more i ∙ at (bit_at (bit_and front back) i) (bit_at more i) (bit_at_and front back i ∙ at (bit_at front i) (bit_at back i) (ap (λ (n : ℕ). bit_at n i) h ∙ bit_at-zero i)) where
+  at : (x y : ℕ) → x ≡ 0 → min x y ≡ 0
+  at x y e = omega (arith, e)
+
+pub set_in_all : (tests : List Bool) (rows : Rows) (first to place k : ℕ) → AreRows tests first to rows → first + place * 64 ≤ k → k < first + place * 64 + 64 → k < to → get_or tests k false ≡ true
+    → bit_at (word_of rows place) (k - (first + place * 64)) ≡ 1
+set_in_all tests rows first to place k are from within before hit =
+    subst (λ (i : ℕ). bit_at (word_of rows i) (k - (first + place * 64)) ≡ 1) here
+    (subst (λ (i : ℕ). bit_at (word_of rows ((k - first) / 64)) i ≡ 1) bit
     (both_set _ _ ((k - first) % 64)
     (both_set _ _ ((k - first) % 64)
-    (both_set _ _ ((k - first) % 64) (are.source.marked k from before hit) (are.protocol.marked k from before hit))
-    (are.destination_port.marked k from before hit))
-    (are.source_port.marked k from before hit))
-    (are.length.marked k from before hit)
+    (both_set _ _ ((k - first) % 64)
+    (both_set _ _ ((k - first) % 64) (are.source.marked k low before hit) (are.destination_port.marked k low before hit))
+    (are.source_port.marked k low before hit))
+    (are.protocol.marked k low before hit))
+    (are.length.marked k low before hit))) where
+      low : first ≤ k
+      low = omega (arith, from)
+
+      here : (k - first) / 64 ≡ place
+      here = omega (arith, from, within)
+
+      bit : (k - first) % 64 ≡ k - (first + place * 64)
+      bit = omega (arith, from, within)
+
+-- a word that has no bit in front has no rule that matches
+pub none_marked : (tests : List Bool) (rows : Rows) (place start from end : ℕ) → front_of rows place ≡ 0 → ((k : ℕ) → from ≤ k → k < end → get_or tests k false ≡ true → bit_at (word_of rows place) (k - start) ≡ 1)
+    → Missed tests from end
+none_marked tests rows place start from end none marked k above below = false_from (get_or tests k false) (λ hit.
+    not_both (bit_at (word_of rows place) (k - start)) (marked k above below hit) (none_in_front (front_of rows place) _ _ (k - start) none))
+
+-- the rules whose bits are set among those that are left
+abbrev pub AreLeft : (tests : List Bool) → (rest number end : ℕ) → Type 0
+AreLeft tests rest number end = (k : ℕ) → number ≤ k → k < end → get_or tests k false ≡ true → bit_at rest (k - number) ≡ 1
+
+pub left_first : (tests : List Bool) (word start from end : ℕ) → start ≤ from → ((k : ℕ) → from ≤ k → k < end → get_or tests k false ≡ true → bit_at word (k - start) ≡ 1) → AreLeft tests (word / 2 ^ (from - start)) from end
+left_first tests word start from end begins marked k above below hit =
+    shifted word (from - start) (k - from) ∙ ap (λ (i : ℕ). bit_at word i) (let e : from - start + (k - from) ≡ k - start = omega (arith, begins, above) in e) ∙ marked k above below hit
+
+pub left_next : (tests : List Bool) (rest number clear end : ℕ) → AreLeft tests rest number end → AreLeft tests (rest / 2 ^ clear / 2) (number + clear + 1) end
+left_next tests rest number clear end left k above below hit =
+    shifted (rest / 2 ^ clear) 1 (k - (number + clear + 1)) ∙ shifted rest clear (1 + (k - (number + clear + 1)))
+    ∙ ap (λ (i : ℕ). bit_at rest i) (let e : clear + (1 + (k - (number + clear + 1))) ≡ k - number = omega (arith, above) in e) ∙ left k (omega (arith, above)) below hit
 
 -- What has no bit doesn't match.
-pub missed_on : (tests : List Bool) (rows : Rows) (first from to number clear : ℕ) → AreRows tests first to rows → first ≤ from → from ≤ number → number < to
-    → (number - first) % 64 + clear ≤ 64
-    → ((j : ℕ) → j < clear → bit_at (word_of rows ((number - first) / 64)) ((number - first) % 64 + j) ≡ 0)
-    → Missed tests from (min number to) → Missed tests from (min (number + clear) to)
-missed_on tests rows first from to number clear are begins low inside room none missed k above below = by (cases_lt k number) where
+pub missed_on : (tests : List Bool) (rest from end number clear : ℕ) → AreLeft tests rest number end → ((j : ℕ) → j < clear → bit_at rest j ≡ 0) → Missed tests from (min number end) → Missed tests from (min (number + clear) end)
+missed_on tests rest from end number clear left none missed k above below = by (cases_lt k number) where
   by : (k < number) ⊎ (number ≤ k) → get_or tests k false ≡ false
-  by (inl earlier) = missed k above (omega (arith, earlier, inside))
+  by (inl earlier) = missed k above (omega (arith, earlier, below))
   by (inr later) = false_from (get_or tests k false) (λ hit.
-      let set : bit_at (word_of rows ((k - first) / 64)) ((k - first) % 64) ≡ 1 = set_in_all tests rows first to k are (omega (arith, begins, above)) (omega (arith, below)) hit in
-      let word : (k - first) / 64 ≡ (number - first) / 64 = omega (arith, begins, low, later, below, room) in
-      let bit : (k - first) % 64 ≡ (number - first) % 64 + (k - number) = omega (arith, begins, low, later, below, room) in
-      let here : bit_at (word_of rows ((number - first) / 64)) ((number - first) % 64 + (k - number)) ≡ 1 =
-      subst (λ (b : ℕ). bit_at (word_of rows ((number - first) / 64)) b ≡ 1) bit (subst (λ (w : ℕ). bit_at (word_of rows w) ((k - first) % 64) ≡ 1) word set) in
-      not_both (bit_at (word_of rows ((number - first) / 64)) ((number - first) % 64 + (k - number))) here (none (k - number) (omega (arith, later, below))))
+      not_both (bit_at rest (k - number)) (left k later (omega (arith, below)) hit) (none (k - number) (omega (arith, later, below))))
+
+pub missed_all : (tests : List Bool) (rest from end number : ℕ) → rest ≡ 0 → AreLeft tests rest number end → Missed tests from (min number end) → Missed tests from end
+missed_all tests rest from end number none left missed k above below =
+    missed_on tests rest from end number end left (λ j _. ap (λ (n : ℕ). bit_at n j) none ∙ bit_at-zero j) missed k above (omega (arith, below))
 
 fewer : (tests : List Bool) (first end to : ℕ) (row : List ℕ) → to ≤ end → IsRow tests first end row → IsRow tests first to row
 fewer tests first end to row least is = record {

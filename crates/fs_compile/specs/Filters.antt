@@ -1,5 +1,5 @@
 -- Which rules of a long run a packet may match.
-use Rattle.std.specs.Prelude.{ℕ, ◌≤◌, Bool, List, get_or, length}
+use Rattle.std.specs.Prelude.{◌≡◌, ℕ, ◌<◌, ◌≤◌, Bool, List, get_or, length}
 use Rattle.std.specs.Int.RustNames.{bit_and}
 use Rattle.std.specs.List.{All}
 use Rattle.fs_compile.specs.declared.fast.Fast.{Fast}
@@ -13,6 +13,7 @@ pub record IsFilter (rules : List Fast) (filter : Filter) : Type 0 where
   pub ordered : filter.first ≤ filter.end
   pub within : filter.end ≤ length rules
   pub source : IsColumn rules filter.first filter.end filter.source
+  pub fields : (filter.protocol.field ≡ 3) × (filter.destination_port.field ≡ 5) × (filter.source_port.field ≡ 6) × (filter.length.field ≡ 10)
   pub protocol : IsColumn rules filter.first filter.end filter.protocol
   pub destination_port : IsColumn rules filter.first filter.end filter.destination_port
   pub source_port : IsColumn rules filter.first filter.end filter.source_port
@@ -30,8 +31,19 @@ pub record AreRows (tests : List Bool) (first end : ℕ) (rows : Rows) : Type 0 
   pub source_port : IsRow tests first end rows.source_port.now
   pub length : IsRow tests first end rows.length.now
 
+-- the rows have a word at the place
+pub record IsInside (place : ℕ) (rows : Rows) : Type 0 where
+  pub source : place < length rows.source.now
+  pub protocol : place < length rows.protocol.now
+  pub destination_port : place < length rows.destination_port.now
+  pub source_port : place < length rows.source_port.now
+  pub length : place < length rows.length.now
+
+-- the bits that are set in the rows of sources and ports
+abbrev pub front_of : Rows → (place : ℕ) → ℕ
+front_of rows place =
+    bit_and (bit_and (get_or rows.source.now place 0) (get_or rows.destination_port.now place 0)) (get_or rows.source_port.now place 0)
+
 -- the bits that are set in all rows
-abbrev pub word_of : Rows → ℕ → ℕ
-word_of rows place =
-    bit_and (bit_and (bit_and (bit_and (get_or rows.source.now place 0) (get_or rows.protocol.now place 0)) (get_or rows.destination_port.now place 0)) (get_or rows.source_port.now place 0))
-    (get_or rows.length.now place 0)
+abbrev pub word_of : Rows → (place : ℕ) → ℕ
+word_of rows place = bit_and (bit_and (front_of rows place) (get_or rows.protocol.now place 0)) (get_or rows.length.now place 0)

@@ -4,10 +4,10 @@ ghost use Rattle.std.specs.Prelude.{◌≡◌, ℕ, ◌+◌, ◌-◌, ◌*◌, �
 ghost use Rattle.std.specs.Int.{bit_at};
 ghost use Rattle.fs_compile.specs.Buckets.{AreRising};
 ghost use Rattle.fs_compile.specs.Columns.{AreMarked, AreRowsOf, Grown, IsClass, IsColumn, IsRow, allows, bit_in, words_for};
+ghost use Rattle.fs_compile.specs.Facts.{Facts, key_of};
 ghost use Rattle.fs_compile.specs.Search.{hits};
 ghost use Rattle.fs_compile.specs.Spans.{contains, is_in};
 
-use crate::facts::Facts;
 use crate::fast::Fast;
 use crate::limits::Limit;
 use fs_base::Memory;
@@ -56,16 +56,17 @@ impl Column {
         })
     }
 
-    /// The row of the packet's class, where rows have so many words.
+    /// The row of the class of a packet's number, where rows have so many words.
     #[inline(always)]
-    pub(crate) fn row(&self, facts: &Facts<'_>, words: usize) -> &[u64]
+    pub(crate) fn row(&self, number: u64, words: usize) -> &[u64]
         requires { AreRowsOf self.now.bounds.items self.now.rows.items words }
-        ensures { (rules : List Fast) (first end : ℕ)
+        ensures { (facts : Facts) (rules : List Fast) (first end : ℕ)
             → words ≡ words_for (end - first)
+            → number ≡ key_of facts self.now.field
             → IsColumn rules first end self.now
-            → IsRow (hits facts.now rules) first end result.now }
+            → IsRow (hits facts rules) first end result.now }
     {
-        let class = class_of(&self.bounds, facts.key(self.field));
+        let class = class_of(&self.bounds, number);
         row_of(&self.rows, words, self.bounds.len(), class)
     }
 }

@@ -95,8 +95,8 @@ impl Fast {
     fn holds(&self, facts: &Facts<'_>) -> bool
         ensures { result ≡ holds_of_facts facts.now self.now }
     {
-        self.family == facts.view.family()
-            && self.ranges.hold(facts)
+        self.ranges.hold(facts)
+            && self.family == facts.view.family()
             && all_pass(&self.tests, facts)
     }
 }

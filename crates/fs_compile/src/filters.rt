@@ -1,8 +1,8 @@
 //! Which rules of a long run a packet may match.
 
-ghost use Rattle.std.specs.Prelude.{◌≡◌, ℕ, ◌+◌, ◌-◌, ◌^◌, ◌<◌, ◌≤◌, IfOk, IfSome, List, MatchOption, length};
+ghost use Rattle.std.specs.Prelude.{◌≡◌, ℕ, ◌+◌, ◌-◌, ◌*◌, ◌^◌, ◌<◌, ◌≤◌, false, true, IfOk, IfSome, List, MatchOption, get_or, length};
 ghost use Rattle.std.specs.Int.{bit_at};
-ghost use Rattle.fs_compile.specs.Filters.{AreFilters, AreRows, IsFilter, word_of};
+ghost use Rattle.fs_compile.specs.Filters.{AreFilters, AreRows, IsFilter, IsInside, front_of, word_of};
 ghost use Rattle.fs_compile.specs.Search.{Found, Missed, hits, tested_to};
 
 use crate::columns::{Column, words_of};
@@ -59,21 +59,22 @@ pub(crate) struct Rows<'a> {
 }
 
 impl<'a> Rows<'a> {
+    /// The bits of 64 rules that are set in the rows of sources and ports, in which most are clear.
+    #[inline(always)]
+    fn front(&self, place: usize) -> u64
+        requires { IsInside place self.now }
+        ensures { result ≡ front_of self.now place }
+    {
+        self.source[place] & self.destination_port[place] & self.source_port[place]
+    }
+
     /// The bits of 64 rules that are set in all rows.
     #[inline(always)]
     fn word(&self, place: usize) -> u64
-        requires source { place < length self.now.source.now }
-        requires protocol { place < length self.now.protocol.now }
-        requires destination_port { place < length self.now.destination_port.now }
-        requires source_port { place < length self.now.source_port.now }
-        requires length { place < length self.now.length.now }
+        requires { IsInside place self.now }
         ensures { result ≡ word_of self.now place }
     {
-        self.source[place]
-            & self.protocol[place]
-            & self.destination_port[place]
-            & self.source_port[place]
-            & self.length[place]
+        self.front(place) & self.protocol[place] & self.length[place]
     }
 }
 
@@ -123,11 +124,11 @@ impl Filter {
     {
         let words = words_of(self.end - self.first);
         let rows = Rows {
-            source: self.source.row(facts, words),
-            protocol: self.protocol.row(facts, words),
-            destination_port: self.destination_port.row(facts, words),
-            source_port: self.source_port.row(facts, words),
-            length: self.length.row(facts, words),
+            source: self.source.row(facts.key(self.source.field), words),
+            protocol: self.protocol.row(facts.number(3), words),
+            destination_port: self.destination_port.row(facts.number(5), words),
+            source_port: self.source_port.row(facts.number(6), words),
+            length: self.length.row(facts.number(10), words),
         };
         scan_rows(rules, facts, &rows, self.first, from, to, steps)
     }
@@ -153,32 +154,72 @@ fn scan_rows<L: Ledger>(
     ensures later { steps.old ≤ steps.new }
     ensures steps { steps.new ≤ steps.old + (tested_to result to - from) }
 {
-    let mut number = from;
-    'candidates: while number < to {
-        let bit = (number - first) % 64;
-        let clear = clear_from(rows.word((number - first) / 64), bit);
-        number += clear;
-        if bit + clear < 64 && number < to {
-            if rules[number].test_facts(facts, steps) {
-                return Some(number);
-            }
-            number += 1;
+    let mut place = (from - first) / 64;
+    'words: while first + place * 64 < to {
+        let start = first + place * 64;
+        let end = to.min(start + 64);
+        if let Some(number) = scan_word(
+            rules,
+            facts,
+            rows,
+            place,
+            start,
+            from.max(start),
+            end,
+            steps,
+        ) {
+            return Some(number);
         }
+        place += 1;
     }
     None
 }
 
-/// How many bits of the word are clear from one on, one after the other.
+/// The first rule that matches of those from `from` on before `end`, of which only those are tested whose bits are set
+/// in the rows' words at the place, which begin with the rule `start`.
 #[inline(always)]
-fn clear_from(word: u64, bit: usize) -> usize
-    requires { bit < 64 }
-    ensures within { bit + result ≤ 64 }
-    ensures clear { (j : ℕ) → j < result → bit_at word (bit + j) ≡ 0 }
+fn scan_word<L: Ledger>(
+    rules: &[Fast],
+    facts: &Facts<'_>,
+    rows: &Rows<'_>,
+    place: usize,
+    start: usize,
+    from: usize,
+    end: usize,
+    steps: &mut Steps<L>,
+) -> Option<usize>
+    requires start { (start ≤ from) × (from < start + 64) }
+    requires low { start < length rules.now }
+    requires end { end ≤ length rules.now }
+    requires few { length rules.now < 2 ^ 32 }
+    requires inside { IsInside place rows.now }
+    requires marked { (k : ℕ)
+        → from ≤ k
+        → k < end
+        → get_or (hits facts.now rules.now) k false ≡ true
+        → bit_at (word_of rows.now place) (k - start) ≡ 1 }
+    ensures found { MatchOption result
+        (Missed (hits facts.now rules.now) from end)
+        (Found (hits facts.now rules.now) from end) }
+    ensures later { steps.old ≤ steps.new }
+    ensures steps { steps.new ≤ steps.old + (tested_to result end - from) }
 {
-    let rest = word >> bit;
-    if rest == 0 {
-        64 - bit
-    } else {
-        rest.trailing_zeros() as usize
+    if rows.front(place) == 0 {
+        return None;
     }
+    let mut rest = rows.word(place) >> (from - start);
+    let mut number = from;
+    'candidates: while rest != 0 {
+        let clear = rest.trailing_zeros();
+        number += clear as usize;
+        if number >= end {
+            return None;
+        }
+        if rules[number].test_facts(facts, steps) {
+            return Some(number);
+        }
+        number += 1;
+        rest = rest >> clear >> 1;
+    }
+    None
 }

@@ -1,14 +1,15 @@
-use Rattle.std.proofs.Common.{◌+◌, ◌-◌, ◌≤◌, min}
+use Rattle.std.proofs.Common.{◌+◌, ◌-◌, ◌*◌, ◌/◌, ◌^◌, ◌<◌, ◌≤◌, min}
 use Rattle.fs_compile.specs.Search.{Missed, hits}
 use Rattle.fs_compile.proofs.filters.scan_rows.Given as goal
 
-abbrev pub invariant-candidates : goal.invariant-candidates
-invariant-candidates g l = record {
-  from : l.from ≤ l.number;
-  missed : Missed (hits l.facts l.rules) l.from (min l.number l.to);
+abbrev pub invariant-words : goal.invariant-words
+invariant-words g l = record {
+  low : (l.from - l.first) / 64 ≤ l.place;
+  small : l.first + l.place * 64 < 2 ^ 64;
+  missed : Missed (hits l.facts l.rules) l.from (min (l.first + l.place * 64) l.to);
   later : l.initial.steps ≤ l.steps;
-  steps : l.steps ≤ l.initial.steps + (min l.number l.to - l.from);
+  steps : l.steps ≤ l.initial.steps + (min (l.first + l.place * 64) l.to - l.from);
 }
 
-abbrev pub decreases-candidates : goal.decreases-candidates
-decreases-candidates g l = l.to - l.number
+abbrev pub decreases-words : goal.decreases-words
+decreases-words g l = l.to - (l.first + l.place * 64)

@@ -1,0 +1,18 @@
+use Rattle.std.proofs.Common.{◌+◌, ◌-◌, ◌^◌, ◌<◌, ◌≤◌, min}
+use Rattle.fs_compile.specs.Search.{Missed, hits}
+use Rattle.fs_compile.proofs.Sieving.{AreLeft}
+use Rattle.fs_compile.proofs.filters.scan_word.Given as goal
+
+abbrev pub invariant-candidates : goal.invariant-candidates
+invariant-candidates g l = record {
+  from : l.from ≤ l.number;
+  small : l.number < 2 ^ 34;
+  rest : l.rest < 2 ^ 64;
+  left : AreLeft (hits l.facts l.rules) l.rest l.number l.end;
+  missed : Missed (hits l.facts l.rules) l.from (min l.number l.end);
+  later : l.initial.steps ≤ l.steps;
+  steps : l.steps ≤ l.initial.steps + (min l.number l.end - l.from);
+}
+
+abbrev pub decreases-candidates : goal.decreases-candidates
+decreases-candidates g l = l.end - l.number
