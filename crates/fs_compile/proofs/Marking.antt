@@ -7,8 +7,8 @@ use Rattle.std.proofs.lemmas.List.Folds.{list_any_more}
 use Rattle.std.proofs.lemmas.Nat.Bits.{bit_at-lt, bit_at_or, bit_at_set_same}
 use Rattle.fs_compile.specs.declared.fast.Fast.{Fast}
 use Rattle.fs_compile.specs.declared.limits.Limit.{Limit}
-use Rattle.fs_compile.specs.Columns.{AreMarked, Grown, IsClass, allows, bit_in}
-use Rattle.fs_compile.specs.Facts.{Facts, key_of}
+use Rattle.fs_compile.specs.Columns.{AreMarked, ArePortsMarked, Grown, IsClass, allows, allows_port, bit_in}
+use Rattle.fs_compile.specs.Facts.{Facts, key_of, number_of}
 use Rattle.fs_compile.specs.Fast.{facts_hold}
 use Rattle.fs_compile.specs.Search.{hits}
 use Rattle.fs_compile.specs.Spans.{contains, is_in}
@@ -75,3 +75,34 @@ rule_more rules first number field words bounds rows new fast limit inside same 
           let holds : facts_hold facts fast ≡ true = subst (λ (f : Fast). facts_hold facts f ≡ true) (sym same)
           (sym (get_or-map (facts_hold facts) rules number fast false inside) ∙ subst (λ (n : ℕ). get_or (hits facts rules) n false ≡ true) (sym here) hit) in
           subst (λ (n : ℕ). bit_in new words class (n - first) ≡ 1) here (marked (key_of facts field) class (within facts holds) classed)
+
+-- one of two is set, and stays so
+either_on : (a b c d : ℕ) → c < 2 → d < 2 → (a ≡ 1 → c ≡ 1) → (b ≡ 1 → d ≡ 1) → max a b ≡ 1 → max c d ≡ 1
+either_on a b c d small less f g h = by (cases_lt b a) where
+  by : (b < a) ⊎ (a ≤ b) → max c d ≡ 1
+  by (inl first) = let e : c ≡ 1 = f (omega (arith, first, h)) in omega (arith, e, less)
+  by (inr second) = let e : d ≡ 1 = g (omega (arith, second, h)) in omega (arith, e, small)
+
+-- Of a run's rules one more is marked by its ports.
+pub ports_more : (rules : List Fast) (first number words : ℕ) (destination source to from to_new from_new : List ℕ) (fast : Fast) (limit : Limit) → number < length rules → fast ≡ get_or rules number fast → Grown to to_new → Grown from from_new
+    → ArePortsMarked rules first number destination source to from words
+    → ((facts : Facts) → facts_hold facts fast ≡ true → allows_port limit facts ≡ true)
+    → ((n class : ℕ) → allows limit n ≡ true → IsClass destination n class → bit_in to_new words class (number - first) ≡ 1)
+    → ((n class : ℕ) → allows limit n ≡ true → IsClass source n class → bit_in from_new words class (number - first) ≡ 1)
+    → ArePortsMarked rules first (number + 1) destination source to_new from_new words
+ports_more rules first number words destination source to from to_new from_new fast limit inside same grown more before within marked again facts k class other low high hit classed others =
+    by (cases_lt k number) where
+      by : (k < number) ⊎ (number ≤ k) → max (bit_in to_new words class (k - first)) (bit_in from_new words other (k - first)) ≡ 1
+      by (inl earlier) =
+          either_on _ _ (bit_in to_new words class (k - first)) (bit_in from_new words other (k - first)) (bit_at-lt _ _) (bit_at-lt _ _)
+          (grown.kept (class * words + (k - first) / 64) ((k - first) % 64)) (more.kept (other * words + (k - first) / 64) ((k - first) % 64)) (before facts k class other low earlier hit classed others)
+      by (inr later) =
+          let here : number ≡ k = omega (arith, later, high) in
+          let holds : facts_hold facts fast ≡ true = subst (λ (f : Fast). facts_hold facts f ≡ true) (sym same)
+          (sym (get_or-map (facts_hold facts) rules number fast false inside) ∙ subst (λ (n : ℕ). get_or (hits facts rules) n false ≡ true) (sym here) hit) in
+          subst (λ (n : ℕ). max (bit_in to_new words class (n - first)) (bit_in from_new words other (n - first)) ≡ 1) here
+          (set (allows limit (number_of facts 6)) (allows limit (number_of facts 5)) refl refl (within facts holds)) where
+            set : (a b : Bool) → allows limit (number_of facts 6) ≡ a → allows limit (number_of facts 5) ≡ b → (a || b) ≡ true → max (bit_in to_new words class (number - first)) (bit_in from_new words other (number - first)) ≡ 1
+            set true b e f t = let s : bit_in from_new words other (number - first) ≡ 1 = again (number_of facts 6) other e others in let l : bit_in to_new words class (number - first) < 2 = bit_at-lt _ _ in omega (arith, s, l)
+            set false true e f t = let s : bit_in to_new words class (number - first) ≡ 1 = marked (number_of facts 5) class f classed in let l : bit_in from_new words other (number - first) < 2 = bit_at-lt _ _ in omega (arith, s, l)
+            set false false e f t = absurd (true≢false (sym t))

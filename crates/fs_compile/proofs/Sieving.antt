@@ -1,16 +1,19 @@
 -- The rules that a packet may match, by the bits of words.
-use Rattle.std.proofs.Common.{◌≡◌, ℕ, ◌+◌, ◌-◌, ◌*◌, ◌/◌, ◌%◌, ◌^◌, ◌<◌, ◌≤◌, ◌⊎◌, inl, inr, min, sym, subst, ap, ◌∙◌, Bool, true, false, bit_and, map, List, get_or, length, w64, arith}
+use Rattle.std.proofs.Common.{◌≡◌, ℕ, ◌+◌, ◌-◌, ◌*◌, ◌/◌, ◌%◌, ◌^◌, ◌<◌, ◌≤◌, ◌⊎◌, inl, inr, max, min, sym, subst, ap, ◌∙◌, Bool, true, false, bit_and, map, List, get_or, length, w64, arith}
 use Rattle.std.specs.Int.{bit_at, trailing_zeros}
 use Rattle.std.proofs.Math.Nat.{div-div-eq-div-mul, div-le_self}
 use Rattle.std.proofs.lemmas.Bool.{cases_lt}
 use Rattle.std.proofs.lemmas.List.{get_or-map}
 use Rattle.std.proofs.lemmas.Nat.{pow-add}
-use Rattle.std.proofs.lemmas.Nat.Bits.{bit_at-trailing_zeros, bit_at-zero, bit_at_and}
+use Rattle.std.proofs.lemmas.Nat.Bits.{bit_at-trailing_zeros, bit_at-zero, bit_at_and, bit_at_or}
 use Rattle.fs_base.proofs.Bools.{false_from}
 use Rattle.fs_compile.specs.declared.filters.Rows.{Rows}
-use Rattle.fs_compile.specs.Columns.{IsRow}
+use Rattle.fs_compile.specs.declared.columns.PortRows.{PortRows}
+use Rattle.fs_compile.specs.declared.fast.Fast.{Fast}
+use Rattle.fs_compile.specs.Columns.{ArePortRows, IsClass, IsRow, bit_in, words_for}
+use Rattle.fs_compile.specs.Facts.{Facts, number_of}
 use Rattle.fs_compile.specs.Filters.{AreRows, front_of, word_of}
-use Rattle.fs_compile.specs.Search.{Missed}
+use Rattle.fs_compile.specs.Search.{Missed, hits}
 
 -- the bits of a number without its lowest ones
 shifted : (n a i : ℕ) → bit_at (n / 2 ^ a) i ≡ bit_at n (a + i)
@@ -31,10 +34,13 @@ both_set a b i h k = bit_at_and a b i ∙ at (bit_at a i) (bit_at b i) h k where
   at : (x y : ℕ) → x ≡ 1 → y ≡ 1 → min x y ≡ 1
   at x y e f = omega (arith, e, f)
 
-none_in_front : (front back more i : ℕ) → front ≡ 0 → bit_at (bit_and (bit_and front back) more) i ≡ 0
-none_in_front front back more i h = bit_at_and (bit_and front back) more i ∙ at (bit_at (bit_and front back) i) (bit_at more i) (bit_at_and front back i ∙ at (bit_at front i) (bit_at back i) (ap (λ (n : ℕ). bit_at n i) h ∙ bit_at-zero i)) where
+clear_in_both : (a b i : ℕ) → bit_at a i ≡ 0 → bit_at (bit_and a b) i ≡ 0
+clear_in_both a b i h = bit_at_and a b i ∙ at (bit_at a i) (bit_at b i) h where
   at : (x y : ℕ) → x ≡ 0 → min x y ≡ 0
   at x y e = omega (arith, e)
+
+none_in_front : (front a b c i : ℕ) → front ≡ 0 → bit_at (bit_and (bit_and (bit_and front a) b) c) i ≡ 0
+none_in_front front a b c i h = clear_in_both _ c i (clear_in_both _ b i (clear_in_both front a i (ap (λ (n : ℕ). bit_at n i) h ∙ bit_at-zero i)))
 
 pub set_in_all : (tests : List Bool) (rows : Rows) (first to place k : ℕ) → AreRows tests first to rows → first + place * 64 ≤ k → k < first + place * 64 + 64 → k < to → get_or tests k false ≡ true
     → bit_at (word_of rows place) (k - (first + place * 64)) ≡ 1
@@ -44,10 +50,12 @@ set_in_all tests rows first to place k are from within before hit =
     (both_set _ _ ((k - first) % 64)
     (both_set _ _ ((k - first) % 64)
     (both_set _ _ ((k - first) % 64)
+    (both_set _ _ ((k - first) % 64)
     (both_set _ _ ((k - first) % 64) (are.source.marked k low before hit) (are.destination_port.marked k low before hit))
     (are.source_port.marked k low before hit))
     (are.protocol.marked k low before hit))
-    (are.length.marked k low before hit))) where
+    (are.length.marked k low before hit))
+    (bit_at_or _ _ ((k - first) % 64) ∙ are.ports k low before hit))) where
       low : first ≤ k
       low = omega (arith, from)
 
@@ -61,7 +69,7 @@ set_in_all tests rows first to place k are from within before hit =
 pub none_marked : (tests : List Bool) (rows : Rows) (place start from end : ℕ) → front_of rows place ≡ 0 → ((k : ℕ) → from ≤ k → k < end → get_or tests k false ≡ true → bit_at (word_of rows place) (k - start) ≡ 1)
     → Missed tests from end
 none_marked tests rows place start from end none marked k above below = false_from (get_or tests k false) (λ hit.
-    not_both (bit_at (word_of rows place) (k - start)) (marked k above below hit) (none_in_front (front_of rows place) _ _ (k - start) none))
+    not_both (bit_at (word_of rows place) (k - start)) (marked k above below hit) (none_in_front (front_of rows place) _ _ _ (k - start) none))
 
 -- the rules whose bits are set among those that are left
 abbrev pub AreLeft : (tests : List Bool) → (rest number end : ℕ) → Type 0
@@ -102,7 +110,22 @@ fewer_rows tests first end to rows least are = record {
   destination_port = fewer tests first end to rows.destination_port.now least are.destination_port;
   source_port = fewer tests first end to rows.source_port.now least are.source_port;
   length = fewer tests first end to rows.length.now least are.length;
+  to_port = let a = are.to_port in omega (arith, a, least);
+  from_port = let a = are.from_port in omega (arith, a, least);
+  ports = λ number from before hit. are.ports number from (omega (arith, before, least)) hit;
 }
+
+-- where a rule matches, its bit is set in the row of one port or the other
+pub port_set : (rules : List Fast) (facts : Facts) (first end words class other : ℕ) (destination source to from : List ℕ) (rows : PortRows) → words ≡ words_for (end - first) → ArePortRows rules first end destination source rows
+    → IsClass destination (number_of facts 5) class → IsClass source (number_of facts 6) other
+    → ((k : ℕ) → k < words → get_or to k 0 ≡ get_or rows.to.items (class * words + k) 0) → ((k : ℕ) → k < words → get_or from k 0 ≡ get_or rows.from.items (other * words + k) 0)
+    → (number : ℕ) → first ≤ number → number < end → get_or (hits facts rules) number false ≡ true
+    → max (bit_at (get_or to ((number - first) / 64) 0) ((number - first) % 64)) (bit_at (get_or from ((number - first) / 64) 0) ((number - first) % 64)) ≡ 1
+port_set rules facts first end words class other destination source to from rows size are classed others tos froms number low below hit =
+    (λ i. max (bit_at (tos ((number - first) / 64) inside i) ((number - first) % 64)) (bit_at (froms ((number - first) / 64) inside i) ((number - first) % 64)))
+    ∙ subst (λ (w : ℕ). max (bit_in rows.to.items w class (number - first)) (bit_in rows.from.items w other (number - first)) ≡ 1) (sym size) (are.marked facts number class other low below hit classed others) where
+      inside : (number - first) / 64 < words
+      inside = omega (arith, size, low, below)
 
 -- a test that is passed is a rule that matches
 pub test_passes : {X : Type 0} (test : X → Bool) (xs : List X) (i : ℕ) (d : X) (r : Bool) → i < length xs → r ≡ test (get_or xs i d) → r ≡ true → get_or (map test xs) i false ≡ true

@@ -1,12 +1,13 @@
 -- The numbers of a field in classes, and which rules of a run a packet may match whose number is of a class.
-use Rattle.std.specs.Prelude.{◌≡◌, ℕ, ◌+◌, ◌-◌, ◌*◌, ◌/◌, ◌%◌, ◌<◌, ◌≤◌, Bool, true, false, List, get_or, length}
+use Rattle.std.specs.Prelude.{◌≡◌, ℕ, ◌+◌, ◌-◌, ◌*◌, ◌/◌, ◌%◌, ◌<◌, ◌≤◌, max, Bool, ◌||◌, true, false, List, get_or, length}
 use Rattle.std.specs.Int.{bit_at}
 use Rattle.fs_compile.specs.declared.columns.Column.{Column}
+use Rattle.fs_compile.specs.declared.columns.PortRows.{PortRows}
 use Rattle.fs_compile.specs.declared.fast.Fast.{Fast}
 use Rattle.fs_compile.specs.declared.limits.Limit.{Limit}
 use Rattle.fs_compile.specs.declared.limits.Limit.TheVariants.{Any, Range, Ranges}
 use Rattle.fs_compile.specs.Buckets.{AreRising}
-use Rattle.fs_compile.specs.Facts.{Facts, key_of}
+use Rattle.fs_compile.specs.Facts.{Facts, key_of, number_of}
 use Rattle.fs_compile.specs.Search.{hits}
 use Rattle.fs_compile.specs.Spans.{contains, is_in}
 
@@ -48,10 +49,31 @@ AreMarked rules first end field bounds rows words =
     → IsClass bounds (key_of facts field) class
     → bit_in rows words class (number - first) ≡ 1
 
+-- either port is one of these
+abbrev pub allows_port : Limit → Facts → Bool
+allows_port limit facts = allows limit (number_of facts 6) || allows limit (number_of facts 5)
+
+-- where a packet matches a rule of the run, the rule's bit is set in the row of the class of its destination port, or in
+-- that of the class of its source port
+abbrev pub ArePortsMarked : (rules : List Fast) → (first end : ℕ) → (destination source to from : List ℕ) → (words : ℕ) → Type 0
+ArePortsMarked rules first end destination source to from words =
+    (facts : Facts) (number class other : ℕ) → first ≤ number → number < end
+    → get_or (hits facts rules) number false ≡ true
+    → IsClass destination (number_of facts 5) class
+    → IsClass source (number_of facts 6) other
+    → max (bit_in to words class (number - first)) (bit_in from words other (number - first)) ≡ 1
+
 -- the column of a run of rules
 pub record IsColumn (rules : List Fast) (first end : ℕ) (column : Column) : Type 0 where
   pub shaped : AreRowsOf column.bounds.items column.rows.items (words_for (end - first))
+  pub few : length column.bounds.items ≤ 63
   pub marked : AreMarked rules first end column.field column.bounds.items column.rows.items (words_for (end - first))
+
+-- the rows of either port's classes
+pub record ArePortRows (rules : List Fast) (first end : ℕ) (destination source : List ℕ) (rows : PortRows) : Type 0 where
+  pub to : length rows.to.items ≡ (length destination + 1) * words_for (end - first)
+  pub from : length rows.from.items ≡ (length source + 1) * words_for (end - first)
+  pub marked : ArePortsMarked rules first end destination source rows.to.items rows.from.items (words_for (end - first))
 
 -- a row: where a rule of the run is matched its bit is set
 pub record IsRow (tests : List Bool) (first end : ℕ) (row : List ℕ) : Type 0 where

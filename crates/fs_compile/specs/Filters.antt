@@ -1,12 +1,13 @@
 -- Which rules of a long run a packet may match.
-use Rattle.std.specs.Prelude.{◌≡◌, ℕ, ◌<◌, ◌≤◌, Bool, List, get_or, length}
-use Rattle.std.specs.Int.RustNames.{bit_and}
+use Rattle.std.specs.Prelude.{◌≡◌, ℕ, ◌+◌, ◌-◌, ◌*◌, ◌/◌, ◌%◌, ◌<◌, ◌≤◌, max, Bool, true, false, List, get_or, length}
+use Rattle.std.specs.Int.RustNames.{bit_and, bit_or}
+use Rattle.std.specs.Int.{bit_at}
 use Rattle.std.specs.List.{All}
 use Rattle.fs_compile.specs.declared.fast.Fast.{Fast}
 use Rattle.fs_compile.specs.declared.filters.Filter.{Filter}
 use Rattle.fs_compile.specs.declared.filters.Filters.{Filters}
 use Rattle.fs_compile.specs.declared.filters.Rows.{Rows}
-use Rattle.fs_compile.specs.Columns.{IsColumn, IsRow}
+use Rattle.fs_compile.specs.Columns.{ArePortRows, IsColumn, IsRow}
 
 -- it is of a run of these rules
 pub record IsFilter (rules : List Fast) (filter : Filter) : Type 0 where
@@ -18,6 +19,7 @@ pub record IsFilter (rules : List Fast) (filter : Filter) : Type 0 where
   pub destination_port : IsColumn rules filter.first filter.end filter.destination_port
   pub source_port : IsColumn rules filter.first filter.end filter.source_port
   pub length : IsColumn rules filter.first filter.end filter.length
+  pub ports : ArePortRows rules filter.first filter.end filter.destination_port.bounds.items filter.source_port.bounds.items filter.ports
 
 -- each filter is of a run of these rules
 abbrev pub AreFilters : List Fast → Filters → Type 0
@@ -29,6 +31,10 @@ pub record AreRows (tests : List Bool) (first end : ℕ) (rows : Rows) : Type 0 
   pub protocol : IsRow tests first end rows.protocol.now
   pub destination_port : IsRow tests first end rows.destination_port.now
   pub source_port : IsRow tests first end rows.source_port.now
+  pub to_port : end ≤ first + length rows.to_port.now * 64
+  pub from_port : end ≤ first + length rows.from_port.now * 64
+  pub ports : (number : ℕ) → first ≤ number → number < end → get_or tests number false ≡ true
+      → max (bit_at (get_or rows.to_port.now ((number - first) / 64) 0) ((number - first) % 64)) (bit_at (get_or rows.from_port.now ((number - first) / 64) 0) ((number - first) % 64)) ≡ 1
   pub length : IsRow tests first end rows.length.now
 
 -- the rows have a word at the place
@@ -37,6 +43,8 @@ pub record IsInside (place : ℕ) (rows : Rows) : Type 0 where
   pub protocol : place < length rows.protocol.now
   pub destination_port : place < length rows.destination_port.now
   pub source_port : place < length rows.source_port.now
+  pub to_port : place < length rows.to_port.now
+  pub from_port : place < length rows.from_port.now
   pub length : place < length rows.length.now
 
 -- the bits that are set in the rows of sources and ports
@@ -46,4 +54,6 @@ front_of rows place =
 
 -- the bits that are set in all rows
 abbrev pub word_of : Rows → (place : ℕ) → ℕ
-word_of rows place = bit_and (bit_and (front_of rows place) (get_or rows.protocol.now place 0)) (get_or rows.length.now place 0)
+word_of rows place =
+    bit_and (bit_and (bit_and (front_of rows place) (get_or rows.protocol.now place 0)) (get_or rows.length.now place 0))
+    (bit_or (get_or rows.to_port.now place 0) (get_or rows.from_port.now place 0))

@@ -3,7 +3,7 @@
 ghost use Rattle.std.specs.Prelude.{◌≡◌, ℕ, ◌+◌, ◌-◌, ◌*◌, ◌/◌, ◌^◌, ◌<◌, ◌≤◌, true, IfOk, List, get_or, length};
 ghost use Rattle.std.specs.Int.{bit_at};
 ghost use Rattle.fs_compile.specs.Buckets.{AreRising};
-ghost use Rattle.fs_compile.specs.Columns.{AreMarked, AreRowsOf, Grown, IsClass, IsColumn, IsRow, allows, bit_in, words_for};
+ghost use Rattle.fs_compile.specs.Columns.{AreMarked, ArePortRows, ArePortsMarked, AreRowsOf, Grown, IsClass, IsColumn, IsRow, allows, bit_in, words_for};
 ghost use Rattle.fs_compile.specs.Facts.{Facts, key_of};
 ghost use Rattle.fs_compile.specs.Search.{hits};
 ghost use Rattle.fs_compile.specs.Spans.{contains, is_in};
@@ -56,18 +56,95 @@ impl Column {
         })
     }
 
+    /// The class of a packet's number.
+    #[inline(always)]
+    pub(crate) fn class(&self, number: u64) -> usize
+        requires { AreRising self.now.bounds.items }
+        ensures { IsClass self.now.bounds.items number result }
+    {
+        class_of(&self.bounds, number)
+    }
+
     /// The row of the class of a packet's number, where rows have so many words.
     #[inline(always)]
-    pub(crate) fn row(&self, number: u64, words: usize) -> &[u64]
-        requires { AreRowsOf self.now.bounds.items self.now.rows.items words }
+    pub(crate) fn row(&self, class: usize, words: usize) -> &[u64]
+        requires shaped { AreRowsOf self.now.bounds.items self.now.rows.items words }
+        requires within { class ≤ length self.now.bounds.items }
         ensures { (facts : Facts) (rules : List Fast) (first end : ℕ)
             → words ≡ words_for (end - first)
-            → number ≡ key_of facts self.now.field
+            → IsClass self.now.bounds.items (key_of facts self.now.field) class
             → IsColumn rules first end self.now
             → IsRow (hits facts rules) first end result.now }
     {
-        let class = class_of(&self.bounds, number);
         row_of(&self.rows, words, self.bounds.len(), class)
+    }
+}
+
+/// The rows of either port's classes: where a rule of a run may match a packet, its bit is set in the row of the
+/// packet's destination port or in that of its source port.
+#[derive(Drop)]
+pub(crate) struct PortRows {
+    pub(crate) to: Vec<u64>,
+    pub(crate) from: Vec<u64>,
+}
+
+impl PortRows {
+    /// Of the rules from the number `first` on before `end`, by the classes of these columns.
+    pub(crate) fn of(
+        alloc: Global,
+        rules: &[Fast],
+        first: usize,
+        end: usize,
+        destination: &[u64],
+        source: &[u64],
+    ) -> Result<PortRows, Memory>
+        requires ordered { first ≤ end }
+        requires within { end ≤ length rules.now }
+        requires few { length rules.now < 2 ^ 32 }
+        requires destination { AreRising destination.now × (length destination.now ≤ 63) }
+        requires source { AreRising source.now × (length source.now ≤ 63) }
+        ensures { IfOk result (ArePortRows rules.now first end destination.now source.now) }
+    {
+        let words = words_of(end - first);
+        let mut to = empty_rows(alloc, destination.len() + 1, words)?;
+        let mut from = empty_rows(alloc, source.len() + 1, words)?;
+        mark_ports(
+            &mut to,
+            &mut from,
+            words,
+            destination,
+            source,
+            rules,
+            first,
+            end,
+        );
+        Ok(PortRows { to, from })
+    }
+}
+
+/// Sets the bits of all rules of the run, in the rows of both ports.
+fn mark_ports(
+    to: &mut [u64],
+    from: &mut [u64],
+    words: usize,
+    destination: &[u64],
+    source: &[u64],
+    rules: &[Fast],
+    first: usize,
+    end: usize,
+)
+    requires within { end ≤ length rules.now }
+    requires to { AreRowsOf destination.now to.old words }
+    requires from { AreRowsOf source.now from.old words }
+    requires words { words ≡ words_for (end - first) }
+    ensures to { length to.new ≡ length to.old }
+    ensures from { length from.new ≡ length from.old }
+    ensures marked { ArePortsMarked rules.now first end destination.now source.now to.new from.new words }
+{
+    for number in first..end {
+        let limit = rules[number].ports_limit();
+        mark_limit(to, words, destination, number - first, limit);
+        mark_limit(from, words, source, number - first, limit);
     }
 }
 
@@ -96,7 +173,7 @@ fn class_of(bounds: &[u64], number: u64) -> usize
 }
 
 /// The row of a class, of which none is above `last`.
-fn row_of(rows: &[u64], words: usize, last: usize, class: usize) -> &[u64]
+pub(crate) fn row_of(rows: &[u64], words: usize, last: usize, class: usize) -> &[u64]
     requires size { length rows.now ≡ (last + 1) * words }
     requires within { class ≤ last }
     ensures size { length result.now ≡ words }

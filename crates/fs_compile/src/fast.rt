@@ -6,7 +6,7 @@ ghost use Rattle.fs_nlri.specs.Component.{parts_of};
 ghost use Rattle.fs_nlri.specs.Parts.{Ruled};
 ghost use Rattle.fs_nlri.specs.Sound.{AreSound};
 ghost use Rattle.fs_packet.specs.Matching.{is_match};
-ghost use Rattle.fs_compile.specs.Columns.{allows};
+ghost use Rattle.fs_compile.specs.Columns.{allows, allows_port};
 ghost use Rattle.fs_compile.specs.Facts.{Facts, IsSmall, front_of, key_of, number_of};
 ghost use Rattle.fs_compile.specs.Fast.{AreFree, AreTestsOf, IsPlaced, StandsFor, facts_hold, fast_holds, holds_of_facts};
 ghost use Rattle.fs_compile.specs.Tests.{passes};
@@ -82,6 +82,13 @@ impl Fast {
         }
     }
 
+    /// Within which numbers either port is of each packet that the rule matches.
+    pub(crate) fn ports_limit(&self) -> Limit<'_>
+        ensures { (facts : Facts) → facts_hold facts self.now ≡ true → allows_port result facts ≡ true }
+    {
+        ports_limit_of(&self.tests)
+    }
+
     fn number_limit(&self, field: u8) -> Limit<'_>
         ensures { (facts : Facts) → facts_hold facts self.now ≡ true → allows result (number_of facts field) ≡ true }
     {
@@ -135,6 +142,18 @@ fn front_limit_of(tests: &[Test]) -> Limit<'_>
 {
     for test in tests {
         if let Some(limit) = test.front_limit() {
+            return limit;
+        }
+    }
+    Limit::Any
+}
+
+/// Within which numbers either port is of each packet that passes the tests.
+fn ports_limit_of(tests: &[Test]) -> Limit<'_>
+    ensures { (facts : Facts) → list_all (passes facts) tests.now ≡ true → allows_port result facts ≡ true }
+{
+    for test in tests {
+        if let Some(limit) = test.ports_limit() {
             return limit;
         }
     }

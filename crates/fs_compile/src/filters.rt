@@ -1,11 +1,11 @@
 //! Which rules of a long run a packet may match.
 
-ghost use Rattle.std.specs.Prelude.{◌≡◌, ℕ, ◌+◌, ◌-◌, ◌*◌, ◌^◌, ◌<◌, ◌≤◌, false, true, IfOk, IfSome, List, MatchOption, get_or, length};
+ghost use Rattle.std.specs.Prelude.{◌≡◌, ℕ, ◌+◌, ◌-◌, ◌*◌, ◌^◌, ◌<◌, ◌≤◌, false, true, IfOk, IfSome, List, MatchOption, get_or, length, min};
 ghost use Rattle.std.specs.Int.{bit_at};
 ghost use Rattle.fs_compile.specs.Filters.{AreFilters, AreRows, IsFilter, IsInside, front_of, word_of};
 ghost use Rattle.fs_compile.specs.Search.{Found, Missed, hits, tested_to};
 
-use crate::columns::{Column, words_of};
+use crate::columns::{Column, PortRows, row_of, words_of};
 use crate::facts::Facts;
 use crate::fast::Fast;
 use fs_base::{Memory, Steps};
@@ -25,6 +25,7 @@ pub(crate) struct Filter {
     pub(crate) destination_port: Column,
     pub(crate) source_port: Column,
     pub(crate) length: Column,
+    pub(crate) ports: PortRows,
 }
 
 /// The filters of the long runs of a family's rules, in order.
@@ -56,6 +57,8 @@ pub(crate) struct Rows<'a> {
     pub(crate) destination_port: &'a [u64],
     pub(crate) source_port: &'a [u64],
     pub(crate) length: &'a [u64],
+    pub(crate) to_port: &'a [u64],
+    pub(crate) from_port: &'a [u64],
 }
 
 impl<'a> Rows<'a> {
@@ -74,7 +77,10 @@ impl<'a> Rows<'a> {
         requires { IsInside place self.now }
         ensures { result ≡ word_of self.now place }
     {
-        self.front(place) & self.protocol[place] & self.length[place]
+        self.front(place)
+            & self.protocol[place]
+            & self.length[place]
+            & (self.to_port[place] | self.from_port[place])
     }
 }
 
@@ -92,14 +98,25 @@ impl Filter {
         ensures { IfOk result (IsFilter rules.now) }
     {
         let source = rules[first].source_field();
+        let destination_port = Column::of(alloc, rules, first, end, 5)?;
+        let source_port = Column::of(alloc, rules, first, end, 6)?;
+        let ports = PortRows::of(
+            alloc,
+            rules,
+            first,
+            end,
+            &destination_port.bounds,
+            &source_port.bounds,
+        )?;
         Ok(Filter {
             first,
             end,
             source: Column::of(alloc, rules, first, end, source)?,
             protocol: Column::of(alloc, rules, first, end, 3)?,
-            destination_port: Column::of(alloc, rules, first, end, 5)?,
-            source_port: Column::of(alloc, rules, first, end, 6)?,
+            destination_port,
+            source_port,
             length: Column::of(alloc, rules, first, end, 10)?,
+            ports,
         })
     }
 
@@ -123,12 +140,23 @@ impl Filter {
         ensures steps { steps.new ≤ steps.old + (tested_to result to - from) }
     {
         let words = words_of(self.end - self.first);
+        let source = self.source.class(facts.key(self.source.field));
+        let protocol = self.protocol.class(facts.number(3));
+        let into = self.destination_port.class(facts.number(5));
+        let out_of = self.source_port.class(facts.number(6));
+        let length = self.length.class(facts.number(10));
+        let (to_last, from_last) = (
+            self.destination_port.bounds.len(),
+            self.source_port.bounds.len(),
+        );
         let rows = Rows {
-            source: self.source.row(facts.key(self.source.field), words),
-            protocol: self.protocol.row(facts.number(3), words),
-            destination_port: self.destination_port.row(facts.number(5), words),
-            source_port: self.source_port.row(facts.number(6), words),
-            length: self.length.row(facts.number(10), words),
+            source: self.source.row(source, words),
+            protocol: self.protocol.row(protocol, words),
+            destination_port: self.destination_port.row(into, words),
+            source_port: self.source_port.row(out_of, words),
+            length: self.length.row(length, words),
+            to_port: row_of(&self.ports.to, words, to_last, into),
+            from_port: row_of(&self.ports.from, words, from_last, out_of),
         };
         scan_rows(rules, facts, &rows, self.first, from, to, steps)
     }
@@ -157,26 +185,16 @@ fn scan_rows<L: Ledger>(
     let mut place = (from - first) / 64;
     'words: while first + place * 64 < to {
         let start = first + place * 64;
-        let end = to.min(start + 64);
-        if let Some(number) = scan_word(
-            rules,
-            facts,
-            rows,
-            place,
-            start,
-            from.max(start),
-            end,
-            steps,
-        ) {
-            return Some(number);
+        match scan_word(rules, facts, rows, place, start, from.max(start), to, steps) {
+            Some(number) => return Some(number),
+            None => place += 1,
         }
-        place += 1;
     }
     None
 }
 
-/// The first rule that matches of those from `from` on before `end`, of which only those are tested whose bits are set
-/// in the rows' words at the place, which begin with the rule `start`.
+/// The first rule that matches of those from `from` on before `to` among the 64 from `start` on, of which only those are
+/// tested whose bits are set in the rows' words at the place.
 #[inline(always)]
 fn scan_word<L: Ledger>(
     rules: &[Fast],
@@ -185,28 +203,29 @@ fn scan_word<L: Ledger>(
     place: usize,
     start: usize,
     from: usize,
-    end: usize,
+    to: usize,
     steps: &mut Steps<L>,
 ) -> Option<usize>
     requires start { (start ≤ from) × (from < start + 64) }
     requires low { start < length rules.now }
-    requires end { end ≤ length rules.now }
+    requires to { to ≤ length rules.now }
     requires few { length rules.now < 2 ^ 32 }
     requires inside { IsInside place rows.now }
     requires marked { (k : ℕ)
         → from ≤ k
-        → k < end
+        → k < min to (start + 64)
         → get_or (hits facts.now rules.now) k false ≡ true
         → bit_at (word_of rows.now place) (k - start) ≡ 1 }
     ensures found { MatchOption result
-        (Missed (hits facts.now rules.now) from end)
-        (Found (hits facts.now rules.now) from end) }
+        (Missed (hits facts.now rules.now) from (min to (start + 64)))
+        (Found (hits facts.now rules.now) from to) }
     ensures later { steps.old ≤ steps.new }
-    ensures steps { steps.new ≤ steps.old + (tested_to result end - from) }
+    ensures steps { steps.new ≤ steps.old + (tested_to result (min to (start + 64)) - from) }
 {
     if rows.front(place) == 0 {
         return None;
     }
+    let end = to.min(start + 64);
     let mut rest = rows.word(place) >> (from - start);
     let mut number = from;
     'candidates: while rest != 0 {

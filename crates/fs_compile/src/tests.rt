@@ -1,7 +1,7 @@
 //! The test of one component.
 
 ghost use Rattle.std.specs.Prelude.{◌≡◌, true, IfSome};
-ghost use Rattle.fs_compile.specs.Columns.{allows};
+ghost use Rattle.fs_compile.specs.Columns.{allows, allows_port};
 ghost use Rattle.fs_compile.specs.Facts.{Facts, front_of, number_of};
 ghost use Rattle.fs_compile.specs.Tests.{flags_pass, is_under, passes, test_range};
 
@@ -77,6 +77,18 @@ impl Test {
             Test::Source(pattern) if pattern.offset == 0 => {
                 Some(Limit::Range(top(pattern.low), top(pattern.high)))
             }
+            _ => None,
+        }
+    }
+
+    /// Within which numbers either port is of each packet that passes the test, if the test is of these.
+    pub(crate) fn ports_limit(&self) -> Option<Limit<'_>>
+        ensures { (facts : Facts)
+            → passes facts self.now ≡ true
+            → IfSome result (λ limit. allows_port limit facts ≡ true) }
+    {
+        match self {
+            Test::PortWithin(low, high) => Some(Limit::Range((*low).into(), (*high).into())),
             _ => None,
         }
     }

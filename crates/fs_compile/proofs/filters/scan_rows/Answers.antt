@@ -1,4 +1,4 @@
-use Rattle.std.proofs.Common.{◌≡◌, ℕ, ◌+◌, ◌*◌, ◌^◌, ◌<◌, ◌≤◌, inl, inr, ◌⊎◌, false, get_or, arith}
+use Rattle.std.proofs.Common.{◌≡◌, ℕ, ◌+◌, ◌-◌, ◌*◌, ◌^◌, ◌<◌, ◌≤◌, min, inl, inr, ◌⊎◌, false, get_or, arith}
 use Rattle.std.proofs.lemmas.Bool.{cases_lt}
 use Rattle.fs_compile.specs.Search.{hits}
 use Rattle.fs_compile.proofs.Sieving.{set_in_all}
@@ -26,16 +26,33 @@ scan_word-requires-clause-start g c =
 
 pub scan_word-requires-clause-marked : goal.scan_word-requires-clause-marked
 scan_word-requires-clause-marked g c = λ k above below hit.
-    let e = c.max.ensures in let m = c.min-end.ensures in
-    set_in_all (hits c.args.facts.now c.args.rules.now) c.args.rows.now c.args.first c.args.to c.words.place k c.requires.rows (omega (arith, e, above)) (omega (arith, m, below)) (omega (arith, m, below)) hit
+    let e = c.max.ensures in
+    set_in_all (hits c.args.facts.now c.args.rules.now) c.args.rows.now c.args.first c.args.to c.words.place k c.requires.rows (omega (arith, e, above)) (omega (arith, below)) (omega (arith, below)) hit
 
 pub returns-in-Some-clause-found : goal.returns-in-Some-clause-found
 returns-in-Some-clause-found g c = record {
   above = let a = c.in-Some.ensures.found.above in let e = c.max.ensures in omega (arith, a, e);
-  below = let a = c.in-Some.ensures.found.below in let m = c.min-end.ensures in omega (arith, a, m);
+  below = c.in-Some.ensures.found.below;
   hit = c.in-Some.ensures.found.hit;
   before = λ k above below. by k above below (cases_lt k (c.args.first + c.words.place * 64));
 } where
   by : (k : ℕ) → c.args.from ≤ k → k < c.in-Some.number → (k < c.args.first + c.words.place * 64) ⊎ (c.args.first + c.words.place * 64 ≤ k) → get_or (hits c.args.facts.now c.args.rules.now) k false ≡ false
   by k above below (inl earlier) = let t = c.words-test.true in c.words.invariant.missed k above (omega (arith, earlier, t))
   by k above below (inr here) = let e = c.max.ensures in c.in-Some.ensures.found.before k (omega (arith, above, here, e)) below
+
+pub words-preserved : goal.words-preserved
+words-preserved g c = record {
+  low = let a = c.words.invariant.low in omega (arith, a);
+  small = let t = c.words-test.true in omega (arith, t, c.requires.to, c.requires.few);
+  missed = λ k above below. by k above below (cases_lt k (c.args.first + c.words.place * 64));
+  later = let a : c.args.steps.now ≤ c.words.steps = c.words.invariant.later in let b = c.in-None.ensures.later in omega (arith, a, b);
+  steps =
+      let a : c.words.steps ≤ c.args.steps.now + (min (c.args.first + c.words.place * 64) c.args.to - c.args.from) = c.words.invariant.steps in
+      let b = c.in-None.ensures.steps in
+      let e = c.max.ensures in
+      let t = c.words-test.true in
+      omega (arith, a, b, e, t);
+} where
+  by : (k : ℕ) → c.args.from ≤ k → k < min (c.args.first + (c.words.place + 1) * 64) c.args.to → (k < c.args.first + c.words.place * 64) ⊎ (c.args.first + c.words.place * 64 ≤ k) → get_or (hits c.args.facts.now c.args.rules.now) k false ≡ false
+  by k above below (inl earlier) = let t = c.words-test.true in c.words.invariant.missed k above (omega (arith, earlier, t))
+  by k above below (inr here) = let e = c.max.ensures in c.in-None.ensures.found k (omega (arith, above, here, e)) (omega (arith, below))

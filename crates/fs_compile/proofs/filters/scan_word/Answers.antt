@@ -7,14 +7,14 @@ use Rattle.fs_compile.proofs.Sieving.{fits_shifted, left_first, left_next, lowes
 use Rattle.fs_compile.proofs.filters.scan_word.Goals as goal
 
 pub returns-then-front-eq0-clause-found : goal.returns-then-front-eq0-clause-found
-returns-then-front-eq0-clause-found g c = none_marked (hits c.args.facts.now c.args.rules.now) c.args.rows.now c.args.place c.args.start c.args.from c.args.end (sym c.front.ensures ∙ c.if-front-eq0.true) c.requires.marked
+returns-then-front-eq0-clause-found g c = none_marked (hits c.args.facts.now c.args.rules.now) c.args.rows.now c.args.place c.args.start c.args.from (min c.args.to (c.args.start + 64)) (sym c.front.ensures ∙ c.if-front-eq0.true) c.requires.marked
 
 pub candidates-init : goal.candidates-init
 candidates-init g c = record {
   from = omega arith;
   small = omega (arith, c.requires.start.1, c.requires.low, c.requires.few);
   rest = fits_shifted c.word.result (c.args.from - c.args.start) c.word.type_inv;
-  left = left_first (hits c.args.facts.now c.args.rules.now) c.word.result c.args.start c.args.from c.args.end c.requires.start.0
+  left = left_first (hits c.args.facts.now c.args.rules.now) c.word.result c.args.start c.args.from (min c.args.to (c.args.start + 64)) c.requires.start.0
       (λ k above below hit. subst (λ (w : ℕ). bit_at w (k - c.args.start) ≡ 1) (sym c.word.ensures) (c.requires.marked k above below hit));
   missed = λ k above below. absurd (omega (arith, above, below));
   later = omega arith;
@@ -29,8 +29,8 @@ overflow_add-number g c =
 
 pub returns-then-number-end-clause-found : goal.returns-then-number-end-clause-found
 returns-then-number-end-clause-found g c = λ k above below.
-    missed_on (hits c.args.facts.now c.args.rules.now) c.candidates.rest c.args.from c.args.end c.candidates.number (trailing_zeros w64 c.candidates.rest) c.candidates.invariant.left
-    (lowest c.candidates.rest c.candidates.invariant.rest (let some = c.candidates-test.true in omega (arith, some))).2 c.candidates.invariant.missed k above (omega (arith, below, c.if-number-end.true))
+    missed_on (hits c.args.facts.now c.args.rules.now) c.candidates.rest c.args.from (min c.args.to (c.args.start + 64)) c.candidates.number (trailing_zeros w64 c.candidates.rest) c.candidates.invariant.left
+    (lowest c.candidates.rest c.candidates.invariant.rest (let some = c.candidates-test.true in omega (arith, some))).2 c.candidates.invariant.missed k above (omega (arith, below, c.if-number-end.true, c.min-end.ensures))
 
 pub returns-then-number-end-clause-later : goal.returns-then-number-end-clause-later
 returns-then-number-end-clause-later g c = c.candidates.invariant.later
@@ -41,12 +41,12 @@ returns-then-number-end-clause-steps g c = let a = c.candidates.invariant.steps 
 pub returns-then-test_facts-clause-found : goal.returns-then-test_facts-clause-found
 returns-then-test_facts-clause-found g c = record {
   above = let a = c.candidates.invariant.from in omega (arith, a);
-  below = omega (arith, c.if-number-end.false);
+  below = omega (arith, c.if-number-end.false, c.min-end.ensures);
   hit = test_passes (facts_hold c.args.facts.now) c.args.rules.now (c.candidates.number + trailing_zeros w64 c.candidates.rest) c.index-rules-number.result c.test_facts.result
-      (omega (arith, c.if-number-end.false, c.requires.end)) (c.test_facts.ensures.holds ∙ ap (facts_hold c.args.facts.now) c.index-rules-number.is) c.if-test_facts.true;
+      (omega (arith, c.if-number-end.false, c.requires.to, c.min-end.ensures)) (c.test_facts.ensures.holds ∙ ap (facts_hold c.args.facts.now) c.index-rules-number.is) c.if-test_facts.true;
   before = λ k above below.
-      missed_on (hits c.args.facts.now c.args.rules.now) c.candidates.rest c.args.from c.args.end c.candidates.number (trailing_zeros w64 c.candidates.rest) c.candidates.invariant.left
-      (lowest c.candidates.rest c.candidates.invariant.rest (let some = c.candidates-test.true in omega (arith, some))).2 c.candidates.invariant.missed k above (omega (arith, below, c.if-number-end.false));
+      missed_on (hits c.args.facts.now c.args.rules.now) c.candidates.rest c.args.from (min c.args.to (c.args.start + 64)) c.candidates.number (trailing_zeros w64 c.candidates.rest) c.candidates.invariant.left
+      (lowest c.candidates.rest c.candidates.invariant.rest (let some = c.candidates-test.true in omega (arith, some))).2 c.candidates.invariant.missed k above (omega (arith, below, c.if-number-end.false, c.min-end.ensures));
 }
 
 pub returns-then-test_facts-clause-later : goal.returns-then-test_facts-clause-later
@@ -62,29 +62,29 @@ returns-then-test_facts-clause-steps g c =
 pub candidates-preserved : goal.candidates-preserved
 candidates-preserved g c = record {
   from = let a = c.candidates.invariant.from in omega (arith, a);
-  small = omega (arith, c.if-number-end.false, c.requires.end, c.requires.few);
+  small = omega (arith, c.if-number-end.false, c.requires.to, c.min-end.ensures, c.requires.few);
   rest = fits_shifted (c.candidates.rest / 2 ^ trailing_zeros w64 c.candidates.rest) 1 (fits_shifted c.candidates.rest (trailing_zeros w64 c.candidates.rest) c.candidates.invariant.rest);
-  left = left_next (hits c.args.facts.now c.args.rules.now) c.candidates.rest c.candidates.number (trailing_zeros w64 c.candidates.rest) c.args.end c.candidates.invariant.left;
+  left = left_next (hits c.args.facts.now c.args.rules.now) c.candidates.rest c.candidates.number (trailing_zeros w64 c.candidates.rest) (min c.args.to (c.args.start + 64)) c.candidates.invariant.left;
   missed = λ k above below.
       missed_more (hits c.args.facts.now c.args.rules.now) c.args.from (c.candidates.number + trailing_zeros w64 c.candidates.rest)
-      (λ j from before. missed j from (omega (arith, before, c.if-number-end.false)))
+      (λ j from before. missed j from (omega (arith, before, c.if-number-end.false, c.min-end.ensures)))
       (test_fails (facts_hold c.args.facts.now) c.args.rules.now (c.candidates.number + trailing_zeros w64 c.candidates.rest) c.index-rules-number.result c.test_facts.result
-      (omega (arith, c.if-number-end.false, c.requires.end)) (c.test_facts.ensures.holds ∙ ap (facts_hold c.args.facts.now) c.index-rules-number.is) c.if-test_facts.false)
+      (omega (arith, c.if-number-end.false, c.requires.to, c.min-end.ensures)) (c.test_facts.ensures.holds ∙ ap (facts_hold c.args.facts.now) c.index-rules-number.is) c.if-test_facts.false)
       k above (omega (arith, below));
   later = let a = c.candidates.invariant.later in let b = c.test_facts.ensures.step in omega (arith, a, b);
   steps =
       let a = c.candidates.invariant.steps in
       let b = c.test_facts.ensures.step in
       let d = c.candidates.invariant.from in
-      omega (arith, a, b, d, c.if-number-end.false);
+      omega (arith, a, b, d, c.if-number-end.false, c.min-end.ensures);
 } where
-  missed : Missed (hits c.args.facts.now c.args.rules.now) c.args.from (min (c.candidates.number + trailing_zeros w64 c.candidates.rest) c.args.end)
+  missed : Missed (hits c.args.facts.now c.args.rules.now) c.args.from (min (c.candidates.number + trailing_zeros w64 c.candidates.rest) (min c.args.to (c.args.start + 64)))
   missed =
-      missed_on (hits c.args.facts.now c.args.rules.now) c.candidates.rest c.args.from c.args.end c.candidates.number (trailing_zeros w64 c.candidates.rest) c.candidates.invariant.left
+      missed_on (hits c.args.facts.now c.args.rules.now) c.candidates.rest c.args.from (min c.args.to (c.args.start + 64)) c.candidates.number (trailing_zeros w64 c.candidates.rest) c.candidates.invariant.left
       (lowest c.candidates.rest c.candidates.invariant.rest (let some = c.candidates-test.true in omega (arith, some))).2 c.candidates.invariant.missed
 
 pub returns-clause-found : goal.returns-clause-found
-returns-clause-found g c = missed_all (hits c.args.facts.now c.args.rules.now) c.candidates.rest c.args.from c.args.end c.candidates.number (let none = c.candidates-test.false in omega (arith, none)) c.candidates.invariant.left c.candidates.invariant.missed
+returns-clause-found g c = missed_all (hits c.args.facts.now c.args.rules.now) c.candidates.rest c.args.from (min c.args.to (c.args.start + 64)) c.candidates.number (let none = c.candidates-test.false in omega (arith, none)) c.candidates.invariant.left c.candidates.invariant.missed
 
 pub returns-clause-later : goal.returns-clause-later
 returns-clause-later g c = c.candidates.invariant.later

@@ -8,11 +8,11 @@ invariant-candidates g l = record {
   from : l.from ≤ l.number;
   small : l.number < 2 ^ 34;
   rest : l.rest < 2 ^ 64;
-  left : AreLeft (hits l.facts l.rules) l.rest l.number l.end;
-  missed : Missed (hits l.facts l.rules) l.from (min l.number l.end);
+  left : AreLeft (hits l.facts l.rules) l.rest l.number (min l.to (l.start + 64));
+  missed : Missed (hits l.facts l.rules) l.from (min l.number (min l.to (l.start + 64)));
   later : l.initial.steps ≤ l.steps;
-  steps : l.steps ≤ l.initial.steps + (min l.number l.end - l.from);
+  steps : l.steps ≤ l.initial.steps + (min l.number (min l.to (l.start + 64)) - l.from);
 }
 
 abbrev pub decreases-candidates : goal.decreases-candidates
-decreases-candidates g l = l.end - l.number
+decreases-candidates g l = (min l.to (l.start + 64)) - l.number

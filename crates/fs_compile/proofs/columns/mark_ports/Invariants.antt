@@ -1,0 +1,10 @@
+use Rattle.std.proofs.Common.{◌≡◌, length}
+use Rattle.fs_compile.specs.Columns.{ArePortsMarked}
+use Rattle.fs_compile.proofs.columns.mark_ports.Given as goal
+
+abbrev pub invariant-loop-number : goal.invariant-loop-number
+invariant-loop-number l = record {
+  to : length l.to ≡ length l.initial.to;
+  from : length l.from ≡ length l.initial.from;
+  marked : ArePortsMarked l.rules l.first l.number l.destination l.source l.to l.from l.words;
+}
