@@ -30,7 +30,7 @@ to_cmp None (Some q) = Greater
 to_cmp (Some p) None = Less
 to_cmp (Some p) (Some q) = prefix_cmp p q
 
-to_shown : (p q : Option Prefix) → destination_cmp (option_map shown p) (option_map shown q) ≡ to_cmp p q
+pub to_shown : (p q : Option Prefix) → destination_cmp (option_map shown p) (option_map shown q) ≡ to_cmp p q
 to_shown None None = refl
 to_shown None (Some q) = refl
 to_shown (Some p) None = refl

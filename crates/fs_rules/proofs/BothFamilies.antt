@@ -21,7 +21,7 @@ use Rattle.fs_rules.specs.Flows.{AreOfFamilies}
 use Rattle.fs_rules.specs.Blocks.{AllBefore, RuleBefore}
 use Rattle.fs_rules.proofs.Apart.{families_before}
 use Rattle.fs_rules.proofs.InParts.{chosen-append}
-use Rattle.fs_rules.proofs.Changes.{each-filter, each-put, related_is_count}
+use Rattle.fs_rules.proofs.Changed.{each-filter, each-put, related_is_count}
 use Rattle.fs_rules.proofs.Placing.{related-append}
 use Rattle.fs_rules.proofs.Puts.{put_left, put_right, sorted_front, sorted_back}
 use Rattle.fs_rules.proofs.Takes.{any-append, all_pass}
@@ -145,3 +145,6 @@ sorted_first xs ys now e h = sorted_front xs ys (subst (λ ks. AreSorted (routes
 
 pub sorted_second : (xs ys now : List Kept) → xs ++ ys ≡ now → AreSorted (routes_of now) → AreSorted (routes_of ys)
 sorted_second xs ys now e h = sorted_back xs ys (subst (λ ks. AreSorted (routes_of ks)) (sym e) h)
+
+pub rules_each : (xs ys now : List Kept) → xs ++ ys ≡ now → AreOfFamilies xs ys → AllByRecursion (λ k. IsRule k.route.rule) now
+rules_each xs ys now e h = subst (AllByRecursion (λ k. IsRule k.route.rule)) e (each_append (λ k. IsRule k.route.rule) xs ys (rules_of V4 xs h.first) (rules_of V6 ys h.second))

@@ -12,7 +12,7 @@ use Rattle.fs_rules.specs.Table.{Held, is_of_family, is_valid, beats, is_most_pr
 use Rattle.fs_rules.specs.Lent.{Judged, judged, listed, held_flows}
 use Rattle.fs_rules.specs.Lists.{judgement}
 use Rattle.fs_rules.specs.Group.{routes_of, AreRight, Keeps, is_chosen, chosen, mended}
-use Rattle.fs_rules.proofs.Changes.{routes-filter, AgreeOff, keeps-mended, agree_insert, agree_remove}
+use Rattle.fs_rules.proofs.Changed.{routes-filter, AgreeOff, keeps-mended, agree_insert, agree_remove}
 use Rattle.std.specs.BTreeMap.{insert_entry, is_at}
 use Rattle.std.specs.Map.{remove_entry}
 use Rattle.fs_base.specs.declared.prefix.Prefix.{Prefix}

@@ -20,7 +20,7 @@ use Rattle.fs_validate.specs.declared.route.FlowRoute.{FlowRoute}
 use Rattle.fs_rules.specs.Table.{Held, held_count, without_peer, key_cmp, is_key, put_route, without_route, has_route, without_peer_unicast, without_peer_flows, count_in}
 use Rattle.fs_rules.specs.Group.{AreSorted}
 use Rattle.fs_rules.specs.Counts.{count_of}
-use Rattle.fs_rules.proofs.Changes.{flow_total}
+use Rattle.fs_rules.proofs.Changed.{flow_total}
 use Rattle.fs_rules.proofs.Chosen.{held_of, with_flows}
 use Rattle.fs_rules.proofs.Entries.{is_equal}
 

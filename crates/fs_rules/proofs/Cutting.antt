@@ -13,7 +13,7 @@ use Rattle.fs_rules.specs.Table.{key_cmp, is_key}
 use Rattle.fs_rules.specs.Group.{put_kept, AreSorted, routes_of, chosen}
 use Rattle.fs_rules.specs.Blocks.{flat, RuleBefore, AllBefore, AreCut, is_filled, AreFilled, IsCut, AreEachSorted, begins_by, begun, block_of, with_block, keep_blocks, chosen_flat, cut_list, CanCut}
 use Rattle.fs_rules.proofs.Apart.{each_front, each_back}
-use Rattle.fs_rules.proofs.Changes.{each-filter, each-put, routes-put, sorted-put}
+use Rattle.fs_rules.proofs.Changed.{each-filter, each-put, routes-put, sorted-put}
 use Rattle.fs_rules.proofs.Puts.{put_left, put_right, sorted_front, sorted_back}
 use Rattle.fs_rules.proofs.InParts.{chosen-append, map-append}
 use Rattle.fs_rules.proofs.Takes.{empty, not_empty}

@@ -23,7 +23,7 @@ use Rattle.fs_rules.proofs.Puts.{put_entries, put_rest, put_placed, each_entry, 
 use Rattle.fs_rules.proofs.Takes.{kept_each, placed_each, placed_at, sorted_at, parts_sorted, taken_kept, taken_rest, length-filter}
 use Rattle.fs_rules.proofs.Mending.{mended_in, mends_placed, mends_ordered, size_related}
 use Rattle.fs_rules.proofs.InParts.{chosen_groups, length-chosen}
-use Rattle.fs_rules.proofs.Changes.{each-filter, each-put}
+use Rattle.fs_rules.proofs.Changed.{each-filter, each-put}
 
 sorted_entry : (p : Prefix) (k : Kept) (es : List Entry) → AreInOrder es → AreInOrder (put_entry p k es)
 sorted_entry p k [] h = parts_sorted p [] tt h

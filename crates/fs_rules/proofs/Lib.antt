@@ -1,6 +1,6 @@
 pub mod Entries
 pub mod Placing
-pub mod Changes
+pub mod Changed
 pub mod Chosen
 pub mod Losing
 pub mod Orders
@@ -21,3 +21,5 @@ pub mod Validities
 pub mod Cutting
 pub mod Begun
 pub mod Alone
+pub mod Elsewhere
+pub mod Places

@@ -16,7 +16,7 @@ use Rattle.fs_rules.specs.Group.{put_kept, AreSorted, routes_of}
 use Rattle.fs_rules.specs.Groups.{Entry, kept_in, IsTo, ArePlaced, AreInOrder, IsSound, put_entry, HasSortedGroups}
 use Rattle.fs_rules.specs.Blocks.{RuleBefore}
 use Rattle.fs_rules.proofs.Apart.{key_less, key_greater, each_front, each_back, behind_each, before_behind, to_cmp, earlier}
-use Rattle.fs_rules.proofs.Changes.{each-put}
+use Rattle.fs_rules.proofs.Changed.{each-put}
 
 -- a route before all of the second list goes into the first
 pub put_left : (k : Kept) (xs ys : List Kept) → AllByRecursion (RuleBefore k) ys → put_kept k (xs ++ ys) ≡ put_kept k xs ++ ys

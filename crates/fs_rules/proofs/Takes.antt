@@ -19,7 +19,7 @@ use Rattle.fs_rules.specs.Kept.{Kept}
 use Rattle.fs_rules.specs.Table.{is_key}
 use Rattle.fs_rules.specs.Groups.{Entry, kept_in, IsTo, ArePlaced, AreInOrder, with_group, keep_at, keep_each}
 use Rattle.fs_rules.proofs.Apart.{key_same, each_front, each_back}
-use Rattle.fs_rules.proofs.Changes.{each-filter}
+use Rattle.fs_rules.proofs.Changed.{each-filter}
 
 -- told the other way round
 pub turned : (b c : Bool) → not b ≡ c → b ≡ not c

@@ -1,6 +1,7 @@
 pub mod Kept
 pub mod Counts
 pub mod Table
+pub mod Changes
 pub mod Walk
 pub mod Lent
 pub mod Group

@@ -5,8 +5,10 @@ ghost use Rattle.std.specs.List.{list_any, AllByRecursion};
 ghost use Rattle.fs_rules.specs.Table.{is_of_family, IsRuleOf, related_count, is_key};
 ghost use Rattle.fs_rules.specs.Group.{has_key, put_kept, mended, IsRightAt, AreSorted, routes_of, chosen, of_family};
 ghost use Rattle.fs_rules.specs.Lent.{listed, shown_admitted, shown_held, shown_lent, all_admitted, all_held};
-ghost use Rattle.fs_rules.specs.Lists.{judgement, routes_chosen, listing, listings, judgements, nth_listing};
+ghost use Rattle.fs_rules.specs.Lists.{judgement, routes_chosen, listing, listings, listings_to, judgements, nth_listing};
 ghost use Rattle.fs_rules.specs.Walk.{next_match};
+ghost use Rattle.fs_base.specs.declared.prefix.Family.{Family};
+ghost use Rattle.fs_nlri.specs.Rule.{IsRule};
 
 use crate::groups::Groups;
 use crate::kept::Kept;
@@ -59,6 +61,8 @@ impl Flows {
         ensures ok { OnOk result (self.new ≡ put_kept k self.old) }
         ensures fresh { IfOk result (λ is_new. is_new ≡ not (has_key k.route.rule k.route.peer self.old)) }
         ensures err { OnErr result (self.new ≡ self.old) }
+        ensures rule { IsRule k.route.rule }
+        ensures rules { AllByRecursion (λ k. IsRule k.route.rule) self.old }
     {
         match k.family() {
             Family::V4 => self.v4.put(k),
@@ -71,6 +75,8 @@ impl Flows {
         requires { AreSorted (routes_of self.old) }
         ensures taken { self.new ≡ filter (λ k. not (is_key rule.now peer k.route)) self.old }
         ensures held { result ≡ list_any (λ k. is_key rule.now peer k.route) self.old }
+        ensures rule { IsRule rule.now }
+        ensures rules { AllByRecursion (λ k. IsRule k.route.rule) self.old }
     {
         match rule.family() {
             Family::V4 => self.v4.take(rule, peer),
@@ -114,6 +120,22 @@ impl Flows {
         match family {
             Family::V4 => self.v4.admitted(family),
             Family::V6 => self.v6.admitted(family),
+        }
+    }
+
+    /// The admitted rules of the family with this destination, or without one, in order.
+    pub(crate) fn admitted_to(
+        &self,
+        family: Family,
+        destination: Option<Prefix>,
+    ) -> Result<Vec<LentRule<'_>>, Memory>
+        requires { AreSorted (routes_of self.now) }
+        ensures list { IfOk result (λ list. all_admitted list.items ≡ listings_to family destination self.now) }
+        ensures rules { (f : Family) → AllByRecursion (λ k. IsRuleOf f k.route) (chosen f self.now) }
+    {
+        match family {
+            Family::V4 => self.v4.admitted_to(family, destination),
+            Family::V6 => self.v6.admitted_to(family, destination),
         }
     }
 

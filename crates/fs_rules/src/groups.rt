@@ -10,13 +10,13 @@ ghost use Rattle.fs_rules.specs.Table.{is_key};
 ghost use Rattle.fs_rules.specs.Group.{has_key, put_kept, mended, IsRightAt, related_kept, AreSorted, routes_of, chosen, is_other_key};
 ghost use Rattle.fs_rules.specs.Groups.{IsSound, HasSortedGroups, AreInOrder, AreNoShorter, put_entry, keep_at, keep_each, IsHeldAt};
 ghost use Rattle.fs_rules.specs.Lent.{listed, shown_admitted, shown_held, shown_lent, all_admitted, all_held};
-ghost use Rattle.fs_rules.specs.Lists.{judgement, routes_chosen, listing, listings, judgements, nth_listing};
+ghost use Rattle.fs_rules.specs.Lists.{judgement, routes_chosen, listing, listings, listings_to, judgements, nth_listing};
 ghost use Rattle.fs_rules.specs.Walk.{next_match};
 
 use crate::group::Group;
 use crate::kept::{Kept, destination_key};
 use crate::lent::{Admitted, HeldFlow, LentRule};
-use crate::reading::{self, push_admitted, push_held};
+use crate::reading::{self, push_admitted, push_admitted_to, push_held};
 use crate::search::retest_related;
 use fs_base::{Config, Family, Memory, Prefix, Steps};
 use fs_nlri::Rule;
@@ -152,6 +152,21 @@ impl Groups {
     {
         let mut list = Vec::new(self.rest.allocator());
         push_admitted(&self.groups, &self.rest, family, &mut list)?;
+        Ok(list)
+    }
+
+    /// The admitted rules with this destination, or without one, in order.
+    pub(crate) fn admitted_to(
+        &self,
+        family: Family,
+        destination: Option<Prefix>,
+    ) -> Result<Vec<LentRule<'_>>, Memory>
+        requires sorted { AreSorted (routes_of self.now) }
+        requires sound { AllByRecursion (IsSound family) self.now }
+        ensures { IfOk result (λ list. all_admitted list.items ≡ listings_to family destination self.now) }
+    {
+        let mut list = Vec::new(self.rest.allocator());
+        push_admitted_to(&self.groups, &self.rest, family, destination, &mut list)?;
         Ok(list)
     }
 

@@ -12,6 +12,7 @@ mod kept;
 mod latest;
 mod lent;
 mod lists;
+mod noted;
 mod reading;
 mod route;
 mod search;
@@ -19,4 +20,5 @@ mod table;
 
 pub use actions::SharedActions;
 pub use lent::{Admitted, HeldFlow, LentRule};
+pub use noted::{Change, Changes};
 pub use table::Table;

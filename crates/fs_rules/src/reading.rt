@@ -4,14 +4,14 @@ ghost use Rattle.std.specs.Prelude.{◌≡◌, ◌≤◌, ◌+◌, ◌<◌, ◌^
 ghost use Rattle.fs_rules.specs.Group.{AreSorted, routes_of};
 ghost use Rattle.fs_rules.specs.Groups.{kept_in, HasSortedGroups};
 ghost use Rattle.fs_rules.specs.Lent.{listed, shown_admitted, shown_held, shown_lent, all_admitted, all_held, AddsRules, AddsHeld};
-ghost use Rattle.fs_rules.specs.Lists.{judgement, listing};
-ghost use Rattle.fs_rules.specs.Reading.{chosen_in, listings_in, judgements_in, nth_listing_in, nth_judgement_in};
+ghost use Rattle.fs_rules.specs.Lists.{judgement, listing, listings};
+ghost use Rattle.fs_rules.specs.Reading.{group_at, chosen_in, listings_in, judgements_in, nth_listing_in, nth_judgement_in};
 ghost use Rattle.fs_rules.specs.Walk.{next_match};
 
 use crate::blocks;
 use crate::group::Group;
 use crate::lent::{Admitted, HeldFlow, LentRule};
-use fs_base::{Family, Memory};
+use fs_base::{Family, Memory, Prefix};
 use fs_packet::View;
 use fs_unicast::PrefixKey;
 use std::collections::BTreeMap;
@@ -31,6 +31,28 @@ pub(crate) fn push_admitted<'a>(
         blocks::push_admitted(family, group.blocks(), list)?;
     }
     blocks::push_admitted(family, rest.blocks(), list)
+}
+
+/// Adds the admitted rules with this destination, or without one, to the list.
+pub(crate) fn push_admitted_to<'a>(
+    groups: &'a BTreeMap<PrefixKey, Group>,
+    rest: &'a Group,
+    family: Family,
+    destination: Option<Prefix>,
+    list: &mut Vec<LentRule<'a>>,
+) -> Result<(), Memory>
+    requires groups { HasSortedGroups groups.now.entries }
+    requires rest { AreSorted (routes_of rest.now) }
+    ensures { OnOk result (AddsRules (listings family (group_at destination groups.now.entries rest.now))
+        list.old.items list.new.items) }
+{
+    let Some(destination) = destination else {
+        return blocks::push_admitted(family, rest.blocks(), list);
+    };
+    match groups.get(&PrefixKey::of(&destination)) {
+        Some(group) => blocks::push_admitted(family, group.blocks(), list),
+        None => Ok(()),
+    }
 }
 
 /// Adds the routes to the list.

@@ -1,12 +1,15 @@
 //! The table.
 
-ghost use Rattle.std.specs.Prelude.{◌≡◌, ◌≤◌, ◌+◌, ◌↔◌, false, [], IfOk, OnOk, OnErr, is_some, unwrap_or, option_map, length, map, slice_get};
+ghost use Rattle.std.specs.Prelude.{◌≡◌, ◌≤◌, ◌+◌, ◌↔◌, false, [], IfOk, OnOk, OnErr, is_some, unwrap_or, option_map, length, map, filter, slice_get, not, true, Bool};
 ghost use Rattle.std.specs.BTreeMap.{insert_entry, is_at};
 ghost use Rattle.std.specs.List.{AllByRecursion};
 ghost use Rattle.std.specs.List.Sorted.{IsStrictlySortedBy};
 ghost use Rattle.std.specs.Map.{keys_of, remove_entry, lookup};
 ghost use Rattle.fs_unicast.specs.Unicast.{place_cmp, has_path};
 ghost use Rattle.fs_rules.specs.Table.{put_route, without_route, has_route, without_peer_unicast, without_peer_flows, related_count, related_sum, admitted, IsAdmitted, IsRuleOf, with_flow, with_path, without_path, without_peer, held_count, ValiditiesStay, AdmitsSame};
+ghost use Rattle.fs_base.specs.declared.prefix.Family.{Family};
+ghost use Rattle.fs_nlri.specs.Parts.{Ruled};
+ghost use Rattle.fs_rules.specs.Changes.{AdmitsElsewhere, is_to};
 ghost use Rattle.fs_rules.specs.Lent.{listed, shown_admitted, shown_held, shown_lent, held_flows, AreRising};
 ghost use Rattle.fs_rules.specs.Walk.{next_match};
 ghost use Rattle.fs_unicast.specs.Search.{held_by};
@@ -65,8 +68,8 @@ impl<'a> Table<'a> {
         }
     }
 
-    /// Keeps the route as the peer's route of the rule, in place of one that it holds. Where memory is refused
-    /// nothing changes. At most one step.
+    /// Keeps the route as the peer's route of the rule, in place of one that it holds. Of other rules the same routes
+    /// are admitted. Where memory is refused nothing changes. At most one step.
     pub fn put_flow<L: Ledger>(
         &mut self,
         peer: u16,
@@ -76,6 +79,8 @@ impl<'a> Table<'a> {
         steps: &mut Steps<L>,
     ) -> Result<(), Memory>
         ensures ok { OnOk result (self.new ≡ with_flow peer rule path actions self.old) }
+        ensures elsewhere { OnOk result
+            ((touched : Ruled → Bool) → touched rule ≡ true → AdmitsElsewhere touched self.old self.new) }
         ensures err { OnErr result (self.new ≡ self.old) }
         ensures later { steps.old ≤ steps.new }
         ensures steps { steps.new ≤ steps.old + 1 }
@@ -142,7 +147,8 @@ impl<'a> Table<'a> {
         Ok(self.flows.mend(&prefix, &self.unicast, self.config, steps))
     }
 
-    /// Takes the peer's route of the rule away, and tells whether there was one. No step.
+    /// Takes the peer's route of the rule away, and tells whether there was one. Of other rules the same routes are
+    /// admitted. No step.
     pub fn withdraw_flow<L: Ledger>(
         &mut self,
         peer: u16,
@@ -151,6 +157,9 @@ impl<'a> Table<'a> {
     ) -> bool
         ensures removed { self.new ≡ record self.old { flows = without_route rule.now.rule peer self.old.flows } }
         ensures held { result ≡ has_route rule.now.rule peer self.old.flows }
+        ensures elsewhere { (touched : Ruled → Bool)
+            → touched rule.now.rule ≡ true
+            → AdmitsElsewhere touched self.old self.new }
         ensures steps { steps.new ≡ steps.old }
     {
         let held = self.flows.take(&rule.rule, peer);
@@ -173,30 +182,12 @@ impl<'a> Table<'a> {
         ensures steps { steps.new ≤ steps.old + related_count prefix.now self.old.flows }
         ensures idle { self.new ≡ self.old → steps.new ≡ steps.old }
     {
-        self.take_unicast(peer, prefix, steps).is_some()
+        self.withdraw_unicast_telling(peer, prefix, steps).is_some()
     }
 
-    /// As [`withdraw_unicast`](Table::withdraw_unicast), but tells whether a held flow route has another validity than
-    /// before. Where none has, the same rules are admitted.
+    /// As [`withdraw_unicast`](Table::withdraw_unicast), and tells whether a held flow route has another validity than
+    /// before. Where none has, the same rules are admitted. None where there is no such route.
     pub fn withdraw_unicast_telling<L: Ledger>(
-        &mut self,
-        peer: u16,
-        prefix: &Prefix,
-        steps: &mut Steps<L>,
-    ) -> bool
-        ensures removed { self.new ≡ without_path peer prefix.now self.old }
-        ensures told { (result ≡ false) ↔ ValiditiesStay self.old self.new }
-        ensures same { result ≡ false → AdmitsSame self.old self.new }
-        ensures later { steps.old ≤ steps.new }
-        ensures steps { steps.new ≤ steps.old + related_count prefix.now self.old.flows }
-        ensures idle { self.new ≡ self.old → steps.new ≡ steps.old }
-    {
-        self.take_unicast(peer, prefix, steps).unwrap_or(false)
-    }
-
-    /// Takes the peer's unicast route at the prefix away, if there is one, validates the related flow routes anew,
-    /// and tells whether one has another validity than before. None where there is no such route.
-    fn take_unicast<L: Ledger>(
         &mut self,
         peer: u16,
         prefix: &Prefix,
@@ -205,6 +196,7 @@ impl<'a> Table<'a> {
         ensures removed { self.new ≡ without_path peer prefix.now self.old }
         ensures held { is_some result ≡ has_path peer prefix.now self.old.unicast }
         ensures told { (unwrap_or result false ≡ false) ↔ ValiditiesStay self.old self.new }
+        ensures same { unwrap_or result false ≡ false → AdmitsSame self.old self.new }
         ensures later { steps.old ≤ steps.new }
         ensures steps { steps.new ≤ steps.old + related_count prefix.now self.old.flows }
         ensures idle { self.new ≡ self.old → steps.new ≡ steps.old }
@@ -254,7 +246,8 @@ impl<'a> Table<'a> {
         let mut marked = false;
         let mut from = None;
         while let Some(prefix) = self.next_held(peer, from) {
-            marked |= self.withdraw_unicast_telling(peer, &prefix, steps);
+            let told = self.withdraw_unicast_telling(peer, &prefix, steps);
+            marked |= told.unwrap_or(false);
             from = Some(prefix);
         }
         marked
@@ -296,6 +289,24 @@ impl<'a> Table<'a> {
         ensures rules { AllByRecursion (IsRuleOf family) (admitted family self.now) }
     {
         self.flows.admitted(family)
+    }
+
+    /// Of the admitted rules of the family those with this destination, or those without one, in order.
+    ///
+    /// # Errors
+    ///
+    /// `Memory` where the machine refused memory.
+    pub fn admitted_to(
+        &self,
+        family: Family,
+        destination: Option<Prefix>,
+    ) -> Result<Vec<LentRule<'_>>, Memory>
+        ensures list { IfOk result (λ list. map shown_lent list.items
+            ≡ map listed (filter (λ r. is_to family destination r.rule) (admitted family self.now))) }
+        ensures admitted { (f : Family) → IsAdmitted f self.now (admitted f self.now) }
+        ensures rules { (f : Family) → AllByRecursion (IsRuleOf f) (admitted f self.now) }
+    {
+        self.flows.admitted_to(family, destination)
     }
 
     /// All held flow routes of the family with their validity, in the order of rules, then by peer.

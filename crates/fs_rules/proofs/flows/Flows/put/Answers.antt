@@ -3,7 +3,7 @@ use Rattle.fs_base.specs.declared.prefix.Family.TheVariants.{V4, V6}
 use Rattle.fs_rules.specs.Groups.{IsSound}
 use Rattle.fs_rules.specs.Group.{has_key, put_kept}
 use Rattle.fs_rules.proofs.Apart.{ok_weaker}
-use Rattle.fs_rules.proofs.BothFamilies.{each_now, put_first, put_second, held_first, held_second, sorted_first, sorted_second}
+use Rattle.fs_rules.proofs.BothFamilies.{rules_each, each_now, put_first, put_second, held_first, held_second, sorted_first, sorted_second}
 use Rattle.fs_rules.proofs.Chosen.{ok_along}
 use Rattle.fs_rules.proofs.flows.Flows.put.Goals as goal
 
@@ -30,3 +30,9 @@ returns-in-V4-clause-fresh c = ok_along (λ (is_new : Bool). is_new) _ _ c.put.r
 
 pub returns-in-V6-clause-fresh : goal.returns-in-V6-clause-fresh
 returns-in-V6-clause-fresh c = ok_along (λ (is_new : Bool). is_new) _ _ c.put-in-V6.result (ap not (held_second c.args.k.route.rule c.args.k.route.peer c.self.inside.v4 c.self.inside.v6 c.put-in-V6.ensures.rule (sym c.family.ensures ∙ c.in-V6.is) c.self.invariant ∙ ap (has_key c.args.k.route.rule c.args.k.route.peer) c.self.view_is)) c.put-in-V6.ensures.fresh
+
+pub returns-in-V4-clause-rules : goal.returns-in-V4-clause-rules
+returns-in-V4-clause-rules c = rules_each c.self.inside.v4 c.self.inside.v6 c.args.self.now c.self.view_is c.self.invariant
+
+pub returns-in-V6-clause-rules : goal.returns-in-V6-clause-rules
+returns-in-V6-clause-rules c = rules_each c.self.inside.v4 c.self.inside.v6 c.args.self.now c.self.view_is c.self.invariant

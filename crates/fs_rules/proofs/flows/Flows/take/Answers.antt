@@ -2,7 +2,7 @@ use Rattle.std.proofs.Common.{◌++◌, sym, ap, ◌∙◌, filter, not}
 use Rattle.std.specs.List.{list_any}
 use Rattle.fs_base.specs.declared.prefix.Family.TheVariants.{V4, V6}
 use Rattle.fs_rules.specs.Table.{is_key}
-use Rattle.fs_rules.proofs.BothFamilies.{rules_of, filtered, take_first, take_second, held_first, held_second, sorted_first, sorted_second}
+use Rattle.fs_rules.proofs.BothFamilies.{rules_each, rules_of, filtered, take_first, take_second, held_first, held_second, sorted_first, sorted_second}
 use Rattle.fs_rules.proofs.flows.Flows.take.Goals as goal
 
 pub take-requires-clause-sorted : goal.take-requires-clause-sorted
@@ -34,3 +34,9 @@ returns-in-V6-clause-taken c = ap (λ ks. c.self.inside.v4 ++ ks) c.take-in-V6.e
 
 pub returns-in-V6-clause-held : goal.returns-in-V6-clause-held
 returns-in-V6-clause-held c = c.take-in-V6.ensures.held ∙ held_second c.args.rule.now c.args.peer c.self.inside.v4 c.self.inside.v6 c.take-in-V6.ensures.rule (sym c.family.ensures ∙ c.in-V6.is) c.self.invariant ∙ ap (list_any (λ k. is_key c.args.rule.now c.args.peer k.route)) c.self.view_is
+
+pub returns-in-V4-clause-rules : goal.returns-in-V4-clause-rules
+returns-in-V4-clause-rules c = rules_each c.self.inside.v4 c.self.inside.v6 c.args.self.now c.self.view_is c.self.invariant
+
+pub returns-in-V6-clause-rules : goal.returns-in-V6-clause-rules
+returns-in-V6-clause-rules c = rules_each c.self.inside.v4 c.self.inside.v6 c.args.self.now c.self.view_is c.self.invariant

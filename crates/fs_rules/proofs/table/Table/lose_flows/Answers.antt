@@ -2,7 +2,7 @@ use Rattle.std.proofs.Common.{ap, sym, ◌∙◌, not, ◌==◌, arith}
 use Rattle.std.proofs.lemmas.Bool.Decides.{nat_tests}
 use Rattle.fs_rules.specs.Table.{without_peer_unicast, without_peer_flows}
 use Rattle.fs_rules.specs.Group.{routes_of}
-use Rattle.fs_rules.proofs.Changes.{keeps-filter, routes-filter}
+use Rattle.fs_rules.proofs.Changed.{keeps-filter, routes-filter}
 use Rattle.fs_rules.proofs.Chosen.{flows_changed}
 use Rattle.fs_rules.proofs.Counting.{counted_lost, with_same_flows}
 use Rattle.fs_rules.proofs.table.Table.lose_flows.Goals as goal

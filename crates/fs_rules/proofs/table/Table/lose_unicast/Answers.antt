@@ -13,14 +13,14 @@ loop-prefix-init g c = record {
 }
 
 pub loop-prefix-smaller : goal.loop-prefix-smaller
-loop-prefix-smaller g c = losing_shorter c.args.peer c.loop-prefix.self c.withdraw_unicast_telling-marked.new.self c.in-Some.prefix (sym (from_start c.args.peer c.loop-prefix.from c.loop-prefix.self.unicast c.loop-prefix.invariant.passed) ∙ sym c.next_held.ensures.first ∙ c.in-Some.is) c.withdraw_unicast_telling-marked.ensures.removed
+loop-prefix-smaller g c = losing_shorter c.args.peer c.loop-prefix.self c.withdraw_unicast_telling-told.new.self c.in-Some.prefix (sym (from_start c.args.peer c.loop-prefix.from c.loop-prefix.self.unicast c.loop-prefix.invariant.passed) ∙ sym c.next_held.ensures.first ∙ c.in-Some.is) c.withdraw_unicast_telling-told.ensures.removed
 
 pub loop-prefix-preserved : goal.loop-prefix-preserved
 loop-prefix-preserved g c = record {
-  losing = losing_more c.args.peer c.args.self.now c.loop-prefix.self c.withdraw_unicast_telling-marked.new.self c.args.steps.now c.loop-prefix.steps c.withdraw_unicast_telling-marked.new.steps c.in-Some.prefix c.loop-prefix.invariant.losing found c.withdraw_unicast_telling-marked.ensures.removed c.withdraw_unicast_telling-marked.ensures.later c.withdraw_unicast_telling-marked.ensures.steps;
-  passed = passed_more c.args.peer c.loop-prefix.self c.withdraw_unicast_telling-marked.new.self c.in-Some.prefix c.next_held.ensures.ordered found c.withdraw_unicast_telling-marked.ensures.removed;
-  told = λ h. let both = or_false c.loop-prefix.marked c.withdraw_unicast_telling-marked.result h in
-      validities_then c.args.self.now c.loop-prefix.self c.withdraw_unicast_telling-marked.new.self c.loop-prefix.invariant.losing.flows (c.loop-prefix.invariant.told both.0) (c.withdraw_unicast_telling-marked.ensures.told.0 both.1);
+  losing = losing_more c.args.peer c.args.self.now c.loop-prefix.self c.withdraw_unicast_telling-told.new.self c.args.steps.now c.loop-prefix.steps c.withdraw_unicast_telling-told.new.steps c.in-Some.prefix c.loop-prefix.invariant.losing found c.withdraw_unicast_telling-told.ensures.removed c.withdraw_unicast_telling-told.ensures.later c.withdraw_unicast_telling-told.ensures.steps;
+  passed = passed_more c.args.peer c.loop-prefix.self c.withdraw_unicast_telling-told.new.self c.in-Some.prefix c.next_held.ensures.ordered found c.withdraw_unicast_telling-told.ensures.removed;
+  told = λ h. let both = or_false c.loop-prefix.marked c.unwrap_or-marked.result h in
+      validities_then c.args.self.now c.loop-prefix.self c.withdraw_unicast_telling-told.new.self c.loop-prefix.invariant.losing.flows (c.loop-prefix.invariant.told both.0) (c.withdraw_unicast_telling-told.ensures.told.0 (sym c.unwrap_or-marked.ensures ∙ both.1));
 } where
   found : held_by c.loop-prefix.self.unicast c.args.peer None ≡ Some c.in-Some.prefix
   found = sym (from_start c.args.peer c.loop-prefix.from c.loop-prefix.self.unicast c.loop-prefix.invariant.passed) ∙ sym c.next_held.ensures.first ∙ c.in-Some.is

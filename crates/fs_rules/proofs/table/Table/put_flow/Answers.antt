@@ -3,9 +3,11 @@ use Rattle.fs_base.specs.declared.path.Path.{Path}
 use Rattle.fs_rules.specs.Kept.{Kept}
 use Rattle.fs_rules.specs.Table.{put_route, is_key, with_flow}
 use Rattle.fs_rules.specs.Group.{routes_of, put_kept, has_key}
-use Rattle.fs_rules.proofs.Changes.{keeps-put, routes-put, any-routes}
+use Rattle.fs_rules.proofs.Changed.{keeps-put, routes-put, any-routes}
 use Rattle.fs_rules.proofs.Chosen.{flows_changed}
 use Rattle.fs_rules.proofs.Counting.{counted_as, counted_put_flow}
+use Rattle.fs_nlri.specs.Rule.{IsRule}
+use Rattle.fs_rules.proofs.Elsewhere.{put_elsewhere}
 use Rattle.fs_rules.proofs.table.Table.put_flow.Goals as goal
 
 pub invariant_of-self-2 : goal.invariant_of-self-2
@@ -22,3 +24,8 @@ pub returns-clause-ok : goal.returns-clause-ok
 returns-clause-ok g c = flows_changed (put_route _) c.self.inside.config.now c.self.inside.unicast c.self.inside.flows c.put.new.self _ c.self.view_is
     (ap routes_of (subst (λ (k : Kept). c.put.new.self ≡ put_kept k c.self.inside.flows) c.in_ok-k.ensures c.in_ok-is_new.ensures.ok) ∙ routes-put _ c.self.inside.flows)
     ∙ ap₂ (λ (path : Path) (actions : List (List ℕ)). with_flow c.args.peer c.args.rule path actions c.args.self.now) c.in_ok-path.ensures.path c.in_ok-path.ensures.actions
+
+pub returns-clause-elsewhere : goal.returns-clause-elsewhere
+returns-clause-elsewhere g c = λ touched t. put_elsewhere touched c.self.inside.config.now c.self.inside.unicast _ c.self.inside.flows (routes_of c.put.new.self) c.args.self.now c.self.view_is
+    (ap routes_of (subst (λ (k : Kept). c.put.new.self ≡ put_kept k c.self.inside.flows) c.in_ok-k.ensures c.in_ok-is_new.ensures.ok) ∙ routes-put _ c.self.inside.flows)
+    (subst (λ (k : Kept). IsRule k.route.rule) c.in_ok-k.ensures c.put.ensures.rule) c.put.ensures.rules t

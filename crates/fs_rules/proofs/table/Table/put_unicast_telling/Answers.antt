@@ -3,7 +3,7 @@ use Rattle.std.specs.BTreeMap.{insert_entry}
 use Rattle.fs_unicast.specs.Unicast.{place_cmp}
 use Rattle.fs_rules.specs.Table.{Held}
 use Rattle.fs_rules.specs.Group.{routes_of}
-use Rattle.fs_rules.proofs.Changes.{routes_mended}
+use Rattle.fs_rules.proofs.Changed.{routes_mended}
 use Rattle.fs_rules.proofs.Chosen.{held_of, unicast_changed, keeps_after, agree_put}
 use Rattle.fs_rules.proofs.Counting.{counted_as, counted_put}
 use Rattle.fs_rules.proofs.Validities.{told_validities, validities_admit}

@@ -1,9 +1,10 @@
 use Rattle.std.proofs.Common.{ap, ◌∙◌, not}
 use Rattle.fs_rules.specs.Table.{is_key, without_route, has_route}
 use Rattle.fs_rules.specs.Group.{routes_of}
-use Rattle.fs_rules.proofs.Changes.{keeps-filter, routes-filter, any-routes}
+use Rattle.fs_rules.proofs.Changed.{keeps-filter, routes-filter, any-routes}
 use Rattle.fs_rules.proofs.Chosen.{flows_changed}
 use Rattle.fs_rules.proofs.Counting.{counted_without_flow}
+use Rattle.fs_rules.proofs.Elsewhere.{taken_elsewhere}
 use Rattle.fs_rules.proofs.table.Table.withdraw_flow.Goals as goal
 
 pub invariant_of-self : goal.invariant_of-self
@@ -19,3 +20,8 @@ returns-clause-removed g c = flows_changed (without_route c.args.rule.now.rule c
 
 pub returns-clause-held : goal.returns-clause-held
 returns-clause-held g c = c.take-held.ensures.held ∙ any-routes (is_key c.args.rule.now.rule c.args.peer) c.self.inside.flows ∙ ap (λ h. has_route c.args.rule.now.rule c.args.peer h.flows) c.self.view_is
+
+pub returns-clause-elsewhere : goal.returns-clause-elsewhere
+returns-clause-elsewhere g c = λ touched t. taken_elsewhere touched c.self.inside.config.now c.self.inside.unicast c.args.rule.now.rule c.args.peer c.self.inside.flows (routes_of c.take-held.new.self) c.args.self.now c.self.view_is
+    (ap routes_of c.take-held.ensures.taken ∙ routes-filter (λ r. not (is_key c.args.rule.now.rule c.args.peer r)) c.self.inside.flows)
+    c.take-held.ensures.rule c.take-held.ensures.rules t

@@ -1,0 +1,10 @@
+use Rattle.std.proofs.Common.{sym, subst}
+use Rattle.std.specs.BTreeMap.{is_at}
+use Rattle.fs_base.specs.Prefix.{prefix_cmp}
+use Rattle.fs_rules.specs.Group.{AreSorted, routes_of}
+use Rattle.fs_rules.proofs.Puts.{each_lookup}
+use Rattle.fs_rules.proofs.reading.push_admitted_to.Goals as goal
+
+pub push_admitted-requires-in-Some-get-clause-sorted : goal.push_admitted-requires-in-Some-get-clause-sorted
+push_admitted-requires-in-Some-get-clause-sorted c = subst (λ ks. AreSorted (routes_of ks)) (sym c.blocks-in-Some-get.ensures.routes)
+    (each_lookup (λ ks. AreSorted (routes_of ks)) (is_at (prefix_cmp c.of.result)) c.args.groups.now.entries c.in-Some-get.group.now c.requires.groups (sym c.in-Some-get.ensures.value))
