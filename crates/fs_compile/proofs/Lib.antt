@@ -18,3 +18,8 @@ pub mod Widths
 pub mod Numbering
 pub mod Marking
 pub mod Sieving
+pub mod Splicing
+pub mod Stretching
+pub mod Filtering
+pub mod Mending
+pub mod Mended

@@ -3,6 +3,7 @@ use Rattle.std.proofs.Common.{◌≡◌, ℕ, zero, suc, ◌+◌, ◌-◌, ◌^�
 use Rattle.std.specs.List.{AllByRecursion}
 use Rattle.std.specs.Ordering.{ordering_then}
 use Rattle.std.specs.Cmp.{nat_cmp_is}
+use Rattle.std.proofs.Math.Pow.{pow_mono}
 use Rattle.std.proofs.lemmas.Bool.{cases_lt, eqb-true, ltb-true}
 use Rattle.fs_base.specs.declared.prefix.Family.{Family}
 use Rattle.fs_base.specs.Bits.{width_of, afi_of}
@@ -25,7 +26,7 @@ not_greater Less p e = refl
 not_greater Equal p e = refl
 not_greater Greater p e = cc
 
-less_from : (x y : ℕ) → nat_cmp x y ≡ Less → x < y
+pub less_from : (x y : ℕ) → nat_cmp x y ≡ Less → x < y
 less_from x y e = at (nat_lt x y) refl e where
   at : (b : Bool) → nat_lt x y ≡ b → cond b Less (cond (x == y) Equal Greater) ≡ Less → x < y
   at true l g = ltb-true x y l
@@ -34,7 +35,7 @@ less_from x y e = at (nat_lt x y) refl e where
     by true f = cc
     by false f = cc
 
-equal_from : (x y : ℕ) → nat_cmp x y ≡ Equal → x ≡ y
+pub equal_from : (x y : ℕ) → nat_cmp x y ≡ Equal → x ≡ y
 equal_from x y e = at (nat_lt x y) e where
   at : (b : Bool) → cond b Less (cond (x == y) Equal Greater) ≡ Equal → x ≡ y
   at true g = cc
@@ -69,9 +70,9 @@ in_order p q f e = by_last (nat_cmp (last_shown p) (last_shown q)) refl (subst (
       record { last = omega (arith, l); longer = λ same. le_from q.2 p.2 g }
   by_last Greater c g = absurd (true≢false (sym g))
 
--- of two blocks the later begins no later if it begins before the earlier ends
-fits : (w m a n b : ℕ) → IsBlock w m a → IsBlock w n b → a + 2 ^ (w - m) ≤ b + 2 ^ (w - n) → (a + 2 ^ (w - m) ≡ b + 2 ^ (w - n) → n ≤ m) → b < a + 2 ^ (w - m) → b ≤ a
-fits w m a n b p q last longer meets = at (cases_lt m n) where
+-- of two blocks that of which ends later begins no later, if it begins before the other ends
+fits : (w m a n b : ℕ) → IsBlock w m a → IsBlock w n b → a + 2 ^ (w - m) < b + 2 ^ (w - n) → b < a + 2 ^ (w - m) → b ≤ a
+fits w m a n b p q last meets = at (cases_lt m n) where
   some : 0 < 2 ^ (w - m)
   some = pow_pos (w - m)
 
@@ -82,10 +83,10 @@ fits w m a n b p q last longer meets = at (cases_lt m n) where
   at (inr le) = (block_inside w n b m a q p le (block_meeting w n b m a q p le meets low)).0
   at (inl less) =
       let inner : (a ≤ b) × (b + 2 ^ (w - n) ≤ a + 2 ^ (w - m)) = block_inside w m a n b p q (omega (arith, less)) (block_meeting w m a n b p q (omega (arith, less)) low meets) in
-      let same : a + 2 ^ (w - m) ≡ b + 2 ^ (w - n) = omega (arith, inner.1, last) in
-      let over : n ≤ m = longer same in
-      omega (arith, over, less)
+      let high : b + 2 ^ (w - n) ≤ a + 2 ^ (w - m) = inner.1 in
+      absurd (omega (arith, high, last))
 
+-- two destinations, one behind the other
 abbrev pub Fits : ℕ × ℕ → ℕ × ℕ → Type 0
 Fits p q = (p.1 ≤ q.1) × (q.0 ≤ p.1 → q.0 ≤ p.0)
 
@@ -96,8 +97,65 @@ none_some x e = cc
 destinations_le : (a b : Ruled) → IsRule a → IsRule b → a.family ≡ b.family → rule_cmp a b ≡ Less → is_le (destination_cmp (destination_of a) (destination_of b)) ≡ true
 destinations_le a b h k f less = not_greater (destination_cmp (destination_of a) (destination_of b)) (rule_cmp a b) (sym (destinations_first a b h k f) ∙ less)
 
+-- the first address of a rule's destination is no later than the last
+pub span_proper : (a : Ruled) (p : ℕ × ℕ) → IsRule a → span_of a ≡ Some p → p.0 ≤ p.1
+span_proper a p h e = subst (λ x. x.0 ≤ x.1) (sym from.span) (let some : 0 < 2 ^ (width_of from.d.0 - from.d.2) = pow_pos (width_of from.d.0 - from.d.2) in omega (arith, some)) where
+  from : HasDestination a p
+  from = from_span a p e
+
+-- the destinations of two rules, of which the later ends no earlier, and begins no later where both end alike
+pub spans_fit : (a b : Ruled) (p q : ℕ × ℕ) → IsRule a → IsRule b → a.family ≡ b.family → span_of a ≡ Some p → span_of b ≡ Some q → p.1 ≤ q.1 → (p.1 ≡ q.1 → q.0 ≤ p.0) → Fits p q
+spans_fit a b p q h k f e g last first = (last, λ meets. at (cases_lt p.1 q.1) meets) where
+  from : HasDestination a p
+  from = from_span a p e
+
+  to : HasDestination b q
+  to = from_span b q g
+
+  w : ℕ
+  w = width_of from.d.0
+
+  same : from.d.0 ≡ to.d.0
+  same = family_of_destination a from.d h from.is ∙ f ∙ sym (family_of_destination b to.d k to.is)
+
+  made_from : IsMade (Some from.d)
+  made_from = made_destination a from.d h from.is
+
+  made_to : IsMade (Some to.d)
+  made_to = made_destination b to.d k to.is
+
+  block_from : IsBlock w from.d.2 from.d.1
+  block_from = block_of w from.d.2 from.d.1 made_from.0 made_from.1
+
+  block_to : IsBlock w to.d.2 to.d.1
+  block_to = subst (λ x. IsBlock (width_of x) to.d.2 to.d.1) (sym same) (block_of (width_of to.d.0) to.d.2 to.d.1 made_to.0 made_to.1)
+
+  first_from : p.0 ≡ from.d.1
+  first_from = ap (λ (x : ℕ × ℕ). x.0) from.span
+
+  first_to : q.0 ≡ to.d.1
+  first_to = ap (λ (x : ℕ × ℕ). x.0) to.span
+
+  last_from : p.1 ≡ from.d.1 + 2 ^ (w - from.d.2) - 1
+  last_from = ap (λ (x : ℕ × ℕ). x.1) from.span
+
+  last_to : q.1 ≡ to.d.1 + 2 ^ (w - to.d.2) - 1
+  last_to = ap (λ (x : ℕ × ℕ). x.1) to.span ∙ ap (λ x. to.d.1 + 2 ^ (width_of x - to.d.2) - 1) (sym same)
+
+  some_from : 0 < 2 ^ (w - from.d.2)
+  some_from = pow_pos (w - from.d.2)
+
+  some_to : 0 < 2 ^ (w - to.d.2)
+  some_to = pow_pos (w - to.d.2)
+
+  at : (p.1 < q.1) ⊎ (q.1 ≤ p.1) → q.0 ≤ p.1 → q.0 ≤ p.0
+  at (inr le) meets = first (omega (arith, le, last))
+  at (inl less) meets =
+      let begins : to.d.1 ≤ from.d.1 = fits w from.d.2 from.d.1 to.d.2 to.d.1 block_from block_to (omega (arith, less, last_from, last_to, some_from, some_to)) (omega (arith, meets, first_to, last_from, some_from)) in
+      omega (arith, begins, first_from, first_to)
+
 pair_fits : (a b : Ruled) (p q : ℕ × ℕ) → IsRule a → IsRule b → a.family ≡ b.family → rule_cmp a b ≡ Less → span_of a ≡ Some p → span_of b ≡ Some q → Fits p q
-pair_fits a b p q h k f less e g = subst (λ x. Fits x q) (sym from.span) (subst (Fits (from.d.1, last_shown from.d)) (sym to.span) (ends, begins)) where
+pair_fits a b p q h k f less e g = spans_fit a b p q h k f e g (subst (λ (x : ℕ × ℕ). x.1 ≤ q.1) (sym from.span) (subst (λ (x : ℕ × ℕ). last_shown from.d ≤ x.1) (sym to.span) order.last)) longer where
   from : HasDestination a p
   from = from_span a p e
 
@@ -110,42 +168,16 @@ pair_fits a b p q h k f less e g = subst (λ x. Fits x q) (sym from.span) (subst
   order : InOrder from.d to.d
   order = in_order from.d to.d same (sym (ap is_le (ap₂ destination_cmp from.is to.is)) ∙ destinations_le a b h k f less)
 
-  ends : last_shown from.d ≤ last_shown to.d
-  ends = order.last
-
-  made_from : IsMade (Some from.d)
-  made_from = made_destination a from.d h from.is
-
-  made_to : IsMade (Some to.d)
-  made_to = made_destination b to.d k to.is
-
-  block_from : IsBlock (width_of from.d.0) from.d.2 from.d.1
-  block_from = block_of (width_of from.d.0) from.d.2 from.d.1 made_from.0 made_from.1
-
-  block_to : IsBlock (width_of from.d.0) to.d.2 to.d.1
-  block_to = subst (λ x. IsBlock (width_of x) to.d.2 to.d.1) (sym same) (block_of (width_of to.d.0) to.d.2 to.d.1 made_to.0 made_to.1)
-
-  some_from : 0 < 2 ^ (width_of from.d.0 - from.d.2)
-  some_from = pow_pos (width_of from.d.0 - from.d.2)
-
-  some_to : 0 < 2 ^ (width_of from.d.0 - to.d.2)
-  some_to = pow_pos (width_of from.d.0 - to.d.2)
-
-  last_to : last_shown to.d ≡ to.d.1 + 2 ^ (width_of from.d.0 - to.d.2) - 1
-  last_to = ap (λ x. to.d.1 + 2 ^ (width_of x - to.d.2) - 1) (sym same)
-
-  high : from.d.1 + 2 ^ (width_of from.d.0 - from.d.2) ≤ to.d.1 + 2 ^ (width_of from.d.0 - to.d.2)
-  high = let o : from.d.1 + 2 ^ (width_of from.d.0 - from.d.2) - 1 ≤ last_shown to.d = order.last in omega (arith, o, last_to, some_from, some_to)
-
-  longer : from.d.1 + 2 ^ (width_of from.d.0 - from.d.2) ≡ to.d.1 + 2 ^ (width_of from.d.0 - to.d.2) → to.d.2 ≤ from.d.2
-  longer one = order.longer (equal one) where
-    equal : from.d.1 + 2 ^ (width_of from.d.0 - from.d.2) ≡ to.d.1 + 2 ^ (width_of from.d.0 - to.d.2) → from.d.1 + 2 ^ (width_of from.d.0 - from.d.2) - 1 ≡ last_shown to.d
-    equal one = ap (λ x. x - 1) one ∙ sym last_to
-
-  begins : to.d.1 ≤ last_shown from.d → to.d.1 ≤ from.d.1
-  begins meets =
-      let m : to.d.1 ≤ from.d.1 + 2 ^ (width_of from.d.0 - from.d.2) - 1 = meets in
-      fits (width_of from.d.0) from.d.2 from.d.1 to.d.2 to.d.1 block_from block_to high longer (omega (arith, m, some_from))
+  longer : p.1 ≡ q.1 → q.0 ≤ p.0
+  longer ends =
+      let alike : last_shown from.d ≡ last_shown to.d = sym (ap (λ (x : ℕ × ℕ). x.1) from.span) ∙ ends ∙ ap (λ (x : ℕ × ℕ). x.1) to.span in
+      let short : to.d.2 ≤ from.d.2 = order.longer alike in
+      let low : 2 ^ (width_of to.d.0 - from.d.2) ≤ 2 ^ (width_of to.d.0 - to.d.2) = pow_mono (omega (arith, short)) in
+      let some : 0 < 2 ^ (width_of to.d.0 - from.d.2) = pow_pos (width_of to.d.0 - from.d.2) in
+      let own : last_shown from.d ≡ from.d.1 + 2 ^ (width_of to.d.0 - from.d.2) - 1 = ap (λ x. from.d.1 + 2 ^ (width_of x - from.d.2) - 1) same in
+      let first_from : p.0 ≡ from.d.1 = ap (λ (x : ℕ × ℕ). x.0) from.span in
+      let first_to : q.0 ≡ to.d.1 = ap (λ (x : ℕ × ℕ). x.0) to.span in
+      omega (arith, alike, low, some, own, first_from, first_to)
 
 pair_bare : (a b : Ruled) → IsRule a → IsRule b → a.family ≡ b.family → rule_cmp a b ≡ Less → span_of a ≡ None → span_of b ≡ None
 pair_bare a b h k f less e = at (destination_of a) (destination_of b) e (destinations_le a b h k f less) where

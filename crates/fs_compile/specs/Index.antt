@@ -43,11 +43,15 @@ pub record IsOfFamily (family : Family) (r : Listed) : Type 0 where
   pub same : r.rule.family ≡ family
   pub rule : IsRule r.rule
 
+-- the first and the last address of the bucket of a rule
+abbrev pub span_at : Buckets → ℕ → ℕ × ℕ
+span_at b k =
+    ((node_at (nodes_in b.nodes) (get_or b.homes.items k 0)).first, get_or (numbers_in b.lasts) (get_or b.homes.items k 0) 0)
+
 -- each of the first rules has the destination of its bucket, and the others have none
 pub record AreHoused (spans : List (Option (ℕ × ℕ))) (b : Buckets) : Type 0 where
   pub homed : (k : ℕ) → k < length b.homes.items
-      → get_or spans k None
-      ≡ Some ((node_at (nodes_in b.nodes) (get_or b.homes.items k 0)).first, get_or (numbers_in b.lasts) (get_or b.homes.items k 0) 0)
+      → get_or spans k None ≡ Some (span_at b k)
   pub bare : (k : ℕ) → length b.homes.items ≤ k → get_or spans k None ≡ None
 
 -- the index stands for these rules of the family

@@ -14,5 +14,6 @@ pub mod Filters
 pub mod Runs
 pub mod Reach
 pub mod Index
+pub mod Mending
 pub mod Matches
 pub mod Matcher

@@ -1,7 +1,22 @@
 //! The destinations of a family's rules, in order.
 
+ghost use Rattle.std.specs.Prelude.{◌≡◌, ◌<◌, ◌≤◌, ◌+◌, ◌^◌, ℕ, IfOk, IsFalse, IsTrue, List, None, Option, get_or, length};
+ghost use Rattle.std.specs.declared.cmp.Ordering.TheVariants.{Less, Equal, Greater};
+ghost use Rattle.std.specs.List.{AllByRecursion};
+ghost use Rattle.fs_base.specs.Bits.{width_of};
+ghost use Rattle.fs_rules.specs.Lent.{all_admitted};
+ghost use Rattle.fs_compile.specs.Addresses.{nodes_in, numbers_in};
+ghost use Rattle.fs_compile.specs.Index.{AreHoused, IsOfFamily, span_at, spans_of};
+ghost use Rattle.fs_compile.specs.Mending.{AreAll, AreNarrow, AreProper, IsLeft, IsPassed, Mends, bucket_span, span_cmp};
+ghost use Rattle.fs_compile.specs.Runs.{AreNesting, RunsOf};
+ghost use Rattle.fs_compile.specs.Search.{AreSound};
+
 use crate::addresses::Addresses;
 use crate::nodes::Nodes;
+use crate::runs::{Runs, mended_runs, nodes_of, parents_of, runs_of};
+use fs_base::{Family, Memory};
+use fs_rules::LentRule;
+use std::alloc::Global;
 
 /// The buckets of a family's rules: the runs of rules that have one destination. Buckets are in the order of their
 /// destinations, so that of nested ones the longer stands first and last addresses rise.
@@ -13,4 +28,138 @@ pub(crate) struct Buckets {
     pub(crate) nodes: Nodes,
     /// The bucket of each rule that has one.
     pub(crate) homes: Vec<u32>,
+}
+
+impl Buckets {
+    /// The numbers from which on and before which the rules stand that have a destination of these addresses.
+    pub(crate) fn stretch(&self, first: u128, last: u128) -> (usize, usize)
+        requires sound { (count : ℕ) × AreSound self.now count }
+        requires proper { AreProper self.now }
+        ensures ordered { result.0 ≤ result.1 }
+        ensures within { result.1 ≤ length self.now.homes.items }
+        ensures before { (k : ℕ) → k < result.0 → span_cmp (span_at self.now k) (first, last) ≡ Less }
+        ensures at { (k : ℕ)
+            → result.0 ≤ k
+            → k < result.1
+            → span_cmp (span_at self.now k) (first, last) ≡ Equal }
+        ensures behind { (k : ℕ)
+            → result.1 ≤ k
+            → k < length self.now.homes.items
+            → span_cmp (span_at self.now k) (first, last) ≡ Greater }
+    {
+        let from = self.passed(first, last, false);
+        let to = self.passed(first, last, true);
+        (
+            self.nodes.at(from).start as usize,
+            self.nodes.at(to).start as usize,
+        )
+    }
+
+    /// How many buckets stand before these addresses, with those that have them or without.
+    fn passed(&self, first: u128, last: u128, same: bool) -> usize
+        requires sound { (count : ℕ) × AreSound self.now count }
+        requires proper { AreProper self.now }
+        ensures within { result ≤ length (numbers_in self.now.lasts) }
+        ensures before { (b : ℕ) → b < result → IsPassed (bucket_span self.now b) (first, last) same }
+        ensures behind { (k : ℕ)
+            → k < length self.now.homes.items
+            → result ≤ get_or self.now.homes.items k 0
+            → IsLeft (span_at self.now k) (first, last) same }
+    {
+        let mut bucket = self.lasts.find(last);
+        while bucket < self.lasts.len() && self.passes(bucket, first, last, same) {
+            bucket += 1;
+        }
+        bucket
+    }
+
+    /// Whether a bucket ends with the address and stands before those that begin with the other, or begins with it.
+    fn passes(&self, bucket: usize, first: u128, last: u128, same: bool) -> bool
+        requires bound { bucket < length (numbers_in self.now.lasts) }
+        requires size { length (nodes_in self.now.nodes) ≡ length (numbers_in self.now.lasts) + 1 }
+        ensures yes { IsTrue result → IsPassed (bucket_span self.now bucket) (first, last) same }
+        ensures no { IsFalse result
+            → last ≤ get_or (numbers_in self.now.lasts) bucket 0
+            → IsLeft (bucket_span self.now bucket) (first, last) same }
+    {
+        let begins = self.nodes.at(bucket).first;
+        self.lasts.at(bucket) == last && (begins > first || same && begins == first)
+    }
+}
+
+/// The buckets of the rules. What is reckoned on the way is given back before the rules are compiled.
+pub(crate) fn buckets_of(
+    alloc: Global,
+    family: Family,
+    list: &[LentRule<'_>],
+) -> Result<Buckets, Memory>
+    requires few { length list.now < 2 ^ 32 }
+    requires each { AllByRecursion (IsOfFamily family) (all_admitted list.now) }
+    requires nesting { AreNesting (spans_of (all_admitted list.now)) }
+    ensures sound { IfOk result (λ buckets. AreSound buckets (length list.now)) }
+    ensures housed { IfOk result (AreHoused (spans_of (all_admitted list.now))) }
+{
+    buckets_with(alloc, family, runs_of(alloc, family, list)?)
+}
+
+/// These buckets with the rules of the list in the place of those from the number `from` on before `to`.
+pub(crate) fn mended_buckets(
+    alloc: Global,
+    family: Family,
+    old: &Buckets,
+    from: usize,
+    to: usize,
+    list: &[LentRule<'_>],
+) -> Result<Buckets, Memory>
+    requires sound { AreSound old.now (length old.now.homes.items) }
+    requires bounds { (from ≤ to) × (to ≤ length old.now.homes.items) }
+    requires fits { from + length list.now + length old.now.homes.items < 2 ^ 32 + to }
+    requires each { AreAll (spans_of (all_admitted list.now)) }
+    requires some { (spans : List (Option (ℕ × ℕ)))
+        × Mends old.now from to (spans_of (all_admitted list.now)) spans
+        × AreNarrow (width_of family) spans
+        × AreNesting spans }
+    ensures sound { IfOk result (λ buckets.
+        (count : ℕ)
+        → from + length list.now + length old.now.homes.items ≤ count + to
+        → AreSound buckets count) }
+    ensures housed { IfOk result (λ buckets.
+        (spans : List (Option (ℕ × ℕ)))
+        → Mends old.now from to (spans_of (all_admitted list.now)) spans
+        → AreNesting spans
+        → ((n : ℕ)
+        → n + to ≡ from + length list.now + length old.now.homes.items
+        → get_or spans n None ≡ None)
+        → AreHoused spans buckets) }
+{
+    buckets_with(
+        alloc,
+        family,
+        mended_runs(alloc, family, old, from, to, list)?,
+    )
+}
+
+/// The buckets of these runs.
+fn buckets_with(alloc: Global, family: Family, runs: Runs) -> Result<Buckets, Memory>
+    requires fits { length runs.homes.items < 2 ^ 32 }
+    requires some { (spans : List (Option (ℕ × ℕ)))
+        × RunsOf spans runs
+        × AreNarrow (width_of family) spans
+        × AreNesting spans }
+    ensures sound { IfOk result (λ buckets.
+        (count : ℕ) → length runs.homes.items ≤ count → AreSound buckets count) }
+    ensures housed { IfOk result (λ buckets.
+        (spans : List (Option (ℕ × ℕ)))
+        → RunsOf spans runs
+        → AreNesting spans
+        → get_or spans (length runs.homes.items) None ≡ None
+        → AreHoused spans buckets) }
+{
+    let parents = parents_of(alloc, &runs.firsts)?;
+    let nodes = nodes_of(alloc, family, &runs, &parents)?;
+    Ok(Buckets {
+        lasts: runs.lasts,
+        nodes,
+        homes: runs.homes,
+    })
 }

@@ -1,18 +1,22 @@
 //! The admitted rules of a table, compiled.
 
-ghost use Rattle.std.specs.Prelude.{◌≡◌, ◌≤◌, ◌+◌, IfOk, List, length};
+ghost use Rattle.std.specs.Prelude.{◌≡◌, ◌≤◌, ◌+◌, IfOk, List, OnOk, length};
+ghost use Rattle.std.specs.List.{AllByRecursion};
 ghost use Rattle.fs_base.specs.declared.prefix.Family.{Family};
-ghost use Rattle.fs_rules.specs.Lent.{Listed};
-ghost use Rattle.fs_compile.specs.Index.{IsIndexOf, actions_of};
+ghost use Rattle.fs_rules.specs.Changes.{Covers};
+ghost use Rattle.fs_rules.specs.Lent.{Listed, all_admitted};
+ghost use Rattle.fs_rules.specs.Table.{Held};
+ghost use Rattle.fs_compile.specs.Index.{IsIndexOf, IsOfFamily, actions_of, spans_of};
+ghost use Rattle.fs_compile.specs.Mending.{AreOwn, AreTo, put_in, replaced, target_of};
 ghost use Rattle.fs_compile.specs.Matcher.{StandsForLists, WalksByNext, admitted_in, next_from};
 ghost use Rattle.fs_compile.specs.Matches.{AreMatchesOf};
 ghost use Rattle.fs_compile.specs.Reach.{reaching};
 
 use crate::index::Index;
 use crate::matches::Matches;
-use fs_base::{Family, Memory, Steps};
+use fs_base::{Family, Memory, Prefix, Steps};
 use fs_packet::View;
-use fs_rules::{SharedActions, Table};
+use fs_rules::{Changes, LentRule, SharedActions, Table};
 use std::alloc::Global;
 use std::sync::ledger::Ledger;
 
@@ -30,12 +34,67 @@ impl Compiled {
     ///
     /// `Memory` where the machine refuses memory, and where a family has 2^32 admitted rules or more.
     pub fn build(alloc: Global, table: &Table<'_>) -> Result<Compiled, Memory>
-        ensures { IfOk result (StandsForLists (admitted_in table.now)) }
+        ensures stands { IfOk result (StandsForLists (admitted_in table.now)) }
+        ensures own { IfOk result (λ _. AreOwn (admitted_in table.now)) }
     {
         Ok(Compiled {
             v4: admitted_index(alloc, table, Family::V4)?,
             v6: admitted_index(alloc, table, Family::V6)?,
         })
+    }
+
+    /// Compiles anew the rules that the table admits at the places that were noted, or all where all may have changed.
+    /// What it holds then is what `build` makes. Behind an error it is of no use.
+    ///
+    /// # Errors
+    ///
+    /// `Memory` as for `build`.
+    pub fn mend(
+        &mut self,
+        alloc: Global,
+        table: &Table<'_>,
+        changes: &Changes,
+    ) -> Result<(), Memory>
+        requires { (base : Held)
+            × StandsForLists (admitted_in base) self.old
+            × AreOwn (admitted_in base)
+            × Covers base changes.now table.now }
+        ensures stands { OnOk result (StandsForLists (admitted_in table.now) self.new) }
+        ensures own { OnOk result (AreOwn (admitted_in table.now)) }
+    {
+        if changes.are_all() {
+            *self = Compiled::build(alloc, table)?;
+            return Ok(());
+        }
+        let places = changes.places();
+        for place in places {
+            let list = table.admitted_to(place.family, place.destination)?;
+            self.replace(alloc, place.family, place.destination, &list)?;
+        }
+        Ok(())
+    }
+
+    /// Puts the rules of a family's destination, or those without one, in the place of those that were.
+    fn replace(
+        &mut self,
+        alloc: Global,
+        family: Family,
+        destination: Option<Prefix>,
+        list: &[LentRule<'_>],
+    ) -> Result<(), Memory>
+        requires each { AllByRecursion (IsOfFamily family) (all_admitted list.now) }
+        requires there { AreTo (target_of destination) (spans_of (all_admitted list.now)) }
+        requires some { (rules : Family → List Listed) × StandsForLists rules self.old }
+        ensures { OnOk result ((rules : Family → List Listed)
+            → StandsForLists rules self.old
+            → StandsForLists
+            (put_in family (replaced (target_of destination) (all_admitted list.now) (rules family)) rules)
+            self.new) }
+    {
+        match family {
+            Family::V4 => self.v4.replace(alloc, family, destination, list),
+            Family::V6 => self.v6.replace(alloc, family, destination, list),
+        }
     }
 
     /// The actions of the family's rules, in order.
@@ -117,7 +176,8 @@ impl Compiled {
 
 /// The rules of the family that the table admits, compiled.
 fn admitted_index(alloc: Global, table: &Table<'_>, family: Family) -> Result<Index, Memory>
-    ensures { IfOk result (IsIndexOf family (admitted_in table.now family)) }
+    ensures index { IfOk result (IsIndexOf family (admitted_in table.now family)) }
+    ensures own { IfOk result (λ _. AllByRecursion (IsOfFamily family) (admitted_in table.now family)) }
 {
     let list = table.admitted(family)?;
     Index::of(alloc, family, &list)

@@ -35,6 +35,15 @@ pub(crate) struct Filters {
 }
 
 impl Filters {
+    /// No filters.
+    pub(crate) fn none(alloc: Global) -> Filters
+        ensures { (rules : List Fast) → AreFilters rules result }
+    {
+        Filters {
+            runs: Vec::new(alloc),
+        }
+    }
+
     /// The filter of the run in which the rules from `from` on before `to` are, if there is one.
     pub(crate) fn of(&self, from: usize, to: usize) -> Option<&Filter>
         ensures { (rules : List Fast)
@@ -118,6 +127,24 @@ impl Filter {
             length: Column::of(alloc, rules, first, end, 10)?,
             ports,
         })
+    }
+
+    /// The filter of the same rules where they stand from the number `first` on.
+    pub(crate) fn moved(self, first: usize) -> Filter
+        requires ordered { self.first ≤ self.end }
+        requires fits { first + (self.end - self.first) < 2 ^ 64 }
+        ensures { result ≡ record self { first = first; end = first + (self.end - self.first) } }
+    {
+        Filter {
+            first,
+            end: first + (self.end - self.first),
+            source: self.source,
+            protocol: self.protocol,
+            destination_port: self.destination_port,
+            source_port: self.source_port,
+            length: self.length,
+            ports: self.ports,
+        }
     }
 
     /// The first rule that matches of those from `from` on before `to`. As many steps at most as rules up to that one.

@@ -1,28 +1,31 @@
 //! The rules of a family, compiled, and found by the destination of a packet.
 
-ghost use Rattle.std.specs.Prelude.{◌≡◌, ◌≤◌, ◌+◌, ◌<◌, ◌^◌, IfOk, IfSome, OnOk, List, length};
-ghost use Rattle.std.specs.List.{All, AllByRecursion};
+ghost use Rattle.std.specs.Prelude.{◌≡◌, ◌≤◌, ◌+◌, ◌-◌, ◌<◌, ◌^◌, ℕ, true, IfOk, IfSome, OnOk, List, is_some, length, unwrap_or};
+ghost use Rattle.std.specs.List.{All, AllByRecursion, splice};
+ghost use Rattle.fs_base.specs.declared.prefix.Family.{Family};
 ghost use Rattle.fs_packet.specs.Fields.{Viewed};
 ghost use Rattle.fs_rules.specs.Lent.{Listed, all_admitted};
 ghost use Rattle.fs_compile.specs.Addresses.{nodes_in, numbers_in};
 ghost use Rattle.fs_compile.specs.Facts.{AreFacts};
 ghost use Rattle.fs_compile.specs.Filters.{AreFilters, IsFilter};
+ghost use Rattle.fs_compile.specs.declared.fast.Fast.{Fast};
 ghost use Rattle.fs_compile.specs.Index.{AreHoused, IsIndexOf, IsOfFamily, StandForEach, actions_of, spans_of};
+ghost use Rattle.fs_compile.specs.Mending.{AreTo, IsStretch, replaced, target_of};
 ghost use Rattle.fs_compile.specs.Matcher.{next_from};
 ghost use Rattle.fs_compile.specs.Reach.{number_of, reaching_behind, reaching_from};
 ghost use Rattle.fs_compile.specs.Runs.{AreNesting};
 ghost use Rattle.fs_compile.specs.Search.{AreSound, Starts, behind_hit, hit_number};
 
-use crate::buckets::Buckets;
+use crate::buckets::{Buckets, buckets_of, mended_buckets};
 use crate::facts::Facts;
 use crate::fast::Fast;
 use crate::filters::{FEW_RULES, Filter, Filters};
-use crate::runs::{nodes_of, parents_of, runs_of};
 use crate::search::{Hit, Place, climb, place_behind, place_from};
-use fs_base::{Family, Memory, Steps};
+use fs_base::{Family, Memory, Prefix, Steps};
 use fs_rules::{LentRule, SharedActions};
 use std::alloc::Global;
 use std::marker::Model;
+use std::mem::replace;
 use std::sync::ledger::Ledger;
 
 /// The most rules of a family, of which each has a number of 32 bits.
@@ -67,6 +70,146 @@ impl Index {
         let rules = compiled_rules(alloc, list)?;
         let filters = filters_of(alloc, &buckets, &rules)?;
         let actions = shared_actions(alloc, list)?;
+        Ok(Index {
+            buckets,
+            rules,
+            filters,
+            actions,
+        })
+    }
+
+    /// Puts the rules of the destination, or those without one, anew: these stand in the place of those that were.
+    /// Behind `Memory` the index is of no use.
+    pub(crate) fn replace(
+        &mut self,
+        alloc: Global,
+        family: Family,
+        destination: Option<Prefix>,
+        list: &[LentRule<'_>],
+    ) -> Result<(), Memory>
+        requires each { AllByRecursion (IsOfFamily family) (all_admitted list.now) }
+        requires there { AreTo (target_of destination) (spans_of (all_admitted list.now)) }
+        requires some { (rules : List Listed) × IsIndexOf family rules self.old }
+        ensures { OnOk result ((rules : List Listed)
+            → IsIndexOf family rules self.old
+            → IsIndexOf family (replaced (target_of destination) (all_admitted list.now) rules) self.new) }
+    {
+        let none = Vec::new(alloc);
+        let index = replace(self, Index::of(alloc, family, &none)?);
+        *self = index.replaced(alloc, family, destination, list)?;
+        Ok(())
+    }
+
+    /// The index with the rules of the destination, or those without one, anew.
+    fn replaced(
+        self,
+        alloc: Global,
+        family: Family,
+        destination: Option<Prefix>,
+        list: &[LentRule<'_>],
+    ) -> Result<Index, Memory>
+        requires each { AllByRecursion (IsOfFamily family) (all_admitted list.now) }
+        requires there { AreTo (target_of destination) (spans_of (all_admitted list.now)) }
+        requires some { (rules : List Listed) × IsIndexOf family rules self }
+        ensures { IfOk result (λ index.
+            (rules : List Listed)
+            → IsIndexOf family rules self
+            → IsIndexOf family (replaced (target_of destination) (all_admitted list.now) rules) index) }
+    {
+        let (from, to) = self.stretch(destination);
+        if list.len() > MOST - (self.rules.len() - (to - from)) {
+            return Err(Memory);
+        }
+        let buckets = self.mended(alloc, family, destination, from, to, list)?;
+        self.put_stretch(alloc, from, to, list, buckets)
+    }
+
+    /// The numbers from which on and before which the rules of the destination stand, or those without one.
+    fn stretch(&self, destination: Option<Prefix>) -> (usize, usize)
+        requires some { (family : Family) × (rules : List Listed) × IsIndexOf family rules self.now }
+        ensures stretch { (family : Family) (rules : List Listed)
+            → IsIndexOf family rules self.now
+            → IsStretch (spans_of rules) (target_of destination) result.0 result.1 }
+        ensures homes { is_some destination ≡ true → result.1 ≤ length self.now.buckets.homes.items }
+    {
+        match destination {
+            Some(destination) => self.buckets.stretch(destination.bits, destination.last()),
+            None => (self.buckets.homes.len(), self.rules.len()),
+        }
+    }
+
+    /// The buckets with the rules of the list in the place of those of a stretch, if they aren't those that are there.
+    fn mended(
+        &self,
+        alloc: Global,
+        family: Family,
+        destination: Option<Prefix>,
+        from: usize,
+        to: usize,
+        list: &[LentRule<'_>],
+    ) -> Result<Option<Buckets>, Memory>
+        requires sound { AreSound self.now.buckets (length self.now.rules) }
+        requires each { AllByRecursion (IsOfFamily family) (all_admitted list.now) }
+        requires there { AreTo (target_of destination) (spans_of (all_admitted list.now)) }
+        requires bounds { (from ≤ to) × (to ≤ length self.now.rules) }
+        requires fits { from + length list.now + length self.now.rules < 2 ^ 32 + to }
+        requires homes { is_some destination ≡ true → to ≤ length self.now.buckets.homes.items }
+        requires some { (rules : List Listed)
+            × IsIndexOf family rules self.now
+            × IsStretch (spans_of rules) (target_of destination) from to }
+        ensures sound { IfOk result (λ buckets.
+            AreSound
+            (unwrap_or buckets self.now.buckets)
+            (from + length list.now + (length self.now.rules - to))) }
+        ensures housed { IfOk result (λ buckets.
+            (rules : List Listed)
+            → IsIndexOf family rules self.now
+            → IsStretch (spans_of rules) (target_of destination) from to
+            → AreHoused
+            (splice (spans_of rules) from to (spans_of (all_admitted list.now)))
+            (unwrap_or buckets self.now.buckets)) }
+    {
+        let Some(_) = destination else {
+            return Ok(None);
+        };
+        if list.len() == to - from {
+            return Ok(None);
+        }
+        Ok(Some(mended_buckets(alloc, family, &self.buckets, from, to, list)?))
+    }
+
+    /// The rules of the list in the place of those from the number `from` on before `to`, with these buckets or those
+    /// that are there.
+    fn put_stretch(
+        self,
+        alloc: Global,
+        from: usize,
+        to: usize,
+        list: &[LentRule<'_>],
+        buckets: Option<Buckets>,
+    ) -> Result<Index, Memory>
+        requires bounds { (from ≤ to) × (to ≤ length self.rules) }
+        requires shared { to ≤ length self.actions }
+        requires few { from + length list.now + length self.rules < 2 ^ 32 + to }
+        requires sound { AreSound
+            (unwrap_or buckets self.buckets)
+            (from + length list.now + (length self.rules - to)) }
+        ensures stand { IfOk result (λ index.
+            (rules : List Listed)
+            → StandForEach rules self.rules
+            → StandForEach (splice rules from to (all_admitted list.now)) index.rules) }
+        ensures actions { IfOk result (λ index.
+            (rules : List Listed)
+            → self.actions ≡ actions_of rules
+            → index.actions ≡ actions_of (splice rules from to (all_admitted list.now))) }
+        ensures buckets { IfOk result (λ index. index.buckets ≡ unwrap_or buckets self.buckets) }
+    {
+        let mut rules = self.rules;
+        let mut actions = self.actions;
+        put_between(&mut actions, from, to, shared_actions(alloc, list)?)?;
+        put_between(&mut rules, from, to, compiled_rules(alloc, list)?)?;
+        let filters = mended_filters(alloc, self.filters, &rules, from, to, list.len())?;
+        let buckets = buckets.unwrap_or(self.buckets);
         Ok(Index {
             buckets,
             rules,
@@ -158,22 +301,18 @@ impl Index {
     }
 }
 
-/// The buckets of the rules. What is reckoned on the way is given back before the rules are compiled.
-fn buckets_of(alloc: Global, family: Family, list: &[LentRule<'_>]) -> Result<Buckets, Memory>
-    requires few { length list.now < 2 ^ 32 }
-    requires each { AllByRecursion (IsOfFamily family) (all_admitted list.now) }
-    requires nesting { AreNesting (spans_of (all_admitted list.now)) }
-    ensures sound { IfOk result (λ buckets. AreSound buckets (length list.now)) }
-    ensures housed { IfOk result (AreHoused (spans_of (all_admitted list.now))) }
+/// Puts these in the place of the elements from one on before another.
+fn put_between<T: Drop>(
+    items: &mut Vec<T>,
+    from: usize,
+    to: usize,
+    news: Vec<T>,
+) -> Result<(), Memory>
+    requires bounds { (from ≤ to) × (to ≤ length items.old.items) }
+    ensures { OnOk result (items.new.items ≡ splice items.old.items from to news.items) }
 {
-    let runs = runs_of(alloc, family, list)?;
-    let parents = parents_of(alloc, &runs.firsts)?;
-    let nodes = nodes_of(alloc, family, &runs, &parents)?;
-    Ok(Buckets {
-        lasts: runs.lasts,
-        nodes,
-        homes: runs.homes,
-    })
+    items.splice(from..to, news)?;
+    Ok(())
 }
 
 /// Compiles each rule.
@@ -209,14 +348,46 @@ fn filters_of(alloc: Global, buckets: &Buckets, rules: &[Fast]) -> Result<Filter
     for bucket in 0..buckets.lasts.len() {
         let first = buckets.nodes.at(bucket).start as usize;
         let end = buckets.nodes.at(bucket + 1).start as usize;
-        push_filter(alloc, &mut runs, rules, first, end)?;
+        put_filter(alloc, &mut runs, rules, first, end)?;
     }
-    push_filter(alloc, &mut runs, rules, buckets.homes.len(), rules.len())?;
+    put_filter(alloc, &mut runs, rules, buckets.homes.len(), rules.len())?;
     Ok(Filters { runs })
 }
 
-/// Adds the filter of a run of rules, if it's long.
-fn push_filter(
+/// The filters of rules of which those from the number `from` on before `to` were put anew, and are `size` now.
+fn mended_filters(
+    alloc: Global,
+    old: Filters,
+    rules: &[Fast],
+    from: usize,
+    to: usize,
+    size: usize,
+) -> Result<Filters, Memory>
+    requires few { length rules.now < 2 ^ 32 }
+    requires bounds { from ≤ to }
+    requires end { from + size ≤ length rules.now }
+    requires was { (before news : List Fast)
+        × AreFilters before old
+        × (to ≤ length before)
+        × (length news ≡ size)
+        × (rules.now ≡ splice before from to news) }
+    ensures { IfOk result (AreFilters rules.now) }
+{
+    let mut runs = Vec::new(alloc);
+    for filter in old.runs {
+        if filter.end <= from {
+            runs.push(filter)?;
+        } else if to <= filter.first {
+            let first = filter.first - to + from + size;
+            runs.push(filter.moved(first))?;
+        }
+    }
+    put_filter(alloc, &mut runs, rules, from, from + size)?;
+    Ok(Filters { runs })
+}
+
+/// Adds the filter of a run of rules, if it's long, in the order of runs.
+fn put_filter(
     alloc: Global,
     filters: &mut Vec<Filter>,
     rules: &[Fast],
@@ -230,7 +401,8 @@ fn push_filter(
     ensures { OnOk result (All (IsFilter rules.now) filters.new.items) }
 {
     if end - first > FEW_RULES {
-        filters.push(Filter::of(alloc, rules, first, end)?)?;
+        let place = filters.partition_point(|filter| filter.end <= first);
+        filters.insert(place, Filter::of(alloc, rules, first, end)?)?;
     }
     Ok(())
 }

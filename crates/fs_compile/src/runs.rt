@@ -1,14 +1,16 @@
 //! Runs of rules with one destination, and the destinations that hold them.
 
-ghost use Rattle.std.specs.Prelude.{◌≡◌, ◌<◌, ◌≤◌, ◌+◌, ◌++◌, ◌∷◌, ◌^◌, [], ℕ, List, Option, Some, None, OnOk, IfOk, IsTrue, get_or, length};
-ghost use Rattle.std.specs.List.{AllByRecursion};
+ghost use Rattle.std.specs.Prelude.{◌≡◌, ◌<◌, ◌≤◌, ◌+◌, ◌-◌, ◌++◌, ◌∷◌, ◌^◌, [], ℕ, List, Option, Some, None, OnOk, IfOk, IsTrue, get_or, length};
 ghost use Rattle.fs_base.specs.Bits.{width_of};
 ghost use Rattle.fs_compile.specs.Addresses.{numbers_in, nodes_in, width_in};
-ghost use Rattle.fs_compile.specs.Index.{IsOfFamily, spans_of};
+ghost use Rattle.fs_compile.specs.Index.{spans_of};
+ghost use Rattle.fs_compile.specs.Mending.{Adds, AreAll, AreNarrow, Keeps, Mends};
 ghost use Rattle.fs_rules.specs.Lent.{all_admitted};
 ghost use Rattle.fs_compile.specs.Runs.{AreNodes, ArePlain, EndsWith, Joined, Opened, RunsOf};
+ghost use Rattle.fs_compile.specs.Search.{AreSound};
 
 use crate::addresses::Addresses;
+use crate::buckets::Buckets;
 use crate::nodes::{Node, Nodes};
 use fs_base::{Family, Memory};
 use fs_rules::LentRule;
@@ -42,20 +44,98 @@ impl Runs {
 /// The runs of the rules that have a destination. They stand before those that have none.
 pub(crate) fn runs_of(alloc: Global, family: Family, list: &[LentRule<'_>]) -> Result<Runs, Memory>
     requires few { length list.now < 2 ^ 32 }
-    requires each { AllByRecursion (IsOfFamily family) (all_admitted list.now) }
+    requires narrow { AreNarrow (width_of family) (spans_of (all_admitted list.now)) }
     ensures runs { IfOk result (RunsOf (spans_of (all_admitted list.now))) }
     ensures few { IfOk result (λ runs. length runs.homes.items ≤ length list.now) }
     ensures rest { IfOk result (λ runs.
         get_or (spans_of (all_admitted list.now)) (length runs.homes.items) None ≡ None) }
 {
     let mut runs = Runs::new(alloc, family);
+    add_each(&mut runs, list)?;
+    Ok(runs)
+}
+
+/// The runs of the rules of these buckets, with those of the list in the place of the rules from the number `from` on
+/// before `to`.
+pub(crate) fn mended_runs(
+    alloc: Global,
+    family: Family,
+    old: &Buckets,
+    from: usize,
+    to: usize,
+    list: &[LentRule<'_>],
+) -> Result<Runs, Memory>
+    requires sound { AreSound old.now (length old.now.homes.items) }
+    requires bounds { (from ≤ to) × (to ≤ length old.now.homes.items) }
+    requires fits { from + length list.now + length old.now.homes.items < 2 ^ 32 + to }
+    requires each { AreAll (spans_of (all_admitted list.now)) }
+    requires some { (spans : List (Option (ℕ × ℕ)))
+        × Mends old.now from to (spans_of (all_admitted list.now)) spans
+        × AreNarrow (width_of family) spans }
+    ensures runs { IfOk result (λ runs.
+        (spans : List (Option (ℕ × ℕ)))
+        → Mends old.now from to (spans_of (all_admitted list.now)) spans
+        → RunsOf spans runs) }
+    ensures count { IfOk result (λ runs.
+        length runs.homes.items + to ≡ from + length list.now + length old.now.homes.items) }
+{
+    let mut runs = Runs::new(alloc, family);
+    keep_runs(&mut runs, old, 0, from)?;
+    add_each(&mut runs, list)?;
+    keep_runs(&mut runs, old, to, old.homes.len())?;
+    Ok(runs)
+}
+
+/// Adds the rules of these buckets from one number on before another.
+fn keep_runs(runs: &mut Runs, old: &Buckets, from: usize, to: usize) -> Result<(), Memory>
+    requires sound { AreSound old.now (length old.now.homes.items) }
+    requires bounds { (from ≤ to) × (to ≤ length old.now.homes.items) }
+    requires fits { length runs.old.homes.items + to < 2 ^ 32 + from }
+    requires some { (spans : List (Option (ℕ × ℕ)))
+        × RunsOf spans runs.old
+        × Keeps old.now from to (length runs.old.homes.items) spans
+        × AreNarrow (width_in runs.old.lasts) spans }
+    ensures runs { OnOk result ((spans : List (Option (ℕ × ℕ)))
+        → RunsOf spans runs.old
+        → Keeps old.now from to (length runs.old.homes.items) spans
+        → RunsOf spans runs.new) }
+    ensures count { OnOk result (length runs.new.homes.items + from ≡ length runs.old.homes.items + to) }
+    ensures width { width_in runs.new.lasts ≡ width_in runs.old.lasts }
+{
+    for number in from..to {
+        let bucket = old.homes[number] as usize;
+        add(runs, old.nodes.at(bucket).first, old.lasts.at(bucket))?;
+    }
+    Ok(())
+}
+
+/// Adds the rules that have a destination. They stand before those that have none.
+fn add_each(runs: &mut Runs, list: &[LentRule<'_>]) -> Result<(), Memory>
+    requires fits { length runs.old.homes.items + length list.now < 2 ^ 32 }
+    requires some { (spans : List (Option (ℕ × ℕ)))
+        × RunsOf spans runs.old
+        × Adds (spans_of (all_admitted list.now)) (length runs.old.homes.items) spans
+        × AreNarrow (width_in runs.old.lasts) spans }
+    ensures runs { OnOk result ((spans : List (Option (ℕ × ℕ)))
+        → RunsOf spans runs.old
+        → Adds (spans_of (all_admitted list.now)) (length runs.old.homes.items) spans
+        → RunsOf spans runs.new) }
+    ensures more { OnOk result (length runs.old.homes.items ≤ length runs.new.homes.items) }
+    ensures few { OnOk result (length runs.new.homes.items ≤ length runs.old.homes.items + length list.now) }
+    ensures rest { OnOk result (get_or
+        (spans_of (all_admitted list.now))
+        (length runs.new.homes.items - length runs.old.homes.items)
+        None
+        ≡ None) }
+    ensures width { width_in runs.new.lasts ≡ width_in runs.old.lasts }
+{
     for admitted in list {
         let Some(destination) = admitted.rule.destination() else {
-            return Ok(runs);
+            return Ok(());
         };
-        add(&mut runs, destination.bits, destination.last())?;
+        add(runs, destination.bits, destination.last())?;
     }
-    Ok(runs)
+    Ok(())
 }
 
 /// Adds a rule with a destination of these addresses.

@@ -5,6 +5,7 @@ use Rattle.fs_rules.specs.Table.{admitted}
 use Rattle.fs_compile.specs.Index.{IsIndexOf, IsOfFamily, spans_of}
 use Rattle.fs_compile.specs.Runs.{AreNesting}
 use Rattle.fs_compile.proofs.Nesting.{all_of_family, nesting}
+use Rattle.fs_compile.proofs.Mended.{if_ok}
 use Rattle.fs_compile.proofs.compiled.admitted_index.Goals as goal
 
 pub of-requires-clause-each : goal.of-requires-clause-each
@@ -15,5 +16,8 @@ pub of-requires-clause-nesting : goal.of-requires-clause-nesting
 of-requires-clause-nesting c = subst (λ (rs : List Listed). AreNesting (spans_of rs)) (sym (ap all_admitted c.deref.ensures.value ∙ c.in_ok-list.ensures.list))
     (nesting c.args.family (admitted c.args.family c.args.table.now) c.in_ok-list.ensures.rules c.in_ok-list.ensures.admitted.ordered)
 
-pub returns : goal.returns
-returns c = subst (λ (rs : List Listed). IfOk c.of.result (IsIndexOf c.args.family rs)) (ap all_admitted c.deref.ensures.value ∙ c.in_ok-list.ensures.list) c.of.ensures
+pub returns-clause-index : goal.returns-clause-index
+returns-clause-index c = subst (λ (rs : List Listed). IfOk c.of.result (IsIndexOf c.args.family rs)) (ap all_admitted c.deref.ensures.value ∙ c.in_ok-list.ensures.list) c.of.ensures
+
+pub returns-clause-own : goal.returns-clause-own
+returns-clause-own c = if_ok c.of.result (all_of_family c.args.family (admitted c.args.family c.args.table.now) c.in_ok-list.ensures.rules)

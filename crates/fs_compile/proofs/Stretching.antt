@@ -1,0 +1,491 @@
+-- The stretch of the rules of one destination, and the rules with it put anew.
+use Rattle.std.proofs.Common.{◌≡◌, ℕ, zero, suc, ◌+◌, ◌-◌, ◌^◌, ◌<◌, ◌≤◌, ◌⊎◌, inl, inr, refl, sym, ap, ap₂, subst, ◌∙◌, Bool, true, false, if◌then◌else◌, Option, Some, None, List, [], ◌∷◌, ◌++◌, length, get_or, map, filter, Ordering, Less, Equal, Greater, nat_cmp, arith}
+use Rattle.std.specs.List.{AllByRecursion, splice}
+use Rattle.std.specs.Cmp.{nat_cmp_is}
+use Rattle.std.specs.Ordering.{is_gt, is_lt, ordering_then}
+use Rattle.std.proofs.lemmas.Bool.{cases_lt, cases_order}
+use Rattle.std.proofs.lemmas.List.{get_or_past, length-map}
+use Rattle.fs_base.specs.declared.prefix.Family.{Family}
+use Rattle.fs_nlri.specs.Rule.{IsRule}
+use Rattle.fs_rules.specs.Lent.{Listed}
+use Rattle.fs_compile.specs.declared.buckets.Buckets.{Buckets}
+use Rattle.fs_compile.specs.declared.nodes.Node.{Node}
+use Rattle.fs_compile.specs.Addresses.{numbers_in, nodes_in}
+use Rattle.fs_compile.specs.Buckets.{node_at}
+use Rattle.fs_compile.specs.Index.{AreHoused, IsOfFamily, span_at, span_of, spans_of}
+use Rattle.fs_compile.specs.Mending.{AreProper, AreTo, IsLeft, IsPassed, IsStretch, Mends, bucket_span, place_by, replaced, span_cmp}
+use Rattle.fs_compile.specs.Runs.{AreNesting}
+use Rattle.fs_compile.specs.Search.{AreSound}
+use Rattle.fs_compile.proofs.Nesting.{Fits, span_proper, spans_fit}
+use Rattle.fs_compile.proofs.Splicing.{ArePlaced, at_back, at_front, at_middle, filter_back, filter_front, map_spliced}
+
+pub none_some : {X : Type 0} (x : X) → None ≡ Some x → ⊥
+none_some x e = absurd cc
+
+-- one destination stands before another
+abbrev pub Before : ℕ × ℕ → ℕ × ℕ → Type 0
+Before p q = (p.1 < q.1) ⊎ ((p.1 ≡ q.1) × (q.0 < p.0))
+
+pub of_before : (p q : ℕ × ℕ) → Before p q → span_cmp p q ≡ Less
+of_before p q (inl less) = ap (λ o. ordering_then o (nat_cmp q.0 p.0)) (sym (nat_cmp_is p.1 q.1 Less less))
+of_before p q (inr tied) = ap₂ ordering_then (sym (nat_cmp_is p.1 q.1 Equal tied.0)) (sym (nat_cmp_is q.0 p.0 Less tied.1))
+
+pub of_behind : (p q : ℕ × ℕ) → Before q p → span_cmp p q ≡ Greater
+of_behind p q (inl less) = ap (λ o. ordering_then o (nat_cmp q.0 p.0)) (sym (nat_cmp_is p.1 q.1 Greater less))
+of_behind p q (inr tied) = ap₂ ordering_then (sym (nat_cmp_is p.1 q.1 Equal (sym tied.0))) (sym (nat_cmp_is q.0 p.0 Greater tied.1))
+
+pub of_same : (p q : ℕ × ℕ) → p.1 ≡ q.1 → p.0 ≡ q.0 → span_cmp p q ≡ Equal
+of_same p q last first = ap₂ ordering_then (sym (nat_cmp_is p.1 q.1 Equal last)) (sym (nat_cmp_is q.0 p.0 Equal (sym first)))
+
+-- which of the three it is
+three : (p q : ℕ × ℕ) → Before p q ⊎ (((p.1 ≡ q.1) × (p.0 ≡ q.0)) ⊎ Before q p)
+three p q = at (cases_order p.1 q.1) (cases_order p.0 q.0) where
+  at : (p.1 ≡ q.1) ⊎ ((p.1 < q.1) ⊎ (q.1 < p.1)) → (p.0 ≡ q.0) ⊎ ((p.0 < q.0) ⊎ (q.0 < p.0)) → Before p q ⊎ (((p.1 ≡ q.1) × (p.0 ≡ q.0)) ⊎ Before q p)
+  at (inr (inl less)) f = inl (inl less)
+  at (inr (inr more)) f = inr (inr (inl more))
+  at (inl last) (inl first) = inr (inl (last, first))
+  at (inl last) (inr (inl less)) = inr (inr (inr (sym last, less)))
+  at (inl last) (inr (inr more)) = inl (inr (last, more))
+
+pub less_equal : Less ≡ Equal → ⊥
+less_equal e = absurd cc
+
+less_greater : Less ≡ Greater → ⊥
+less_greater e = absurd cc
+
+equal_greater : Equal ≡ Greater → ⊥
+equal_greater e = absurd cc
+
+pub before_of : (p q : ℕ × ℕ) → span_cmp p q ≡ Less → Before p q
+before_of p q e = at (three p q) where
+  at : Before p q ⊎ (((p.1 ≡ q.1) × (p.0 ≡ q.0)) ⊎ Before q p) → Before p q
+  at (inl b) = b
+  at (inr (inl s)) = absurd (less_equal (sym e ∙ of_same p q s.0 s.1))
+  at (inr (inr b)) = absurd (less_greater (sym e ∙ of_behind p q b))
+
+pub same_of : (p q : ℕ × ℕ) → span_cmp p q ≡ Equal → (p.1 ≡ q.1) × (p.0 ≡ q.0)
+same_of p q e = at (three p q) where
+  at : Before p q ⊎ (((p.1 ≡ q.1) × (p.0 ≡ q.0)) ⊎ Before q p) → (p.1 ≡ q.1) × (p.0 ≡ q.0)
+  at (inl b) = absurd (less_equal (sym (of_before p q b) ∙ e))
+  at (inr (inl s)) = s
+  at (inr (inr b)) = absurd (equal_greater (sym e ∙ of_behind p q b))
+
+pub behind_of : (p q : ℕ × ℕ) → span_cmp p q ≡ Greater → Before q p
+behind_of p q e = at (three p q) where
+  at : Before p q ⊎ (((p.1 ≡ q.1) × (p.0 ≡ q.0)) ⊎ Before q p) → Before q p
+  at (inl b) = absurd (less_greater (sym (of_before p q b) ∙ e))
+  at (inr (inl s)) = absurd (equal_greater (sym (of_same p q s.0 s.1) ∙ e))
+  at (inr (inr b)) = b
+
+-- One behind the other, of which any may have no destination.
+abbrev pub Follows : Option (ℕ × ℕ) → Option (ℕ × ℕ) → Type 0
+Follows None None = Unit {0}
+Follows None (Some q) = ⊥
+Follows (Some p) None = Unit {0}
+Follows (Some p) (Some q) = Fits p q
+
+follows_none : (s : Option (ℕ × ℕ)) → Follows s None
+follows_none None = tt
+follows_none (Some p) = tt
+
+follows_same : (s : Option (ℕ × ℕ)) → Follows s s
+follows_same None = tt
+follows_same (Some p) = (omega arith, λ meets. omega arith)
+
+pub follows_at : (xs : List (Option (ℕ × ℕ))) (i j : ℕ) → AreNesting xs → i < j → Follows (get_or xs i None) (get_or xs j None)
+follows_at xs i j h less = at (get_or xs i None) (get_or xs j None) refl refl where
+  at : (s t : Option (ℕ × ℕ)) → get_or xs i None ≡ s → get_or xs j None ≡ t → Follows s t
+  at None None e f = tt
+  at None (Some q) e f = absurd (none_some q (sym (h.bare i j (omega (arith, less)) e) ∙ f))
+  at (Some p) None e f = tt
+  at (Some p) (Some q) e f = (h.rising i j p q less e f, h.nested i j p q less e f)
+
+pub nesting_from : (xs : List (Option (ℕ × ℕ))) → ((i j : ℕ) → i < j → Follows (get_or xs i None) (get_or xs j None)) → AreNesting xs
+nesting_from xs h = record {
+  rising = λ i j p q less e f. (fits i j p q less e f).0;
+  nested = λ i j p q less e f. (fits i j p q less e f).1;
+  bare = λ i j le e. at i j e (cases_lt i j) le;
+} where
+  fits : (i j : ℕ) (p q : ℕ × ℕ) → i < j → get_or xs i None ≡ Some p → get_or xs j None ≡ Some q → Fits p q
+  fits i j p q less e f = subst (λ s. Follows s (Some q)) e (subst (Follows (get_or xs i None)) f (h i j less))
+
+  none : (t : Option (ℕ × ℕ)) → Follows None t → t ≡ None
+  none None k = refl
+  none (Some q) k = absurd k
+
+  at : (i j : ℕ) → get_or xs i None ≡ None → (i < j) ⊎ (j ≤ i) → i ≤ j → get_or xs j None ≡ None
+  at i j e (inl less) le = none (get_or xs j None) (subst (λ s. Follows s (get_or xs j None)) e (h i j less))
+  at i j e (inr more) le = let same : i ≡ j = omega (arith, le, more) in subst (λ k. get_or xs k None ≡ None) same e
+
+-- The rules of an index nest, since its buckets do.
+pub nesting_housed : (xs : List (Option (ℕ × ℕ))) (b : Buckets) (count : ℕ) → AreSound b count → AreHoused xs b → AreNesting xs
+nesting_housed xs b count sound housed = nesting_from xs (λ i j less. at i j less (cases_lt j (length b.homes.items))) where
+  home : ℕ → ℕ
+  home k = get_or b.homes.items k 0
+
+  later : (i j : ℕ) → i < j → j < length b.homes.items → (home j < home i) → ⊥
+  later i j less below more =
+      let a : (node_at (nodes_in b.nodes) (home i)).start ≤ i = sound.begins i (omega (arith, less, below)) in
+      let c : j < (node_at (nodes_in b.nodes) (home j + 1)).start = sound.ends j below in
+      let last : home i < length (numbers_in b.lasts) = sound.home i (omega (arith, less, below)) in
+      let d : (node_at (nodes_in b.nodes) (home j + 1)).start ≤ (node_at (nodes_in b.nodes) (home i)).start = sound.starts (home j + 1) (home i) (omega (arith, more)) (omega (arith, last)) in
+      omega (arith, less, a, c, d)
+
+  fits : (i j : ℕ) → i < j → j < length b.homes.items → (home i ≡ home j) ⊎ ((home i < home j) ⊎ (home j < home i)) → Fits (span_at b i) (span_at b j)
+  fits i j less below (inl same) = subst (λ h. Fits (span_at b i) ((node_at (nodes_in b.nodes) h).first, get_or (numbers_in b.lasts) h 0)) same (omega arith, λ meets. omega arith)
+  fits i j less below (inr (inl earlier)) = (sound.rising (home i) (home j) earlier (sound.home j below), λ meets. sound.nested (home i) (home j) earlier (sound.home j below) meets)
+  fits i j less below (inr (inr more)) = absurd (later i j less below more)
+
+  at : (i j : ℕ) → i < j → (j < length b.homes.items) ⊎ (length b.homes.items ≤ j) → Follows (get_or xs i None) (get_or xs j None)
+  at i j less (inr past) = subst (Follows (get_or xs i None)) (sym (housed.bare j past)) (follows_none (get_or xs i None))
+  at i j less (inl below) =
+      subst (λ s. Follows s (get_or xs j None)) (sym (housed.homed i (omega (arith, less, below))))
+      (subst (Follows (Some (span_at b i))) (sym (housed.homed j below)) (fits i j less below (cases_order (home i) (home j))))
+
+-- what a number of a spliced list stands for
+abbrev pub Part : (xs news : List (Option (ℕ × ℕ))) (target : Option (ℕ × ℕ)) (from to k : ℕ) → Type 0
+Part xs news target from to k =
+    ((k < from) × (get_or (splice xs from to news) k None ≡ get_or xs k None))
+    ⊎ (((from ≤ k) × (k < from + length news) × (get_or (splice xs from to news) k None ≡ target))
+    ⊎ ((from + length news ≤ k) × (get_or (splice xs from to news) k None ≡ get_or xs (to + (k - (from + length news))) None)))
+
+part_at : (xs news : List (Option (ℕ × ℕ))) (target : Option (ℕ × ℕ)) (from to k : ℕ) → from ≤ length xs → ((i : ℕ) → i < length news → get_or news i None ≡ target) → Part xs news target from to k
+part_at xs news target from to k within each = at (cases_lt k from) (cases_lt k (from + length news)) where
+  at : (k < from) ⊎ (from ≤ k) → (k < from + length news) ⊎ (from + length news ≤ k) → Part xs news target from to k
+  at (inl below) c = inl (below, at_front xs news from to k None within below)
+  at (inr above) (inl below) =
+      let same : from + (k - from) ≡ k = omega (arith, above) in
+      let inside : k - from < length news = omega (arith, above, below) in
+      inr (inl (above, below, ap (λ i. get_or (splice xs from to news) i None) (sym same) ∙ at_middle xs news from to (k - from) None within inside ∙ each (k - from) inside))
+  at (inr above) (inr past) =
+      let same : from + length news + (k - (from + length news)) ≡ k = omega (arith, past) in
+      inr (inr (past, ap (λ i. get_or (splice xs from to news) i None) (sym same) ∙ at_back xs news from to (k - (from + length news)) None within))
+
+nesting_parts : (xs news : List (Option (ℕ × ℕ))) (target : Option (ℕ × ℕ)) (from to : ℕ) → AreNesting xs → from ≤ to → ((k : ℕ) → Part xs news target from to k)
+    → ((k : ℕ) → k < from → 0 < length news → Follows (get_or xs k None) target) → ((k : ℕ) → to ≤ k → 0 < length news → Follows target (get_or xs k None)) → AreNesting (splice xs from to news)
+nesting_parts xs news target from to h le part front back = nesting_from (splice xs from to news) (λ i j less. at i j less (part i) (part j)) where
+  place : ℕ → ℕ
+  place k = to + (k - (from + length news))
+
+  both : (i j : ℕ) (s t : Option (ℕ × ℕ)) → get_or (splice xs from to news) i None ≡ s → get_or (splice xs from to news) j None ≡ t → Follows s t → Follows (get_or (splice xs from to news) i None) (get_or (splice xs from to news) j None)
+  both i j s t e f k = subst (λ x. Follows x (get_or (splice xs from to news) j None)) (sym e) (subst (Follows s) (sym f) k)
+
+  at : (i j : ℕ) → i < j → Part xs news target from to i → Part xs news target from to j → Follows (get_or (splice xs from to news) i None) (get_or (splice xs from to news) j None)
+  at i j less (inl a) (inl b) = both i j _ _ a.1 b.1 (follows_at xs i j h less)
+  at i j less (inl a) (inr (inl b)) = both i j _ _ a.1 b.2 (front i a.0 (omega (arith, b.0, b.1)))
+  at i j less (inl a) (inr (inr b)) = both i j _ _ a.1 b.1 (follows_at xs i (place j) h (omega (arith, a.0, le)))
+  at i j less (inr (inl a)) (inl b) = absurd (omega (arith, less, a.0, b.0))
+  at i j less (inr (inl a)) (inr (inl b)) = both i j _ _ a.2 b.2 (follows_same target)
+  at i j less (inr (inl a)) (inr (inr b)) = both i j _ _ a.2 b.1 (back (place j) (omega arith) (omega (arith, a.0, a.1)))
+  at i j less (inr (inr a)) (inl b) = absurd (omega (arith, less, a.0, b.0))
+  at i j less (inr (inr a)) (inr (inl b)) = absurd (omega (arith, less, a.0, b.1))
+  at i j less (inr (inr a)) (inr (inr b)) = both i j _ _ a.1 b.1 (follows_at xs (place i) (place j) h (omega (arith, less, a.0, b.0)))
+
+-- the rule of a number
+record RuleAt (family : Family) (rules : List Listed) (k : ℕ) : Type 0 where
+  pub r : Listed
+  pub own : IsOfFamily family r
+  pub span : get_or (spans_of rules) k None ≡ span_of r.rule
+
+rule_at : (family : Family) (rules : List Listed) (k : ℕ) → AllByRecursion (IsOfFamily family) rules → k < length rules → RuleAt family rules k
+rule_at family [] k each below = absurd (omega (arith, below))
+rule_at family (r ∷ rs) zero each below = record { r = r; own = each.0; span = refl }
+rule_at family (r ∷ rs) (suc k) each below = let a : RuleAt family rs k = rule_at family rs k each.1 (omega (arith, below)) in record { r = a.r; own = a.own; span = a.span }
+
+pub proper_at : (family : Family) (rules : List Listed) (k : ℕ) (p : ℕ × ℕ) → AllByRecursion (IsOfFamily family) rules → get_or (spans_of rules) k None ≡ Some p → p.0 ≤ p.1
+proper_at family [] k p each e = absurd (none_some p e)
+proper_at family (r ∷ rs) zero p each e = span_proper r.rule p each.0.rule e
+proper_at family (r ∷ rs) (suc k) p each e = proper_at family rs k p each.1 e
+
+-- two rules in the order of their destinations
+rules_follow : (family : Family) (a b : Listed) (s t : Option (ℕ × ℕ)) → IsOfFamily family a → IsOfFamily family b → span_of a.rule ≡ s → span_of b.rule ≡ t
+    → (place_by t s ≡ Less) ⊎ (place_by s t ≡ Greater) → Follows s t
+rules_follow family a b s None own other e f order = follows_none s
+rules_follow family a b None (Some q) own other e f (inl order) = absurd (less_greater (sym order))
+rules_follow family a b None (Some q) own other e f (inr order) = absurd (less_greater order)
+rules_follow family a b (Some p) (Some q) own other e f order = at (before order) where
+  before : (span_cmp p q ≡ Less) ⊎ (span_cmp q p ≡ Greater) → Before p q
+  before (inl o) = before_of p q o
+  before (inr o) = behind_of q p o
+
+  at : Before p q → Fits p q
+  at (inl less) = spans_fit a.rule b.rule p q own.rule other.rule (own.same ∙ sym other.same) e f (omega (arith, less)) (λ same. absurd (omega (arith, less, same)))
+  at (inr tied) = spans_fit a.rule b.rule p q own.rule other.rule (own.same ∙ sym other.same) e f (let same = tied.0 in omega (arith, same)) (λ same. let less = tied.1 in omega (arith, less))
+
+-- The rules with a stretch put anew nest.
+pub nesting_spliced : (family : Family) (rules news : List Listed) (target : Option (ℕ × ℕ)) (from to : ℕ) → AllByRecursion (IsOfFamily family) rules → AllByRecursion (IsOfFamily family) news
+    → AreNesting (spans_of rules) → IsStretch (spans_of rules) target from to → ((i : ℕ) → i < length (spans_of news) → get_or (spans_of news) i None ≡ target) → AreNesting (spans_of (splice rules from to news))
+nesting_spliced family rules news target from to each own h s news_are =
+    subst AreNesting (sym (map_spliced (λ r. span_of r.rule) rules news from to))
+    (nesting_parts (spans_of rules) (spans_of news) target from to h s.ordered (λ k. part_at (spans_of rules) (spans_of news) target from to k (omega (arith, s.ordered, s.within)) news_are) front back) where
+      size : length (spans_of rules) ≡ length rules
+      size = length-map rules (λ r. span_of r.rule)
+
+      fresh : 0 < length (spans_of news) → RuleAt family news 0
+      fresh some = rule_at family news 0 own (subst (λ n. 0 < n) (length-map news (λ r. span_of r.rule)) some)
+
+      front : (k : ℕ) → k < from → 0 < length (spans_of news) → Follows (get_or (spans_of rules) k None) target
+      front k below some =
+          let old : RuleAt family rules k = rule_at family rules k each (omega (arith, below, s.ordered, s.within, size)) in
+          let new : RuleAt family news 0 = fresh some in
+          rules_follow family old.r new.r (get_or (spans_of rules) k None) target old.own new.own (sym old.span) (sym new.span ∙ news_are 0 some) (inl (s.before k below))
+
+      back : (k : ℕ) → to ≤ k → 0 < length (spans_of news) → Follows target (get_or (spans_of rules) k None)
+      back k above some = at (cases_lt k (length (spans_of rules))) where
+        at : (k < length (spans_of rules)) ⊎ (length (spans_of rules) ≤ k) → Follows target (get_or (spans_of rules) k None)
+        at (inr past) = subst (Follows target) (sym (get_or_past (spans_of rules) k None past)) (follows_none target)
+        at (inl below) =
+            let old : RuleAt family rules k = rule_at family rules k each (omega (arith, below, size)) in
+            let new : RuleAt family news 0 = fresh some in
+            rules_follow family new.r old.r target (get_or (spans_of rules) k None) new.own old.own (sym new.span ∙ news_are 0 some) (sym old.span) (inr (s.behind k above below))
+
+-- The rules that a stretch leaves are those before and behind its destination.
+pub replaced_is : (rules news : List Listed) (target : Option (ℕ × ℕ)) (from to : ℕ) → IsStretch (spans_of rules) target from to → replaced target news rules ≡ splice rules from to news
+replaced_is rules news target from to s = ap₂ (λ zs bs. zs ++ (news ++ bs))
+    (filter_front (λ r. span_of r.rule) (λ o. is_lt (place_by target o)) None rules from (λ k below inside. ap is_lt (s.before k below)) (λ k above inside. at is_lt refl refl k above (inside_of k inside) (cases_lt k to)))
+    (filter_back (λ r. span_of r.rule) (λ o. is_gt (place_by target o)) None rules to (λ k below inside. front k below (cases_lt k from)) (λ k above inside. ap is_gt (s.behind k above (inside_of k inside)))) where
+      inside_of : (k : ℕ) → k < length rules → k < length (spans_of rules)
+      inside_of k below = subst (λ n. k < n) (sym (length-map rules (λ r. span_of r.rule))) below
+
+      at : (test : Ordering → Bool) → test Equal ≡ false → test Greater ≡ false → (k : ℕ) → from ≤ k → k < length (spans_of rules) → (k < to) ⊎ (to ≤ k) → test (place_by target (get_or (spans_of rules) k None)) ≡ false
+      at test e g k above inside (inl below) = ap test (s.at k above below) ∙ e
+      at test e g k above inside (inr past) = ap test (s.behind k past inside) ∙ g
+
+      front : (k : ℕ) → k < to → (k < from) ⊎ (from ≤ k) → is_gt (place_by target (get_or (spans_of rules) k None)) ≡ false
+      front k below (inl early) = ap is_gt (s.before k early)
+      front k below (inr above) = ap is_gt (s.at k above below)
+
+-- A list whose destinations nest is in order by any of them.
+pub placed : (family : Family) (rules : List Listed) (target : Option (ℕ × ℕ)) → AllByRecursion (IsOfFamily family) rules → AreNesting (spans_of rules) → ArePlaced (λ r. span_of r.rule) (place_by target) None rules
+placed family rules target each h = record {
+  equal = λ i j less below e. equal_from target (get_or (spans_of rules) i None) (get_or (spans_of rules) j None) (follows_at (spans_of rules) i j h less) (λ q f. proper_at family rules j q each f) e;
+  behind = λ i j less below e. behind_from target (get_or (spans_of rules) i None) (get_or (spans_of rules) j None) (follows_at (spans_of rules) i j h less) (λ q f. proper_at family rules j q each f) e;
+} where
+  apart : (p q t : ℕ × ℕ) → Fits p q → q.0 ≤ q.1 → p.1 ≡ t.1 → p.0 ≡ t.0 → Before q t → ⊥
+  apart p q t fits proper last first (inl less) = let a : p.1 ≤ q.1 = fits.0 in omega (arith, a, less, last)
+  apart p q t fits proper last first (inr tied) =
+      let ends : q.1 ≡ t.1 = tied.0 in
+      let less : t.0 < q.0 = tied.1 in
+      let a : q.0 ≤ p.0 = fits.1 (omega (arith, proper, ends, last)) in
+      omega (arith, a, less, first)
+
+  equal_from : (t s u : Option (ℕ × ℕ)) → Follows s u → ((q : ℕ × ℕ) → u ≡ Some q → q.0 ≤ q.1) → place_by t s ≡ Equal → is_lt (place_by t u) ≡ false
+  equal_from None None None f proper e = refl
+  equal_from None None (Some q) f proper e = absurd f
+  equal_from None (Some p) u f proper e = absurd (less_equal e)
+  equal_from (Some t) s None f proper e = refl
+  equal_from (Some t) None (Some q) f proper e = absurd f
+  equal_from (Some t) (Some p) (Some q) f proper e = at (three q t) (same_of p t e) where
+    at : Before q t ⊎ (((q.1 ≡ t.1) × (q.0 ≡ t.0)) ⊎ Before t q) → (p.1 ≡ t.1) × (p.0 ≡ t.0) → is_lt (span_cmp q t) ≡ false
+    at (inl b) s = absurd (apart p q t f (proper q refl) s.0 s.1 b)
+    at (inr (inl b)) s = ap is_lt (of_same q t b.0 b.1)
+    at (inr (inr b)) s = ap is_lt (of_behind q t b)
+
+  onward : (p q t : ℕ × ℕ) → Fits p q → q.0 ≤ q.1 → Before t p → Before t q
+  onward p q t fits proper (inl less) = let a : p.1 ≤ q.1 = fits.0 in inl (omega (arith, a, less))
+  onward p q t fits proper (inr tied) = at (cases_lt t.1 q.1) where
+    at : (t.1 < q.1) ⊎ (q.1 ≤ t.1) → Before t q
+    at (inl less) = inl less
+    at (inr le) =
+        let a : p.1 ≤ q.1 = fits.0 in
+        let ends : t.1 ≡ p.1 = tied.0 in
+        let less : p.0 < t.0 = tied.1 in
+        let b : q.0 ≤ p.0 = fits.1 (omega (arith, proper, le, ends)) in
+        inr (omega (arith, le, a, ends), omega (arith, b, less))
+
+  behind_from : (t s u : Option (ℕ × ℕ)) → Follows s u → ((q : ℕ × ℕ) → u ≡ Some q → q.0 ≤ q.1) → place_by t s ≡ Greater → place_by t u ≡ Greater
+  behind_from None None u f proper e = absurd (equal_greater e)
+  behind_from None (Some p) u f proper e = absurd (less_greater e)
+  behind_from (Some t) s None f proper e = refl
+  behind_from (Some t) None (Some q) f proper e = absurd f
+  behind_from (Some t) (Some p) (Some q) f proper e = of_behind q t (onward p q t f (proper q refl) (behind_of p t e))
+
+-- Where each rule has the destination that stood there its buckets stay.
+pub housed_same : (xs ys : List (Option (ℕ × ℕ))) (b : Buckets) → ((k : ℕ) → get_or ys k None ≡ get_or xs k None) → AreHoused xs b → AreHoused ys b
+housed_same xs ys b same h = record { homed = λ k below. same k ∙ h.homed k below; bare = λ k above. same k ∙ h.bare k above }
+
+-- the runs of the new rules, by the old buckets
+pub mends_spliced : (xs news : List (Option (ℕ × ℕ))) (b : Buckets) (from to : ℕ) → AreHoused xs b → from ≤ to → to ≤ length b.homes.items → length b.homes.items ≤ length xs → Mends b from to news (splice xs from to news)
+mends_spliced xs news b from to h le within whole = record {
+  front = λ k above below.
+      let same : 0 + (k - 0) ≡ k = omega arith in
+      ap (λ i. get_or (splice xs from to news) i None) same ∙ at_front xs news from to k None inside below ∙ h.homed k (omega (arith, below, le, within));
+  middle = λ k below. at_middle xs news from to k None inside below;
+  back = λ k above below.
+      let same : to + (k - to) ≡ k = omega (arith, above) in
+      at_back xs news from to (k - to) None inside ∙ ap (λ i. get_or xs i None) same ∙ h.homed k below;
+} where
+  inside : from ≤ length xs
+  inside = omega (arith, le, within, whole)
+
+pub rest_bare : (xs news : List (Option (ℕ × ℕ))) (b : Buckets) (from to n : ℕ) → AreHoused xs b → from ≤ to → to ≤ length b.homes.items → length b.homes.items ≤ length xs
+    → n + to ≡ from + length news + length b.homes.items → get_or (splice xs from to news) n None ≡ None
+rest_bare xs news b from to n h le within whole is =
+    let same : n ≡ from + length news + (length b.homes.items - to) = omega (arith, is, within) in
+    let there : to + (length b.homes.items - to) ≡ length b.homes.items = omega (arith, within) in
+    ap (λ i. get_or (splice xs from to news) i None) same ∙ at_back xs news from to (length b.homes.items - to) None (omega (arith, le, within, whole)) ∙ ap (λ i. get_or xs i None) there ∙ h.bare (length b.homes.items) (omega arith)
+
+-- Where the buckets before a number are passed, so are the rules before it, and the others aren't.
+abbrev pub start_of : Buckets → ℕ → ℕ
+start_of b i = (node_at (nodes_in b.nodes) i).start
+
+abbrev pub home_of : Buckets → ℕ → ℕ
+home_of b k = get_or b.homes.items k 0
+
+start_within : (b : Buckets) (count i : ℕ) → AreSound b count → i ≤ length (numbers_in b.lasts) → start_of b i ≤ length b.homes.items
+start_within b count i sound within = let a : start_of b i ≤ start_of b (length (numbers_in b.lasts)) = sound.starts i (length (numbers_in b.lasts)) within (omega arith) in let t : start_of b (length (numbers_in b.lasts)) ≡ length b.homes.items = sound.tail in omega (arith, a, t)
+
+home_under : (b : Buckets) (count i k : ℕ) → AreSound b count → i ≤ length (numbers_in b.lasts) → k < start_of b i → home_of b k < i
+home_under b count i k sound within less = at (cases_lt (home_of b k) i) where
+  below : k < length b.homes.items
+  below = let a : start_of b i ≤ length b.homes.items = start_within b count i sound within in omega (arith, less, a)
+
+  at : (home_of b k < i) ⊎ (i ≤ home_of b k) → home_of b k < i
+  at (inl earlier) = earlier
+  at (inr le) =
+      let a : start_of b (home_of b k) ≤ k = sound.begins k below in
+      let h : home_of b k < length (numbers_in b.lasts) = sound.home k below in
+      let d : start_of b i ≤ start_of b (home_of b k) = sound.starts i (home_of b k) le (omega (arith, h)) in
+      absurd (omega (arith, less, a, d))
+
+home_over : (b : Buckets) (count i k : ℕ) → AreSound b count → i ≤ length (numbers_in b.lasts) → k < length b.homes.items → start_of b i ≤ k → i ≤ home_of b k
+home_over b count i k sound within below le = at (cases_lt (home_of b k) i) where
+  at : (home_of b k < i) ⊎ (i ≤ home_of b k) → i ≤ home_of b k
+  at (inr later) = later
+  at (inl earlier) =
+      let a : k < start_of b (home_of b k + 1) = sound.ends k below in
+      let d : start_of b (home_of b k + 1) ≤ start_of b i = sound.starts (home_of b k + 1) i (omega (arith, earlier)) within in
+      absurd (omega (arith, le, a, d))
+
+-- what is passed and what is left
+passed_before : (p q : ℕ × ℕ) → IsPassed p q false → Before p q
+passed_before p q (inl less) = inl less
+passed_before p q (inr tied) = inr (tied.0, let less : q.0 < p.0 + 0 = tied.1 in omega (arith, less))
+
+left_behind : (p q : ℕ × ℕ) → IsLeft p q true → Before q p
+left_behind p q (inl less) = inl less
+left_behind p q (inr tied) = inr (tied.0, let le : p.0 + 1 ≤ q.0 = tied.1 in omega (arith, le))
+
+between : (p q : ℕ × ℕ) → IsLeft p q false → IsPassed p q true → span_cmp p q ≡ Equal
+between p q (inl less) (inl more) = absurd (omega (arith, less, more))
+between p q (inl less) (inr tied) = let same : p.1 ≡ q.1 = tied.0 in absurd (omega (arith, less, same))
+between p q (inr tied) (inl more) = let same : q.1 ≡ p.1 = tied.0 in absurd (omega (arith, more, same))
+between p q (inr tied) (inr other) = of_same p q other.0 (let le : p.0 + 0 ≤ q.0 = tied.1 in let less : q.0 < p.0 + 1 = other.1 in omega (arith, le, less))
+
+never_both : (p q : ℕ × ℕ) → IsPassed p q false → IsLeft p q true → ⊥
+never_both p q passed left = at (passed_before p q passed) (left_behind p q left) where
+  at : Before p q → Before q p → ⊥
+  at (inl less) (inl more) = omega (arith, less, more)
+  at (inl less) (inr tied) = let same : q.1 ≡ p.1 = tied.0 in omega (arith, less, same)
+  at (inr tied) (inl more) = let same : p.1 ≡ q.1 = tied.0 in omega (arith, more, same)
+  at (inr tied) (inr other) = let a : q.0 < p.0 = tied.1 in let b : p.0 < q.0 = other.1 in omega (arith, a, b)
+
+-- so many buckets are passed, and the others left
+pub record Passes (b : Buckets) (q : ℕ × ℕ) (same : Bool) (n : ℕ) : Type 0 where
+  pub within : n ≤ length (numbers_in b.lasts)
+  pub before : (i : ℕ) → i < n → IsPassed (bucket_span b i) q same
+  pub behind : (k : ℕ) → k < length b.homes.items → n ≤ get_or b.homes.items k 0 → IsLeft (span_at b k) q same
+
+pub stretch_at : (b : Buckets) (count k n m : ℕ) (q : ℕ × ℕ) → AreSound b count → Passes b q false n → Passes b q true m → (node_at (nodes_in b.nodes) n).start ≤ k → k < (node_at (nodes_in b.nodes) m).start → span_cmp (span_at b k) q ≡ Equal
+stretch_at b count k n m q sound h g le less = between (span_at b k) q (h.behind k below (home_over b count n k sound h.within below le)) (g.before (home_of b k) (home_under b count m k sound g.within less)) where
+  below : k < length b.homes.items
+  below = let a : start_of b m ≤ length b.homes.items = start_within b count m sound g.within in omega (arith, less, a)
+
+pub stretch_ordered : (b : Buckets) (count n m : ℕ) (q : ℕ × ℕ) → AreSound b count → Passes b q false n → Passes b q true m → (node_at (nodes_in b.nodes) n).start ≤ (node_at (nodes_in b.nodes) m).start
+stretch_ordered b count n m q sound h g = at (cases_lt (start_of b m) (start_of b n)) where
+  at : (start_of b m < start_of b n) ⊎ (start_of b n ≤ start_of b m) → start_of b n ≤ start_of b m
+  at (inr le) = le
+  at (inl less) =
+      let a : start_of b n ≤ length b.homes.items = start_within b count n sound h.within in
+      let below : start_of b m < length b.homes.items = omega (arith, less, a) in
+      absurd (never_both (span_at b (start_of b m)) q (h.before (home_of b (start_of b m)) (home_under b count n (start_of b m) sound h.within less))
+      (g.behind (start_of b m) below (home_over b count m (start_of b m) sound g.within below (omega arith))))
+
+-- what is left stays so
+pub left_on : (b : Buckets) (count i k : ℕ) (q : ℕ × ℕ) (same : Bool) → AreSound b count → AreProper b → i < length (numbers_in b.lasts) → k < length b.homes.items → i ≤ get_or b.homes.items k 0
+    → IsLeft (bucket_span b i) q same → IsLeft (span_at b k) q same
+left_on b count i k q same sound proper within below le left = at (cases_order i (home_of b k)) where
+  at : (i ≡ home_of b k) ⊎ ((i < home_of b k) ⊎ (home_of b k < i)) → IsLeft (span_at b k) q same
+  at (inl is) = subst (λ n. IsLeft (bucket_span b n) q same) is left
+  at (inr (inr more)) = absurd (omega (arith, le, more))
+  at (inr (inl less)) = by left where
+    home : home_of b k < length (numbers_in b.lasts)
+    home = sound.home k below
+
+    rises : get_or (numbers_in b.lasts) i 0 ≤ get_or (numbers_in b.lasts) (home_of b k) 0
+    rises = sound.rising i (home_of b k) less home
+
+    by : IsLeft (bucket_span b i) q same → IsLeft (span_at b k) q same
+    by (inl more) = let a : q.1 < get_or (numbers_in b.lasts) i 0 = more in inl (omega (arith, a, rises))
+    by (inr tied) = ends (cases_lt (get_or (numbers_in b.lasts) i 0) (get_or (numbers_in b.lasts) (home_of b k) 0)) where
+      last : q.1 ≡ get_or (numbers_in b.lasts) i 0
+      last = tied.0
+
+      ends : (get_or (numbers_in b.lasts) i 0 < get_or (numbers_in b.lasts) (home_of b k) 0) ⊎ (get_or (numbers_in b.lasts) (home_of b k) 0 ≤ get_or (numbers_in b.lasts) i 0) → IsLeft (span_at b k) q same
+      ends (inl later) = inl (omega (arith, last, later))
+      ends (inr past) =
+          let own : (node_at (nodes_in b.nodes) (home_of b k)).first ≤ get_or (numbers_in b.lasts) (home_of b k) 0 = proper k below in
+          let inner : (node_at (nodes_in b.nodes) (home_of b k)).first ≤ (node_at (nodes_in b.nodes) i).first = sound.nested i (home_of b k) less home (omega (arith, own, past)) in
+          let out : (node_at (nodes_in b.nodes) i).first + (if same then 1 else 0) ≤ q.0 = tied.1 in
+          inr (omega (arith, last, past, rises), omega (arith, inner, out))
+
+-- the bucket of no rule ends before it begins
+pub proper_housed : (family : Family) (rules : List Listed) (b : Buckets) → AllByRecursion (IsOfFamily family) rules → AreHoused (spans_of rules) b → AreProper b
+proper_housed family rules b each housed = λ k below. proper_at family rules k (span_at b k) each (housed.homed k below)
+
+-- A stretch of the buckets is one of the rules.
+pub stretch_some : (xs : List (Option (ℕ × ℕ))) (b : Buckets) (q : ℕ × ℕ) (from to : ℕ) → AreHoused xs b → length b.homes.items ≤ length xs → from ≤ to → to ≤ length b.homes.items
+    → ((k : ℕ) → k < from → span_cmp (span_at b k) q ≡ Less) → ((k : ℕ) → from ≤ k → k < to → span_cmp (span_at b k) q ≡ Equal)
+    → ((k : ℕ) → to ≤ k → k < length b.homes.items → span_cmp (span_at b k) q ≡ Greater) → IsStretch xs (Some q) from to
+stretch_some xs b q from to h whole le within before at behind = record {
+  ordered = le;
+  within = omega (arith, within, whole);
+  before = λ k below. ap (place_by (Some q)) (h.homed k (omega (arith, below, le, within))) ∙ before k below;
+  at = λ k above below. ap (place_by (Some q)) (h.homed k (omega (arith, below, within))) ∙ at k above below;
+  behind = λ k above below. by k above (cases_lt k (length b.homes.items));
+} where
+  by : (k : ℕ) → to ≤ k → (k < length b.homes.items) ⊎ (length b.homes.items ≤ k) → place_by (Some q) (get_or xs k None) ≡ Greater
+  by k above (inl below) = ap (place_by (Some q)) (h.homed k below) ∙ behind k above below
+  by k above (inr past) = ap (place_by (Some q)) (h.bare k past)
+
+pub stretch_none : (xs : List (Option (ℕ × ℕ))) (b : Buckets) (count : ℕ) → AreHoused xs b → length b.homes.items ≤ count → count ≡ length xs → IsStretch xs None (length b.homes.items) count
+stretch_none xs b count h le whole = record {
+  ordered = le;
+  within = omega (arith, whole);
+  before = λ k below. ap (place_by None) (h.homed k below);
+  at = λ k above below. ap (place_by None) (h.bare k above);
+  behind = λ k above below. absurd (omega (arith, above, below, whole));
+}
+
+-- with the destination that stood there, or none, each number keeps its destination
+pub same_place : (t s : Option (ℕ × ℕ)) → place_by t s ≡ Equal → s ≡ t
+same_place None None e = refl
+same_place None (Some p) e = absurd (less_equal e)
+same_place (Some q) None e = absurd (equal_greater (sym e))
+same_place (Some q) (Some p) e = let s : (p.1 ≡ q.1) × (p.0 ≡ q.0) = same_of p q e in ap₂ (λ (x y : ℕ). Some (x, y)) s.1 s.0
+
+pub bare_behind : (s : Option (ℕ × ℕ)) → place_by None s ≡ Greater → ⊥
+bare_behind None e = equal_greater e
+bare_behind (Some p) e = less_greater e
+
+pub same_count : (xs news : List (Option (ℕ × ℕ))) (target : Option (ℕ × ℕ)) (from to : ℕ) → IsStretch xs target from to → AreTo target news → length news ≡ to - from
+    → (k : ℕ) → get_or (splice xs from to news) k None ≡ get_or xs k None
+same_count xs news target from to s each size k = at (part_at xs news target from to k (omega (arith, s.ordered, s.within)) each) where
+  at : Part xs news target from to k → get_or (splice xs from to news) k None ≡ get_or xs k None
+  at (inl a) = a.1
+  at (inr (inl a)) = a.2 ∙ sym (same_place target (get_or xs k None) (s.at k a.0 (omega (arith, a.1, size, s.ordered))))
+  at (inr (inr a)) = let there : to + (k - (from + length news)) ≡ k = omega (arith, a.0, size, s.ordered) in a.1 ∙ ap (λ i. get_or xs i None) there
+
+pub none_count : (xs news : List (Option (ℕ × ℕ))) (from to : ℕ) → IsStretch xs None from to → AreTo None news → (k : ℕ) → get_or (splice xs from to news) k None ≡ get_or xs k None
+none_count xs news from to s each k = at (part_at xs news None from to k (omega (arith, s.ordered, s.within)) each) where
+  past : (i : ℕ) → from ≤ i → get_or xs i None ≡ None
+  past i above = by (cases_lt i to) (cases_lt i (length xs)) where
+    by : (i < to) ⊎ (to ≤ i) → (i < length xs) ⊎ (length xs ≤ i) → get_or xs i None ≡ None
+    by (inl below) inside = same_place None (get_or xs i None) (s.at i above below)
+    by (inr le) (inl inside) = absurd (bare_behind (get_or xs i None) (s.behind i le inside))
+    by (inr le) (inr out) = get_or_past xs i None out
+
+  at : Part xs news None from to k → get_or (splice xs from to news) k None ≡ get_or xs k None
+  at (inl a) = a.1
+  at (inr (inl a)) = a.2 ∙ sym (past k a.0)
+  at (inr (inr a)) = a.1 ∙ past (to + (k - (from + length news))) (omega (arith, s.ordered)) ∙ sym (past k (omega (arith, a.0)))

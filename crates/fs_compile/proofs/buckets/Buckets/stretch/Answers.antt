@@ -1,0 +1,24 @@
+use Rattle.std.proofs.Common.{◌≡◌, ℕ, ◌≤◌, ◌<◌, Bool, true, false, ap, arith}
+use Rattle.fs_compile.specs.declared.nodes.Node.{Node}
+use Rattle.fs_compile.specs.Addresses.{nodes_in}
+use Rattle.fs_compile.specs.Buckets.{node_at}
+use Rattle.fs_compile.proofs.Stretching.{Passes, stretch_at, stretch_ordered}
+use Rattle.fs_compile.proofs.buckets.Buckets.stretch.Goals as goal
+
+pub returns-clause-ordered : goal.returns-clause-ordered
+returns-clause-ordered c =
+    let a = ap (λ (n : Node ℕ). n.start) c.at.ensures in
+    let b = ap (λ (n : Node ℕ). n.start) c.at-2.ensures in
+    let le = stretch_ordered c.args.self.now c.requires.sound.0 c.passed-from.result c.passed-to.result (c.args.first, c.args.last) c.requires.sound.1
+    (record { within = c.passed-from.ensures.within; before = c.passed-from.ensures.before; behind = c.passed-from.ensures.behind })
+    (record { within = c.passed-to.ensures.within; before = c.passed-to.ensures.before; behind = c.passed-to.ensures.behind }) in
+    omega (arith, a, b, le)
+
+pub returns-clause-at : goal.returns-clause-at
+returns-clause-at c = λ k above below.
+    let a = ap (λ (n : Node ℕ). n.start) c.at.ensures in
+    let b = ap (λ (n : Node ℕ). n.start) c.at-2.ensures in
+    stretch_at c.args.self.now c.requires.sound.0 k c.passed-from.result c.passed-to.result (c.args.first, c.args.last) c.requires.sound.1
+    (record { within = c.passed-from.ensures.within; before = c.passed-from.ensures.before; behind = c.passed-from.ensures.behind })
+    (record { within = c.passed-to.ensures.within; before = c.passed-to.ensures.before; behind = c.passed-to.ensures.behind })
+    (omega (arith, a, above)) (omega (arith, b, below))

@@ -1,0 +1,10 @@
+use Rattle.fs_rules.specs.Lent.{all_admitted}
+use Rattle.fs_compile.specs.Index.{spans_of}
+use Rattle.fs_compile.proofs.Widths.{narrow}
+use Rattle.fs_compile.proofs.buckets.buckets_of.Goals as goal
+
+pub runs_of-requires-clause-narrow : goal.runs_of-requires-clause-narrow
+runs_of-requires-clause-narrow c = narrow c.args.family (all_admitted c.args.list.now) c.requires.each
+
+pub buckets_with-requires-clause-some : goal.buckets_with-requires-clause-some
+buckets_with-requires-clause-some c = (spans_of (all_admitted c.args.list.now), c.in_ok-runs_of.ensures.runs, narrow c.args.family (all_admitted c.args.list.now) c.requires.each, c.requires.nesting)

@@ -1,0 +1,43 @@
+use Rattle.std.proofs.Common.{List, ◌∷◌, ◌+◌, sym, ap, subst, ◌∙◌, drop, arith}
+use Rattle.std.proofs.lemmas.List.{drop_more}
+use Rattle.std.specs.List.{AllByRecursion}
+use Rattle.fs_rules.specs.Lent.{Listed, all_admitted}
+use Rattle.fs_rules.specs.Table.{admitted}
+use Rattle.fs_rules.specs.declared.noted.Change.{Change}
+use Rattle.fs_compile.specs.Index.{IsOfFamily, spans_of}
+use Rattle.fs_compile.specs.Matcher.{admitted_in}
+use Rattle.fs_compile.specs.Mending.{AreTo, target_of}
+use Rattle.fs_compile.proofs.Mended.{Mends, drop_past, listed_to, mends_first, mends_next, mends_own, mends_stand, own_here, own_item, to_here}
+use Rattle.fs_compile.proofs.Nesting.{all_of_family}
+use Rattle.fs_compile.proofs.compiled.Compiled.mend.Goals as goal
+
+pub loop-place-init : goal.loop-place-init
+loop-place-init c = subst (λ (ps : List Change). Mends ps c.args.table.now c.args.self.now) (sym c.places-places.ensures.places)
+    (mends_first c.args.changes.now.places c.requires.0 c.args.table.now c.args.self.now c.requires.1 c.requires.2 (c.requires.3 (sym c.are_all.ensures ∙ c.if-are_all.false)))
+
+pub replace-requires-clause-each : goal.replace-requires-clause-each
+replace-requires-clause-each c = subst (AllByRecursion (IsOfFamily c.place-item.result.family))
+    (sym (ap all_admitted c.deref.ensures.value ∙ c.in_ok-list.ensures.list ∙ listed_to c.place-item.result.family c.place-item.result.destination c.args.table.now))
+    (own_here c.place-item.result.family c.place-item.result.destination (admitted_in c.args.table.now c.place-item.result.family)
+    (all_of_family c.place-item.result.family (admitted c.place-item.result.family c.args.table.now) (c.admitted_to.ensures.rules c.place-item.result.family)))
+
+pub replace-requires-clause-there : goal.replace-requires-clause-there
+replace-requires-clause-there c = subst (λ (rs : List Listed). AreTo (target_of c.place-item.result.destination) (spans_of rs))
+    (sym (ap all_admitted c.deref.ensures.value ∙ c.in_ok-list.ensures.list ∙ listed_to c.place-item.result.family c.place-item.result.destination c.args.table.now))
+    (to_here c.place-item.result.family c.place-item.result.destination (admitted_in c.args.table.now c.place-item.result.family)
+    (own_item c.places-places.result.now c.args.changes.now.places c.loop-place.place-index c.place-item.result c.places-places.ensures.places c.loop-place-test.true c.place-item.is c.places-places.ensures.own)
+    (all_of_family c.place-item.result.family (admitted c.place-item.result.family c.args.table.now) (c.admitted_to.ensures.rules c.place-item.result.family)))
+
+pub loop-place-preserved : goal.loop-place-preserved
+loop-place-preserved c = mends_next c.place-item.result (drop (c.loop-place.place-index + 1) c.places-places.result.now) c.args.table.now c.loop-place.self c.replace.new.self (all_admitted c.deref.result.now)
+    (own_item c.places-places.result.now c.args.changes.now.places c.loop-place.place-index c.place-item.result c.places-places.ensures.places c.loop-place-test.true c.place-item.is c.places-places.ensures.own)
+    c.admitted_to.ensures.rules c.admitted_to.ensures.admitted (ap all_admitted c.deref.ensures.value ∙ c.in_ok-list.ensures.list) c.in_ok-replace.ensures
+    (subst (λ (ps : List Change). Mends ps c.args.table.now c.loop-place.self)
+    (drop_more c.places-places.result.now c.loop-place.place-index c.place-item.result c.loop-place-test.true ∙ ap (λ (x : Change). x ∷ drop (c.loop-place.place-index + 1) c.places-places.result.now) (sym c.place-item.is))
+    c.loop-place.invariant)
+
+pub returns-clause-stands : goal.returns-clause-stands
+returns-clause-stands c = mends_stand c.args.table.now c.loop-place.self (subst (λ (ps : List Change). Mends ps c.args.table.now c.loop-place.self) (drop_past c.places-places.result.now c.loop-place.place-index (omega (arith, c.loop-place-test.false))) c.loop-place.invariant)
+
+pub returns-clause-own : goal.returns-clause-own
+returns-clause-own c = mends_own c.args.table.now c.loop-place.self (subst (λ (ps : List Change). Mends ps c.args.table.now c.loop-place.self) (drop_past c.places-places.result.now c.loop-place.place-index (omega (arith, c.loop-place-test.false))) c.loop-place.invariant)

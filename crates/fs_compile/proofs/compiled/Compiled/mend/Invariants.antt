@@ -1,0 +1,6 @@
+use Rattle.std.proofs.Common.{drop}
+use Rattle.fs_compile.proofs.Mended.{Mends}
+use Rattle.fs_compile.proofs.compiled.Compiled.mend.Given as goal
+
+abbrev pub invariant-loop-place : goal.invariant-loop-place
+invariant-loop-place l = Mends (drop l.place-index l.places) l.table l.self

@@ -1,0 +1,81 @@
+use Rattle.std.proofs.Common.{◌≡◌, ℕ, ◌+◌, ◌-◌, ◌<◌, ◌++◌, ◌∷◌, [], List, length, sym, ap, subst, ◌∙◌, arith}
+use Rattle.std.specs.List.{All, splice}
+use Rattle.std.specs.Vec.Iter.{into_iter_items}
+use Rattle.std.proofs.lemmas.List.Elements.{All-head, All-push, All-tail}
+use Rattle.fs_compile.specs.declared.fast.Fast.{Fast}
+use Rattle.fs_compile.specs.declared.filters.Filter.{Filter}
+use Rattle.fs_compile.specs.Filters.{IsFilter}
+use Rattle.fs_compile.proofs.Filtering.{filter_kept, filter_moved}
+use Rattle.fs_compile.proofs.Splicing.{spliced_size}
+use Rattle.fs_compile.proofs.index.mended_filters.Goals as goal
+
+no_less : (i : ℕ) → i < 0 → ⊥
+no_less i h = omega (arith, h)
+
+all_none : (P : Filter → Type 0) → All P []
+all_none P k d below = absurd (no_less k below)
+
+-- one more, and the others that are left
+pushed : (rules : List Fast) (new old : List Filter) (f : Filter) → new ≡ old ++ f ∷ [] → All (IsFilter rules) old → IsFilter rules f → All (IsFilter rules) new
+pushed rules new old f is h k = subst (λ (fs : List Filter). All (IsFilter rules) fs) (sym is) (All-push (IsFilter rules) old f h k)
+
+head_of : (rules : List Fast) (left rest : List Filter) (f : Filter) → left ≡ f ∷ rest → All (IsFilter rules) left → IsFilter rules f
+head_of rules left rest f is h = All-head (IsFilter rules) f rest (subst (λ (fs : List Filter). All (IsFilter rules) fs) is h)
+
+tail_of : (rules : List Fast) (left rest : List Filter) (f : Filter) → left ≡ f ∷ rest → All (IsFilter rules) left → All (IsFilter rules) rest
+tail_of rules left rest f is h = All-tail (IsFilter rules) f rest (subst (λ (fs : List Filter). All (IsFilter rules) fs) is h)
+
+pub loop-filter-init : goal.loop-filter-init
+loop-filter-init c = record {
+  runs = subst (λ (fs : List Filter). All (IsFilter c.args.rules.now) fs) (sym c.new-runs.ensures.items) (all_none (IsFilter c.args.rules.now));
+  left = λ before h. subst (λ (fs : List Filter). All (IsFilter before) fs) (sym c.into_iter-filter-iterator.ensures.into_iter_gives.0) h;
+}
+
+pub loop-filter-preserved-in-Continue-1 : goal.loop-filter-preserved-in-Continue-1
+loop-filter-preserved-in-Continue-1 c = record {
+  runs = pushed c.args.rules.now c.push.new.self.items c.loop-filter.runs.items c.in-Some.filter c.in_ok-push.ensures.items c.loop-filter.invariant.runs
+      (subst (λ rules. IsFilter rules c.in-Some.filter) (sym c.requires.was.5)
+      (filter_kept c.requires.was.0 c.requires.was.1 c.args.from c.args.to c.in-Some.filter c.requires.bounds c.requires.was.3 c.if-filter-from.true
+      (head_of c.requires.was.0 (into_iter_items c.loop-filter.filter-iterator) (into_iter_items c.next.new.self) c.in-Some.filter c.in-Some.ensures.steps.0 (c.loop-filter.invariant.left c.requires.was.0 c.requires.was.2))));
+  left = λ before h. tail_of before (into_iter_items c.loop-filter.filter-iterator) (into_iter_items c.next.new.self) c.in-Some.filter c.in-Some.ensures.steps.0 (c.loop-filter.invariant.left before h);
+}
+
+pub overflow_add-first-then-to-filter : goal.overflow_add-first-then-to-filter
+overflow_add-first-then-to-filter c = omega (arith, own.ordered, own.within, size, c.requires.was.4, whole, c.requires.few) where
+  own : IsFilter c.requires.was.0 c.in-Some.filter
+  own = head_of c.requires.was.0 (into_iter_items c.loop-filter.filter-iterator) (into_iter_items c.next.new.self) c.in-Some.filter c.in-Some.ensures.steps.0 (c.loop-filter.invariant.left c.requires.was.0 c.requires.was.2)
+
+  size : length (splice c.requires.was.0 c.args.from c.args.to c.requires.was.1) + c.args.to ≡ c.args.from + length c.requires.was.1 + length c.requires.was.0
+  size = spliced_size c.requires.was.0 c.requires.was.1 c.args.from c.args.to c.requires.bounds c.requires.was.3
+
+  whole : length c.args.rules.now ≡ length (splice c.requires.was.0 c.args.from c.args.to c.requires.was.1)
+  whole = ap length c.requires.was.5
+
+pub moved-requires-clause-fits : goal.moved-requires-clause-fits
+moved-requires-clause-fits c = omega (arith, own.ordered, own.within, size, c.requires.was.4, whole, c.requires.few) where
+  own : IsFilter c.requires.was.0 c.in-Some.filter
+  own = head_of c.requires.was.0 (into_iter_items c.loop-filter.filter-iterator) (into_iter_items c.next.new.self) c.in-Some.filter c.in-Some.ensures.steps.0 (c.loop-filter.invariant.left c.requires.was.0 c.requires.was.2)
+
+  size : length (splice c.requires.was.0 c.args.from c.args.to c.requires.was.1) + c.args.to ≡ c.args.from + length c.requires.was.1 + length c.requires.was.0
+  size = spliced_size c.requires.was.0 c.requires.was.1 c.args.from c.args.to c.requires.bounds c.requires.was.3
+
+  whole : length c.args.rules.now ≡ length (splice c.requires.was.0 c.args.from c.args.to c.requires.was.1)
+  whole = ap length c.requires.was.5
+
+pub loop-filter-preserved-in-Continue-branch-2 : goal.loop-filter-preserved-in-Continue-branch-2
+loop-filter-preserved-in-Continue-branch-2 c = record {
+  runs = pushed c.args.rules.now c.push-then-to-filter.new.self.items c.loop-filter.runs.items c.moved.result c.in_ok-push-2.ensures.items c.loop-filter.invariant.runs
+      (subst (λ rules. IsFilter rules c.moved.result) (sym c.requires.was.5)
+      (filter_moved c.requires.was.0 c.requires.was.1 c.args.from c.args.to c.args.size c.in-Some.filter c.moved.result c.requires.bounds c.requires.was.3 c.if-to-filter.true c.requires.was.4 c.moved.ensures
+      (head_of c.requires.was.0 (into_iter_items c.loop-filter.filter-iterator) (into_iter_items c.next.new.self) c.in-Some.filter c.in-Some.ensures.steps.0 (c.loop-filter.invariant.left c.requires.was.0 c.requires.was.2))));
+  left = λ before h. tail_of before (into_iter_items c.loop-filter.filter-iterator) (into_iter_items c.next.new.self) c.in-Some.filter c.in-Some.ensures.steps.0 (c.loop-filter.invariant.left before h);
+}
+
+pub loop-filter-preserved : goal.loop-filter-preserved
+loop-filter-preserved c = record {
+  runs = c.loop-filter.invariant.runs;
+  left = λ before h. tail_of before (into_iter_items c.loop-filter.filter-iterator) (into_iter_items c.next.new.self) c.in-Some.filter c.in-Some.ensures.steps.0 (c.loop-filter.invariant.left before h);
+}
+
+pub put_filter-requires-clause-filters : goal.put_filter-requires-clause-filters
+put_filter-requires-clause-filters c = c.loop-filter.invariant.runs

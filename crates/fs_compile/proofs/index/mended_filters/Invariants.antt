@@ -1,0 +1,12 @@
+use Rattle.std.proofs.Common.{List}
+use Rattle.std.specs.List.{All}
+use Rattle.std.specs.Vec.Iter.{into_iter_items}
+use Rattle.fs_compile.specs.declared.fast.Fast.{Fast}
+use Rattle.fs_compile.specs.Filters.{IsFilter}
+use Rattle.fs_compile.proofs.index.mended_filters.Given as goal
+
+abbrev pub invariant-loop-filter : goal.invariant-loop-filter
+invariant-loop-filter l = record {
+  runs : All (IsFilter l.rules) l.runs.items;
+  left : (before : List Fast) → All (IsFilter before) l.fn.old.runs.items → All (IsFilter before) (into_iter_items l.filter-iterator);
+}

@@ -1,0 +1,99 @@
+-- Rules of one destination put anew among others.
+use Rattle.std.specs.Prelude.{◌≡◌, ◌≢◌, ◌⊎◌, ℕ, ◌+◌, ◌-◌, ◌^◌, ◌<◌, ◌≤◌, ◌++◌, Bool, if◌then◌else◌, Option, Some, None, option_map, List, length, get_or, filter}
+use Rattle.std.specs.List.{AllByRecursion}
+use Rattle.std.specs.Ordering.{is_gt, is_lt, nat_cmp, ordering_then}
+use Rattle.std.specs.declared.cmp.Ordering.{Ordering}
+use Rattle.std.specs.declared.cmp.Ordering.TheVariants.{Less, Equal, Greater}
+use Rattle.fs_base.specs.declared.prefix.Family.{Family}
+use Rattle.fs_base.specs.declared.prefix.Family.TheVariants.{V4, V6}
+use Rattle.fs_base.specs.declared.prefix.Prefix.{Prefix}
+use Rattle.fs_nlri.specs.Rule.{shown}
+use Rattle.fs_rules.specs.Lent.{Listed}
+use Rattle.fs_compile.specs.declared.buckets.Buckets.{Buckets}
+use Rattle.fs_compile.specs.Addresses.{numbers_in, nodes_in}
+use Rattle.fs_compile.specs.Buckets.{node_at}
+use Rattle.fs_compile.specs.Index.{IsOfFamily, span_at, span_by, span_of}
+
+-- each rule has a destination
+abbrev pub AreAll : List (Option (ℕ × ℕ)) → Type 0
+AreAll spans = (k : ℕ) → k < length spans → get_or spans k None ≢ None
+
+-- the addresses have so many bits
+abbrev pub AreNarrow : (width : ℕ) → List (Option (ℕ × ℕ)) → Type 0
+AreNarrow width spans =
+    (k : ℕ) (p : ℕ × ℕ) → get_or spans k None ≡ Some p → (p.0 < 2 ^ width) × (p.1 < 2 ^ width)
+
+-- from a place on stand rules of these buckets, those from one number on before another
+abbrev pub Keeps : Buckets → (from to place : ℕ) → List (Option (ℕ × ℕ)) → Type 0
+Keeps b from to place spans =
+    (k : ℕ) → from ≤ k → k < to → get_or spans (place + (k - from)) None ≡ Some (span_at b k)
+
+-- from a place on stand these
+abbrev pub Adds : List (Option (ℕ × ℕ)) → (place : ℕ) → List (Option (ℕ × ℕ)) → Type 0
+Adds news place spans = (k : ℕ) → k < length news → get_or spans (place + k) None ≡ get_or news k None
+
+-- new ones stand in the place of the rules of these buckets from one number on before another
+pub record Mends (b : Buckets) (from to : ℕ) (news spans : List (Option (ℕ × ℕ))) : Type 0 where
+  pub front : Keeps b 0 from 0 spans
+  pub middle : Adds news from spans
+  pub back : Keeps b to (length b.homes.items) (from + length news) spans
+
+-- how one destination stands to another, by first and last addresses: of those that end alike the shorter stands first
+abbrev pub span_cmp : ℕ × ℕ → ℕ × ℕ → Ordering
+span_cmp p q = ordering_then (nat_cmp p.1 q.1) (nat_cmp q.0 p.0)
+
+-- how a rule's destination stands to this one; a rule without one comes last
+abbrev pub place_by : (target span : Option (ℕ × ℕ)) → Ordering
+place_by None None = Equal
+place_by None (Some p) = Less
+place_by (Some q) None = Greater
+place_by (Some q) (Some p) = span_cmp p q
+
+-- the rules from one number on before another have this destination, those before come first, those behind come last
+pub record IsStretch (spans : List (Option (ℕ × ℕ))) (target : Option (ℕ × ℕ)) (from to : ℕ) : Type 0 where
+  pub ordered : from ≤ to
+  pub within : to ≤ length spans
+  pub before : (k : ℕ) → k < from → place_by target (get_or spans k None) ≡ Less
+  pub at : (k : ℕ) → from ≤ k → k < to → place_by target (get_or spans k None) ≡ Equal
+  pub behind : (k : ℕ) → to ≤ k → k < length spans → place_by target (get_or spans k None) ≡ Greater
+
+-- the rules with these in the place of those that have this destination
+abbrev pub replaced : (target : Option (ℕ × ℕ)) → (news rules : List Listed) → List Listed
+replaced target news rules =
+    filter (λ r. is_lt (place_by target (span_of r.rule))) rules
+    ++ (news ++ filter (λ r. is_gt (place_by target (span_of r.rule))) rules)
+
+-- the first and the last address of a bucket
+abbrev pub bucket_span : Buckets → ℕ → ℕ × ℕ
+bucket_span b i = ((node_at (nodes_in b.nodes) i).first, get_or (numbers_in b.lasts) i 0)
+
+-- the bucket of no rule ends before it begins
+abbrev pub AreProper : Buckets → Type 0
+AreProper b = (k : ℕ) → k < length b.homes.items → (span_at b k).0 ≤ (span_at b k).1
+
+-- the one stands before the other, or may be the same
+abbrev pub IsPassed : ℕ × ℕ → ℕ × ℕ → (same : Bool) → Type 0
+IsPassed p q same = (p.1 < q.1) ⊎ ((p.1 ≡ q.1) × (q.0 < p.0 + (if same then 1 else 0)))
+
+-- the one stands behind the other, or, where that isn't passed, may be the same
+abbrev pub IsLeft : ℕ × ℕ → ℕ × ℕ → (same : Bool) → Type 0
+IsLeft p q same = (q.1 < p.1) ⊎ ((q.1 ≡ p.1) × (p.0 + (if same then 1 else 0) ≤ q.0))
+
+-- each rule has this destination
+abbrev pub AreTo : Option (ℕ × ℕ) → List (Option (ℕ × ℕ)) → Type 0
+AreTo target spans = (k : ℕ) → k < length spans → get_or spans k None ≡ target
+
+-- the first and the last address of a destination
+abbrev pub target_of : Option Prefix → Option (ℕ × ℕ)
+target_of destination = span_by (option_map shown destination)
+
+-- the rules of one family put in the place of those that it has
+abbrev pub put_in : Family → List Listed → (Family → List Listed) → Family → List Listed
+put_in V4 news rules V4 = news
+put_in V4 news rules V6 = rules V6
+put_in V6 news rules V4 = rules V4
+put_in V6 news rules V6 = news
+
+-- each rule is one of its family
+abbrev pub AreOwn : (Family → List Listed) → Type 0
+AreOwn rules = (family : Family) → AllByRecursion (IsOfFamily family) (rules family)
