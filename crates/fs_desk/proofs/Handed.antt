@@ -7,6 +7,7 @@ use Rattle.fs_base.specs.Config.{peer_of}
 use Rattle.fs_base.specs.declared.config.Config.{Config}
 use Rattle.fs_base.specs.declared.config.Peer.{Peer}
 use Rattle.fs_message.specs.Deframer.{pending}
+use Rattle.fs_rules.specs.Changes.{Noted}
 use Rattle.fs_rules.specs.Table.{Held}
 use Rattle.fs_speaker.specs.declared.Closed.{Closed}
 use Rattle.fs_session.specs.declared.times.Times.{Times}
@@ -73,25 +74,25 @@ is_handed old new piece replies replies' before comes after waiting =
 one_session : (found session : Live) (o : Option Live) → o ≡ Some found → o ≡ Some session → found ≡ session
 one_session found session o e f = ap (λ (x : Option Live). elim x [ None ↦ found | Some l ↦ l ]) (sym e ∙ f)
 
-pub desk_handed : (n : ℕ) (piece replies replies' : List ℕ) (session session' : Live) (own : Config) (table table' : Held) (sessions sessions' : List (ℕ × Live)) (old : Desked)
-    → old ≡ desk_of own table sessions → session_at n sessions ≡ Some session → TakesPiece n session session' table table' piece → PieceComes session session' piece replies replies'
-    → sessions' ≡ set_value (is_at (nat_cmp n)) sessions session' → HandsPeer n old (desk_of own table' sessions') piece replies replies'
-desk_handed n piece replies replies' session session' own table table' sessions sessions' old e there takes comes s config items found found' p here here' alive =
+pub desk_handed : (noted noted' : Noted) (n : ℕ) (piece replies replies' : List ℕ) (session session' : Live) (own : Config) (table table' : Held) (sessions sessions' : List (ℕ × Live)) (old : Desked)
+    → old ≡ desk_of own table noted sessions → session_at n sessions ≡ Some session → TakesPiece n session session' table table' piece → PieceComes session session' piece replies replies'
+    → sessions' ≡ set_value (is_at (nat_cmp n)) sessions session' → HandsPeer n old (desk_of own table' noted' sessions') piece replies replies'
+desk_handed noted noted' n piece replies replies' session session' own table table' sessions sessions' old e there takes comes s config items found found' p here here' alive =
     let first : found ≡ session = one_session found session (session_at n sessions) (ap (λ (d : Desked). session_at n d.sessions) (sym e) ∙ here) there in
     let now_there : session_at n sessions' ≡ Some session' = session_value n n session session' sessions sessions' there s ∙ chosen (n == n) _ _ (itself n) in
     let last : found' ≡ session' = one_session found' session' (session_at n sessions') here' now_there in
     let after : session'.closed ≡ None = ap (λ (l : Live). l.closed) (sym last) ∙ alive in
     let both = comes after in
-    let whole : Played config (items ++ received n piece ∷ []) (desk_of own table' sessions') =
-    desk_fed config items n piece session session' own table table' sessions sessions' old e there takes s p in
+    let whole : Played config (items ++ received n piece ∷ []) (desk_of own table' noted' sessions') =
+    desk_fed {noted = noted} {noted' = noted'} config items n piece session session' own table table' sessions sessions' old e there takes s p in
     subst (λ (l : Live). IsHanded l found' piece replies replies') (sym first)
     (subst (λ (l : Live). IsHanded session l piece replies replies') (sym last)
-    (is_handed session session' piece replies replies' both.0 both.1 after (open_waits config (items ++ received n piece ∷ []) n session' (desk_of own table' sessions') now_there after whole)))
+    (is_handed session session' piece replies replies' both.0 both.1 after (open_waits config (items ++ received n piece ∷ []) n session' (desk_of own table' noted' sessions') now_there after whole)))
 
 -- a peer that is down has no session
-pub desk_unhanded : (n : ℕ) (piece replies : List ℕ) (own : Config) (table table' : Held) (sessions sessions' : List (ℕ × Live)) (old : Desked) → old ≡ desk_of own table sessions → session_at n sessions ≡ None
-    → HandsPeer n old (desk_of own table' sessions') piece replies replies
-desk_unhanded n piece replies own table table' sessions sessions' old e none config items found found' p here here' alive =
+pub desk_unhanded : (noted noted' : Noted) (n : ℕ) (piece replies : List ℕ) (own : Config) (table table' : Held) (sessions sessions' : List (ℕ × Live)) (old : Desked) → old ≡ desk_of own table noted sessions → session_at n sessions ≡ None
+    → HandsPeer n old (desk_of own table' noted' sessions') piece replies replies
+desk_unhanded noted noted' n piece replies own table table' sessions sessions' old e none config items found found' p here here' alive =
     absurd (never (sym (ap (λ (d : Desked). session_at n d.sessions) (sym e) ∙ here) ∙ none))
   where
     never : Some found ≡ None → ⊥

@@ -11,6 +11,7 @@ use Rattle.std.proofs.lemmas.Map.Keys.{IsDistinct-from_sorted}
 use Rattle.fs_base.specs.Config.{peer_of}
 use Rattle.fs_base.specs.declared.config.Config.{Config}
 use Rattle.fs_base.specs.declared.config.Peer.{Peer}
+use Rattle.fs_rules.specs.Changes.{Noted}
 use Rattle.fs_rules.specs.Table.{Held}
 use Rattle.fs_speaker.specs.Line.{fresh}
 use Rattle.fs_speaker.specs.Session.{Live, live, begins}
@@ -258,11 +259,11 @@ played_silent config items n piece before desk none p =
     refl
 
 -- before the first item
-pub played_none : (config : Config) (desk : Desked) → desk ≡ record { config = config; held = record { config = config; unicast = []; flows = [] }; sessions = [] } → Played config [] desk
+pub played_none : (config : Config) (noted : Noted) (desk : Desked) → desk ≡ record { config = config; held = record { config = config; unicast = []; flows = [] }; changes = noted; sessions = [] } → Played config [] desk
 unfolding IsStrictlySortedBy
-played_none config desk e = subst (λ (d : Desked). Played config [] d) (sym e) first
+played_none config noted desk e = subst (λ (d : Desked). Played config [] d) (sym e) first
   where
-    first : Played config [] (record { config = config; held = record { config = config; unicast = []; flows = [] }; sessions = [] })
+    first : Played config [] (record { config = config; held = record { config = config; unicast = []; flows = [] }; changes = noted; sessions = [] })
     first = record {
       config_is = refl;
       held_is = refl;
@@ -272,36 +273,36 @@ played_none config desk e = subst (λ (d : Desked). Played config [] d) (sym e) 
     }
 
 -- of the desk's parts
-pub desk_lost : (config : Config) (items : List Item) (n : ℕ) (own : Config) (table table' : Held) (sessions sessions' : List (ℕ × Live)) (old : Desked)
-    → old ≡ record { config = own; held = table; sessions = sessions } → Changes n nothing nothing table table' → sessions' ≡ remove_entry (is_at (nat_cmp n)) sessions
-    → Played config items old → Played config (items ++ was_lost n ∷ []) (record { config = own; held = table'; sessions = sessions' })
-desk_lost config items n own table table' sessions sessions' old e t s p =
-    played_lost config items n (record { config = own; held = table; sessions = sessions }) (record { config = own; held = table'; sessions = sessions' }) t refl s
+pub desk_lost : {noted noted' : Noted} (config : Config) (items : List Item) (n : ℕ) (own : Config) (table table' : Held) (sessions sessions' : List (ℕ × Live)) (old : Desked)
+    → old ≡ record { config = own; held = table; changes = noted; sessions = sessions } → Changes n nothing nothing table table' → sessions' ≡ remove_entry (is_at (nat_cmp n)) sessions
+    → Played config items old → Played config (items ++ was_lost n ∷ []) (record { config = own; held = table'; changes = noted'; sessions = sessions' })
+desk_lost {noted} {noted'} config items n own table table' sessions sessions' old e t s p =
+    played_lost config items n (record { config = own; held = table; changes = noted; sessions = sessions }) (record { config = own; held = table'; changes = noted'; sessions = sessions' }) t refl s
     (subst (λ (d : Desked). Played config items d) e p)
 
-pub desk_octets : (config : Config) (items : List Item) (n : ℕ) (piece : List ℕ) (session session' : Live) (own : Config) (table table' : Held) (sessions sessions' : List (ℕ × Live)) (old : Desked)
-    → old ≡ record { config = own; held = table; sessions = sessions }
+pub desk_octets : {noted noted' : Noted} (config : Config) (items : List Item) (n : ℕ) (piece : List ℕ) (session session' : Live) (own : Config) (table table' : Held) (sessions sessions' : List (ℕ × Live)) (old : Desked)
+    → old ≡ record { config = own; held = table; changes = noted; sessions = sessions }
     → session_at n sessions ≡ Some session → TakesPiece n session session' table table' piece
     → ((m : ℕ) → session_at m sessions' ≡ (if m == n then Some session' else session_at m sessions))
     → (IsStrictlySortedBy nat_cmp (keys_of sessions) → IsStrictlySortedBy nat_cmp (keys_of sessions'))
-    → Played config items old → Played config (items ++ received n piece ∷ []) (record { config = own; held = table'; sessions = sessions' })
-desk_octets config items n piece session session' own table table' sessions sessions' old e there takes s sorted p =
-    let q : Played config items (record { config = own; held = table; sessions = sessions }) = subst (λ (d : Desked). Played config items d) e p in
-    played_octets config items n piece session session' (record { config = own; held = table; sessions = sessions }) (record { config = own; held = table'; sessions = sessions' }) there takes refl s (sorted q.sessions) q
+    → Played config items old → Played config (items ++ received n piece ∷ []) (record { config = own; held = table'; changes = noted'; sessions = sessions' })
+desk_octets {noted} {noted'} config items n piece session session' own table table' sessions sessions' old e there takes s sorted p =
+    let q : Played config items (record { config = own; held = table; changes = noted; sessions = sessions }) = subst (λ (d : Desked). Played config items d) e p in
+    played_octets config items n piece session session' (record { config = own; held = table; changes = noted; sessions = sessions }) (record { config = own; held = table'; changes = noted'; sessions = sessions' }) there takes refl s (sorted q.sessions) q
 
-pub desk_skipped : (config : Config) (items : List Item) (n : ℕ) (piece : List ℕ) (own : Config) (table : Held) (sessions sessions' : List (ℕ × Live)) (old : Desked)
-    → old ≡ record { config = own; held = table; sessions = sessions } → session_at n sessions ≡ None → sessions' ≡ sessions
-    → Played config items old → Played config (items ++ received n piece ∷ []) (record { config = own; held = table; sessions = sessions' })
-desk_skipped config items n piece own table sessions sessions' old e none same p =
-    subst (λ (z : List (ℕ × Live)). Played config (items ++ received n piece ∷ []) (record { config = own; held = table; sessions = z })) (sym same)
-    (played_skipped config items n piece (record { config = own; held = table; sessions = sessions }) none (subst (λ (d : Desked). Played config items d) e p))
+pub desk_skipped : {noted : Noted} (config : Config) (items : List Item) (n : ℕ) (piece : List ℕ) (own : Config) (table : Held) (sessions sessions' : List (ℕ × Live)) (old : Desked)
+    → old ≡ record { config = own; held = table; changes = noted; sessions = sessions } → session_at n sessions ≡ None → sessions' ≡ sessions
+    → Played config items old → Played config (items ++ received n piece ∷ []) (record { config = own; held = table; changes = noted; sessions = sessions' })
+desk_skipped {noted} config items n piece own table sessions sessions' old e none same p =
+    subst (λ (z : List (ℕ × Live)). Played config (items ++ received n piece ∷ []) (record { config = own; held = table; changes = noted; sessions = z })) (sym same)
+    (played_skipped config items n piece (record { config = own; held = table; changes = noted; sessions = sessions }) none (subst (λ (d : Desked). Played config items d) e p))
 
-pub played_new : (config : Config) (table : Held) (sessions : List (ℕ × Live)) → table ≡ record { config = config; unicast = []; flows = [] } → sessions ≡ []
-    → Played config [] (record { config = config; held = table; sessions = sessions })
-played_new config table sessions e f =
-    played_none config (record { config = config; held = table; sessions = sessions })
-    (ap (λ (h : Held). let d : Desked = record { config = config; held = h; sessions = sessions } in d) e
-    ∙ ap (λ (s : List (ℕ × Live)). let d : Desked = record { config = config; held = record { config = config; unicast = []; flows = [] }; sessions = s } in d) f)
+pub played_new : {noted : Noted} (config : Config) (table : Held) (sessions : List (ℕ × Live)) → table ≡ record { config = config; unicast = []; flows = [] } → sessions ≡ []
+    → Played config [] (record { config = config; held = table; changes = noted; sessions = sessions })
+played_new {noted} config table sessions e f =
+    played_none config noted (record { config = config; held = table; changes = noted; sessions = sessions })
+    (ap (λ (h : Held). let d : Desked = record { config = config; held = h; changes = noted; sessions = sessions } in d) e
+    ∙ ap (λ (s : List (ℕ × Live)). let d : Desked = record { config = config; held = record { config = config; unicast = []; flows = [] }; changes = noted; sessions = s } in d) f)
 
 begun : (own : Config) (o : Option Peer) (session : Live) → option_map (λ (peer : Peer). live own peer fresh) o ≡ Some session
     → (peer : Peer) × (o ≡ Some peer) × (session ≡ live own peer fresh)
@@ -309,13 +310,13 @@ begun own None session h = absurd cc
 begun own (Some peer) session h = (peer, refl, ap (λ (s : Option Live). unwrap_or s session) (sym h))
 
 -- a new session of a lost peer is kept
-pub desk_up : (config : Config) (items : List Item) (n : ℕ) (session : Live) (own : Config) (table : Held) (sessions sessions' : List (ℕ × Live)) (mid : Desked)
-    → mid ≡ record { config = own; held = table; sessions = sessions } → begins own n ≡ Some session → sessions' ≡ insert_entry nat_cmp sessions n session
-    → Played config (items ++ was_lost n ∷ []) mid → Played config (items ++ came_up n ∷ []) (record { config = own; held = table; sessions = sessions' })
-desk_up config items n session own table sessions sessions' mid e b s p =
-    let q : Played config (items ++ was_lost n ∷ []) (record { config = own; held = table; sessions = sessions }) = subst (λ (d : Desked). Played config (items ++ was_lost n ∷ []) d) e p in
+pub desk_up : {noted : Noted} (config : Config) (items : List Item) (n : ℕ) (session : Live) (own : Config) (table : Held) (sessions sessions' : List (ℕ × Live)) (mid : Desked)
+    → mid ≡ record { config = own; held = table; changes = noted; sessions = sessions } → begins own n ≡ Some session → sessions' ≡ insert_entry nat_cmp sessions n session
+    → Played config (items ++ was_lost n ∷ []) mid → Played config (items ++ came_up n ∷ []) (record { config = own; held = table; changes = noted; sessions = sessions' })
+desk_up {noted} config items n session own table sessions sessions' mid e b s p =
+    let q : Played config (items ++ was_lost n ∷ []) (record { config = own; held = table; changes = noted; sessions = sessions }) = subst (λ (d : Desked). Played config (items ++ was_lost n ∷ []) d) e p in
     let found = begun own (peer_of n own.peers) session b in
-    played_up config items n found.0 session (record { config = own; held = table; sessions = sessions }) (record { config = own; held = table; sessions = sessions' })
+    played_up config items n found.0 session (record { config = own; held = table; changes = noted; sessions = sessions }) (record { config = own; held = table; changes = noted; sessions = sessions' })
     (ap (λ (c : Config). peer_of n c.peers) (sym q.config_is) ∙ found.1)
     (found.2 ∙ ap (λ (c : Config). live c found.0 fresh) q.config_is)
     refl refl s q
@@ -347,37 +348,41 @@ pub sorted_value : (n : ℕ) (session' : Live) (sessions sessions' : List (ℕ �
 sorted_value n session' sessions sessions' s sorted =
     subst (λ (ks : List ℕ). IsStrictlySortedBy nat_cmp ks) (sym (ap keys_of s ∙ keys-set_value (is_at (nat_cmp n)) sessions session')) sorted
 
-pub desk_fed : (config : Config) (items : List Item) (n : ℕ) (piece : List ℕ) (session session' : Live) (own : Config) (table table' : Held) (sessions sessions' : List (ℕ × Live)) (old : Desked)
-    → old ≡ record { config = own; held = table; sessions = sessions }
+pub desk_fed : {noted noted' : Noted} (config : Config) (items : List Item) (n : ℕ) (piece : List ℕ) (session session' : Live) (own : Config) (table table' : Held) (sessions sessions' : List (ℕ × Live)) (old : Desked)
+    → old ≡ record { config = own; held = table; changes = noted; sessions = sessions }
     → session_at n sessions ≡ Some session → TakesPiece n session session' table table' piece
     → sessions' ≡ set_value (is_at (nat_cmp n)) sessions session'
-    → Played config items old → Played config (items ++ received n piece ∷ []) (record { config = own; held = table'; sessions = sessions' })
-desk_fed config items n piece session session' own table table' sessions sessions' old e there takes s p =
-    desk_octets config items n piece session session' own table table' sessions sessions' old e there takes
+    → Played config items old → Played config (items ++ received n piece ∷ []) (record { config = own; held = table'; changes = noted'; sessions = sessions' })
+desk_fed {noted} {noted'} config items n piece session session' own table table' sessions sessions' old e there takes s p =
+    desk_octets {noted = noted} {noted' = noted'} config items n piece session session' own table table' sessions sessions' old e there takes
     (λ m. session_value m n session session' sessions sessions' there s)
     (sorted_value n session' sessions sessions' s)
     p
 
-pub desk_replied : (config : Config) (items : List Item) (n : ℕ) (piece before now : List ℕ) (session : Live) (own : Config) (table : Held) (sessions : List (ℕ × Live)) (old : Desked)
-    → old ≡ record { config = own; held = table; sessions = sessions } → session_at n sessions ≡ Some session → RepliesPiece n session table piece before now
+pub desk_replied : {noted : Noted} (config : Config) (items : List Item) (n : ℕ) (piece before now : List ℕ) (session : Live) (own : Config) (table : Held) (sessions : List (ℕ × Live)) (old : Desked)
+    → old ≡ record { config = own; held = table; changes = noted; sessions = sessions } → session_at n sessions ≡ Some session → RepliesPiece n session table piece before now
     → Played config items old → Replied config n (life n items) piece before now
-desk_replied config items n piece before now session own table sessions old e there replies p =
-    played_replied config items n piece before now session (record { config = own; held = table; sessions = sessions }) there replies
+desk_replied {noted} config items n piece before now session own table sessions old e there replies p =
+    played_replied config items n piece before now session (record { config = own; held = table; changes = noted; sessions = sessions }) there replies
     (subst (λ (d : Desked). Played config items d) e p)
 
-pub desk_silent : (config : Config) (items : List Item) (n : ℕ) (piece before : List ℕ) (own : Config) (table : Held) (sessions : List (ℕ × Live)) (old : Desked)
-    → old ≡ record { config = own; held = table; sessions = sessions } → session_at n sessions ≡ None
+pub desk_silent : {noted : Noted} (config : Config) (items : List Item) (n : ℕ) (piece before : List ℕ) (own : Config) (table : Held) (sessions : List (ℕ × Live)) (old : Desked)
+    → old ≡ record { config = own; held = table; changes = noted; sessions = sessions } → session_at n sessions ≡ None
     → Played config items old → Replied config n (life n items) piece before before
-desk_silent config items n piece before own table sessions old e none p =
-    played_silent config items n piece before (record { config = own; held = table; sessions = sessions }) none
+desk_silent {noted} config items n piece before own table sessions old e none p =
+    played_silent config items n piece before (record { config = own; held = table; changes = noted; sessions = sessions }) none
     (subst (λ (d : Desked). Played config items d) e p)
 
-abbrev pub desk_of : Config → Held → List (ℕ × Live) → Desked
-desk_of own table sessions = record { config = own; held = table; sessions = sessions }
+abbrev pub desk_of : Config → Held → Noted → List (ℕ × Live) → Desked
+desk_of own table noted sessions = record { config = own; held = table; changes = noted; sessions = sessions }
 
 -- the sessions stayed as they were
-pub desk_stays : (config : Config) (items : List Item) (own : Config) (table : Held) (sessions sessions' : List (ℕ × Live)) (old : Desked)
-    → old ≡ record { config = own; held = table; sessions = sessions } → sessions' ≡ sessions
-    → Played config items old → Played config items (record { config = own; held = table; sessions = sessions' })
-desk_stays config items own table sessions sessions' old e s p =
-    subst (λ (d : Desked). Played config items d) (e ∙ ap (λ (z : List (ℕ × Live)). desk_of own table z) (sym s)) p
+pub desk_stays : {noted : Noted} (config : Config) (items : List Item) (own : Config) (table : Held) (sessions sessions' : List (ℕ × Live)) (old : Desked)
+    → old ≡ record { config = own; held = table; changes = noted; sessions = sessions } → sessions' ≡ sessions
+    → Played config items old → Played config items (record { config = own; held = table; changes = noted; sessions = sessions' })
+desk_stays {noted} config items own table sessions sessions' old e s p =
+    subst (λ (d : Desked). Played config items d) (e ∙ ap (λ (z : List (ℕ × Live)). desk_of own table noted z) (sym s)) p
+
+-- whatever is noted
+pub played_noted : (config : Config) (items : List Item) (desk new : Desked) (noted : Noted) → new ≡ record desk { changes = noted } → Played config items desk → Played config items new
+played_noted config items desk new noted e p = subst (λ (d : Desked). Played config items d) (sym e) (record { config_is = p.config_is; held_is = p.held_is; listed = p.listed; sessions = p.sessions; each = p.each })

@@ -7,6 +7,7 @@ use Rattle.fs_base.specs.Config.{peer_of}
 use Rattle.fs_base.specs.declared.config.Config.{Config}
 use Rattle.fs_base.specs.declared.config.Peer.{Peer}
 use Rattle.fs_attrs.specs.declared.update.Update.{Update}
+use Rattle.fs_rules.specs.Changes.{Noted}
 use Rattle.fs_rules.specs.Table.{Held}
 use Rattle.fs_speaker.specs.declared.Closed.{Closed}
 use Rattle.fs_speaker.specs.declared.Closed.TheVariants.{Fault}
@@ -53,9 +54,9 @@ abbrev SameUp : ℕ → Live → Live → Held → Type 0
 SameUp n session session' held =
     (config : Config) (peer : Peer) (octets : List ℕ) → IsUp config peer n octets session held → IsUp config peer n octets session' held
 
-module _ (config : Config) (items : List Item) (n : ℕ) (session session' : Live) (own : Config) (table : Held) (sessions sessions' : List (ℕ × Live)) where
+module _ (config : Config) (items : List Item) (n : ℕ) (session session' : Live) (own : Config) (table : Held) (noted noted' : Noted) (sessions sessions' : List (ℕ × Live)) where
   stays_up : session_at n sessions ≡ Some session → sessions' ≡ set_value (is_at (nat_cmp n)) sessions session' → SameUp n session session' table
-      → Played config items (desk_of own table sessions) → Played config items (desk_of own table sessions')
+      → Played config items (desk_of own table noted sessions) → Played config items (desk_of own table noted' sessions')
   stays_up there s same p = record {
     config_is = p.config_is;
     held_is = p.held_is;
@@ -83,9 +84,9 @@ module _ (config : Config) (items : List Item) (n : ℕ) (session session' : Liv
           (subst (λ (x : Option Live). PeerIs config (peer_of n config.peers) (life n items) x n table) there (p.each n)))
 
 -- how it stood and how it stands, by the sessions
-stood : (n : ℕ) (session : Live) (sessions : List (ℕ × Live)) (own : Config) (table : Held) → session_at n sessions ≡ Some session
-    → standing_at_desk (desk_of own table sessions) n ≡ standing_by (Some session)
-stood n session sessions own table there = ap standing_by there
+stood : (noted : Noted) (n : ℕ) (session : Live) (sessions : List (ℕ × Live)) (own : Config) (table : Held) → session_at n sessions ≡ Some session
+    → standing_at_desk (desk_of own table noted sessions) n ≡ standing_by (Some session)
+stood noted n session sessions own table there = ap standing_by there
 
 never_ended : (session session' : Live) (why : Closed) → session.closed ≡ None → session'.closed ≡ Some why → standing_by (Some session') ≡ standing_by (Some session) → ⊥
 never_ended session session' why alive shut e = ended_not (sym by ∙ e ∙ was)
@@ -100,19 +101,19 @@ never_ended session session' why alive shut e = ended_not (sym by ∙ e ∙ was)
     was = ap (λ (c : Option Closed). elim c [ Some w ↦ Ended w | None ↦ LiveIn session.phase.state ]) alive
 
 -- of the desk's parts
-pub desk_ticked : (config : Config) (items : List Item) (n moment : ℕ) (session session' : Live) (own : Config) (table table' : Held) (sessions sessions' : List (ℕ × Live)) (old : Desked)
-    (replies replies' : List ℕ) → old ≡ desk_of own table sessions → session_at n sessions ≡ Some session → TicksSession n moment session session' table table' replies replies'
-    → sessions' ≡ set_value (is_at (nat_cmp n)) sessions session' → standing_at_desk (desk_of own table' sessions') n ≡ standing_at_desk old n
-    → Played config items old → Played config items (desk_of own table' sessions')
-desk_ticked config items n moment session session' own table table' sessions sessions' old replies replies' e there ticks s stays p =
+pub desk_ticked : {noted noted' : Noted} (config : Config) (items : List Item) (n moment : ℕ) (session session' : Live) (own : Config) (table table' : Held) (sessions sessions' : List (ℕ × Live)) (old : Desked)
+    (replies replies' : List ℕ) → old ≡ desk_of own table noted sessions → session_at n sessions ≡ Some session → TicksSession n moment session session' table table' replies replies'
+    → sessions' ≡ set_value (is_at (nat_cmp n)) sessions session' → standing_at_desk (desk_of own table' noted' sessions') n ≡ standing_at_desk old n
+    → Played config items old → Played config items (desk_of own table' noted' sessions')
+desk_ticked {noted} {noted'} config items n moment session session' own table table' sessions sessions' old replies replies' e there ticks s stays p =
     by session.closed refl ticks
   where
-    whole : Played config items (desk_of own table sessions)
+    whole : Played config items (desk_of own table noted sessions)
     whole = subst (λ (d : Desked). Played config items d) e p
 
-    same_table : table' ≡ table → SameUp n session session' table → Played config items (desk_of own table' sessions')
+    same_table : table' ≡ table → SameUp n session session' table → Played config items (desk_of own table' noted' sessions')
     same_table t same =
-        subst (λ (h : Held). Played config items (desk_of own h sessions')) (sym t) (stays_up config items n session session' own table sessions sessions' there s same whole)
+        subst (λ (h : Held). Played config items (desk_of own h noted' sessions')) (sym t) (stays_up config items n session session' own table noted noted' sessions sessions' there s same whole)
 
     timed : (times : Times) → session' ≡ with_times times session → SameUp n session session' table
     timed times h config peer octets u =
@@ -121,18 +122,18 @@ desk_ticked config items n moment session session' own table table' sessions ses
     untouched : session' ≡ session → SameUp n session session' table
     untouched h config peer octets u = subst (λ (l : Live). IsUp config peer n octets l table) (sym h) u
 
-    now_stands : standing_at_desk (desk_of own table' sessions') n ≡ standing_by (Some session')
+    now_stands : standing_at_desk (desk_of own table' noted' sessions') n ≡ standing_by (Some session')
     now_stands = ap standing_by (session_value n n session session' sessions sessions' there s ∙ chosen (n == n) _ _ (itself n))
 
     did_stand : standing_at_desk old n ≡ standing_by (Some session)
     did_stand = ap (λ (d : Desked). standing_at_desk d n) e ∙ ap standing_by there
 
-    makes : (tick : Tick) (times : Times) → session.closed ≡ None → TickMakes tick n times session session' table table' replies replies' → Played config items (desk_of own table' sessions')
+    makes : (tick : Tick) (times : Times) → session.closed ≡ None → TickMakes tick n times session session' table table' replies replies' → Played config items (desk_of own table' noted' sessions')
     makes Quiet times alive k = same_table k.1.0 (timed times k.0)
     makes Keeps times alive k = same_table k.1.0 (timed _ k.0)
     makes Expires times alive k = absurd (never_ended session session' (Fault 4 0) alive k.0 (sym now_stands ∙ stays ∙ did_stand))
 
-    by : (c : Option Closed) → session.closed ≡ c → TicksIn c n moment session session' table table' replies replies' → Played config items (desk_of own table' sessions')
+    by : (c : Option Closed) → session.closed ≡ c → TicksIn c n moment session session' table table' replies replies' → Played config items (desk_of own table' noted' sessions')
     by (Some why) h k = same_table k.1.0 (untouched k.0)
     by None h k = makes (tick_at session.phase.hold (at_moment moment session.times)) (at_moment moment session.times) h k
 
@@ -147,13 +148,13 @@ TicksFor found peer moment old new replies replies' =
           × ((number : ℕ) → session_at number new.sessions ≡ (if number == peer then Some session' else session_at number old.sessions)))
     ]
 
-pub desk_ticks : (n moment : ℕ) (session session' : Live) (own : Config) (table table' : Held) (sessions sessions' : List (ℕ × Live)) (old : Desked) (replies replies' : List ℕ)
-    → old ≡ desk_of own table sessions → session_at n sessions ≡ Some session → TicksSession n moment session session' table table' replies replies'
-    → sessions' ≡ set_value (is_at (nat_cmp n)) sessions session' → TicksPeer n moment old (desk_of own table' sessions') replies replies'
-desk_ticks n moment session session' own table table' sessions sessions' old replies replies' e there ticks s =
-    subst (λ (d : Desked). TicksPeer n moment d (desk_of own table' sessions') replies replies') (sym e) (by (session_at n sessions) there)
+pub desk_ticks : (noted noted' : Noted) (n moment : ℕ) (session session' : Live) (own : Config) (table table' : Held) (sessions sessions' : List (ℕ × Live)) (old : Desked) (replies replies' : List ℕ)
+    → old ≡ desk_of own table noted sessions → session_at n sessions ≡ Some session → TicksSession n moment session session' table table' replies replies'
+    → sessions' ≡ set_value (is_at (nat_cmp n)) sessions session' → TicksPeer n moment old (desk_of own table' noted' sessions') replies replies'
+desk_ticks noted noted' n moment session session' own table table' sessions sessions' old replies replies' e there ticks s =
+    subst (λ (d : Desked). TicksPeer n moment d (desk_of own table' noted' sessions') replies replies') (sym e) (by (session_at n sessions) there)
   where
-    by : (found : Option Live) → found ≡ Some session → TicksFor found n moment (desk_of own table sessions) (desk_of own table' sessions') replies replies'
+    by : (found : Option Live) → found ≡ Some session → TicksFor found n moment (desk_of own table noted sessions) (desk_of own table' noted' sessions') replies replies'
     by None h = absurd cc
     by (Some was) h =
         let same : was ≡ session = cc in (
@@ -164,13 +165,13 @@ desk_ticks n moment session session' own table table' sessions sessions' old rep
           ),
         )
 
-pub desk_rests : (n moment : ℕ) (own : Config) (table : Held) (sessions sessions' : List (ℕ × Live)) (old : Desked) (replies : List ℕ) → old ≡ desk_of own table sessions
-    → session_at n sessions ≡ None → sessions' ≡ sessions → TicksPeer n moment old (desk_of own table sessions') replies replies
-desk_rests n moment own table sessions sessions' old replies e none s =
-    subst (λ (d : Desked). TicksPeer n moment d (desk_of own table sessions') replies replies) (sym e) (by (session_at n sessions) none)
+pub desk_rests : {noted : Noted} (n moment : ℕ) (own : Config) (table : Held) (sessions sessions' : List (ℕ × Live)) (old : Desked) (replies : List ℕ) → old ≡ desk_of own table noted sessions
+    → session_at n sessions ≡ None → sessions' ≡ sessions → TicksPeer n moment old (desk_of own table noted sessions') replies replies
+desk_rests {noted} n moment own table sessions sessions' old replies e none s =
+    subst (λ (d : Desked). TicksPeer n moment d (desk_of own table noted sessions') replies replies) (sym e) (by (session_at n sessions) none)
   where
-    by : (found : Option Live) → found ≡ None → TicksFor found n moment (desk_of own table sessions) (desk_of own table sessions') replies replies
-    by None h = (ap (desk_of own table) s, refl)
+    by : (found : Option Live) → found ≡ None → TicksFor found n moment (desk_of own table noted sessions) (desk_of own table noted sessions') replies replies
+    by None h = (ap (desk_of own table noted) s, refl)
     by (Some was) h = absurd cc
 
 -- an open session's hold time is the one that the octets of its life agree on
@@ -203,12 +204,12 @@ expires_timed hold now h zero_is = quiet (subst (λ (n : ℕ). tick_at n now ≡
     quiet : Quiet ≡ Expires → ⊥
     quiet e = cc
 
-pub desk_expires : (n moment : ℕ) (session session' : Live) (own : Config) (table table' : Held) (sessions sessions' : List (ℕ × Live)) (old : Desked) (replies replies' : List ℕ)
-    → old ≡ desk_of own table sessions → session_at n sessions ≡ Some session → TicksSession n moment session session' table table' replies replies'
-    → sessions' ≡ set_value (is_at (nat_cmp n)) sessions session' → ExpiresSo n old (desk_of own table' sessions')
-desk_expires n moment session session' own table table' sessions sessions' old replies replies' e there ticks s other = by session.closed refl ticks
+pub desk_expires : (noted noted' : Noted) (n moment : ℕ) (session session' : Live) (own : Config) (table table' : Held) (sessions sessions' : List (ℕ × Live)) (old : Desked) (replies replies' : List ℕ)
+    → old ≡ desk_of own table noted sessions → session_at n sessions ≡ Some session → TicksSession n moment session session' table table' replies replies'
+    → sessions' ≡ set_value (is_at (nat_cmp n)) sessions session' → ExpiresSo n old (desk_of own table' noted' sessions')
+desk_expires noted noted' n moment session session' own table table' sessions sessions' old replies replies' e there ticks s other = by session.closed refl ticks
   where
-    now_stands : standing_at_desk (desk_of own table' sessions') n ≡ standing_by (Some session')
+    now_stands : standing_at_desk (desk_of own table' noted' sessions') n ≡ standing_by (Some session')
     now_stands = ap standing_by (session_value n n session session' sessions sessions' there s ∙ chosen (n == n) _ _ (itself n))
 
     did_stand : standing_at_desk old n ≡ standing_by (Some session)
@@ -223,7 +224,7 @@ desk_expires n moment session session' own table table' sessions sessions' old r
 
     makes : (tick : Tick) → tick_at session.phase.hold (at_moment moment session.times) ≡ tick → session.closed ≡ None
         → TickMakes tick n (at_moment moment session.times) session session' table table' replies replies'
-        → (standing_at_desk (desk_of own table' sessions') n ≡ Ended (Fault 4 0)) × ((config : Config) (items : List Item) → Played config items old → HasHoldTime config items n)
+        → (standing_at_desk (desk_of own table' noted' sessions') n ≡ Ended (Fault 4 0)) × ((config : Config) (items : List Item) → Played config items old → HasHoldTime config items n)
     makes Quiet h alive k = absurd (same (ap (λ (l : Live). standing_by (Some l)) k.0))
     makes Keeps h alive k = absurd (same (ap (λ (l : Live). standing_by (Some l)) k.0))
     makes Expires h alive k = (
@@ -232,11 +233,11 @@ desk_expires n moment session session' own table table' sessions sessions' old r
     )
 
     by : (c : Option Closed) → session.closed ≡ c → TicksIn c n moment session session' table table' replies replies'
-        → (standing_at_desk (desk_of own table' sessions') n ≡ Ended (Fault 4 0)) × ((config : Config) (items : List Item) → Played config items old → HasHoldTime config items n)
+        → (standing_at_desk (desk_of own table' noted' sessions') n ≡ Ended (Fault 4 0)) × ((config : Config) (items : List Item) → Played config items old → HasHoldTime config items n)
     by (Some why) h k = absurd (same (ap (λ (l : Live). standing_by (Some l)) k.0))
     by None h k = makes (tick_at session.phase.hold (at_moment moment session.times)) refl h k
 
-pub desk_keeps_standing : (n : ℕ) (own : Config) (table : Held) (sessions sessions' : List (ℕ × Live)) (old : Desked) → old ≡ desk_of own table sessions → sessions' ≡ sessions
-    → ExpiresSo n old (desk_of own table sessions')
-desk_keeps_standing n own table sessions sessions' old e s other =
-    absurd (other (ap (λ (z : List (ℕ × Live)). standing_at_desk (desk_of own table z) n) s ∙ sym (ap (λ (d : Desked). standing_at_desk d n) e)))
+pub desk_keeps_standing : {noted : Noted} (n : ℕ) (own : Config) (table : Held) (sessions sessions' : List (ℕ × Live)) (old : Desked) → old ≡ desk_of own table noted sessions → sessions' ≡ sessions
+    → ExpiresSo n old (desk_of own table noted sessions')
+desk_keeps_standing {noted} n own table sessions sessions' old e s other =
+    absurd (other (ap (λ (z : List (ℕ × Live)). standing_at_desk (desk_of own table noted z) n) s ∙ sym (ap (λ (d : Desked). standing_at_desk d n) e)))

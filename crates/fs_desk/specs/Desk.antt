@@ -7,6 +7,7 @@ use Rattle.std.specs.BTreeMap.{is_at}
 use Rattle.fs_base.specs.Config.{peer_of}
 use Rattle.fs_base.specs.declared.config.Config.{Config}
 use Rattle.fs_base.specs.declared.config.Peer.{Peer}
+use Rattle.fs_rules.specs.Changes.{Covers, Noted}
 use Rattle.fs_rules.specs.Table.{Held}
 use Rattle.fs_speaker.specs.declared.Standing.{Standing}
 use Rattle.fs_speaker.specs.declared.Standing.TheVariants.{Down, Ended}
@@ -23,10 +24,12 @@ use Rattle.fs_desk.specs.Limit.{bounded_session, bounded_replies}
 use Rattle.fs_desk.specs.Receive.{IsLeft, IsUp, point_of}
 use Rattle.fs_desk.specs.HoldTimer.{TicksSession}
 
--- the configuration, the routes held, and the sessions of the peers that are up
+-- the configuration, the routes held, where the admitted rules may have changed, and the sessions of the peers that are
+-- up
 pub record Desked : Type 0 where
   pub config : Config
   pub held : Held
+  pub changes : Noted
   pub sessions : List (ℕ × Live)
 
 abbrev pub session_at : ℕ → List (ℕ × Live) → Option Live
@@ -52,6 +55,10 @@ pub record Played (config : Config) (items : List Item) (desk : Desked) : Type 0
 abbrev pub Plays : Item → Desked → Desked → Type 0
 Plays item old new =
     (config : Config) (items : List Item) → Played config items old → Played config (items ++ item ∷ []) new
+
+-- what has changed among the admitted rules is noted
+abbrev pub Notes : Desked → Desked → Type 0
+Notes old new = (base : Held) → Covers base old.changes old.held → Covers base new.changes new.held
 
 -- What a piece of a peer's octets adds to the replies. Octets of a peer that is down are not answered. Those of one
 -- that is up add what is replied to all octets of its life beyond what is replied to those before.

@@ -1,12 +1,11 @@
--- The table, and whether its changes may have changed which rules it admits.
-use Rattle.std.specs.Prelude.{◌≡◌, Bool, false}
-use Rattle.fs_rules.specs.Table.{Held, AdmitsSame}
+-- The table, and where the rules that it admits may have changed.
+use Rattle.fs_rules.specs.Changes.{Covers, Noted}
+use Rattle.fs_rules.specs.Table.{Held}
 
 pub record Watched : Type 0 where
   pub held : Held
-  pub changed : Bool
+  pub changes : Noted
 
--- What a change of the table tells: where it is told that nothing has changed, nothing had changed before, and the same
--- rules are admitted.
+-- What has changed among the admitted rules is noted: whatever was covered before still is.
 abbrev pub Tells : Watched → Watched → Type 0
-Tells old new = new.changed ≡ false → (old.changed ≡ false) × AdmitsSame old.held new.held
+Tells old new = (base : Held) → Covers base old.changes old.held → Covers base new.changes new.held

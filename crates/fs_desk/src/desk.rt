@@ -6,7 +6,7 @@ use crate::hold_timer::tick_session;
 use crate::receive::receive;
 use crate::watched::WatchedTable;
 use fs_base::{Config, Memory, Steps};
-use fs_rules::Table;
+use fs_rules::{Changes, Table};
 use fs_speaker::{Session, Standing};
 use std::alloc::Global;
 use std::collections::BTreeMap;
@@ -27,16 +27,21 @@ impl<'a> Model for Desk<'a> {
 
     ghost Value = { Desked };
 
-    ghost view = { λ d. record { config = d.config.now; held = d.table.held; sessions = d.sessions.entries } };
+    ghost view = { λ d. record {
+      config = d.config.now;
+      held = d.table.held;
+      changes = d.table.changes;
+      sessions = d.sessions.entries;
+    } };
 }
 
 impl<'a> Desk<'a> {
     ghost use Rattle.fs_base.specs.declared.config.Config.{Config};
     ghost use Rattle.fs_base.specs.Config.{peer_of};
     ghost use Rattle.fs_tape.specs.Tape.{Item, came_up, received, was_lost};
-    ghost use Rattle.fs_desk.specs.Desk.{ExpiresSo, HandsPeer, Played, Plays, RepliesBehind, StaysPlayed, TicksPeer, session_at, standing_at_desk, standing_of};
+    ghost use Rattle.fs_desk.specs.Desk.{ExpiresSo, HandsPeer, Notes, Played, Plays, RepliesBehind, StaysPlayed, TicksPeer, session_at, standing_at_desk, standing_of};
     ghost use Rattle.fs_desk.specs.Leaves.{Leaves};
-    ghost use Rattle.fs_rules.specs.Table.{AdmitsSame, held_count};
+    ghost use Rattle.fs_rules.specs.Table.{held_count};
     ghost use Rattle.fs_speaker.specs.Session.{begins};
 
     /// Every configured peer is down, and nothing is held. Never an error.
@@ -59,47 +64,24 @@ impl<'a> Desk<'a> {
         ensures lost { OnErr result (Plays (was_lost peer) self.old self.new) }
         ensures begun { OnOk result (session_at peer self.new.sessions ≡ begins self.old.config peer) }
         ensures config { self.new.config ≡ self.old.config }
+        ensures told { OnOk result (Notes self.old self.new) }
+        ensures idle { held_count peer self.old.held ≡ 0 → self.new.changes ≡ self.old.changes }
     {
-        self.up_telling(peer)?;
+        self.lost(peer);
+        let session = Session::new(self.alloc, self.config, peer)?;
+        self.sessions.insert(peer, session)?;
         Ok(())
     }
 
-    /// As [`up`](Desk::up), and tells whether the rules that are admitted may be others than before.
-    pub fn up_telling(&mut self, peer: u16) -> Result<bool, Memory>
-        requires { IsSome (peer_of peer self.old.config.peers) }
-        ensures played { OnOk result (Plays (came_up peer) self.old self.new) }
-        ensures lost { OnErr result (Plays (was_lost peer) self.old self.new) }
-        ensures begun { OnOk result (session_at peer self.new.sessions ≡ begins self.old.config peer) }
-        ensures config { self.new.config ≡ self.old.config }
-        ensures told { IfOk result (λ changed. changed ≡ false → AdmitsSame self.old.held self.new.held) }
-        ensures idle { held_count peer self.old.held ≡ 0 → IfOk result (λ changed. changed ≡ false) }
-    {
-        let changed = self.lost_telling(peer);
-        let session = Session::new(self.alloc, self.config, peer)?;
-        self.sessions.insert(peer, session)?;
-        Ok(changed)
-    }
-
-    /// The peer is lost, and with it all that it held. It needs not be up.
+    /// The peer is lost, and with it all that it held. It needs not be up. Where it held nothing, no change is noted.
     pub fn lost(&mut self, peer: u16)
         ensures played { Plays (was_lost peer) self.old self.new }
         ensures config { self.new.config ≡ self.old.config }
+        ensures told { Notes self.old self.new }
+        ensures idle { held_count peer self.old.held ≡ 0 → self.new.changes ≡ self.old.changes }
     {
-        self.lost_telling(peer);
-    }
-
-    /// As [`lost`](Desk::lost), and tells whether the rules that are admitted may be others than before. Not where
-    /// the peer held nothing.
-    pub fn lost_telling(&mut self, peer: u16) -> bool
-        ensures played { Plays (was_lost peer) self.old self.new }
-        ensures config { self.new.config ≡ self.old.config }
-        ensures told { result ≡ false → AdmitsSame self.old.held self.new.held }
-        ensures idle { held_count peer self.old.held ≡ 0 → result ≡ false }
-    {
-        self.table.watch();
         lose::<Brand>(Blank::new(1), &mut self.table, peer);
         self.sessions.remove(&peer);
-        self.table.has_changed()
     }
 
     /// The peer sent these octets. Those of a peer that is down or whose session has closed are skipped. Where an
@@ -115,30 +97,10 @@ impl<'a> Desk<'a> {
             (HandsPeer peer self.old self.new piece.now replies.old.items replies.new.items) }
         ensures err { OnErr result (replies.new.items ≡ replies.old.items) }
         ensures config { self.new.config ≡ self.old.config }
+        ensures told { OnOk result (Notes self.old self.new) }
     {
-        self.octets_telling(peer, piece, replies)?;
-        Ok(())
-    }
-
-    /// As [`octets`](Desk::octets), and tells whether the rules that are admitted may be others than before: whether
-    /// a flow route came, went or changed its validity.
-    pub fn octets_telling(
-        &mut self,
-        peer: u16,
-        piece: &[u8],
-        replies: &mut Vec<u8>,
-    ) -> Result<bool, Memory>
-        ensures played { OnOk result (Plays (received peer piece.now) self.old self.new) }
-        ensures replied { OnOk result (RepliesBehind peer self.old piece.now replies.old.items replies.new.items) }
-        ensures handed { OnOk result
-            (HandsPeer peer self.old self.new piece.now replies.old.items replies.new.items) }
-        ensures err { OnErr result (replies.new.items ≡ replies.old.items) }
-        ensures config { self.new.config ≡ self.old.config }
-        ensures told { IfOk result (λ changed. changed ≡ false → AdmitsSame self.old.held self.new.held) }
-    {
-        self.table.watch();
         let Some(session) = self.sessions.get_mut(&peer) else {
-            return Ok(false);
+            return Ok(());
         };
         receive::<Brand>(
             Blank::new(1),
@@ -148,7 +110,7 @@ impl<'a> Desk<'a> {
             piece,
             replies,
         )?;
-        Ok(self.table.has_changed())
+        Ok(())
     }
 
     /// The clock of the session with a peer, at a moment in milliseconds. Where the agreed hold time has passed since
@@ -162,28 +124,10 @@ impl<'a> Desk<'a> {
         ensures expired { OnOk result (ExpiresSo peer self.old self.new) }
         ensures err { OnErr result (replies.new.items ≡ replies.old.items) }
         ensures config { self.new.config ≡ self.old.config }
+        ensures told { OnOk result (Notes self.old self.new) }
     {
-        self.tick_telling(peer, moment, replies)?;
-        Ok(())
-    }
-
-    /// As [`tick`](Desk::tick), and tells whether the rules that are admitted may be others than before.
-    pub fn tick_telling(
-        &mut self,
-        peer: u16,
-        moment: u64,
-        replies: &mut Vec<u8>,
-    ) -> Result<bool, Memory>
-        ensures ticked { OnOk result (TicksPeer peer moment self.old self.new replies.old.items replies.new.items) }
-        ensures played { OnOk result (StaysPlayed peer self.old self.new) }
-        ensures expired { OnOk result (ExpiresSo peer self.old self.new) }
-        ensures err { OnErr result (replies.new.items ≡ replies.old.items) }
-        ensures config { self.new.config ≡ self.old.config }
-        ensures told { IfOk result (λ changed. changed ≡ false → AdmitsSame self.old.held self.new.held) }
-    {
-        self.table.watch();
         let Some(session) = self.sessions.get_mut(&peer) else {
-            return Ok(false);
+            return Ok(());
         };
         tick_session::<Brand>(
             Blank::new(1),
@@ -193,7 +137,21 @@ impl<'a> Desk<'a> {
             moment,
             replies,
         )?;
-        Ok(self.table.has_changed())
+        Ok(())
+    }
+
+    /// Notes changes of the admitted rules from here on.
+    pub fn watch(&mut self)
+        ensures { self.new ≡ record self.old { changes = record { places = []; all = false } } }
+    {
+        self.table.watch();
+    }
+
+    /// Where the rules that are admitted may be others than at the last [`watch`](Desk::watch).
+    pub fn changes(&self) -> &Changes
+        ensures { result.now ≡ self.now.changes }
+    {
+        self.table.changes()
     }
 
     /// The configuration.
@@ -246,7 +204,7 @@ fn lose<L: Ledger>(blank: Blank, table: &mut WatchedTable<'_>, peer: u16)
     requires some { 0 < L.parts }
     ensures lost { table.new.held ≡ without_peer peer table.old.held }
     ensures told { Tells table.old table.new }
-    ensures idle { held_count peer table.old.held ≡ 0 → table.new.changed ≡ table.old.changed }
+    ensures idle { held_count peer table.old.held ≡ 0 → table.new.changes ≡ table.old.changes }
 {
     let mut steps = Steps::<L>::new(blank);
     table.lose(peer, &mut steps);

@@ -1,20 +1,20 @@
-//! The table, and whether its changes may have changed which rules it admits.
+//! The table, and where the rules that it admits may have changed.
 
 use fs_actions::Actions;
 use fs_base::{Config, Memory, Path, Prefix, Steps};
 use fs_nlri::Rule;
 use fs_order::Ranked;
-use fs_rules::Table;
+use fs_rules::{Change, Changes, Table};
 use std::alloc::Global;
 use std::marker::Model;
 use std::sync::ledger::Ledger;
 
-/// The table of the routes that all peers hold, which is watched: whether a flow route has come, gone or changed its
-/// validity since `watch`.
+/// The table of the routes that all peers hold, which is watched: at which places a flow route has come or gone since
+/// `watch`, or that one has changed its validity.
 #[derive(Drop)]
 pub(crate) struct WatchedTable<'a> {
     table: Table<'a>,
-    changed: bool,
+    changes: Changes,
 }
 
 impl<'a> Model for WatchedTable<'a> {
@@ -22,7 +22,7 @@ impl<'a> Model for WatchedTable<'a> {
 
     ghost Value = { Watched };
 
-    ghost view = { λ a. record { held = a.table; changed = a.changed } };
+    ghost view = { λ a. record { held = a.table; changes = a.changes } };
 }
 
 impl<'a> WatchedTable<'a> {
@@ -36,23 +36,22 @@ impl<'a> WatchedTable<'a> {
     {
         WatchedTable {
             table: Table::new(alloc, config),
-            changed: false,
+            changes: Changes::new(alloc),
         }
     }
 
     /// Watches from here on.
     pub(crate) fn watch(&mut self)
-        ensures held { self.new.held ≡ self.old.held }
-        ensures changed { self.new.changed ≡ false }
+        ensures { self.new ≡ record { held = self.old.held; changes = record { places = []; all = false } } }
     {
-        self.changed = false;
+        self.changes.clear();
     }
 
-    /// Whether the rules that are admitted may be others than at the last `watch`.
-    pub(crate) fn has_changed(&self) -> bool
-        ensures { result ≡ self.now.changed }
+    /// Where the rules that are admitted may be others than at the last `watch`.
+    pub(crate) fn changes(&self) -> &Changes
+        ensures { result.now ≡ self.now.changes }
     {
-        self.changed
+        &self.changes
     }
 
     /// The table.
@@ -80,7 +79,9 @@ impl<'a> WatchedTable<'a> {
         ensures ok { OnOk result (self.new.held ≡ with_path peer prefix path self.old.held) }
         ensures told { OnOk result (Tells self.old self.new) }
     {
-        self.changed |= self.table.put_unicast_telling(peer, prefix, path, steps)?;
+        if self.table.put_unicast_telling(peer, prefix, path, steps)? {
+            self.changes.note_all();
+        }
         Ok(())
     }
 
@@ -94,7 +95,10 @@ impl<'a> WatchedTable<'a> {
         ensures removed { self.new.held ≡ without_path peer prefix.now self.old.held }
         ensures told { Tells self.old self.new }
     {
-        self.changed |= self.table.withdraw_unicast_telling(peer, prefix, steps);
+        let told = self.table.withdraw_unicast_telling(peer, prefix, steps);
+        if told.unwrap_or(false) {
+            self.changes.note_all();
+        }
     }
 
     /// Keeps the route as the peer's route of the rule.
@@ -109,7 +113,8 @@ impl<'a> WatchedTable<'a> {
         ensures ok { OnOk result (self.new.held ≡ with_flow peer rule path actions self.old.held) }
         ensures told { OnOk result (Tells self.old self.new) }
     {
-        self.changed = true;
+        self.changes.make_room()?;
+        self.changes.note(Change::of(&rule));
         self.table.put_flow(peer, rule, path, actions, steps)
     }
 
@@ -124,15 +129,19 @@ impl<'a> WatchedTable<'a> {
             ≡ record self.old.held { flows = without_route rule.now.rule peer self.old.held.flows } }
         ensures told { Tells self.old self.new }
     {
-        self.changed |= self.table.withdraw_flow(peer, rule, steps);
+        if self.table.withdraw_flow(peer, rule, steps) {
+            self.changes.note(Change::of(&rule.rule));
+        }
     }
 
     /// Takes all that the peer holds away.
     pub(crate) fn lose<L: Ledger>(&mut self, peer: u16, steps: &mut Steps<L>)
         ensures removed { self.new.held ≡ without_peer peer self.old.held }
         ensures told { Tells self.old self.new }
-        ensures idle { held_count peer self.old.held ≡ 0 → self.new.changed ≡ self.old.changed }
+        ensures idle { held_count peer self.old.held ≡ 0 → self.new.changes ≡ self.old.changes }
     {
-        self.changed |= self.table.lose_telling(peer, steps);
+        if self.table.lose_telling(peer, steps) {
+            self.changes.note_all();
+        }
     }
 }

@@ -88,5 +88,6 @@ abbrev pub bare : Desked → Desked
 bare desk = record {
   config = desk.config;
   held = record { config = desk.config; unicast = []; flows = [] };
+  changes = record { places = []; all = false };
   sessions = [];
 }

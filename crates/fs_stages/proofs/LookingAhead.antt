@@ -20,6 +20,8 @@ use Rattle.fs_tape.proofs.Rising.{moments_rise}
 use Rattle.fs_desk.specs.Desk.{Desked, Played, Plays}
 use Rattle.fs_desk.specs.Leaves.{Leaves}
 use Rattle.fs_desk.proofs.Leaves.{played_leaves}
+use Rattle.fs_rules.specs.Changes.{Covers, Noted}
+use Rattle.fs_rules.specs.Table.{Held}
 use Rattle.fs_stages.specs.declared.refusal.Refusal.{Refusal}
 use Rattle.fs_stages.specs.Load.{Names}
 use Rattle.fs_stages.specs.Refusal.{Stage, Found, Stopped, HasReason}
@@ -102,6 +104,21 @@ stands_step items t old new left left' item h m s plays same g v =
           (plays old.desk.config (untimed s.gone) s.played));
       version_is = if_then new.ahead (v ∙ if_ahead old.ahead item h s.version_is);
     }
+
+-- whatever the desk notes
+pub stands_noted : (items : List Timed) (t : ℕ) (player : PlayerState) (desk : Desked) (noted : Noted) (left : List ℕ) → desk ≡ record player.desk { changes = noted } → Stands items t player left → Stands items t (record player { desk = desk }) left
+stands_noted items t player desk noted left e s = subst (λ (d : Desked). Stands items t (record player { desk = d }) left) (sym e) (record {
+  gone = s.gone;
+  parts = s.parts;
+  ends = s.ends;
+  early = s.early;
+  played = record { config_is = s.played.config_is; held_is = s.played.held_is; listed = s.played.listed; sessions = s.played.sessions; each = s.played.each };
+  version_is = s.version_is;
+})
+
+-- from there on nothing has changed
+pub covers_first : (base : Held) (old desk : Desked) → base ≡ old.held → desk ≡ record old { changes = record { places = []; all = false } } → Covers base desk.changes desk.held
+covers_first base old desk b e = subst (λ (d : Desked). Covers base d.changes d.held) (sym e) (subst (λ (h : Held). Covers h (record { places = []; all = false }) old.held) (sym b) (λ none family. refl))
 
 -- a later moment is no less late
 pub stands_later : (items : List Timed) (t t' : ℕ) (player : PlayerState) (left : List ℕ) → t ≤ t' → Stands items t player left → Stands items t' player left

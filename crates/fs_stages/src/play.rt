@@ -1,17 +1,17 @@
 //! Playing a tape.
 
-ghost use Rattle.std.specs.Prelude.{◌≡◌, ◌≤◌, ◌<◌, None, Some, false, length};
+ghost use Rattle.std.specs.Prelude.{◌≡◌, ◌≤◌, ◌<◌, None, Some, length};
 ghost use Rattle.std.specs.Prelude.{IsOk, IsTrue, IfOk, IfSome, OnOk, MatchResult};
 ghost use Rattle.fs_base.specs.Files.{OnlySlot};
 ghost use Rattle.fs_base.specs.Outside.{Rose};
 ghost use Rattle.fs_base.specs.declared.config.Config.{Config};
 ghost use Rattle.fs_records.specs.declared.fault.Ended.TheVariants.{Done};
-ghost use Rattle.fs_rules.specs.Table.{AdmitsSame};
 ghost use Rattle.fs_tape.specs.Header.{IsTimed, longest_payload};
 ghost use Rattle.fs_tape.specs.Tape.{IsBegun, IsItem, coming, item_from};
 ghost use Rattle.fs_stages.specs.Refusal.{HasReason, IsOfTape, answered, status_of};
-ghost use Rattle.fs_stages.specs.Play.{tape_stage, played_to, EndsBy, IsOpenOrDone, IsOpened, IsPlayed, IsWhole, Gives, PlaysOn, refused_by};
-ghost use Rattle.fs_desk.specs.Desk.{Plays};
+ghost use Rattle.fs_stages.specs.Play.{EndsBy, IsOpenOrDone};
+ghost use Rattle.fs_stages.specs.Play.{tape_stage, played_to, IsOpened, IsPlayed, IsWhole, Gives, PlaysOn, refused_by};
+ghost use Rattle.fs_desk.specs.Desk.{Notes, Plays};
 
 use crate::load::{TAPE_SLOT, open};
 use crate::refusal::Refusal;
@@ -154,24 +154,26 @@ fn play_items<F: Files>(
     Ok(())
 }
 
-/// Plays one item, whose octets stand at the front of the buffer, and tells whether the rules that are admitted may be
-/// others than before.
+/// Plays one item, whose octets stand at the front of the buffer.
 pub(crate) fn play_item(
     desk: &mut Desk<'_>,
     item: TapeItem,
     buffer: &[u8],
     replies: &mut Vec<u8>,
-) -> Result<bool, Memory>
+) -> Result<(), Memory>
     requires room { longest_payload ≤ length buffer.now }
     requires item { IsItem desk.old.config item }
     ensures config { desk.new.config ≡ desk.old.config }
     ensures played { OnOk result (Plays (item_from item buffer.now) desk.old desk.new) }
-    ensures told { IfOk result (λ changed. changed ≡ false → AdmitsSame desk.old.held desk.new.held) }
+    ensures told { OnOk result (Notes desk.old desk.new) }
 {
     match item {
-        TapeItem::Up(peer) => desk.up_telling(peer),
-        TapeItem::Octets(peer, count) => desk.octets_telling(peer, &buffer[..count], replies),
-        TapeItem::Lost(peer) => Ok(desk.lost_telling(peer)),
+        TapeItem::Up(peer) => desk.up(peer),
+        TapeItem::Octets(peer, count) => desk.octets(peer, &buffer[..count], replies),
+        TapeItem::Lost(peer) => {
+            desk.lost(peer);
+            Ok(())
+        }
     }
 }
 

@@ -4,7 +4,7 @@ use crate::play::{WholeTape, next_item, open_tape, play_item};
 use crate::refusal::Refusal;
 use fs_base::{Config, Files};
 use fs_desk::Desk;
-use fs_rules::Table;
+use fs_rules::{Changes, Table};
 use fs_tape::{LONGEST_PAYLOAD, Tape, TapeItem};
 use std::alloc::Global;
 use std::marker::Model;
@@ -34,13 +34,13 @@ impl<'a> Model for Player<'a> {
 
 impl<'a> Player<'a> {
     ghost use Rattle.std.specs.Option.{is_some};
-    ghost use Rattle.std.specs.Prelude.{ℕ, ◌≡◌, ◌≤◌, ◌<◌, false, List, None, Some, IfOk, IfSome, IsTrue, MatchResult};
+    ghost use Rattle.std.specs.Prelude.{ℕ, ◌≡◌, ◌≤◌, ◌<◌, false, List, None, Some, IfOk, IfSome, IsTrue, MatchResult, OnOk};
     ghost use Rattle.fs_base.specs.Files.{OnlySlot};
     ghost use Rattle.fs_base.specs.Outside.{Rose};
-    ghost use Rattle.fs_desk.specs.Desk.{Played};
+    ghost use Rattle.fs_desk.specs.Desk.{Notes, Played};
     ghost use Rattle.fs_desk.specs.Leaves.{Leaves};
     ghost use Rattle.fs_records.specs.declared.fault.Ended.TheVariants.{Done};
-    ghost use Rattle.fs_rules.specs.Table.{AdmitsSame};
+    ghost use Rattle.fs_rules.specs.Changes.{Covers};
     ghost use Rattle.fs_stages.specs.Play.{EndsBy, HasVersion, HaveNoMoments, IsOpenOrDone, tape_stage, until, untimed};
     ghost use Rattle.fs_stages.specs.Player.{IsUnplayed, Stands, due_item};
     ghost use Rattle.fs_stages.specs.Refusal.{Found, IsOfTape, answered};
@@ -111,14 +111,14 @@ impl<'a> Player<'a> {
         }
     }
 
-    /// Plays the items whose moments are at most this one, and tells whether the rules that are admitted may be others
-    /// than before.
+    /// Plays the items whose moments are at most this one. Behind it [`changes`](Player::changes) tells where the rules
+    /// that are admitted may be others than before.
     ///
     /// # Errors
     ///
     /// `Outside` where the files failed, `Tape` and `Limit` where the tape ends so, `Memory` where the machine refused
     /// memory.
-    pub fn play_to<F: Files>(&mut self, files: &mut F, moment: u64) -> Result<bool, Refusal>
+    pub fn play_to<F: Files>(&mut self, files: &mut F, moment: u64) -> Result<(), Refusal>
         ensures later { F.faults files.old ≤ F.faults files.new }
         ensures slot { self.new.tape.slot ≡ self.old.tape.slot }
         ensures config { self.new.desk.config ≡ self.old.desk.config }
@@ -133,15 +133,14 @@ impl<'a> Player<'a> {
             (λ _. Stands items moment self.new (F.left files.new self.old.tape.slot)
             × Leaves self.old.desk.config (until moment items) self.new.desk.held)
             (IsUnplayed (Rose (F.faults files.old) (F.faults files.new))) }
-        ensures told { IfOk result (λ changed. changed ≡ false → AdmitsSame self.old.desk.held self.new.desk.held) }
+        ensures told { OnOk result (Covers self.old.desk.held self.new.desk.changes self.new.desk.held) }
         ensures others { OnlySlot F.tells F.left F.holds self.old.tape.slot files.old files.new }
     {
-        let mut changed = false;
+        self.desk.watch();
         'items: while let Some(item) = self.due(moment) {
-            let told = self.step(files, item)?;
-            changed = changed || told;
+            self.step(files, item)?;
         }
-        Ok(changed)
+        Ok(())
     }
 
     /// Whether an item is to be played at this moment. Where none is, the desk holds what the tape leaves then.
@@ -174,7 +173,7 @@ impl<'a> Player<'a> {
     }
 
     /// Plays the item ahead, and reads the next one.
-    fn step<F: Files>(&mut self, files: &mut F, item: TapeItem) -> Result<bool, Refusal>
+    fn step<F: Files>(&mut self, files: &mut F, item: TapeItem) -> Result<(), Refusal>
         requires { self.old.ahead ≡ Some item }
         ensures later { F.faults files.old ≤ F.faults files.new }
         ensures slot { self.new.tape.slot ≡ self.old.tape.slot }
@@ -193,16 +192,23 @@ impl<'a> Player<'a> {
             → MatchResult result
             (λ _. Stands items t self.new (F.left files.new self.old.tape.slot))
             (IsUnplayed (Rose (F.faults files.old) (F.faults files.new))) }
-        ensures told { IfOk result (λ changed. changed ≡ false → AdmitsSame self.old.desk.held self.new.desk.held) }
+        ensures told { OnOk result (Notes self.old.desk self.new.desk) }
         ensures others { OnlySlot F.tells F.left F.holds self.old.tape.slot files.old files.new }
     {
         self.replies.clear();
         self.ahead = None;
-        let told = play_item(&mut self.desk, item, &self.buffer, &mut self.replies)?;
+        play_item(&mut self.desk, item, &self.buffer, &mut self.replies)?;
         let config = self.desk.config();
         let ahead = next_item(files, &mut self.tape, config, &mut self.buffer)?;
         self.ahead = ahead;
-        Ok(told)
+        Ok(())
+    }
+
+    /// Where the rules that are admitted may be others than before the last [`play_to`](Player::play_to).
+    pub fn changes(&self) -> &Changes
+        ensures { result.now ≡ self.now.desk.changes }
+    {
+        self.desk.changes()
     }
 
     /// The table of the routes that are held behind what was played.

@@ -6,6 +6,7 @@ use Rattle.fs_attrs.specs.declared.update.Routes.{Routes}
 use Rattle.fs_attrs.specs.Update.{unicast_in, flows_in}
 use Rattle.fs_desk.specs.Apply.{Announces, rules_given}
 use Rattle.fs_desk.proofs.ChangesJoined.{on_ok, given_join}
+use Rattle.fs_desk.proofs.Telling.{tells_then}
 use Rattle.fs_desk.proofs.apply.give.Goals as goal
 
 pub returns-clause-changes : goal.returns-clause-changes
@@ -22,3 +23,6 @@ returns-clause-prefixes g c =
     (λ gave. subst (λ (routes : Option Routes). AllByRecursion IsPrefix (c.args.prefixes.now ++ unicast_in routes)) (sym c.in-Some.is)
     (each_append IsPrefix c.args.prefixes.now (unicast_in (Some c.in-Some.routes)) c.in_ok-give_copies_of_path.ensures.prefixes gave))
     c.give_routes.ensures.prefixes
+
+pub returns-clause-told : goal.returns-clause-told
+returns-clause-told g c = on_ok c.give_routes.result (tells_then c.args.table.now c.give_copies_of_path.new.table c.give_routes.new.table c.in_ok-give_copies_of_path.ensures.told) c.give_routes.ensures.told

@@ -1,12 +1,12 @@
-use Rattle.std.proofs.Common.{sym, ◌∙◌, ap, subst}
-use Rattle.fs_base.proofs.Bools.{or_false}
-use Rattle.fs_rules.specs.Table.{AdmitsSame}
-use Rattle.fs_desk.specs.Watched.{Watched}
-use Rattle.fs_desk.proofs.Telling.{admits_without}
+use Rattle.std.proofs.Common.{refl, sym, ◌∙◌}
+use Rattle.fs_rules.specs.Changes.{is_to}
+use Rattle.fs_desk.proofs.Telling.{admits_without, tells_place, tells_same}
 use Rattle.fs_desk.proofs.watched.WatchedTable.withdraw_flow.Goals as goal
 
-pub returns-clause-told : goal.returns-clause-told
-returns-clause-told g c = λ h. let both = or_false c.self.inside.changed c.withdraw_flow.result h in (
-  ap (λ (w : Watched). w.changed) (sym c.self.view_is) ∙ both.0,
-  subst (λ (w : Watched). AdmitsSame w.held c.withdraw_flow.new.self) c.self.view_is (admits_without c.args.rule.now.rule c.args.peer c.self.inside.table c.withdraw_flow.new.self c.withdraw_flow.ensures.removed (sym c.withdraw_flow.ensures.held ∙ both.1)),
-)
+pub returns-then-withdraw_flow-clause-told : goal.returns-then-withdraw_flow-clause-told
+returns-then-withdraw_flow-clause-told g c = tells_place c.self.inside.table c.withdraw_flow.new.self c.self.inside.changes c.note.new.self c.args.self.now c.self.view_is c.of.result.family c.of.result.destination c.note.ensures
+    (c.withdraw_flow.ensures.elsewhere (is_to c.of.result.family c.of.result.destination) c.of.ensures.place)
+
+pub returns-else-withdraw_flow-clause-told : goal.returns-else-withdraw_flow-clause-told
+returns-else-withdraw_flow-clause-told g c = tells_same c.self.inside.table c.withdraw_flow.new.self c.self.inside.changes c.self.inside.changes c.args.self.now c.self.view_is refl
+    (admits_without c.args.rule.now.rule c.args.peer c.self.inside.table c.withdraw_flow.new.self c.withdraw_flow.ensures.removed (sym c.withdraw_flow.ensures.held ∙ c.if-withdraw_flow.false))

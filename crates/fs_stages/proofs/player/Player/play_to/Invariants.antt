@@ -1,6 +1,6 @@
-use Rattle.std.proofs.Common.{◌≡◌, ◌≤◌, List, IsTrue, false}
+use Rattle.std.proofs.Common.{◌≡◌, ◌≤◌, List, IsTrue}
 use Rattle.fs_base.specs.Files.{OnlySlot}
-use Rattle.fs_rules.specs.Table.{AdmitsSame}
+use Rattle.fs_rules.specs.Changes.{Covers}
 use Rattle.fs_tape.specs.Tape.{Timed}
 use Rattle.fs_stages.specs.Play.{IsOpenOrDone}
 use Rattle.fs_stages.specs.Player.{Stands}
@@ -13,7 +13,7 @@ invariant-items g l = record {
   config : l.self.desk.config ≡ l.fn.self.desk.config;
   later : g.F.Files.faults l.fn.files ≤ g.F.Files.faults l.files;
   ends : IsOpenOrDone l.fn.self.tape l.fn.self.ahead → IsOpenOrDone l.self.tape l.self.ahead;
-  told : l.changed ≡ false → AdmitsSame l.fn.self.desk.held l.self.desk.held;
+  told : Covers l.fn.self.desk.held l.self.desk.changes l.self.desk.held;
   others : OnlySlot g.F.Files.tells g.F.Files.left g.F.Files.holds l.fn.self.tape.slot l.fn.files l.files;
   played : IsTrue g.F.Files.tells → (items : List Timed) → Stands items l.moment l.fn.self (g.F.Files.left l.fn.files l.fn.self.tape.slot)
       → Stands items l.moment l.self (g.F.Files.left l.files l.fn.self.tape.slot);

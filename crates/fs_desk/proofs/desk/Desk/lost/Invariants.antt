@@ -1,4 +1,4 @@
-use Rattle.fs_desk.proofs.desk.Desk.lost_telling.Given as goal
+use Rattle.fs_desk.proofs.desk.Desk.lost.Given as goal
 
 abbrev pub ghosts-lose : goal.ghosts-lose
 ghosts-lose a = record { name = a.blank.name; parts = a.blank.parts }

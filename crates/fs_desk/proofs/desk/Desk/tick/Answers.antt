@@ -5,46 +5,43 @@ use Rattle.fs_rules.specs.Table.{Held}
 use Rattle.fs_desk.specs.HoldTimer.{TicksSession}
 use Rattle.fs_desk.proofs.Played.{desk_of, desk_stays}
 use Rattle.fs_desk.proofs.Ticking.{desk_expires, desk_keeps_standing, desk_ticked, desk_ticks, desk_rests}
-use Rattle.fs_desk.proofs.desk.Desk.tick_telling.Goals as goal
+use Rattle.fs_desk.proofs.desk.Desk.tick.Goals as goal
 
 pub returns-clause-ticked : goal.returns-clause-ticked
 returns-clause-ticked c =
-    desk_ticks c.args.peer c.args.moment c.in-Some.session.now c.tick_session.new.session c.self.inside.config.now c.self.inside.table.held c.tick_session.new.table.held
+    desk_ticks c.self.inside.table.changes c.tick_session.new.table.changes c.args.peer c.args.moment c.in-Some.session.now c.tick_session.new.session c.self.inside.config.now c.self.inside.table.held c.tick_session.new.table.held
     c.self.inside.sessions.entries _ c.args.self.now c.args.replies.now.items c.tick_session.new.replies.items (sym c.self.view_is) (sym c.in-Some.ensures.value)
-    (subst (λ (held : Held). TicksSession c.args.peer c.args.moment c.in-Some.session.now c.tick_session.new.session held c.tick_session.new.table.held c.args.replies.now.items c.tick_session.new.replies.items)
-    c.watch.ensures.held c.in_ok-tick_session.ensures.ticked)
+    c.in_ok-tick_session.ensures.ticked
     (c.get_mut.follows.holds c.tick_session.new.session).0
 
 pub returns-clause-played : goal.returns-clause-played
 returns-clause-played c = λ stays config items played.
     desk_ticked config items c.args.peer c.args.moment c.in-Some.session.now c.tick_session.new.session c.self.inside.config.now c.self.inside.table.held c.tick_session.new.table.held
     c.self.inside.sessions.entries _ c.args.self.now c.args.replies.now.items c.tick_session.new.replies.items (sym c.self.view_is) (sym c.in-Some.ensures.value)
-    (subst (λ (held : Held). TicksSession c.args.peer c.args.moment c.in-Some.session.now c.tick_session.new.session held c.tick_session.new.table.held c.args.replies.now.items c.tick_session.new.replies.items)
-    c.watch.ensures.held c.in_ok-tick_session.ensures.ticked)
+    c.in_ok-tick_session.ensures.ticked
     (c.get_mut.follows.holds c.tick_session.new.session).0 stays played
 
 pub returns-in_default-clause-ticked : goal.returns-in_default-clause-ticked
 returns-in_default-clause-ticked c =
-    desk_rests c.args.peer c.args.moment c.self.inside.config.now c.watch.new.self.held c.self.inside.sessions.entries _ c.args.self.now c.args.replies.now.items
-    (sym c.self.view_is ∙ ap (λ (held : Held). desk_of c.self.inside.config.now held c.self.inside.sessions.entries) (sym c.watch.ensures.held))
+    desk_rests c.args.peer c.args.moment c.self.inside.config.now c.self.inside.table.held c.self.inside.sessions.entries _ c.args.self.now c.args.replies.now.items
+    (sym c.self.view_is)
     (sym c.in_default.ensures.value) (ap (λ (m : BTreeMap ℕ Live). m.entries) c.get_mut.follows.holds-at-none)
 
 pub returns-in_default-clause-played : goal.returns-in_default-clause-played
 returns-in_default-clause-played c = λ stays config items played.
-    desk_stays config items c.self.inside.config.now c.watch.new.self.held c.self.inside.sessions.entries _ c.args.self.now
-    (sym c.self.view_is ∙ ap (λ (held : Held). desk_of c.self.inside.config.now held c.self.inside.sessions.entries) (sym c.watch.ensures.held))
+    desk_stays config items c.self.inside.config.now c.self.inside.table.held c.self.inside.sessions.entries _ c.args.self.now
+    (sym c.self.view_is)
     (ap (λ (m : BTreeMap ℕ Live). m.entries) c.get_mut.follows.holds-at-none) played
 
 pub returns-clause-expired : goal.returns-clause-expired
 returns-clause-expired c =
-    desk_expires c.args.peer c.args.moment c.in-Some.session.now c.tick_session.new.session c.self.inside.config.now c.self.inside.table.held c.tick_session.new.table.held
+    desk_expires c.self.inside.table.changes c.tick_session.new.table.changes c.args.peer c.args.moment c.in-Some.session.now c.tick_session.new.session c.self.inside.config.now c.self.inside.table.held c.tick_session.new.table.held
     c.self.inside.sessions.entries _ c.args.self.now c.args.replies.now.items c.tick_session.new.replies.items (sym c.self.view_is) (sym c.in-Some.ensures.value)
-    (subst (λ (held : Held). TicksSession c.args.peer c.args.moment c.in-Some.session.now c.tick_session.new.session held c.tick_session.new.table.held c.args.replies.now.items c.tick_session.new.replies.items)
-    c.watch.ensures.held c.in_ok-tick_session.ensures.ticked)
+    c.in_ok-tick_session.ensures.ticked
     (c.get_mut.follows.holds c.tick_session.new.session).0
 
 pub returns-in_default-clause-expired : goal.returns-in_default-clause-expired
 returns-in_default-clause-expired c =
-    desk_keeps_standing c.args.peer c.self.inside.config.now c.watch.new.self.held c.self.inside.sessions.entries _ c.args.self.now
-    (sym c.self.view_is ∙ ap (λ (held : Held). desk_of c.self.inside.config.now held c.self.inside.sessions.entries) (sym c.watch.ensures.held))
+    desk_keeps_standing c.args.peer c.self.inside.config.now c.self.inside.table.held c.self.inside.sessions.entries _ c.args.self.now
+    (sym c.self.view_is)
     (ap (λ (m : BTreeMap ℕ Live). m.entries) c.get_mut.follows.holds-at-none)

@@ -5,26 +5,26 @@ use Rattle.fs_rules.specs.Table.{Held}
 use Rattle.fs_desk.specs.Receive.{TakesPiece, RepliesPiece}
 use Rattle.fs_desk.proofs.Handed.{desk_handed, desk_unhanded}
 use Rattle.fs_desk.proofs.Played.{desk_fed, desk_skipped, desk_replied, desk_silent, desk_of}
-use Rattle.fs_desk.proofs.desk.Desk.octets_telling.Goals as goal
+use Rattle.fs_desk.proofs.desk.Desk.octets.Goals as goal
 
 pub returns-clause-played : goal.returns-clause-played
 returns-clause-played c = λ config items played.
     desk_fed config items c.args.peer c.args.piece.now c.in-Some.session.now c.receive.new.session c.self.inside.config.now c.self.inside.table.held c.receive.new.table.held
     c.self.inside.sessions.entries _ c.args.self.now (sym c.self.view_is) (sym c.in-Some.ensures.value)
-    (subst (λ (held : Held). TakesPiece c.args.peer c.in-Some.session.now c.receive.new.session held c.receive.new.table.held c.args.piece.now) c.watch.ensures.held c.in_ok-receive.ensures.taken)
+    c.in_ok-receive.ensures.taken
     (c.get_mut.follows.holds c.receive.new.session).0 played
 
 pub returns-in_default-clause-played : goal.returns-in_default-clause-played
 returns-in_default-clause-played c = λ config items played.
-    desk_skipped config items c.args.peer c.args.piece.now c.self.inside.config.now c.watch.new.self.held c.self.inside.sessions.entries _ c.args.self.now
-    (sym c.self.view_is ∙ ap (λ (held : Held). desk_of c.self.inside.config.now held c.self.inside.sessions.entries) (sym c.watch.ensures.held))
+    desk_skipped config items c.args.peer c.args.piece.now c.self.inside.config.now c.self.inside.table.held c.self.inside.sessions.entries _ c.args.self.now
+    (sym c.self.view_is)
     (sym c.in_default.ensures.value) (ap (λ (m : BTreeMap ℕ Live). m.entries) c.get_mut.follows.holds-at-none) played
 
 pub returns-clause-replied : goal.returns-clause-replied
 returns-clause-replied c = λ config items played.
     desk_replied config items c.args.peer c.args.piece.now c.args.replies.now.items c.receive.new.replies.items c.in-Some.session.now c.self.inside.config.now c.self.inside.table.held
     c.self.inside.sessions.entries c.args.self.now (sym c.self.view_is) (sym c.in-Some.ensures.value)
-    (subst (λ (held : Held). RepliesPiece c.args.peer c.in-Some.session.now held c.args.piece.now c.args.replies.now.items c.receive.new.replies.items) c.watch.ensures.held c.in_ok-receive.ensures.replied)
+    c.in_ok-receive.ensures.replied
     played
 
 pub returns-in_default-clause-replied : goal.returns-in_default-clause-replied
@@ -34,12 +34,12 @@ returns-in_default-clause-replied c = λ config items played.
 
 pub returns-clause-handed : goal.returns-clause-handed
 returns-clause-handed c =
-    desk_handed c.args.peer c.args.piece.now c.args.replies.now.items c.receive.new.replies.items c.in-Some.session.now c.receive.new.session c.self.inside.config.now c.self.inside.table.held c.receive.new.table.held
+    desk_handed c.self.inside.table.changes c.receive.new.table.changes c.args.peer c.args.piece.now c.args.replies.now.items c.receive.new.replies.items c.in-Some.session.now c.receive.new.session c.self.inside.config.now c.self.inside.table.held c.receive.new.table.held
     c.self.inside.sessions.entries _ c.args.self.now (sym c.self.view_is) (sym c.in-Some.ensures.value)
-    (subst (λ (held : Held). TakesPiece c.args.peer c.in-Some.session.now c.receive.new.session held c.receive.new.table.held c.args.piece.now) c.watch.ensures.held c.in_ok-receive.ensures.taken)
+    c.in_ok-receive.ensures.taken
     c.in_ok-receive.ensures.handed (c.get_mut.follows.holds c.receive.new.session).0
 
 pub returns-in_default-clause-handed : goal.returns-in_default-clause-handed
 returns-in_default-clause-handed c =
-    desk_unhanded c.args.peer c.args.piece.now c.args.replies.now.items c.self.inside.config.now c.self.inside.table.held c.watch.new.self.held c.self.inside.sessions.entries _ c.args.self.now (sym c.self.view_is)
+    desk_unhanded c.self.inside.table.changes c.self.inside.table.changes c.args.peer c.args.piece.now c.args.replies.now.items c.self.inside.config.now c.self.inside.table.held c.self.inside.table.held c.self.inside.sessions.entries _ c.args.self.now (sym c.self.view_is)
     (sym c.in_default.ensures.value)

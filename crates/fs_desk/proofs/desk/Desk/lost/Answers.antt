@@ -2,9 +2,9 @@ use Rattle.std.proofs.Common.{sym, ap, ◌∙◌}
 use Rattle.fs_rules.specs.Table.{without_peer}
 use Rattle.fs_desk.proofs.TableChanges.{lost_to}
 use Rattle.fs_desk.proofs.Played.{desk_lost}
-use Rattle.fs_desk.proofs.desk.Desk.lost_telling.Goals as goal
+use Rattle.fs_desk.proofs.desk.Desk.lost.Goals as goal
 
 pub returns-clause-played : goal.returns-clause-played
 returns-clause-played c = λ config items played.
     desk_lost config items c.args.peer c.self.inside.config.now c.self.inside.table.held c.lose.new.table.held c.self.inside.sessions.entries c.remove.new.self.entries c.args.self.now
-    (sym c.self.view_is) (lost_to c.args.peer c.self.inside.table.held c.lose.new.table.held (c.lose.ensures.lost ∙ ap (without_peer c.args.peer) c.watch.ensures.held)) c.remove.ensures.entries played
+    (sym c.self.view_is) (lost_to c.args.peer c.self.inside.table.held c.lose.new.table.held c.lose.ensures.lost) c.remove.ensures.entries played

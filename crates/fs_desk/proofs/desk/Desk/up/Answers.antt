@@ -1,7 +1,7 @@
 use Rattle.std.proofs.Common.{Result, Ok, Err, OnErr, ap, sym, ◌∙◌}
 use Rattle.fs_desk.specs.Desk.{Desked}
 use Rattle.fs_desk.proofs.Played.{desk_begun, desk_up, desk_stays}
-use Rattle.fs_desk.proofs.desk.Desk.up_telling.Goals as goal
+use Rattle.fs_desk.proofs.desk.Desk.up.Goals as goal
 
 on_err : {T E P : Type 0} (result : Result T E) → P → OnErr result P
 on_err (Ok t) p = tt
@@ -9,18 +9,18 @@ on_err (Err e) p = p
 
 pub returns-clause-played : goal.returns-clause-played
 returns-clause-played c = λ config items played.
-    desk_up config items c.args.peer c.in_ok-session.session c.self.inside.config.now c.self.inside.table.held c.self.inside.sessions.entries c.insert.new.self.entries c.lost_telling-changed.new.self
-    (sym c.self.view_is) c.in_ok-session.ensures c.in_ok-insert.ensures.entries (c.lost_telling-changed.ensures.played config items played)
+    desk_up config items c.args.peer c.in_ok-session.session c.self.inside.config.now c.self.inside.table.held c.self.inside.sessions.entries c.insert.new.self.entries c.lost.new.self
+    (sym c.self.view_is) c.in_ok-session.ensures c.in_ok-insert.ensures.entries (c.lost.ensures.played config items played)
 
 -- a session that finds no room leaves the desk as the loss left it
 pub returns-in_err-insert-clause-lost : goal.returns-in_err-insert-clause-lost
 returns-in_err-insert-clause-lost c =
     on_err c.from_residual-in_err-insert.result
     (λ config items played.
-    desk_stays config _ c.self.inside.config.now c.self.inside.table.held c.self.inside.sessions.entries c.insert.new.self.entries c.lost_telling-changed.new.self
-    (sym c.self.view_is) c.in_err-insert.ensures.err (c.lost_telling-changed.ensures.played config items played))
+    desk_stays config _ c.self.inside.config.now c.self.inside.table.held c.self.inside.sessions.entries c.insert.new.self.entries c.lost.new.self
+    (sym c.self.view_is) c.in_err-insert.ensures.err (c.lost.ensures.played config items played))
 
 pub returns-clause-begun : goal.returns-clause-begun
 returns-clause-begun c =
     desk_begun c.args.peer c.in_ok-session.session c.self.inside.config.now c.args.self.now.config c.self.inside.sessions.entries c.insert.new.self.entries
-    (ap (λ (d : Desked). d.config) c.self.view_is ∙ c.lost_telling-changed.ensures.config) c.in_ok-session.ensures c.in_ok-insert.ensures.entries
+    (ap (λ (d : Desked). d.config) c.self.view_is ∙ c.lost.ensures.config) c.in_ok-session.ensures c.in_ok-insert.ensures.entries
