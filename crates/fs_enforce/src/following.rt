@@ -9,6 +9,8 @@ ghost use Rattle.fs_stages.specs.Player.{IsUnplayed, Stands};
 ghost use Rattle.fs_stages.specs.Refusal.{IsOfTape, answered};
 ghost use Rattle.fs_tape.specs.Tape.{Timed};
 ghost use Rattle.fs_enforce.specs.Judge.{admitted_rules};
+ghost use Rattle.fs_compile.specs.Matcher.{admitted_in};
+ghost use Rattle.fs_compile.specs.Mending.{AreOwn};
 ghost use Rattle.fs_enforce.specs.Matcher.{StandsFor};
 
 use fs_base::{Files, Memory};
@@ -29,6 +31,7 @@ impl<'a> Following<'a> {
         ensures same { IfOk result (λ following. following.player ≡ player.entry) }
         ensures stands { IfOk result (λ following.
             StandsFor (admitted_rules player.entry.desk.held) following.rules) }
+        ensures own { IfOk result (λ _. AreOwn (admitted_in player.entry.desk.held)) }
     {
         let rules = Compiled::build(alloc, player.table())?;
         Ok(Following {
@@ -38,14 +41,15 @@ impl<'a> Following<'a> {
         })
     }
 
-    /// Plays the tape up to this moment. The rules are compiled anew where they may be others than before.
+    /// Plays the tape up to this moment. The rules are mended where they may be others than before.
     ///
     /// # Errors
     ///
     /// `Outside` where the files failed, `Tape` and `Limit` where the tape ends so, `Memory` where the machine refused
     /// memory.
     pub(crate) fn follow<F: Files>(&mut self, files: &mut F, moment: u64) -> Result<(), Refusal>
-        requires { StandsFor (admitted_rules self.old.player.desk.held) self.old.rules }
+        requires stands { StandsFor (admitted_rules self.old.player.desk.held) self.old.rules }
+        requires own { AreOwn (admitted_in self.old.player.desk.held) }
         ensures later { F.faults files.old ≤ F.faults files.new }
         ensures slot { self.new.player.tape.slot ≡ self.old.player.tape.slot }
         ensures config { self.new.player.desk.config ≡ self.old.player.desk.config }
@@ -55,6 +59,7 @@ impl<'a> Following<'a> {
             (λ _. IsOpenOrDone self.new.player.tape self.new.player.ahead)
             (EndsBy self.new.player.tape) }
         ensures stands { IfOk result (λ _. StandsFor (admitted_rules self.new.player.desk.held) self.new.rules) }
+        ensures own { IfOk result (λ _. AreOwn (admitted_in self.new.player.desk.held)) }
 
         ensures played { IsTrue F.tells
             → (items : List Timed)
@@ -65,9 +70,9 @@ impl<'a> Following<'a> {
             (IsUnplayed (Rose (F.faults files.old) (F.faults files.new))) }
         ensures others { OnlySlot F.tells F.left F.holds self.old.player.tape.slot files.old files.new }
     {
-        if self.player.play_to(files, moment)? {
-            self.rules = Compiled::build(self.alloc, self.player.table())?;
-        }
+        self.player.play_to(files, moment)?;
+        self.rules
+            .mend(self.alloc, self.player.table(), self.player.changes())?;
         Ok(())
     }
 }

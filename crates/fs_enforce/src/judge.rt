@@ -14,6 +14,8 @@ ghost use Rattle.fs_stages.specs.Player.{Stands, due_item};
 ghost use Rattle.fs_stages.specs.Refusal.{Found, answered};
 ghost use Rattle.fs_tape.specs.Tape.{Timed};
 ghost use Rattle.fs_enforce.specs.Judge.{admitted_rules, EndsTape, found_behind, in_hand, IsOfCapture, IsOfPackets};
+ghost use Rattle.fs_compile.specs.Matcher.{admitted_in};
+ghost use Rattle.fs_compile.specs.Mending.{AreOwn};
 ghost use Rattle.fs_enforce.specs.Matcher.{StandsFor};
 ghost use Rattle.fs_enforce.specs.Moments.{AnswersAt, BreaksOff, Follows, JudgesMoments, WroteJudged};
 
@@ -109,6 +111,7 @@ fn judge_all<F: Files, S: Sink>(
     requires tape { following.old.player.tape.slot ≡ 1 }
     requires ends { IsOpenOrDone following.old.player.tape following.old.player.ahead }
     requires stands { StandsFor (admitted_rules following.old.player.desk.held) following.old.rules }
+    requires own { AreOwn (admitted_in following.old.player.desk.held) }
     requires none { (lines.old.output ≡ []) × (lines.old.number ≡ 0) }
     ensures files_later { F.faults files.old ≤ F.faults files.new }
     ensures sink_later { S.faults sink.old ≤ S.faults sink.new }
@@ -159,6 +162,7 @@ fn judge_packets<F: Files, S: Sink>(
     requires tape { following.old.player.tape.slot ≡ 1 }
     requires ends { IsOpenOrDone following.old.player.tape following.old.player.ahead }
     requires stands { StandsFor (admitted_rules following.old.player.desk.held) following.old.rules }
+    requires own { AreOwn (admitted_in following.old.player.desk.held) }
     requires first { lines.old.number ≡ 0 }
     ensures files_later { F.faults files.old ≤ F.faults files.new }
     ensures sink_later { S.faults sink.old ≤ S.faults sink.new }

@@ -6,6 +6,9 @@ use Rattle.fs_stages.specs.Player.{PlayerState, Stands}
 use Rattle.fs_stages.specs.Refusal.{Found, answered}
 use Rattle.fs_stages.specs.declared.refusal.Refusal.TheVariants.{Memory}
 use Rattle.fs_stages.proofs.Stages.{answered_err}
+use Rattle.fs_compile.specs.Matcher.{admitted_in}
+use Rattle.fs_compile.specs.Mending.{AreOwn}
+use Rattle.fs_enforce.specs.Judge.{IsOfPackets}
 use Rattle.fs_enforce.specs.Moments.{AnswersAt, WroteJudged}
 use Rattle.fs_enforce.proofs.MomentAnswers.{none_judged, wrote_none}
 use Rattle.fs_enforce.proofs.judge.judge_capture.Goals as goal
@@ -60,3 +63,9 @@ returns-clause-wanting g c = λ told six items s.
     (coming c.judge_all-judged.new.capture (g.F.Files.left c.judge_all-judged.new.files 2)).0 (g.S.Sink.written c.args.sink.now) (g.S.Sink.written c.judge_all-judged.new.sink)) c.in_ok-following.ensures.same
     (c.judge_all-judged.ensures.wanting told six items
     (subst (λ (p : PlayerState). Stands items 0 p (g.F.Files.left c.args.files.now 1)) (sym c.in_ok-following.ensures.same) s))
+
+pub judge_all-judged-requires-clause-own : goal.judge_all-judged-requires-clause-own
+judge_all-judged-requires-clause-own g c = subst (λ (p : PlayerState). AreOwn (admitted_in p.desk.held)) (sym c.in_ok-following.ensures.same) c.in_ok-following.ensures.own
+
+pub returns-in_err-lines-clause-possible : goal.returns-in_err-lines-clause-possible
+returns-in_err-lines-clause-possible g c = answered_err IsOfPackets c.from_residual-in_err-lines.result Memory c.from_residual-in_err-lines.ensures.1 (λ e. absurd cc, λ e. absurd cc, λ e. absurd cc)

@@ -5,6 +5,8 @@ use Rattle.fs_pcap.specs.Head.{longest_record}
 use Rattle.fs_tape.specs.Tape.{Timed}
 use Rattle.fs_stages.specs.Play.{IsOpenOrDone, until}
 use Rattle.fs_stages.specs.Player.{Stands}
+use Rattle.fs_compile.specs.Matcher.{admitted_in}
+use Rattle.fs_compile.specs.Mending.{AreOwn}
 use Rattle.fs_enforce.specs.Judge.{admitted_rules, in_hand}
 use Rattle.fs_enforce.specs.Matcher.{StandsFor}
 use Rattle.fs_enforce.specs.Moments.{Follows}
@@ -23,6 +25,7 @@ invariant-changes g l = record {
   ends : IsOpenOrDone l.following.player.tape l.following.player.ahead;
   config : l.following.player.desk.config ≡ l.fn.following.player.desk.config;
   stands : StandsFor (admitted_rules l.following.player.desk.held) l.following.rules;
+  own : AreOwn (admitted_in l.following.player.desk.held);
   still : l.fn.following.player.ahead ≡ None
       → (l.sink ≡ l.fn.sink) × (l.files ≡ l.fn.files) × (l.capture ≡ l.fn.capture) × (l.lines.output ≡ l.fn.lines.output) × (l.following.player.ahead ≡ None);
   files_later : g.F.Files.faults l.fn.files ≤ g.F.Files.faults l.files;
