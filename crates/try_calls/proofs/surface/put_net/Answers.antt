@@ -1,5 +1,5 @@
 use Rattle.try_calls.proofs.Rising.{sum_held}
-use Rattle.try_calls.proofs.table.put_net.Goals as goal
+use Rattle.try_calls.proofs.surface.put_net.Goals as goal
 
 pub returns-clause-sum : goal.returns-clause-sum
 returns-clause-sum g c =

@@ -1,6 +1,6 @@
 use Rattle.std.proofs.Common.{◌≡◌, ◌≤◌, ◌+◌, length}
 use Rattle.try_calls.specs.Counter.{IsCountedBy}
-use Rattle.try_calls.proofs.table.put_rules.Given as goal
+use Rattle.try_calls.proofs.surface.put_rules.Given as goal
 
 abbrev pub invariant-loop-rule : goal.invariant-loop-rule
 invariant-loop-rule g l = record {
