@@ -520,11 +520,11 @@ STANDS = [
         "the replies are as they were; what sessions and table then hold isn't said, but the table's validities are right for it (its invariant); by `up` the peer is lost",
         [
             "fs_desk Desk::octets err",
-            "fs_desk Desk::octets_telling err",
+            "fs_desk Desk::octets err",
             "fs_desk Desk::tick err",
-            "fs_desk Desk::tick_telling err",
+            "fs_desk Desk::tick err",
             "fs_desk Desk::up lost",
-            "fs_desk Desk::up_telling lost",
+            "fs_desk Desk::up lost",
         ],
     ),
     (

@@ -2,9 +2,11 @@
 """examples.py PROGRAM: runs each command that README and the documents show with `$`, and compares what they say it prints.
 
 An example is an indented line that begins with `$ `, and the lines below it up to the next such line or the block's end.
-Each is run by bash in a copy of crates/welgutan/data, where `welgutan` is PROGRAM.
+Each is run by bash in a copy of crates/welgutan/data, where `welgutan` is PROGRAM. Behind a comment `FILE: MARK` an indented
+block shows what stands in that source file between the lines `// MARK` and `// end`.
 """
 import pathlib
+import re
 import shutil
 import subprocess
 import sys
@@ -30,6 +32,14 @@ def examples(text):
             found = None
 
 
+def shown(text):
+    """The blocks of a document that show a source file, each with the lines that stand there."""
+    for file, mark, block in re.findall(r"^<!-- (\S+): (.+) -->\n\n((?:    .*\n|\n)+)", text, re.M):
+        source = (ROOT / file).read_text()
+        between = source.partition(f"// {mark}\n")[2].partition("// end\n")[0]
+        yield f"{file}: {mark}", [line[len(INDENT) :] for line in block.rstrip().split("\n")], between.rstrip().split("\n")
+
+
 def printed(command, folder, path):
     ran = subprocess.run(["bash", "-c", command], cwd=folder, env={"PATH": path}, capture_output=True, text=True, timeout=60)
     return ran.stdout.splitlines() + ran.stderr.splitlines()
@@ -51,6 +61,11 @@ def main():
                 if found != lines:
                     wrong += 1
                     print(f"{page.name}: $ {command}\nis said to print", *lines, "and prints", *found, sep="\n")
+            for place, lines, stands in shown(page.read_text()):
+                count += 1
+                if lines != stands:
+                    wrong += 1
+                    print(f"{page.name}: {place}\nis shown as", *lines, "and stands there as", *stands, sep="\n")
     print(f"examples: {count} tried, {wrong} differ")
     sys.exit(1 if wrong or not count else 0)
 

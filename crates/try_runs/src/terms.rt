@@ -49,8 +49,8 @@ pub struct End {
 }
 
 /// What a run is given: the limit, the room of its output, the calls that fail, the most octets of a call, what the clock
-/// answers, a file of another content and the ends of the wire. And what it must write, the calls that it must make on the wire, and the status that is
-/// due where calls fail in turn.
+/// answers, a file of another content and the ends of the wire. And what it must write, the calls that it must make on the
+/// wire, and the status that is due where calls fail in turn.
 #[derive(Drop)]
 pub struct Terms {
     pub limit: u64,
