@@ -2,6 +2,7 @@
 """Times the load of flow rules and of unicast routes, and reports routes per second and octets of memory for each.
 
     bench/load.py PROGRAM [--sizes N,N,..] [--group N,N,..] [--changes N] [--runs N]
+    bench/load.py PROGRAM --dense
 
 A tape holds the routes of one peer, one in each UPDATE. What is reported is the user and system time and the peak of
 memory of `enforce` over an empty capture, less those with a tape without these routes: for unicast routes;
@@ -9,6 +10,9 @@ for rules to a destination each, beside a unicast route for each destination; fo
 without a destination, that come in no order; and for unicast routes that come and go beside the rules. With
 `--sizes 1000000` it tells whether the rate is the same at a million. The peak is
 what GNU time (Debian's package `time`) tells: the one that a script sees of its child begins with the script's own size.
+
+With `--dense` it tells how many octets of memory an octet of tape takes at most: each UPDATE holds as many of the
+shortest routes of a kind as a message can.
 
 What a rule takes compiled is the peak with rules that are all admitted, by one unicast route that covers them, less
 the peak without this route: then none is admitted, so none is compiled, and the table is the same. Beside the matcher
@@ -50,6 +54,38 @@ def to_one(rules):
 
 def to_none(rules):
     return b"".join(START + [flow(b"\x04" + port_of(number)) for number in range(rules)])
+
+
+def in_messages(parts, most):
+    """The parts joined, as many at a time as the octets of a message hold."""
+    joined = b""
+    for part in parts:
+        if len(joined) + len(part) > most:
+            yield joined
+            joined = b""
+        joined += part
+    yield joined
+
+
+def wide_attribute(kind, value):
+    return bytes([0x90, kind]) + len(value).to_bytes(2, "big") + value
+
+
+def dense_rules(frames):
+    return [update(b"", wide_attribute(14, b"\0\1\x85\0\0" + octets) + PATH, b"") for octets in in_messages(frames, 4000)]
+
+
+LONG_PATH = bytes.fromhex("40010100") + wide_attribute(2, b"".join(b"\2\xfa" + bytes.fromhex("0000fde9") * 250 for _ in range(2)))
+DENSE = [
+    ("unicast routes of four octets", [announce(octets) for octets in in_messages(map(slash24, range(200000)), 4000)]),
+    ("rules to a destination each, six octets", dense_rules(b"\5\1" + slash24(number) for number in range(200000))),
+    ("rules without a destination, five octets", dense_rules(b"\4" + port_of(number) for number in range(PORTS))),
+    ("unicast routes behind a path of 500 numbers", [
+        update(b"", LONG_PATH + bytes.fromhex("400304c6336401"), octets) for octets in in_messages(map(slash24, range(20000)), 1900)]),
+    ("rules behind a path of 500 numbers", [
+        update(b"", wide_attribute(14, b"\0\1\x85\0\0" + octets) + LONG_PATH, b"")
+        for octets in in_messages((b"\5\1" + slash24(number) for number in range(20000)), 1900)]),
+]
 
 
 def v4_rule(number):
@@ -116,6 +152,7 @@ def main():
     parser.add_argument("--group", default="15000,30000,60000")
     parser.add_argument("--changes", type=int, default=200000)
     parser.add_argument("--runs", type=int, default=3)
+    parser.add_argument("--dense", action="store_true")
     options = parser.parse_args()
     program = str(options.program.resolve())
     sizes = [int(size) for size in options.sizes.split(",")]
@@ -124,13 +161,19 @@ def main():
         parser.error(f"a group has at most {PORTS} rules")
     with tempfile.TemporaryDirectory() as made:
         folder = pathlib.Path(made)
-        (folder / "config").write_text(CONFIG)
+        (folder / "config").write_text("allow_no_destination = true\n" * options.dense + CONFIG)
         (folder / "capture").write_bytes(EMPTY_CAPTURE)
 
         def measure(tape):
             return spent(program, folder, tape, options.runs)
 
         nothing = measure(b"".join(START))
+        for name, updates in DENSE if options.dense else []:
+            tape = b"".join(START + updates)
+            octets = measure(tape)[1] - nothing[1]
+            print(f"{name}: {octets / len(tape):.1f} octets of memory an octet of tape, {octets >> 20} MiB in all", flush=True)
+        if options.dense:
+            return
         for size in sizes:
             routes = measure(with_prefixes(size))
             report("unicast routes", size, routes, nothing)
