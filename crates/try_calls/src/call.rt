@@ -86,13 +86,7 @@ impl<'a> Call<'a> {
 
     /// What an answer has; its fault is told.
     pub fn good<T: Drop, E: fmt::Debug + Drop>(&mut self, answer: Result<T, E>) -> Option<T> {
-        match answer {
-            Ok(value) => Some(value),
-            Err(fault) => {
-                self.show(&fault);
-                None
-            }
-        }
+        answer.map_err(|fault| self.show(&fault)).ok()
     }
 
     /// Tells the fault of a call that writes, how many octets were written since the last one, and the first of them.

@@ -23,13 +23,12 @@ use surface::answer;
 fn make<'a, L: Ledger>(rt: &HostRuntime, text: &'a str, config: &'a Config, steps: &mut Steps<L>) {
     let (mut calls, mut differ) = (0u64, 0u64);
     let alloc = rt.alloc();
-    let (out, told, rest) = (Vec::new(alloc), String::new(alloc), "");
     let mut call = Call {
         alloc,
         config,
-        out,
-        told,
-        rest,
+        out: Vec::new(alloc),
+        told: String::new(alloc),
+        rest: "",
     };
     for line in text.lines() {
         if let (false, Some((words, due))) = (line.starts_with('#'), line.split_once(" = ")) {
@@ -59,8 +58,7 @@ fn run<L: Ledger>(blank: Blank, rt: &HostRuntime) -> Option<()>
     requires some { 0 < L.parts }
 {
     let mut steps = Steps::<L>::new(blank);
-    let text = file(rt, 1)?;
-    let peers = file(rt, 2)?;
+    let (text, peers) = (file(rt, 1)?, file(rt, 2)?);
     let config: Result<Config, ConfFault> = read_config(rt.alloc(), peers.as_bytes());
     make(rt, text.as_str(), &config.ok()?, &mut steps);
     Some(())

@@ -59,8 +59,7 @@ fn show_frame(call: &mut Call<'_>, frame: Frame<'_>) -> Option<()> {
     call.show::<(u8, u8)>(&(notice.code, notice.subcode));
     let open = call.good::<Open, MessageFault>(Open::read(body, 65001))?;
     call.show::<(u32, u16, u32, bool)>(&(open.asn, open.hold_time, open.id, open.four));
-    call.show::<[bool; 2]>(&[open.v4_unicast, open.v4_flow]);
-    call.show::<[bool; 2]>(&[open.v6_unicast, open.v6_flow])
+    call.show::<[bool; 4]>(&[open.v4_unicast, open.v4_flow, open.v6_unicast, open.v6_flow])
 }
 
 /// OCTETS: the update that a body says, of an external peer at 198.51.100.1 with AS numbers of four octets, and its
@@ -139,9 +138,8 @@ pub fn announce(call: &mut Call<'_>) -> Option<()> {
     let (id, rules): (u32, &[Sent]) = (sending.id, sending.rules.as_slice());
     let path: &[u32] = sending.as_path.as_slice();
     call.show(&(id, path, rules.len(), same(&sending, &sending)));
-    let mut announcer = call.good::<Announcer<'_>, Memory>(Announcer::new(
-        call.alloc, config, sending,
-    ))?;
+    let announcer = Announcer::new(call.alloc, config, sending);
+    let mut announcer = call.good::<Announcer<'_>, Memory>(announcer)?;
     let started: Result<(), Closed> = announcer.start(&mut call.out);
     let opened: Result<usize, Closed> = announcer.feed(&call.octets(), &mut call.out);
     let kept: Result<usize, Closed> = announcer.feed_at(1000, &call.octets(), &mut call.out);

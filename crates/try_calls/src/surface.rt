@@ -34,13 +34,6 @@ pub fn answer<L: Ledger>(call: &mut Call<'_>, steps: &mut Steps<L>) -> Option<()
         "joint" => streams::joint(call),
         "calm" => streams::calm(call),
         "input" => streams::input(call),
-        word => values(call, word),
-    }
-}
-
-/// Makes the calls of lists, rules, actions and messages.
-fn values(call: &mut Call<'_>, word: &str) -> Option<()> {
-    match word {
         "numbers" => numbers(call),
         "masks" => masks(call),
         "rule" => rule(call),
@@ -94,11 +87,8 @@ fn rule(call: &mut Call<'_>) -> Option<()> {
     let (family, parts): (Family, &[Component]) = (rule.family(), rule.components());
     call.show::<(usize, Family, usize)>(&(taken, family, parts.len()));
     show_rule(call, &rule);
-    let (copy, destination): (Result<Rule, Memory>, Option<Prefix>) = (
-        rule.copy(),
-        rule.destination(),
-    );
-    call.show(&(destination, same(&copy, &Ok(rule))))
+    let copy: Result<Rule, Memory> = rule.copy();
+    call.show::<(Option<Prefix>, bool)>(&(rule.destination(), same(&copy, &Ok(rule))))
 }
 
 /// The rule's canonical NLRI.
@@ -200,14 +190,12 @@ fn routes<L: Ledger>(call: &mut Call<'_>, steps: &mut Steps<L>) -> Option<()> {
 fn packet<L: Ledger>(call: &mut Call<'_>, steps: &mut Steps<L>) -> Option<()> {
     let link: Link = Link::of(call.number())?;
     let octets = call.octets();
-    let seen: Result<View<'_>, Unread> = view(link, &octets);
-    let view: View<'_> = call.good(seen)?;
+    let view = call.good::<View<'_>, Unread>(view(link, &octets))?;
     show_fields(call, &view);
     let rules = call.rules();
-    test(call, &view, &rules, steps);
+    test(call, &view, rules.first()?, steps);
     let mut table = Table::new(call.alloc, call.config);
-    let put = put_rules(call.alloc, &rules, &mut table, steps);
-    call.good(put);
+    call.good(put_rules(call.alloc, &rules, &mut table, steps));
     walk(call, &view, &table, steps);
     Some(())
 }
@@ -222,11 +210,9 @@ fn show_fields(call: &mut Call<'_>, view: &View<'_>) {
     call.show::<(u8, u8, bool)>(&(view.dscp(), view.fragment(), same(view, view)));
 }
 
-fn test<L: Ledger>(call: &mut Call<'_>, view: &View<'_>, rules: &[Rule], steps: &mut Steps<L>) {
-    if let Some(rule) = rules.first() {
-        if let Some(fast) = call.good::<Fast, Memory>(Fast::of(call.alloc, rule)) {
-            call.show::<(bool, bool)>(&(fast.test(view, steps), matches(rule, view)));
-        }
+fn test<L: Ledger>(call: &mut Call<'_>, view: &View<'_>, rule: &Rule, steps: &mut Steps<L>) {
+    if let Some(fast) = call.good::<Fast, Memory>(Fast::of(call.alloc, rule)) {
+        call.show::<(bool, bool)>(&(fast.test(view, steps), matches(rule, view)));
     }
 }
 
