@@ -4,6 +4,9 @@ PROGRAM = crates/welgutan/out/welgutan
 EXAMPLE = enforce data/peers.toml data/sessions.tape data/packets.pcap
 BIN = $(DESTDIR)$(PREFIX)/bin
 MAN = $(DESTDIR)$(PREFIX)/share/man/man1
+SHARE = $(DESTDIR)$(PREFIX)/share/welgutan
+# what tools/nft.py imports
+READING = $(wildcard bench/plain*.py)
 
 all:
 	cd crates/welgutan && rt run -- $(EXAMPLE)
@@ -17,7 +20,10 @@ check:
 install:
 	install -D -m 755 $(PROGRAM) $(BIN)/welgutan
 	install -D -m 755 tools/verdicts.py $(BIN)/welgutan-verdicts
-	[ ! -e tools/nft.py ] || install -D -m 755 tools/nft.py $(BIN)/welgutan-nft
+	install -D -m 755 tools/nft.py $(SHARE)/tools/nft.py
+	install -d -m 755 $(SHARE)/bench
+	install -m 644 $(READING) $(SHARE)/bench
+	ln -sf ../share/welgutan/tools/nft.py $(BIN)/welgutan-nft
 	install -d -m 755 $(MAN)
 	tools/man.py $(MAN)/welgutan.1
 

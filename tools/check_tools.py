@@ -276,11 +276,13 @@ def manual(folder):
 def install(folder):
     (folder / "program").write_text("#!/bin/sh\n")
     run("make", "-s", "-C", ROOT, "install", f"DESTDIR={folder}/dest", "PREFIX=/usr", f"PROGRAM={folder}/program")
-    names = ["usr/bin/welgutan", "usr/bin/welgutan-verdicts", "usr/share/man/man1/welgutan.1"]
-    names += ["usr/bin/welgutan-nft"] if (ROOT / "tools" / "nft.py").exists() else []
-    dest = folder / "dest"
+    names = ["bin/welgutan", "bin/welgutan-nft", "bin/welgutan-verdicts", "share/man/man1/welgutan.1"]
+    names += ["share/welgutan/tools/nft.py"] + [f"share/welgutan/bench/{path.name}" for path in ROOT.glob("bench/plain*.py")]
+    dest = folder / "dest" / "usr"
     found = sorted(str(path.relative_to(dest)) for path in dest.rglob("*") if path.is_file())
     want(found == sorted(names), f"make install left {found}")
+    done = subprocess.run([dest / "bin" / "welgutan-nft", "eth0"], input="peer 1 down\n", capture_output=True, text=True, check=False)
+    want("table netdev welgutan" in done.stdout, f"the installed welgutan-nft says {done.stderr}")
 
 
 def main():
