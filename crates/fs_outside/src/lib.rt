@@ -1,6 +1,7 @@
 //! The traits by which the program meets the outside, and what implements them: in memory, and as the system has it.
 #![tactic(auto)]
 
+mod blocks;
 mod cable;
 mod clock;
 mod clocks;

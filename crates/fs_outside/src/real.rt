@@ -3,13 +3,11 @@ ghost use Rattle.std.specs.Prelude.{◌≡◌, ◌≤◌, IfOk};
 ghost use Rattle.std.specs.Io.{ReadsAtMost};
 ghost use Rattle.fs_outside.specs.Outside.{HasCause, Rose};
 
+use crate::blocks::Blocks;
 use crate::{Failed, Files, Sink};
 use std::alloc::Global;
-use std::io::{BufReader, ErrorKind, Read, Write};
+use std::io::{ErrorKind, Read, Write};
 use std::{fs, io, rt};
-
-/// Files are read in blocks of so many octets, so that small reads cost no call of the system.
-const BLOCK: usize = 256 * 1024;
 
 /// Counts a fault.
 pub fn fault(faults: &mut u64) -> Failed
@@ -23,7 +21,7 @@ pub fn fault(faults: &mut u64) -> Failed
 /// The three slots and the faults so far.
 #[derive(Drop)]
 struct Slots<F: Read + Drop> {
-    readers: [Option<BufReader<F>>; 3],
+    readers: [Option<Blocks<F>>; 3],
     faults: u64,
 }
 
@@ -37,7 +35,7 @@ impl<F: Read + Drop> Slots<F> {
         let place = slot as usize;
         self.readers[place] = None;
         match opened {
-            Ok(file) => match BufReader::with_capacity(alloc, BLOCK, file) {
+            Ok(file) => match Blocks::new(alloc, file) {
                 Ok(reader) => {
                     self.readers[place] = Some(reader);
                     Ok(true)
@@ -50,6 +48,7 @@ impl<F: Read + Drop> Slots<F> {
     }
 
     /// Reads from a slot. One that isn't open is at its end.
+    #[inline(always)]
     fn read(&mut self, slot: u8, into: &mut [u8]) -> Result<usize, Failed>
         requires { slot ≤ 2 }
         ensures cause { HasCause self.old.faults self.new.faults result }
@@ -58,6 +57,9 @@ impl<F: Read + Drop> Slots<F> {
         let Some(reader) = &mut self.readers[slot as usize] else {
             return Ok(0);
         };
+        if reader.fill(into) {
+            return Ok(into.len());
+        }
         match reader.read(into) {
             Ok(count) => Ok(count),
             Err(_) => Err(fault(&mut self.faults)),
@@ -111,6 +113,7 @@ impl<'a, R: rt::Files> Files for RealFiles<'a, R> {
         self.slots.put(slot, opened, self.alloc)
     }
 
+    #[inline(always)]
     fn read(&mut self, slot: u8, into: &mut [u8]) -> Result<usize, Failed> {
         self.slots.read(slot, into)
     }
