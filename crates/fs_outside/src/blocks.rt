@@ -3,8 +3,8 @@
 ghost use Rattle.std.specs.Prelude.{◌≡◌, ◌≤◌, length, vec_len};
 ghost use Rattle.std.specs.Io.{ReadsAtMost};
 
+use crate::Failed;
 use std::alloc::{AllocError, Global};
-use std::io;
 use std::io::Read;
 
 /// Files are read in blocks of so many octets, so that small reads cost no call of the system.
@@ -47,20 +47,30 @@ impl<F: Read + Drop> Blocks<F> {
     /// Reads octets into the front of `into`: what the block still holds, else of the next one, and past all blocks
     /// where `into` is as large as one.
     #[inline(never)]
-    pub fn read(&mut self, into: &mut [u8]) -> io::Result<usize>
+    pub fn read(&mut self, into: &mut [u8]) -> Result<usize, Failed>
         ensures { ReadsAtMost result into.new }
     {
         if self.from == self.to {
             if into.len() >= BLOCK {
-                return self.file.read(into);
+                return read_once(&mut self.file, into);
             }
             self.from = 0;
             self.to = 0;
-            self.to = self.file.read(&mut self.block)?;
+            self.to = read_once(&mut self.file, &mut self.block)?;
         }
         let count = into.len().min(self.to - self.from);
         into[..count].copy_from_slice(&self.block[self.from..self.from + count]);
         self.from += count;
         Ok(count)
+    }
+}
+
+/// One read of the system's.
+fn read_once<F: Read>(file: &mut F, into: &mut [u8]) -> Result<usize, Failed>
+    ensures { ReadsAtMost result into.new }
+{
+    match file.read(into) {
+        Ok(count) => Ok(count),
+        Err(_) => Err(Failed),
     }
 }

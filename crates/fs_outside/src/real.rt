@@ -62,7 +62,7 @@ impl<F: Read + Drop> Slots<F> {
         }
         match reader.read(into) {
             Ok(count) => Ok(count),
-            Err(_) => Err(fault(&mut self.faults)),
+            Err(Failed) => Err(fault(&mut self.faults)),
         }
     }
 }
