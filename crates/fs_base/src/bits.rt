@@ -1,6 +1,6 @@
 //! The bits of addresses.
 
-ghost use Rattle.std.specs.Prelude.{◌≡◌, ℕ, ◌-◌, ◌%◌, ◌^◌, ◌<◌, ◌≤◌, ◌↔◌};
+ghost use Rattle.std.specs.Prelude.{◌≡◌, ℕ, ◌-◌, ◌^◌, ◌<◌, ◌≤◌, ◌↔◌};
 ghost use Rattle.fs_base.specs.Bits.{cleared, width_of};
 
 use crate::prefix::Family;
@@ -10,11 +10,18 @@ pub(crate) fn first_bits(family: Family, bits: u128, length: u8) -> u128
     requires { length ≤ width_of family }
     ensures { result ≡ cleared (width_of family) length bits }
 {
-    let host = family.width() - length;
-    if host == 128 {
-        return 0;
+    match family {
+        Family::V4 => {
+            let host = 32 - length;
+            let address = (bits & 0xffff_ffff) as u64;
+            (address >> host << host) as u128
+        }
+        Family::V6 if length == 0 => 0,
+        Family::V6 => {
+            let host = 128 - length;
+            bits >> host << host
+        }
     }
-    address_of(family, bits) >> host << host
 }
 
 /// How many of the first bits of two addresses are the same.
@@ -34,18 +41,8 @@ pub(crate) fn ones(count: u8) -> u128
     requires { count ≤ 128 }
     ensures { result ≡ 2 ^ count - 1 }
 {
-    if count == 0 {
-        return 0;
+    if count < 64 {
+        return ((1u64 << count) - 1) as u128;
     }
     u128::MAX >> (128 - count)
-}
-
-/// The bits of an address of the family.
-fn address_of(family: Family, bits: u128) -> u128
-    ensures { result ≡ bits % 2 ^ width_of family }
-{
-    match family {
-        Family::V4 => bits & 0xffff_ffff,
-        Family::V6 => bits,
-    }
 }
