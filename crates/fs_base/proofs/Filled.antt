@@ -1,9 +1,10 @@
 -- The loop that fills a buffer: so many octets stand in it, and the rest is left.
-use Rattle.std.proofs.Common.{◌≡◌, ℕ, List, [], ◌++◌, ◌≤◌, ◌+◌, ◌-◌, length, take, drop, min, inl, inr, ap, sym, ◌∙◌, arith, append_assoc, length-append}
+use Rattle.std.proofs.Common.{◌≡◌, ℕ, List, [], ◌++◌, ◌<◌, ◌≤◌, ◌+◌, ◌-◌, length, take, drop, min, inl, inr, ap, sym, ◌∙◌, arith, append_assoc, length-append}
 use Rattle.std.specs.Prelude.{◌⊎◌}
 use borrow.Rule.Slice.PartMut.{put_mid}
 use Rattle.std.proofs.Math.Seq.{take-append-add}
-use Rattle.std.proofs.lemmas.List.{take-append-le, length-take, length-drop, take-take}
+use Rattle.std.proofs.lemmas.List.{drop_all, take-append-drop, take-append-le, length-take, length-drop, take-take}
+use Rattle.std.proofs.lemmas.Bool.{cases_lt}
 use Rattle.std.proofs.lemmas.Grind.{common_steps}
 use Rattle.fs_base.specs.Parts.{window}
 use Rattle.fs_base.specs.Filling.{Fills}
@@ -94,6 +95,44 @@ none_read start now later into piece limit taken count n f size none takes withi
             length-append (take count into) (piece ++ behind),
             length-append piece behind,
           )))
+
+-- a first read, and all that could be filled behind it
+pub fills_more : (start now later into piece : List ℕ) (limit taken n m : ℕ) → Filled start now into n → length piece ≡ length into - n
+    → taken + n ≤ limit → Fills (window limit (taken + n) now) now later piece m
+    → Fills (window limit taken start) start later (put_mid n (length into - n) into piece) (n + m)
+fills_more start now later into piece limit taken n m f size within more =
+    let judged : length (window limit (taken + n) now) ≡ min (limit - (taken + n)) (length now) = length-take (limit - (taken + n)) now in
+    let room : m ≤ length piece = omega (arith, more.count_is) in
+    let most : m ≤ limit - (taken + n) = omega (arith, more.count_is, judged) in
+    let takes : now ≡ take m piece ++ later =
+    sym (ap (λ octets. octets ++ later) (more.filled ∙ take-take m (limit - (taken + n)) now most)
+    ∙ ap (λ octets. take m now ++ octets) more.left ∙ take-append-drop m now) in
+    let filled : Filled start later whole (n + m) = filled_more start now later into piece n m f size room takes in
+    fills_end start later whole limit taken (n + m) filled (omega (arith, most, within)) (why judged (cases_lt m (length piece)) (cases_lt m (limit - (taken + n)))) where
+      whole : List ℕ
+      whole = put_mid n (length into - n) into piece
+
+      behind : List ℕ
+      behind = drop (length into - n) (drop n into)
+
+      why : length (window limit (taken + n) now) ≡ min (limit - (taken + n)) (length now)
+          → ((m < length piece) ⊎ (length piece ≤ m)) → ((m < limit - (taken + n)) ⊎ (limit - (taken + n) ≤ m))
+          → (later ≡ []) ⊎ ((taken + (n + m) ≡ limit) ⊎ (n + m ≡ length whole))
+      why judged (inr all) _ =
+          let none_behind : length behind ≡ 0 = length-drop (length into - n) (drop n into) ∙ omega (arith, length-drop n into) in
+          inr (inr (omega (
+            arith,
+            all,
+            more.count_is,
+            size,
+            f.room,
+            none_behind,
+            length-take n into,
+            length-append (take n into) (piece ++ behind),
+            length-append piece behind,
+          )))
+      why judged (inl short) (inr all) = inr (inl (omega (arith, all, more.count_is, judged, within)))
+      why judged (inl short) (inl below) = inl (more.left ∙ drop_all m now (omega (arith, short, below, more.count_is, judged)))
 
 -- nothing is left of what was put back
 pub none_left : (back back' : List ℕ) (count : ℕ) → back ≡ [] → back' ≡ drop count back → back' ≡ []

@@ -1,10 +1,10 @@
 //! Reading up to a limit.
 
-ghost use Rattle.std.specs.Prelude.{◌≡◌, ◌≢◌, ◌↔◌, ◌≤◌, ◌+◌, ◌++◌, [], ℕ, IsTrue, drop, length};
+ghost use Rattle.std.specs.Prelude.{◌≡◌, ◌≢◌, ◌↔◌, ◌≤◌, ◌<◌, ◌+◌, ◌++◌, [], ℕ, IsTrue, IfOk, drop, length};
 ghost use Rattle.std.specs.Result.{IsErrOf};
 ghost use Rattle.std.specs.Io.{ReadsAtMost};
 ghost use Rattle.fs_base.specs.Files.{OnlySlot, ReadTakes};
-ghost use Rattle.fs_base.specs.Outside.{Rose};
+ghost use Rattle.fs_base.specs.Outside.{HasCause, Rose};
 ghost use Rattle.fs_base.specs.Counted.{given_by, taken_after};
 
 use super::{Back, Failed, Files};
@@ -75,6 +75,7 @@ impl Counted {
     ///
     /// `Limit` exactly where `limit` octets were taken before; `Failed` where the files failed. Nothing was taken
     /// then.
+    #[inline(always)]
     pub fn read<F: Files>(&mut self, files: &mut F, into: &mut [u8]) -> Result<usize, Stop>
         ensures limit { IsErrOf result Stop.Limit ↔ (self.old.taken ≡ self.old.limit) }
         ensures failed { IsErrOf result Stop.Failed → Rose (F.faults files.old) (F.faults files.new) }
@@ -106,8 +107,7 @@ impl Counted {
             self.taken += count as u64;
             return Ok(count);
         }
-        let most = into.len().min(room as usize);
-        match files.read(self.slot, &mut into[..most]) {
+        match read_most(files, self.slot, into, room) {
             Ok(count) => {
                 self.taken += count as u64;
                 Ok(count)
@@ -115,4 +115,23 @@ impl Counted {
             Err(Failed) => Err(Stop::Failed),
         }
     }
+}
+
+/// Reads octets of a slot into the front of `into`, at most so many. The test spares a call the lesser of both counts,
+/// so that a length that is known stays so.
+#[inline(always)]
+fn read_most<F: Files>(files: &mut F, slot: u8, into: &mut [u8], most: u64) -> Result<usize, Failed>
+    requires slot { slot ≤ 2 }
+    requires some { 0 < most }
+    ensures most { IfOk result (λ n. n ≤ most) }
+    ensures bound { ReadsAtMost result into.new }
+    ensures cause { HasCause (F.faults files.old) (F.faults files.new) result }
+    ensures left { IsTrue F.tells → ReadTakes (F.left files.old slot) (F.left files.new slot) result into.new }
+    ensures opened { F.opened files.new ≡ F.opened files.old }
+    ensures others { OnlySlot F.tells F.left F.holds slot files.old files.new }
+{
+    if into.len() as u64 <= most {
+        return files.read(slot, into);
+    }
+    files.read(slot, &mut into[..most as usize])
 }

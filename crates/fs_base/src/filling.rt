@@ -16,7 +16,49 @@ use super::{Counted, Failed, Files, Stop};
 /// # Errors
 ///
 /// `Failed` where the files failed.
+#[inline(always)]
 pub fn fill<F: Files>(
+    counted: &mut Counted,
+    files: &mut F,
+    into: &mut [u8],
+) -> Result<usize, Failed>
+    ensures failed { OnErr result (Rose (F.faults files.old) (F.faults files.new)) }
+    ensures later { F.faults files.old ≤ F.faults files.new }
+    ensures bound { IfOk result (λ n. n ≤ length into.new) }
+    ensures taken { IfOk result (λ n. counted.new.taken ≡ counted.old.taken + n) }
+    ensures kept_slot { counted.new.slot ≡ counted.old.slot }
+    ensures kept_limit { counted.new.limit ≡ counted.old.limit }
+
+    ensures filled { IsTrue F.tells
+        → IfOk result (Fills
+        (window counted.old.limit counted.old.taken (counted.old.back ++ F.left files.old counted.old.slot))
+        (counted.old.back ++ F.left files.old counted.old.slot)
+        (counted.new.back ++ F.left files.new counted.old.slot)
+        into.new) }
+    ensures back { IfOk result (λ n. counted.new.back ≡ drop n counted.old.back) }
+    ensures none { counted.old.back ≡ [] → counted.new.back ≡ [] }
+    ensures took { IsTrue F.tells
+        → Draws counted.old counted.new (F.left files.old counted.old.slot) (F.left files.new counted.old.slot) }
+    ensures opened { F.opened files.new ≡ F.opened files.old }
+    ensures others { OnlySlot F.tells F.left F.holds counted.old.slot files.old files.new }
+{
+    if into.is_empty() {
+        return Ok(0);
+    }
+    match counted.read(files, into) {
+        Ok(0) | Err(Stop::Limit) => Ok(0),
+        Ok(count) if count == into.len() => Ok(count),
+        Ok(count) => match fill_rest(counted, files, &mut into[count..]) {
+            Ok(more) => Ok(count + more),
+            Err(Failed) => Err(Failed),
+        },
+        Err(Stop::Failed) => Err(Failed),
+    }
+}
+
+/// The same by any number of reads: what a first read has left to be filled.
+#[inline(never)]
+fn fill_rest<F: Files>(
     counted: &mut Counted,
     files: &mut F,
     into: &mut [u8],

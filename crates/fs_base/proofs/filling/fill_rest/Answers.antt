@@ -1,7 +1,7 @@
 use Rattle.std.proofs.Common.{rules, arith, sym, inl, inr, refl, ◌≡◌, ◌≤◌, ◌+◌}
 use Rattle.fs_base.proofs.Drawing.{draws_more}
 use Rattle.fs_base.proofs.Filled.{dropped_more, filled_more, none_read}
-use Rattle.fs_base.proofs.filling.fill.Goals as goal
+use Rattle.fs_base.proofs.filling.fill_rest.Goals as goal
 
 pub loop-at-preserved : goal.loop-at-preserved
 loop-at-preserved g c = record {

@@ -2,7 +2,7 @@ use Rattle.std.proofs.Common.{◌≡◌, ◌≤◌, ◌+◌, ◌-◌, ◌++◌, 
 use Rattle.fs_base.specs.Draws.{Draws}
 use Rattle.fs_base.specs.Files.{OnlySlot}
 use Rattle.fs_base.proofs.Filled.{Filled}
-use Rattle.fs_base.proofs.filling.fill.Given as goal
+use Rattle.fs_base.proofs.filling.fill_rest.Given as goal
 
 abbrev pub invariant-loop-at : goal.invariant-loop-at
 invariant-loop-at g l = record {
