@@ -79,6 +79,7 @@ impl Capture {
     /// The first field that stands whole and is wrong, as soon as it is read; `Cut` where the capture ends within a
     /// record or block; `Limit` where the limit is reached and no field before it is wrong; `Read` where the files
     /// failed.
+    #[inline(always)]
     pub fn next<F: Files>(
         &mut self,
         files: &mut F,

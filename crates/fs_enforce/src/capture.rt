@@ -50,6 +50,7 @@ pub(crate) fn open_capture<F: Files>(
 /// # Errors
 ///
 /// `Outside` where the files failed, `Capture` where the capture has a fault, `Limit` where the limit is reached.
+#[inline(always)]
 pub(crate) fn next_packet<F: Files>(
     files: &mut F,
     capture: &mut Capture,

@@ -125,6 +125,7 @@ impl Capture {
     ///
     /// `RecordTooLong`, as soon as that field is read; `Cut` where the capture ends within a record; `Limit` where the
     /// limit is reached and no field before it is wrong; `Read` where the files failed.
+    #[inline(always)]
     pub fn next<F: Files>(
         &mut self,
         files: &mut F,

@@ -107,6 +107,7 @@ impl Ng {
     ///
     /// The first field that stands whole and is wrong, as soon as it is read; `Cut` where the capture ends within a
     /// block; `Limit` where the limit is reached and no field before it is wrong; `Read` where the files failed.
+    #[inline(never)]
     pub fn next<F: Files>(
         &mut self,
         files: &mut F,

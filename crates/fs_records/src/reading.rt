@@ -20,6 +20,7 @@ use fs_base::{Counted, Files, fill};
 /// `Bad` with the first field that stands whole and is wrong, as soon as it is read, or with the format's cut where the
 /// input ends within a record; `Limit` where the limit is reached and no field before it is wrong; `Read` where the
 /// files failed.
+#[inline(always)]
 pub fn next_record<F: Files, H: Heads>(
     heads: &H,
     counted: &mut Counted,
@@ -62,9 +63,13 @@ pub fn next_record<F: Files, H: Heads>(
     if let Some(ended) = *end {
         return answer(ended);
     }
-    let found = advance(heads, counted, files, into);
-    *end = ended_by(&found);
-    found
+    match advance(heads, counted, files, into) {
+        Ok(Some(found)) => Ok(Some(found)),
+        last => {
+            *end = ended_by(&last);
+            last
+        }
+    }
 }
 
 /// The fault of an input that has no octet left to be taken, before a part of it is whole.
@@ -116,6 +121,7 @@ pub fn ended_by<T, R: Copy>(found: &Result<Option<T>, Fault<R>>) -> Option<Ended
 }
 
 /// Reads one record of an input that hasn't ended.
+#[inline(always)]
 fn advance<F: Files, H: Heads>(
     heads: &H,
     counted: &mut Counted,
