@@ -16,8 +16,8 @@ use crate::parts::{MOST_FIRST, Parts};
 use fs_base::{Counted, Files};
 use fs_records::{Ended, Fault, answer, ended_by};
 
-/// Reads up to the next part of an input that tells something. Octets that were put back are read first. `None`: the input ended behind a part. After that, and
-/// after any fault, each call answers the same again and reads nothing.
+/// Reads up to the next part of an input that tells something. Octets that were put back are read first. `None`: the
+/// input ended behind a part. After that, and after any fault, each call answers the same again and reads nothing.
 ///
 /// # Errors
 ///
