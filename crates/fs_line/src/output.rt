@@ -127,6 +127,36 @@ impl Output {
         ensures short { length self.new ≤ length self.old + LONGEST_NUMBER }
     {
         let mut buffer = Buffer::new();
-        self.keep_back(buffer.format(number).as_bytes());
+        let digits = buffer.format(number).as_bytes();
+        let end = self.count + digits.len();
+        copy_digits(digits, &mut self.buffer[self.count..end]);
+        self.count = end;
     }
+}
+
+/// Copies a piece that is mostly short, without a call of the system's up to 8 octets.
+#[inline(always)]
+fn copy_digits(piece: &[u8], into: &mut [u8])
+    requires { length into.old ≡ length piece.now }
+    ensures { into.new ≡ piece.now }
+{
+    match piece.len() {
+        1 => copy_ends(1, piece, into),
+        2 | 3 => copy_ends(2, piece, into),
+        4..=8 => copy_ends(4, piece, into),
+        _ => into.copy_from_slice(piece),
+    }
+}
+
+/// Copies the first and the last `size` octets of a piece, which are all of it.
+#[inline(always)]
+fn copy_ends(size: usize, piece: &[u8], into: &mut [u8])
+    requires room { length into.old ≡ length piece.now }
+    requires least { size ≤ length piece.now }
+    requires most { length piece.now ≤ size + size }
+    ensures { into.new ≡ piece.now }
+{
+    let last = piece.len() - size;
+    into[..size].copy_from_slice(&piece[..size]);
+    into[last..].copy_from_slice(&piece[last..]);
 }
