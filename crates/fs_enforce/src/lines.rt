@@ -6,7 +6,6 @@ ghost use Rattle.fs_enforce.specs.Judge.{AdmittedRules, hand_text, packet_text, 
 ghost use Rattle.fs_enforce.specs.Matcher.{HasRoom, IsSound, StandsFor};
 ghost use Rattle.fs_line.specs.Line.{line_of};
 ghost use Rattle.fs_line.specs.Output.{Sends};
-ghost use Rattle.fs_packet.specs.Reading.{read_into};
 ghost use Rattle.fs_rules.specs.Walk.{walk_of};
 
 use crate::walk::walk_packet;
@@ -14,7 +13,7 @@ use fs_base::{Failed, Link, Memory, Sink};
 use fs_capture::Caught;
 use fs_compile::Compiled;
 use fs_line::{Output, Walked, write_packet_line, write_unread_line};
-use fs_packet::{Unread, View, read_view};
+use fs_packet::{Unread, View, view};
 use std::alloc::Global;
 
 /// The output of lines, and the number of the last one.
@@ -90,24 +89,23 @@ pub(crate) fn judge_packet<'r, S: Sink>(
         (packet_text (lines.old.number + 1) admitted link octets.now) result }
 {
     lines.number += 1;
-    let mut view = View::blank();
-    match read_packet(link, octets, &mut view) {
-        Ok(()) => write_walk(rules, &view, walked, lines, sink),
+    match read_packet(link, octets) {
+        Ok(view) => write_walk(rules, &view, walked, lines, sink),
         Err(unread) => write_unread_line(&mut lines.output, sink, lines.number, unread.number()),
     }
 }
 
-/// Reads a packet behind this link type into the view.
+/// The view of a packet behind this link type.
 ///
 /// # Errors
 ///
 /// Why it isn't read: so where the link type isn't known.
 #[inline(always)]
-fn read_packet<'a>(link: Option<Link>, octets: &'a [u8], view: &mut View<'a>) -> Result<(), Unread>
-    ensures { read_into result view.new ≡ seen_of link octets.now }
+fn read_packet(link: Option<Link>, octets: &[u8]) -> Result<View<'_>, Unread>
+    ensures { result ≡ seen_of link octets.now }
 {
     match link {
-        Some(link) => read_view(link, octets, view),
+        Some(link) => view(link, octets),
         None => Err(Unread::Foreign),
     }
 }

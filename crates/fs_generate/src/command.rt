@@ -24,7 +24,7 @@ use fs_desk::Desk;
 use fs_enforce::drops;
 use fs_gen::{Draws, keepalive, open_message, three_peers};
 use fs_line::{Walked, append, append_decimal};
-use fs_packet::{View, read_view};
+use fs_packet::view;
 use fs_rules::Table;
 use fs_stages::{Refusal, write_text};
 use itoa::Integer;
@@ -163,10 +163,9 @@ fn fate_of<'r>(rules: &'r Compiled, octets: &[u8], walked: &mut Vec<Walked<'r>>)
         → StandsFor admitted rules.now
         → drops result ≡ is_dropped admitted (view_of Raw octets.now) }
 {
-    let mut view = View::blank();
-    match read_view(Link::Raw, octets, &mut view) {
-        Ok(()) if drops(rules, &view, walked) => Fate::Dropped,
-        Ok(()) => Fate::Passed,
+    match view(Link::Raw, octets) {
+        Ok(view) if drops(rules, &view, walked) => Fate::Dropped,
+        Ok(_) => Fate::Passed,
         Err(_) => Fate::Unread,
     }
 }

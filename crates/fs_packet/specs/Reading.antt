@@ -113,11 +113,6 @@ abbrev pub packet_view : Family → List ℕ → Result Viewed Unread
 packet_view V4 packet = v4_view packet
 packet_view V6 packet = v6_view packet
 
--- what is read into a view that stands so behind the call
-abbrev pub read_into : Result ⊤ Unread → Viewed → Result Viewed Unread
-read_into (Ok _) view = Ok view
-read_into (Err unread) view = Err unread
-
 abbrev pub behind_link : Result (Family × List ℕ) Unread → Result Viewed Unread
 behind_link (Ok found) = packet_view found.0 found.1
 behind_link (Err unread) = Err unread

@@ -1,6 +1,6 @@
 //! The fields of a packet.
 
-ghost use Rattle.std.specs.Prelude.{◌≡◌, ◌<◌};
+ghost use Rattle.std.specs.Prelude.{◌≡◌, ◌<◌, option_map};
 ghost use Rattle.fs_packet.specs.Fields.{has_ports, is_icmp, is_tcp};
 
 use byteorder::{BigEndian, ByteOrder};
@@ -42,15 +42,15 @@ impl Unread {
 /// A packet's fields, read from the octets of the record where they are asked for. Numbers are in host order.
 #[derive(Drop)]
 pub struct View<'a> {
-    pub(crate) family: Family,
     /// The record's octets from the network header on.
     pub(crate) packet: &'a [u8],
-    pub(crate) length: u32,
-    pub(crate) protocol: Option<u8>,
-    pub(crate) fragment: u8,
     /// The octets of the upper layer's header and of what follows it, as far as both the record and the packet's
     /// length hold them; none in a fragment other than the first.
     pub(crate) transport: &'a [u8],
+    pub(crate) length: u32,
+    pub(crate) protocol: Option<u8>,
+    pub(crate) fragment: u8,
+    pub(crate) family: Family, // last, so that no padding is copied
 }
 
 impl<'a> Model for View<'a> {
@@ -65,18 +65,6 @@ impl<'a> Model for View<'a> {
 
 impl<'a> View<'a> {
     ghost use Rattle.fs_packet.specs.Fields.{family_of};
-
-    /// A view of an IPv4 header of zeros, for a packet to be read into.
-    pub fn blank() -> View<'a> {
-        View {
-            family: Family::V4,
-            packet: &[0; 20],
-            length: 0,
-            protocol: None,
-            fragment: 0,
-            transport: &[],
-        }
-    }
 
     /// The address family.
     pub fn family(&self) -> Family
@@ -138,20 +126,31 @@ impl<'a> View<'a> {
     pub fn source_port(&self) -> Option<u16>
         ensures { result ≡ self.now.source_port }
     {
-        if !has_ports(self.protocol) || self.transport.len() < 4 {
-            return None;
-        }
-        Some(BigEndian::read_u16(self.transport))
+        let (source, _) = self.ports()?;
+        Some(source)
     }
 
     /// The destination port of TCP or UDP, where the record holds both ports.
     pub fn destination_port(&self) -> Option<u16>
         ensures { result ≡ self.now.destination_port }
     {
+        let (_, destination) = self.ports()?;
+        Some(destination)
+    }
+
+    /// Source and destination port of TCP or UDP, where the record holds both.
+    #[inline(always)]
+    pub fn ports(&self) -> Option<(u16, u16)>
+        ensures source { option_map (λ ports. ports.0) result ≡ self.now.source_port }
+        ensures destination { option_map (λ ports. ports.1) result ≡ self.now.destination_port }
+    {
         if !has_ports(self.protocol) || self.transport.len() < 4 {
             return None;
         }
-        Some(BigEndian::read_u16(&self.transport[2..]))
+        Some((
+            BigEndian::read_u16(self.transport),
+            BigEndian::read_u16(&self.transport[2..]),
+        ))
     }
 
     /// The octets of the TCP header at 12 and 13: the data offset in the high four bits, and the flags.

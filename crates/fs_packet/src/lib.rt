@@ -11,4 +11,4 @@ mod told;
 pub use fields::{Unread, View};
 pub use fs_base::Link;
 pub use matching::matches;
-pub use reading::{read_view, view};
+pub use reading::view;

@@ -1,9 +1,9 @@
 //! Reading of a record's headers.
 
-ghost use Rattle.std.specs.Prelude.{◌≡◌, ◌<◌, ◌≤◌, ◌+◌, ◌==◌, ◌&&◌, [], OnErr, length, if◌then◌else◌};
+ghost use Rattle.std.specs.Prelude.{◌≡◌, ◌<◌, ◌≤◌, ◌+◌, ◌==◌, ◌&&◌, [], length, if◌then◌else◌};
 ghost use Rattle.fs_base.specs.declared.prefix.Family.{Family};
 ghost use Rattle.fs_packet.specs.Fields.{number_at};
-ghost use Rattle.fs_packet.specs.Reading.{behind_link, behind_tags, behind_type, family_of_type, found_in, fragment_of, held_from, is_tag, packet_view, read_into};
+ghost use Rattle.fs_packet.specs.Reading.{behind_link, behind_tags, behind_type, family_of_type, found_in, fragment_of, held_from, is_tag, packet_view};
 ghost use Rattle.fs_packet.specs.Reading.{raw_view, v4_fragment, v4_starts, v4_view, v6_fragment, v6_view, view_of};
 
 use crate::chain::walk;
@@ -20,36 +20,20 @@ const CUSTOMER_TAG: u16 = 0x8100;
 
 const SERVICE_TAG: u16 = 0x88a8;
 
+/// The bits DF, IsF, FF and LF of a rule (RFC 8955 section 4.2.2.12), by whether the offset isn't 0 (4), and the flags
+/// More Fragments (2) and Don't Fragment (1) of an IPv4 header.
+const V4_FRAGMENTS: [u8; 8] = [0, 1, 4, 5, 10, 11, 2, 3];
+
 /// The view of the packet in a record's octets, or the first test of its headers that fails (RFC 791 section 3.1,
 /// RFC 8200 sections 3 and 4).
+#[inline(always)]
 pub fn view(link: Link, octets: &[u8]) -> Result<View<'_>, Unread>
     ensures { result ≡ view_of link octets.now }
 {
-    let mut view = View::blank();
-    read_view(link, octets, &mut view)?;
-    Ok(view)
-}
-
-/// Reads the packet in a record's octets into `view`, whatever stood in it: the same without a copy of the view.
-///
-/// # Errors
-///
-/// The first test of its headers that fails; `view` is then as before.
-#[inline(always)]
-pub fn read_view<'a>(link: Link, octets: &'a [u8], view: &mut View<'a>) -> Result<(), Unread>
-    ensures read { read_into result view.new ≡ view_of link octets.now }
-    ensures same { OnErr result (view.new ≡ view.old) }
-{
     let (family, packet) = behind_link(link, octets)?;
     match family {
-        Family::V4 => {
-            *view = v4_view(packet)?;
-            Ok(())
-        }
-        Family::V6 => {
-            *view = v6_view(packet)?;
-            Ok(())
-        }
+        Family::V4 => v4_view(packet),
+        Family::V6 => v6_view(packet),
     }
 }
 
@@ -161,12 +145,12 @@ fn v4_view(packet: &[u8]) -> Result<View<'_>, Unread>
     }
     let field = number_at(packet, 6);
     Ok(View {
-        family: Family::V4,
         packet,
+        transport: v4_transport(packet, size, length as usize, field),
         length: length.into(),
         protocol: Some(packet[9]),
         fragment: v4_fragment(field),
-        transport: v4_transport(packet, size, length as usize, field),
+        family: Family::V4,
     })
 }
 
@@ -204,12 +188,12 @@ fn v6_view(packet: &[u8]) -> Result<View<'_>, Unread>
     let length = 40 + payload as u32;
     let chain = walk(next, held_from(40, length as usize, packet));
     Ok(View {
-        family: Family::V6,
         packet,
+        transport: chain.behind,
         length,
         protocol: chain.protocol,
         fragment: v6_fragment(chain.field),
-        transport: chain.behind,
+        family: Family::V6,
     })
 }
 
@@ -240,8 +224,10 @@ fn v4_fragment(field: u16) -> u8
     ensures value { result ≡ v4_fragment field }
     ensures bits { result < 16 }
 {
-    let bits = fragment_bits(v4_starts(field), field & 0x2000 != 0);
-    if field & 0x4000 == 0 { bits } else { bits + 1 }
+    let later = !v4_starts(field) as usize;
+    let more = (field & 0x2000 != 0) as usize;
+    let whole = (field & 0x4000 != 0) as usize;
+    V4_FRAGMENTS[later * 4 + more * 2 + whole]
 }
 
 fn v6_fragment(field: u16) -> u8
