@@ -10,7 +10,7 @@ ghost use Rattle.std.specs.Ordering.{nat_cmp};
 
 use crate::community::{Action, Rate, Redirect};
 use fs_base::Memory;
-use std::alloc::{AllocError, AllocFailed, Global};
+use std::alloc::{AllocError, Global};
 use std::cmp::Ordering;
 use std::marker::Model;
 
@@ -29,6 +29,16 @@ impl From<Memory> for ActionFault {
     ghost from_gives = { λ e r. r ≡ Memory };
 
     fn from(_error: Memory) -> ActionFault {
+        ActionFault::Memory
+    }
+}
+
+impl From<AllocError> for ActionFault {
+    ghost use Rattle.fs_actions.specs.declared.actions.ActionFault.TheVariants.{Memory};
+
+    ghost from_gives = { λ e r. r ≡ Memory };
+
+    fn from(_error: AllocError) -> ActionFault {
         ActionFault::Memory
     }
 }
@@ -217,8 +227,8 @@ pub fn from_communities(alloc: Global, octets: &[u8]) -> Result<Actions, ActionF
     if octets.is_empty() || octets.len() % 8 != 0 {
         return Err(ActionFault::BadLength);
     }
-    let mut list = Vec::new(alloc);
     let (communities, _) = octets.as_chunks::<8>();
+    let mut list = Vec::with_capacity(alloc, communities.len())?;
     for community in communities {
         let Some(action) = Action::of(community) else {
             continue;

@@ -66,8 +66,7 @@ impl MaskList {
         ensures fault { CanBeWide widths.now → IfErr result (IsFault widths.now octets.now) }
         ensures barred { (CanBeWide widths.now → ⊥) → result ≡ Err (barred_at octets.now) }
     {
-        let (pairs, taken) = reading::read(alloc, Kind::Bitmask, octets, widths)?;
-        let list = PairList::new(pairs);
+        let (list, taken) = reading::read(alloc, Kind::Bitmask, octets, widths)?;
         Ok((MaskList { list }, taken))
     }
 

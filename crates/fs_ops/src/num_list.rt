@@ -76,8 +76,7 @@ impl NumList {
         ensures fault { CanBeWide widths.now → IfErr result (IsFault widths.now octets.now) }
         ensures barred { (CanBeWide widths.now → ⊥) → result ≡ Err (barred_at octets.now) }
     {
-        let (pairs, taken) = reading::read(alloc, Kind::Numeric, octets, widths)?;
-        let list = PairList::new(pairs);
+        let (list, taken) = reading::read(alloc, Kind::Numeric, octets, widths)?;
         Ok((NumList { list }, taken))
     }
 

@@ -1,6 +1,6 @@
 //! The pairs of a list, as they are kept.
 
-ghost use Rattle.std.specs.Prelude.{◌≡◌, map, bit_and, IfOk};
+ghost use Rattle.std.specs.Prelude.{◌≡◌, ◌∷◌, [], map, bit_and, IfOk};
 
 use crate::values;
 use fs_base::Memory;
@@ -29,14 +29,21 @@ impl Model for PairList {
 }
 
 impl PairList {
+    /// This pair alone.
+    pub fn single(pair: (u8, u64)) -> PairList
+        ensures { result ≡ pair ∷ [] }
+    {
+        PairList {
+            kept: Stored::One(pair),
+        }
+    }
+
     /// These pairs, with no room for more.
     pub fn new(mut pairs: Vec<(u8, u64)>) -> PairList
         ensures { result ≡ pairs.items }
     {
         if let [pair] = pairs.as_slice() {
-            return PairList {
-                kept: Stored::One(*pair),
-            };
+            return PairList::single(*pair);
         }
         pairs.shrink_to_fit();
         PairList {

@@ -2,7 +2,7 @@ use Rattle.std.proofs.Common.{get_or, sym, subst, ◌∙◌, arith, Contains}
 use Rattle.std.proofs.lemmas.Bool.{both_ways}
 use Rattle.std.proofs.lemmas.List.{nil_from_length}
 use Rattle.fs_ops.proofs.Found.{first_and_tail, cut_between, cut_within, bad_width, next_found, goes_on, ends_here}
-use Rattle.fs_ops.proofs.reading.read.Goals as goal
+use Rattle.fs_ops.proofs.reading.read_pairs.Goals as goal
 
 pub returns-then-not-allows-clause-fault : goal.returns-then-not-allows-clause-fault
 returns-then-not-allows-clause-fault c some =
