@@ -1,6 +1,7 @@
 //! The reader of a list (RFC 8955 section 4.2.1).
 
 ghost use Rattle.std.specs.Prelude.{◌≡◌, ◌∷◌, [], ◌≤◌, length, take, Err, IfOk, IfErr, IfSome};
+ghost use Rattle.byteorder.specs.Endian.{big_number};
 ghost use Rattle.fs_ops.specs.OperatorList.{Spells};
 ghost use Rattle.fs_ops.specs.Fault.{CanBeWide, IsFault, barred_at};
 
@@ -30,6 +31,20 @@ pub fn read(
     Ok((PairList::new(pairs), taken))
 }
 
+/// The number in the first octets of a value.
+fn read_number(value: &[u8], len: usize) -> u64
+    requires low { 1 ≤ len }
+    requires high { len ≤ 8 }
+    requires room { len ≤ length value.now }
+    ensures { result ≡ big_number len value.now }
+{
+    match len {
+        1 => value[0].into(),
+        2 => BigEndian::read_u16(value).into(),
+        _ => BigEndian::read_uint(value, len),
+    }
+}
+
 /// Reads a list of one pair, as most are; None where none stands at the front.
 fn read_single(kind: Kind, octets: &[u8], widths: &[u8]) -> Option<((u8, u64), usize)>
     ensures taken { IfSome result (λ read. read.1 ≤ length octets.now) }
@@ -47,7 +62,7 @@ fn read_single(kind: Kind, octets: &[u8], widths: &[u8]) -> Option<((u8, u64), u
         return None;
     }
     let (value, next) = tail.split_at(len);
-    let number = BigEndian::read_uint(value, len);
+    let number = read_number(value, len);
     let operator = clear_ignored(kind, true, *operator);
     Some(((operator, number), octets.len() - next.len()))
 }
@@ -101,7 +116,7 @@ fn read_pairs(
             });
         }
         let (value, next) = tail.split_at(len);
-        let number = BigEndian::read_uint(value, len);
+        let number = read_number(value, len);
         pairs.push((clear_ignored(kind, pairs.is_empty(), *operator), number))?;
         if is_last(*operator) {
             return Ok((pairs, octets.len() - next.len()));

@@ -24,10 +24,10 @@ returns-then-is_last-clause-found c =
     let rest = c.loop-rest.rest.now in
     ends_here c.args.kind c.args.widths.now c.args.octets.now rest c.split_at.result.1.now c.push.new.self.items (get_or rest 0 0)
     (next_found c.args.kind c.args.widths.now c.args.octets.now rest _ c.split_at.result.0.now c.split_at.result.1.now c.loop-rest.pairs.items c.push.new.self.items (get_or rest 0 0)
-    c.value_len-len.result c.read_uint-number.result c.loop-rest.pairs.len c.clear_ignored.result c.is_empty.result c.loop-rest.invariant
+    c.value_len-len.result c.read_number-number.result c.loop-rest.pairs.len c.clear_ignored.result c.is_empty.result c.loop-rest.invariant
     (first_and_tail rest c.in-len1-up.len_at_least)
     (subst (Contains c.args.widths.now) c.width_code_of.ensures.value (c.allows.ensures.0 c.if-not-allows.false))
-    c.value_len-len.ensures.value c.if-tail-len.false c.split_at.ensures.front c.split_at.ensures.back c.read_uint-number.ensures c.loop-rest.pairs.ok.0 c.is_empty.ensures c.clear_ignored.ensures c.in_ok-push.ensures.items)
+    c.value_len-len.ensures.value c.if-tail-len.false c.split_at.ensures.front c.split_at.ensures.back c.read_number-number.ensures c.loop-rest.pairs.ok.0 c.is_empty.ensures c.clear_ignored.ensures c.in_ok-push.ensures.items)
     (sym c.is_last.ensures ∙ c.if-is_last.true)
 
 pub loop-rest-preserved : goal.loop-rest-preserved
@@ -35,10 +35,10 @@ loop-rest-preserved c =
     let rest = c.loop-rest.rest.now in
     goes_on c.args.kind c.args.widths.now c.args.octets.now rest c.split_at.result.1.now c.push.new.self.items (get_or rest 0 0)
     (next_found c.args.kind c.args.widths.now c.args.octets.now rest _ c.split_at.result.0.now c.split_at.result.1.now c.loop-rest.pairs.items c.push.new.self.items (get_or rest 0 0)
-    c.value_len-len.result c.read_uint-number.result c.loop-rest.pairs.len c.clear_ignored.result c.is_empty.result c.loop-rest.invariant
+    c.value_len-len.result c.read_number-number.result c.loop-rest.pairs.len c.clear_ignored.result c.is_empty.result c.loop-rest.invariant
     (first_and_tail rest c.in-len1-up.len_at_least)
     (subst (Contains c.args.widths.now) c.width_code_of.ensures.value (c.allows.ensures.0 c.if-not-allows.false))
-    c.value_len-len.ensures.value c.if-tail-len.false c.split_at.ensures.front c.split_at.ensures.back c.read_uint-number.ensures c.loop-rest.pairs.ok.0 c.is_empty.ensures c.clear_ignored.ensures c.in_ok-push.ensures.items)
+    c.value_len-len.ensures.value c.if-tail-len.false c.split_at.ensures.front c.split_at.ensures.back c.read_number-number.ensures c.loop-rest.pairs.ok.0 c.is_empty.ensures c.clear_ignored.ensures c.in_ok-push.ensures.items)
     (sym c.is_last.ensures ∙ c.if-is_last.false)
 
 pub returns-clause-fault : goal.returns-clause-fault
