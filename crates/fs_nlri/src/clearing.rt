@@ -62,11 +62,11 @@ fn clear(family: Family, component: Component) -> Component
 }
 
 impl Component {
-    ghost use Rattle.std.specs.Prelude.{◌≡◌, IfSome, IfNone};
+    ghost use Rattle.std.specs.Prelude.{◌≡◌, is_some, IfSome, IfNone};
     ghost use Rattle.fs_nlri.specs.Forms.{form_of};
     ghost use Rattle.fs_nlri.specs.Component.{part_of};
     ghost use Rattle.fs_nlri.specs.Rule.{IsNormalAt};
-    ghost use Rattle.fs_nlri.specs.Making.{cleared_part};
+    ghost use Rattle.fs_nlri.specs.Making.{cleared_part, part_given};
 
     /// The component in normal form: the bits that are to be ignored are cleared. None exactly where the family doesn't
     /// give the component, or its type the form and the widths that it has.
@@ -74,6 +74,7 @@ impl Component {
         ensures some { IfSome result (λ own. part_of own ≡ cleared_part family (part_of self)) }
         ensures normal { IfSome result (λ own.
             let part = part_of own in IsNormalAt (form_of family part.kind) part.body) }
+        ensures given { is_some result ≡ part_given family (part_of self) }
         ensures none { IfNone result
             (let part = part_of self in IsNormalAt (form_of family part.kind) part.body → ⊥) }
         ensures same { let part = part_of self in
