@@ -1,3 +1,4 @@
+mod Markers
 mod BegunMessages
 mod CapabilityLists
 pub mod StreamLaws

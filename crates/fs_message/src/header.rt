@@ -60,7 +60,10 @@ pub(crate) fn fault_of(octets: &[u8]) -> Option<MessageFault>
 fn has_wrong_marker(octets: &[u8]) -> bool
     ensures { result ≡ marker_wrong octets.now }
 {
-    octets.iter().take(16).any(|octet| *octet != 255)
+    if octets.len() < 16 {
+        return octets.iter().take(16).any(|octet| *octet != 255);
+    }
+    BigEndian::read_u128(octets) != u128::MAX
 }
 
 fn is_wrong_size(size: u16) -> bool
