@@ -6,6 +6,7 @@ mod body;
 mod clearing;
 mod component;
 mod copying;
+mod counting;
 mod equality;
 mod fault;
 mod feed;

@@ -9,6 +9,7 @@ ghost use Rattle.fs_nlri.specs.Body.{IsFaultAt};
 
 use crate::body::{read_dscp, read_fragment, read_numbers, read_prefix, read_tcp_flags};
 use crate::component::Component;
+use crate::counting::count_components;
 use crate::fault::{NlriFault, Reason};
 use fs_base::Family;
 use std::alloc::Global;
@@ -117,7 +118,7 @@ pub(crate) fn read_components(
     ensures found { IfOk result (λ components. Spells family 0 octets.now (parts_of components.items)) }
     ensures fault { IfErr result (IsValueFault family octets.now) }
 {
-    let mut components = Vec::new(alloc);
+    let mut components = Vec::with_capacity(alloc, count_components(family, octets))?;
     let mut last = 0;
     let mut rest = octets;
     while let [kind, tail @ ..] = rest {
