@@ -108,15 +108,6 @@ given_more peer path prefixes prefix old mid new t u =
     (λ r o. refl)
     (changes_then peer (given_at prefixes path) (given_at (prefix ∷ []) path) same same old mid new t u)
 
--- the prefixes before the last one, and then that one
-pub given_last : (peer : ℕ) (path : Path) (prefixes front : List Prefix) (last : Prefix) (old mid new : Held) → prefixes ≡ front ++ last ∷ []
-    → Changes peer (given_at (map shown front) path) same old mid → Changes peer (given_at (shown last ∷ []) path) same mid new
-    → Changes peer (given_at (map shown prefixes) path) same old new
-given_last peer path prefixes front last old mid new split t u =
-    subst (λ (given : List Shown). Changes peer (given_at given path) same old new)
-    (sym (ap (map shown) split ∙ map-append shown front (last ∷ [])))
-    (given_more peer path (map shown front) (shown last) old mid new t u)
-
 pub rules_taken_more : (peer : ℕ) (rules : List Ruled) (rule : Ruled) (old mid new : Held)
     → Changes peer same (rules_taken rules) old mid → Changes peer same (rules_taken (rule ∷ [])) mid new
     → Changes peer same (rules_taken (rules ++ rule ∷ [])) old new

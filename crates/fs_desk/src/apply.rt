@@ -14,6 +14,7 @@ use fs_attrs::{PrefixList, Routes, RuleList, Update};
 use fs_base::{Memory, Path, Prefix, Steps};
 use fs_nlri::Rule;
 use fs_order::Ranked;
+use fs_unicast::SharedPath;
 use std::sync::ledger::Ledger;
 
 /// Takes away what the update takes, and then keeps what it gives. What it gives is taken away too where it is to be
@@ -153,6 +154,7 @@ fn withdraw_each<L: Ledger>(
     }
 }
 
+/// Gives the peer the prefixes, all with one shared path.
 fn give_prefixes<L: Ledger>(
     table: &mut WatchedTable<'_>,
     peer: u16,
@@ -164,29 +166,11 @@ fn give_prefixes<L: Ledger>(
     ensures prefixes { OnOk result (AllByRecursion IsPrefix prefixes.now) }
     ensures told { OnOk result (Tells table.old table.new) }
 {
-    give_all(table, peer, prefixes.as_slice(), path, steps)
+    let shared = table.share(path)?;
+    give_each(table, peer, prefixes.as_slice(), &shared, steps)
 }
 
-/// Gives the peer the prefixes. The last one takes the path itself: for one prefix nothing is copied.
-fn give_all<L: Ledger>(
-    table: &mut WatchedTable<'_>,
-    peer: u16,
-    prefixes: &[Prefix],
-    path: Path,
-    steps: &mut Steps<L>,
-) -> Result<(), Memory>
-    ensures changes { OnOk result
-        (Changes peer (given_at (map shown prefixes.now) path) same table.old.held table.new.held) }
-    ensures told { OnOk result (Tells table.old table.new) }
-{
-    let Some((last, front)) = prefixes.split_last() else {
-        return Ok(());
-    };
-    give_each(table, peer, front, &path, steps)?;
-    table.put_unicast(peer, *last, path, steps)
-}
-
-/// Gives the peer the prefixes, each with a copy of the path.
+/// Gives the peer the prefixes, if there are any, with a copy of the path.
 fn give_copies_of_path<L: Ledger>(
     table: &mut WatchedTable<'_>,
     peer: u16,
@@ -198,14 +182,17 @@ fn give_copies_of_path<L: Ledger>(
     ensures prefixes { OnOk result (AllByRecursion IsPrefix prefixes.now) }
     ensures told { OnOk result (Tells table.old table.new) }
 {
-    give_each(table, peer, prefixes.as_slice(), path, steps)
+    if prefixes.as_slice().is_empty() {
+        return Ok(());
+    }
+    give_prefixes(table, peer, prefixes, path.copy()?, steps)
 }
 
 fn give_each<L: Ledger>(
     table: &mut WatchedTable<'_>,
     peer: u16,
     prefixes: &[Prefix],
-    path: &Path,
+    path: &SharedPath,
     steps: &mut Steps<L>,
 ) -> Result<(), Memory>
     ensures changes { OnOk result
@@ -213,7 +200,7 @@ fn give_each<L: Ledger>(
     ensures told { OnOk result (Tells table.old table.new) }
 {
     for prefix in prefixes {
-        table.put_unicast(peer, *prefix, path.copy()?, steps)?;
+        table.put_unicast(peer, *prefix, path.share()?, steps)?;
     }
     Ok(())
 }

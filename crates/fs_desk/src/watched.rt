@@ -5,6 +5,7 @@ use fs_base::{Config, Memory, Path, Prefix, Steps};
 use fs_nlri::Rule;
 use fs_order::Ranked;
 use fs_rules::{Change, Changes, Table};
+use fs_unicast::SharedPath;
 use std::alloc::Global;
 use std::marker::Model;
 use std::sync::ledger::Ledger;
@@ -13,6 +14,7 @@ use std::sync::ledger::Ledger;
 /// `watch`, or that one has changed its validity.
 #[derive(Drop)]
 pub(crate) struct WatchedTable<'a> {
+    alloc: Global,
     table: Table<'a>,
     changes: Changes,
 }
@@ -26,7 +28,7 @@ impl<'a> Model for WatchedTable<'a> {
 }
 
 impl<'a> WatchedTable<'a> {
-    ghost use Rattle.std.specs.Prelude.{◌≡◌, false, [], OnOk, OnErr};
+    ghost use Rattle.std.specs.Prelude.{◌≡◌, false, [], IfOk, OnOk};
     ghost use Rattle.fs_rules.specs.Table.{held_count, with_flow, with_path, without_path, without_peer, without_route};
     ghost use Rattle.fs_desk.specs.Watched.{Tells};
 
@@ -35,6 +37,7 @@ impl<'a> WatchedTable<'a> {
         ensures { result.held ≡ record { config = config.now; unicast = []; flows = [] } }
     {
         WatchedTable {
+            alloc,
             table: Table::new(alloc, config),
             changes: Changes::new(alloc),
         }
@@ -68,12 +71,19 @@ impl<'a> WatchedTable<'a> {
         self.table.held_by(peer)
     }
 
+    /// The path as many routes may share it.
+    pub(crate) fn share(&self, path: Path) -> Result<SharedPath, Memory>
+        ensures { IfOk result (λ shared. shared ≡ path) }
+    {
+        SharedPath::new(self.alloc, path)
+    }
+
     /// Keeps the path as the peer's unicast route at the prefix.
     pub(crate) fn put_unicast<L: Ledger>(
         &mut self,
         peer: u16,
         prefix: Prefix,
-        path: Path,
+        path: SharedPath,
         steps: &mut Steps<L>,
     ) -> Result<(), Memory>
         ensures ok { OnOk result (self.new.held ≡ with_path peer prefix path self.old.held) }

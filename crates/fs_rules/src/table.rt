@@ -25,7 +25,7 @@ use fs_base::{Config, Family, Memory, Path, Prefix, Steps};
 use fs_nlri::Rule;
 use fs_order::Ranked;
 use fs_packet::View;
-use fs_unicast::Unicast;
+use fs_unicast::{SharedPath, Unicast};
 use std::alloc::Global;
 use std::marker::Model;
 use std::sync::ledger::Ledger;
@@ -117,17 +117,18 @@ impl<'a> Table<'a> {
         ensures steps { steps.new ≤ steps.old + related_count prefix self.old.flows }
         ensures idle { self.new ≡ self.old → steps.new ≡ steps.old }
     {
+        let path = SharedPath::new(self.flows.allocator(), path)?;
         self.put_unicast_telling(peer, prefix, path, steps)?;
         Ok(())
     }
 
     /// As [`put_unicast`](Table::put_unicast), and tells whether a held flow route has another validity than before.
-    /// Where none has, the same rules are admitted.
+    /// Where none has, the same rules are admitted. Many routes may be given one shared path.
     pub fn put_unicast_telling<L: Ledger>(
         &mut self,
         peer: u16,
         prefix: Prefix,
-        path: Path,
+        path: SharedPath,
         steps: &mut Steps<L>,
     ) -> Result<bool, Memory>
         ensures ok { OnOk result (self.new ≡ with_path peer prefix path self.old) }

@@ -9,11 +9,10 @@ ghost use Rattle.fs_unicast.specs.Search.{is_other};
 ghost use Rattle.fs_unicast.specs.Unicast.{place_cmp};
 ghost use Rattle.fs_unicast.specs.Turns.{is_within, IsParted, NoneIdle, NoneIdleBut};
 
-use crate::neighbour::neighbour;
 use crate::shared::{SharedPath, has_path, share_beside};
 use crate::turns;
 use crate::unicast::Place;
-use fs_base::{Memory, Path};
+use fs_base::Memory;
 use std::alloc::Global;
 use std::collections::{BTreeMap, BTreeSet};
 use std::marker::Model;
@@ -54,6 +53,10 @@ impl Routes {
         }
     }
 
+    pub fn allocator(&self) -> Global {
+        self.alloc
+    }
+
     /// The routes alone, for look-ups.
     pub fn paths(&self) -> &BTreeMap<Place, SharedPath>
         ensures { result.now.entries ≡ self.now }
@@ -63,12 +66,12 @@ impl Routes {
 
     /// Keeps the path at the place, instead of one that is there, and tells whether that changes anything: not where
     /// this very path is there. Where memory is refused nothing changes.
-    pub fn put(&mut self, place: Place, path: Path) -> Result<bool, Memory>
+    pub fn put(&mut self, place: Place, path: SharedPath) -> Result<bool, Memory>
         ensures ok { OnOk result (self.new ≡ insert_entry place_cmp self.old place path) }
         ensures told { IfOk result (λ changed. (changed ≡ false) ↔ self.new ≡ self.old) }
         ensures err { OnErr result (self.new ≡ self.old) }
     {
-        match keep(self.alloc, &mut self.paths, &mut self.turns, place, path) {
+        match keep(&mut self.paths, &mut self.turns, place, path) {
             Ok(changed) => Ok(changed),
             Err(refused) => {
                 turns::tidy(&self.paths, &mut self.turns, &place);
@@ -101,11 +104,10 @@ impl Routes {
 /// Keeps the path at the place, with turns beside it, and tells whether that changes anything. Turns that were put
 /// before memory is refused stay.
 fn keep(
-    alloc: Global,
     paths: &mut BTreeMap<Place, SharedPath>,
     turns: &mut BTreeSet<Place>,
     place: Place,
-    path: Path,
+    path: SharedPath,
 ) -> Result<bool, Memory>
     requires parted { IsParted turns.old.keys paths.old.entries }
     requires needed { NoneIdle turns.old.keys paths.old.entries }
@@ -117,19 +119,19 @@ fn keep(
     ensures needed { OnOk result (NoneIdle turns.new.keys paths.new.entries) }
     ensures left { OnErr result (NoneIdleBut turns.new.keys paths.new.entries place) }
 {
-    let asn = neighbour(path.segments.as_slice());
+    let asn = path.neighbour();
     let next = turns::first_from(paths, &place);
     let taken = turns::stands_at(next, &place);
     if taken && has_path(next, &path) {
         return Ok(false);
     }
     if taken && turns::is_alike(next, asn) {
-        paths.insert(place, SharedPath::new(alloc, path)?)?;
+        paths.insert(place, path)?;
         return Ok(true);
     }
     let after = turns::first_behind(paths, &place, next);
     let before = turns::last_before(paths, &place);
-    let shared = share_beside(alloc, path, before, after)?;
+    let shared = share_beside(path, before, after)?;
     let idle = turns::part(paths, turns, &place, before, next, after, asn)?;
     paths.insert(place, shared)?;
     if idle {

@@ -64,10 +64,9 @@ impl SharedPath {
     }
 }
 
-/// The path as one of the routes beside it has it, else in a block of its own.
+/// The path as one of the routes beside it has it, else as it is.
 pub fn share_beside(
-    alloc: Global,
-    path: Path,
+    path: SharedPath,
     before: Option<(&Place, &SharedPath)>,
     after: Option<(&Place, &SharedPath)>,
 ) -> Result<SharedPath, Memory>
@@ -79,25 +78,28 @@ pub fn share_beside(
     if let Some(held) = same_path(after, &path) {
         return held.share();
     }
-    SharedPath::new(alloc, path)
+    Ok(path)
 }
 
 /// The route's path, if it is this one.
-fn same_path<'a>(route: Option<(&'a Place, &'a SharedPath)>, path: &Path) -> Option<&'a SharedPath>
+fn same_path<'a>(
+    route: Option<(&'a Place, &'a SharedPath)>,
+    path: &SharedPath,
+) -> Option<&'a SharedPath>
     ensures { IfSome result (λ held. held.now ≡ path.now) }
 {
     match route {
-        Some((_, held)) if held.is(path) => Some(held),
+        Some((_, held)) if held.is(path.path()) => Some(held),
         _ => None,
     }
 }
 
 /// Whether there is a route, and it has this path.
-pub fn has_path(route: Option<(&Place, &SharedPath)>, path: &Path) -> bool
+pub fn has_path(route: Option<(&Place, &SharedPath)>, path: &SharedPath) -> bool
     ensures { IsTrue result ↔ option_map (λ r. r.1) (option_map entry_now route.entry) ≡ Some path.now }
 {
     match route {
-        Some((_, held)) => held.is(path),
+        Some((_, held)) => held.is(path.path()),
         None => false,
     }
 }

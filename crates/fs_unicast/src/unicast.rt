@@ -13,6 +13,7 @@ use crate::key::PrefixKey;
 use crate::preference::Held;
 use crate::routes::Routes;
 use crate::search;
+use crate::shared::SharedPath;
 use fs_base::{Memory, Path, Prefix, Steps};
 use std::alloc::Global;
 use std::marker::Model;
@@ -61,13 +62,19 @@ impl Unicast {
         ensures ok { OnOk result (self.new ≡ put_path peer prefix path self.old) }
         ensures err { OnErr result (self.new ≡ self.old) }
     {
+        let path = SharedPath::new(self.routes.allocator(), path)?;
         self.put_telling(peer, prefix, path)?;
         Ok(())
     }
 
     /// As [`put`](Unicast::put), and tells whether that changes anything: not where the peer holds a route with this
-    /// very path at the prefix.
-    pub fn put_telling(&mut self, peer: u16, prefix: Prefix, path: Path) -> Result<bool, Memory>
+    /// very path at the prefix. Many routes may be given one shared path.
+    pub fn put_telling(
+        &mut self,
+        peer: u16,
+        prefix: Prefix,
+        path: SharedPath,
+    ) -> Result<bool, Memory>
         ensures ok { OnOk result (self.new ≡ put_path peer prefix path self.old) }
         ensures told { IfOk result (λ changed. (changed ≡ false) ↔ self.new ≡ self.old) }
         ensures err { OnErr result (self.new ≡ self.old) }

@@ -12,7 +12,7 @@ loop-prefix-preserved g c = record {
       let e = shown_more c.args.prefixes.now c.loop-prefix.prefix-index c.prefix-item.result c.loop-prefix-test.true c.prefix-item.is in
       subst (λ (shown : List Shown). Changes c.args.peer (given_at shown c.args.path.now) same c.args.table.now.held c.put_unicast.new.self.held) (sym e)
       (given_more c.args.peer c.args.path.now _ _ _ _ _ c.loop-prefix.invariant.changes
-      (given_to c.args.peer c.prefix-item.result c.args.path.now c.loop-prefix.table.held c.put_unicast.new.self.held _ refl (rw c.in_ok-copy.ensures at c.in_ok-put_unicast.ensures.ok)));
+      (given_to c.args.peer c.prefix-item.result c.args.path.now c.loop-prefix.table.held c.put_unicast.new.self.held _ refl (rw c.in_ok-share.ensures at c.in_ok-put_unicast.ensures.ok)));
   told = tells_then c.args.table.now c.loop-prefix.table c.put_unicast.new.self c.loop-prefix.invariant.told c.in_ok-put_unicast.ensures.told;
 }
 

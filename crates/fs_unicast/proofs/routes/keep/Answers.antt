@@ -5,7 +5,6 @@ use Rattle.std.specs.Map.{keys_of}
 use Rattle.fs_base.proofs.Grew.{on_err}
 use Rattle.fs_base.specs.declared.path.Path.{Path}
 use Rattle.fs_unicast.specs.declared.unicast.Place.{Place}
-use Rattle.fs_unicast.specs.Neighbour.{neighbour}
 use Rattle.fs_unicast.specs.Unicast.{Route, place_cmp}
 use Rattle.fs_unicast.specs.Turns.{IsParted, IsPartedAfter, IsPartedBefore, NoneIdle, NoneIdleBut, entry_now, is_alike, stands_at}
 use Rattle.fs_unicast.proofs.Parting.{put_again, put_back, parted_put, parted_replaced}
@@ -20,14 +19,14 @@ returns-then-has_path-clause-ok c = sym (put_again c.args.paths.now.entries c.ar
 
 -- A path of the same neighbouring AS was there.
 pub returns-then-is_alike-clause-parted : goal.returns-then-is_alike-clause-parted
-returns-then-is_alike-clause-parted c = subst (IsParted c.args.turns.now.keys) (sym (c.in_ok-insert.ensures.entries ∙ ap (insert_entry place_cmp c.args.paths.now.entries c.args.place) c.in_ok-new.ensures))
+returns-then-is_alike-clause-parted c = subst (IsParted c.args.turns.now.keys) (sym c.in_ok-insert.ensures.entries)
     (parted_replaced c.args.turns.now.keys c.args.paths.now.entries c.args.place c.args.path (option_map entry_now c.first_from-next.result) (sym c.first_from-next.ensures.found) (sym c.stands_at-taken.ensures ∙ c.if-taken-2.true)
-    (ap (λ a. is_alike a (option_map entry_now c.first_from-next.result)) (sym (c.neighbour-asn.ensures ∙ ap neighbour c.as_slice.ensures)) ∙ sym c.is_alike.ensures ∙ c.if-is_alike.true) c.requires.parted)
+    (ap (λ a. is_alike a (option_map entry_now c.first_from-next.result)) (sym c.neighbour-asn.ensures) ∙ sym c.is_alike.ensures ∙ c.if-is_alike.true) c.requires.parted)
 
 pub returns-then-is_alike-clause-needed : goal.returns-then-is_alike-clause-needed
-returns-then-is_alike-clause-needed c = subst (NoneIdle c.args.turns.now.keys) (sym (c.in_ok-insert.ensures.entries ∙ ap (insert_entry place_cmp c.args.paths.now.entries c.args.place) c.in_ok-new.ensures))
+returns-then-is_alike-clause-needed c = subst (NoneIdle c.args.turns.now.keys) (sym c.in_ok-insert.ensures.entries)
     (all_replaced c.args.turns.now.keys c.args.paths.now.entries c.args.place c.args.path (option_map entry_now c.first_from-next.result) c.first_from-next.ensures.ordered (sym c.first_from-next.ensures.found) (sym c.stands_at-taken.ensures ∙ c.if-taken-2.true)
-    (ap (λ a. is_alike a (option_map entry_now c.first_from-next.result)) (sym (c.neighbour-asn.ensures ∙ ap neighbour c.as_slice.ensures)) ∙ sym c.is_alike.ensures ∙ c.if-is_alike.true) c.requires.needed)
+    (ap (λ a. is_alike a (option_map entry_now c.first_from-next.result)) (sym c.neighbour-asn.ensures) ∙ sym c.is_alike.ensures ∙ c.if-is_alike.true) c.requires.needed)
 
 -- an insertion that changes nothing finds the path at its place
 there_before : (held made : List Route) (z : Place) (path : Path) → made ≡ insert_entry place_cmp held z path → made ≡ held
@@ -40,7 +39,7 @@ returns-then-is_alike-clause-told c = (
   (λ e. absurd cc),
   (λ same.
       let found = there_before c.args.paths.now.entries c.insert.new.self.entries c.args.place c.args.path
-      (c.in_ok-insert.ensures.entries ∙ ap (insert_entry place_cmp c.args.paths.now.entries c.args.place) c.in_ok-new.ensures) same in
+      c.in_ok-insert.ensures.entries same in
       absurd (elim c.else-taken.branch [
         | else-taken-via-then-taken+else-has_path w ↦ true≢false (sym (w.has_path.ensures.1 (ap (option_map (λ r. r.1)) c.first_from-next.ensures.found ∙ found.1)) ∙ w.if-has_path.false)
         | else-taken-via-else-taken w ↦ true≢false (sym found.0 ∙ ap (stands_at c.args.place) (sym c.first_from-next.ensures.found) ∙ sym c.stands_at-taken.ensures ∙ w.if-taken.false)
@@ -73,30 +72,27 @@ returns-else-idle-clause-told c = (
 pub tidy-requires-clause-parted : goal.tidy-requires-clause-parted
 tidy-requires-clause-parted c = subst (IsParted c.part.new.turns.keys) (sym (c.in_ok-insert-2.ensures.entries ∙ ap (insert_entry place_cmp c.args.paths.now.entries c.args.place) c.in_ok-shared.ensures))
     (parted_put c.part.new.turns.keys c.args.paths.now.entries c.args.place c.args.path c.in_ok-idle.ensures.parted
-    (subst (IsPartedBefore c.part.new.turns.keys c.args.paths.now.entries c.args.place) (c.neighbour-asn.ensures ∙ ap neighbour c.as_slice.ensures) c.in_ok-idle.ensures.before)
-    (subst (IsPartedAfter c.part.new.turns.keys c.args.paths.now.entries c.args.place) (c.neighbour-asn.ensures ∙ ap neighbour c.as_slice.ensures) c.in_ok-idle.ensures.after))
+    (subst (IsPartedBefore c.part.new.turns.keys c.args.paths.now.entries c.args.place) c.neighbour-asn.ensures c.in_ok-idle.ensures.before)
+    (subst (IsPartedAfter c.part.new.turns.keys c.args.paths.now.entries c.args.place) c.neighbour-asn.ensures c.in_ok-idle.ensures.after))
 
 pub returns-else-idle-clause-parted : goal.returns-else-idle-clause-parted
 returns-else-idle-clause-parted c = subst (IsParted c.part.new.turns.keys) (sym (c.in_ok-insert-2.ensures.entries ∙ ap (insert_entry place_cmp c.args.paths.now.entries c.args.place) c.in_ok-shared.ensures))
     (parted_put c.part.new.turns.keys c.args.paths.now.entries c.args.place c.args.path c.in_ok-idle.ensures.parted
-    (subst (IsPartedBefore c.part.new.turns.keys c.args.paths.now.entries c.args.place) (c.neighbour-asn.ensures ∙ ap neighbour c.as_slice.ensures) c.in_ok-idle.ensures.before)
-    (subst (IsPartedAfter c.part.new.turns.keys c.args.paths.now.entries c.args.place) (c.neighbour-asn.ensures ∙ ap neighbour c.as_slice.ensures) c.in_ok-idle.ensures.after))
+    (subst (IsPartedBefore c.part.new.turns.keys c.args.paths.now.entries c.args.place) c.neighbour-asn.ensures c.in_ok-idle.ensures.before)
+    (subst (IsPartedAfter c.part.new.turns.keys c.args.paths.now.entries c.args.place) c.neighbour-asn.ensures c.in_ok-idle.ensures.after))
 
 pub tidy-requires-clause-beside : goal.tidy-requires-clause-beside
 tidy-requires-clause-beside c = subst (λ rs. NoneIdleBut c.part.new.turns.keys rs c.args.place) (sym (c.in_ok-insert-2.ensures.entries ∙ ap (insert_entry place_cmp c.args.paths.now.entries c.args.place) c.in_ok-shared.ensures))
-    (c.in_ok-idle.ensures.settles c.args.path (sym (c.neighbour-asn.ensures ∙ ap neighbour c.as_slice.ensures))
+    (c.in_ok-idle.ensures.settles c.args.path (sym c.neighbour-asn.ensures)
     (subst (λ rs. IsStrictlySortedBy place_cmp (keys_of rs)) (c.in_ok-insert-2.ensures.entries ∙ ap (insert_entry place_cmp c.args.paths.now.entries c.args.place) c.in_ok-shared.ensures) c.insert-2.ensures.ordered))
 
 pub returns-else-idle-clause-needed : goal.returns-else-idle-clause-needed
 returns-else-idle-clause-needed c = subst (NoneIdle c.part.new.turns.keys) (sym (c.in_ok-insert-2.ensures.entries ∙ ap (insert_entry place_cmp c.args.paths.now.entries c.args.place) c.in_ok-shared.ensures))
-    (c.in_ok-idle.ensures.settled c.if-idle.false c.args.path (sym (c.neighbour-asn.ensures ∙ ap neighbour c.as_slice.ensures)))
+    (c.in_ok-idle.ensures.settled c.if-idle.false c.args.path (sym c.neighbour-asn.ensures))
 
 -- Memory is refused.
-pub returns-in_err-new-clause-left : goal.returns-in_err-new-clause-left
-returns-in_err-new-clause-left c = on_err c.from_residual.result (none_but c.args.turns.now.keys c.args.paths.now.entries c.args.place c.first_from-next.ensures.ordered c.requires.parted c.requires.needed)
-
 pub returns-in_err-insert-clause-left : goal.returns-in_err-insert-clause-left
-returns-in_err-insert-clause-left c = on_err c.from_residual-in_err-insert.result
+returns-in_err-insert-clause-left c = on_err c.from_residual.result
     (subst (λ rs. NoneIdleBut c.args.turns.now.keys rs c.args.place) (sym c.in_err-insert.ensures.err) (none_but c.args.turns.now.keys c.args.paths.now.entries c.args.place c.first_from-next.ensures.ordered c.requires.parted c.requires.needed))
 
 pub returns-in_err-shared-clause-left : goal.returns-in_err-shared-clause-left
