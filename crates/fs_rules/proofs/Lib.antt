@@ -10,6 +10,7 @@ pub mod Runs
 pub mod Apart
 pub mod Puts
 pub mod Takes
+pub mod Along
 pub mod Mending
 pub mod Searching
 pub mod InParts

@@ -26,7 +26,7 @@ pub turned : (b c : Bool) → not b ≡ c → b ≡ not c
 turned true c h = ap not h
 turned false c h = ap not h
 
-kept_with : (p : Prefix) (ks : List Kept) (es : List Entry) (rest : List Kept) → kept_in (with_group p ks es) rest ≡ ks ++ kept_in es rest
+pub kept_with : (p : Prefix) (ks : List Kept) (es : List Entry) (rest : List Kept) → kept_in (with_group p ks es) rest ≡ ks ++ kept_in es rest
 kept_with p [] es rest = refl
 kept_with p (k ∷ ks) es rest = refl
 
@@ -135,6 +135,10 @@ retained T keeps f law (e ∷ es) kept (b, w, f', rest, call, more, is) = is ∙
     group [] = refl
     group (k ∷ ks) = ap (λ c. cond (not c) ((e.0, k ∷ ks) ∷ rest) rest) (not_empty (length ks))
 
+-- behind the group of the destination
+pub other_keys : (p q : Prefix) (ps : List Prefix) → is_eq (prefix_cmp p q) ≡ true → AllByRecursion (λ r. prefix_cmp q r ≡ Less) ps → AllByRecursion (λ r. is_eq (prefix_cmp p r) ≡ false) ps
+other_keys p q ps e h = each_weaker (λ r. prefix_cmp q r ≡ Less) (λ r. is_eq (prefix_cmp p r) ≡ false) (λ r less. ap (λ a. is_eq (prefix_cmp a r)) (same_from_cmp p q e) ∙ ap is_eq less) ps h
+
 -- A key is looked for in one group alone.
 module _ (rule : Ruled) (peer : ℕ) (normal : IsRule rule) where
   abbrev hits : Kept → Bool
@@ -186,10 +190,6 @@ module _ (rule : Ruled) (peer : ℕ) (normal : IsRule rule) where
   none_behind p (e ∷ es) rest d keys placed bare sound = each_append (λ k. hits k ≡ false) e.1 (kept_in es rest)
       (none_in (Some e.0) (other_prefix p e.0 d keys.0) e.1 (each_front (λ k. IsRule k.route.rule) e.1 (kept_in es rest) sound) placed.0)
       (none_behind p es rest d keys.1 placed.1 bare (each_back (λ k. IsRule k.route.rule) e.1 (kept_in es rest) sound))
-
-  -- behind the group of the destination
-  other_keys : (p q : Prefix) (ps : List Prefix) → is_eq (prefix_cmp p q) ≡ true → AllByRecursion (λ r. prefix_cmp q r ≡ Less) ps → AllByRecursion (λ r. is_eq (prefix_cmp p r) ≡ false) ps
-  other_keys p q ps e h = each_weaker (λ r. prefix_cmp q r ≡ Less) (λ r. is_eq (prefix_cmp p r) ≡ false) (λ r less. ap (λ a. is_eq (prefix_cmp a r)) (same_from_cmp p q e) ∙ ap is_eq less) ps h
 
   pub taken_kept : (p : Prefix) (es : List Entry) (rest : List Kept) → destination_prefix rule ≡ Some p → AreInOrder es → ArePlaced es → AllByRecursion (IsTo None) rest → AllByRecursion (λ k. IsRule k.route.rule) (kept_in es rest)
       → kept_in (keep_at p passes es) rest ≡ filter passes (kept_in es rest)

@@ -9,6 +9,7 @@ pub mod Blocks
 pub mod Parts
 pub mod Lists
 pub mod Groups
+pub mod Listed
 pub mod Reading
 pub mod Search
 pub mod Shared

@@ -13,6 +13,7 @@ ghost use Rattle.fs_nlri.specs.Rule.{IsRule};
 use crate::groups::Groups;
 use crate::kept::Kept;
 use crate::lent::{Admitted, HeldFlow, LentRule};
+use crate::listed::Listed;
 use fs_base::{Config, Family, Memory, Prefix, Steps};
 use fs_nlri::Rule;
 use fs_packet::View;
@@ -26,18 +27,20 @@ use std::sync::ledger::Ledger;
 pub(crate) struct Flows {
     v4: Groups,
     v6: Groups,
+    listed: Listed,
 }
 
 impl Model for Flows {
     ghost use Rattle.std.specs.Prelude.{List, ◌++◌};
     ghost use Rattle.fs_rules.specs.Kept.{Kept};
     ghost use Rattle.fs_rules.specs.Flows.{AreOfFamilies};
+    ghost use Rattle.fs_rules.specs.Listed.{AreListed};
 
     ghost Value = { List Kept };
 
     ghost view = { λ a. a.v4 ++ a.v6 };
 
-    ghost invariant = { λ a. AreOfFamilies a.v4 a.v6 };
+    ghost invariant = { λ a. AreOfFamilies a.v4 a.v6 × AreListed a.listed a.v4 a.v6 };
 }
 
 impl Flows {
@@ -47,6 +50,7 @@ impl Flows {
         Flows {
             v4: Groups::new(alloc),
             v6: Groups::new(alloc),
+            listed: Listed::new(alloc),
         }
     }
 
@@ -64,6 +68,7 @@ impl Flows {
         ensures rule { IsRule k.route.rule }
         ensures rules { AllByRecursion (λ k. IsRule k.route.rule) self.old }
     {
+        self.listed.note(&k);
         match k.family() {
             Family::V4 => self.v4.put(k),
             Family::V6 => self.v6.put(k),
@@ -84,12 +89,20 @@ impl Flows {
         }
     }
 
-    /// Takes away what the peer gave.
+    /// Takes away what the peer gave: at the destinations that are listed for it, as long as these are few.
     pub(crate) fn forget(&mut self, peer: u16)
         ensures { self.new ≡ filter (λ k. not (k.route.peer == peer)) self.old }
     {
-        self.v4.forget(peer);
-        self.v6.forget(peer);
+        match self.listed.take(peer) {
+            Some(destinations) => {
+                self.v4.forget_along(&destinations, peer);
+                self.v6.forget_along(&destinations, peer);
+            }
+            None => {
+                self.v4.forget(peer);
+                self.v6.forget(peer);
+            }
+        }
     }
 
     /// Validates the routes anew that are related to the prefix, and tells whether a validity is another than before.

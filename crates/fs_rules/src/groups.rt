@@ -9,6 +9,7 @@ ghost use Rattle.fs_nlri.specs.Rule.{IsRule};
 ghost use Rattle.fs_rules.specs.Table.{is_key};
 ghost use Rattle.fs_rules.specs.Group.{has_key, put_kept, mended, IsRightAt, related_kept, AreSorted, routes_of, chosen, is_other_key};
 ghost use Rattle.fs_rules.specs.Groups.{IsSound, HasSortedGroups, AreInOrder, AreNoShorter, put_entry, keep_at, keep_each, IsHeldAt};
+ghost use Rattle.fs_rules.specs.Listed.{IsAmong, keep_along};
 ghost use Rattle.fs_rules.specs.Lent.{listed, shown_admitted, shown_held, shown_lent, all_admitted, all_held};
 ghost use Rattle.fs_rules.specs.Lists.{judgement, routes_chosen, listing, listings, listings_to, judgements, nth_listing};
 ghost use Rattle.fs_rules.specs.Walk.{next_match};
@@ -117,6 +118,15 @@ impl Groups {
         ensures { self.new ≡ filter (λ k. not (k.route.peer == peer)) self.old }
     {
         forget_each(&mut self.groups, peer);
+        self.rest.forget(peer);
+    }
+
+    /// Takes away what the peer gave, of which each route with a destination has one of these.
+    pub(crate) fn forget_along(&mut self, destinations: &[PrefixKey], peer: u16)
+        requires { AllByRecursion (λ k. not (k.route.peer == peer) ≡ false → IsAmong destinations.now k) self.old }
+        ensures { self.new ≡ filter (λ k. not (k.route.peer == peer)) self.old }
+    {
+        forget_along(&mut self.groups, destinations, peer);
         self.rest.forget(peer);
     }
 
@@ -281,4 +291,26 @@ fn forget_each(groups: &mut BTreeMap<PrefixKey, Group>, peer: u16)
         group.forget(peer);
         !group.is_empty()
     });
+}
+
+/// Takes out of the groups of these destinations what the peer gave.
+fn forget_along(groups: &mut BTreeMap<PrefixKey, Group>, destinations: &[PrefixKey], peer: u16)
+    ensures { groups.new.entries ≡ keep_along destinations.now (λ k. not (k.route.peer == peer)) groups.old.entries }
+{
+    for destination in destinations {
+        forget_at(groups, destination, peer);
+    }
+}
+
+/// Takes out of the group of the destination what the peer gave.
+fn forget_at(groups: &mut BTreeMap<PrefixKey, Group>, destination: &PrefixKey, peer: u16)
+    ensures { groups.new.entries ≡ keep_at destination.now (λ k. not (k.route.peer == peer)) groups.old.entries }
+{
+    let Some(group) = groups.get_mut(destination) else {
+        return;
+    };
+    group.forget(peer);
+    if group.is_empty() {
+        groups.remove(destination);
+    }
 }

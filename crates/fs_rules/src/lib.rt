@@ -11,6 +11,7 @@ mod groups;
 mod kept;
 mod latest;
 mod lent;
+mod listed;
 mod lists;
 mod noted;
 mod reading;

@@ -2,12 +2,16 @@ use Rattle.std.proofs.Common.{◌≡◌, ◌↔◌, ◌||◌, false, subst}
 use Rattle.std.specs.List.{AllByRecursion}
 use Rattle.fs_base.specs.declared.prefix.Family.TheVariants.{V4, V6}
 use Rattle.fs_rules.specs.Group.{IsRightAt}
+use Rattle.fs_rules.proofs.Along.{listed_mended}
 use Rattle.fs_rules.proofs.Telling.{told_families}
 use Rattle.fs_rules.proofs.BothFamilies.{mended_now, steps_both}
 use Rattle.fs_rules.proofs.flows.Flows.mend.Goals as goal
 
 pub invariant_of-self : goal.invariant_of-self
-invariant_of-self g c = record { first = mended_now V4 c.args.prefix.now c.args.unicast.now c.args.config.now c.self.inside.v4 c.mend-v4.new.self c.mend-v4.ensures.mended c.self.invariant.first; second = mended_now V6 c.args.prefix.now c.args.unicast.now c.args.config.now c.self.inside.v6 c.mend-v6.new.self c.mend-v6.ensures.mended c.self.invariant.second }
+invariant_of-self g c = (
+  record { first = mended_now V4 c.args.prefix.now c.args.unicast.now c.args.config.now c.self.inside.v4 c.mend-v4.new.self c.mend-v4.ensures.mended c.self.invariant.0.first; second = mended_now V6 c.args.prefix.now c.args.unicast.now c.args.config.now c.self.inside.v6 c.mend-v6.new.self c.mend-v6.ensures.mended c.self.invariant.0.second },
+  record { first = listed_mended c.self.inside.listed c.args.prefix.now c.args.unicast.now c.args.config.now c.self.inside.v4 c.mend-v4.new.self c.mend-v4.ensures.mended c.self.invariant.1.first; second = listed_mended c.self.inside.listed c.args.prefix.now c.args.unicast.now c.args.config.now c.self.inside.v6 c.mend-v6.new.self c.mend-v6.ensures.mended c.self.invariant.1.second },
+)
 
 pub returns-clause-steps : goal.returns-clause-steps
 returns-clause-steps g c = steps_both c.args.prefix.now c.self.inside.v4 c.self.inside.v6 c.args.self.now c.args.steps.now c.mend-v4.new.steps c.mend-v6.new.steps c.self.view_is c.mend-v4.ensures.steps c.mend-v6.ensures.steps
