@@ -3,8 +3,9 @@
 
     bench/hostile.py PROGRAM [--runs N] [--scale F] [--only NAME]
 
-For each shape the processor seconds (user and system) of the program over an input of n and of 2n, less those over none,
-the least of some runs; and their ratio. Where the time is linear in the octets the ratio is about 2.
+For each shape the processor seconds (user and system) of `enforce`, or of the command that the shape is for, over an
+input of n and of 2n, less those over none, the least of some runs; and their ratio. Where the time is linear in the octets
+the ratio is about 2; one above 2.3 is marked.
 """
 
 import argparse
@@ -20,6 +21,7 @@ from enforce import CONFIG, OPEN, PATH, attack_packets, attacked, draws, message
 ATTRIBUTES = PATH + bytes.fromhex("400304c6336401")
 MAGIC = b"FSTAPE1\n"
 DROP = bytes.fromhex("c01008 8006fde900000000")
+LIMIT = 2.3
 EMPTY_CAPTURE = struct.pack("<IHHIIII", 0xA1B2C3D4, 2, 4, 0, 0, 262144, 101)
 
 
@@ -210,6 +212,34 @@ def one_network(count):
     return b"".join(parts), EMPTY_CAPTURE
 
 
+def rules_for(network, count):
+    """So many rules for one network."""
+    to = bytes([1]) + network
+    return [flow(to + port(number) + b"\x06\x91" + struct.pack(">H", number // 65536)) for number in range(count)]
+
+
+def two_paths_in_turn(count):
+    """Two paths of one network in turn, with an ORIGIN each, which no validity reads, beside as many rules for it."""
+    network = bytes([24, 192, 0, 2])
+    incomplete = update(b"", bytes.fromhex("40010102") + ATTRIBUTES[4:], network)
+    parts = [up(1)] + rules_for(network, count) + [announce(network), incomplete] * (count // 2)
+    return b"".join(parts), EMPTY_CAPTURE
+
+
+def routes_under_a_network(count):
+    """As many routes under a network as there are rules for it."""
+    network = bytes([8, 10])
+    parts = [up(1), announce(network)] + rules_for(network, count)
+    parts += [announce(host(number)) for number in range(count)]
+    return b"".join(parts), EMPTY_CAPTURE
+
+
+def rules_side_by_side(count):
+    """Rules of one destination of which none contains another, so that each is held against each before it."""
+    network = bytes([24, 192, 0, 2])
+    return b"".join([up(1), announce(network)] + rules_for(network, count)), EMPTY_CAPTURE
+
+
 def nothing(count):
     """UPDATEs of nothing beside a few rules."""
     parts = [up(1)] + [flow(port(number)) for number in range(100)]
@@ -298,6 +328,9 @@ SHAPES = [
     ("a peer down, lost again", down_and_lost, 5000),
     ("peers with equal rules", equal_rules, 512),
     ("peers with one network", one_network, 512),
+    ("two paths of one network in turn", two_paths_in_turn, 4000),
+    ("routes under a network", routes_under_a_network, 4000),
+    ("pairs of rules in shadow", rules_side_by_side, 2000),
     ("UPDATEs of nothing", nothing, 400000),
     ("long attributes of every type", long_attributes, 5120),
     *((f"long attributes of type {kind}", long_attributes_of(kind), 5000) for kind in LONG_TYPES),
@@ -307,6 +340,9 @@ SHAPES = [
     ("the longest records", longest_records, 200),
 ]
 
+
+# Shapes that are played by another command than `enforce`, which reads no capture.
+COMMANDS = {"pairs of rules in shadow": "shadow"}
 
 # Shapes whose twice the size is the largest that there is.
 OF_ONE_SIZE = (
@@ -318,18 +354,19 @@ OF_ONE_SIZE = (
 )
 
 
-def seconds_of(program, folder, made, runs):
+def seconds_of(program, folder, made, runs, command="enforce"):
     tape, capture = made
     (folder / "tape").write_bytes(MAGIC + tape)
     (folder / "capture").write_bytes(capture)
-    words = [str(folder / name) for name in ("config", "tape", "capture")]
+    names = ("config", "tape", "capture") if command == "enforce" else ("config", "tape")
+    words = [str(folder / name) for name in names]
     best = None
     for _ in range(runs):
-        child = subprocess.Popen([program, "enforce", *words], stdout=subprocess.DEVNULL)
+        child = subprocess.Popen([program, command, *words], stdout=subprocess.DEVNULL)
         _, status, usage = os.wait4(child.pid, 0)
         child.returncode = os.waitstatus_to_exitcode(status)
         if child.returncode != 0:
-            sys.exit(f"enforce ended with status {child.returncode}")
+            sys.exit(f"{command} ended with status {child.returncode}")
         seconds = usage.ru_utime + usage.ru_stime
         best = seconds if best is None else min(best, seconds)
     return best
@@ -351,10 +388,13 @@ def main():
             if options.only not in shape:
                 continue
             size = size if shape in OF_ONE_SIZE else max(int(size * options.scale), 2)
+            command = COMMANDS.get(shape, "enforce")
             one, two = (
-                max(seconds_of(program, folder, make(count), options.runs) - without, 1e-4) for count in (size, 2 * size)
+                max(seconds_of(program, folder, make(count), options.runs, command) - without, 1e-4)
+                for count in (size, 2 * size)
             )
-            print(f"{shape}: {one:.3f} s at {size}, {two:.3f} s at {2 * size}, ratio {two / one:.2f}", flush=True)
+            mark = "" if two <= LIMIT * one else ", above the limit"
+            print(f"{shape}: {one:.3f} s at {size}, {two:.3f} s at {2 * size}, ratio {two / one:.2f}{mark}", flush=True)
 
 
 if __name__ == "__main__":
