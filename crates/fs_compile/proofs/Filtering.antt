@@ -1,13 +1,13 @@
 -- The filters of rules of which a stretch is put anew.
-use Rattle.std.proofs.Common.{◌≡◌, ℕ, ◌+◌, ◌-◌, ◌*◌, ◌<◌, ◌≤◌, max, refl, sym, ap, ap₂, subst, ◌∙◌, Bool, true, false, List, length, get_or, map, arith}
+use Rattle.std.proofs.Common.{◌≡◌, ℕ, ◌+◌, ◌-◌, ◌*◌, ◌<◌, ◌≤◌, max, refl, sym, ap, ap₂, subst, ◌∙◌, false, List, length, get_or, arith}
 use Rattle.std.specs.List.{splice}
 use Rattle.std.proofs.lemmas.List.{length-map}
 use Rattle.fs_compile.specs.declared.columns.Column.{Column}
 use Rattle.fs_compile.specs.declared.columns.PortRows.{PortRows}
 use Rattle.fs_compile.specs.declared.fast.Fast.{Fast}
 use Rattle.fs_compile.specs.declared.filters.Filter.{Filter}
-use Rattle.fs_compile.specs.Columns.{ArePortRows, AreRowsOf, IsClass, IsColumn, bit_in, words_for}
-use Rattle.fs_compile.specs.Facts.{Facts, key_of}
+use Rattle.fs_compile.specs.Columns.{ArePortRows, AreRowsOf, IsColumn, bit_in, words_for}
+use Rattle.fs_compile.specs.Facts.{Facts}
 use Rattle.fs_compile.specs.Fast.{facts_hold}
 use Rattle.fs_compile.specs.Filters.{IsFilter}
 use Rattle.fs_compile.specs.Search.{hits}

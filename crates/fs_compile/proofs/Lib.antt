@@ -23,3 +23,4 @@ pub mod Stretching
 pub mod Filtering
 pub mod Mending
 pub mod Mended
+pub mod Resizing

@@ -1,6 +1,6 @@
 -- The rules of a matcher put anew, one place after the other.
-use Rattle.std.proofs.Common.{◌≡◌, ℕ, zero, suc, Result, Ok, Err, IfOk, ◌-◌, ◌^◌, ◌<◌, ◌≤◌, ◌+◌, ◌==◌, ◌&&◌, ◌||◌, ◌⊎◌, inl, inr, refl, sym, ap, ap₂, subst, ◌∙◌, Bool, true, false, true≢false, not, cond, Option, Some, None, IfSome, option_map, List, [], ◌∷◌, ◌++◌, drop, filter, length, get_or, map, Ordering, Less, Equal, Greater, nat_cmp, pow_pos, arith}
-use Rattle.std.specs.List.{AllByRecursion, list_any}
+use Rattle.std.proofs.Common.{◌≡◌, ℕ, zero, suc, Result, Ok, Err, IfOk, ◌-◌, ◌^◌, ◌<◌, ◌≤◌, ◌+◌, ◌==◌, ◌&&◌, ◌||◌, ◌⊎◌, inl, inr, refl, sym, ap, subst, ◌∙◌, Bool, true, false, true≢false, not, cond, Option, Some, None, IfSome, option_map, List, [], ◌∷◌, drop, filter, length, get_or, map, Ordering, Less, Equal, Greater, nat_cmp, pow_pos, arith}
+use Rattle.std.specs.List.{AllByRecursion}
 use Rattle.std.specs.Cmp.{nat_cmp_is}
 use Rattle.std.specs.Ordering.{is_eq, is_gt, is_lt, ordering_then}
 use Rattle.std.proofs.Math.Pow.{pow-lt}
@@ -12,7 +12,7 @@ use Rattle.fs_base.specs.declared.prefix.Family.TheVariants.{V4, V6}
 use Rattle.fs_base.specs.declared.prefix.Prefix.{Prefix}
 use Rattle.fs_nlri.proofs.Destination.{IsMade}
 use Rattle.fs_nlri.specs.Parts.{Ruled}
-use Rattle.fs_nlri.specs.Rule.{IsRule, destination_of, shown}
+use Rattle.fs_nlri.specs.Rule.{destination_of, shown}
 use Rattle.fs_order.specs.Laws.{destination_cmp, last_shown, shown_cmp}
 use Rattle.fs_rules.specs.Changes.{AdmitsElsewhere, IsOwn, is_to, touched_by}
 use Rattle.fs_rules.specs.Lent.{Listed, listed}

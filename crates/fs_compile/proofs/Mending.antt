@@ -1,5 +1,5 @@
 -- An index with the rules of one destination put anew.
-use Rattle.std.proofs.Common.{◌≡◌, ℕ, ◌+◌, ◌-◌, ◌^◌, ◌<◌, ◌≤◌, ◌⊎◌, inl, inr, refl, sym, ap, subst, ◌∙◌, Option, Some, None, IfOk, Result, Ok, Err, List, [], length, get_or, map, arith}
+use Rattle.std.proofs.Common.{◌≡◌, ℕ, ◌+◌, ◌-◌, ◌<◌, ◌≤◌, ◌⊎◌, inl, inr, sym, ap, subst, ◌∙◌, Option, None, List, [], length, get_or, arith}
 use Rattle.std.specs.List.{AllByRecursion, splice}
 use Rattle.std.proofs.lemmas.Bool.{cases_lt}
 use Rattle.std.proofs.lemmas.List.{length-map}
@@ -9,12 +9,12 @@ use Rattle.fs_rules.specs.Lent.{Listed, all_admitted, shown_lent}
 use Rattle.fs_rules.specs.declared.lent.LentRule.{LentRule}
 use Rattle.fs_compile.specs.declared.buckets.Buckets.{Buckets}
 use Rattle.fs_compile.specs.Index.{AreHoused, Indexed, IsIndexOf, IsOfFamily, StandForEach, actions_of, span_of, spans_of}
-use Rattle.fs_compile.specs.Mending.{AreNarrow, AreTo, IsStretch, Mends, place_by, replaced}
+use Rattle.fs_compile.specs.Mending.{AreNarrow, AreTo, HasStretch, IsStretch, Mends, place_by}
 use Rattle.fs_compile.specs.Runs.{AreNesting}
 use Rattle.fs_compile.specs.Search.{AreSound}
 use Rattle.fs_compile.proofs.Indexing.{stand_size}
 use Rattle.fs_compile.proofs.Splicing.{each_spliced, map_spliced}
-use Rattle.fs_compile.proofs.Stretching.{bare_behind, housed_same, mends_spliced, nesting_housed, less_equal, nesting_from, nesting_spliced, none_count, replaced_is, same_count}
+use Rattle.fs_compile.proofs.Stretching.{bare_behind, housed_same, mends_spliced, nesting_housed, less_equal, nesting_from, nesting_spliced, none_count, same_count}
 use Rattle.fs_compile.proofs.Widths.{narrow}
 
 pub spans_size : (list : List LentRule) → length (spans_of (all_admitted list)) ≡ length list
@@ -48,35 +48,62 @@ bare_from xs b from to h whole s = at (cases_lt from (length b.homes.items)) (ca
   at (inl less) (inl below) = absurd (less_equal (sym (ap (place_by None) (h.homed from less)) ∙ s.at from (omega arith) below))
   at (inl less) (inr le) = absurd (bare_behind (get_or xs from None) (s.behind from le (omega (arith, less, whole))))
 
+-- Where the rules have no destination, or are as many as before, the buckets stay.
+pub none_sound : (family : Family) (rules : List Listed) (b : Buckets) (from to n : ℕ) → HasStretch family rules b None from to → AreSound b (length b.homes.items) → AreSound b (from + n + (length rules - to))
+none_sound family rules b from to n h sound = sound_more b (length b.homes.items) _ sound (omega (arith, front)) where
+  front : length b.homes.items ≤ from
+  front = bare_from (spans_of rules) b from to h.housed (let w = h.whole in omega (arith, w, rules_size rules)) h.stretch
+
+pub none_housed : (family : Family) (rules : List Listed) (b : Buckets) (from to : ℕ) (news : List (Option (ℕ × ℕ))) → HasStretch family rules b None from to → AreTo None news → AreHoused (splice (spans_of rules) from to news) b
+none_housed family rules b from to news h each = housed_same (spans_of rules) (splice (spans_of rules) from to news) b (none_count (spans_of rules) news from to h.stretch each) h.housed
+
+pub same_sound : (family : Family) (rules : List Listed) (b : Buckets) (target : Option (ℕ × ℕ)) (from to n : ℕ) → HasStretch family rules b target from to → AreSound b (length b.homes.items) → n ≡ to - from → AreSound b (from + n + (length rules - to))
+same_sound family rules b target from to n h sound size =
+    sound_more b (length b.homes.items) _ sound (let w = h.whole in let o = h.stretch.ordered in let i = h.stretch.within in omega (arith, w, o, i, size, rules_size rules))
+
+pub same_housed : (family : Family) (rules : List Listed) (b : Buckets) (target : Option (ℕ × ℕ)) (from to : ℕ) (news : List (Option (ℕ × ℕ))) → HasStretch family rules b target from to → AreTo target news → length news ≡ to - from
+    → AreHoused (splice (spans_of rules) from to news) b
+same_housed family rules b target from to news h each size = housed_same (spans_of rules) (splice (spans_of rules) from to news) b (same_count (spans_of rules) news target from to h.stretch each size) h.housed
+
 -- what the runs of the rules with a stretch put anew are made of
+pub mends : (family : Family) (rules : List Listed) (b : Buckets) (target : Option (ℕ × ℕ)) (from to : ℕ) (news : List Listed) → HasStretch family rules b target from to → to ≤ length b.homes.items → Mends b from to (spans_of news) (splice (spans_of rules) from to (spans_of news))
+mends family rules b target from to news h homes = mends_spliced (spans_of rules) (spans_of news) b from to h.housed h.stretch.ordered homes (let w = h.whole in omega (arith, w, rules_size rules))
+
 pub narrow_spliced : (family : Family) (rules news : List Listed) (from to : ℕ) → AllByRecursion (IsOfFamily family) rules → AllByRecursion (IsOfFamily family) news
     → AreNarrow (width_of family) (splice (spans_of rules) from to (spans_of news))
 narrow_spliced family rules news from to each own =
     subst (AreNarrow (width_of family)) (map_spliced (λ r. span_of r.rule) rules news from to) (narrow family (splice rules from to news) (each_spliced (IsOfFamily family) rules news from to each own))
 
-pub nests : (family : Family) (rules news : List Listed) (target : Option (ℕ × ℕ)) (from to : ℕ) (index : Indexed) (count : ℕ) → IsIndexOf family rules index → AreSound index.buckets count → AllByRecursion (IsOfFamily family) news
-    → IsStretch (spans_of rules) target from to → AreTo target (spans_of news) → AreNesting (splice (spans_of rules) from to (spans_of news))
-nests family rules news target from to index count h sound own s each =
+pub nests : (family : Family) (rules : List Listed) (b : Buckets) (target : Option (ℕ × ℕ)) (from to : ℕ) (news : List Listed) → HasStretch family rules b target from to → AreSound b (length b.homes.items) → AllByRecursion (IsOfFamily family) news
+    → AreTo target (spans_of news) → AreNesting (splice (spans_of rules) from to (spans_of news))
+nests family rules b target from to news h sound own each =
     subst AreNesting (map_spliced (λ r. span_of r.rule) rules news from to)
-    (nesting_spliced family rules news target from to h.each own (nesting_housed (spans_of rules) index.buckets count sound h.housed) s each)
+    (nesting_spliced family rules news target from to h.each own (nesting_housed (spans_of rules) b (length b.homes.items) sound h.housed) h.stretch each)
 
 -- the index stands for the rules with the stretch put anew
-pub index_replaced : (family : Family) (rules news : List Listed) (target : Option (ℕ × ℕ)) (from to : ℕ) (old new : Indexed) (b : Buckets) → IsIndexOf family rules old → IsStretch (spans_of rules) target from to
-    → AllByRecursion (IsOfFamily family) news → StandForEach (splice rules from to news) new.rules → new.actions ≡ actions_of (splice rules from to news) → new.buckets ≡ b
-    → AreHoused (splice (spans_of rules) from to (spans_of news)) b → IsIndexOf family (replaced target news rules) new
-index_replaced family rules news target from to old new b h s own stand actions is housed = subst (λ rs. IsIndexOf family rs new) (sym (replaced_is rules news target from to s)) (record {
+pub index_spliced : (family : Family) (rules news : List Listed) (from to : ℕ) (new : Indexed) → AllByRecursion (IsOfFamily family) rules → AllByRecursion (IsOfFamily family) news → StandForEach (splice rules from to news) new.rules
+    → new.actions ≡ actions_of (splice rules from to news) → AreHoused (splice (spans_of rules) from to (spans_of news)) new.buckets → IsIndexOf family (splice rules from to news) new
+index_spliced family rules news from to new each own stand actions housed = record {
   stands = stand;
-  housed = subst (AreHoused (spans_of (splice rules from to news))) (sym is) (subst (λ xs. AreHoused xs b) (sym (map_spliced (λ r. span_of r.rule) rules news from to)) housed);
-  each = each_spliced (IsOfFamily family) rules news from to h.each own;
+  housed = subst (λ xs. AreHoused xs new.buckets) (sym (map_spliced (λ r. span_of r.rule) rules news from to)) housed;
+  each = each_spliced (IsOfFamily family) rules news from to each own;
   actions_are = actions;
-})
+}
+
+-- the stretch of an index's rules is one of those of its buckets
+pub has_stretch : (family : Family) (rules : List Listed) (inside index : Indexed) (target : Option (ℕ × ℕ)) (from to : ℕ) → inside ≡ index → length inside.buckets.homes.items ≤ length inside.rules → IsIndexOf family rules index
+    → IsStretch (spans_of rules) target from to → HasStretch family rules inside.buckets target from to
+has_stretch family rules inside index target from to is few h s = record {
+  whole = let z : length inside.rules ≡ length rules = stand_size rules inside.rules inner.stands in omega (arith, few, z);
+  housed = inner.housed;
+  each = inner.each;
+  stretch = s;
+} where
+  inner : IsIndexOf family rules inside
+  inner = subst (IsIndexOf family rules) (sym is) h
 
 pub stretch_bounds : (family : Family) (rules : List Listed) (index : Indexed) (target : Option (ℕ × ℕ)) (from to : ℕ) → IsIndexOf family rules index → IsStretch (spans_of rules) target from to → (from ≤ to) × (to ≤ length index.rules)
 stretch_bounds family rules index target from to h s = (s.ordered, let z : length index.rules ≡ length rules = stand_size rules index.rules h.stands in omega (arith, s.within, rules_size rules, z))
-
-pub if_ok_all : {X E : Type 0} (r : Result X E) (P Q R S : X → Type 0) → ((x : X) → P x → Q x → R x → S x) → IfOk r P → IfOk r Q → IfOk r R → IfOk r S
-if_ok_all (Ok x) P Q R S f p q r = f x p q r
-if_ok_all (Err e) P Q R S f p q r = tt
 
 pub nothing_nests : AreNesting []
 nothing_nests = nesting_from [] (λ i j less. tt)

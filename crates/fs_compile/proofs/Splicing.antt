@@ -1,5 +1,5 @@
 -- Lists with a stretch put anew: what stands where, and what is left elsewhere.
-use Rattle.std.proofs.Common.{◌≡◌, ℕ, zero, suc, ◌+◌, ◌-◌, ◌<◌, ◌≤◌, refl, sym, ap, ap₂, subst, ◌∙◌, Bool, true, false, true≢false, cond, not, ◌||◌, List, [], ◌∷◌, ◌++◌, length, get_or, take, drop, map, filter, Ordering, Less, Equal, Greater, length-take-le, length-drop, length-append, get_or-drop, arith}
+use Rattle.std.proofs.Common.{◌≡◌, ℕ, zero, suc, ◌+◌, ◌-◌, ◌<◌, ◌≤◌, refl, sym, ap, ap₂, ◌∙◌, Bool, true, false, true≢false, cond, not, ◌||◌, List, [], ◌∷◌, ◌++◌, length, get_or, take, drop, map, filter, Ordering, Less, Equal, Greater, length-take-le, length-drop, length-append, get_or-drop, arith}
 use Rattle.std.specs.List.{AllByRecursion, splice}
 use Rattle.std.specs.Ordering.{is_eq, is_gt, is_lt}
 use Rattle.std.proofs.lemmas.List.{drop-map, get_or-append-add, get_or-append_right, get_or-take, get_or_append_left, map-append, take-map}

@@ -1,15 +1,13 @@
 -- The stretch of the rules of one destination, and the rules with it put anew.
-use Rattle.std.proofs.Common.{◌≡◌, ℕ, zero, suc, ◌+◌, ◌-◌, ◌^◌, ◌<◌, ◌≤◌, ◌⊎◌, inl, inr, refl, sym, ap, ap₂, subst, ◌∙◌, Bool, true, false, if◌then◌else◌, Option, Some, None, List, [], ◌∷◌, ◌++◌, length, get_or, map, filter, Ordering, Less, Equal, Greater, nat_cmp, arith}
+use Rattle.std.proofs.Common.{◌≡◌, ℕ, zero, suc, ◌+◌, ◌-◌, ◌<◌, ◌≤◌, ◌⊎◌, inl, inr, refl, sym, ap, ap₂, subst, ◌∙◌, Bool, true, false, if◌then◌else◌, Option, Some, None, List, [], ◌∷◌, ◌++◌, length, get_or, Ordering, Less, Equal, Greater, nat_cmp, arith}
 use Rattle.std.specs.List.{AllByRecursion, splice}
 use Rattle.std.specs.Cmp.{nat_cmp_is}
 use Rattle.std.specs.Ordering.{is_gt, is_lt, ordering_then}
 use Rattle.std.proofs.lemmas.Bool.{cases_lt, cases_order}
 use Rattle.std.proofs.lemmas.List.{get_or_past, length-map}
 use Rattle.fs_base.specs.declared.prefix.Family.{Family}
-use Rattle.fs_nlri.specs.Rule.{IsRule}
 use Rattle.fs_rules.specs.Lent.{Listed}
 use Rattle.fs_compile.specs.declared.buckets.Buckets.{Buckets}
-use Rattle.fs_compile.specs.declared.nodes.Node.{Node}
 use Rattle.fs_compile.specs.Addresses.{numbers_in, nodes_in}
 use Rattle.fs_compile.specs.Buckets.{node_at}
 use Rattle.fs_compile.specs.Index.{AreHoused, IsOfFamily, span_at, span_of, spans_of}
@@ -335,7 +333,7 @@ home_of b k = get_or b.homes.items k 0
 start_within : (b : Buckets) (count i : ℕ) → AreSound b count → i ≤ length (numbers_in b.lasts) → start_of b i ≤ length b.homes.items
 start_within b count i sound within = let a : start_of b i ≤ start_of b (length (numbers_in b.lasts)) = sound.starts i (length (numbers_in b.lasts)) within (omega arith) in let t : start_of b (length (numbers_in b.lasts)) ≡ length b.homes.items = sound.tail in omega (arith, a, t)
 
-home_under : (b : Buckets) (count i k : ℕ) → AreSound b count → i ≤ length (numbers_in b.lasts) → k < start_of b i → home_of b k < i
+pub home_under : (b : Buckets) (count i k : ℕ) → AreSound b count → i ≤ length (numbers_in b.lasts) → k < start_of b i → home_of b k < i
 home_under b count i k sound within less = at (cases_lt (home_of b k) i) where
   below : k < length b.homes.items
   below = let a : start_of b i ≤ length b.homes.items = start_within b count i sound within in omega (arith, less, a)
@@ -348,7 +346,7 @@ home_under b count i k sound within less = at (cases_lt (home_of b k) i) where
       let d : start_of b i ≤ start_of b (home_of b k) = sound.starts i (home_of b k) le (omega (arith, h)) in
       absurd (omega (arith, less, a, d))
 
-home_over : (b : Buckets) (count i k : ℕ) → AreSound b count → i ≤ length (numbers_in b.lasts) → k < length b.homes.items → start_of b i ≤ k → i ≤ home_of b k
+pub home_over : (b : Buckets) (count i k : ℕ) → AreSound b count → i ≤ length (numbers_in b.lasts) → k < length b.homes.items → start_of b i ≤ k → i ≤ home_of b k
 home_over b count i k sound within below le = at (cases_lt (home_of b k) i) where
   at : (home_of b k < i) ⊎ (i ≤ home_of b k) → i ≤ home_of b k
   at (inr later) = later

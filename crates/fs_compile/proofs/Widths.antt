@@ -1,5 +1,5 @@
 -- The addresses of a rule's destination have the width of its family.
-use Rattle.std.proofs.Common.{◌≡◌, ◌∙◌, ℕ, zero, suc, ◌+◌, ◌-◌, ◌^◌, ◌<◌, ◌≤◌, sym, subst, Option, Some, None, List, [], ◌∷◌, get_or, pow_pos, arith}
+use Rattle.std.proofs.Common.{◌≡◌, ◌∙◌, ℕ, zero, suc, ◌+◌, ◌-◌, ◌^◌, ◌<◌, ◌≤◌, sym, subst, Some, None, List, [], ◌∷◌, pow_pos, arith}
 use Rattle.std.specs.List.{AllByRecursion}
 use Rattle.fs_base.specs.declared.prefix.Family.{Family}
 use Rattle.fs_base.specs.Bits.{IsBlock, width_of, block_of}

@@ -1,5 +1,5 @@
 -- Destinations as intervals of addresses, in the order of their last addresses, with the runs of rules that have them.
-use Rattle.std.specs.Prelude.{◌≡◌, ℕ, ◌+◌, ◌<◌, ◌≤◌, List, length, get_or}
+use Rattle.std.specs.Prelude.{◌≡◌, ℕ, ◌+◌, ◌-◌, ◌^◌, ◌<◌, ◌≤◌, List, length, get_or}
 use Rattle.fs_compile.specs.declared.nodes.Node.{Node}
 
 abbrev pub AreRising : List ℕ → Type 0
@@ -28,3 +28,19 @@ pub record AreBuckets (lasts : List ℕ) (nodes : List (Node ℕ)) (homes : List
   pub home : (k : ℕ) → k < length homes → get_or homes k 0 < length lasts
   pub begins : (k : ℕ) → k < length homes → (node_at nodes (get_or homes k 0)).start ≤ k
   pub ends : (k : ℕ) → k < length homes → k < (node_at nodes (get_or homes k 0 + 1)).start
+
+-- the starts of the nodes from a place on can be moved by so many numbers down and so many up
+abbrev pub AreAbove : {K : Type 0} → (from down up : ℕ) → List (Node K) → Type 0
+AreAbove {K} from down up nodes =
+    (k : ℕ) (d : Node K) → from ≤ k → k < length nodes
+    → (down ≤ (get_or nodes k d).start) × ((get_or nodes k d).start + up < 2 ^ 32 + down)
+
+-- a node whose start is moved
+abbrev pub moved : {K : Type 0} → (down up : ℕ) → Node K → Node K
+moved down up node = record { first = node.first; start = node.start - down + up; parent = node.parent }
+
+-- the starts of the nodes from a place on are moved
+pub record AreShifted {K : Type 0} (from down up : ℕ) (old new : List (Node K)) : Type 0 where
+  pub size : length new ≡ length old
+  pub front : (k : ℕ) (d : Node K) → k < from → get_or new k d ≡ get_or old k d
+  pub back : (k : ℕ) (d : Node K) → from ≤ k → k < length old → get_or new k d ≡ moved down up (get_or old k d)

@@ -12,7 +12,7 @@ use Rattle.fs_rules.specs.Lent.{Listed}
 use Rattle.fs_compile.specs.declared.buckets.Buckets.{Buckets}
 use Rattle.fs_compile.specs.Addresses.{numbers_in, nodes_in}
 use Rattle.fs_compile.specs.Buckets.{node_at}
-use Rattle.fs_compile.specs.Index.{IsOfFamily, span_at, span_by, span_of}
+use Rattle.fs_compile.specs.Index.{AreHoused, IsOfFamily, span_at, span_by, span_of, spans_of}
 
 -- each rule has a destination
 abbrev pub AreAll : List (Option (ℕ × ℕ)) → Type 0
@@ -97,3 +97,20 @@ put_in V6 news rules V6 = news
 -- each rule is one of its family
 abbrev pub AreOwn : (Family → List Listed) → Type 0
 AreOwn rules = (family : Family) → AllByRecursion (IsOfFamily family) (rules family)
+
+-- a bucket of these addresses, whose rules are those from one number on before another
+pub record IsHolder (b : Buckets) (bucket : ℕ) (span : ℕ × ℕ) (from to : ℕ) : Type 0 where
+  pub within : bucket < length (numbers_in b.lasts)
+  pub few : bucket < 2 ^ 32
+  pub first : (node_at (nodes_in b.nodes) bucket).first ≡ span.0
+  pub last : get_or (numbers_in b.lasts) bucket 0 ≡ span.1
+  pub start : (node_at (nodes_in b.nodes) bucket).start ≡ from
+  pub end : (node_at (nodes_in b.nodes) (bucket + 1)).start ≡ to
+
+-- the buckets of these rules of the family, of which those from one number on before another have the destination
+pub record HasStretch (family : Family) (rules : List Listed) (b : Buckets) (target : Option (ℕ × ℕ)) (from to : ℕ)
+    : Type 0 where
+  pub whole : length b.homes.items ≤ length rules
+  pub housed : AreHoused (spans_of rules) b
+  pub each : AllByRecursion (IsOfFamily family) rules
+  pub stretch : IsStretch (spans_of rules) target from to

@@ -1,6 +1,6 @@
 //! Lists of addresses, in the width of their family.
 
-ghost use Rattle.std.specs.Prelude.{◌≡◌, ◌<◌, ◌≤◌, ◌+◌, ◌^◌, ◌++◌, ◌∷◌, [], ℕ, OnOk, get_or, length};
+ghost use Rattle.std.specs.Prelude.{◌≡◌, ◌<◌, ◌≤◌, ◌+◌, ◌^◌, ◌++◌, ◌∷◌, [], ℕ, IfOk, OnOk, get_or, length};
 ghost use Rattle.fs_base.specs.Bits.{width_of};
 ghost use Rattle.fs_compile.specs.Addresses.{numbers_in, width_in};
 ghost use Rattle.fs_compile.specs.Buckets.{AreRising};
@@ -16,13 +16,14 @@ pub(crate) enum Addresses {
 }
 
 impl Addresses {
-    pub(crate) fn new(alloc: Global, family: Family) -> Addresses
-        ensures none { numbers_in result ≡ [] }
-        ensures width { width_in result ≡ width_of family }
+    /// No addresses, with room for so many.
+    pub(crate) fn with_room(alloc: Global, family: Family, room: usize) -> Result<Addresses, Memory>
+        ensures none { IfOk result (λ addresses. numbers_in addresses ≡ []) }
+        ensures width { IfOk result (λ addresses. width_in addresses ≡ width_of family) }
     {
         match family {
-            Family::V4 => Addresses::V4(Vec::new(alloc)),
-            Family::V6 => Addresses::V6(Vec::new(alloc)),
+            Family::V4 => Ok(Addresses::V4(Vec::with_capacity(alloc, room)?)),
+            Family::V6 => Ok(Addresses::V6(Vec::with_capacity(alloc, room)?)),
         }
     }
 
@@ -48,6 +49,7 @@ impl Addresses {
     }
 
     /// Adds an address, which has the width of the others.
+    #[inline(always)]
     pub(crate) fn push(&mut self, address: u128) -> Result<(), Memory>
         requires { address < 2 ^ width_in self.old }
         ensures ok { OnOk result (numbers_in self.new ≡ numbers_in self.old ++ address ∷ []) }

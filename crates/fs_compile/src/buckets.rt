@@ -1,13 +1,13 @@
 //! The destinations of a family's rules, in order.
 
-ghost use Rattle.std.specs.Prelude.{◌≡◌, ◌<◌, ◌≤◌, ◌+◌, ◌^◌, ℕ, IfOk, IsFalse, IsTrue, List, None, Option, get_or, length};
+ghost use Rattle.std.specs.Prelude.{◌≡◌, ◌<◌, ◌≤◌, ◌+◌, ◌^◌, ℕ, IfOk, IfSome, IsFalse, IsTrue, List, None, OnOk, Option, Some, get_or, length};
 ghost use Rattle.std.specs.declared.cmp.Ordering.TheVariants.{Less, Equal, Greater};
-ghost use Rattle.std.specs.List.{AllByRecursion};
+ghost use Rattle.std.specs.List.{AllByRecursion, splice};
 ghost use Rattle.fs_base.specs.Bits.{width_of};
 ghost use Rattle.fs_rules.specs.Lent.{all_admitted};
 ghost use Rattle.fs_compile.specs.Addresses.{nodes_in, numbers_in};
 ghost use Rattle.fs_compile.specs.Index.{AreHoused, IsOfFamily, span_at, spans_of};
-ghost use Rattle.fs_compile.specs.Mending.{AreAll, AreNarrow, AreProper, IsLeft, IsPassed, Mends, bucket_span, span_cmp};
+ghost use Rattle.fs_compile.specs.Mending.{AreAll, AreNarrow, AreProper, AreTo, IsHolder, IsLeft, IsPassed, Mends, bucket_span, span_cmp};
 ghost use Rattle.fs_compile.specs.Runs.{AreNesting, RunsOf};
 ghost use Rattle.fs_compile.specs.Search.{AreSound};
 
@@ -19,7 +19,8 @@ use fs_rules::LentRule;
 use std::alloc::Global;
 
 /// The buckets of a family's rules: the runs of rules that have one destination. Buckets are in the order of their
-/// destinations, so that of nested ones the longer stands first and last addresses rise.
+/// destinations, so that of nested ones the longer stands first and last addresses rise. One whose rules all went may
+/// stay behind.
 #[derive(Drop)]
 pub(crate) struct Buckets {
     /// The last address of each bucket.
@@ -53,6 +54,58 @@ impl Buckets {
             self.nodes.at(from).start as usize,
             self.nodes.at(to).start as usize,
         )
+    }
+
+    /// The bucket of these addresses, if its rules are those from one number on before the other. None also where most
+    /// buckets have no rule any more, so that it's time to make them anew.
+    pub(crate) fn holder(&self, first: u128, last: u128, from: usize, to: usize) -> Option<usize>
+        requires sound { (count : ℕ) × AreSound self.now count }
+        requires proper { AreProper self.now }
+        ensures { IfSome result (λ bucket. IsHolder self.now bucket (first, last) from to) }
+    {
+        let bucket = self.passed(first, last, false);
+        if bucket == self.lasts.len() || self.lasts.len() / 2 > self.homes.len() {
+            return None;
+        }
+        let node = self.nodes.at(bucket);
+        let end = self.nodes.at(bucket + 1).start as usize;
+        let same = node.first == first && self.lasts.at(bucket) == last;
+        (same && node.start as usize == from && end == to).then_some(bucket)
+    }
+
+    /// The buckets with so many rules in a bucket, in the place of those from the number `from` on before `to`.
+    pub(crate) fn resized(
+        self,
+        alloc: Global,
+        bucket: usize,
+        from: usize,
+        to: usize,
+        count: usize,
+    ) -> Result<Buckets, Memory>
+        requires sound { AreSound self (length self.homes.items) }
+        requires whole { length self.homes.items < 2 ^ 32 }
+        requires some { (span : ℕ × ℕ) × IsHolder self bucket span from to }
+        requires fits { from + count + length self.homes.items < 2 ^ 32 + to }
+        ensures sound { IfOk result (λ new.
+            (most : ℕ) → from + count + length self.homes.items ≤ most + to → AreSound new most) }
+        ensures housed { IfOk result (λ new.
+            (span : ℕ × ℕ) (spans news : List (Option (ℕ × ℕ)))
+            → IsHolder self bucket span from to
+            → AreHoused spans self
+            → length self.homes.items ≤ length spans
+            → AreTo (Some span) news
+            → length news ≡ count
+            → AreHoused (splice spans from to news) new) }
+    {
+        let mut homes = self.homes;
+        let mut nodes = self.nodes;
+        put_between(&mut homes, from, to, vec![in alloc; bucket as u32; count]?)?;
+        nodes.shift(bucket + 1, (to - from) as u32, count as u32);
+        Ok(Buckets {
+            lasts: self.lasts,
+            nodes,
+            homes,
+        })
     }
 
     /// How many buckets stand before these addresses, with those that have them or without.
@@ -162,4 +215,18 @@ fn buckets_with(alloc: Global, family: Family, runs: Runs) -> Result<Buckets, Me
         nodes,
         homes: runs.homes,
     })
+}
+
+/// Puts these in the place of the elements from one on before another.
+pub(crate) fn put_between<T: Drop>(
+    items: &mut Vec<T>,
+    from: usize,
+    to: usize,
+    news: Vec<T>,
+) -> Result<(), Memory>
+    requires bounds { (from ≤ to) × (to ≤ length items.old.items) }
+    ensures { OnOk result (items.new.items ≡ splice items.old.items from to news.items) }
+{
+    items.splice(from..to, news)?;
+    Ok(())
 }

@@ -1,6 +1,6 @@
 //! The rules of a family, compiled, and found by the destination of a packet.
 
-ghost use Rattle.std.specs.Prelude.{◌≡◌, ◌≤◌, ◌+◌, ◌-◌, ◌<◌, ◌^◌, ℕ, true, IfOk, IfSome, OnOk, List, is_some, length, unwrap_or};
+ghost use Rattle.std.specs.Prelude.{◌≡◌, ◌≤◌, ◌+◌, ◌-◌, ◌<◌, ◌^◌, ℕ, true, IfOk, IfSome, OnOk, List, is_some, length};
 ghost use Rattle.std.specs.List.{All, AllByRecursion, splice};
 ghost use Rattle.fs_base.specs.declared.prefix.Family.{Family};
 ghost use Rattle.fs_packet.specs.Fields.{Viewed};
@@ -10,13 +10,13 @@ ghost use Rattle.fs_compile.specs.Facts.{AreFacts};
 ghost use Rattle.fs_compile.specs.Filters.{AreFilters, IsFilter};
 ghost use Rattle.fs_compile.specs.declared.fast.Fast.{Fast};
 ghost use Rattle.fs_compile.specs.Index.{AreHoused, IsIndexOf, IsOfFamily, StandForEach, actions_of, spans_of};
-ghost use Rattle.fs_compile.specs.Mending.{AreTo, IsStretch, replaced, target_of};
+ghost use Rattle.fs_compile.specs.Mending.{AreTo, HasStretch, IsStretch, replaced, target_of};
 ghost use Rattle.fs_compile.specs.Matcher.{next_from};
 ghost use Rattle.fs_compile.specs.Reach.{number_of, reaching_behind, reaching_from};
 ghost use Rattle.fs_compile.specs.Runs.{AreNesting};
 ghost use Rattle.fs_compile.specs.Search.{AreSound, Starts, behind_hit, hit_number};
 
-use crate::buckets::{Buckets, buckets_of, mended_buckets};
+use crate::buckets::{Buckets, buckets_of, mended_buckets, put_between};
 use crate::facts::Facts;
 use crate::fast::Fast;
 use crate::filters::{FEW_RULES, Filter, Filters};
@@ -120,8 +120,7 @@ impl Index {
         if list.len() > MOST - (self.rules.len() - (to - from)) {
             return Err(Memory);
         }
-        let buckets = self.mended(alloc, family, destination, from, to, list)?;
-        self.put_stretch(alloc, from, to, list, buckets)
+        self.put_stretch(alloc, family, destination, from, to, list)
     }
 
     /// The numbers from which on and before which the rules of the destination stand, or those without one.
@@ -138,78 +137,38 @@ impl Index {
         }
     }
 
-    /// The buckets with the rules of the list in the place of those of a stretch, if they aren't those that are there.
-    fn mended(
-        &self,
+    /// The rules of the list in the place of those of the destination, or of those without one, which are those from
+    /// the number `from` on before `to`.
+    fn put_stretch(
+        self,
         alloc: Global,
         family: Family,
         destination: Option<Prefix>,
         from: usize,
         to: usize,
         list: &[LentRule<'_>],
-    ) -> Result<Option<Buckets>, Memory>
-        requires sound { AreSound self.now.buckets (length self.now.rules) }
+    ) -> Result<Index, Memory>
         requires each { AllByRecursion (IsOfFamily family) (all_admitted list.now) }
         requires there { AreTo (target_of destination) (spans_of (all_admitted list.now)) }
-        requires bounds { (from ≤ to) × (to ≤ length self.now.rules) }
-        requires fits { from + length list.now + length self.now.rules < 2 ^ 32 + to }
-        requires homes { is_some destination ≡ true → to ≤ length self.now.buckets.homes.items }
-        requires some { (rules : List Listed)
-            × IsIndexOf family rules self.now
-            × IsStretch (spans_of rules) (target_of destination) from to }
-        ensures sound { IfOk result (λ buckets.
-            AreSound
-            (unwrap_or buckets self.now.buckets)
-            (from + length list.now + (length self.now.rules - to))) }
-        ensures housed { IfOk result (λ buckets.
-            (rules : List Listed)
-            → IsIndexOf family rules self.now
-            → IsStretch (spans_of rules) (target_of destination) from to
-            → AreHoused
-            (splice (spans_of rules) from to (spans_of (all_admitted list.now)))
-            (unwrap_or buckets self.now.buckets)) }
-    {
-        let Some(_) = destination else {
-            return Ok(None);
-        };
-        if list.len() == to - from {
-            return Ok(None);
-        }
-        Ok(Some(mended_buckets(alloc, family, &self.buckets, from, to, list)?))
-    }
-
-    /// The rules of the list in the place of those from the number `from` on before `to`, with these buckets or those
-    /// that are there.
-    fn put_stretch(
-        self,
-        alloc: Global,
-        from: usize,
-        to: usize,
-        list: &[LentRule<'_>],
-        buckets: Option<Buckets>,
-    ) -> Result<Index, Memory>
         requires bounds { (from ≤ to) × (to ≤ length self.rules) }
         requires shared { to ≤ length self.actions }
+        requires homes { is_some destination ≡ true → to ≤ length self.buckets.homes.items }
         requires few { from + length list.now + length self.rules < 2 ^ 32 + to }
-        requires sound { AreSound
-            (unwrap_or buckets self.buckets)
-            (from + length list.now + (length self.rules - to)) }
-        ensures stand { IfOk result (λ index.
+        requires some { (rules : List Listed)
+            × IsIndexOf family rules self
+            × IsStretch (spans_of rules) (target_of destination) from to }
+        ensures { IfOk result (λ index.
             (rules : List Listed)
-            → StandForEach rules self.rules
-            → StandForEach (splice rules from to (all_admitted list.now)) index.rules) }
-        ensures actions { IfOk result (λ index.
-            (rules : List Listed)
-            → self.actions ≡ actions_of rules
-            → index.actions ≡ actions_of (splice rules from to (all_admitted list.now))) }
-        ensures buckets { IfOk result (λ index. index.buckets ≡ unwrap_or buckets self.buckets) }
+            → IsIndexOf family rules self
+            → IsStretch (spans_of rules) (target_of destination) from to
+            → IsIndexOf family (splice rules from to (all_admitted list.now)) index) }
     {
         let mut rules = self.rules;
         let mut actions = self.actions;
         put_between(&mut actions, from, to, shared_actions(alloc, list)?)?;
         put_between(&mut rules, from, to, compiled_rules(alloc, list)?)?;
         let filters = mended_filters(alloc, self.filters, &rules, from, to, list.len())?;
-        let buckets = buckets.unwrap_or(self.buckets);
+        let buckets = mended(alloc, family, self.buckets, destination, from, to, list)?;
         Ok(Index {
             buckets,
             rules,
@@ -301,18 +260,43 @@ impl Index {
     }
 }
 
-/// Puts these in the place of the elements from one on before another.
-fn put_between<T: Drop>(
-    items: &mut Vec<T>,
+/// The buckets with the rules of the list in the place of those of the destination, or of those without one, which are
+/// those from the number `from` on before `to`.
+fn mended(
+    alloc: Global,
+    family: Family,
+    old: Buckets,
+    destination: Option<Prefix>,
     from: usize,
     to: usize,
-    news: Vec<T>,
-) -> Result<(), Memory>
-    requires bounds { (from ≤ to) × (to ≤ length items.old.items) }
-    ensures { OnOk result (items.new.items ≡ splice items.old.items from to news.items) }
+    list: &[LentRule<'_>],
+) -> Result<Buckets, Memory>
+    requires sound { AreSound old (length old.homes.items) }
+    requires whole { length old.homes.items < 2 ^ 32 }
+    requires each { AllByRecursion (IsOfFamily family) (all_admitted list.now) }
+    requires there { AreTo (target_of destination) (spans_of (all_admitted list.now)) }
+    requires fits { from + length list.now + length old.homes.items < 2 ^ 32 + to }
+    requires homes { is_some destination ≡ true → to ≤ length old.homes.items }
+    requires some { (rules : List Listed) × HasStretch family rules old (target_of destination) from to }
+    ensures sound { IfOk result (λ new.
+        (rules : List Listed)
+        → HasStretch family rules old (target_of destination) from to
+        → AreSound new (from + length list.now + (length rules - to))) }
+    ensures housed { IfOk result (λ new.
+        (rules : List Listed)
+        → HasStretch family rules old (target_of destination) from to
+        → AreHoused (splice (spans_of rules) from to (spans_of (all_admitted list.now))) new) }
 {
-    items.splice(from..to, news)?;
-    Ok(())
+    let Some(destination) = destination else {
+        return Ok(old);
+    };
+    if list.len() == to - from {
+        return Ok(old);
+    }
+    match old.holder(destination.bits, destination.last(), from, to) {
+        Some(bucket) => old.resized(alloc, bucket, from, to, list.len()),
+        None => mended_buckets(alloc, family, &old, from, to, list),
+    }
 }
 
 /// Compiles each rule.

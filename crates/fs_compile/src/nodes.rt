@@ -1,9 +1,9 @@
 //! The nodes of the destinations of a family's rules.
 
-ghost use Rattle.std.specs.Prelude.{◌≡◌, ◌<◌, ◌^◌, ◌++◌, ◌∷◌, [], OnOk, length};
+ghost use Rattle.std.specs.Prelude.{◌≡◌, ◌<◌, ◌^◌, ◌++◌, ◌∷◌, [], IfOk, OnOk, length};
 ghost use Rattle.fs_base.specs.Bits.{width_of};
 ghost use Rattle.fs_compile.specs.Addresses.{node_width, nodes_in};
-ghost use Rattle.fs_compile.specs.Buckets.{node_at};
+ghost use Rattle.fs_compile.specs.Buckets.{AreAbove, AreShifted, node_at};
 
 use fs_base::{Family, Memory};
 use std::alloc::Global;
@@ -25,13 +25,14 @@ pub(crate) enum Nodes {
 }
 
 impl Nodes {
-    pub(crate) fn new(alloc: Global, family: Family) -> Nodes
-        ensures none { nodes_in result ≡ [] }
-        ensures width { node_width result ≡ width_of family }
+    /// No nodes, with room for so many.
+    pub(crate) fn with_room(alloc: Global, family: Family, room: usize) -> Result<Nodes, Memory>
+        ensures none { IfOk result (λ nodes. nodes_in nodes ≡ []) }
+        ensures width { IfOk result (λ nodes. node_width nodes ≡ width_of family) }
     {
         match family {
-            Family::V4 => Nodes::V4(Vec::new(alloc)),
-            Family::V6 => Nodes::V6(Vec::new(alloc)),
+            Family::V4 => Ok(Nodes::V4(Vec::with_capacity(alloc, room)?)),
+            Family::V6 => Ok(Nodes::V6(Vec::with_capacity(alloc, room)?)),
         }
     }
 
@@ -47,6 +48,7 @@ impl Nodes {
     }
 
     /// Adds a node, whose address has the width of the others.
+    #[inline(always)]
     pub(crate) fn push(&mut self, node: Node<u128>) -> Result<(), Memory>
         requires { node.first < 2 ^ node_width self.old }
         ensures ok { OnOk result (nodes_in self.new ≡ nodes_in self.old ++ node ∷ []) }
@@ -61,6 +63,26 @@ impl Nodes {
             Nodes::V6(items) => items.push(node)?,
         }
         Ok(())
+    }
+
+    /// Moves the starts of the nodes from a place on by so many numbers down and so many up.
+    pub(crate) fn shift(&mut self, from: usize, down: u32, up: u32)
+        requires { AreAbove from down up (nodes_in self.old) }
+        ensures { AreShifted from down up (nodes_in self.old) (nodes_in self.new) }
+    {
+        match self {
+            Nodes::V4(items) => shift_starts(items, from, down, up),
+            Nodes::V6(items) => shift_starts(items, from, down, up),
+        }
+    }
+}
+
+fn shift_starts<K: Copy>(nodes: &mut [Node<K>], from: usize, down: u32, up: u32)
+    requires { AreAbove from down up nodes.old }
+    ensures { AreShifted from down up nodes.old nodes.new }
+{
+    for place in from..nodes.len() {
+        nodes[place].start = nodes[place].start - down + up;
     }
 }
 

@@ -27,17 +27,18 @@ pub(crate) struct Runs {
 }
 
 impl Runs {
-    fn new(alloc: Global, family: Family) -> Runs
-        ensures runs { (spans : List (Option (ℕ × ℕ))) → RunsOf spans result }
-        ensures none { result.homes.items ≡ [] }
-        ensures width { width_in result.lasts ≡ width_of family }
+    /// No runs, with room for those of so many rules.
+    fn with_room(alloc: Global, family: Family, room: usize) -> Result<Runs, Memory>
+        ensures runs { IfOk result (λ runs. (spans : List (Option (ℕ × ℕ))) → RunsOf spans runs) }
+        ensures none { IfOk result (λ runs. runs.homes.items ≡ []) }
+        ensures width { IfOk result (λ runs. width_in runs.lasts ≡ width_of family) }
     {
-        Runs {
-            firsts: Vec::new(alloc),
-            lasts: Addresses::new(alloc, family),
-            starts: Vec::new(alloc),
-            homes: Vec::new(alloc),
-        }
+        Ok(Runs {
+            firsts: Vec::with_capacity(alloc, room)?,
+            lasts: Addresses::with_room(alloc, family, room)?,
+            starts: Vec::with_capacity(alloc, room)?,
+            homes: Vec::with_capacity(alloc, room)?,
+        })
     }
 }
 
@@ -50,7 +51,7 @@ pub(crate) fn runs_of(alloc: Global, family: Family, list: &[LentRule<'_>]) -> R
     ensures rest { IfOk result (λ runs.
         get_or (spans_of (all_admitted list.now)) (length runs.homes.items) None ≡ None) }
 {
-    let mut runs = Runs::new(alloc, family);
+    let mut runs = Runs::with_room(alloc, family, list.len())?;
     add_each(&mut runs, list)?;
     Ok(runs)
 }
@@ -79,7 +80,8 @@ pub(crate) fn mended_runs(
     ensures count { IfOk result (λ runs.
         length runs.homes.items + to ≡ from + length list.now + length old.now.homes.items) }
 {
-    let mut runs = Runs::new(alloc, family);
+    let room = old.homes.len() - (to - from) + list.len();
+    let mut runs = Runs::with_room(alloc, family, room)?;
     keep_runs(&mut runs, old, 0, from)?;
     add_each(&mut runs, list)?;
     keep_runs(&mut runs, old, to, old.homes.len())?;
@@ -139,6 +141,7 @@ fn add_each(runs: &mut Runs, list: &[LentRule<'_>]) -> Result<(), Memory>
 }
 
 /// Adds a rule with a destination of these addresses.
+#[inline(always)]
 fn add(runs: &mut Runs, first: u128, last: u128) -> Result<(), Memory>
     requires sizes { length runs.old.firsts.items ≡ length (numbers_in runs.old.lasts) }
     requires few { length (numbers_in runs.old.lasts) ≤ length runs.old.homes.items }
@@ -159,6 +162,7 @@ fn add(runs: &mut Runs, first: u128, last: u128) -> Result<(), Memory>
 }
 
 /// Whether the last run has these addresses.
+#[inline(always)]
 fn ends_with(runs: &Runs, first: u128, last: u128) -> bool
     requires sizes { length runs.now.firsts.items ≡ length (numbers_in runs.now.lasts) }
     ensures { IsTrue result → EndsWith runs.now first last }
@@ -168,6 +172,7 @@ fn ends_with(runs: &Runs, first: u128, last: u128) -> bool
 }
 
 /// Adds a rule to the last run.
+#[inline(always)]
 fn join(runs: &mut Runs) -> Result<(), Memory>
     requires some { 0 < length (numbers_in runs.old.lasts) }
     requires few { length (numbers_in runs.old.lasts) ≤ length runs.old.homes.items }
@@ -181,6 +186,7 @@ fn join(runs: &mut Runs) -> Result<(), Memory>
 }
 
 /// Adds a rule with a run of its own.
+#[inline(always)]
 fn open(runs: &mut Runs, first: u128, last: u128) -> Result<(), Memory>
     requires few { length (numbers_in runs.old.lasts) ≤ length runs.old.homes.items }
     requires fits { length runs.old.homes.items + 1 < 2 ^ 32 }
@@ -259,7 +265,7 @@ pub(crate) fn nodes_of(
         (length runs.now.homes.items)
         (nodes_in nodes)) }
 {
-    let mut nodes = Nodes::new(alloc, family);
+    let mut nodes = Nodes::with_room(alloc, family, parents.len() + 1)?;
     for run in 0..parents.len() {
         nodes.push(Node {
             first: runs.firsts[run],

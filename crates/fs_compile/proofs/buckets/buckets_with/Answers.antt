@@ -1,4 +1,4 @@
-use Rattle.std.proofs.Common.{◌≡◌, ℕ, Option, None, List, get_or, length, refl, subst, arith}
+use Rattle.std.proofs.Common.{ℕ, List, get_or, length, refl, subst, arith}
 use Rattle.fs_compile.specs.Addresses.{numbers_in, nodes_in}
 use Rattle.fs_compile.specs.Runs.{AreNodes, ArePlain}
 use Rattle.fs_compile.proofs.Indexing.{housed_from}

@@ -1,7 +1,5 @@
-use Rattle.std.proofs.Common.{◌≡◌, ℕ, ◌+◌, ◌≤◌, IfOk, Option, None, List, length, get_or, arith}
+use Rattle.std.proofs.Common.{arith}
 use Rattle.std.proofs.lemmas.Result.{IfOk-weaker}
-use Rattle.fs_compile.specs.Runs.{AreNesting}
-use Rattle.fs_compile.specs.Search.{AreSound}
 use Rattle.fs_compile.proofs.buckets.mended_buckets.Goals as goal
 
 pub buckets_with-requires-clause-some : goal.buckets_with-requires-clause-some

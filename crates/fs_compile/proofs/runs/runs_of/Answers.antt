@@ -1,4 +1,4 @@
-use Rattle.std.proofs.Common.{◌≡◌, ℕ, ◌+◌, Option, None, List, [], length, get_or, sym, ap, subst, arith}
+use Rattle.std.proofs.Common.{◌≡◌, ℕ, ◌+◌, Option, None, List, length, get_or, sym, ap, subst, arith}
 use Rattle.fs_rules.specs.Lent.{all_admitted}
 use Rattle.fs_compile.specs.Index.{spans_of}
 use Rattle.fs_compile.specs.Mending.{Adds, AreNarrow}
@@ -11,12 +11,12 @@ adds_all spans n none k below = let same : n + k ≡ k = omega (arith, none) in 
 pub add_each-requires-clause-some : goal.add_each-requires-clause-some
 add_each-requires-clause-some c = (
   spans_of (all_admitted c.args.list.now),
-  c.new-runs.ensures.runs (spans_of (all_admitted c.args.list.now)),
-  adds_all (spans_of (all_admitted c.args.list.now)) (length c.new-runs.result.homes.items) (ap (λ (xs : List ℕ). length xs) c.new-runs.ensures.none),
-  subst (λ (w : ℕ). AreNarrow w (spans_of (all_admitted c.args.list.now))) (sym c.new-runs.ensures.width) c.requires.narrow,
+  c.in_ok-runs.ensures.runs (spans_of (all_admitted c.args.list.now)),
+  adds_all (spans_of (all_admitted c.args.list.now)) (length c.in_ok-runs.runs.homes.items) (ap (λ (xs : List ℕ). length xs) c.in_ok-runs.ensures.none),
+  subst (λ (w : ℕ). AreNarrow w (spans_of (all_admitted c.args.list.now))) (sym c.in_ok-runs.ensures.width) c.requires.narrow,
 )
 
 pub returns-clause-runs : goal.returns-clause-runs
 returns-clause-runs c =
-    c.in_ok-add_each.ensures.runs (spans_of (all_admitted c.args.list.now)) (c.new-runs.ensures.runs (spans_of (all_admitted c.args.list.now)))
-    (adds_all (spans_of (all_admitted c.args.list.now)) (length c.new-runs.result.homes.items) (ap (λ (xs : List ℕ). length xs) c.new-runs.ensures.none))
+    c.in_ok-add_each.ensures.runs (spans_of (all_admitted c.args.list.now)) (c.in_ok-runs.ensures.runs (spans_of (all_admitted c.args.list.now)))
+    (adds_all (spans_of (all_admitted c.args.list.now)) (length c.in_ok-runs.runs.homes.items) (ap (λ (xs : List ℕ). length xs) c.in_ok-runs.ensures.none))

@@ -1,8 +1,6 @@
-use Rattle.std.proofs.Common.{◌≡◌, ℕ, ◌≤◌, ◌<◌, Bool, true, false, ap, arith}
+use Rattle.std.proofs.Common.{ℕ, ap, arith}
 use Rattle.fs_compile.specs.declared.nodes.Node.{Node}
-use Rattle.fs_compile.specs.Addresses.{nodes_in}
-use Rattle.fs_compile.specs.Buckets.{node_at}
-use Rattle.fs_compile.proofs.Stretching.{Passes, stretch_at, stretch_ordered}
+use Rattle.fs_compile.proofs.Stretching.{stretch_at, stretch_ordered}
 use Rattle.fs_compile.proofs.buckets.Buckets.stretch.Goals as goal
 
 pub returns-clause-ordered : goal.returns-clause-ordered

@@ -1,11 +1,13 @@
-use Rattle.std.proofs.Common.{◌≡◌, ℕ, ◌+◌, ◌-◌, ◌^◌, ◌<◌, ◌≤◌, List, length, unwrap_or, sym, ap, ap₂, subst, ◌∙◌, arith}
+use Rattle.std.proofs.Common.{◌≡◌, ℕ, ◌+◌, ◌-◌, ◌^◌, ◌<◌, ◌≤◌, List, length, sym, ap, ap₂, subst, ◌∙◌, arith}
 use Rattle.std.specs.List.{splice}
 use Rattle.fs_rules.specs.Lent.{all_admitted}
-use Rattle.fs_compile.specs.declared.buckets.Buckets.{Buckets}
 use Rattle.fs_compile.specs.declared.fast.Fast.{Fast}
 use Rattle.fs_compile.specs.Filters.{AreFilters}
 use Rattle.fs_compile.specs.Index.{Indexed, StandForEach}
+use Rattle.fs_compile.specs.Mending.{target_of}
 use Rattle.fs_compile.specs.Search.{AreSound}
+use Rattle.fs_compile.proofs.Indexing.{stand_size}
+use Rattle.fs_compile.proofs.Mending.{has_stretch, index_spliced, sound_more}
 use Rattle.fs_compile.proofs.Splicing.{map_spliced, spliced_size, stand_spliced}
 use Rattle.fs_compile.proofs.index.Index.put_stretch.Goals as goal
 
@@ -23,8 +25,27 @@ mended_filters-requires-clause-was c = (
   c.deref.ensures.value ∙ c.in_ok-put_between-2.ensures,
 )
 
+pub mended-requires-clause-sound : goal.mended-requires-clause-sound
+mended-requires-clause-sound c = sound_more c.self.inside.buckets (length c.self.inside.rules.items) _ c.self.invariant.0 (omega arith)
+
+pub mended-requires-clause-whole : goal.mended-requires-clause-whole
+mended-requires-clause-whole c = let few = c.self.invariant.0.few in let most = c.self.invariant.1 in omega (arith, few, most)
+
+pub mended-requires-clause-fits : goal.mended-requires-clause-fits
+mended-requires-clause-fits c = let few = c.self.invariant.0.few in let same = ap (λ (x : Indexed). length x.rules) c.self.view_is in omega (arith, few, same, c.requires.few)
+
+pub mended-requires-clause-homes : goal.mended-requires-clause-homes
+mended-requires-clause-homes c = λ some. subst (λ (x : Indexed). c.args.to ≤ length x.buckets.homes.items) (sym c.self.view_is) (c.requires.homes some)
+
+pub mended-requires-clause-some : goal.mended-requires-clause-some
+mended-requires-clause-some c = (
+  c.requires.some.0,
+  has_stretch c.args.family c.requires.some.0 (record { buckets = c.self.inside.buckets; rules = c.self.inside.rules.items; actions = c.self.inside.actions.items }) c.args.self
+      (target_of c.args.destination) c.args.from c.args.to c.self.view_is c.self.invariant.0.few c.requires.some.1 c.requires.some.2,
+)
+
 pub invariant_of-result : goal.invariant_of-result
-invariant_of-result c = (subst (AreSound c.unwrap_or-buckets.result) (sym size) sound, few, subst (λ (rules : List Fast). AreFilters rules c.in_ok-filters.filters) c.deref.ensures.value c.in_ok-filters.ensures) where
+invariant_of-result c = (subst (AreSound c.in_ok-buckets.buckets) (sym (size ∙ same)) sound, few, subst (λ (rules : List Fast). AreFilters rules c.in_ok-filters.filters) c.deref.ensures.value c.in_ok-filters.ensures) where
   old : length c.self.inside.rules.items ≡ length c.args.self.rules
   old = ap (λ (x : Indexed). length x.rules) c.self.view_is
 
@@ -35,18 +56,22 @@ invariant_of-result c = (subst (AreSound c.unwrap_or-buckets.result) (sym size) 
   few : length c.put_between-2.new.items.items < 2 ^ 32
   few = omega (arith, size, old, c.requires.few, c.requires.bounds.1)
 
-  sound : AreSound c.unwrap_or-buckets.result (c.args.from + length c.args.list.now + (length c.self.inside.rules.items - c.args.to))
-  sound = subst (λ (n : ℕ). AreSound c.unwrap_or-buckets.result (c.args.from + length c.args.list.now + (n - c.args.to))) (sym old)
-      (subst (λ (b : Buckets). AreSound b (c.args.from + length c.args.list.now + (length c.args.self.rules - c.args.to)))
-      (sym (c.unwrap_or-buckets.ensures ∙ ap (λ (x : Indexed). unwrap_or c.args.buckets x.buckets) c.self.view_is)) c.requires.sound)
+  same : c.args.from + length c.args.list.now + (length c.self.inside.rules.items - c.args.to) ≡ c.args.from + length c.args.list.now + (length c.requires.some.0 - c.args.to)
+  same = ap (λ n. c.args.from + length c.args.list.now + (n - c.args.to)) (old ∙ stand_size c.requires.some.0 c.args.self.rules c.requires.some.1.stands)
 
-pub returns-clause-stand : goal.returns-clause-stand
-returns-clause-stand c = λ rules h.
-    subst (StandForEach (splice rules c.args.from c.args.to (all_admitted c.args.list.now))) (sym c.in_ok-put_between-2.ensures)
+  sound : AreSound c.in_ok-buckets.buckets (c.args.from + length c.args.list.now + (length c.requires.some.0 - c.args.to))
+  sound = c.in_ok-buckets.ensures.sound c.requires.some.0
+      (has_stretch c.args.family c.requires.some.0 (record { buckets = c.self.inside.buckets; rules = c.self.inside.rules.items; actions = c.self.inside.actions.items }) c.args.self
+      (target_of c.args.destination) c.args.from c.args.to c.self.view_is c.self.invariant.0.few c.requires.some.1 c.requires.some.2)
+
+pub returns : goal.returns
+returns c = λ rules h s.
+    index_spliced c.args.family rules (all_admitted c.args.list.now) c.args.from c.args.to (record { buckets = c.in_ok-buckets.buckets; rules = c.put_between-2.new.items.items; actions = c.put_between.new.items.items }) h.each c.requires.each
+    (subst (StandForEach (splice rules c.args.from c.args.to (all_admitted c.args.list.now))) (sym c.in_ok-put_between-2.ensures)
     (stand_spliced rules (all_admitted c.args.list.now) c.self.inside.rules.items c.in_ok-compiled_rules.field-0.items c.args.from c.args.to
-    (subst (λ (x : Indexed). StandForEach rules x.rules) (sym c.self.view_is) h) c.in_ok-compiled_rules.ensures.stand)
-
-pub returns-clause-actions : goal.returns-clause-actions
-returns-clause-actions c = λ rules e.
-    c.in_ok-put_between.ensures ∙ ap₂ (λ xs ys. splice xs c.args.from c.args.to ys) (ap (λ (x : Indexed). x.actions) c.self.view_is ∙ e) c.in_ok-shared_actions.ensures
-    ∙ sym (map_spliced (λ r. r.actions) rules (all_admitted c.args.list.now) c.args.from c.args.to)
+    (subst (λ (x : Indexed). StandForEach rules x.rules) (sym c.self.view_is) h.stands) c.in_ok-compiled_rules.ensures.stand))
+    (c.in_ok-put_between.ensures ∙ ap₂ (λ xs ys. splice xs c.args.from c.args.to ys) (ap (λ (x : Indexed). x.actions) c.self.view_is ∙ h.actions_are) c.in_ok-shared_actions.ensures
+    ∙ sym (map_spliced (λ r. r.actions) rules (all_admitted c.args.list.now) c.args.from c.args.to))
+    (c.in_ok-buckets.ensures.housed rules
+    (has_stretch c.args.family rules (record { buckets = c.self.inside.buckets; rules = c.self.inside.rules.items; actions = c.self.inside.actions.items }) c.args.self (target_of c.args.destination) c.args.from c.args.to c.self.view_is
+    c.self.invariant.0.few h s))

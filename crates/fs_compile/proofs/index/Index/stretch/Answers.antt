@@ -1,7 +1,5 @@
-use Rattle.std.proofs.Common.{◌≡◌, ℕ, ◌≤◌, Option, Some, None, List, length, sym, ap, subst, ◌∙◌, arith}
-use Rattle.fs_base.specs.declared.prefix.Family.{Family}
-use Rattle.fs_rules.specs.Lent.{Listed}
-use Rattle.fs_compile.specs.Index.{Indexed, IsIndexOf, spans_of}
+use Rattle.std.proofs.Common.{◌≡◌, ℕ, Option, Some, None, length, sym, ap, subst, ◌∙◌, arith}
+use Rattle.fs_compile.specs.Index.{IsIndexOf, spans_of}
 use Rattle.fs_compile.specs.Mending.{IsStretch, target_of}
 use Rattle.fs_compile.proofs.Indexing.{stand_size}
 use Rattle.fs_compile.proofs.Mending.{rules_size}
