@@ -5,10 +5,10 @@
     bench/moments.py PROGRAM --day [--beside PROGRAM] [--packets N] [--runs N]
 
 One peer announces a /24 and one rule for each of many destinations. Then packets come, each at its own moment, with
-items between them at even distances. Reported are packets per second in three cases: without items; with a unicast
-route elsewhere that comes and goes, which changes no mark, so that the rules stay; and with a rule that comes and goes,
-so that they are taken and compiled anew each time. Of the third the time of one change is reported, over several
-numbers of rules.
+items between them at even distances. Reported are packets per second without items, and with a unicast route elsewhere
+that comes and goes, which changes no validity, so that the rules stay. Then the processor time of one change, over
+several numbers of rules: of a rule that comes and goes, of one at another destination each time, and of a unicast route
+that comes and goes and makes a rule valid and not. These destinations stand before all others.
 
 With --day one tape holds 1,000 rules and 100,000 changes, as of a day: a rule drawn from all goes, or comes back, and at
 each hundredth its unicast route does. Told are the seconds and the peak of memory of `enforce` over it, of both programs
@@ -18,6 +18,7 @@ in turn, and whether they write the same lines.
 import argparse
 import hashlib
 import pathlib
+import resource
 import struct
 import subprocess
 import sys
@@ -88,15 +89,33 @@ def churn(packets, items):
     )
 
 
-def changes(packets, items, rules):
-    """A rule for a destination that has a route and no rule else."""
-    number = rules
-    parts = [record(2, 0, route_comes(destination(number)))]
-    parts += [
-        record(2, moment, rule_comes(number) if turn % 2 == 0 else rule_goes(number))
-        for turn, moment in enumerate(moments(packets, items))
-    ]
-    return b"".join(parts)
+BEFORE = bytes([8, 9])      # 9.0.0.0/8, which the peer routes, and which has the destinations of what changes
+
+
+def before(number):
+    """The /24 of that number under 9.0.0.0/8."""
+    return bytes([24, 9, number // 256 % 256, number % 256])
+
+
+def rule_at(place):
+    return update(b"", attribute(14, bytes.fromhex("00018500000501") + place) + PATH + DROP, b"")
+
+
+def no_rule_at(place):
+    return update(b"", attribute(15, bytes.fromhex("0001850501") + place), b"")
+
+
+CHANGES = {
+    "of a rule": lambda turn: no_rule_at(before(0)) if turn % 2 else rule_at(before(0)),
+    "of a rule elsewhere": lambda turn: no_rule_at(before(turn // 2)) if turn % 2 else rule_at(before(turn // 2)),
+    "of a route": lambda turn: route_comes(BEFORE) if turn % 2 else route_goes(BEFORE),
+}
+
+
+def changes(packets, items, told):
+    """A rule under 9.0.0.0/8, and items that change what holds there."""
+    parts = [record(2, 0, route_comes(BEFORE) + rule_at(before(65535)))]
+    return b"".join(parts + [record(2, moment, told(turn)) for turn, moment in enumerate(moments(packets, items))])
 
 
 def day(packets, items, rules):
@@ -152,17 +171,18 @@ def capture(path, packets, rules):
 
 
 def seconds_of(program, folder, tape, runs):
+    """The least seconds of the clock and of the processor of so many runs."""
     (folder / "tape").write_bytes(tape)
     words = [str(folder / name) for name in ("config", "tape", "capture")]
-    best = None
+    times = []
     for _ in range(runs):
-        begin = time.monotonic()
+        begin, used = time.monotonic(), resource.getrusage(resource.RUSAGE_CHILDREN)
         done = subprocess.run([program, "enforce", *words], stdout=subprocess.DEVNULL)
-        took = time.monotonic() - begin
+        took, uses = time.monotonic() - begin, resource.getrusage(resource.RUSAGE_CHILDREN)
         if done.returncode != 0:
             sys.exit(f"status {done.returncode}")
-        best = took if best is None else min(best, took)
-    return best
+        times.append((took, uses.ru_utime + uses.ru_stime - used.ru_utime - used.ru_stime))
+    return [min(each) for each in zip(*times)]
 
 
 def main():
@@ -183,14 +203,15 @@ def main():
         for rules in [int(word) for word in asked.rules.split(",")]:
             capture(folder / "capture", asked.packets, rules)
             front = start(rules)
-            alone = seconds_of(asked.program, folder, front, asked.runs)
-            churned = seconds_of(asked.program, folder, front + churn(asked.packets, asked.items), asked.runs)
+            alone, _ = seconds_of(asked.program, folder, front, asked.runs)
+            churned, _ = seconds_of(asked.program, folder, front + churn(asked.packets, asked.items), asked.runs)
             print(f"{rules} rules: {asked.packets / alone:.0f} packets a second without items,", end=" ")
-            print(f"{asked.packets / churned:.0f} with {asked.items} items that change no mark,", end=" ", flush=True)
+            print(f"{asked.packets / churned:.0f} with {asked.items} items that change no validity", flush=True)
             items = min(asked.items, max(20, 20000000 // max(rules, 1) // 10))
-            changed = seconds_of(asked.program, folder, front + changes(asked.packets, items, rules), asked.runs)
-            print(f"{asked.packets / changed:.0f} with {items} changes of a rule", end=": ")
-            print(f"{(changed - alone) / items * 1000:.3f} ms a change", flush=True)
+            for name, told in CHANGES.items():
+                none = seconds_of(asked.program, folder, front + changes(asked.packets, 0, told), asked.runs)
+                all_of = seconds_of(asked.program, folder, front + changes(asked.packets, items, told), asked.runs)
+                print(f"    {items} changes {name}: {(all_of[1] - none[1]) / items * 1e6:.1f} us each", flush=True)
 
 
 if __name__ == "__main__":
