@@ -207,7 +207,7 @@ def main():
             churned, _ = seconds_of(asked.program, folder, front + churn(asked.packets, asked.items), asked.runs)
             print(f"{rules} rules: {asked.packets / alone:.0f} packets a second without items,", end=" ")
             print(f"{asked.packets / churned:.0f} with {asked.items} items that change no validity", flush=True)
-            items = min(asked.items, max(20, 20000000 // max(rules, 1) // 10))
+            items = min(asked.items, max(200, 20000000 // max(rules, 1) // 10))
             for name, told in CHANGES.items():
                 none = seconds_of(asked.program, folder, front + changes(asked.packets, 0, told), asked.runs)
                 all_of = seconds_of(asked.program, folder, front + changes(asked.packets, items, told), asked.runs)
