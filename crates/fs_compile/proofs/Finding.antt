@@ -19,16 +19,8 @@ parted xs address rising i j d le below low = by (cases_order i j) where
     no : i ≤ j → j < i → ⊥
     no a b = omega (arith, a, b)
 
--- Where a search among addresses that rise has come to: those before one place are below the address, and those from
--- the other on are not.
-pub record Between (xs : List ℕ) (address from to : ℕ) : Type 0 where
-  pub ordered : from ≤ to
-  pub within : to ≤ length xs
-  pub before : (b : ℕ) → b < from → get_or xs b 0 < address
-  pub behind : (b : ℕ) → to ≤ b → b < length xs → address ≤ get_or xs b 0
-
 -- no later one is less
-rises : (xs : List ℕ) (i j : ℕ) → AreRising xs → i ≤ j → j < length xs → get_or xs i 0 ≤ get_or xs j 0
+pub rises : (xs : List ℕ) (i j : ℕ) → AreRising xs → i ≤ j → j < length xs → get_or xs i 0 ≤ get_or xs j 0
 rises xs i j rising le low = by (cases_order i j) where
   by : (i ≡ j) ⊎ ((i < j) ⊎ (j < i)) → get_or xs i 0 ≤ get_or xs j 0
   by (inl same) = subst (λ k. get_or xs i 0 ≤ get_or xs k 0) same (omega arith)

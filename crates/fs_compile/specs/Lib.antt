@@ -7,6 +7,7 @@ pub mod Gaps
 pub mod Groups
 pub mod Tests
 pub mod Addresses
+pub mod Between
 pub mod Buckets
 pub mod Search
 pub mod Columns

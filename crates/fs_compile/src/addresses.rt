@@ -1,11 +1,15 @@
 //! Lists of addresses, in the width of their family.
 
-ghost use Rattle.std.specs.Prelude.{◌≡◌, ◌<◌, ◌≤◌, ◌+◌, ◌^◌, ◌++◌, ◌∷◌, [], ℕ, IfOk, OnOk, get_or, length};
+ghost use Rattle.std.specs.Prelude.{◌≡◌, ◌<◌, ◌≤◌, ◌+◌, ◌^◌, ◌++◌, ◌∷◌, [], ℕ, IsTrue, IfOk, OnOk, get_or, length};
 ghost use Rattle.fs_base.specs.Bits.{width_of};
 ghost use Rattle.fs_compile.specs.Addresses.{numbers_in, width_in};
+ghost use Rattle.fs_compile.specs.Between.{IsBetween};
 ghost use Rattle.fs_compile.specs.Buckets.{AreRising};
+ghost use Rattle.fs_compile.specs.Reach.{number_of};
 
-use fs_base::{Family, Memory};
+use crate::facts::top;
+use crate::marks::Marks;
+use fs_base::{Address, Family, Memory};
 use std::alloc::Global;
 
 /// Addresses of a family, in host order.
@@ -62,6 +66,17 @@ impl Addresses {
         Ok(())
     }
 
+    /// The first 64 bits of one of IPv6, all of one of IPv4.
+    #[inline(always)]
+    pub(crate) fn front(&self, place: usize) -> u64
+        requires { place < length (numbers_in self.now) }
+    {
+        match self {
+            Addresses::V4(items) => items[place].into(),
+            Addresses::V6(items) => top(items[place]),
+        }
+    }
+
     /// The place of the first that isn't below the address, or how many there are.
     pub(crate) fn find(&self, address: u128) -> usize
         requires { AreRising (numbers_in self.now) }
@@ -74,8 +89,77 @@ impl Addresses {
     {
         match self {
             Addresses::V4(items) => find_narrow(items, address),
-            Addresses::V6(items) => find_wide(items, address),
+            Addresses::V6(items) => find_wide(items, 0, items.len(), address),
         }
+    }
+
+    /// The same, where these marks are likely to tell between which places that is.
+    #[inline(always)]
+    pub(crate) fn find_marked(&self, marks: &Marks, address: Address) -> usize
+        requires { AreRising (numbers_in self.now) }
+        ensures within { result ≤ length (numbers_in self.now) }
+        ensures below { (b : ℕ) → b < result → get_or (numbers_in self.now) b 0 < number_of address }
+        ensures from { (b : ℕ)
+            → result ≤ b
+            → b < length (numbers_in self.now)
+            → number_of address ≤ get_or (numbers_in self.now) b 0 }
+    {
+        match (self, address) {
+            (Addresses::V4(items), Address::V4(address)) => {
+                let (from, to) = self.around(marks, address.into(), address.into());
+                find_in_width(items, from, to, address)
+            }
+            (Addresses::V6(items), Address::V6(address)) => {
+                let (from, to) = self.around(marks, top(address), address);
+                find_wide(items, from, to, address)
+            }
+            (Addresses::V4(_), Address::V6(address)) => self.find(address),
+            (Addresses::V6(_), Address::V4(address)) => self.find(address.into()),
+        }
+    }
+
+    /// Between which places the first stands that isn't below the address, of these first bits: those of the marks, where
+    /// they are right, or all.
+    #[inline(always)]
+    fn around(&self, marks: &Marks, front: u64, address: u128) -> (usize, usize)
+        requires { AreRising (numbers_in self.now) }
+        ensures { IsBetween (numbers_in self.now) address result.0 result.1 }
+    {
+        let (from, to) = marks.guess(front, self.len());
+        if from <= to
+            && to <= self.len()
+            && self.are_below(from, address)
+            && self.are_from(to, address)
+        {
+            (from, to)
+        } else {
+            (0, self.len())
+        }
+    }
+
+    /// Whether all before the place are below the address.
+    #[inline(always)]
+    #[tactic(auto, using(crate::proofs::Finding::rises))]
+    fn are_below(&self, place: usize, address: u128) -> bool
+        requires rising { AreRising (numbers_in self.now) }
+        requires within { place ≤ length (numbers_in self.now) }
+        ensures { IsTrue result → (b : ℕ) → b < place → get_or (numbers_in self.now) b 0 < address }
+    {
+        place == 0 || self.at(place - 1) < address
+    }
+
+    /// Whether none from the place on is below the address.
+    #[inline(always)]
+    #[tactic(auto, using(crate::proofs::Finding::rises))]
+    fn are_from(&self, place: usize, address: u128) -> bool
+        requires { AreRising (numbers_in self.now) }
+        ensures { IsTrue result
+            → (b : ℕ)
+            → place ≤ b
+            → b < length (numbers_in self.now)
+            → address ≤ get_or (numbers_in self.now) b 0 }
+    {
+        place >= self.len() || address <= self.at(place)
     }
 }
 
@@ -86,7 +170,7 @@ fn find_narrow(items: &[u32], address: u128) -> usize
     ensures from { (b : ℕ) → result ≤ b → b < length items.now → address ≤ get_or items.now b 0 }
 {
     match u32::try_from(address) {
-        Ok(address) => find_in_width(items, address),
+        Ok(address) => find_in_width(items, 0, items.len(), address),
         Err(_) => find_widened(items, address),
     }
 }
@@ -94,41 +178,40 @@ fn find_narrow(items: &[u32], address: u128) -> usize
 /// Among so many addresses the place is counted: a jump that nobody can foretell costs more than they do.
 const FEW: usize = 16;
 
-/// The place among addresses of IPv4 of one of them: it is compared in its own 32 bits.
-fn find_in_width(items: &[u32], address: u32) -> usize
-    requires { AreRising items.now }
-    ensures within { result ≤ length items.now }
-    ensures below { (b : ℕ) → b < result → get_or items.now b 0 < address }
-    ensures from { (b : ℕ) → result ≤ b → b < length items.now → address ≤ get_or items.now b 0 }
-{
-    let mut from = 0;
-    let mut to = items.len();
-    'halves: while to - from > FEW {
-        let middle = from + (to - from) / 2;
-        if items[middle] < address {
-            from = middle + 1;
-        } else {
-            to = middle;
-        }
-    }
-    count_below(items, from, to, address)
-}
-
-/// The place of the first that isn't below the address, which lies from one place on up to another.
-fn count_below(items: &[u32], from: usize, to: usize, address: u32) -> usize
+/// The place among addresses of IPv4 of one of them, which lies from one place on up to another. It is compared in its
+/// own 32 bits, and halves without a jump.
+fn find_in_width(items: &[u32], from: usize, to: usize, address: u32) -> usize
     requires rising { AreRising items.now }
-    requires bounds { (from ≤ to) × (to ≤ length items.now) }
-    requires before { (b : ℕ) → b < from → get_or items.now b 0 < address }
-    requires behind { (b : ℕ) → to ≤ b → b < length items.now → address ≤ get_or items.now b 0 }
+    requires between { IsBetween items.now address from to }
     ensures within { result ≤ length items.now }
     ensures below { (b : ℕ) → b < result → get_or items.now b 0 < address }
     ensures from { (b : ℕ) → result ≤ b → b < length items.now → address ≤ get_or items.now b 0 }
 {
     let mut place = from;
-    for number in from..to {
-        place += (items[number] < address) as usize;
+    let mut size = to - from;
+    'halves: while size > FEW {
+        let half = size / 2;
+        place += half * (items[place + half - 1] < address) as usize;
+        size -= half;
     }
-    place
+    count_below(items, place, place + size, address)
+}
+
+/// The place of the first that isn't below the address, which lies from one place on up to another.
+fn count_below(items: &[u32], from: usize, to: usize, address: u32) -> usize
+    requires rising { AreRising items.now }
+    requires between { IsBetween items.now address from to }
+    requires few { to ≤ from + 16 }
+    ensures within { result ≤ length items.now }
+    ensures below { (b : ℕ) → b < result → get_or items.now b 0 < address }
+    ensures from { (b : ℕ) → result ≤ b → b < length items.now → address ≤ get_or items.now b 0 }
+{
+    // in the width of the addresses, so that several are compared at once
+    let mut count = 0u32;
+    for number in from..to {
+        count += (items[number] < address) as u32;
+    }
+    from + count as usize
 }
 
 /// The place among addresses of IPv4 of a number that may have more bits.
@@ -141,11 +224,20 @@ fn find_widened(items: &[u32], address: u128) -> usize
     items.partition_point(|item| u128::from(*item) < address)
 }
 
-fn find_wide(items: &[u128], address: u128) -> usize
-    requires { AreRising items.now }
+/// The place among addresses of IPv6 of one of them, which lies from one place on up to another.
+fn find_wide(items: &[u128], from: usize, to: usize, address: u128) -> usize
+    requires rising { AreRising items.now }
+    requires between { IsBetween items.now address from to }
     ensures within { result ≤ length items.now }
     ensures below { (b : ℕ) → b < result → get_or items.now b 0 < address }
     ensures from { (b : ℕ) → result ≤ b → b < length items.now → address ≤ get_or items.now b 0 }
 {
-    items.partition_point(|item| *item < address)
+    let mut place = from;
+    let mut size = to - from;
+    'halves: while size > 0 {
+        let half = (size + 1) / 2;
+        place += half * (items[place + half - 1] < address) as usize;
+        size /= 2;
+    }
+    place
 }

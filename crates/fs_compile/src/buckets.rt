@@ -12,6 +12,7 @@ ghost use Rattle.fs_compile.specs.Runs.{AreNesting, RunsOf};
 ghost use Rattle.fs_compile.specs.Search.{AreSound};
 
 use crate::addresses::Addresses;
+use crate::marks::Marks;
 use crate::nodes::Nodes;
 use crate::runs::{Runs, mended_runs, nodes_of, parents_of, runs_of};
 use fs_base::{Family, Memory};
@@ -25,6 +26,8 @@ use std::alloc::Global;
 pub(crate) struct Buckets {
     /// The last address of each bucket.
     pub(crate) lasts: Addresses,
+    /// Where among these a search begins.
+    pub(crate) marks: Marks,
     /// A node for each, and one whose start is the number of the first rule without a destination.
     pub(crate) nodes: Nodes,
     /// The bucket of each rule that has one.
@@ -103,6 +106,7 @@ impl Buckets {
         nodes.shift(bucket + 1, (to - from) as u32, count as u32);
         Ok(Buckets {
             lasts: self.lasts,
+            marks: self.marks,
             nodes,
             homes,
         })
@@ -210,8 +214,10 @@ fn buckets_with(alloc: Global, family: Family, runs: Runs) -> Result<Buckets, Me
 {
     let parents = parents_of(alloc, &runs.firsts)?;
     let nodes = nodes_of(alloc, family, &runs, &parents)?;
+    let marks = Marks::of(alloc, &runs.lasts)?;
     Ok(Buckets {
         lasts: runs.lasts,
+        marks,
         nodes,
         homes: runs.homes,
     })

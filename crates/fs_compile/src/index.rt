@@ -21,7 +21,7 @@ use crate::facts::Facts;
 use crate::fast::Fast;
 use crate::filters::{FEW_RULES, Filter, Filters};
 use crate::search::{Hit, Place, climb, place_behind, place_from};
-use fs_base::{Family, Memory, Prefix, Steps};
+use fs_base::{Address, Family, Memory, Prefix, Steps};
 use fs_rules::{LentRule, SharedActions};
 use std::alloc::Global;
 use std::marker::Model;
@@ -193,19 +193,19 @@ impl Index {
 
     /// Where a search for the address begins.
     #[inline(always)]
-    pub(crate) fn start(&self, address: u128) -> Place
+    pub(crate) fn start(&self, address: Address) -> Place
         ensures starts { Starts self.now.buckets result }
-        ensures address { result.address ≡ address }
+        ensures address { result.address ≡ number_of address }
         ensures from { result.from ≡ 0 }
     {
         place_from(&self.buckets, address, 0)
     }
 
     /// Where a search for the address goes on behind the rule of the number.
-    pub(crate) fn behind(&self, address: u128, n: usize) -> Place
+    pub(crate) fn behind(&self, address: Address, n: usize) -> Place
         requires { n < length self.now.rules }
         ensures starts { Starts self.now.buckets result }
-        ensures address { result.address ≡ address }
+        ensures address { result.address ≡ number_of address }
         ensures from { result.from ≡ n + 1 }
     {
         place_behind(&self.buckets, address, n)

@@ -14,6 +14,7 @@ mod gaps;
 mod groups;
 mod index;
 mod limits;
+mod marks;
 mod matches;
 mod nodes;
 mod pattern;

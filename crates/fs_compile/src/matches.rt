@@ -11,7 +11,7 @@ ghost use Rattle.fs_compile.specs.Reach.{number_of, reaching, reaching_behind, r
 use crate::facts::Facts;
 use crate::index::Index;
 use crate::search::Place;
-use fs_base::{Address, Steps};
+use fs_base::Steps;
 use fs_packet::View;
 use std::marker::Model;
 use std::sync::ledger::Ledger;
@@ -48,10 +48,12 @@ impl<'a> Matches<'a> {
         ensures from { result.from ≡ 0 }
     {
         let destination = view.destination();
+        // the search before the facts, so that none of these has to wait on the stack for its end
+        let place = index.start(destination);
         Matches {
             index,
             facts: Facts::of(view, destination),
-            place: index.start(number(destination)),
+            place,
         }
     }
 
@@ -66,7 +68,7 @@ impl<'a> Matches<'a> {
         Matches {
             index,
             facts: Facts::of(view, destination),
-            place: index.behind(number(destination), n),
+            place: index.behind(destination, n),
         }
     }
 
@@ -94,14 +96,5 @@ impl<'a> Matches<'a> {
         self.place.bucket = hit.bucket;
         self.place.from = hit.number + 1;
         Some(hit.number)
-    }
-}
-
-fn number(address: Address) -> u128
-    ensures { result ≡ number_of address }
-{
-    match address {
-        Address::V4(address) => address.into(),
-        Address::V6(address) => address,
     }
 }

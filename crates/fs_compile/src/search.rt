@@ -5,13 +5,14 @@ ghost use Rattle.std.specs.Prelude.{◌≡◌, ◌<◌, ◌≤◌, ◌+◌, ◌-
 ghost use Rattle.fs_compile.specs.Addresses.{numbers_in, nodes_in};
 ghost use Rattle.fs_compile.specs.Buckets.{node_at};
 ghost use Rattle.fs_compile.specs.Filters.{AreFilters};
+ghost use Rattle.fs_compile.specs.Reach.{number_of};
 ghost use Rattle.fs_compile.specs.Search.{AreSound, Found, IsNear, Missed, Starts, Within, behind_hit, hit_number, hits, marked, parent_at, start_at, tested_to};
 
 use crate::buckets::Buckets;
 use crate::facts::Facts;
 use crate::fast::Fast;
 use crate::filters::{FEW_RULES, Filters};
-use fs_base::Steps;
+use fs_base::{Address, Steps};
 use std::sync::ledger::Ledger;
 
 /// Where a search for an address goes on: at a bucket, among the rules from a number on.
@@ -30,7 +31,7 @@ pub(crate) struct Hit {
 }
 
 /// The first rule that matches of those from `from` on before `to`. As many steps as rules up to that one.
-#[inline(never)]
+#[inline(always)]
 fn scan<L: Ledger>(
     rules: &[Fast],
     facts: &Facts<'_>,
@@ -200,41 +201,50 @@ pub(crate) fn climb<L: Ledger>(
 /// Where a search for an address begins, among all rules from a number on: at the first bucket that doesn't end below
 /// the address.
 #[inline(always)]
-pub(crate) fn place_from(buckets: &Buckets, address: u128, from: usize) -> Place
+pub(crate) fn place_from(buckets: &Buckets, address: Address, from: usize) -> Place
     requires { AreSound buckets.now (length buckets.now.homes.items) }
     ensures starts { Starts buckets.now result }
-    ensures address { result.address ≡ address }
+    ensures address { result.address ≡ number_of address }
     ensures from { result.from ≡ from }
 {
     Place {
-        address,
-        bucket: buckets.lasts.find(address),
+        address: number(address),
+        bucket: buckets.lasts.find_marked(&buckets.marks, address),
         from,
     }
 }
 
 /// Where a search for an address goes on behind a rule: in its bucket, unless that ends below the address.
-pub(crate) fn place_behind(buckets: &Buckets, address: u128, n: usize) -> Place
+pub(crate) fn place_behind(buckets: &Buckets, address: Address, n: usize) -> Place
     requires sound { AreSound buckets.now (length buckets.now.homes.items) }
     requires fits { n + 1 < 2 ^ 64 }
     ensures starts { Starts buckets.now result }
-    ensures address { result.address ≡ address }
+    ensures address { result.address ≡ number_of address }
     ensures from { result.from ≡ n + 1 }
 {
     if n >= buckets.homes.len() {
         return Place {
-            address,
+            address: number(address),
             bucket: buckets.lasts.len(),
             from: n + 1,
         };
     }
     let bucket = buckets.homes[n] as usize;
-    if buckets.lasts.at(bucket) < address {
+    if buckets.lasts.at(bucket) < number(address) {
         return place_from(buckets, address, n + 1);
     }
     Place {
-        address,
+        address: number(address),
         bucket,
         from: n + 1,
+    }
+}
+
+fn number(address: Address) -> u128
+    ensures { result ≡ number_of address }
+{
+    match address {
+        Address::V4(address) => address.into(),
+        Address::V6(address) => address,
     }
 }

@@ -17,7 +17,7 @@ returns-clause-sound c = λ count few.
 
 pub returns-clause-housed : goal.returns-clause-housed
 returns-clause-housed c = λ spans runs nesting rest.
-    housed_from spans (record { lasts = c.args.runs.lasts; nodes = c.in_ok-nodes.nodes; homes = c.args.runs.homes })
+    housed_from spans (record { lasts = c.args.runs.lasts; marks = c.in_ok-marks.marks; nodes = c.in_ok-nodes.nodes; homes = c.args.runs.homes })
     c.args.runs.firsts.items (numbers_in c.args.runs.lasts) c.args.runs.starts.items c.args.runs.homes.items c.deref-2.result.now
     nesting runs c.in_ok-nodes.ensures refl refl rest
 

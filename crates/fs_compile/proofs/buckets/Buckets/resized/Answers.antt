@@ -13,9 +13,9 @@ shift-requires c = shift_fits c.args.self (length c.args.self.homes.items) c.arg
 
 pub returns-clause-sound : goal.returns-clause-sound
 returns-clause-sound c = λ most fits.
-    sound_resized c.args.self (record { lasts = c.args.self.lasts; nodes = c.shift.new.self; homes = c.put_between.new.items }) (length c.args.self.homes.items) most
+    sound_resized c.args.self (record { lasts = c.args.self.lasts; marks = c.args.self.marks; nodes = c.shift.new.self; homes = c.put_between.new.items }) (length c.args.self.homes.items) most
     c.args.bucket c.args.from c.args.to c.args.count c.requires.some.0 c.requires.sound c.requires.some.1 resized fits where
-      resized : AreResized c.args.self (record { lasts = c.args.self.lasts; nodes = c.shift.new.self; homes = c.put_between.new.items }) c.args.bucket c.args.from c.args.to c.args.count
+      resized : AreResized c.args.self (record { lasts = c.args.self.lasts; marks = c.args.self.marks; nodes = c.shift.new.self; homes = c.put_between.new.items }) c.args.bucket c.args.from c.args.to c.args.count
       resized = record {
         lasts = refl;
         nodes = c.shift.ensures;
@@ -24,9 +24,9 @@ returns-clause-sound c = λ most fits.
 
 pub returns-clause-housed : goal.returns-clause-housed
 returns-clause-housed c = λ span spans news holder housed whole each size.
-    housed_resized c.args.self (record { lasts = c.args.self.lasts; nodes = c.shift.new.self; homes = c.put_between.new.items }) (length c.args.self.homes.items)
+    housed_resized c.args.self (record { lasts = c.args.self.lasts; marks = c.args.self.marks; nodes = c.shift.new.self; homes = c.put_between.new.items }) (length c.args.self.homes.items)
     c.args.bucket c.args.from c.args.to c.args.count span spans news c.requires.sound holder resized housed whole each size where
-      resized : AreResized c.args.self (record { lasts = c.args.self.lasts; nodes = c.shift.new.self; homes = c.put_between.new.items }) c.args.bucket c.args.from c.args.to c.args.count
+      resized : AreResized c.args.self (record { lasts = c.args.self.lasts; marks = c.args.self.marks; nodes = c.shift.new.self; homes = c.put_between.new.items }) c.args.bucket c.args.from c.args.to c.args.count
       resized = record {
         lasts = refl;
         nodes = c.shift.ensures;
