@@ -80,6 +80,21 @@ impl<'a> Rows<'a> {
         self.source[place] & self.destination_port[place] & self.source_port[place]
     }
 
+    /// The first place, of those from one on before another, at which bits of the front are set, or that other.
+    #[inline(always)]
+    fn next_front(&self, from: usize, to: usize) -> usize
+        requires ordered { from ≤ to }
+        requires inside { (place : ℕ) → place < to → IsInside place self.now }
+        ensures within { (from ≤ result) × (result ≤ to) }
+        ensures clear { (place : ℕ) → from ≤ place → place < result → front_of self.now place ≡ 0 }
+    {
+        let mut place = from;
+        'clear: while place < to && self.front(place) == 0 {
+            place += 1;
+        }
+        place
+    }
+
     /// The bits of 64 rules that are set in all rows.
     #[inline(always)]
     fn word(&self, place: usize) -> u64
@@ -214,7 +229,7 @@ fn scan_rows<L: Ledger>(
         let start = first + place * 64;
         match scan_word(rules, facts, rows, place, start, from.max(start), to, steps) {
             Some(number) => return Some(number),
-            None => place += 1,
+            None => place = rows.next_front(place + 1, words_of(to - first)),
         }
     }
     None

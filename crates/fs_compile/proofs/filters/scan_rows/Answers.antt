@@ -1,7 +1,8 @@
-use Rattle.std.proofs.Common.{◌≡◌, ℕ, ◌+◌, ◌-◌, ◌*◌, ◌^◌, ◌<◌, ◌≤◌, min, inl, inr, ◌⊎◌, false, get_or, arith}
+use Rattle.std.proofs.Common.{◌≡◌, ℕ, ◌+◌, ◌-◌, ◌*◌, ◌/◌, ◌^◌, ◌<◌, ◌≤◌, min, inl, inr, ◌⊎◌, false, get_or, arith}
 use Rattle.std.proofs.lemmas.Bool.{cases_lt}
 use Rattle.fs_compile.specs.Search.{hits}
 use Rattle.fs_compile.proofs.Sieving.{set_in_all}
+use Rattle.fs_compile.proofs.Skipping.{words_missed}
 use Rattle.fs_compile.proofs.filters.scan_rows.Goals as goal
 
 pub words-init : goal.words-init
@@ -42,17 +43,26 @@ returns-in-Some-clause-found g c = record {
 
 pub words-preserved : goal.words-preserved
 words-preserved g c = record {
-  low = let a = c.words.invariant.low in omega (arith, a);
-  small = let t = c.words-test.true in omega (arith, t, c.requires.to, c.requires.few);
-  missed = λ k above below. by k above below (cases_lt k (c.args.first + c.words.place * 64));
+  low = let a = c.words.invariant.low in omega (arith, a, next.0);
+  small = omega (arith, w, next.1, c.requires.to, c.requires.few);
+  missed = λ k above below. by k above below (cases_lt k (c.args.first + c.words.place * 64)) (cases_lt k (c.args.first + (c.words.place + 1) * 64));
   later = let a : c.args.steps.now ≤ c.words.steps = c.words.invariant.later in let b = c.in-None.ensures.later in omega (arith, a, b);
   steps =
       let a : c.words.steps ≤ c.args.steps.now + (min (c.args.first + c.words.place * 64) c.args.to - c.args.from) = c.words.invariant.steps in
       let b = c.in-None.ensures.steps in
       let e = c.max.ensures in
       let t = c.words-test.true in
-      omega (arith, a, b, e, t);
+      omega (arith, a, b, e, t, next.0);
 } where
-  by : (k : ℕ) → c.args.from ≤ k → k < min (c.args.first + (c.words.place + 1) * 64) c.args.to → (k < c.args.first + c.words.place * 64) ⊎ (c.args.first + c.words.place * 64 ≤ k) → get_or (hits c.args.facts.now c.args.rules.now) k false ≡ false
-  by k above below (inl earlier) = let t = c.words-test.true in c.words.invariant.missed k above (omega (arith, earlier, t))
-  by k above below (inr here) = let e = c.max.ensures in c.in-None.ensures.found k (omega (arith, above, here, e)) (omega (arith, below))
+  w : c.words_of.result ≡ (c.args.to - c.args.first + 63) / 64
+  w = c.words_of.ensures
+
+  next : (c.words.place + 1 ≤ c.next_front-place.result) × (c.next_front-place.result ≤ c.words_of.result)
+  next = c.next_front-place.ensures.within
+
+  by : (k : ℕ) → c.args.from ≤ k → k < min (c.args.first + c.next_front-place.result * 64) c.args.to → (k < c.args.first + c.words.place * 64) ⊎ (c.args.first + c.words.place * 64 ≤ k)
+      → (k < c.args.first + (c.words.place + 1) * 64) ⊎ (c.args.first + (c.words.place + 1) * 64 ≤ k) → get_or (hits c.args.facts.now c.args.rules.now) k false ≡ false
+  by k above below (inl earlier) any = let t = c.words-test.true in c.words.invariant.missed k above (omega (arith, earlier, t))
+  by k above below (inr here) (inl early) = let e = c.max.ensures in c.in-None.ensures.found k (omega (arith, above, here, e)) (omega (arith, below, early))
+  by k above below (inr here) (inr late) =
+      words_missed (hits c.args.facts.now c.args.rules.now) c.args.rows.now c.args.first c.args.to (c.words.place + 1) c.next_front-place.result c.requires.rows c.next_front-place.ensures.clear k late (omega (arith, below)) (omega (arith, below))
