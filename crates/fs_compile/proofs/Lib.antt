@@ -12,12 +12,14 @@ pub mod Finding
 pub mod Running
 pub mod Reaching
 pub mod Nesting
+pub mod Hulls
 pub mod Indexing
 pub mod Walking
 pub mod Widths
 pub mod Numbering
 pub mod Marking
 pub mod Sieving
+pub mod Skipping
 pub mod Splicing
 pub mod Stretching
 pub mod Filtering

@@ -1,6 +1,6 @@
 //! A rule compiled for packets.
 
-ghost use Rattle.std.specs.Prelude.{◌≡◌, ◌+◌, ◌≤◌, true, IfOk, OnOk, ℕ};
+ghost use Rattle.std.specs.Prelude.{◌≡◌, ◌+◌, ◌≤◌, ◌&&◌, true, IfOk, OnOk, ℕ};
 ghost use Rattle.std.specs.List.{list_all};
 ghost use Rattle.fs_nlri.specs.Component.{parts_of};
 ghost use Rattle.fs_nlri.specs.Parts.{Ruled};
@@ -9,6 +9,7 @@ ghost use Rattle.fs_packet.specs.Matching.{is_match};
 ghost use Rattle.fs_compile.specs.Columns.{allows, allows_port};
 ghost use Rattle.fs_compile.specs.Facts.{Facts, IsSmall, front_of, key_of, number_of};
 ghost use Rattle.fs_compile.specs.Fast.{AreFree, AreTestsOf, IsPlaced, StandsFor, facts_hold, fast_holds, holds_of_facts};
+ghost use Rattle.fs_compile.specs.Ranges.{ranges_hold};
 ghost use Rattle.fs_compile.specs.Tests.{passes};
 
 use crate::components::test_of;
@@ -92,9 +93,10 @@ impl Fast {
     fn number_limit(&self, field: u8) -> Limit<'_>
         ensures { (facts : Facts) → facts_hold facts self.now ≡ true → allows result (number_of facts field) ≡ true }
     {
-        match self.ranges.of(field) {
-            Some((low, high)) => Limit::Range(low.into(), high.into()),
-            None => limit_of(&self.tests, field),
+        // a range of the field may be no more than the hull of a list's
+        match limit_of(&self.tests, field) {
+            Limit::Any => self.ranges.limit(field),
+            limit => limit,
         }
     }
 
@@ -104,11 +106,12 @@ impl Fast {
     {
         self.ranges.hold(facts)
             && self.family == facts.view.family()
-            && all_pass(&self.tests, facts)
+            && (self.tests.is_empty() || all_pass(&self.tests, facts))
     }
 }
 
-#[inline(always)]
+/// Most rules that come so far have none of these: they stand apart, so that the others are tested in place.
+#[inline(never)]
 fn all_pass(tests: &[Test], facts: &Facts<'_>) -> bool
     ensures { result ≡ list_all (passes facts.now) tests.now }
 {
@@ -173,11 +176,11 @@ fn tests_of(alloc: Global, components: &[Component]) -> Result<(Ranges, Vec<Test
         used = place(&mut ranges, used, &mut tests, test)?;
     }
     tests.shrink_to_fit();
-    Ok((ranges, tests))
+    Ok((ranges.with_destination_last(), tests))
 }
 
-/// Puts the test into the first free place, if it's a range and one is free, else behind the others. Answers how many
-/// places are taken.
+/// Puts the test into the first free place, if it's a range and one is free, else behind the others, with its hull before
+/// them. Answers how many places are taken.
 fn place(
     ranges: &mut Ranges,
     used: usize,
@@ -195,8 +198,31 @@ fn place(
         return Ok(used + 1);
     }
     make_room(tests)?;
+    let next = place_hull(ranges, used, &test);
     tests.push(test)?;
-    Ok(used)
+    Ok(next)
+}
+
+/// The place that no hull takes.
+const LAST: usize = PLACES - 1;
+
+/// Puts the hull of the test into the first free place, unless that is the last: most packets that don't pass the test
+/// fail there. Answers how many places are taken.
+fn place_hull(ranges: &mut Ranges, used: usize, test: &Test) -> usize
+    requires { AreFree used ranges.old }
+    ensures same { (facts : Facts)
+        → number_of facts 0 ≡ 0
+        → (ranges_hold facts ranges.new && passes facts test.now)
+        ≡ (ranges_hold facts ranges.old && passes facts test.now) }
+    ensures free { AreFree result ranges.new }
+{
+    if used < LAST
+        && let Some(range) = test.hull()
+    {
+        ranges.put(used, range);
+        return used + 1;
+    }
+    used
 }
 
 /// Makes room for the first test alone: most rules that have one have no other.

@@ -1,11 +1,13 @@
 //! Ranges of a packet's fields.
 
 ghost use Rattle.std.specs.Prelude.{◌≡◌, ℕ, ◌<◌, true, IfSome};
+ghost use Rattle.fs_compile.specs.Columns.{allows};
 ghost use Rattle.fs_compile.specs.Facts.{Facts, number_of};
 ghost use Rattle.fs_compile.specs.Spans.{is_in};
 ghost use Rattle.fs_compile.specs.Ranges.{is_in_range, free_ranges, range_at, range_holds, ranges_hold, with_range};
 
 use crate::facts::Facts;
+use crate::limits::Limit;
 
 /// From which number to which a field lies. No absent field's does: its number is above each `high`.
 #[derive(Clone, Copy)]
@@ -65,8 +67,34 @@ impl Ranges {
             && self.holds_at(3, facts)
     }
 
+    /// The same with a range of the destination behind the others: where a rule is tested its destination mostly holds.
+    pub(crate) fn with_destination_last(self) -> Ranges
+        ensures { (facts : Facts) → ranges_hold facts result ≡ ranges_hold facts self }
+    {
+        if self.fields[0] != 1 {
+            return self;
+        }
+        let (fields, bounds) = (self.fields, self.bounds);
+        Ranges {
+            fields: [fields[1], fields[2], fields[3], fields[0]],
+            bounds: [bounds[1], bounds[2], bounds[3], bounds[0]],
+        }
+    }
+
+    /// Within which numbers the field is where all four hold.
+    pub(crate) fn limit(&self, field: u8) -> Limit<'_>
+        ensures { (facts : Facts)
+            → ranges_hold facts self.now ≡ true
+            → allows result (number_of facts field) ≡ true }
+    {
+        match self.of(field) {
+            Some((low, high)) => Limit::Range(low.into(), high.into()),
+            None => Limit::Any,
+        }
+    }
+
     /// The range of the field.
-    pub(crate) fn of(&self, field: u8) -> Option<(u32, u32)>
+    fn of(&self, field: u8) -> Option<(u32, u32)>
         ensures { (facts : Facts)
             → ranges_hold facts self.now ≡ true
             → IfSome result (λ range. is_in (number_of facts field) range ≡ true) }

@@ -1,11 +1,11 @@
 //! A list of numeric operators as the numbers that it holds of.
 
-ghost use Rattle.std.specs.Prelude.{◌≡◌, ◌↔◌, ℕ, ◌^◌, ◌<◌, false, IsTrue, IfOk};
+ghost use Rattle.std.specs.Prelude.{◌≡◌, ◌↔◌, ℕ, ◌^◌, ◌<◌, false, true, IsTrue, IfOk};
 ghost use Rattle.fs_ops.specs.OperatorList.{first_joins};
 ghost use Rattle.std.specs.List.{list_all, list_any};
 ghost use Rattle.fs_ops.specs.Evaluation.{compares, holds};
 ghost use Rattle.fs_compile.specs.Numbers.{has_field};
-ghost use Rattle.fs_compile.specs.Spans.{AreApart, clipped, contains, encloses, field_range};
+ghost use Rattle.fs_compile.specs.Spans.{AreApart, clipped, contains, encloses, field_range, is_in};
 
 use crate::facts::ABSENT;
 use crate::gaps::append_gaps;
@@ -97,6 +97,14 @@ impl Spans {
         all_enclosed(&self.ranges, &other.ranges)
     }
 
+    /// A range of numbers below 2^32 in which all of these are that fields have.
+    pub(crate) fn hull(&self) -> (u32, u32)
+        ensures { (n : ℕ) → has_field self.now n ≡ true → is_in n result ≡ true }
+    {
+        let (low, high) = hull_of(&self.ranges);
+        (low.min(ABSENT - 1) as u32, high.min(ABSENT - 1) as u32)
+    }
+
     pub(crate) fn ranges(&self) -> &[(u64, u64)]
         ensures { result.now ≡ self.now }
     {
@@ -114,6 +122,19 @@ impl Spans {
             _ => None,
         }
     }
+}
+
+/// From the least number to the greatest.
+fn hull_of(ranges: &[(u64, u64)]) -> (u64, u64)
+    ensures { (n : ℕ) → contains ranges.now n ≡ true → is_in n result ≡ true }
+{
+    let mut low = u64::MAX;
+    let mut high = 0u64;
+    for &range in ranges {
+        low = low.min(range.0);
+        high = high.max(range.1);
+    }
+    (low, high)
 }
 
 /// The numbers of a range that are below 2^32; where there are none, a first above the last.

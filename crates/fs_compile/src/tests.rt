@@ -3,6 +3,7 @@
 ghost use Rattle.std.specs.Prelude.{◌≡◌, true, IfSome};
 ghost use Rattle.fs_compile.specs.Columns.{allows, allows_port};
 ghost use Rattle.fs_compile.specs.Facts.{Facts, front_of, number_of};
+ghost use Rattle.fs_compile.specs.Ranges.{range_holds};
 ghost use Rattle.fs_compile.specs.Tests.{flags_pass, is_under, passes, test_range};
 
 use crate::facts::{Facts, top};
@@ -89,6 +90,25 @@ impl Test {
     {
         match self {
             Test::PortWithin(low, high) => Some(Limit::Range((*low).into(), (*high).into())),
+            _ => None,
+        }
+    }
+
+    /// A range in which the field of each packet is that passes the test, where the test is of several ranges of one.
+    pub(crate) fn hull(&self) -> Option<Range>
+        ensures { (facts : Facts)
+            → passes facts self.now ≡ true
+            → IfSome result (λ range. range_holds facts range ≡ true) }
+    {
+        match self {
+            Test::OneOf(field, numbers) => {
+                let (low, high) = numbers.hull();
+                Some(Range {
+                    field: *field,
+                    low,
+                    high,
+                })
+            }
             _ => None,
         }
     }

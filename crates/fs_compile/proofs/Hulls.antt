@@ -1,0 +1,86 @@
+-- The range from the least number of a list to the greatest, before the list's own test.
+use Rattle.std.proofs.Common.{◌≡◌, ℕ, ◌+◌, ◌-◌, ◌^◌, ◌<◌, ◌≤◌, min, Bool, true, false, true≢false, ◌&&◌, ◌||◌, nat_lt, List, [], take, get_or, length, Some, refl, sym, ap, ◌∙◌, arith}
+use Rattle.std.specs.List.{list_all}
+use Rattle.std.proofs.lemmas.Bool.{ltb-true}
+use Rattle.std.proofs.lemmas.List.Folds.{list_any_more}
+use Rattle.fs_base.proofs.Bools.{and_first, and_second}
+use Rattle.fs_nlri.specs.Parts.{Part}
+use Rattle.fs_compile.specs.declared.ranges.Range.{Range}
+use Rattle.fs_compile.specs.declared.ranges.Ranges.{Ranges}
+use Rattle.fs_compile.specs.declared.tests.Test.{Test}
+use Rattle.fs_compile.specs.declared.tests.Test.TheVariants.{Within}
+use Rattle.fs_compile.specs.Facts.{Facts, facts_of, number_of}
+use Rattle.fs_compile.specs.Fast.{AreFree, AreTestsOf}
+use Rattle.fs_compile.specs.Numbers.{has_field}
+use Rattle.fs_compile.specs.Ranges.{range_holds, ranges_hold, with_range}
+use Rattle.fs_compile.specs.Spans.{contains, is_in}
+use Rattle.fs_compile.specs.Tests.{passes}
+use Rattle.fs_compile.proofs.Enclosing.{from_in, to_in}
+use Rattle.fs_compile.proofs.Placing.{put_placed}
+
+pub wider : (n low high low' high' : ℕ) → low' ≤ low → high ≤ high' → is_in n (low, high) ≡ true → is_in n (low', high') ≡ true
+wider n low high low' high' less more h =
+    let r : (low ≤ n) × (n ≤ high) = from_in n (low, high) h in
+    to_in n (low', high') (omega (arith, r.0, less)) (omega (arith, r.1, more))
+
+-- one range more
+pub hull_more : (ranges : List (ℕ × ℕ)) (i n low high low' high' : ℕ) (range : ℕ × ℕ) → i < length ranges
+    → low' ≤ low → low' ≤ (get_or ranges i range).0 → high ≤ high' → (get_or ranges i range).1 ≤ high'
+    → (contains (take i ranges) n ≡ true → is_in n (low, high) ≡ true)
+    → contains (take (i + 1) ranges) n ≡ true → is_in n (low', high') ≡ true
+hull_more ranges i n low high low' high' range inside less first more last before h =
+    by (contains (take i ranges) n) (is_in n (get_or ranges i range)) refl refl (sym (list_any_more (is_in n) ranges i range inside) ∙ h) where
+      by : (a b : Bool) → contains (take i ranges) n ≡ a → is_in n (get_or ranges i range) ≡ b → (a || b) ≡ true → is_in n (low', high') ≡ true
+      by true b e f t = wider n low high low' high' less more (before e)
+      by false true e f t = wider n (get_or ranges i range).0 (get_or ranges i range).1 low' high' first last f
+      by false false e f t = absurd (true≢false (sym t))
+
+-- a field's number that the list holds of is below 2^32
+pub field_in_hull : (ranges : List (ℕ × ℕ)) (n low high low' high' : ℕ) → low' ≤ low → min high (2 ^ 32 - 1) ≤ high'
+    → (contains ranges n ≡ true → is_in n (low, high) ≡ true) → has_field ranges n ≡ true → is_in n (low', high') ≡ true
+field_in_hull ranges n low high low' high' less more within h =
+    let small : n < 2 ^ 32 = ltb-true n (2 ^ 32) (and_first (nat_lt n (2 ^ 32)) (contains ranges n) h) in
+    let r : (low ≤ n) × (n ≤ high) = from_in n (low, high) (within (and_second (nat_lt n (2 ^ 32)) (contains ranges n) h)) in
+    to_in n (low', high') (omega (arith, r.0, less)) (omega (arith, r.1, more, small))
+
+both : (new old range test : Bool) → (new && true) ≡ ((old && true) && range) → (test ≡ true → range ≡ true) → (new && test) ≡ (old && test)
+both new old true true e f = e ∙ sym (also (old && true)) where
+  also : (a : Bool) → a ≡ (a && true)
+  also true = refl
+  also false = refl
+both new old false true e f = absurd (true≢false (sym (f refl)))
+both true true range false e f = refl
+both true false range false e f = refl
+both false true range false e f = refl
+both false false range false e f = refl
+
+-- a range more that holds of each packet that passes the test
+pub hull_placed : (ranges new : Ranges) (place : ℕ) (range : Range) (test : Test) (facts : Facts) → place < 4 → AreFree place ranges → new ≡ with_range ranges place range → number_of facts 0 ≡ 0
+    → (passes facts test ≡ true → range_holds facts range ≡ true) → (ranges_hold facts new && passes facts test) ≡ (ranges_hold facts ranges && passes facts test)
+hull_placed ranges new place range test facts below free made none within =
+    both (ranges_hold facts new) (ranges_hold facts ranges) (range_holds facts range) (passes facts test) (put_placed ranges new place range [] (Within range) below free refl made facts none) within
+
+-- the test behind the others, where the ranges with it say no more than those before
+pub pushed : (new old tests test : Bool) → (new && test) ≡ (old && test) → (new && (tests && test)) ≡ ((old && tests) && test)
+pushed new old true test h = h ∙ sym (ap (λ (b : Bool). b && test) (also old)) where
+  also : (a : Bool) → (a && true) ≡ a
+  also true = refl
+  also false = refl
+pushed true true false test h = refl
+pushed true false false test h = refl
+pushed false true false test h = refl
+pushed false false false test h = refl
+
+-- the last comes first
+pub turned : (a b c d : Bool) → (b && (c && (d && a))) ≡ (a && (b && (c && d)))
+turned true true true true = refl
+turned true true true false = refl
+turned true true false d = refl
+turned true false c d = refl
+turned false true true true = refl
+turned false true true false = refl
+turned false true false d = refl
+turned false false c d = refl
+
+pub turned_tests : (parts : List Part) (ranges new : Ranges) (tests : List Test) → ((facts : Facts) → ranges_hold facts new ≡ ranges_hold facts ranges) → AreTestsOf parts ranges tests → AreTestsOf parts new tests
+turned_tests parts ranges new tests same h = λ view small. ap (λ (b : Bool). b && list_all (passes (facts_of view)) tests) (same (facts_of view)) ∙ h view small
