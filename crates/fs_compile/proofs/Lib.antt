@@ -9,6 +9,7 @@ pub mod Truths
 pub mod Counts
 pub mod Climbing
 pub mod Finding
+pub mod Flags
 pub mod Running
 pub mod Reaching
 pub mod Nesting

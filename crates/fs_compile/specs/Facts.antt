@@ -1,5 +1,5 @@
 -- The fields of a packet as numbers: one that the packet doesn't have is above each that a field can have.
-use Rattle.std.specs.Prelude.{◌≡◌, ℕ, ◌%◌, ◌/◌, ◌==◌, if◌then◌else◌, ◌^◌, ◌<◌, List, [], ◌∷◌, slice_index, Option, Some, None}
+use Rattle.std.specs.Prelude.{◌≡◌, ℕ, ◌%◌, ◌/◌, ◌==◌, if◌then◌else◌, ◌^◌, ◌<◌, List, [], ◌∷◌, slice_index, bit_and, Option, Some, None}
 use Rattle.fs_base.specs.declared.config.Address.{Address}
 use Rattle.fs_base.specs.declared.config.Address.TheVariants.{V4, V6}
 use Rattle.fs_packet.specs.Fields.{Viewed, family_of}
@@ -22,7 +22,13 @@ abbrev pub address_number : Address → ℕ
 address_number (V4 address) = address
 address_number (V6 address) = 2 ^ 32
 
--- by the type of the component that tests the field; of the types that don't test one number there is none
+-- the SYN flag among the octets of the TCP header that hold the flags (RFC 9293 section 3.1): 2 or 0
+abbrev pub syn_number : Option ℕ → ℕ
+syn_number None = 2 ^ 32
+syn_number (Some octets) = bit_and octets 2
+
+-- by the type of the component that tests the field; of the types that don't test one number there is none, and of TCP
+-- flags there is SYN alone
 abbrev pub numbers_of : Viewed → List ℕ
 numbers_of view =
     0
@@ -34,7 +40,7 @@ numbers_of view =
     ∷ field_number view.source_port
     ∷ field_number view.icmp_type
     ∷ field_number view.icmp_code
-    ∷ 2 ^ 32
+    ∷ syn_number view.tcp_octets
     ∷ view.length
     ∷ view.dscp
     ∷ 2 ^ 32

@@ -1,6 +1,7 @@
 pub mod Facts
 pub mod Fast
 pub mod Numbers
+pub mod Flags
 pub mod Ranges
 pub mod Spans
 pub mod Gaps

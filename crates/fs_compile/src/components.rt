@@ -5,18 +5,19 @@ ghost use Rattle.fs_base.specs.Prefix.{last_address};
 ghost use Rattle.fs_nlri.specs.Component.{body_of, part_of};
 ghost use Rattle.fs_nlri.specs.Parts.{ListBody, V4Body, V6Body, part};
 ghost use Rattle.fs_nlri.specs.Sound.{IsSoundBody};
+ghost use Rattle.fs_compile.specs.Flags.{is_match, is_syn};
 ghost use Rattle.fs_compile.specs.Ranges.{range};
 ghost use Rattle.fs_compile.specs.Numbers.{IsOnlyRange, is_equality, is_joined_most, is_least};
 ghost use Rattle.fs_compile.specs.Tests.{IsFieldTest, IsPatternOf, IsTestOf};
 
-use crate::facts::ABSENT;
+use crate::facts::{ABSENT, SYN};
 use crate::pattern::Pattern;
 use crate::ranges::Range;
 use crate::spans::Spans;
 use crate::tests::Test;
 use fs_base::{Family, Memory, Prefix};
 use fs_nlri::{Component, PrefixForm};
-use fs_ops::NumList;
+use fs_ops::{MaskList, NumList};
 use std::alloc::Global;
 
 /// The test that packets pass which the component matches.
@@ -33,7 +34,7 @@ pub(crate) fn test_of(alloc: Global, component: &Component) -> Result<Test, Memo
         Component::SourcePort(list) => field_test(alloc, 6, list),
         Component::IcmpType(list) => field_test(alloc, 7, list),
         Component::IcmpCode(list) => field_test(alloc, 8, list),
-        Component::TcpFlags(list) => Ok(Test::TcpFlags(list.copy()?)),
+        Component::TcpFlags(list) => flags_test(list),
         Component::PacketLength(list) => field_test(alloc, 10, list),
         Component::Dscp(list) => field_test(alloc, 11, list),
         Component::Fragment(list) => Ok(Test::Fragment(list.copy()?)),
@@ -91,6 +92,37 @@ fn pattern_of(length: u8, offset: u8, pattern: u128) -> Pattern
         high: prefix.last(),
         offset,
     }
+}
+
+/// The test of TCP flags: a range, where the list says that SYN is set and no more.
+fn flags_test(list: &MaskList) -> Result<Test, Memory>
+    requires { IsSoundBody (ListBody list.now) }
+    ensures { IfOk result (IsTestOf (part 9 (ListBody list.now))) }
+{
+    if is_syn(list.pairs()) {
+        return Ok(Test::Within(Range {
+            field: 9,
+            low: SYN as u32,
+            high: SYN as u32,
+        }));
+    }
+    Ok(Test::TcpFlags(list.copy()?))
+}
+
+fn is_syn(pairs: &[(u8, u64)]) -> bool
+    ensures { result ≡ is_syn pairs.now }
+{
+    match pairs {
+        [(operator, value)] => is_match(*operator) && *value == SYN as u64,
+        _ => false,
+    }
+}
+
+/// Whether the operator says that all bits of its value are set, and no more (RFC 8955 section 4.2.1.2).
+fn is_match(operator: u8) -> bool
+    ensures { result ≡ is_match operator }
+{
+    operator & 2 == 0 && operator & 1 != 0
 }
 
 /// The test of a list by the field of the type: a range, where the numbers are one.

@@ -2,7 +2,7 @@
 
 ghost use Rattle.std.specs.Prelude.{◌≡◌, ◌/◌, ◌<◌, ◌^◌};
 ghost use Rattle.fs_packet.specs.Fields.{family_of};
-ghost use Rattle.fs_compile.specs.Facts.{AreFacts, IsSmallAddress, IsSmallField, address_number, field_number, front_of, key_of, number_of};
+ghost use Rattle.fs_compile.specs.Facts.{AreFacts, IsSmallAddress, IsSmallField, address_number, field_number, front_of, key_of, number_of, syn_number};
 
 use fs_base::Address;
 use fs_packet::View;
@@ -14,13 +14,16 @@ pub(crate) const ABSENT: u64 = 1 << 32;
 /// In place of a field's type, the first 64 bits of a source address of IPv6.
 pub(crate) const FRONT: u8 = 14;
 
+/// The SYN flag among the flags of a TCP header (RFC 9293 section 3.1).
+pub(crate) const SYN: u16 = 2;
+
 /// The fields that a rule is tested on. The numbers among them are read from the packet once, the others where a rule
 /// asks for them.
 #[derive(Drop)]
 pub(crate) struct Facts<'a> {
     pub(crate) view: &'a View<'a>,
-    /// By the type of the component that tests it; at 1 and 2 the addresses of IPv4. Where the packet doesn't have the
-    /// field, or the type's test isn't one of a single number, `ABSENT`; at 0 always 0.
+    /// By the type of the component that tests it; at 1 and 2 the addresses of IPv4, at 9 the SYN flag. Where the packet
+    /// doesn't have the field, or the type's test isn't one of a single number, `ABSENT`; at 0 always 0.
     numbers: [u64; 16],
 }
 
@@ -53,7 +56,7 @@ impl<'a> Facts<'a> {
                 port(view.source_port()),
                 octet(view.icmp_type()),
                 octet(view.icmp_code()),
-                ABSENT,
+                syn(view.tcp_octets()),
                 view.length().into(),
                 view.dscp().into(),
                 ABSENT,
@@ -112,6 +115,16 @@ fn port(field: Option<u16>) -> u64
 {
     match field {
         Some(number) => number.into(),
+        None => ABSENT,
+    }
+}
+
+/// The SYN flag among the octets of a TCP header that hold the flags: 2 or 0.
+fn syn(octets: Option<u16>) -> u64
+    ensures { result ≡ syn_number octets }
+{
+    match octets {
+        Some(octets) => (octets & SYN).into(),
         None => ABSENT,
     }
 }

@@ -2,11 +2,8 @@ use Rattle.std.proofs.Common.{Some, refl, subst, sym}
 use Rattle.std.specs.Prelude.{IfOk}
 use Rattle.fs_nlri.specs.declared.component.Component.{Component}
 use Rattle.fs_nlri.specs.Component.{part_of}
-use Rattle.fs_nlri.specs.Sound.{IsSoundBody}
-use Rattle.fs_compile.specs.declared.tests.Test.TheVariants.{TcpFlags}
 use Rattle.fs_compile.specs.Tests.{IsTestOf}
 use Rattle.fs_compile.proofs.Fields.{field_is}
-use Rattle.fs_compile.proofs.Standing.{flags_are}
 use Rattle.fs_compile.proofs.components.test_of.Goals as goal
 
 pub returns-in-Protocol : goal.returns-in-Protocol
@@ -48,8 +45,3 @@ pub returns-in-FlowLabel : goal.returns-in-FlowLabel
 returns-in-FlowLabel c =
     subst (λ (d : Component). IfOk c.field_test-in-FlowLabel.result (IsTestOf (part_of d))) (sym c.in-FlowLabel.is)
     (field_is 13 c.in-FlowLabel.list (λ view. view.flow_label) c.field_test-in-FlowLabel.result (λ view. refl) (λ view small. small.flow_label) (λ view. refl) c.field_test-in-FlowLabel.ensures)
-
-pub returns-in_ok-copy-in-TcpFlags : goal.returns-in_ok-copy-in-TcpFlags
-returns-in_ok-copy-in-TcpFlags c =
-    subst (λ (d : Component). IsTestOf (part_of d) (TcpFlags c.in_ok-copy-in-TcpFlags.field-0)) (sym c.in-TcpFlags.is)
-    (flags_are c.in-TcpFlags.list c.in_ok-copy-in-TcpFlags.field-0 (subst (λ (d : Component). IsSoundBody (part_of d).body) c.in-TcpFlags.is c.requires) c.in_ok-copy-in-TcpFlags.ensures)

@@ -1,6 +1,6 @@
 use Rattle.std.proofs.Common.{ℕ, ◌^◌, ◌<◌, ◌∙◌, [], ◌∷◌, refl, sym, subst, ap, arith}
 use Rattle.fs_packet.specs.Fields.{family_of}
-use Rattle.fs_compile.specs.Facts.{IsSmallAddress, IsSmallField, address_number, field_number}
+use Rattle.fs_compile.specs.Facts.{IsSmallAddress, IsSmallField, address_number, field_number, syn_number}
 use Rattle.fs_compile.proofs.facts.Facts.of.Goals as goal
 
 pub returns : goal.returns
@@ -20,7 +20,7 @@ returns c = record {
       ∷ (c.port-2.ensures.value ∙ ap field_number c.source_port.ensures) i
       ∷ (c.octet-2.ensures.value ∙ ap field_number c.icmp_type.ensures) i
       ∷ (c.octet-3.ensures.value ∙ ap field_number c.icmp_code.ensures) i
-      ∷ 2 ^ 32
+      ∷ (c.syn.ensures ∙ ap syn_number c.tcp_octets.ensures) i
       ∷ (c.into.ensures ∙ c.length.ensures) i
       ∷ (c.into-2.ensures ∙ c.dscp.ensures) i
       ∷ 2 ^ 32
