@@ -1,16 +1,14 @@
 -- The range from the least number of a list to the greatest, before the list's own test.
-use Rattle.std.proofs.Common.{◌≡◌, ℕ, ◌+◌, ◌-◌, ◌^◌, ◌<◌, ◌≤◌, min, Bool, true, false, true≢false, ◌&&◌, ◌||◌, nat_lt, List, [], take, get_or, length, Some, refl, sym, ap, ◌∙◌, arith}
-use Rattle.std.specs.List.{list_all}
+use Rattle.std.proofs.Common.{◌≡◌, ℕ, ◌+◌, ◌-◌, ◌^◌, ◌<◌, ◌≤◌, min, Bool, true, false, true≢false, ◌&&◌, ◌||◌, nat_lt, List, [], take, get_or, length, refl, sym, ap, ◌∙◌, arith}
 use Rattle.std.proofs.lemmas.Bool.{ltb-true}
 use Rattle.std.proofs.lemmas.List.Folds.{list_any_more}
 use Rattle.fs_base.proofs.Bools.{and_first, and_second}
-use Rattle.fs_nlri.specs.Parts.{Part}
 use Rattle.fs_compile.specs.declared.ranges.Range.{Range}
 use Rattle.fs_compile.specs.declared.ranges.Ranges.{Ranges}
 use Rattle.fs_compile.specs.declared.tests.Test.{Test}
 use Rattle.fs_compile.specs.declared.tests.Test.TheVariants.{Within}
-use Rattle.fs_compile.specs.Facts.{Facts, facts_of, number_of}
-use Rattle.fs_compile.specs.Fast.{AreFree, AreTestsOf}
+use Rattle.fs_compile.specs.Facts.{Facts, number_of}
+use Rattle.fs_compile.specs.Fast.{AreFree}
 use Rattle.fs_compile.specs.Numbers.{has_field}
 use Rattle.fs_compile.specs.Ranges.{range_holds, ranges_hold, with_range}
 use Rattle.fs_compile.specs.Spans.{contains, is_in}
@@ -55,7 +53,7 @@ both false true range false e f = refl
 both false false range false e f = refl
 
 -- a range more that holds of each packet that passes the test
-pub hull_placed : (ranges new : Ranges) (place : ℕ) (range : Range) (test : Test) (facts : Facts) → place < 4 → AreFree place ranges → new ≡ with_range ranges place range → number_of facts 0 ≡ 0
+pub hull_placed : (ranges new : Ranges) (place : ℕ) (range : Range) (test : Test) (facts : Facts) → place < 4 → AreFree place ranges → new ≡ with_range ranges range → number_of facts 0 ≡ 0
     → (passes facts test ≡ true → range_holds facts range ≡ true) → (ranges_hold facts new && passes facts test) ≡ (ranges_hold facts ranges && passes facts test)
 hull_placed ranges new place range test facts below free made none within =
     both (ranges_hold facts new) (ranges_hold facts ranges) (range_holds facts range) (passes facts test) (put_placed ranges new place range [] (Within range) below free refl made facts none) within
@@ -70,17 +68,3 @@ pushed true true false test h = refl
 pushed true false false test h = refl
 pushed false true false test h = refl
 pushed false false false test h = refl
-
--- the last comes first
-pub turned : (a b c d : Bool) → (b && (c && (d && a))) ≡ (a && (b && (c && d)))
-turned true true true true = refl
-turned true true true false = refl
-turned true true false d = refl
-turned true false c d = refl
-turned false true true true = refl
-turned false true true false = refl
-turned false true false d = refl
-turned false false c d = refl
-
-pub turned_tests : (parts : List Part) (ranges new : Ranges) (tests : List Test) → ((facts : Facts) → ranges_hold facts new ≡ ranges_hold facts ranges) → AreTestsOf parts ranges tests → AreTestsOf parts new tests
-turned_tests parts ranges new tests same h = λ view small. ap (λ (b : Bool). b && list_all (passes (facts_of view)) tests) (same (facts_of view)) ∙ h view small

@@ -1,8 +1,8 @@
 -- One test more of a rule, in a free place among its ranges or behind them.
-use Rattle.std.proofs.Common.{◌≡◌, ◌≢◌, ℕ, zero, suc, ◌+◌, ◌<◌, ◌≤◌, List, [], ◌∷◌, length, drop, get_or, set, Bool, true, false, ◌&&◌, ◌==◌, nat_le, Some, refl, sym, ap, subst, ◌∙◌, arith}
+use Rattle.std.proofs.Common.{◌≡◌, ℕ, zero, suc, ◌+◌, ◌<◌, ◌≤◌, List, [], ◌∷◌, length, drop, get_or, Bool, true, ◌&&◌, ◌==◌, nat_le, Some, refl, sym, ap, subst, ◌∙◌, arith}
 use Rattle.std.specs.List.{list_all}
 use Rattle.std.proofs.Math.Seq.{drop-cons}
-use Rattle.std.proofs.lemmas.List.{drop_all, get_or-set_other, get_or-set_same}
+use Rattle.std.proofs.lemmas.List.{drop_all}
 use Rattle.fs_base.proofs.Bools.{and_first, and_second}
 use Rattle.fs_base.specs.Bits.{afi_of}
 use Rattle.fs_nlri.specs.declared.component.Component.{Component}
@@ -21,39 +21,8 @@ use Rattle.fs_compile.specs.Ranges.{bounds_at, field_at, free_ranges, is_in_rang
 use Rattle.fs_compile.specs.Tests.{IsTestOf, passes, test_range}
 use Rattle.fs_compile.proofs.Truths.{and_assoc, and_flip, and_swap, and_true}
 
-first_of_four : (a b c d x : Bool) → a ≡ true → (x && (b && (c && d))) ≡ ((a && (b && (c && d))) && x)
-first_of_four a b c d x h = and_flip x (b && (c && d)) ∙ sym (ap (λ (a : Bool). (a && (b && (c && d))) && x) h)
-
-second_of_four : (a b c d x : Bool) → b ≡ true → (a && (x && (c && d))) ≡ ((a && (b && (c && d))) && x)
-second_of_four true b c d x h = and_flip x (c && d) ∙ sym (ap (λ (b : Bool). (b && (c && d)) && x) h)
-second_of_four false b c d x h = refl
-
-third_of_four : (a b c d x : Bool) → c ≡ true → (a && (b && (x && d))) ≡ ((a && (b && (c && d))) && x)
-third_of_four true true c d x h = and_flip x d ∙ sym (ap (λ (c : Bool). (c && d) && x) h)
-third_of_four true false c d x h = refl
-third_of_four false b c d x h = refl
-
-fourth_of_four : (a b c d x : Bool) → d ≡ true → (a && (b && (c && x))) ≡ ((a && (b && (c && d))) && x)
-fourth_of_four true true true d x h = sym (ap (λ (d : Bool). d && x) h)
-fourth_of_four true true false d x h = refl
-fourth_of_four true false c d x h = refl
-fourth_of_four false b c d x h = refl
-
-one_of_four : (place : ℕ) (old new : ℕ → Bool) (x : Bool) → place < 4 → new place ≡ x → old place ≡ true → ((k : ℕ) → k ≢ place → new k ≡ old k)
-    → (new 0 && (new 1 && (new 2 && new 3))) ≡ ((old 0 && (old 1 && (old 2 && old 3))) && x)
-one_of_four zero old new x below here free others =
-    (λ i. here i && (others 1 (λ e. omega arith) i && (others 2 (λ e. omega arith) i && others 3 (λ e. omega arith) i)))
-    ∙ first_of_four (old 0) (old 1) (old 2) (old 3) x free
-one_of_four (suc zero) old new x below here free others =
-    (λ i. others 0 (λ e. omega arith) i && (here i && (others 2 (λ e. omega arith) i && others 3 (λ e. omega arith) i)))
-    ∙ second_of_four (old 0) (old 1) (old 2) (old 3) x free
-one_of_four (suc (suc zero)) old new x below here free others =
-    (λ i. others 0 (λ e. omega arith) i && (others 1 (λ e. omega arith) i && (here i && others 3 (λ e. omega arith) i)))
-    ∙ third_of_four (old 0) (old 1) (old 2) (old 3) x free
-one_of_four (suc (suc (suc zero))) old new x below here free others =
-    (λ i. others 0 (λ e. omega arith) i && (others 1 (λ e. omega arith) i && (others 2 (λ e. omega arith) i && here i)))
-    ∙ fourth_of_four (old 0) (old 1) (old 2) (old 3) x free
-one_of_four (suc (suc (suc (suc n)))) old new x below here free others = absurd (omega arith)
+first_of_four : (a b c d x : Bool) → d ≡ true → (x && (a && (b && c))) ≡ ((a && (b && (c && d))) && x)
+first_of_four a b c d x h = and_flip x (a && (b && c)) ∙ ap (λ (t : Bool). (a && (b && t)) && x) (sym (ap (λ (d : Bool). c && d) h ∙ and_true c))
 
 range_is : (facts : Facts) (test : Test) (range : Range) → test_range test ≡ Some range → passes facts test ≡ range_holds facts range
 range_is facts (Within inner) range h = let same : inner ≡ range = cc in ap (range_holds facts) same
@@ -69,28 +38,24 @@ free_holds : (facts : Facts) (ranges : Ranges) (place : ℕ) → number_of facts
 free_holds facts ranges place none field bounds =
     (λ i. is_in_range facts (field i) (bounds i).0 (bounds i).1) ∙ ap (λ (n : ℕ). nat_le 0 n && nat_le n 0) none
 
-here_holds : (facts : Facts) (ranges : Ranges) (place : ℕ) (range : Range) → place < length ranges.fields → place < length ranges.bounds → range_at facts (with_range ranges place range) place ≡ range_holds facts range
-here_holds facts ranges place range fields bounds =
-    let field : get_or (set ranges.fields place range.field) place 0 ≡ range.field = get_or-set_same ranges.fields place range.field 0 fields in
-    let bound : get_or (set ranges.bounds place (range.low, range.high)) place (0, 0) ≡ (range.low, range.high) = get_or-set_same ranges.bounds place (range.low, range.high) (0, 0) bounds in
-    (λ i. is_in_range facts (field i) (bound i).0 (bound i).1)
-
-other_field : (ranges : Ranges) (place k : ℕ) (range : Range) → k ≢ place → field_at (with_range ranges place range) k ≡ field_at ranges k
-other_field ranges place k range apart = get_or-set_other ranges.fields place k range.field 0 apart
-
-other_bounds : (ranges : Ranges) (place k : ℕ) (range : Range) → k ≢ place → bounds_at (with_range ranges place range) k ≡ bounds_at ranges k
-other_bounds ranges place k range apart = get_or-set_other ranges.bounds place k (range.low, range.high) (0, 0) apart
-
-pub put_placed : (ranges new : Ranges) (place : ℕ) (range : Range) (tests : List Test) (test : Test) → place < 4 → AreFree place ranges → test_range test ≡ Some range → new ≡ with_range ranges place range
+pub put_placed : (ranges new : Ranges) (place : ℕ) (range : Range) (tests : List Test) (test : Test) → place < 4 → AreFree place ranges → test_range test ≡ Some range → new ≡ with_range ranges range
     → IsPlaced test ranges tests new tests
 put_placed ranges new place range tests test below free is made = λ facts none.
-    let four : ranges_hold facts (with_range ranges place range) ≡ (ranges_hold facts ranges && range_holds facts range) =
-    one_of_four place (range_at facts ranges) (range_at facts (with_range ranges place range)) (range_holds facts range) below (here_holds facts ranges place range (subst (λ (n : ℕ). place < n) (sym free.fields) below) (subst (λ (n : ℕ). place < n) (sym free.bounds) below))
-    (free_holds facts ranges place none (free.free place (omega arith) below).0 (free.free place (omega arith) below).1)
-    (λ k apart i. is_in_range facts (other_field ranges place k range apart i) (other_bounds ranges place k range apart i).0 (other_bounds ranges place k range apart i).1) in
+    let last : (field_at ranges 3 ≡ 0) × (bounds_at ranges 3 ≡ (0, 0)) = free.free 3 (omega (arith, below)) (omega arith) in
+    let four : ranges_hold facts (with_range ranges range) ≡ (ranges_hold facts ranges && range_holds facts range) =
+    first_of_four (range_at facts ranges 0) (range_at facts ranges 1) (range_at facts ranges 2) (range_at facts ranges 3) (range_holds facts range) (free_holds facts ranges 3 none last.0 last.1) in
     (λ i. ranges_hold facts (made i) && list_all (passes facts) tests)
     ∙ ap (λ (b : Bool). b && list_all (passes facts) tests) (four ∙ sym (ap (λ (b : Bool). ranges_hold facts ranges && b) (range_is facts test range is)))
     ∙ and_swap (ranges_hold facts ranges) (passes facts test) (list_all (passes facts) tests)
+
+pub put_free : (ranges new : Ranges) (used : ℕ) (range : Range) → AreFree used ranges → new ≡ with_range ranges range → AreFree (used + 1) new
+put_free ranges new used range free made = subst (AreFree (used + 1)) (sym made) (record { fields = refl; bounds = refl; free = by }) where
+  by : (k : ℕ) → used + 1 ≤ k → k < 4 → (field_at (with_range ranges range) k ≡ 0) × (bounds_at (with_range ranges range) k ≡ (0, 0))
+  by zero low high = absurd (omega (arith, low))
+  by (suc zero) low high = free.free 0 (omega (arith, low)) (omega arith)
+  by (suc (suc zero)) low high = free.free 1 (omega (arith, low)) (omega arith)
+  by (suc (suc (suc zero))) low high = free.free 2 (omega (arith, low)) (omega arith)
+  by (suc (suc (suc (suc k)))) low high = absurd (omega (arith, high))
 
 -- the components before the index are compiled
 pub record Compiling (components : List Component) (index used : ℕ) (ranges : Ranges) (tests : List Test) : Type 0 where

@@ -1,5 +1,5 @@
 -- Ranges of a packet's fields, of which four stand within a rule.
-use Rattle.std.specs.Prelude.{ℕ, Bool, ◌&&◌, nat_le, [], ◌∷◌, get_or, set}
+use Rattle.std.specs.Prelude.{ℕ, Bool, ◌&&◌, nat_le, [], ◌∷◌, get_or}
 use Rattle.fs_compile.specs.declared.ranges.Range.{Range}
 use Rattle.fs_compile.specs.declared.ranges.Ranges.{Ranges}
 use Rattle.fs_compile.specs.Facts.{Facts, number_of}
@@ -32,8 +32,9 @@ free_ranges = record {
   bounds = (0, 0) ∷ (0, 0) ∷ (0, 0) ∷ (0, 0) ∷ [];
 }
 
-abbrev pub with_range : Ranges → (place : ℕ) → Range → Ranges
-with_range ranges place range = record {
-  fields = set ranges.fields place range.field;
-  bounds = set ranges.bounds place (range.low, range.high);
+-- before the others, of which the last goes
+abbrev pub with_range : Ranges → Range → Ranges
+with_range ranges range = record {
+  fields = range.field ∷ field_at ranges 0 ∷ field_at ranges 1 ∷ field_at ranges 2 ∷ [];
+  bounds = (range.low, range.high) ∷ bounds_at ranges 0 ∷ bounds_at ranges 1 ∷ bounds_at ranges 2 ∷ [];
 }

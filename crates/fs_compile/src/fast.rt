@@ -176,11 +176,11 @@ fn tests_of(alloc: Global, components: &[Component]) -> Result<(Ranges, Vec<Test
         used = place(&mut ranges, used, &mut tests, test)?;
     }
     tests.shrink_to_fit();
-    Ok((ranges.with_destination_last(), tests))
+    Ok((ranges, tests))
 }
 
-/// Puts the test into the first free place, if it's a range and one is free, else behind the others, with its hull before
-/// them. Answers how many places are taken.
+/// Puts the test among the ranges, if it's one and a place is free, else behind the others, with its hull among the ranges.
+/// Answers how many places are taken.
 fn place(
     ranges: &mut Ranges,
     used: usize,
@@ -194,7 +194,7 @@ fn place(
     if used < PLACES
         && let Some(range) = test.range()
     {
-        ranges.put(used, range);
+        ranges.put(range);
         return Ok(used + 1);
     }
     make_room(tests)?;
@@ -206,8 +206,8 @@ fn place(
 /// The place that no hull takes.
 const LAST: usize = PLACES - 1;
 
-/// Puts the hull of the test into the first free place, unless that is the last: most packets that don't pass the test
-/// fail there. Answers how many places are taken.
+/// Puts the hull of the test among the ranges, unless only one place is free: most packets that don't pass the test fail
+/// there. Answers how many places are taken.
 fn place_hull(ranges: &mut Ranges, used: usize, test: &Test) -> usize
     requires { AreFree used ranges.old }
     ensures same { (facts : Facts)
@@ -219,7 +219,7 @@ fn place_hull(ranges: &mut Ranges, used: usize, test: &Test) -> usize
     if used < LAST
         && let Some(range) = test.hull()
     {
-        ranges.put(used, range);
+        ranges.put(range);
         return used + 1;
     }
     used

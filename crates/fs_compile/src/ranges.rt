@@ -48,12 +48,14 @@ impl Ranges {
         }
     }
 
-    pub(crate) fn put(&mut self, place: usize, range: Range)
-        requires { place < 4 }
-        ensures { self.new ≡ with_range self.old place range }
+    /// Puts a range before the others, of which the last, that of a free place, goes. So the later components, in which
+    /// rules differ most, are tested first, and the destination last, which mostly holds where a rule is tested.
+    pub(crate) fn put(&mut self, range: Range)
+        ensures { self.new ≡ with_range self.old range }
     {
-        self.fields[place] = range.field;
-        self.bounds[place] = (range.low, range.high);
+        let (fields, bounds) = (self.fields, self.bounds);
+        self.fields = [range.field, fields[0], fields[1], fields[2]];
+        self.bounds = [(range.low, range.high), bounds[0], bounds[1], bounds[2]];
     }
 
     /// Whether all four hold.
@@ -65,20 +67,6 @@ impl Ranges {
             && self.holds_at(1, facts)
             && self.holds_at(2, facts)
             && self.holds_at(3, facts)
-    }
-
-    /// The same with a range of the destination behind the others: where a rule is tested its destination mostly holds.
-    pub(crate) fn with_destination_last(self) -> Ranges
-        ensures { (facts : Facts) → ranges_hold facts result ≡ ranges_hold facts self }
-    {
-        if self.fields[0] != 1 {
-            return self;
-        }
-        let (fields, bounds) = (self.fields, self.bounds);
-        Ranges {
-            fields: [fields[1], fields[2], fields[3], fields[0]],
-            bounds: [bounds[1], bounds[2], bounds[3], bounds[0]],
-        }
     }
 
     /// Within which numbers the field is where all four hold.

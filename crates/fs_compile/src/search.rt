@@ -188,10 +188,11 @@ pub(crate) fn climb<L: Ledger>(
     let mut bucket = start.bucket;
     while bucket < buckets.lasts.len() {
         let place = Place { bucket, ..start };
+        let parent = buckets.nodes.at(bucket).parent;
         if let Some(number) = scan_bucket(buckets, rules, filters, facts, place, long, steps) {
             return Some(Hit { number, bucket });
         }
-        bucket = buckets.nodes.at(bucket).parent as usize;
+        bucket = parent as usize;
     }
     let tail = start.from.max(buckets.homes.len());
     let number = scan_run(rules, filters, facts, tail, rules.len(), long, steps)?;

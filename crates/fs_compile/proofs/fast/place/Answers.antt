@@ -5,7 +5,7 @@ use Rattle.fs_compile.specs.declared.tests.Test.{Test}
 use Rattle.fs_compile.specs.Ranges.{ranges_hold}
 use Rattle.fs_compile.specs.Tests.{passes}
 use Rattle.fs_compile.proofs.Hulls.{pushed}
-use Rattle.fs_compile.proofs.Placing.{put_placed}
+use Rattle.fs_compile.proofs.Placing.{put_free, put_placed}
 use Rattle.fs_compile.proofs.Truths.{and_true}
 use Rattle.fs_compile.proofs.fast.place.Goals as goal
 
@@ -22,3 +22,6 @@ returns-2-clause-placed c = λ facts none.
     (c.place_hull-next.ensures.same facts none) where
       items : c.push.new.self.items ≡ c.args.tests.now.items ++ c.args.test ∷ []
       items = c.in_ok-push.ensures.items ∙ ap (λ (all : List Test). all ++ c.args.test ∷ []) c.make_room.ensures
+
+pub returns-clause-free : goal.returns-clause-free
+returns-clause-free c = put_free c.args.ranges.now c.put.new.self c.args.used c.in-Some.range c.requires c.put.ensures

@@ -1,6 +1,4 @@
 use Rattle.std.proofs.Common.{◌+◌, arith, refl}
-use Rattle.fs_nlri.specs.Component.{parts_of}
-use Rattle.fs_compile.proofs.Hulls.{turned_tests}
 use Rattle.fs_compile.proofs.Placing.{at_index, compiled_all, compiled_more, compiled_none}
 use Rattle.fs_compile.proofs.fast.tests_of.Goals as goal
 
@@ -17,5 +15,4 @@ loop-component-preserved c =
 pub returns : goal.returns
 returns c =
     rw c.shrink_to_fit.ensures.items
-    (turned_tests (parts_of c.args.components.now) c.loop-component.ranges c.with_destination_last.result c.loop-component.tests.items c.with_destination_last.ensures
-    (compiled_all c.args.components.now c.loop-component.component-index c.loop-component.used c.loop-component.ranges c.loop-component.tests.items (omega arith) c.loop-component.invariant))
+    (compiled_all c.args.components.now c.loop-component.component-index c.loop-component.used c.loop-component.ranges c.loop-component.tests.items (omega arith) c.loop-component.invariant)

@@ -24,16 +24,16 @@ loop-bucket-init g c = record {
 
 pub loop-bucket-preserved : goal.loop-bucket-preserved
 loop-bucket-preserved g c = record {
-  within = subst (λ (x : Node ℕ). x.parent ≤ length (numbers_in c.args.buckets.now.lasts)) (sym c.at-bucket.ensures) (c.requires.sound.within c.loop-bucket.bucket inside);
-  ends = subst (λ (x : Node ℕ). x.parent < length (numbers_in c.args.buckets.now.lasts) → c.args.start.address ≤ get_or (numbers_in c.args.buckets.now.lasts) x.parent 0) (sym c.at-bucket.ensures)
+  within = subst (λ (x : Node ℕ). x.parent ≤ length (numbers_in c.args.buckets.now.lasts)) (sym c.at-parent.ensures) (c.requires.sound.within c.loop-bucket.bucket inside);
+  ends = subst (λ (x : Node ℕ). x.parent < length (numbers_in c.args.buckets.now.lasts) → c.args.start.address ≤ get_or (numbers_in c.args.buckets.now.lasts) x.parent 0) (sym c.at-parent.ensures)
       (parent_ends (numbers_in c.args.buckets.now.lasts) (nodes_in c.args.buckets.now.nodes) c.args.buckets.now.homes.items (length c.args.rules.now) c.args.start.address c.loop-bucket.bucket c.requires.sound inside
       (c.loop-bucket.invariant.ends inside));
   later = let a = c.loop-bucket.invariant.later in let b = c.scan_bucket.ensures.later in omega (arith, a, b);
   missed = λ near n w.
-      subst (λ (x : Node ℕ). Missed (hits c.args.facts.now c.args.rules.now) c.args.start.from (start_at c.args.buckets.now x.parent)) (sym c.at-bucket.ensures)
+      subst (λ (x : Node ℕ). Missed (hits c.args.facts.now c.args.rules.now) c.args.start.from (start_at c.args.buckets.now x.parent)) (sym c.at-parent.ensures)
       (missed_none _ _ c.scan_bucket.result (c.scan_bucket.ensures.found near n w (c.loop-bucket.invariant.missed near n w)) c.in_default.is);
   steps = λ near n.
-      subst (λ (x : Node ℕ). c.scan_bucket.new.steps + marked c.args.start.from near ≤ c.args.steps.now + marked (max c.args.start.from (start_at c.args.buckets.now x.parent)) near) (sym c.at-bucket.ensures)
+      subst (λ (x : Node ℕ). c.scan_bucket.new.steps + marked c.args.start.from near ≤ c.args.steps.now + marked (max c.args.start.from (start_at c.args.buckets.now x.parent)) near) (sym c.at-parent.ensures)
       (let inv = c.loop-bucket.invariant.steps near n in let own = c.in_default.ensures.steps near n in omega (arith, inv, own));
 } where
   inside : c.loop-bucket.bucket < length (numbers_in c.args.buckets.now.lasts)
