@@ -106,11 +106,29 @@ impl Fast {
     {
         self.ranges.hold(facts)
             && self.family == facts.view.family()
-            && (self.tests.is_empty() || all_pass(&self.tests, facts))
+            && tests_pass(&self.tests, facts)
     }
 }
 
-/// Most rules that come so far have none of these: they stand apart, so that the others are tested in place.
+/// Most rules have none of these or one: what asks for them stands apart, so that ranges are tested in place.
+#[inline(always)]
+fn tests_pass(tests: &[Test], facts: &Facts<'_>) -> bool
+    ensures { result ≡ list_all (passes facts.now) tests.now }
+{
+    match tests {
+        [] => true,
+        [test] => one_passes(test, facts),
+        _ => all_pass(tests, facts),
+    }
+}
+
+#[inline(never)]
+fn one_passes(test: &Test, facts: &Facts<'_>) -> bool
+    ensures { result ≡ passes facts.now test.now }
+{
+    test.passes(facts)
+}
+
 #[inline(never)]
 fn all_pass(tests: &[Test], facts: &Facts<'_>) -> bool
     ensures { result ≡ list_all (passes facts.now) tests.now }
