@@ -5,8 +5,8 @@
 
 The example's capture is read in each of the orders and formats that there are, counted, split, cut, joined and
 drawn, and each wrong input is refused. What is expected was read off the README and off tshark. With PROGRAM, or the
-one that was built, the parts are also judged anew: their lines are those of the whole. A trial whose tool is missing is
-skipped with a line. Ends with 1 at the first difference.
+one that was built, the parts are also judged anew: their lines are those of the whole; and a table of 131,072 rules
+is. A trial whose tool is missing is skipped with a line. Ends with 1 at the first difference.
 """
 
 import functools
@@ -21,6 +21,11 @@ import tempfile
 import xml.etree.ElementTree
 
 ROOT = pathlib.Path(__file__).resolve().parent.parent
+sys.path.append(str(ROOT / "bench"))
+
+from changes import CONFIG, START, announce, flow, slash24
+from enforce import packet, write_packets
+
 TOOL = ROOT / "tools" / "verdicts.py"
 DATA = ROOT / "crates" / "welgutan" / "data"
 CAPTURE = (DATA / "packets.pcap").read_bytes()
@@ -285,6 +290,17 @@ def install(folder):
     want("table netdev welgutan" in done.stdout, f"the installed welgutan-nft says {done.stderr}")
 
 
+def judges_many(folder, program):
+    """A table of 131,072 rules isn't too large: a packet meets the last of them."""
+    rules = 1 << 17
+    parts = [*START, announce(b"\x07\x0a"), *(flow(b"\x05\x01" + slash24(number)) for number in range(rules))]
+    (folder / "config").write_text(CONFIG)
+    (folder / "tape").write_bytes(b"".join(parts))
+    write_packets(folder / "capture", [packet(bytes([11, 255, 255, 1]), 80)])
+    lines = run(program, "enforce", *(folder / name for name in ("config", "tape", "capture")))
+    want(lines == f"1 discard rules {rules}\n", f"of a packet under {rules} rules it is said: {lines}")
+
+
 def main():
     built = ROOT / "crates" / "welgutan" / "out" / "welgutan"
     program = pathlib.Path(sys.argv[1]).resolve() if len(sys.argv) > 1 else built if built.exists() else None
@@ -298,6 +314,8 @@ def main():
         splits(folder, program)
         joins(folder, program)
         refuses(folder)
+        if program:
+            judges_many(folder, program)
         for tool, trial in (("gnuplot", picture), ("mandoc", manual), ("make", install)):
             if shutil.which(tool):
                 trial(folder)
