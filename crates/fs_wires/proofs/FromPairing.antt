@@ -23,7 +23,7 @@ use Rattle.fs_stages.specs.Load.{Names, config_stage, rules_stage}
 use Rattle.fs_stages.specs.Refusal.{Found, HasReason, answered, status_of, and_then, or_stop}
 use Rattle.fs_stages.specs.declared.refusal.Refusal.{Refusal}
 use Rattle.fs_stages.proofs.Stages.{answers_for}
-use Rattle.fs_wires.specs.Announcing.{IsBrokenOff}
+use Rattle.fs_wires.specs.Announcing.{IsBrokenOff, IsOfSession}
 use Rattle.fs_wires.specs.Conversation.{Conversation}
 use Rattle.fs_wires.specs.Listed.{IsListing, ListsDesk, TellsListing, verdict_by}
 use Rattle.fs_wires.specs.Pairing.{BothBegin, Joined, JoinsSo, Meets}
@@ -53,6 +53,10 @@ never_three {A} ending desk failed before now answer (inr told) three = by told.
 pub broken_three : {A : Type 0} (failed : Type 0) (refusal : Refusal) → IsBrokenOff failed refusal → status_of refusal ≡ 3 → A
 broken_three failed refusal (inl h) three = let at : ◌≡◌ {A = ℕ} 6 3 = ap status_of (sym h) ∙ three in absurd cc
 broken_three failed refusal (inr h) three = let at : ◌≡◌ {A = ℕ} 1 3 = ap status_of (sym h.0) ∙ three in absurd cc
+
+pub broken_session : (failed : Type 0) (refusal : Refusal) → IsBrokenOff failed refusal → IsOfSession (status_of refusal)
+broken_session failed refusal (inl h) = subst (λ (r : Refusal). IsOfSession (status_of r)) (sym h) ((λ e. absurd cc), (λ e. absurd cc), λ e. absurd cc)
+broken_session failed refusal (inr h) = subst (λ (r : Refusal). IsOfSession (status_of r)) (sym h.0) ((λ e. absurd cc), (λ e. absurd cc), λ e. absurd cc)
 
 -- what was told of both ends that were opened, spoken through, and closed
 

@@ -1,5 +1,5 @@
 -- What `announce` answers, writes, and says to the other end.
-use Rattle.std.specs.Prelude.{◌≡◌, ◌⊎◌, ℕ, ◌+◌, List, [], ◌∷◌, ◌++◌, length, nat_le, if◌then◌else◌, Option, Some}
+use Rattle.std.specs.Prelude.{◌≡◌, ◌≢◌, ◌⊎◌, ℕ, ◌+◌, List, [], ◌∷◌, ◌++◌, length, nat_le, if◌then◌else◌, Option, Some}
 use Rattle.fs_base.specs.Happened.{Happened, FilesFailed, SinkFailed, WireFailed}
 use Rattle.fs_base.specs.Sink.{Grew}
 use Rattle.fs_base.specs.Wire.{Told, WireEnds}
@@ -67,6 +67,10 @@ pub record Connected (ending : Ending) (config : Config) (sending : Sending) (li
 -- memory was wanting, or a call outside failed
 abbrev pub IsBrokenOff : Type 0 → Refusal → Type 0
 IsBrokenOff failed refusal = (refusal ≡ Memory) ⊎ ((refusal ≡ Outside) × failed)
+
+-- a status of a session: of no tape, of no capture and of no dump
+abbrev pub IsOfSession : ℕ → Type 0
+IsOfSession status = (status ≢ 4) × (status ≢ 5) × (status ≢ 10)
 
 -- what is answered and written at such an end, of so many rules
 abbrev pub verdict_of : Ending → ℕ → Verdict

@@ -6,7 +6,7 @@ ghost use Rattle.fs_base.specs.Outside.{Rose};
 ghost use Rattle.fs_speaker.specs.Announcer.{CanSend};
 ghost use Rattle.fs_speaker.specs.Sending.{sender_of};
 ghost use Rattle.fs_stages.specs.Refusal.{answered};
-ghost use Rattle.fs_wires.specs.Announcing.{Announces, Connected, IsBrokenOff};
+ghost use Rattle.fs_wires.specs.Announcing.{Announces, Connected, IsBrokenOff, IsOfSession};
 ghost use Rattle.fs_wires.specs.Conversation.{conversation};
 
 use crate::tell::tell_ending;
@@ -44,6 +44,7 @@ pub fn announce<F: Files, S: Sink, W: Wire, C: Clock>(
     order: &Announcement<'_>,
 ) -> Result<(), Refusal>
     requires { 1 ≤ order.now.limit }
+    ensures possible { IsOfSession (answered result) }
     ensures quiet { (answered result ≡ 3) ⊎ (answered result ≡ 6) → sink.new ≡ sink.old }
     ensures unspoken { answered result ≡ 3 → wire.new ≡ wire.old }
     ensures unasked { answered result ≡ 3 → clock.new ≡ clock.old }

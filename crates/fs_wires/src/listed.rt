@@ -3,6 +3,7 @@
 ghost use Rattle.std.specs.Prelude.{◌≡◌, ◌≤◌, ◌⊎◌};
 ghost use Rattle.fs_base.specs.Outside.{Rose};
 ghost use Rattle.fs_stages.specs.Refusal.{answered};
+ghost use Rattle.fs_wires.specs.Announcing.{IsOfSession};
 ghost use Rattle.fs_wires.specs.Listed.{TellsListing};
 
 use crate::lines::ended_line;
@@ -29,6 +30,7 @@ pub fn tell_listing<S: Sink>(
     sink: &mut S,
 ) -> Result<(), Refusal>
     ensures later { S.faults sink.old ≤ S.faults sink.new }
+    ensures possible { IsOfSession (answered result) }
     ensures quiet { (answered result ≡ 3) ⊎ (answered result ≡ 6) → sink.new ≡ sink.old }
     ensures told { TellsListing ending desk.now (Rose (S.faults sink.old) (S.faults sink.new))
         (S.written sink.old) (S.written sink.new) (answered result) }
@@ -44,6 +46,7 @@ pub fn tell_listing<S: Sink>(
 /// Writes the listing of the desk.
 fn write_listing<S: Sink>(alloc: Global, desk: &Desk<'_>, sink: &mut S) -> Result<(), Refusal>
     ensures later { S.faults sink.old ≤ S.faults sink.new }
+    ensures possible { IsOfSession (answered result) }
     ensures quiet { (answered result ≡ 3) ⊎ (answered result ≡ 6) → sink.new ≡ sink.old }
     ensures told { TellsListing Ending.Done desk.now (Rose (S.faults sink.old) (S.faults sink.new))
         (S.written sink.old) (S.written sink.new) (answered result) }

@@ -6,7 +6,7 @@ ghost use Rattle.fs_base.specs.Outside.{Rose};
 ghost use Rattle.fs_desk.specs.Desk.{standing_at_desk};
 ghost use Rattle.fs_receive.specs.Hearer.{Receives, is_ended};
 ghost use Rattle.fs_stages.specs.Refusal.{HasReason, answered};
-ghost use Rattle.fs_wires.specs.Announcing.{IsBrokenOff};
+ghost use Rattle.fs_wires.specs.Announcing.{IsBrokenOff, IsOfSession};
 ghost use Rattle.fs_wires.specs.Conversation.{conversation};
 ghost use Rattle.fs_wires.specs.Listening.{Begins, ListensThrough, ListensTo, with_peer};
 
@@ -44,6 +44,7 @@ pub fn listen<F: Files, S: Sink, W: Wire, C: Clock>(
     order: &Reception<'_>,
 ) -> Result<(), Refusal>
     requires { 1 ≤ order.now.limit }
+    ensures possible { IsOfSession (answered result) }
     ensures quiet { (answered result ≡ 3) ⊎ (answered result ≡ 6) → sink.new ≡ sink.old }
     ensures unspoken { answered result ≡ 3 → wire.new ≡ wire.old }
     ensures unasked { answered result ≡ 3 → clock.new ≡ clock.old }
@@ -70,6 +71,7 @@ pub(crate) fn lowest<'a>(alloc: Global, config: &'a Config) -> Result<Hearer<'a>
     ensures begins { MatchResult result
         (λ made. Begins config.entry.now made.desk made.peer made.count)
         (HasReason (with_peer config.entry.now) ⊥) }
+    ensures possible { IsOfSession (answered result) }
     ensures open { IfOk result (λ made. is_ended (standing_at_desk made.desk made.peer) ≡ false) }
 {
     let Some(peer) = sender(config) else {

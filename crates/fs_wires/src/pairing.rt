@@ -11,7 +11,7 @@ ghost use Rattle.fs_speaker.specs.Announcer.{CanSend};
 ghost use Rattle.fs_speaker.specs.Sending.{sender_of};
 ghost use Rattle.fs_speaker.specs.declared.Sending.{Sending};
 ghost use Rattle.fs_stages.specs.Refusal.{answered};
-ghost use Rattle.fs_wires.specs.Announcing.{IsBrokenOff};
+ghost use Rattle.fs_wires.specs.Announcing.{IsBrokenOff, IsOfSession};
 ghost use Rattle.fs_wires.specs.Conversation.{conversation};
 ghost use Rattle.fs_wires.specs.Listed.{ListsDesk};
 ghost use Rattle.fs_wires.specs.Pairing.{BothBegin, Joined, Joins};
@@ -52,6 +52,7 @@ pub fn pair<F: Files, S: Sink, W: Wire, C: Clock>(
     order: &Pairing<'_>,
 ) -> Result<(), Refusal>
     requires { 1 ≤ order.now.limit }
+    ensures possible { IsOfSession (answered result) }
     ensures quiet { (answered result ≡ 3) ⊎ (answered result ≡ 6) → sink.new ≡ sink.old }
     ensures unspoken { answered result ≡ 3 → wire.new ≡ wire.old }
     ensures unasked { answered result ≡ 3 → clock.new ≡ clock.old }

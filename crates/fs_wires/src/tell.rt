@@ -3,7 +3,7 @@
 ghost use Rattle.std.specs.Prelude.{◌≡◌, ◌≢◌, ◌≤◌, ◌⊎◌};
 ghost use Rattle.fs_base.specs.Outside.{Rose};
 ghost use Rattle.fs_stages.specs.Refusal.{Answers, answered, verdict_with};
-ghost use Rattle.fs_wires.specs.Announcing.{verdict_of};
+ghost use Rattle.fs_wires.specs.Announcing.{IsOfSession, verdict_of};
 ghost use Rattle.fs_wires.specs.Lines.{closing_line};
 
 use crate::lines::{closing_line, ended_line, sent_line};
@@ -28,6 +28,7 @@ pub fn tell_ending<S: Sink>(
     sink: &mut S,
 ) -> Result<(), Refusal>
     ensures later { S.faults sink.old ≤ S.faults sink.new }
+    ensures possible { IsOfSession (answered result) }
     ensures quiet { (answered result ≡ 3) ⊎ (answered result ≡ 6) → sink.new ≡ sink.old }
     ensures told { Answers (verdict_of ending count) (Rose (S.faults sink.old) (S.faults sink.new))
         (S.written sink.old) (S.written sink.new) (answered result) }
@@ -43,6 +44,7 @@ pub fn tell_ending<S: Sink>(
 /// Writes the line of so many rules that were announced.
 fn tell_sent<S: Sink>(alloc: Global, count: usize, sink: &mut S) -> Result<(), Refusal>
     ensures later { S.faults sink.old ≤ S.faults sink.new }
+    ensures possible { IsOfSession (answered result) }
     ensures quiet { (answered result ≡ 3) ⊎ (answered result ≡ 6) → sink.new ≡ sink.old }
     ensures told { Answers (verdict_of Ending.Done count) (Rose (S.faults sink.old) (S.faults sink.new))
         (S.written sink.old) (S.written sink.new) (answered result) }
@@ -54,6 +56,7 @@ fn tell_sent<S: Sink>(alloc: Global, count: usize, sink: &mut S) -> Result<(), R
 /// Writes the line of a session that closed, and answers that.
 pub(crate) fn tell_closing<S: Sink>(alloc: Global, why: Closed, sink: &mut S) -> Result<(), Refusal>
     ensures later { S.faults sink.old ≤ S.faults sink.new }
+    ensures possible { IsOfSession (answered result) }
     ensures quiet { (answered result ≡ 3) ⊎ (answered result ≡ 6) → sink.new ≡ sink.old }
     ensures told { Answers (verdict_with 8 (closing_line why)) (Rose (S.faults sink.old) (S.faults sink.new))
         (S.written sink.old) (S.written sink.new) (answered result) }
@@ -65,6 +68,7 @@ pub(crate) fn tell_closing<S: Sink>(alloc: Global, why: Closed, sink: &mut S) ->
 /// Writes the line of a session that closed or ended, and answers that.
 pub(crate) fn end_session<S: Sink>(line: &[u8], sink: &mut S) -> Result<(), Refusal>
     ensures later { S.faults sink.old ≤ S.faults sink.new }
+    ensures possible { IsOfSession (answered result) }
     ensures known { (answered result ≢ 3) × (answered result ≢ 6) }
     ensures told { Answers (verdict_with 8 line.now) (Rose (S.faults sink.old) (S.faults sink.new))
         (S.written sink.old) (S.written sink.new) (answered result) }

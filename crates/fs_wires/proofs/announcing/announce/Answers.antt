@@ -1,8 +1,9 @@
 use Rattle.std.proofs.Common.{◌⊎◌, inl}
 use Rattle.fs_base.specs.Outside.{Rose}
 use Rattle.fs_stages.proofs.Stages.{answered_err, rose_earlier}
-use Rattle.fs_wires.specs.Announcing.{AnnouncesSo}
+use Rattle.fs_wires.specs.Announcing.{AnnouncesSo, IsOfSession}
 use Rattle.fs_wires.specs.Conversation.{conversation}
+use Rattle.fs_wires.proofs.FromPairing.{broken_session}
 use Rattle.fs_wires.proofs.FromStages.{rules_stop}
 use Rattle.fs_wires.proofs.announcing.announce.Goals as goal
 
@@ -19,3 +20,8 @@ returns-in_err-sending-clause-announces g c = λ told.
     (g.S.Sink.written c.args.sink.now) (conversation g.W.Wire g.C.Clock c.args.wire.now c.args.wire.now c.args.clock.now c.args.clock.now) c.in_err-sending.field-0.0
     (c.in_ok-config.ensures.reaches told) (c.in_ok-config.ensures.holds told) (c.in_err-sending.ensures.reaches told)
     (λ r. inl (rose_earlier _ _ _ c.in_ok-config.ensures.later r)))
+
+pub returns-in_err-ending-clause-possible : goal.returns-in_err-ending-clause-possible
+returns-in_err-ending-clause-possible g c =
+    answered_err IsOfSession c.from_residual-in_err-ending.result c.in_err-ending.field-0.0 c.from_residual-in_err-ending.ensures.1
+    (broken_session (Rose (g.W.Wire.faults c.args.wire.now) (g.W.Wire.faults c.speak.new.wire)) c.in_err-ending.field-0.0 c.in_err-ending.ensures.broken)

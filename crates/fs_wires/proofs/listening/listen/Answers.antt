@@ -1,8 +1,10 @@
 use Rattle.std.proofs.Common.{◌⊎◌, inl, inr}
 use Rattle.fs_base.specs.Outside.{Rose}
 use Rattle.fs_stages.proofs.Stages.{answered_err}
+use Rattle.fs_wires.specs.Announcing.{IsOfSession}
 use Rattle.fs_wires.specs.Listening.{ListenedSo}
 use Rattle.fs_wires.specs.Conversation.{conversation}
+use Rattle.fs_wires.proofs.FromPairing.{broken_session}
 use Rattle.fs_wires.proofs.Hearing.{config_unheard, peer_unheard, session_heard, wire_unheard}
 use Rattle.fs_wires.proofs.listening.listen.Goals as goal
 
@@ -54,3 +56,8 @@ returns-clause-listens g c = λ told.
     (conversation g.W.Wire g.C.Clock c.args.wire.now c.hear.new.wire c.args.clock.now c.hear.new.clock) _
     (c.in_ok-config.ensures.reaches told) c.in_ok-hearer.ensures.begins c.in_ok-ending.ensures.heard
     (rw (← c.desk.ensures) c.tell_listing.ensures.told) (λ r. inr (inl r))
+
+pub returns-in_err-ending-clause-possible : goal.returns-in_err-ending-clause-possible
+returns-in_err-ending-clause-possible g c =
+    answered_err IsOfSession c.from_residual-in_err-ending.result c.in_err-ending.field-0.0 c.from_residual-in_err-ending.ensures.1
+    (broken_session (Rose (g.W.Wire.faults c.args.wire.now) (g.W.Wire.faults c.hear.new.wire)) c.in_err-ending.field-0.0 c.in_err-ending.ensures.broken)

@@ -2,9 +2,10 @@ use Rattle.std.proofs.Common.{◌≡◌, ◌⊎◌, inl, inr}
 use Rattle.fs_base.specs.Outside.{Rose}
 use Rattle.fs_stages.proofs.Stages.{answered_err, rose_earlier}
 use Rattle.fs_stages.specs.Refusal.{answered}
+use Rattle.fs_wires.specs.Announcing.{IsOfSession}
 use Rattle.fs_wires.specs.Pairing.{JoinsSo}
 use Rattle.fs_wires.specs.Conversation.{conversation}
-use Rattle.fs_wires.proofs.FromPairing.{broken_three, never_three, pair_config_stops, pair_rules_stop, pair_told, pair_wire_stops}
+use Rattle.fs_wires.proofs.FromPairing.{broken_session, broken_three, never_three, pair_config_stops, pair_rules_stop, pair_told, pair_wire_stops}
 use Rattle.fs_wires.proofs.pairing.pair.Goals as goal
 
 pub returns-in_err-config-clause-joins : goal.returns-in_err-config-clause-joins
@@ -90,3 +91,13 @@ pub returns-clause-unasked : goal.returns-clause-unasked
 returns-clause-unasked g c = λ three.
     never_three c.in_ok-ending.ending c.desk.result.now (Rose (g.S.Sink.faults c.args.sink.now) (g.S.Sink.faults c.tell_listing.new.sink))
     (g.S.Sink.written c.args.sink.now) (g.S.Sink.written c.tell_listing.new.sink) (answered c.tell_listing.result) c.tell_listing.ensures.told three
+
+pub returns-in_err-ends-clause-possible : goal.returns-in_err-ends-clause-possible
+returns-in_err-ends-clause-possible g c =
+    answered_err IsOfSession c.from_residual-in_err-ends.result c.in_err-ends.field-0.0 c.from_residual-in_err-ends.ensures.1
+    (broken_session ⊥ c.in_err-ends.field-0.0 c.in_err-ends.ensures.broken)
+
+pub returns-in_err-ending-clause-possible : goal.returns-in_err-ending-clause-possible
+returns-in_err-ending-clause-possible g c =
+    answered_err IsOfSession c.from_residual-in_err-ending.result c.in_err-ending.field-0.0 c.from_residual-in_err-ending.ensures.1
+    (broken_session (Rose (g.W.Wire.faults c.args.wire.now) (g.W.Wire.faults c.join.new.wire)) c.in_err-ending.field-0.0 c.in_err-ending.ensures.broken)
