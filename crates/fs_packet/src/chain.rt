@@ -37,6 +37,7 @@ struct Header<'a> {
 }
 
 /// Walks from a header's number and the octets that are held from it on, one header after the other.
+#[inline(always)]
 pub(crate) fn walk(number: u8, octets: &[u8]) -> Chain<'_>
     ensures protocol { result.protocol ≡ protocol_at (chain_of number octets.now).1 }
     ensures field { result.field ≡ last_field 0 (chain_of number octets.now).0 }
