@@ -7,7 +7,7 @@ use fs_base::Memory;
 use std::alloc::Global;
 
 /// Of more addresses, only so many are looked at.
-const MOST_ASKED: usize = 2048;
+const MOST_ASKED: usize = 1024;
 
 /// The most marks.
 const MOST_MARKS: usize = 512;
