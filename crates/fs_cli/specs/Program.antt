@@ -82,7 +82,7 @@ statuses (Surveys survey config tape) = 0 ∷ 1 ∷ 3 ∷ 4 ∷ 6 ∷ 7 ∷ []
 statuses (Converts config dump) = 0 ∷ 1 ∷ 3 ∷ 6 ∷ 7 ∷ 10 ∷ []
 statuses (Check subject word) = 0 ∷ 1 ∷ 6 ∷ 9 ∷ []
 statuses (Gen count) = 0 ∷ 1 ∷ 6 ∷ []
-statuses form = 0 ∷ 1 ∷ 3 ∷ 4 ∷ 5 ∷ 6 ∷ 7 ∷ 8 ∷ 10 ∷ []
+statuses form = 0 ∷ 1 ∷ 3 ∷ 6 ∷ 7 ∷ 8 ∷ []
 
 -- words that ask for no command answer 2 and write nothing
 abbrev pub Runs : (tells : Bool) (limit : ℕ) (holds : Names) → Option Form → Happened → Conversation → ℕ → Type 0

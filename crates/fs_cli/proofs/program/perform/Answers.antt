@@ -69,7 +69,8 @@ returns-in-Announce-clause-runs g c =
     (with_wire g.W.Wire c.args.wire.now c.announce.new.wire (happened g.F.Files g.S.Sink c.args.files.now c.announce.new.files c.args.sink.now c.announce.new.sink))
     (conversation g.W.Wire g.C.Clock c.args.wire.now c.announce.new.wire c.args.clock.now c.announce.new.clock)
     (answered c.announce.result) c.answer_of-in-Announce.result
-    (ap form_shown c.in-Announce.is) (sym c.answer_of-in-Announce.ensures.answered) (one_but c.announce.result [] tt) c.announce.ensures.announces
+    (ap form_shown c.in-Announce.is) (sym c.answer_of-in-Announce.ensures.answered)
+    (let p = c.announce.ensures.possible in one_but c.announce.result (4 ∷ 5 ∷ 10 ∷ []) (p.0, (p.1, (p.2, tt)))) c.announce.ensures.announces
 
 pub returns-in-Listen-clause-runs : goal.returns-in-Listen-clause-runs
 returns-in-Listen-clause-runs g c =
@@ -77,7 +78,8 @@ returns-in-Listen-clause-runs g c =
     (with_wire g.W.Wire c.args.wire.now c.listen.new.wire (happened g.F.Files g.S.Sink c.args.files.now c.listen.new.files c.args.sink.now c.listen.new.sink))
     (conversation g.W.Wire g.C.Clock c.args.wire.now c.listen.new.wire c.args.clock.now c.listen.new.clock)
     (answered c.listen.result) c.answer_of-in-Listen.result
-    (ap form_shown c.in-Listen.is) (sym c.answer_of-in-Listen.ensures.answered) (one_but c.listen.result [] tt) c.listen.ensures.listens
+    (ap form_shown c.in-Listen.is) (sym c.answer_of-in-Listen.ensures.answered)
+    (let p = c.listen.ensures.possible in one_but c.listen.result (4 ∷ 5 ∷ 10 ∷ []) (p.0, (p.1, (p.2, tt)))) c.listen.ensures.listens
 
 pub returns-in-Pair-clause-runs : goal.returns-in-Pair-clause-runs
 returns-in-Pair-clause-runs g c =
@@ -85,4 +87,5 @@ returns-in-Pair-clause-runs g c =
     (with_wire g.W.Wire c.args.wire.now c.pair.new.wire (happened g.F.Files g.S.Sink c.args.files.now c.pair.new.files c.args.sink.now c.pair.new.sink))
     (conversation g.W.Wire g.C.Clock c.args.wire.now c.pair.new.wire c.args.clock.now c.pair.new.clock)
     (answered c.pair.result) c.answer_of-in-Pair.result
-    (ap form_shown c.in-Pair.is) (sym c.answer_of-in-Pair.ensures.answered) (one_but c.pair.result [] tt) c.pair.ensures.joins
+    (ap form_shown c.in-Pair.is) (sym c.answer_of-in-Pair.ensures.answered)
+    (let p = c.pair.ensures.possible in one_but c.pair.result (4 ∷ 5 ∷ 10 ∷ []) (p.0, (p.1, (p.2, tt)))) c.pair.ensures.joins
