@@ -3,6 +3,7 @@
 //! of a case file; the head of the first one says how such a file is written.
 #![tactic(auto)]
 
+mod answered_wire;
 mod case_files;
 mod fault;
 mod fields;

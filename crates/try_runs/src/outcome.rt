@@ -1,5 +1,6 @@
 //! One run, and how it ended.
 
+use crate::answered_wire::{AnsweredWire, Peer};
 use crate::fault::Fault;
 use crate::fields::size;
 use crate::named::NamedFiles;
@@ -7,7 +8,9 @@ use crate::noted_wire::NotedWire;
 use crate::octets::Octets;
 use crate::terms::Terms;
 use crate::turning_files::TurningFiles;
-use fs_base::{MemClock, MemFiles, MemSink, MemWire, RealClock, RealFiles, RealOut, RealWire};
+use fs_base::{
+    MemClock, MemFiles, MemSink, MemWire, RealClock, RealFiles, RealOut, RealWire, Wire,
+};
 use std::alloc::Global;
 use std::fs;
 
@@ -147,20 +150,27 @@ fn write_files(rt: &HostRuntime, named: &NamedFiles, words: &[String]) -> Result
     Ok(())
 }
 
-/// Runs the words over the files of the system, into a file, with connections and the clock of the system.
-fn run_for_real(rt: &HostRuntime, words: &[String]) -> Result<u8, Fault> {
+/// Runs the words over the files of the system, into a file, with the clock of the system and over this wire.
+fn run_for_real<W: Wire>(rt: &HostRuntime, words: &[String], wire: &mut W) -> Result<u8, Fault> {
     let mut out = RealOut::new(fs::create(rt, WRITTEN)?);
     let mut files = RealFiles::new(rt.alloc(), rt);
-    let mut wire = RealWire::new(rt);
     let mut clock = RealClock::new(rt);
-    Ok(fs_cli::run(
-        rt.alloc(),
-        words,
-        &mut files,
-        &mut out,
-        &mut wire,
-        &mut clock,
-    ))
+    Ok(fs_cli::run(rt.alloc(), words, &mut files, &mut out, wire, &mut clock))
+}
+
+/// The same in a folder in which the files that the words name stand.
+fn run_through<W: Wire>(
+    rt: &HostRuntime,
+    named: &NamedFiles,
+    words: &[String],
+    wire: &mut W,
+) -> Result<Outcome, Fault> {
+    write_files(rt, named, words)?;
+    let status = run_for_real(rt, words, wire)?;
+    let written = fs::read(rt, WRITTEN)?;
+    let mut outcome = Outcome::new(rt.alloc(), status);
+    outcome.written.append(&written);
+    Ok(outcome)
 }
 
 /// Runs the words over the real outside, in which the files that they name stand. What goes through a connection isn't
@@ -170,10 +180,37 @@ pub fn run_outside(
     named: &NamedFiles,
     words: &[String],
 ) -> Result<Outcome, Fault> {
-    write_files(rt, named, words)?;
-    let status = run_for_real(rt, words)?;
-    let written = fs::read(rt, WRITTEN)?;
-    let mut outcome = Outcome::new(rt.alloc(), status);
-    outcome.written.append(&written);
+    run_through(rt, named, words, &mut RealWire::new(rt))
+}
+
+/// Runs the words, and behind them the address of a peer that gives what the terms say, over the real outside: what the
+/// peer heard to the connection's end is seen.
+pub fn run_dialling(
+    rt: &HostRuntime,
+    named: &NamedFiles,
+    words: &[String],
+    terms: &Terms,
+) -> Result<Outcome, Fault> {
+    run_answered(rt, named, words, terms, &mut RealWire::new(rt))
+}
+
+fn run_answered<W: Wire>(
+    rt: &HostRuntime,
+    named: &NamedFiles,
+    words: &[String],
+    terms: &Terms,
+    wire: &mut W,
+) -> Result<Outcome, Fault> {
+    let peer = Peer::new(rt, terms)?;
+    let mut dialling = Vec::new(rt.alloc());
+    for word in words {
+        dialling.push(word.clone()?)?;
+    }
+    dialling.push(peer.address()?)?;
+    let mut wire = AnsweredWire { wire, peer };
+    let mut outcome = run_through(rt, named, &dialling, &mut wire)?;
+    wire.peer.heard.check()?;
+    outcome.second.append(wire.peer.heard.as_slice());
+    outcome.called.append(wire.peer.ended.as_slice());
     Ok(outcome)
 }

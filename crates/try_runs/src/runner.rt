@@ -5,7 +5,7 @@ use crate::fields::{halves, number, parts, size, status, word_of};
 use crate::making::make;
 use crate::named::NamedFiles;
 use crate::octets::Octets;
-use crate::outcome::{Outcome, run_in_memory, run_outside};
+use crate::outcome::{Outcome, run_dialling, run_in_memory, run_outside};
 use crate::shape::fill_number;
 use crate::tally::Tally;
 use crate::terms::{Due, Failing, Terms};
@@ -103,7 +103,7 @@ impl Runner {
             "gives" => self.give(rest),
             "said" => self.expect_said(rest),
             "called" => self.expect_calls(rest),
-            "ends" | "stops" | "real" => self.end_case(rt, word, rest),
+            "ends" | "stops" | "real" | "dials" => self.end_case(rt, word, rest),
             "calls" => self.count_calls(rt, rest),
             "wire_calls" => self.count_wire_calls(rt, rest),
             "file" => self.named.begin(rest),
@@ -223,10 +223,10 @@ impl Runner {
     /// Runs the words, and compares how the run ends. One that stops may have written a front of what is expected.
     fn end_case(&mut self, rt: &HostRuntime, word: &str, digits: &str) -> Result<(), Fault> {
         let due = status(digits)?;
-        let outcome = if word == "real" {
-            run_outside(rt, &self.named, &self.words)?
-        } else {
-            run_in_memory(self.alloc, &self.named, &self.words, &self.terms)?
+        let outcome = match word {
+            "real" => run_outside(rt, &self.named, &self.words)?,
+            "dials" => run_dialling(rt, &self.named, &self.words, &self.terms)?,
+            _ => run_in_memory(self.alloc, &self.named, &self.words, &self.terms)?,
         };
         self.compare(rt, &outcome, due, word == "stops")?;
         self.begin_next();

@@ -1,0 +1,141 @@
+//! A wire whose connection ends in the same thread.
+
+use crate::fault::Fault;
+use crate::fields::size;
+use crate::octets::Octets;
+use crate::terms::Terms;
+use fs_base::{Failed, Opening, Wire};
+use std::alloc::Global;
+use std::io::{Error, ErrorKind, Read, Write};
+use std::net::{Shutdown, TcpListener, TcpStream};
+
+/// The other end of a connection: it listens at a free port of 127.0.0.1, takes one connection, hears all octets as soon
+/// as they are sent, and answers its next piece where it is waited for. `ended` is noted once the connection's end was
+/// heard behind all octets; a fault is kept with what was heard.
+#[derive(Drop)]
+pub struct Peer {
+    alloc: Global,
+    listener: TcpListener,
+    stream: Option<TcpStream>,
+    given: Vec<u8>,
+    most: usize,
+    answered: usize,
+    pub heard: Octets,
+    pub ended: Octets,
+}
+
+impl Peer {
+    /// It gives what end 1 of these terms gives, in pieces of as many octets as a call moves.
+    pub fn new(rt: &HostRuntime, terms: &Terms) -> Result<Peer, Fault> {
+        Ok(Peer {
+            alloc: rt.alloc(),
+            listener: TcpListener::bind(rt, "127.0.0.1:0")?,
+            stream: None,
+            given: Vec::from_slice(rt.alloc(), terms.second.given.as_slice())?,
+            most: size(terms.most.moved),
+            answered: 0,
+            heard: Octets::new(rt.alloc()),
+            ended: Octets::new(rt.alloc()),
+        })
+    }
+
+    /// The address at which it listens.
+    pub fn address(&self) -> Result<String, Fault> {
+        let address = self.listener.local_addr()?;
+        Ok(format!(in self.alloc; "{address}")?)
+    }
+
+    fn accept(&mut self) {
+        match self.listener.accept() {
+            Ok((stream, _)) => self.stream = Some(stream),
+            Err(_) => self.heard.fail(Fault::Outside),
+        }
+    }
+
+    /// Hears so many octets that were sent.
+    fn hear(&mut self, count: usize) {
+        let Ok(mut piece) = vec![in self.alloc; 0u8; count] else {
+            return self.heard.fail(Fault::Memory);
+        };
+        let heard = match &mut self.stream {
+            Some(stream) => stream.read_exact(&mut piece),
+            None => Err(unconnected()),
+        };
+        match heard {
+            Ok(()) => self.heard.append(&piece),
+            Err(_) => self.heard.fail(Fault::Outside),
+        }
+    }
+
+    /// Answers its next piece. Behind the last it says no more.
+    fn answer(&mut self) {
+        let piece = self.given.chunks(self.most.max(1)).nth(self.answered);
+        let done = match (&mut self.stream, piece) {
+            (Some(stream), Some(piece)) => stream.write_all(piece),
+            (Some(stream), None) => stream.shutdown(Shutdown::Write),
+            (None, _) => Err(unconnected()),
+        };
+        if done.is_err() {
+            self.heard.fail(Fault::Outside);
+        }
+        self.answered = self.answered.saturating_add(1);
+    }
+
+    fn hear_end(&mut self) {
+        let heard = match &mut self.stream {
+            Some(stream) => stream.read(&mut [0u8; 64]),
+            None => Err(unconnected()),
+        };
+        match heard {
+            Ok(0) => self.ended.word("ended, "),
+            _ => self.heard.fail(Fault::Outside),
+        }
+    }
+}
+
+fn unconnected() -> Error {
+    Error::from(ErrorKind::NotConnected)
+}
+
+/// A wire, and what stands at the other end of the connection that it dials.
+#[derive(Drop)]
+pub struct AnsweredWire<'a, W: Wire> {
+    pub wire: &'a mut W,
+    pub peer: Peer,
+}
+
+impl<'a, W: Wire> Wire for AnsweredWire<'a, W> {
+    ghost tells = { λ answered. W.tells answered.wire.now };
+
+    ghost faults = { λ answered. W.faults answered.wire.now };
+
+    fn open_end(&mut self, how: Opening<'_>) -> Result<(), Failed> {
+        let opened = self.wire.open_end(how);
+        if opened.is_ok() {
+            self.peer.accept();
+        }
+        opened
+    }
+
+    fn read(&mut self, end: u8, into: &mut [u8]) -> Result<usize, Failed> {
+        self.peer.answer();
+        self.wire.read(end, into)
+    }
+
+    fn write(&mut self, end: u8, piece: &[u8]) -> Result<usize, Failed> {
+        let moved = self.wire.write(end, piece);
+        if let Ok(count) = &moved {
+            self.peer.hear(*count);
+        }
+        moved
+    }
+
+    /// The wire waits until the peer says no more.
+    fn close(&mut self, end: u8) -> Result<(), Failed> {
+        self.peer.answered = usize::MAX;
+        self.peer.answer();
+        let closed = self.wire.close(end);
+        self.peer.hear_end();
+        closed
+    }
+}
