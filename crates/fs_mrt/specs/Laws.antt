@@ -1,11 +1,14 @@
--- What is known of all that is heard in a dump.
-use Rattle.std.specs.Prelude.{ℕ, List, [], ◌∷◌, IsSome, ◌≤◌, ◌<◌, ◌^◌, length, ⊤}
+-- What is known of all that is heard in a dump, and which octets a dump is that is done.
+use Rattle.std.specs.Prelude.{ℕ, List, [], ◌∷◌, IsSome, ◌≡◌, ◌↔◌, ◌≤◌, ◌<◌, ◌^◌, length, ⊤}
 use Rattle.fs_base.specs.Config.{peer_of}
 use Rattle.fs_base.specs.Language.{IsOctets}
 use Rattle.fs_base.specs.declared.config.Config.{Config}
 use Rattle.fs_base.specs.declared.config.Peer.{Peer}
+use Rattle.fs_records.specs.Records.{done}
+use Rattle.fs_scan.specs.Coming.{IsTextOf}
 use Rattle.fs_mrt.specs.Dump.{dump_of}
 use Rattle.fs_mrt.specs.Record.{Said, Spoken, change, message}
+use Rattle.fs_mrt.specs.Written.{entry_gives, entry_text, IsEntry}
 
 abbrev pub IsSaid : Said → Type 0
 IsSaid (message octets) = IsOctets octets × (length octets ≤ 65536)
@@ -26,3 +29,11 @@ AreHeard peers last (heard ∷ rest) = IsHeard peers last heard × AreHeard peer
 abbrev pub HeardFits : Type 0
 HeardFits =
     (config : Config) (limit : ℕ) (content : List ℕ) → IsOctets content → AreHeard config.peers 0 (dump_of config limit content).0
+
+-- A dump is done exactly where its content is the text of records and lies below the limit; what is heard is what these
+-- records tell.
+abbrev pub ReadsBack : Type 0
+ReadsBack =
+    (config : Config) (limit : ℕ) (content : List ℕ) (heard : List Spoken)
+    → (dump_of config limit content ≡ (heard, done))
+    ↔ IsTextOf entry_text (λ moment. IsEntry config.peers) (entry_gives config.peers) 0 limit content heard

@@ -2,4 +2,5 @@ pub mod Shape
 pub mod Peers
 pub mod Record
 pub mod Dump
+pub mod Written
 pub mod Laws

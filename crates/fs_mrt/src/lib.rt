@@ -14,4 +14,4 @@ mod shape;
 pub use dump::Dump;
 pub use fault::{DumpFault, DumpReason};
 pub use heard::{Heard, What};
-pub use laws::heard_fits;
+pub use laws::{heard_fits, reads_back};

@@ -41,7 +41,7 @@ skips_takes {R = R} size place octets found count h = by (nat_le size (length oc
     by true t e = let same : size ≡ count = cc in let held : size ≤ length octets = grind (arith, nat_tests) in (omega arith, omega arith)
     by false t e = absurd cc
 
-behind_takes : {A R : Type 0} (n : ℕ) (scan : Scan A R) (value : A) (count : ℕ) → behind n scan ≡ got value count
+pub behind_takes : {A R : Type 0} (n : ℕ) (scan : Scan A R) (value : A) (count : ℕ) → behind n scan ≡ got value count
     → (m : ℕ) × (scan ≡ got value m) × (count ≡ n + m)
 behind_takes n (got found m) value count h =
     let value_is : found ≡ value = cc in let count_is : n + m ≡ count = cc in (m, ap (λ v. got v m) value_is, sym count_is)

@@ -8,3 +8,5 @@ pub mod Stages
 pub mod Fixed
 pub mod Coming
 pub mod Advancing
+pub mod Spelling
+pub mod Written

@@ -1,6 +1,6 @@
 -- The parts of an input that are read by a chain of fields each, where what a part says depends on those before it.
-use Rattle.std.specs.Prelude.{ℕ, List, [], ◌∷◌, Option, Some, None, Bool, ◌≡◌, ◌≤◌, ◌+◌, ◌==◌, ◌&&◌, not, length, drop, if◌then◌else◌, unwrap_or}
-use Rattle.fs_records.specs.Parts.{At, Reader, at, to_come}
+use Rattle.std.specs.Prelude.{ℕ, List, [], ◌∷◌, Option, Some, None, Bool, ◌≡◌, ◌≤◌, ◌<◌, ◌+◌, ◌==◌, ◌&&◌, not, length, drop, flat_map, if◌then◌else◌, unwrap_or}
+use Rattle.fs_records.specs.Parts.{AllFrom, At, Reader, at, to_come}
 use Rattle.fs_records.specs.Records.{End, done}
 use Rattle.fs_scan.specs.Reads.{end_of, whole}
 use Rattle.fs_scan.specs.Scan.{Scan, Scanner, and, field, got, partial, wrong}
@@ -52,6 +52,21 @@ only_told found = (all_told found.0, found.1)
 -- what is still to be told in a state, where so many octets were taken, and how the input ends
 abbrev pub told_to_come : {S P R : Type 0} → Chain S (Option P) R → R → (limit taken : ℕ) → S → List ℕ → List P × End R
 told_to_come chain cut limit taken now left = only_told (parts_to_come chain cut limit taken now left)
+
+-- what written parts give, where `gives` tells it of one, with the state behind it
+abbrev pub all_given : {S P W : Type 0} → (S → W → P × S) → S → List W → List P
+all_given gives now [] = []
+all_given gives now (part ∷ parts) = (gives now part).0 ∷ all_given gives (gives now part).1 parts
+
+-- The content is the text of written parts, each of which fits the state that those before it leave; this is what they
+-- tell; and all of it lies below the limit.
+pub record IsTextOf {S P W : Type 0} (text : W → List ℕ) (Fits : S → W → Type 0) (gives : S → W → Option P × S) (now : S)
+    (limit : ℕ) (content : List ℕ) (told : List P) : Type 0 where
+  pub written : List W
+  pub spelled : content ≡ flat_map text written
+  pub fit : AllFrom Fits (λ state part. (gives state part).1) now written
+  pub told_is : told ≡ all_told (all_given gives now written)
+  pub below : length content < limit
 
 -- a value takes at least so many of the octets
 abbrev pub Takes : {A R : Type 0} → ℕ → Scanner A R → Type 0
