@@ -7,3 +7,5 @@ pub mod Opening
 pub mod Bodies
 pub mod Merged
 pub mod Told
+mod Spelled
+mod Written

@@ -3,3 +3,5 @@ pub mod Options
 pub mod Block
 pub mod Packets
 pub mod Pcapng
+pub mod Written
+pub mod Laws
