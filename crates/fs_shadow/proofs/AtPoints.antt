@@ -1,6 +1,6 @@
 -- Lists say the same of numbers between which no value stands, so what is so at the values and beside them is so
 -- everywhere.
-use Rattle.std.proofs.Common.{◌≡◌, ℕ, zero, suc, ◌+◌, ◌-◌, ◌/◌, ◌^◌, ◌<◌, ◌≤◌, ◌==◌, min, List, [], ◌∷◌, Bool, true, false, ◌&&◌, ◌||◌, nat_lt, refl, sym, ap, subst, ◌∙◌, arith, inl, inr, ◌⊎◌}
+use Rattle.std.proofs.Common.{◌≡◌, ℕ, zero, suc, ◌+◌, ◌-◌, ◌/◌, ◌^◌, ◌<◌, ◌≤◌, ◌==◌, min, List, [], ◌∷◌, Bool, true, false, ◌&&◌, ◌||◌, nat_lt, refl, sym, subst, ◌∙◌, arith, inl, inr}
 use Rattle.std.specs.List.{AllByRecursion, list_all, list_any}
 use Rattle.std.proofs.lemmas.Bool.{and_from, and_parts, cases_Bool, eqb-false, eqb-true, or_cases, or_parts}
 use Rattle.std.proofs.lemmas.Bool.Decides.{nat_tests}
@@ -11,8 +11,6 @@ use Rattle.fs_ops.specs.Operator.{width_code, width_of}
 use Rattle.fs_ops.specs.OperatorList.{IsNormal}
 use Rattle.fs_ops.specs.Evaluation.{compares, has_bit, holds}
 use Rattle.fs_packet.proofs.Flags.{AreWide, holds_same, sound_is_wide}
-use Rattle.fs_nlri.specs.Parts.{ListBody}
-use Rattle.fs_nlri.specs.Sound.{IsSoundBody}
 use Rattle.fs_shadow.specs.Contains.{implies, numbers_lie_in}
 use Rattle.fs_shadow.specs.Points.{are_implied, implied_around, implied_at}
 use Rattle.fs_shadow.proofs.Below.{below_is}

@@ -8,8 +8,8 @@ use Rattle.fs_base.specs.declared.prefix.Family.TheVariants.{V4, V6}
 use Rattle.fs_base.specs.Bits.{cleared, width_of}
 use Rattle.fs_base.proofs.Blocks.{IsBlock, block_inside, block_of}
 use Rattle.fs_nlri.specs.Forms.{form_of}
-use Rattle.fs_nlri.specs.Parts.{Body, V4Body, V6Body, ListBody, Part, Ruled}
-use Rattle.fs_nlri.specs.Rule.{AreNormal, IsNormalAt, IsRule, destination_body, destination_in, destination_of, destination_part}
+use Rattle.fs_nlri.specs.Parts.{Body, V4Body, V6Body, ListBody, Part}
+use Rattle.fs_nlri.specs.Rule.{AreNormal, IsNormalAt, destination_body, destination_in}
 use Rattle.fs_nlri.proofs.Destination.{IsMade, destination_first}
 use Rattle.fs_order.specs.Laws.{last_shown}
 use Rattle.fs_rules.specs.Lent.{Listed}

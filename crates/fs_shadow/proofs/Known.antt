@@ -1,8 +1,8 @@
 -- The bits that a prefix knows, in either family.
 use Rattle.std.proofs.Common.{◌≡◌, ℕ, ◌+◌, ◌-◌, ◌*◌, ◌/◌, ◌%◌, ◌^◌, ◌<◌, ◌≤◌, ◌==◌, Bool, refl, sym, ap, subst, ◌∙◌, arith, bit_or, inl, inr, ◌⊎◌}
 use Rattle.std.proofs.lemmas.Bool.{eq-eqb, eqb-true}
-use Rattle.std.proofs.lemmas.Nat.{or_comm, or_shifted, pow-add, pow_pos, shl-shr, shl_below, shr_high}
-use Rattle.std.proofs.Math.Nat.{add-mul, mod-eq_of_lt, mod-mod, mul_assoc}
+use Rattle.std.proofs.lemmas.Nat.{or_comm, or_shifted, pow-add, pow_pos, shl-shr, shr_high}
+use Rattle.std.proofs.Math.Nat.{add-mul, mod-mod, mul_assoc}
 use Rattle.fs_base.specs.declared.prefix.Family.{Family}
 use Rattle.fs_base.specs.declared.config.Address.TheVariants.{V4, V6}
 use Rattle.fs_base.specs.Bits.{cleared}

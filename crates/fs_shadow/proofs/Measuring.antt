@@ -1,5 +1,5 @@
 -- What the measures and outlines of rules tell is what the rules say.
-use Rattle.std.proofs.Common.{◌≡◌, ℕ, ◌+◌, ◌^◌, ◌<◌, ◌==◌, Bool, true, false, not, ◌&&◌, ◌||◌, if◌then◌else◌, Option, Some, None, List, [], ◌∷◌, ◌++◌, get_or, length, take, drop, zero, suc, refl, sym, ap, subst, ◌∙◌, arith}
+use Rattle.std.proofs.Common.{◌≡◌, ℕ, ◌+◌, ◌^◌, ◌<◌, ◌==◌, Bool, true, false, not, ◌&&◌, ◌||◌, if◌then◌else◌, Some, List, [], ◌∷◌, ◌++◌, get_or, length, take, drop, zero, suc, refl, sym, ap, subst, ◌∙◌, arith}
 use Rattle.std.specs.Prelude.{IsTrue, ◌↔◌}
 use Rattle.std.specs.List.{list_all, list_any}
 use Rattle.std.proofs.lemmas.Bool.{true≢false}
@@ -12,7 +12,6 @@ use Rattle.fs_nlri.specs.Component.{part_of, parts_of}
 use Rattle.fs_nlri.specs.Sound.{AreSound, IsSoundBody}
 use Rattle.fs_nlri.specs.Parts.{Body, V4Body, V6Body, ListBody, Part}
 use Rattle.fs_rules.specs.Lent.{Listed}
-use Rattle.fs_rules.specs.Walk.{goes_on}
 use Rattle.fs_compile.specs.Spans.{contains}
 use Rattle.fs_compile.proofs.Truths.{same_truth}
 use Rattle.fs_shadow.specs.declared.extents.Extent.{Extent}
@@ -20,7 +19,7 @@ use Rattle.fs_shadow.specs.declared.extents.Extent.TheVariants.{V4, V6, Numbers,
 use Rattle.fs_shadow.specs.declared.extents.Measure.{Measure}
 use Rattle.fs_shadow.specs.declared.prefixes.Known.{Known}
 use Rattle.fs_shadow.specs.declared.outlines.Outline.{Outline}
-use Rattle.fs_shadow.specs.Contains.{all_below, are_same_pairs, body_lies_in, implies, may_lie_in, numbers_lie_in, part_lies_in, tests_bits}
+use Rattle.fs_shadow.specs.Contains.{all_below, are_same_pairs, body_lies_in, implies, may_lie_in, numbers_lie_in, part_lies_in}
 use Rattle.fs_shadow.specs.Extents.{AreMeasuresOf, AreSpansOf, IsExtentOf, IsMeasureOf, bits_lie_in, extent_lies_in, measure_lies_in}
 use Rattle.fs_shadow.specs.Outlines.{AreOutlinesOf, IsOutlineOf, first_taker, outline_takes_all}
 use Rattle.fs_shadow.specs.Reporting.{first_taking, takes_all}

@@ -1,7 +1,7 @@
 -- Bits of numbers, n of them above the k lowest: when those at one place tell those at another.
-use Rattle.std.proofs.Common.{◌≡◌, ℕ, ◌+◌, ◌-◌, ◌*◌, ◌/◌, ◌%◌, ◌^◌, ◌<◌, ◌≤◌, ◌⊎◌, inl, inr, refl, sym, ap, subst, ◌∙◌, arith}
-use Rattle.std.proofs.lemmas.Nat.{field_of, mod_below, mod_low, pow-add, pow_pos, shl_below, shl-shr, shr-shr, shr_high}
-use Rattle.std.proofs.Math.Nat.{add-mul, div-eq_of_lt, mod-eq_of_lt, mul_assoc, mul-mod_left, zero-div, zero-mod}
+use Rattle.std.proofs.Common.{◌≡◌, ℕ, ◌+◌, ◌-◌, ◌*◌, ◌/◌, ◌%◌, ◌^◌, ◌<◌, ◌≤◌, inl, inr, sym, ap, subst, ◌∙◌, arith}
+use Rattle.std.proofs.lemmas.Nat.{field_of, mod_below, mod_low, pow-add, pow_pos, shl-shr, shr-shr, shr_high}
+use Rattle.std.proofs.Math.Nat.{add-mul, div-eq_of_lt, mod-eq_of_lt, mul_assoc, mul-mod_left, zero-div}
 use Rattle.std.proofs.Math.Pow.{mod-mod-pow}
 use Rattle.std.proofs.lemmas.Bool.{cases_lt}
 use Rattle.fs_base.specs.Bits.{cleared}

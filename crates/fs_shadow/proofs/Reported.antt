@@ -1,11 +1,11 @@
 -- The report, rule by rule: of each the first of the earlier rules that may contain it.
-use Rattle.std.proofs.Common.{◌≡◌, ℕ, zero, suc, ◌+◌, ◌-◌, ◌<◌, ◌≤◌, Bool, true, false, Option, Some, None, List, [], ◌∷◌, ◌++◌, if◌then◌else◌, get_or, length, take, drop, refl, sym, ap, subst, ◌∙◌, arith}
+use Rattle.std.proofs.Common.{◌≡◌, ℕ, zero, suc, ◌+◌, ◌-◌, ◌<◌, ◌≤◌, Bool, true, false, Some, None, List, [], ◌∷◌, ◌++◌, if◌then◌else◌, get_or, length, take, drop, refl, sym, ap, subst, ◌∙◌, arith}
 use Rattle.std.specs.List.{slice_get}
 use Rattle.fs_rules.specs.Lent.{Listed}
 use Rattle.fs_compile.specs.Index.{spans_of}
 use Rattle.fs_shadow.specs.declared.outlines.Outline.{Outline}
 use Rattle.fs_shadow.specs.Outlines.{AreInOrder, AreOutlinesOf, IsOutlineOf, begins_anew, first_taker}
-use Rattle.fs_shadow.specs.Reporting.{covered_by, first_taking, report_behind, report_of, takes_all}
+use Rattle.fs_shadow.specs.Reporting.{covered_by, first_taking, report_behind, takes_all}
 use Rattle.fs_shadow.proofs.Destinations.{AreApart, anew_apart}
 use Rattle.fs_shadow.proofs.Measuring.{outlines_drop, outlines_take, taker_says}
 
