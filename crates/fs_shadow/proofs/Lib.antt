@@ -7,6 +7,8 @@ pub mod Patterns
 pub mod Testing
 pub mod ByBits
 pub mod Measuring
+pub mod Probing
+pub mod Entries
 pub mod Destinations
 pub mod Reported
 pub mod Spanning

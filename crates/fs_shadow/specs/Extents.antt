@@ -1,5 +1,5 @@
 -- What a component takes in, as it is compared with many others, and which component it stands for.
-use Rattle.std.specs.Prelude.{◌≡◌, ℕ, ◌-◌, ◌*◌, ◌%◌, ◌^◌, ◌<◌, ◌==◌, Bool, true, false, ◌&&◌, ◌||◌, nat_lt, List, [], ◌∷◌, if◌then◌else◌}
+use Rattle.std.specs.Prelude.{◌≡◌, ℕ, ◌-◌, ◌*◌, ◌%◌, ◌^◌, ◌<◌, ◌==◌, Bool, true, false, ◌&&◌, ◌||◌, nat_lt, Option, Some, None, List, [], ◌∷◌, if◌then◌else◌}
 use Rattle.fs_ops.specs.Evaluation.{compares, holds}
 use Rattle.fs_base.specs.Bits.{cleared}
 use Rattle.fs_base.specs.Prefix.{covers}
@@ -42,9 +42,44 @@ IsExtentOf part (V6 known) = (part.body ≡ V6Body known.length known.offset kno
 IsExtentOf part (Numbers spans) = AreSpansOf part.body spans × (tests_bits part.kind ≡ false)
 IsExtentOf part (Bits pairs) = (part.body ≡ ListBody pairs) × (tests_bits part.kind ≡ true)
 
+-- no more than one number is taken in
+abbrev pub TakesOne : Extent → Type 0
+TakesOne (Numbers spans) = (n k : ℕ) → n < 2 ^ 64 → k < 2 ^ 64 → contains spans n ≡ true → contains spans k ≡ true → n ≡ k
+TakesOne extent = ⊥
+
+-- the number is one that is taken in
+abbrev pub TakesIn : Extent → ℕ → Type 0
+TakesIn (Numbers spans) n = (n < 2 ^ 64) × (contains spans n ≡ true)
+TakesIn extent n = ⊥
+
+-- what is told of its numbers is so
+pub record IsTold (measure : Measure) : Type 0 where
+  pub single : measure.single ≡ true → TakesOne measure.extent
+  pub held : (n : ℕ) → measure.held ≡ Some n → TakesIn measure.extent n
+
+abbrev pub number_or_none : Option ℕ → ℕ
+number_or_none None = 0
+number_or_none (Some number) = number
+
+-- the one number that is taken in, where it is known; else 0
+abbrev pub key_in : Measure → ℕ
+key_in measure = if measure.single then number_or_none measure.held else 0
+
+-- one of its numbers is known, if it takes in numbers
+abbrev pub has_probe : Extent → Option ℕ → Bool
+has_probe (Numbers spans) None = false
+has_probe (Numbers spans) (Some n) = true
+has_probe (V4 prefix) held = true
+has_probe (V6 known) held = true
+has_probe (Bits pairs) held = true
+
+abbrev pub is_probed : Measure → Bool
+is_probed measure = has_probe measure.extent measure.held
+
 pub record IsMeasureOf (part : Part) (measure : Measure) : Type 0 where
   pub kind : measure.kind ≡ part.kind
   pub extent : IsExtentOf part measure.extent
+  pub told : IsTold measure
 
 -- each of its component
 abbrev pub AreMeasuresOf : List Part → List Measure → Type 0

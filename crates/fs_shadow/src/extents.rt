@@ -1,11 +1,13 @@
 //! The components of a rule, made ready to be compared with those of many others.
 
-ghost use Rattle.std.specs.Prelude.{◌≡◌, IfOk, false, true};
+ghost use Rattle.std.specs.Prelude.{◌≡◌, ◌^◌, ◌<◌, ℕ, IfOk, Some, false, true};
+ghost use Rattle.fs_ops.specs.Evaluation.{compares, holds};
+ghost use Rattle.fs_compile.specs.Spans.{contains};
 ghost use Rattle.fs_nlri.specs.Component.{body_of, part_of};
 ghost use Rattle.fs_nlri.specs.Parts.{ListBody, part};
 ghost use Rattle.fs_nlri.specs.Sound.{IsSoundBody};
 ghost use Rattle.fs_shadow.specs.Contains.{may_lie_in, tests_bits};
-ghost use Rattle.fs_shadow.specs.Extents.{IsMeasureOf, bits_lie_in, extent_lies_in, measure_lies_in};
+ghost use Rattle.fs_shadow.specs.Extents.{IsMeasureOf, bits_lie_in, extent_lies_in, is_probed, key_in, measure_lies_in};
 
 use crate::prefixes::Known;
 use fs_base::{Family, Memory, Prefix};
@@ -30,7 +32,11 @@ pub(crate) enum Extent {
 #[derive(Drop)]
 pub(crate) struct Measure {
     kind: u8,
+    /// Whether it takes in no more than one number.
+    single: bool,
     extent: Extent,
+    /// One of the numbers that it takes in.
+    pub(crate) held: Option<u64>,
 }
 
 impl Measure {
@@ -61,6 +67,26 @@ impl Measure {
     {
         may_be_in(self.kind, outer.kind) && extent_lies_in(&self.extent, &outer.extent)
     }
+
+    /// The one number that it takes in, where it is known; else 0.
+    pub(crate) fn key(&self) -> u64
+        ensures { result ≡ key_in self.now }
+    {
+        match self.held {
+            Some(number) if self.single => number,
+            _ => 0,
+        }
+    }
+
+    /// Whether one of its numbers is known, if it takes in numbers.
+    pub(crate) fn is_probed(&self) -> bool
+        ensures { result ≡ is_probed self.now }
+    {
+        match self.extent {
+            Extent::Numbers(_) => self.held.is_some(),
+            Extent::V4(_) | Extent::V6(_) | Extent::Bits(_) => true,
+        }
+    }
 }
 
 fn of_prefix(kind: u8, form: &PrefixForm) -> Measure
@@ -79,17 +105,74 @@ fn of_prefix(kind: u8, form: &PrefixForm) -> Measure
             pattern,
         }),
     };
-    Measure { kind, extent }
+    Measure {
+        kind,
+        extent,
+        single: false,
+        held: None,
+    }
 }
 
 fn of_numbers(alloc: Global, kind: u8, list: &NumList) -> Result<Measure, Memory>
     requires { tests_bits kind ≡ false }
     ensures { IfOk result (IsMeasureOf (part kind (ListBody list.now))) }
 {
+    let spans = Spans::of(alloc, list)?;
     Ok(Measure {
         kind,
-        extent: Extent::Numbers(Spans::of(alloc, list)?),
+        single: is_single(list.pairs()),
+        held: held_of(list.pairs(), &spans),
+        extent: Extent::Numbers(spans),
     })
+}
+
+/// Whether the pairs are one alone, which holds of no number but its value.
+fn is_single(pairs: &[(u8, u64)]) -> bool
+    ensures { result ≡ true
+        → (n k : ℕ)
+        → holds (compares n) pairs.now ≡ true
+        → holds (compares k) pairs.now ≡ true
+        → n ≡ k }
+{
+    match pairs {
+        [(operator, _)] => is_equality(*operator),
+        _ => false,
+    }
+}
+
+/// Whether the operator says of no number but its value that it holds (RFC 8955 section 4.2.1.1).
+fn is_equality(operator: u8) -> bool
+    ensures { result ≡ true → (n value : ℕ) → compares n (operator, value) ≡ true → n ≡ value }
+{
+    operator & 4 == 0 && operator & 2 == 0
+}
+
+/// A number of these ranges, if one stands at the first value of the pairs that they are of, or beside it.
+fn held_of(pairs: &[(u8, u64)], spans: &Spans) -> Option<u64>
+    ensures held { (n : ℕ) → result ≡ Some n → contains spans.now n ≡ true }
+    ensures small { (n : ℕ) → result ≡ Some n → n < 2 ^ 64 }
+{
+    match pairs {
+        [(_, value), ..] => held_at(spans, *value),
+        [] => None,
+    }
+}
+
+fn held_at(spans: &Spans, value: u64) -> Option<u64>
+    ensures held { (n : ℕ) → result ≡ Some n → contains spans.now n ≡ true }
+    ensures small { (n : ℕ) → result ≡ Some n → n < 2 ^ 64 }
+{
+    let above = value.saturating_add(1);
+    let below = value.saturating_sub(1);
+    if spans.contains(value) {
+        Some(value)
+    } else if spans.contains(above) {
+        Some(above)
+    } else if spans.contains(below) {
+        Some(below)
+    } else {
+        None
+    }
 }
 
 fn of_bits(kind: u8, list: &MaskList) -> Result<Measure, Memory>
@@ -99,6 +182,8 @@ fn of_bits(kind: u8, list: &MaskList) -> Result<Measure, Memory>
     Ok(Measure {
         kind,
         extent: Extent::Bits(list.copy()?),
+        single: false,
+        held: None,
     })
 }
 

@@ -4,6 +4,7 @@
 mod checking;
 mod ends;
 mod extents;
+mod keys;
 mod laws;
 mod outlines;
 mod points;

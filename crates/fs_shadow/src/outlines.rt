@@ -5,8 +5,8 @@ ghost use Rattle.std.specs.List.{list_all, list_any};
 ghost use Rattle.fs_nlri.specs.Component.{parts_of};
 ghost use Rattle.fs_nlri.specs.Sound.{AreSound};
 ghost use Rattle.fs_rules.specs.Lent.{all_admitted, shown_lent};
-ghost use Rattle.fs_shadow.specs.Extents.{AreMeasuresOf, measure_lies_in};
-ghost use Rattle.fs_shadow.specs.Outlines.{AreOutlinesOf, IsOutlineOf, outline_takes_all};
+ghost use Rattle.fs_shadow.specs.Extents.{AreMeasuresOf, is_probed, measure_lies_in};
+ghost use Rattle.fs_shadow.specs.Outlines.{AreOutlinesOf, IsOutlineOf, key_of, outline_takes_all};
 
 use crate::extents::Measure;
 use fs_base::{Family, Memory};
@@ -20,7 +20,7 @@ pub(crate) struct Outline {
     /// Whether later rules are evaluated too.
     goes_on: bool,
     family: Family,
-    measures: Vec<Measure>,
+    pub(crate) measures: Vec<Measure>,
 }
 
 impl Outline {
@@ -41,6 +41,30 @@ impl Outline {
         !self.goes_on
             && self.family == later.family
             && each_holds_one(&self.measures, &later.measures)
+    }
+
+    /// The greatest number that one of its components takes in alone, so that it is one of each rule whose packets this
+    /// rule takes; or 0.
+    pub(crate) fn key(&self) -> u64
+        ensures { result ≡ key_of self.now.measures.items }
+    {
+        let mut key = 0;
+        for measure in &self.measures {
+            key = key.max(measure.key());
+        }
+        key
+    }
+
+    /// Whether a number is known of each component that takes in numbers.
+    pub(crate) fn is_probed(&self) -> bool
+        ensures { result ≡ list_all is_probed self.now.measures.items }
+    {
+        for measure in &self.measures {
+            if !measure.is_probed() {
+                return false;
+            }
+        }
+        true
     }
 }
 

@@ -5,18 +5,25 @@
 //! destination, or with one that isn't the first bits of an address, may lie in one of another destination: in that of
 //! all addresses, which stands last.
 
-ghost use Rattle.std.specs.Prelude.{◌≡◌, ◌≤◌, ◌<◌, ◌+◌, ◌++◌, ◌^◌, IfOk, None, OnOk, get_or, if◌then◌else◌, length, map};
+ghost use Rattle.std.specs.Prelude.{◌≡◌, ◌≤◌, ◌<◌, ◌+◌, ◌-◌, ◌++◌, ◌^◌, IfOk, None, OnOk, if◌then◌else◌, true};
+ghost use Rattle.std.specs.Prelude.{drop, get_or, length, map, take};
+ghost use Rattle.std.specs.List.{AllByRecursion, list_all};
 ghost use Rattle.fs_compile.specs.Index.{span_of, spans_of};
 ghost use Rattle.fs_rules.specs.Lent.{all_admitted, listed};
 ghost use Rattle.fs_rules.specs.Table.{admitted};
-ghost use Rattle.fs_shadow.specs.Outlines.{AreInOrder, AreOutlinesOf, begins_anew, first_taker, lie_apart};
+ghost use Rattle.fs_shadow.specs.Extents.{IsTold, is_probed};
+ghost use Rattle.fs_shadow.specs.Outlines.{AreInOrder, AreOutlinesOf, AreTold, IsIndexOf, begins_anew, first_taker, lie_apart};
 ghost use Rattle.fs_shadow.specs.Reporting.{covered_by, report_of};
 
+use crate::keys::{first_by_keys, index_of};
 use crate::outlines::{Outline, outlines_of};
 use fs_base::{Family, Memory};
 use fs_nlri::Rule;
 use fs_rules::{LentRule, Table};
 use std::alloc::Global;
+
+/// Of so many earlier rules each is tried.
+const FEW_RULES: usize = 16;
 
 /// The admitted rules of the family that can never act, by their numbers from 0, in order: those that an earlier rule
 /// with a clear terminal bit contains, each with the first such rule.
@@ -41,8 +48,9 @@ fn report_of(alloc: Global, list: &[LentRule<'_>]) -> Result<Vec<(usize, usize)>
     ensures { IfOk result (λ pairs. pairs.items ≡ report_of (all_admitted list.now)) }
 {
     let outlines = outlines_of(alloc, list)?;
+    let index = index_of(alloc, &outlines)?;
     let mut pairs = Vec::new(alloc);
-    append_report(list, &outlines, &mut pairs)?;
+    append_report(list, &outlines, &index, &mut pairs)?;
     Ok(pairs)
 }
 
@@ -50,34 +58,42 @@ fn report_of(alloc: Global, list: &[LentRule<'_>]) -> Result<Vec<(usize, usize)>
 fn append_report(
     list: &[LentRule<'_>],
     outlines: &[Outline],
+    index: &[(u64, usize)],
     pairs: &mut Vec<(usize, usize)>,
 ) -> Result<(), Memory>
     requires order { AreInOrder (all_admitted list.now) }
     requires outlines { AreOutlinesOf (all_admitted list.now) outlines.now }
+    requires index { IsIndexOf outlines.now index.now }
     ensures { OnOk result (pairs.new.items ≡ pairs.old.items ++ report_of (all_admitted list.now)) }
 {
     let mut start = 0;
     for (number, later) in outlines.iter().enumerate() {
         start = stretch_start(list, start, number);
-        append_covered(&outlines[start..number], start, number, later, pairs)?;
+        append_covered(outlines, index, start, number, later, pairs)?;
     }
     Ok(())
 }
 
-/// Appends the number of a rule and that of the first of the earlier ones that takes all of its packets, if one does.
-/// The first of them has the number `start`.
+/// Appends the number of a rule and that of the first of the earlier ones, from the start on, that takes all of its
+/// packets, if one does.
 fn append_covered(
-    earlier: &[Outline],
+    outlines: &[Outline],
+    index: &[(u64, usize)],
     start: usize,
     number: usize,
     later: &Outline,
     pairs: &mut Vec<(usize, usize)>,
 ) -> Result<(), Memory>
-    requires { start + length earlier.now < 2 ^ 64 }
-    ensures { OnOk result
-        (pairs.new.items ≡ pairs.old.items ++ covered_by number (first_taker start earlier.now later.now)) }
+    requires told { AreTold outlines.now }
+    requires later { AllByRecursion IsTold later.now.measures.items }
+    requires index { IsIndexOf outlines.now index.now }
+    requires order { start ≤ number }
+    requires inside { number ≤ length outlines.now }
+    ensures { OnOk result (pairs.new.items
+        ≡ pairs.old.items
+        ++ covered_by number (first_taker start (take (number - start) (drop start outlines.now)) later.now)) }
 {
-    match first_taker(earlier, start, later) {
+    match first_earlier(outlines, index, start, number, later) {
         Some(place) => {
             pairs.push((number, place))?;
             Ok(())
@@ -86,7 +102,53 @@ fn append_covered(
     }
 }
 
-/// The number of the first of the earlier rules that takes all packets of the later one.
+/// The number of the first of the rules, from the start on and before that of this number, that takes all packets of
+/// the later one.
+fn first_earlier(
+    outlines: &[Outline],
+    index: &[(u64, usize)],
+    start: usize,
+    number: usize,
+    later: &Outline,
+) -> Option<usize>
+    requires told { AreTold outlines.now }
+    requires later { AllByRecursion IsTold later.now.measures.items }
+    requires index { IsIndexOf outlines.now index.now }
+    requires order { start ≤ number }
+    requires inside { number ≤ length outlines.now }
+    ensures { result ≡ first_taker start (take (number - start) (drop start outlines.now)) later.now }
+{
+    if number - start <= FEW_RULES {
+        return first_taker(&outlines[start..number], start, later);
+    }
+    if later.is_probed() {
+        return first_probed(outlines, index, start, number, later);
+    }
+    first_taker(&outlines[start..number], start, later)
+}
+
+/// The same where a number is known of each of the later rule's components that takes in numbers.
+fn first_probed(
+    outlines: &[Outline],
+    index: &[(u64, usize)],
+    start: usize,
+    number: usize,
+    later: &Outline,
+) -> Option<usize>
+    requires told { AreTold outlines.now }
+    requires later { AllByRecursion IsTold later.now.measures.items }
+    requires probed { list_all is_probed later.now.measures.items ≡ true }
+    requires index { IsIndexOf outlines.now index.now }
+    requires order { start ≤ number }
+    requires inside { number ≤ length outlines.now }
+    ensures { result ≡ first_taker start (take (number - start) (drop start outlines.now)) later.now }
+{
+    let place = first_by_keys(outlines, index, start, number, later);
+    if place < number { Some(place) } else { None }
+}
+
+/// The number of the first of the earlier rules that takes all packets of the later one, where the first of them has
+/// the number `start`.
 fn first_taker(earlier: &[Outline], start: usize, later: &Outline) -> Option<usize>
     requires { start + length earlier.now < 2 ^ 64 }
     ensures { result ≡ first_taker start earlier.now later.now }

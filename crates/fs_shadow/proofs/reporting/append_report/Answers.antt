@@ -1,14 +1,23 @@
-use Rattle.std.proofs.Common.{◌≡◌, ℕ, ◌+◌, ◌<◌, ◌≤◌, ◌++◌, if◌then◌else◌, length, sym, subst, ◌∙◌, arith}
+use Rattle.std.proofs.Common.{ℕ, ◌<◌, ◌++◌, length, sym, subst, arith}
 use Rattle.std.proofs.lemmas.List.{length-map}
 use Rattle.fs_rules.specs.Lent.{all_admitted, shown_lent}
 use Rattle.fs_shadow.specs.Reporting.{report_of}
 use Rattle.fs_shadow.proofs.Destinations.{AreApart}
-use Rattle.fs_shadow.proofs.Reported.{apart_later, got_at, none_before, outlines_size, report_ends, report_step, stretch_apart}
+use Rattle.fs_shadow.proofs.Probing.{all_told, told_at}
+use Rattle.fs_shadow.proofs.Reported.{apart_later, got_at, outlines_size, report_ends, report_step, stretch_apart}
 use Rattle.fs_shadow.proofs.reporting.append_report.Goals as goal
 
 pub stretch_start-start-requires-clause-inside : goal.stretch_start-start-requires-clause-inside
 stretch_start-start-requires-clause-inside c =
     omega (arith, c.loop-number-test.true, outlines_size (all_admitted c.args.list.now) c.args.outlines.now c.requires.outlines, length-map c.args.list.now shown_lent)
+
+pub append_covered-requires-clause-told : goal.append_covered-requires-clause-told
+append_covered-requires-clause-told c = all_told (all_admitted c.args.list.now) c.args.outlines.now c.requires.outlines
+
+pub append_covered-requires-clause-later : goal.append_covered-requires-clause-later
+append_covered-requires-clause-later c =
+    told_at c.args.outlines.now c.loop-number.number c.index-outlines-number.result (all_told (all_admitted c.args.list.now) c.args.outlines.now c.requires.outlines)
+    (got_at c.args.outlines.now c.loop-number.number c.index-outlines-number.result (omega (arith, c.loop-number-test.true)) c.index-outlines-number.is)
 
 pub loop-number-preserved : goal.loop-number-preserved
 loop-number-preserved c = record {
