@@ -235,9 +235,16 @@ def routes_under_a_network(count):
 
 
 def rules_side_by_side(count):
-    """Rules of one destination of which none contains another, so that each is held against each before it."""
+    """Rules of one destination of which none contains another, each for a port."""
     network = bytes([24, 192, 0, 2])
     return b"".join([up(1), announce(network)] + rules_for(network, count)), EMPTY_CAPTURE
+
+
+def ranges_side_by_side(count):
+    """Rules of one destination of which none contains another, each for a range of ports."""
+    network = bytes([24, 192, 0, 2])
+    ranges = [struct.pack(">BBHBH", 5, 0x13, 2 * number, 0xD5, 2 * number + 1) for number in range(count)]
+    return b"".join([up(1), announce(network)] + [flow(bytes([1]) + network + to) for to in ranges]), EMPTY_CAPTURE
 
 
 def nothing(count):
@@ -330,7 +337,8 @@ SHAPES = [
     ("peers with one network", one_network, 512),
     ("two paths of one network in turn", two_paths_in_turn, 4000),
     ("routes under a network", routes_under_a_network, 4000),
-    ("pairs of rules in shadow", rules_side_by_side, 2000),
+    ("pairs of rules in shadow", rules_side_by_side, 8000),
+    ("pairs of ranges in shadow", ranges_side_by_side, 2000),
     ("UPDATEs of nothing", nothing, 400000),
     ("long attributes of every type", long_attributes, 5120),
     *((f"long attributes of type {kind}", long_attributes_of(kind), 5000) for kind in LONG_TYPES),
@@ -342,7 +350,7 @@ SHAPES = [
 
 
 # Shapes that are played by another command than `enforce`, which reads no capture.
-COMMANDS = {"pairs of rules in shadow": "shadow"}
+COMMANDS = {"pairs of rules in shadow": "shadow", "pairs of ranges in shadow": "shadow"}
 
 # Shapes whose twice the size is the largest that there is.
 OF_ONE_SIZE = (
