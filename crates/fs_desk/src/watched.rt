@@ -11,7 +11,7 @@ use std::marker::Model;
 use std::sync::ledger::Ledger;
 
 /// The table of the routes that all peers hold, which is watched: at which places a flow route has come or gone since
-/// `watch`, or that one has changed its validity.
+/// `watch`, or has changed its validity.
 #[derive(Drop)]
 pub(crate) struct WatchedTable<'a> {
     alloc: Global,
@@ -89,9 +89,9 @@ impl<'a> WatchedTable<'a> {
         ensures ok { OnOk result (self.new.held ≡ with_path peer prefix path self.old.held) }
         ensures told { OnOk result (Tells self.old self.new) }
     {
-        if self.table.put_unicast_telling(peer, prefix, path, steps)? {
-            self.changes.note_all();
-        }
+        let changes = &mut self.changes;
+        self.table
+            .put_unicast_telling(peer, prefix, path, changes, steps)?;
         Ok(())
     }
 
@@ -105,10 +105,9 @@ impl<'a> WatchedTable<'a> {
         ensures removed { self.new.held ≡ without_path peer prefix.now self.old.held }
         ensures told { Tells self.old self.new }
     {
-        let told = self.table.withdraw_unicast_telling(peer, prefix, steps);
-        if told.unwrap_or(false) {
-            self.changes.note_all();
-        }
+        let changes = &mut self.changes;
+        self.table
+            .withdraw_unicast_telling(peer, prefix, changes, steps);
     }
 
     /// Keeps the route as the peer's route of the rule.

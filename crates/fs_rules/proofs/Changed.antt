@@ -120,7 +120,7 @@ pub routes_mended : (p : Prefix) (unicast : List Route) (config : Config) (ks : 
 routes_mended = routes-mended
 
 -- the validity of a route whose destination isn't related to the change
-unrelated : (config : Config) (r : FlowRoute) (destination : Option Prefix) (p : Prefix) (old new : List Route) → AgreeOff p old new → has_related p destination ≡ false → validity_to old config r destination ≡ validity_to new config r destination
+pub unrelated : (config : Config) (r : FlowRoute) (destination : Option Prefix) (p : Prefix) (old new : List Route) → AgreeOff p old new → has_related p destination ≡ false → validity_to old config r destination ≡ validity_to new config r destination
 unrelated config r None p old new agree h = refl
 unrelated config r (Some d) p old new agree h = validity_local config r (Some d) old new (agree d h)
 

@@ -1,7 +1,7 @@
 -- Of the rules that a change doesn't touch the same routes are admitted, since a route is beaten only by one of its rule.
 use Rattle.std.proofs.Common.{◌≡◌, refl, sym, ap, ap₂, subst, ◌∙◌, Bool, true, false, true≢false, not, ◌&&◌, ◌||◌, cond, List, [], ◌∷◌, ◌++◌, filter, Ordering, Less, Equal, Greater, is_eq, nat_cmp, ℕ, Option, Some, None, IfSome, option_map, ◌==◌}
 use Rattle.std.specs.List.{list_any, AllByRecursion}
-use Rattle.std.specs.Ordering.{match_ordering, ordering_then}
+use Rattle.std.specs.Ordering.{match_ordering}
 use Rattle.fs_base.specs.Bits.{afi_of}
 use Rattle.fs_base.specs.declared.config.Config.{Config}
 use Rattle.fs_base.specs.declared.prefix.Family.{Family}
@@ -9,7 +9,7 @@ use Rattle.fs_base.specs.declared.prefix.Family.TheVariants.{V4, V6}
 use Rattle.fs_base.specs.declared.prefix.Prefix.{Prefix}
 use Rattle.fs_base.specs.Prefix.{prefix_of, prefix_total}
 use Rattle.fs_base.proofs.Bools.{and_both, and_first, and_second, or_first, or_second, same_tests}
-use Rattle.fs_base.proofs.Lists.{any_filter, any_on, each, each_weaker, filter_on, each_mapped}
+use Rattle.fs_base.proofs.Lists.{any_filter, any_on, each, each_both, each_weaker, filter_none, filter_on, each_mapped}
 use Rattle.std.specs.Cmp.{tied_itself}
 use Rattle.std.proofs.lemmas.Bool.{eqb-true}
 use Rattle.fs_nlri.specs.Forms.{form_of}
@@ -25,8 +25,8 @@ use Rattle.fs_validate.specs.Validity.{validity}
 use Rattle.fs_validate.specs.declared.route.FlowRoute.{FlowRoute}
 use Rattle.fs_rules.specs.Kept.{Kept}
 use Rattle.fs_rules.specs.Group.{routes_of}
-use Rattle.fs_rules.specs.Changes.{AdmitsElsewhere, Covers, Noted, is_to, touched_by}
-use Rattle.fs_rules.specs.Table.{Held, beats, is_key, is_most_preferred, is_of_family, is_valid, key_cmp, put_route, same_rule, without_route}
+use Rattle.fs_rules.specs.Changes.{AdmitsElsewhere, Covers, Noted, StaysNoted, is_noted, is_to, touched_by}
+use Rattle.fs_rules.specs.Table.{Held, admitted, beats, is_key, is_most_preferred, is_of_family, is_valid, key_cmp, put_route, same_rule, without_route}
 use Rattle.fs_rules.specs.declared.noted.Change.{Change}
 use Rattle.fs_rules.proofs.Apart.{to_cmp, to_shown}
 use Rattle.fs_rules.proofs.Chosen.{held_of}
@@ -90,6 +90,24 @@ module _ (touched : Ruled → Bool) where
         ∙ filter_swap (is_in family flows) spares flows where
           same : (r : FlowRoute) → HasRule r → spares r ≡ true → is_in family other r ≡ is_in family flows r
           same r s t = ap (λ b. is_of_family family r && (is_valid (validity unicast config r) && not b)) (beaten_spared r s t other k ∙ ap (list_any (wins r)) e ∙ sym (beaten_spared r s t flows h))
+
+  -- Where the flow routes stay, and others' validities, others are admitted as before.
+  pub revalued : (config : Config) (unicast other : List Route) (flows : List FlowRoute) → AllByRecursion HasRule flows → AllByRecursion (λ r. spares r ≡ true → validity other config r ≡ validity unicast config r) flows
+      → AdmitsElsewhere touched (held_of config unicast flows) (held_of config other flows)
+  revalued config unicast other flows h same family =
+      filter_swap spares (is_in config other family flows) flows
+      ∙ filter_on (is_in config other family flows) (is_in config unicast family flows) (filter spares flows)
+      (each_filtered (λ r. HasRule r × (spares r ≡ true → IsSame r)) (λ r. is_in config other family flows r ≡ is_in config unicast family flows r) spares
+      (λ r f e. ap₂ (λ v b. is_of_family family r && (is_valid v && not b)) (f.1 e) (beaten r f.0 e)) flows
+      (each_both HasRule (λ r. spares r ≡ true → IsSame r) (λ r. HasRule r × (spares r ≡ true → IsSame r)) (λ r a b. (a, b)) flows h same))
+      ∙ filter_swap (is_in config unicast family flows) spares flows where
+        IsSame : FlowRoute → Type 0
+        IsSame r = validity other config r ≡ validity unicast config r
+
+        beaten : (r : FlowRoute) → HasRule r → spares r ≡ true → list_any (wins config other r) flows ≡ list_any (wins config unicast r) flows
+        beaten r k e = beaten_spared config other r k e flows h
+            ∙ any_on (wins config other r) (wins config unicast r) (filter spares flows) (each_filtered (λ s. spares s ≡ true → IsSame s) (λ s. wins config other r s ≡ wins config unicast r s) spares (λ s f t. ap (λ v. is_valid v && beats s r) (f t)) flows same)
+            ∙ sym (beaten_spared config unicast r k e flows h)
 
   -- A route of a touched rule comes.
   put_spared : (r : FlowRoute) → HasRule r → touched r.rule ≡ true → (flows : List FlowRoute) → AllByRecursion HasRule flows → filter spares (put_route r flows) ≡ filter spares flows
@@ -161,6 +179,28 @@ covers_more base old new noted before places all change v e h k none = subst (λ
     (λ rule t. any_front (λ place. is_to place.family place.destination rule) before change t)
     (λ rule t. any_back (λ place. is_to place.family place.destination rule) before change t) base old new (subst (λ n. Covers base n old) (sym v) h none) k)
 
+pub stays_more : (noted : Noted) (before places : List Change) (all : Bool) (change : Change) → (let own : Noted = record { places = before; all = all } in own ≡ noted) → places ≡ before ++ change ∷ []
+    → StaysNoted noted (record { places = places; all = all })
+stays_more noted before places all change v e rule h = subst (λ ps. (all || touched_by ps rule) ≡ true) (sym e) (at all (subst (λ n. is_noted n rule ≡ true) (sym v) h)) where
+  at : (b : Bool) → (b || touched_by before rule) ≡ true → (b || touched_by (before ++ change ∷ []) rule) ≡ true
+  at true k = refl
+  at false k = any_front (λ place. is_to place.family place.destination rule) before change k
+
+pub noted_more : (before places : List Change) (all : Bool) (change : Change) → places ≡ before ++ change ∷ [] → (rule : Ruled) → is_to change.family change.destination rule ≡ true → (all || touched_by places rule) ≡ true
+noted_more before places all change e rule t = or_second all (touched_by places rule) (subst (λ ps. touched_by ps rule ≡ true) (sym e) (any_back (λ place. is_to place.family place.destination rule) before change t))
+
+-- with all places at which a rule may have changed
+pub covers_noted : (base old new : Held) (a b : Noted) → StaysNoted a b → AdmitsElsewhere (is_noted b) old new → Covers base a old → Covers base b new
+covers_noted base old new a b stays k h none = at a.all refl where
+  placed : (rule : Ruled) → is_noted b rule ≡ true → touched_by b.places rule ≡ true
+  placed rule n = ap (λ c. c || touched_by b.places rule) (sym none) ∙ n
+
+  at : (c : Bool) → a.all ≡ c → AdmitsElsewhere (touched_by b.places) base new
+  at true e = (λ family. empty (admitted family new) ∙ sym (empty (admitted family base))) where
+    empty : (xs : List FlowRoute) → filter (spares (touched_by b.places)) xs ≡ []
+    empty xs = filter_none (spares (touched_by b.places)) xs (each (λ r. spares (touched_by b.places) r ≡ false) (λ r. ap not (placed r.rule (stays r.rule (ap (λ c. c || touched_by a.places r.rule) e)))) xs)
+  at false e = joined (touched_by a.places) (is_noted b) (touched_by b.places) (λ rule t. placed rule (stays rule (or_second a.all (touched_by a.places rule) t))) placed base old new (h e) k
+
 -- A rule stands at its place.
 afi_itself : (family : Family) → (afi_of family == afi_of family) ≡ true
 afi_itself V4 = refl
@@ -208,3 +248,6 @@ own_place family destination rule e d h = subst (λ q. IfSome q (λ p. p.family 
   at : (o : Option (Family × ℕ × ℕ)) → destination_of rule ≡ o → IfSome (option_map (λ d. prefix_of d.0 d.1 d.2) o) (λ p. p.family ≡ family)
   at None k = tt
   at (Some d) k = family_of_destination rule d h k ∙ sym e
+
+pub place_at : (d : Prefix) (rule : Ruled) → IsRule rule → destination_prefix rule ≡ Some d → is_to d.family (Some d) rule ≡ true
+place_at d rule h e = stands_at d.family (Some d) rule (own_place rule.family (Some d) rule refl (sym e) h) (sym e) h

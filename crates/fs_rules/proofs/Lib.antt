@@ -17,6 +17,7 @@ pub mod InParts
 pub mod Grouping
 pub mod BothFamilies
 pub mod Telling
+pub mod Marking
 pub mod Counting
 pub mod Validities
 pub mod Cutting

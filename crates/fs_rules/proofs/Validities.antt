@@ -3,14 +3,19 @@ use Rattle.std.proofs.Common.{◌≡◌, ◌↔◌, refl, sym, ap, ap₂, subst,
 use Rattle.std.specs.List.{list_any, AllByRecursion}
 use Rattle.fs_base.specs.declared.config.Config.{Config}
 use Rattle.fs_base.specs.declared.prefix.Prefix.{Prefix}
+use Rattle.fs_base.proofs.Bools.{false_of_not}
 use Rattle.fs_base.proofs.Lists.{each, each_weaker, each_both, each_mapped, each_of_map, filter_on}
 use Rattle.fs_unicast.specs.Unicast.{Route}
 use Rattle.fs_validate.specs.Validity.{validity}
 use Rattle.fs_validate.specs.declared.route.FlowRoute.{FlowRoute}
 use Rattle.fs_rules.specs.Kept.{Kept}
+use Rattle.fs_nlri.specs.Rule.{IsRule, destination_prefix}
+use Rattle.fs_rules.specs.Changes.{AdmitsElsewhere, Noted, is_noted}
 use Rattle.fs_rules.specs.Table.{Held, stands, beats, is_of_family, is_valid, is_most_preferred, ValiditiesStay, AdmitsSame}
-use Rattle.fs_rules.specs.Group.{IsRight, AreRight, IsRightAt, is_related_kept, retested, mended, routes_of}
+use Rattle.fs_rules.specs.Group.{IsRight, AreRight, IsRightAt, IsMarked, is_related_kept, retested, mended, routes_of}
+use Rattle.fs_rules.proofs.Changed.{AgreeOff, unrelated}
 use Rattle.fs_rules.proofs.Chosen.{held_of}
+use Rattle.fs_rules.proofs.Elsewhere.{revalued}
 
 -- what was right stays as it is
 right_mended : (p : Prefix) (unicast : List Route) (config : Config) (ks : List Kept) → AllByRecursion (IsRightAt p unicast config) ks → map (mended p unicast config) ks ≡ ks
@@ -71,3 +76,21 @@ validities_admit old new f m = λ family.
         ap (list_any (λ s. stands new s && beats s r)) f
         ∙ any_on (λ s. stands new s && beats s r) (λ s. stands old s && beats s r) old.flows
         (each_weaker IsStill (λ s. (stands new s && beats s r) ≡ (stands old s && beats s r)) (λ s e. ap (λ v. is_valid v && beats s r) e) old.flows m)
+
+-- where each related route that isn't noted has the validity that it had, the same rules are admitted but for the noted
+pub related_elsewhere : (noted : Noted) (p : Prefix) (config : Config) (unicast other : List Route) (ks ms : List Kept) (old : Held) → held_of config unicast (routes_of ks) ≡ old → AgreeOff p unicast other → AreRight unicast config ks
+    → routes_of ms ≡ routes_of ks → AllByRecursion (λ k. IsRule k.route.rule) ks → AllByRecursion (IsMarked noted p other config) ks → AdmitsElsewhere (is_noted noted) old (held_of config other (routes_of ms))
+related_elsewhere noted p config unicast other ks ms old view agree right e rules marked =
+    subst (λ held. AdmitsElsewhere (is_noted noted) held (held_of config other (routes_of ms))) view
+    (subst (λ flows. AdmitsElsewhere (is_noted noted) (held_of config unicast (routes_of ks)) (held_of config other flows)) (sym e)
+    (revalued (is_noted noted) config unicast other (routes_of ks) (each_mapped (λ k. k.route) (λ r. IsRule r.rule) ks rules)
+    (each_mapped (λ k. k.route) Stays ks
+    (each_both (IsRight unicast config) (λ k. IsRule k.route.rule × IsMarked noted p other config k) (λ k. Stays k.route) (λ k r both. at k (is_related_kept p k) refl r both.0 both.1) ks right
+    (each_both (λ k. IsRule k.route.rule) (IsMarked noted p other config) (λ k. IsRule k.route.rule × IsMarked noted p other config k) (λ k a b. (a, b)) ks rules marked)))))
+  where
+    Stays : FlowRoute → Type 0
+    Stays r = not (is_noted noted r.rule) ≡ true → validity other config r ≡ validity unicast config r
+
+    at : (k : Kept) (b : Bool) → is_related_kept p k ≡ b → IsRight unicast config k → IsRule k.route.rule → IsMarked noted p other config k → Stays k.route
+    at k true t r rule m e = sym (m rule (false_of_not (is_noted noted k.route.rule) e) t) ∙ r
+    at k false t r rule m e = sym (unrelated config k.route (destination_prefix k.route.rule) p unicast other agree t)

@@ -1,12 +1,12 @@
 -- Where the rules that the table admits may have changed.
-use Rattle.std.specs.Prelude.{◌≡◌, ◌==◌, ◌&&◌, Bool, not, false, List, filter, Option, IfSome, option_map}
+use Rattle.std.specs.Prelude.{◌≡◌, ◌==◌, ◌&&◌, ◌||◌, Bool, not, true, false, List, filter, Option, Some, IfSome, option_map}
 use Rattle.std.specs.List.{list_any}
 use Rattle.std.specs.Ordering.{is_eq}
 use Rattle.fs_base.specs.Bits.{afi_of}
 use Rattle.fs_base.specs.declared.prefix.Family.{Family}
 use Rattle.fs_base.specs.declared.prefix.Prefix.{Prefix}
 use Rattle.fs_nlri.specs.Parts.{Ruled}
-use Rattle.fs_nlri.specs.Rule.{destination_of, shown}
+use Rattle.fs_nlri.specs.Rule.{IsRule, destination_of, destination_prefix, shown}
 use Rattle.fs_order.specs.Laws.{destination_cmp}
 use Rattle.fs_rules.specs.Table.{Held, admitted}
 use Rattle.fs_rules.specs.declared.noted.Change.{Change}
@@ -40,3 +40,15 @@ pub record Noted : Type 0 where
 -- Since the base nothing has changed that wasn't noted.
 abbrev pub Covers : Held → Noted → Held → Type 0
 Covers base noted now = noted.all ≡ false → AdmitsElsewhere (touched_by noted.places) base now
+
+-- the rule stands at a place that was noted, or any rule may have changed
+abbrev pub is_noted : Noted → Ruled → Bool
+is_noted noted rule = noted.all || touched_by noted.places rule
+
+-- what was noted still is
+abbrev pub StaysNoted : Noted → Noted → Type 0
+StaysNoted old new = (rule : Ruled) → is_noted old rule ≡ true → is_noted new rule ≡ true
+
+-- the rules with this destination are noted
+abbrev pub IsNotedAt : Noted → Prefix → Type 0
+IsNotedAt noted d = (rule : Ruled) → IsRule rule → destination_prefix rule ≡ Some d → is_noted noted rule ≡ true

@@ -10,9 +10,10 @@ use Rattle.fs_base.specs.declared.prefix.Prefix.{Prefix}
 use Rattle.fs_nlri.specs.Parts.{Ruled}
 use Rattle.fs_unicast.specs.Preference.{preferred}
 use Rattle.fs_unicast.specs.Unicast.{Route}
-use Rattle.fs_nlri.specs.Rule.{destination_prefix}
+use Rattle.fs_nlri.specs.Rule.{IsRule, destination_prefix}
 use Rattle.fs_validate.specs.Validity.{judged, validity, validity_to}
 use Rattle.fs_validate.specs.declared.route.FlowRoute.{FlowRoute}
+use Rattle.fs_rules.specs.Changes.{Noted, is_noted}
 use Rattle.fs_rules.specs.Kept.{Kept}
 use Rattle.fs_rules.specs.Table.{key_cmp, is_key, has_related, is_of_family, is_valid, same_rule, beats}
 
@@ -76,6 +77,11 @@ AreRightTo unicast config destination kept =
 -- where it is related to the prefix, the validity is that of the route
 abbrev pub IsRightAt : Prefix → List Route → Config → Kept → Type 0
 IsRightAt prefix unicast config k = is_related_kept prefix k ≡ true → IsRight unicast config k
+
+-- where its rule isn't noted, likewise
+abbrev pub IsMarked : Noted → Prefix → List Route → Config → Kept → Type 0
+IsMarked noted prefix unicast config k =
+    IsRule k.route.rule → is_noted noted k.route.rule ≡ false → IsRightAt prefix unicast config k
 
 -- validated anew where it is related to the prefix
 abbrev pub mended : Prefix → List Route → Config → Kept → Kept

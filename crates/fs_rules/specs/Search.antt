@@ -1,5 +1,5 @@
 -- Groups found by their destination, and what validating their routes anew does.
-use Rattle.std.specs.Prelude.{◌≡◌, ℕ, ◌+◌, ◌≤◌, ◌↔◌, Bool, true, false, Option, Some, None, List, [], ◌∷◌, map, length, MatchOption, if◌then◌else◌}
+use Rattle.std.specs.Prelude.{◌≡◌, ℕ, ◌+◌, ◌≤◌, ◌↔◌, ◌⊎◌, Bool, true, false, Option, Some, None, List, [], ◌∷◌, map, length, MatchOption, if◌then◌else◌}
 use Rattle.std.specs.BTreeMap.{BTreeMap}
 use Rattle.std.specs.List.{list_any, AllByRecursion}
 use Rattle.std.specs.Ordering.{is_eq, is_lt, is_le}
@@ -8,6 +8,7 @@ use Rattle.fs_base.specs.declared.prefix.Prefix.{Prefix}
 use Rattle.fs_base.specs.Prefix.{prefix_cmp}
 use Rattle.fs_unicast.specs.Unicast.{Route}
 use Rattle.fs_validate.specs.Laws.{is_related}
+use Rattle.fs_rules.specs.Changes.{Noted, IsNotedAt}
 use Rattle.fs_rules.specs.Kept.{Kept}
 use Rattle.fs_rules.specs.Group.{AreRightTo, retested_to}
 use Rattle.fs_rules.specs.Groups.{Entry}
@@ -31,6 +32,11 @@ module _ (unicast : List Route) (config : Config) where
   abbrev pub Tells : (Prefix → Bool) → List Entry → Bool → Type 0
   Tells test old changed =
       (changed ≡ false) ↔ AllByRecursion (λ e. test e.0 ≡ true → AreRightTo unicast config e.0 e.1) old
+
+  -- of these groups those are noted in which a validity changed
+  abbrev pub Marks : (Prefix → Bool) → List Entry → Noted → Type 0
+  Marks test old noted =
+      AllByRecursion (λ e. test e.0 ≡ true → IsNotedAt noted e.0 ⊎ AreRightTo unicast config e.0 e.1) old
 
 abbrev pub GroupMap : Type 0
 GroupMap = BTreeMap Prefix (List Kept)

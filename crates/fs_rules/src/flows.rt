@@ -3,7 +3,8 @@
 ghost use Rattle.std.specs.Prelude.{◌≡◌, ◌≤◌, ◌+◌, ◌==◌, ◌↔◌, not, false, [], OnOk, OnErr, IfOk, map, filter, length, option_map, slice_get};
 ghost use Rattle.std.specs.List.{list_any, AllByRecursion};
 ghost use Rattle.fs_rules.specs.Table.{is_of_family, IsRuleOf, related_count, is_key};
-ghost use Rattle.fs_rules.specs.Group.{has_key, put_kept, mended, IsRightAt, AreSorted, routes_of, chosen, of_family};
+ghost use Rattle.fs_rules.specs.Changes.{StaysNoted};
+ghost use Rattle.fs_rules.specs.Group.{has_key, put_kept, mended, IsRightAt, IsMarked, AreSorted, routes_of, chosen, of_family};
 ghost use Rattle.fs_rules.specs.Lent.{listed, shown_admitted, shown_held, shown_lent, all_admitted, all_held};
 ghost use Rattle.fs_rules.specs.Lists.{judgement, routes_chosen, listing, listings, listings_to, judgements, nth_listing};
 ghost use Rattle.fs_rules.specs.Walk.{next_match};
@@ -14,6 +15,7 @@ use crate::groups::Groups;
 use crate::kept::Kept;
 use crate::lent::{Admitted, HeldFlow, LentRule};
 use crate::listed::Listed;
+use crate::noted::Changes;
 use fs_base::{Config, Family, Memory, Prefix, Steps};
 use fs_nlri::Rule;
 use fs_packet::View;
@@ -105,22 +107,27 @@ impl Flows {
         }
     }
 
-    /// Validates the routes anew that are related to the prefix, and tells whether a validity is another than before.
-    /// At most as many steps as there are of them.
+    /// Validates the routes anew that are related to the prefix, notes where a validity is another than before, and
+    /// tells whether one is. At most as many steps as there are of them.
     pub(crate) fn mend<L: Ledger>(
         &mut self,
         prefix: &Prefix,
         unicast: &Unicast,
         config: &Config,
+        changes: &mut Changes,
         steps: &mut Steps<L>,
     ) -> bool
         ensures mended { self.new ≡ map (mended prefix.now unicast.now config.now) self.old }
         ensures told { (result ≡ false) ↔ AllByRecursion (IsRightAt prefix.now unicast.now config.now) self.old }
+        ensures stays { StaysNoted changes.old changes.new }
+        ensures marked { AllByRecursion (IsMarked changes.new prefix.now unicast.now config.now) self.old }
+        ensures rules { AllByRecursion (λ k. IsRule k.route.rule) self.old }
+        ensures quiet { result ≡ false → changes.new ≡ changes.old }
         ensures later { steps.old ≤ steps.new }
         ensures steps { steps.new ≤ steps.old + related_count prefix.now (routes_of self.old) }
     {
-        let v4 = self.v4.mend(prefix, unicast, config, steps);
-        let v6 = self.v6.mend(prefix, unicast, config, steps);
+        let v4 = self.v4.mend(prefix, unicast, config, changes, steps);
+        let v6 = self.v6.mend(prefix, unicast, config, changes, steps);
         v4 | v6
     }
 

@@ -7,7 +7,8 @@ ghost use Rattle.std.specs.BTreeMap.{is_at};
 ghost use Rattle.fs_base.specs.Prefix.{prefix_cmp};
 ghost use Rattle.fs_nlri.specs.Rule.{IsRule};
 ghost use Rattle.fs_rules.specs.Table.{is_key};
-ghost use Rattle.fs_rules.specs.Group.{has_key, put_kept, mended, IsRightAt, related_kept, AreSorted, routes_of, chosen, is_other_key};
+ghost use Rattle.fs_rules.specs.Changes.{StaysNoted};
+ghost use Rattle.fs_rules.specs.Group.{has_key, put_kept, mended, IsRightAt, IsMarked, related_kept, AreSorted, routes_of, chosen, is_other_key};
 ghost use Rattle.fs_rules.specs.Groups.{IsSound, HasSortedGroups, AreInOrder, AreNoShorter, put_entry, keep_at, keep_each, IsHeldAt};
 ghost use Rattle.fs_rules.specs.Listed.{IsAmong, keep_along};
 ghost use Rattle.fs_rules.specs.Lent.{listed, shown_admitted, shown_held, shown_lent, all_admitted, all_held};
@@ -17,6 +18,7 @@ ghost use Rattle.fs_rules.specs.Walk.{next_match};
 use crate::group::Group;
 use crate::kept::{Kept, destination_key};
 use crate::lent::{Admitted, HeldFlow, LentRule};
+use crate::noted::Changes;
 use crate::reading::{self, push_admitted, push_admitted_to, push_held};
 use crate::search::retest_related;
 use fs_base::{Config, Family, Memory, Prefix, Steps};
@@ -130,17 +132,21 @@ impl Groups {
         self.rest.forget(peer);
     }
 
-    /// Validates the routes anew that are related to the prefix, and tells whether a validity is another than before.
-    /// At most as many steps as there are of them.
+    /// Validates the routes anew that are related to the prefix, notes where a validity is another than before, and
+    /// tells whether one is. At most as many steps as there are of them.
     pub(crate) fn mend<L: Ledger>(
         &mut self,
         prefix: &Prefix,
         unicast: &Unicast,
         config: &Config,
+        changes: &mut Changes,
         steps: &mut Steps<L>,
     ) -> bool
         ensures mended { self.new ≡ map (mended prefix.now unicast.now config.now) self.old }
         ensures told { (result ≡ false) ↔ AllByRecursion (IsRightAt prefix.now unicast.now config.now) self.old }
+        ensures stays { StaysNoted changes.old changes.new }
+        ensures marked { AllByRecursion (IsMarked changes.new prefix.now unicast.now config.now) self.old }
+        ensures quiet { result ≡ false → changes.new ≡ changes.old }
         ensures later { steps.old ≤ steps.new }
         ensures steps { steps.new ≤ steps.old + related_kept prefix.now self.old }
     {
@@ -150,6 +156,7 @@ impl Groups {
             prefix,
             unicast,
             config,
+            changes,
             steps,
         )
     }

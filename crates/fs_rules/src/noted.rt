@@ -1,6 +1,8 @@
 //! Where the rules that the table admits may have changed.
 
-ghost use Rattle.std.specs.Prelude.{◌≡◌, true};
+ghost use Rattle.std.specs.Prelude.{◌≡◌, true, Some};
+ghost use Rattle.fs_nlri.specs.Parts.{Ruled};
+ghost use Rattle.fs_nlri.specs.Rule.{IsRule, destination_prefix};
 ghost use Rattle.fs_rules.specs.Changes.{IsOwn, is_to};
 
 use fs_base::{Family, Memory, Prefix};
@@ -30,6 +32,20 @@ impl Change {
             destination: destination(rule),
         }
     }
+
+    /// The place at which the rules with this destination stand.
+    pub(crate) fn at(destination: Prefix) -> Change
+        ensures place { (rule : Ruled)
+            → IsRule rule
+            → destination_prefix rule ≡ Some destination
+            → is_to result.family result.destination rule ≡ true }
+        ensures own { IsOwn result }
+    {
+        Change {
+            family: destination.family,
+            destination: Some(destination),
+        }
+    }
 }
 
 /// The places at which the admitted rules may have changed, as long as they are few. Behind more changes than there is
@@ -52,9 +68,10 @@ impl Model for Changes {
 }
 
 impl Changes {
-    ghost use Rattle.std.specs.Prelude.{◌≡◌, false, []};
+    ghost use Rattle.std.specs.Prelude.{◌≡◌, true, false, []};
     ghost use Rattle.std.specs.List.{AllByRecursion};
-    ghost use Rattle.fs_rules.specs.Changes.{Covers, AdmitsElsewhere, IsOwn, is_to};
+    ghost use Rattle.fs_nlri.specs.Parts.{Ruled};
+    ghost use Rattle.fs_rules.specs.Changes.{Covers, AdmitsElsewhere, IsOwn, StaysNoted, is_noted, is_to};
     ghost use Rattle.fs_rules.specs.Table.{Held};
 
     /// No change, and no room.
@@ -80,10 +97,14 @@ impl Changes {
     /// Notes a change at the place. Takes no memory.
     pub fn note(&mut self, change: Change)
         requires { IsOwn change }
-        ensures { (base old new : Held)
+        ensures covers { (base old new : Held)
             → Covers base self.old old
             → AdmitsElsewhere (is_to change.family change.destination) old new
             → Covers base self.new new }
+        ensures stays { StaysNoted self.old self.new }
+        ensures noted { (rule : Ruled)
+            → is_to change.family change.destination rule ≡ true
+            → is_noted self.new rule ≡ true }
     {
         if self.places.len() < self.places.capacity() {
             self.places.push_reserved(change);

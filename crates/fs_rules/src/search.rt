@@ -6,12 +6,14 @@ ghost use Rattle.std.specs.Ordering.{is_le};
 ghost use Rattle.std.specs.Prelude.{MatchOption};
 ghost use Rattle.fs_base.specs.Prefix.{covers, prefix_cmp};
 ghost use Rattle.fs_base.specs.Search.{IsFirstFrom};
-ghost use Rattle.fs_rules.specs.Search.{Mended, Tells, IsNextAfter, IsNextRelated};
+ghost use Rattle.fs_rules.specs.Changes.{StaysNoted};
+ghost use Rattle.fs_rules.specs.Search.{Mended, Tells, Marks, IsNextAfter, IsNextRelated};
 ghost use Rattle.fs_rules.specs.Groups.{AreInOrder, AreNoShorter};
 ghost use Rattle.fs_validate.specs.Laws.{is_related};
 ghost use Rattle.fs_unicast.specs.Search.{is_same_prefix};
 
 use crate::group::Group;
+use crate::noted::{Change, Changes};
 use fs_base::{Config, Prefix, Steps};
 use fs_unicast::{PrefixKey, Unicast};
 use std::collections::BTreeMap;
@@ -107,20 +109,49 @@ fn retest_group<L: Ledger>(
     }
 }
 
-/// Validates the routes anew whose destination covers the prefix or lies under it, and tells whether a validity is
-/// another than before. In order those under the prefix come first, from the lowest on, and behind them those that
-/// cover it, so one walk meets all of them. No destination is shorter than `shortest`.
+/// Validates the routes of the group anew, and tells whether a validity is another than before. Then the destination
+/// is noted.
+fn mark_group<L: Ledger>(
+    groups: &mut BTreeMap<PrefixKey, Group>,
+    destination: &PrefixKey,
+    unicast: &Unicast,
+    config: &Config,
+    changes: &mut Changes,
+    steps: &mut Steps<L>,
+) -> bool
+    ensures mended { Mended unicast.now config.now (is_same_prefix destination.now)
+        groups.old groups.new steps.old steps.new }
+    ensures told { Tells unicast.now config.now (is_same_prefix destination.now) groups.old.entries result }
+    ensures stays { StaysNoted changes.old changes.new }
+    ensures marks { Marks unicast.now config.now (is_same_prefix destination.now) groups.old.entries changes.new }
+    ensures quiet { result ≡ false → changes.new ≡ changes.old }
+{
+    let changed = retest_group(groups, destination, unicast, config, steps);
+    if changed {
+        changes.note(Change::at(destination.prefix()));
+    }
+    changed
+}
+
+/// Validates the routes anew whose destination covers the prefix or lies under it, notes the destinations at which a
+/// validity is another than before, and tells whether there are any. In order those under the prefix come first, from
+/// the lowest on, and behind them those that cover it, so one walk meets all of them. No destination is shorter than
+/// `shortest`.
 pub(crate) fn retest_related<L: Ledger>(
     groups: &mut BTreeMap<PrefixKey, Group>,
     shortest: u8,
     prefix: &Prefix,
     unicast: &Unicast,
     config: &Config,
+    changes: &mut Changes,
     steps: &mut Steps<L>,
 ) -> bool
     requires { AreNoShorter shortest groups.old.entries }
     ensures mended { Mended unicast.now config.now (is_related prefix.now) groups.old groups.new steps.old steps.new }
     ensures told { Tells unicast.now config.now (is_related prefix.now) groups.old.entries result }
+    ensures stays { StaysNoted changes.old changes.new }
+    ensures marks { Marks unicast.now config.now (is_related prefix.now) groups.old.entries changes.new }
+    ensures quiet { result ≡ false → changes.new ≡ changes.old }
 {
     if groups.is_empty() {
         return false;
@@ -130,7 +161,7 @@ pub(crate) fn retest_related<L: Ledger>(
     while let Some(key) = next {
         let destination = key.prefix();
         if is_related(prefix, &destination) {
-            changed |= retest_group(groups, &key, unicast, config, steps);
+            changed |= mark_group(groups, &key, unicast, config, changes, steps);
             next = next_related(groups, prefix, &key, shortest);
         } else {
             next = first_over(groups, prefix, &destination, shortest);

@@ -6,10 +6,10 @@ ghost use Rattle.std.specs.List.{AllByRecursion};
 ghost use Rattle.std.specs.List.Sorted.{IsStrictlySortedBy};
 ghost use Rattle.std.specs.Map.{keys_of, remove_entry, lookup};
 ghost use Rattle.fs_unicast.specs.Unicast.{place_cmp, has_path};
-ghost use Rattle.fs_rules.specs.Table.{put_route, without_route, has_route, without_peer_unicast, without_peer_flows, related_count, related_sum, admitted, IsAdmitted, IsRuleOf, with_flow, with_path, without_path, without_peer, held_count, ValiditiesStay, AdmitsSame};
+ghost use Rattle.fs_rules.specs.Table.{put_route, without_route, has_route, without_peer_unicast, without_peer_flows, related_count, related_sum, admitted, IsAdmitted, IsRuleOf, with_flow, with_path, without_path, without_peer, held_count, Held, ValiditiesStay, AdmitsSame};
 ghost use Rattle.fs_base.specs.declared.prefix.Family.{Family};
 ghost use Rattle.fs_nlri.specs.Parts.{Ruled};
-ghost use Rattle.fs_rules.specs.Changes.{AdmitsElsewhere, is_to};
+ghost use Rattle.fs_rules.specs.Changes.{AdmitsElsewhere, Covers, is_to};
 ghost use Rattle.fs_rules.specs.Lent.{listed, shown_admitted, shown_held, shown_lent, held_flows, AreRising};
 ghost use Rattle.fs_rules.specs.Walk.{next_match};
 ghost use Rattle.fs_unicast.specs.Search.{held_by};
@@ -19,6 +19,7 @@ use crate::flows::Flows;
 use crate::kept::Kept;
 use crate::latest::Latest;
 use crate::lent::{Admitted, HeldFlow, LentRule};
+use crate::noted::Changes;
 use crate::route::{SharedRoute, validate};
 use fs_actions::Actions;
 use fs_base::{Config, Family, Memory, Path, Prefix, Steps};
@@ -117,24 +118,28 @@ impl<'a> Table<'a> {
         ensures steps { steps.new ≤ steps.old + related_count prefix self.old.flows }
         ensures idle { self.new ≡ self.old → steps.new ≡ steps.old }
     {
-        let path = SharedPath::new(self.flows.allocator(), path)?;
-        self.put_unicast_telling(peer, prefix, path, steps)?;
+        let alloc = self.flows.allocator();
+        let path = SharedPath::new(alloc, path)?;
+        self.put_unicast_telling(peer, prefix, path, &mut Changes::new(alloc), steps)?;
         Ok(())
     }
 
-    /// As [`put_unicast`](Table::put_unicast), and tells whether a held flow route has another validity than before.
-    /// Where none has, the same rules are admitted. Many routes may be given one shared path.
+    /// As [`put_unicast`](Table::put_unicast), notes where a held flow route has another validity than before, and
+    /// tells whether one has. Many routes may be given one shared path.
     pub fn put_unicast_telling<L: Ledger>(
         &mut self,
         peer: u16,
         prefix: Prefix,
         path: SharedPath,
+        changes: &mut Changes,
         steps: &mut Steps<L>,
     ) -> Result<bool, Memory>
         ensures ok { OnOk result (self.new ≡ with_path peer prefix path self.old) }
+        ensures covers { OnOk result
+            ((base : Held) → Covers base changes.old self.old → Covers base changes.new self.new) }
+        ensures quiet { IfOk result (λ changed. changed ≡ false → changes.new ≡ changes.old) }
         ensures err { OnErr result (self.new ≡ self.old) }
         ensures told { IfOk result (λ changed. (changed ≡ false) ↔ ValiditiesStay self.old self.new) }
-        ensures same { IfOk result (λ changed. changed ≡ false → AdmitsSame self.old self.new) }
         ensures later { steps.old ≤ steps.new }
         ensures steps { steps.new ≤ steps.old + related_count prefix self.old.flows }
         ensures idle { self.new ≡ self.old → steps.new ≡ steps.old }
@@ -145,7 +150,8 @@ impl<'a> Table<'a> {
             return Ok(false);
         }
         self.counts.raise(peer, held < self.unicast.len());
-        Ok(self.flows.mend(&prefix, &self.unicast, self.config, steps))
+        let flows = &mut self.flows;
+        Ok(flows.mend(&prefix, &self.unicast, self.config, changes, steps))
     }
 
     /// Takes the peer's route of the rule away, and tells whether there was one. Of other rules the same routes are
@@ -183,21 +189,25 @@ impl<'a> Table<'a> {
         ensures steps { steps.new ≤ steps.old + related_count prefix.now self.old.flows }
         ensures idle { self.new ≡ self.old → steps.new ≡ steps.old }
     {
-        self.withdraw_unicast_telling(peer, prefix, steps).is_some()
+        let mut changes = Changes::new(self.flows.allocator());
+        self.withdraw_unicast_telling(peer, prefix, &mut changes, steps)
+            .is_some()
     }
 
-    /// As [`withdraw_unicast`](Table::withdraw_unicast), and tells whether a held flow route has another validity than
-    /// before. Where none has, the same rules are admitted. None where there is no such route.
+    /// As [`withdraw_unicast`](Table::withdraw_unicast), notes where a held flow route has another validity than
+    /// before, and tells whether one has. None where there is no such route.
     pub fn withdraw_unicast_telling<L: Ledger>(
         &mut self,
         peer: u16,
         prefix: &Prefix,
+        changes: &mut Changes,
         steps: &mut Steps<L>,
     ) -> Option<bool>
         ensures removed { self.new ≡ without_path peer prefix.now self.old }
+        ensures covers { (base : Held) → Covers base changes.old self.old → Covers base changes.new self.new }
+        ensures quiet { unwrap_or result false ≡ false → changes.new ≡ changes.old }
         ensures held { is_some result ≡ has_path peer prefix.now self.old.unicast }
         ensures told { (unwrap_or result false ≡ false) ↔ ValiditiesStay self.old self.new }
-        ensures same { unwrap_or result false ≡ false → AdmitsSame self.old self.new }
         ensures later { steps.old ≤ steps.new }
         ensures steps { steps.new ≤ steps.old + related_count prefix.now self.old.flows }
         ensures idle { self.new ≡ self.old → steps.new ≡ steps.old }
@@ -206,7 +216,8 @@ impl<'a> Table<'a> {
             return None;
         }
         self.counts.lower(peer, true);
-        Some(self.flows.mend(prefix, &self.unicast, self.config, steps))
+        let flows = &mut self.flows;
+        Some(flows.mend(prefix, &self.unicast, self.config, changes, steps))
     }
 
     /// Takes away all that the peer holds. At most as many steps as all withdrawals of its unicast routes would take.
@@ -244,10 +255,11 @@ impl<'a> Table<'a> {
         ensures later { steps.old ≤ steps.new }
         ensures steps { steps.new ≤ steps.old + related_sum peer self.old.unicast self.old.flows }
     {
+        let mut changes = Changes::new(self.flows.allocator());
         let mut marked = false;
         let mut from = None;
         while let Some(prefix) = self.next_held(peer, from) {
-            let told = self.withdraw_unicast_telling(peer, &prefix, steps);
+            let told = self.withdraw_unicast_telling(peer, &prefix, &mut changes, steps);
             marked |= told.unwrap_or(false);
             from = Some(prefix);
         }

@@ -4,7 +4,7 @@ use Rattle.fs_desk.proofs.Telling.{admits_without, tells_place, tells_same}
 use Rattle.fs_desk.proofs.watched.WatchedTable.withdraw_flow.Goals as goal
 
 pub returns-then-withdraw_flow-clause-told : goal.returns-then-withdraw_flow-clause-told
-returns-then-withdraw_flow-clause-told g c = tells_place c.self.inside.table c.withdraw_flow.new.self c.self.inside.changes c.note.new.self c.args.self.now c.self.view_is c.of.result.family c.of.result.destination c.note.ensures
+returns-then-withdraw_flow-clause-told g c = tells_place c.self.inside.table c.withdraw_flow.new.self c.self.inside.changes c.note.new.self c.args.self.now c.self.view_is c.of.result.family c.of.result.destination c.note.ensures.covers
     (c.withdraw_flow.ensures.elsewhere (is_to c.of.result.family c.of.result.destination) c.of.ensures.place)
 
 pub returns-else-withdraw_flow-clause-told : goal.returns-else-withdraw_flow-clause-told

@@ -1,12 +1,12 @@
 use Rattle.std.proofs.Common.{rules, of_calls, ap, ◌∙◌}
 use Rattle.std.specs.BTreeMap.{insert_entry}
 use Rattle.fs_unicast.specs.Unicast.{place_cmp}
-use Rattle.fs_rules.specs.Table.{Held}
 use Rattle.fs_rules.specs.Group.{routes_of}
 use Rattle.fs_rules.proofs.Changed.{routes_mended}
 use Rattle.fs_rules.proofs.Chosen.{held_of, unicast_changed, keeps_after, agree_put}
 use Rattle.fs_rules.proofs.Counting.{counted_as, counted_put}
-use Rattle.fs_rules.proofs.Validities.{told_validities, validities_admit}
+use Rattle.fs_rules.proofs.Elsewhere.{covers_noted}
+use Rattle.fs_rules.proofs.Validities.{related_elsewhere, told_validities}
 use Rattle.fs_rules.proofs.table.Table.put_unicast_telling.Goals as goal
 
 pub invariant_of-self : goal.invariant_of-self
@@ -31,5 +31,8 @@ returns-clause-told g c = told_validities c.args.prefix c.self.inside.config.now
     (keeps_after c.self.inside.config.now c.args.prefix c.self.inside.unicast c.put_telling.new.self c.self.inside.flows c.mend.new.self (agree_put (record { prefix = c.args.prefix; peer = c.args.peer }) c.args.path c.self.inside.unicast c.put_telling.new.self c.in_ok-put_telling.ensures.ok) c.mend.ensures.mended c.self.invariant.keeps).right
     c.mend.ensures.mended c.mend.ensures.told
 
-pub returns-clause-same : goal.returns-clause-same
-returns-clause-same g c = λ h. validities_admit c.args.self.now (held_of c.self.inside.config.now c.put_telling.new.self (routes_of c.mend.new.self)) (ap (λ (held : Held). held.flows) (returns-clause-ok g c)) ((returns-clause-told g c).0 h)
+pub returns-clause-covers : goal.returns-clause-covers
+returns-clause-covers g c = λ base. covers_noted base c.args.self.now (held_of c.self.inside.config.now c.put_telling.new.self (routes_of c.mend.new.self)) c.args.changes.now c.mend.new.changes c.mend.ensures.stays
+    (related_elsewhere c.mend.new.changes c.args.prefix c.self.inside.config.now c.self.inside.unicast c.put_telling.new.self c.self.inside.flows c.mend.new.self c.args.self.now c.self.view_is
+    (agree_put (record { prefix = c.args.prefix; peer = c.args.peer }) c.args.path c.self.inside.unicast c.put_telling.new.self c.in_ok-put_telling.ensures.ok) c.self.invariant.keeps.right
+    (ap routes_of c.mend.ensures.mended ∙ routes_mended c.args.prefix c.put_telling.new.self c.self.inside.config.now c.self.inside.flows) c.mend.ensures.rules c.mend.ensures.marked)

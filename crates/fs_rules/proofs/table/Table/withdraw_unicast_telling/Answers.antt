@@ -2,13 +2,15 @@ use Rattle.std.proofs.Common.{◌≡◌, refl, sym, ap, ◌∙◌, subst, length
 use Rattle.std.specs.BTreeMap.{is_at}
 use Rattle.std.specs.Map.{remove_entry}
 use Rattle.fs_unicast.specs.Unicast.{place_cmp}
+use Rattle.fs_rules.specs.Changes.{Covers}
 use Rattle.fs_rules.specs.Counts.{IsKept}
 use Rattle.fs_rules.specs.Group.{routes_of}
 use Rattle.fs_rules.specs.Table.{Held, ValiditiesStay}
 use Rattle.fs_rules.proofs.Changed.{routes_mended, remove_nothing, removes_one}
 use Rattle.fs_rules.proofs.Chosen.{held_of, unicast_changed, keeps_after, agree_taken}
 use Rattle.fs_rules.proofs.Counting.{counted_taken}
-use Rattle.fs_rules.proofs.Validities.{validities_admit, validities_same, told_validities}
+use Rattle.fs_rules.proofs.Elsewhere.{covers_noted}
+use Rattle.fs_rules.proofs.Validities.{related_elsewhere, validities_same, told_validities}
 use Rattle.fs_rules.proofs.table.Table.withdraw_unicast_telling.Goals as goal
 
 pub invariant_of-self : goal.invariant_of-self
@@ -40,8 +42,12 @@ returns-clause-idle g c = λ e.
     let same = ap length (sym c.remove.ensures.removed ∙ ap (λ (held : Held). held.unicast) (e ∙ sym c.self.view_is)) in
     absurd (omega (arith, one, same))
 
-pub returns-clause-same : goal.returns-clause-same
-returns-clause-same g c = λ h. validities_admit c.args.self.now (held_of c.self.inside.config.now c.remove.new.self (routes_of c.mend.new.self)) (ap (λ (held : Held). held.flows) (returns-clause-removed g c)) ((returns-clause-told g c).0 h)
+pub returns-clause-covers : goal.returns-clause-covers
+returns-clause-covers g c = λ base. covers_noted base c.args.self.now (held_of c.self.inside.config.now c.remove.new.self (routes_of c.mend.new.self)) c.args.changes.now c.mend.new.changes c.mend.ensures.stays
+    (related_elsewhere c.mend.new.changes c.args.prefix.now c.self.inside.config.now c.self.inside.unicast c.remove.new.self c.self.inside.flows c.mend.new.self c.args.self.now c.self.view_is
+    (agree_taken (record { prefix = c.args.prefix.now; peer = c.args.peer }) c.self.inside.unicast c.remove.new.self c.remove.ensures.removed) c.self.invariant.keeps.right
+    (ap routes_of c.mend.ensures.mended ∙ routes_mended c.args.prefix.now c.remove.new.self c.self.inside.config.now c.self.inside.flows) c.mend.ensures.rules c.mend.ensures.marked)
 
-pub returns-then-not-remove-clause-same : goal.returns-then-not-remove-clause-same
-returns-then-not-remove-clause-same g c = λ h. validities_admit c.args.self.now (held_of c.self.inside.config.now c.remove.new.self (routes_of c.self.inside.flows)) (ap (λ (held : Held). held.flows) c.self.view_is) ((returns-then-not-remove-clause-told g c).0 h)
+pub returns-then-not-remove-clause-covers : goal.returns-then-not-remove-clause-covers
+returns-then-not-remove-clause-covers g c = λ base. subst (Covers base c.args.changes.now)
+    (sym c.self.view_is ∙ ap (λ u. held_of c.self.inside.config.now u (routes_of c.self.inside.flows)) (sym (c.remove.ensures.removed ∙ remove_nothing (is_at (place_cmp (record { prefix = c.args.prefix.now; peer = c.args.peer }))) c.self.inside.unicast (sym c.remove.ensures.held ∙ c.if-not-remove.true))))
