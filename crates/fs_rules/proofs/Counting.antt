@@ -19,7 +19,7 @@ use Rattle.fs_unicast.specs.Unicast.{Route, place_cmp, put_path, take_path, has_
 use Rattle.fs_validate.specs.declared.route.FlowRoute.{FlowRoute}
 use Rattle.fs_rules.specs.Table.{Held, held_count, without_peer, key_cmp, is_key, put_route, without_route, has_route, without_peer_unicast, without_peer_flows, count_in}
 use Rattle.fs_rules.specs.Group.{AreSorted}
-use Rattle.fs_rules.specs.Counts.{count_of}
+use Rattle.fs_rules.specs.Counts.{Counts, count_of}
 use Rattle.fs_rules.proofs.Changed.{flow_total}
 use Rattle.fs_rules.proofs.Chosen.{held_of, with_flows}
 use Rattle.fs_rules.proofs.Entries.{is_equal}
@@ -197,19 +197,19 @@ module _ {X : Type 0} (number : X → ℕ) where
     at false g ih = ap (λ ys. x ∷ ys) (ih g)
 
 -- Counts beside the routes.
-abbrev Counted : List Route → List FlowRoute → List (ℕ × ℕ) → Type 0
+abbrev Counted : List Route → List FlowRoute → Counts → Type 0
 Counted unicast flows counts = (other : ℕ) → count_of other counts ≡ count_in other unicast flows
 
-abbrev Raised : ℕ → Bool → List (ℕ × ℕ) → List (ℕ × ℕ) → Type 0
+abbrev Raised : ℕ → Bool → Counts → Counts → Type 0
 Raised peer more old new = (other : ℕ) → count_of other new ≡ count_of other old + (if more && (peer == other) then 1 else 0)
 
-abbrev Lowered : ℕ → Bool → List (ℕ × ℕ) → List (ℕ × ℕ) → Type 0
+abbrev Lowered : ℕ → Bool → Counts → Counts → Type 0
 Lowered peer less old new = (other : ℕ) → count_of other new ≡ count_of other old - (if less && (peer == other) then 1 else 0)
 
-pub counted_as : (unicast : List Route) (flows : List FlowRoute) (old new : List (ℕ × ℕ)) → ((other : ℕ) → count_of other new ≡ count_of other old) → Counted unicast flows old → Counted unicast flows new
+pub counted_as : (unicast : List Route) (flows : List FlowRoute) (old new : Counts) → ((other : ℕ) → count_of other new ≡ count_of other old) → Counted unicast flows old → Counted unicast flows new
 counted_as unicast flows old new same c = λ other. same other ∙ c other
 
-pub counted_put_flow : (unicast : List Route) (r : FlowRoute) (flows new : List FlowRoute) (before after : List (ℕ × ℕ)) (more : Bool) → AreSorted flows → Counted unicast flows before
+pub counted_put_flow : (unicast : List Route) (r : FlowRoute) (flows new : List FlowRoute) (before after : Counts) (more : Bool) → AreSorted flows → Counted unicast flows before
     → Raised r.peer more before after → more ≡ not (has_route r.rule r.peer flows) → new ≡ put_route r flows → Counted unicast new after
 counted_put_flow unicast r flows new before after more sorted c raised fresh e = λ other.
     let one : count_of other after ≡ count_of other before + (if not (has_route r.rule r.peer flows) && (r.peer == other) then 1 else 0) =
@@ -218,7 +218,7 @@ counted_put_flow unicast r flows new before after more sorted c raised fresh e =
     let three : count_of other before ≡ count_in other unicast flows = c other in
     omega (arith, one, two, three)
 
-pub counted_without_flow : (unicast : List Route) (rule : Ruled) (peer : ℕ) (flows new : List FlowRoute) (before after : List (ℕ × ℕ)) (less : Bool) → AreSorted flows → Counted unicast flows before
+pub counted_without_flow : (unicast : List Route) (rule : Ruled) (peer : ℕ) (flows new : List FlowRoute) (before after : Counts) (less : Bool) → AreSorted flows → Counted unicast flows before
     → Lowered peer less before after → less ≡ has_route rule peer flows → new ≡ without_route rule peer flows → Counted unicast new after
 counted_without_flow unicast rule peer flows new before after less sorted c lowered held e = λ other.
     let one : count_of other after ≡ count_of other before - (if has_route rule peer flows && (peer == other) then 1 else 0) =
@@ -229,7 +229,7 @@ counted_without_flow unicast rule peer flows new before after less sorted c lowe
     omega (arith, one, two, three)
 
 -- a route is a new one where there are more routes behind its put
-fresh_put : (peer : ℕ) (prefix : Prefix) (path : Path) (unicast unicast' : List Route) → IsStrictlySortedBy place_cmp (keys_of unicast) → unicast' ≡ put_path peer prefix path unicast
+pub fresh_put : (peer : ℕ) (prefix : Prefix) (path : Path) (unicast unicast' : List Route) → IsStrictlySortedBy place_cmp (keys_of unicast) → unicast' ≡ put_path peer prefix path unicast
     → nat_lt (length unicast) (length unicast') ≡ not (has_path peer prefix unicast)
 fresh_put peer prefix path unicast unicast' sorted e =
     ap (nat_lt (length unicast))
@@ -244,7 +244,7 @@ fresh_put peer prefix path unicast unicast' sorted e =
     at true n = grind (arith, nat_tests)
     at false n = grind (arith, nat_tests)
 
-pub counted_put : (peer : ℕ) (prefix : Prefix) (path : Path) (unicast unicast' : List Route) (flows new : List FlowRoute) (before after : List (ℕ × ℕ)) (more : Bool)
+pub counted_put : (peer : ℕ) (prefix : Prefix) (path : Path) (unicast unicast' : List Route) (flows new : List FlowRoute) (before after : Counts) (more : Bool)
     → IsStrictlySortedBy place_cmp (keys_of unicast) → Counted unicast flows before → Raised peer more before after → more ≡ nat_lt (length unicast) (length unicast')
     → unicast' ≡ put_path peer prefix path unicast → new ≡ flows → Counted unicast' new after
 counted_put peer prefix path unicast unicast' flows new before after more sorted c raised fresh e f = λ other.
@@ -256,7 +256,7 @@ counted_put peer prefix path unicast unicast' flows new before after more sorted
     let four : many other new ≡ many other flows = ap (many other) f in
     omega (arith, one, two, three, four)
 
-pub counted_taken : (peer : ℕ) (prefix : Prefix) (unicast unicast' : List Route) (flows new : List FlowRoute) (before after : List (ℕ × ℕ))
+pub counted_taken : (peer : ℕ) (prefix : Prefix) (unicast unicast' : List Route) (flows new : List FlowRoute) (before after : Counts)
     → Counted unicast flows before → Lowered peer true before after → has_path peer prefix unicast ≡ true
     → unicast' ≡ take_path peer prefix unicast → new ≡ flows → Counted unicast' new after
 counted_taken peer prefix unicast unicast' flows new before after c lowered held e f = λ other.
@@ -270,7 +270,7 @@ counted_taken peer prefix unicast unicast' flows new before after c lowered held
     let four : many other new ≡ many other flows = ap (many other) f in
     omega (arith, one, two, three, four)
 
-pub counted_lost : (peer : ℕ) (unicast : List Route) (flows new : List FlowRoute) (before after : List (ℕ × ℕ)) → without_peer_unicast peer unicast ≡ unicast → Counted unicast flows before
+pub counted_lost : (peer : ℕ) (unicast : List Route) (flows new : List FlowRoute) (before after : Counts) → without_peer_unicast peer unicast ≡ unicast → Counted unicast flows before
     → ((other : ℕ) → count_of other after ≡ (if peer == other then 0 else count_of other before)) → new ≡ without_peer_flows peer flows → Counted unicast new after
 counted_lost peer unicast flows new before after none c cleared e = λ other.
     by other (peer == other)

@@ -19,6 +19,7 @@ pub mod BothFamilies
 pub mod Telling
 pub mod Marking
 pub mod Counting
+pub mod Prefixes
 pub mod Validities
 pub mod Cutting
 pub mod Begun

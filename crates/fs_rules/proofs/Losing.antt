@@ -22,12 +22,12 @@ use Rattle.fs_rules.specs.Table.{Held, without_peer_unicast, related_count, rela
 use Rattle.fs_rules.proofs.Chosen.{with_unicast}
 
 -- the removed place is the peer's, and at the prefix
-peers_equal : (o : Ordering) (m n : ℕ) → is_eq (ordering_then o (nat_cmp m n)) ≡ true → (n == m) ≡ true
+pub peers_equal : (o : Ordering) (m n : ℕ) → is_eq (ordering_then o (nat_cmp m n)) ≡ true → (n == m) ≡ true
 peers_equal Less m n h = absurd (true≢false (sym h))
 peers_equal Equal m n h = grind (arith, nat_tests)
 peers_equal Greater m n h = absurd (true≢false (sym h))
 
-prefixes_equal : (o p : Ordering) → is_eq (ordering_then o p) ≡ true → is_eq o ≡ true
+pub prefixes_equal : (o p : Ordering) → is_eq (ordering_then o p) ≡ true → is_eq o ≡ true
 prefixes_equal Less p h = h
 prefixes_equal Equal p h = refl
 prefixes_equal Greater p h = h
@@ -44,7 +44,7 @@ pub record Hit (prefix : Prefix) (peer : ℕ) (unicast : List Route) : Type 0 wh
   pub sum : (flows : List FlowRoute) → related_sum peer (remove_entry (is_place prefix peer) unicast) flows + related_count prefix flows ≡ related_sum peer unicast flows
 
 -- an entry of the peer at the prefix is the one that is removed
-hit_at : (prefix : Prefix) (peer : ℕ) (r : Route) (rs : List Route) (b : Bool) → is_place prefix peer r.0 ≡ b → (b ≡ false → Hit prefix peer rs) → Hit prefix peer (r ∷ rs)
+pub hit_at : (prefix : Prefix) (peer : ℕ) (r : Route) (rs : List Route) (b : Bool) → is_place prefix peer r.0 ≡ b → (b ≡ false → Hit prefix peer rs) → Hit prefix peer (r ∷ rs)
 hit_at prefix peer r rs true h ih = record { shorter = shorter; sum = sum } where
   gone : remove_entry (is_place prefix peer) (r ∷ rs) ≡ rs
   gone = ap (λ b. cond b rs (r ∷ remove_entry (is_place prefix peer) rs)) h
@@ -159,9 +159,9 @@ pub record IsLosing (peer : ℕ) (start now : Held) (before after : ℕ) : Type 
 pub losing_starts : (peer : ℕ) (start : Held) (before : ℕ) → IsLosing peer start start before before
 losing_starts peer start before = record { config = refl; flows = refl; others = refl; later = omega arith; steps = omega arith }
 
-pub losing_more : (peer : ℕ) (start now new : Held) (before after more : ℕ) (prefix : Prefix) → IsLosing peer start now before after → held_by now.unicast peer None ≡ Some prefix
+pub losing_more : (peer : ℕ) (start now new : Held) (before after more : ℕ) (prefix : Prefix) → IsLosing peer start now before after → Hit prefix peer now.unicast
     → new ≡ with_unicast (remove_entry (is_place prefix peer)) now → after ≤ more → more ≤ after + related_count prefix now.flows → IsLosing peer start new before more
-losing_more peer start now new before after more prefix h found e later steps = record {
+losing_more peer start now new before after more prefix h hit e later steps = record {
   config = ap (λ held. held.config) e ∙ h.config;
   flows = ap (λ held. held.flows) e ∙ h.flows;
   others = ap (λ held. without_peer_unicast peer held.unicast) e ∙ others_stay prefix peer now.unicast ∙ h.others;
@@ -172,7 +172,7 @@ losing_more peer start now new before after more prefix h found e later steps = 
   unicast = ap (λ held. held.unicast) e
 
   one : related_sum peer new.unicast start.flows + related_count prefix start.flows ≡ related_sum peer now.unicast start.flows
-  one = ap (λ es. related_sum peer es start.flows + related_count prefix start.flows) unicast ∙ (found_hit prefix peer now.unicast found).sum start.flows
+  one = ap (λ es. related_sum peer es start.flows + related_count prefix start.flows) unicast ∙ hit.sum start.flows
 
   cost : related_count prefix now.flows ≡ related_count prefix start.flows
   cost = ap (related_count prefix) h.flows
@@ -183,7 +183,7 @@ losing_more peer start now new before after more prefix h found e later steps = 
 pub losing_shorter : (peer : ℕ) (now new : Held) (prefix : Prefix) → held_by now.unicast peer None ≡ Some prefix → new ≡ with_unicast (remove_entry (is_place prefix peer)) now → length new.unicast < length now.unicast
 losing_shorter peer now new prefix found e = subst (λ n. n < length now.unicast) (sym (ap (λ held. length held.unicast) e)) (found_hit prefix peer now.unicast found).shorter
 
-pub losing_ends : (peer : ℕ) (start now : Held) (before after : ℕ) → IsLosing peer start now before after → held_by now.unicast peer None ≡ None → now ≡ with_unicast (without_peer_unicast peer) start
-losing_ends peer start now before after h none = same now (with_unicast (without_peer_unicast peer) start) h.config (sym (none_left peer now.unicast none) ∙ h.others) h.flows where
+pub losing_ends : (peer : ℕ) (start now : Held) (before after : ℕ) → IsLosing peer start now before after → without_peer_unicast peer now.unicast ≡ now.unicast → now ≡ with_unicast (without_peer_unicast peer) start
+losing_ends peer start now before after h none = same now (with_unicast (without_peer_unicast peer) start) h.config (sym none ∙ h.others) h.flows where
   same : (a b : Held) → a.config ≡ b.config → a.unicast ≡ b.unicast → a.flows ≡ b.flows → a ≡ b
   same a b c u f = λ i. record { config = c i; unicast = u i; flows = f i }

@@ -1,4 +1,4 @@
--- The destinations to which each peer gave flow routes.
+-- The prefixes at which each peer gave routes.
 use Rattle.std.specs.Prelude.{ℕ, ◌≡◌, ◌||◌, Bool, true, false, Option, Some, None, List, [], ◌∷◌, MatchOption}
 use Rattle.std.specs.BTreeMap.{is_at}
 use Rattle.std.specs.List.{list_any, AllByRecursion}
@@ -10,32 +10,32 @@ use Rattle.fs_nlri.specs.Rule.{destination_prefix}
 use Rattle.fs_rules.specs.Kept.{Kept}
 use Rattle.fs_rules.specs.Groups.{Entry, keep_at}
 
--- the destinations of a peer, or any
-pub record Destinations : Type 0 where
+-- those of a peer, or any
+pub record Prefixes : Type 0 where
   pub keys : List Prefix
   pub all : Bool
 
--- those of each peer, or any of each
+-- the destinations to which each peer gave flow routes, or any of each
 pub record Listed : Type 0 where
-  pub by_peer : List (ℕ × Destinations)
+  pub by_peer : List (ℕ × Prefixes)
   pub all : Bool
 
 abbrev pub is_among : List Prefix → Prefix → Bool
-is_among keys destination = list_any (λ key. is_eq (prefix_cmp key destination)) keys
+is_among keys prefix = list_any (λ key. is_eq (prefix_cmp key prefix)) keys
 
-abbrev pub has : Destinations → Prefix → Bool
-has held destination = held.all || is_among held.keys destination
+abbrev pub has : Prefixes → Prefix → Bool
+has held prefix = held.all || is_among held.keys prefix
 
-abbrev pub has_in : Option Destinations → Prefix → Bool
-has_in None destination = false
-has_in (Some held) destination = has held destination
+abbrev pub has_in : Option Prefixes → Prefix → Bool
+has_in None prefix = false
+has_in (Some held) prefix = has held prefix
 
 -- the route's destination, if it has one, is listed
-abbrev pub HasDestination : Destinations → Kept → Type 0
+abbrev pub HasDestination : Prefixes → Kept → Type 0
 HasDestination held k = MatchOption (destination_prefix k.route.rule) (Unit {0}) (λ d. has held d ≡ true)
 
 -- what is listed for a peer
-abbrev pub of_peer : ℕ → Listed → Option Destinations
+abbrev pub of_peer : ℕ → Listed → Option Prefixes
 of_peer peer listed = lookup (is_at (nat_cmp peer)) listed.by_peer
 
 abbrev pub lists : Listed → ℕ → Prefix → Bool

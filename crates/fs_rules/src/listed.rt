@@ -1,51 +1,53 @@
-//! At which destinations each peer gave flow routes.
+//! At which prefixes each peer gave routes, as long as these are few.
 
 ghost use Rattle.std.specs.Prelude.{◌≡◌};
 ghost use Rattle.fs_rules.specs.Listed.{is_among};
 
 use crate::kept::Kept;
+use fs_base::Prefix;
 use fs_unicast::PrefixKey;
 use std::alloc::Global;
 use std::collections::BTreeMap;
 use std::marker::Model;
+use std::mem::replace;
 
-/// More destinations of a peer than this aren't listed.
+/// More prefixes of a peer than this aren't listed.
 const MOST: usize = 64;
 
-/// The destinations of one peer, or that any may be one.
+/// The prefixes at which one peer gave routes, or that any may be one. What is gone may still be listed.
 #[derive(Drop)]
-struct Destinations {
+pub(crate) struct Prefixes {
     keys: Vec<PrefixKey>,
     all: bool,
 }
 
-impl Model for Destinations {
-    ghost use Rattle.fs_rules.specs.Listed.{Destinations};
+impl Model for Prefixes {
+    ghost use Rattle.fs_rules.specs.Listed.{Prefixes};
 
-    ghost Value = { Destinations };
+    ghost Value = { Prefixes };
 
     ghost view = { λ a. record { keys = a.keys.items; all = a.all } };
 }
 
-impl Destinations {
-    ghost use Rattle.std.specs.Prelude.{◌≡◌, true, false, []};
+impl Prefixes {
+    ghost use Rattle.std.specs.Prelude.{◌≡◌, true, false, [], IfSome};
     ghost use Rattle.fs_base.specs.declared.prefix.Prefix.{Prefix};
-    ghost use Rattle.fs_rules.specs.Listed.{has, HasDestination};
+    ghost use Rattle.fs_rules.specs.Listed.{is_among, has, HasDestination};
 
-    fn new(alloc: Global) -> Destinations
+    pub(crate) fn new(alloc: Global) -> Prefixes
         ensures { result ≡ record { keys = []; all = false } }
     {
-        Destinations {
+        Prefixes {
             keys: Vec::new(alloc),
             all: false,
         }
     }
 
-    /// Whether the destination is listed, or any may be one.
-    fn has(&self, destination: &PrefixKey) -> bool
-        ensures { result ≡ has self.now destination.now }
+    /// Whether the prefix is listed, or any may be one.
+    fn has(&self, prefix: &PrefixKey) -> bool
+        ensures { result ≡ has self.now prefix.now }
     {
-        self.all || is_among(&self.keys, destination)
+        self.all || is_among(&self.keys, prefix)
     }
 
     /// Lists the destination of the route, if it has one.
@@ -61,32 +63,55 @@ impl Destinations {
         }
     }
 
-    /// Lists the destination too. Where there is no room for it, any may be one from now on.
-    fn add(&mut self, destination: PrefixKey)
-        ensures added { has self.new destination ≡ true }
+    /// Lists the prefix of a unicast route.
+    pub(crate) fn note_at(&mut self, prefix: &Prefix)
+        ensures noted { has self.new prefix.now ≡ true }
         ensures stays { (other : Prefix) → has self.old other ≡ true → has self.new other ≡ true }
     {
-        if self.has(&destination) {
+        if !self.all {
+            self.add(PrefixKey::of(prefix));
+        }
+    }
+
+    /// Lists the prefix too. Where there is no room for it, any may be one from now on.
+    fn add(&mut self, prefix: PrefixKey)
+        ensures added { has self.new prefix ≡ true }
+        ensures stays { (other : Prefix) → has self.old other ≡ true → has self.new other ≡ true }
+    {
+        if self.has(&prefix) {
             return;
         }
-        if self.keys.len() >= MOST || self.keys.push(destination).is_err() {
+        if self.keys.len() >= MOST || self.keys.push(prefix).is_err() {
             self.all = true;
         }
     }
+
+    /// Hands out the prefixes; from now on any may be one. None where any may be one already.
+    pub(crate) fn take(&mut self, alloc: Global) -> Option<Vec<PrefixKey>>
+        ensures taken { IfSome result
+            (λ keys. (p : Prefix) → has self.old p ≡ true → is_among keys.items p ≡ true) }
+        ensures all { self.new.all ≡ true }
+    {
+        if self.all {
+            return None;
+        }
+        self.all = true;
+        Some(replace(&mut self.keys, Vec::new(alloc)))
+    }
 }
 
-/// Whether the destination is one of these.
-fn is_among(keys: &[PrefixKey], destination: &PrefixKey) -> bool
-    ensures { result ≡ is_among keys.now destination.now }
+/// Whether the prefix is one of these.
+fn is_among(keys: &[PrefixKey], prefix: &PrefixKey) -> bool
+    ensures { result ≡ is_among keys.now prefix.now }
 {
-    keys.iter().any(|key| key.cmp(destination).is_eq())
+    keys.iter().any(|key| key.cmp(prefix).is_eq())
 }
 
-/// The destinations to which each peer gave flow routes, as long as these are few. What is gone may still be listed.
+/// The destinations to which each peer gave flow routes.
 #[derive(Drop)]
 pub(crate) struct Listed {
     alloc: Global,
-    by_peer: BTreeMap<u16, Destinations>,
+    by_peer: BTreeMap<u16, Prefixes>,
     all: bool,
 }
 
@@ -121,7 +146,7 @@ impl Listed {
             held.note(k);
             return;
         }
-        let mut first = Destinations::new(self.alloc);
+        let mut first = Prefixes::new(self.alloc);
         first.note(k);
         if self.by_peer.insert(peer, first).is_err() {
             self.all = true;
@@ -145,14 +170,14 @@ impl Listed {
         }
     }
 
-    fn remove(&mut self, peer: u16) -> Destinations
+    fn remove(&mut self, peer: u16) -> Prefixes
         ensures held { (d : Prefix) → has_in (of_peer peer self.old) d ≡ has result d }
         ensures all { self.new.all ≡ self.old.all }
         ensures others { (other : ℕ) → (other == peer) ≡ false → of_peer other self.new ≡ of_peer other self.old }
     {
         match self.by_peer.remove(&peer) {
             Some(held) => held,
-            None => Destinations::new(self.alloc),
+            None => Prefixes::new(self.alloc),
         }
     }
 }

@@ -13,6 +13,7 @@ ghost use Rattle.fs_rules.specs.Changes.{AdmitsElsewhere, Covers, is_to};
 ghost use Rattle.fs_rules.specs.Lent.{listed, shown_admitted, shown_held, shown_lent, held_flows, AreRising};
 ghost use Rattle.fs_rules.specs.Walk.{next_match};
 ghost use Rattle.fs_unicast.specs.Search.{held_by};
+ghost use Rattle.fs_rules.specs.Counts.{AreAmong};
 
 use crate::counts::Counts;
 use crate::flows::Flows;
@@ -26,14 +27,15 @@ use fs_base::{Config, Family, Memory, Path, Prefix, Steps};
 use fs_nlri::Rule;
 use fs_order::Ranked;
 use fs_packet::View;
-use fs_unicast::{SharedPath, Unicast};
+use fs_unicast::{PrefixKey, SharedPath, Unicast};
 use std::alloc::Global;
 use std::marker::Model;
 use std::sync::ledger::Ledger;
 
 /// All routes that peers hold. A flow route is kept with its validity, which each call leaves as it is over all
-/// held unicast routes. How many routes each peer holds is counted as they come and go. Flow routes that come one after
-/// the other share an equal path and equal actions.
+/// held unicast routes. How many routes each peer holds is counted as they come and go, and the prefixes of its unicast
+/// routes are listed as long as they are few. Flow routes that come one after the other share an equal path and equal
+/// actions.
 #[derive(Drop)]
 pub struct Table<'a> {
     config: &'a Config,
@@ -149,7 +151,8 @@ impl<'a> Table<'a> {
         if !self.unicast.put_telling(peer, prefix, path)? {
             return Ok(false);
         }
-        self.counts.raise(peer, held < self.unicast.len());
+        let is_new = held < self.unicast.len();
+        self.counts.raise_at(peer, &prefix, is_new);
         let flows = &mut self.flows;
         Ok(flows.mend(&prefix, &self.unicast, self.config, changes, steps))
     }
@@ -247,9 +250,47 @@ impl<'a> Table<'a> {
         gone | marked
     }
 
-    /// Takes the peer's unicast routes away, one after the other, in their order, and tells whether one of these
-    /// withdrawals changed the validity of a flow route.
+    /// Takes the peer's unicast routes away, one after the other, and tells whether one of these withdrawals changed the
+    /// validity of a flow route: at the prefixes that are listed for it, as long as these are few.
     fn lose_unicast<L: Ledger>(&mut self, peer: u16, steps: &mut Steps<L>) -> bool
+        ensures removed { self.new ≡ record self.old { unicast = without_peer_unicast peer self.old.unicast } }
+        ensures told { result ≡ false → ValiditiesStay self.old self.new }
+        ensures later { steps.old ≤ steps.new }
+        ensures steps { steps.new ≤ steps.old + related_sum peer self.old.unicast self.old.flows }
+    {
+        match self.counts.take_prefixes(peer) {
+            Some(prefixes) => self.lose_along(peer, &prefixes, steps),
+            None => self.lose_each(peer, steps),
+        }
+    }
+
+    /// Takes the peer's unicast routes away, each of which stands at one of these prefixes, and tells whether one of
+    /// these withdrawals changed the validity of a flow route.
+    fn lose_along<L: Ledger>(
+        &mut self,
+        peer: u16,
+        prefixes: &[PrefixKey],
+        steps: &mut Steps<L>,
+    ) -> bool
+        requires among { AreAmong peer prefixes.now self.old.unicast }
+        requires ordered { IsStrictlySortedBy place_cmp (keys_of self.old.unicast) }
+        ensures removed { self.new ≡ record self.old { unicast = without_peer_unicast peer self.old.unicast } }
+        ensures told { result ≡ false → ValiditiesStay self.old self.new }
+        ensures later { steps.old ≤ steps.new }
+        ensures steps { steps.new ≤ steps.old + related_sum peer self.old.unicast self.old.flows }
+    {
+        let mut changes = Changes::new(self.flows.allocator());
+        let mut marked = false;
+        for key in prefixes {
+            let told = self.withdraw_unicast_telling(peer, &key.prefix(), &mut changes, steps);
+            marked |= told.unwrap_or(false);
+        }
+        marked
+    }
+
+    /// Takes the peer's unicast routes away, wherever they stand, in their order, and tells whether one of these
+    /// withdrawals changed the validity of a flow route.
+    fn lose_each<L: Ledger>(&mut self, peer: u16, steps: &mut Steps<L>) -> bool
         ensures removed { self.new ≡ record self.old { unicast = without_peer_unicast peer self.old.unicast } }
         ensures told { result ≡ false → ValiditiesStay self.old self.new }
         ensures later { steps.old ≤ steps.new }
@@ -272,6 +313,7 @@ impl<'a> Table<'a> {
         ensures removed { self.new ≡ record self.old { flows = without_peer_flows peer self.old.flows } }
         ensures told { result ≡ false → self.new ≡ self.old }
     {
+        self.counts.clear_prefixes(peer);
         if self.counts.of(peer) == 0 {
             return false;
         }

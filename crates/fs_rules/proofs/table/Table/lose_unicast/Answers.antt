@@ -1,29 +1,15 @@
-use Rattle.std.proofs.Common.{◌≡◌, sym, ◌∙◌, Some, None}
-use Rattle.fs_base.proofs.Bools.{or_false}
-use Rattle.fs_unicast.specs.Search.{held_by}
-use Rattle.fs_rules.proofs.Losing.{losing_starts, losing_more, losing_shorter, losing_ends, passed_starts, passed_more, from_start}
-use Rattle.fs_rules.proofs.Validities.{validities_same, validities_then}
+use Rattle.std.proofs.Common.{sym, subst, List}
+use Rattle.fs_base.specs.declared.prefix.Prefix.{Prefix}
+use Rattle.fs_rules.specs.Counts.{AreAmong}
+use Rattle.fs_rules.proofs.Prefixes.{kept_still, among_held}
 use Rattle.fs_rules.proofs.table.Table.lose_unicast.Goals as goal
 
-pub loop-prefix-init : goal.loop-prefix-init
-loop-prefix-init g c = record {
-  losing = losing_starts c.args.peer c.args.self.now c.args.steps.now;
-  passed = passed_starts c.args.peer c.args.self.now.unicast;
-  told = λ h. validities_same c.args.self.now;
-}
+pub invariant_of-self : goal.invariant_of-self
+invariant_of-self g c = kept_still c.self.inside.config.now c.self.inside.unicast c.self.inside.flows c.self.inside.counts c.take_prefixes.new.self c.take_prefixes.ensures.same c.take_prefixes.ensures.stays c.self.invariant
 
-pub loop-prefix-smaller : goal.loop-prefix-smaller
-loop-prefix-smaller g c = losing_shorter c.args.peer c.loop-prefix.self c.withdraw_unicast_telling-told.new.self c.in-Some.prefix (sym (from_start c.args.peer c.loop-prefix.from c.loop-prefix.self.unicast c.loop-prefix.invariant.passed) ∙ sym c.next_held.ensures.first ∙ c.in-Some.is) c.withdraw_unicast_telling-told.ensures.removed
+pub invariant_of-self-in-None : goal.invariant_of-self-in-None
+invariant_of-self-in-None g c = kept_still c.self.inside.config.now c.self.inside.unicast c.self.inside.flows c.self.inside.counts c.take_prefixes.new.self c.take_prefixes.ensures.same c.take_prefixes.ensures.stays c.self.invariant
 
-pub loop-prefix-preserved : goal.loop-prefix-preserved
-loop-prefix-preserved g c = record {
-  losing = losing_more c.args.peer c.args.self.now c.loop-prefix.self c.withdraw_unicast_telling-told.new.self c.args.steps.now c.loop-prefix.steps c.withdraw_unicast_telling-told.new.steps c.in-Some.prefix c.loop-prefix.invariant.losing found c.withdraw_unicast_telling-told.ensures.removed c.withdraw_unicast_telling-told.ensures.later c.withdraw_unicast_telling-told.ensures.steps;
-  passed = passed_more c.args.peer c.loop-prefix.self c.withdraw_unicast_telling-told.new.self c.in-Some.prefix c.next_held.ensures.ordered found c.withdraw_unicast_telling-told.ensures.removed;
-  told = λ h. let both = or_false c.loop-prefix.marked c.unwrap_or-marked.result h in
-      validities_then c.args.self.now c.loop-prefix.self c.withdraw_unicast_telling-told.new.self c.loop-prefix.invariant.losing.flows (c.loop-prefix.invariant.told both.0) (c.withdraw_unicast_telling-told.ensures.told.0 (sym c.unwrap_or-marked.ensures ∙ both.1));
-} where
-  found : held_by c.loop-prefix.self.unicast c.args.peer None ≡ Some c.in-Some.prefix
-  found = sym (from_start c.args.peer c.loop-prefix.from c.loop-prefix.self.unicast c.loop-prefix.invariant.passed) ∙ sym c.next_held.ensures.first ∙ c.in-Some.is
-
-pub returns-clause-removed : goal.returns-clause-removed
-returns-clause-removed g c = losing_ends c.args.peer c.args.self.now c.loop-prefix.self c.args.steps.now c.loop-prefix.steps c.loop-prefix.invariant.losing (sym (from_start c.args.peer c.loop-prefix.from c.loop-prefix.self.unicast c.loop-prefix.invariant.passed) ∙ sym c.next_held.ensures.first ∙ c.in_default.is)
+pub lose_along-requires-clause-among : goal.lose_along-requires-clause-among
+lose_along-requires-clause-among g c = subst (λ (keys : List Prefix). AreAmong c.args.peer keys c.self.inside.unicast) (sym c.deref.ensures.value)
+    (among_held c.self.inside.counts c.args.peer c.in-Some.prefixes.items c.self.inside.unicast (rw c.in-Some.is at c.take_prefixes.ensures.taken) c.self.invariant.held)

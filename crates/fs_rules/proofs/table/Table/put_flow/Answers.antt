@@ -1,6 +1,7 @@
-use Rattle.std.proofs.Common.{ℕ, List, ◌≡◌, ap, ap₂, subst, ◌∙◌, not}
+use Rattle.std.proofs.Common.{ℕ, List, ◌≡◌, ap, ap₂, sym, subst, ◌∙◌, not}
 use Rattle.fs_base.specs.declared.path.Path.{Path}
 use Rattle.fs_rules.specs.Kept.{Kept}
+use Rattle.fs_rules.specs.Counts.{IsKept}
 use Rattle.fs_rules.specs.Table.{put_route, is_key, with_flow}
 use Rattle.fs_rules.specs.Group.{routes_of, put_kept, has_key}
 use Rattle.fs_rules.proofs.Changed.{keeps-put, routes-put, any-routes}
@@ -8,16 +9,26 @@ use Rattle.fs_rules.proofs.Chosen.{flows_changed}
 use Rattle.fs_rules.proofs.Counting.{counted_as, counted_put_flow}
 use Rattle.fs_nlri.specs.Rule.{IsRule}
 use Rattle.fs_rules.proofs.Elsewhere.{put_elsewhere}
+use Rattle.fs_rules.proofs.Prefixes.{held_still, kept_still}
 use Rattle.fs_rules.proofs.table.Table.put_flow.Goals as goal
+
+pub invariant_of-self-in_err-reserve : goal.invariant_of-self-in_err-reserve
+invariant_of-self-in_err-reserve g c = kept_still c.self.inside.config.now c.self.inside.unicast c.self.inside.flows c.self.inside.counts c.reserve.new.self c.reserve.ensures.same c.reserve.ensures.stays c.self.invariant
+
+pub invariant_of-self-in_err-is_new : goal.invariant_of-self-in_err-is_new
+invariant_of-self-in_err-is_new g c = subst (λ (ks : List Kept). IsKept c.self.inside.config.now c.self.inside.unicast ks c.reserve.new.self) (sym c.in_err-is_new.ensures.err)
+    (kept_still c.self.inside.config.now c.self.inside.unicast c.self.inside.flows c.self.inside.counts c.reserve.new.self c.reserve.ensures.same c.reserve.ensures.stays c.self.invariant)
 
 pub invariant_of-self-2 : goal.invariant_of-self-2
 invariant_of-self-2 g c = record {
   keeps = rw c.in_ok-is_new.ensures.ok (rw c.in_ok-k.ensures (keeps-put c.self.inside.config.now c.self.inside.unicast _ c.self.inside.flows c.validate-validity.ensures.validity c.self.invariant.keeps));
   counted = counted_put_flow c.self.inside.unicast _ (routes_of c.self.inside.flows) _ c.reserve.new.self c.raise.new.self c.in_ok-is_new.is_new c.self.invariant.keeps.sorted
       (counted_as c.self.inside.unicast (routes_of c.self.inside.flows) c.self.inside.counts c.reserve.new.self c.reserve.ensures.same c.self.invariant.counted)
-      c.raise.ensures
+      c.raise.ensures.counted
       (subst (λ (k : Kept). c.in_ok-is_new.is_new ≡ not (has_key k.route.rule k.route.peer c.self.inside.flows)) c.in_ok-k.ensures c.in_ok-is_new.ensures.fresh ∙ ap not (any-routes (is_key c.args.rule c.args.peer) c.self.inside.flows))
       (ap routes_of (subst (λ (k : Kept). c.put.new.self ≡ put_kept k c.self.inside.flows) c.in_ok-k.ensures c.in_ok-is_new.ensures.ok) ∙ routes-put _ c.self.inside.flows);
+  held = held_still c.self.inside.counts c.raise.new.self c.self.inside.unicast (λ p d h. c.raise.ensures.stays p d (c.reserve.ensures.stays p d h)) c.self.invariant.held;
+  ordered = c.self.invariant.ordered;
 }
 
 pub returns-clause-ok : goal.returns-clause-ok

@@ -5,14 +5,17 @@ use Rattle.fs_rules.proofs.Changed.{keeps-filter, routes-filter, any-routes}
 use Rattle.fs_rules.proofs.Chosen.{flows_changed}
 use Rattle.fs_rules.proofs.Counting.{counted_without_flow}
 use Rattle.fs_rules.proofs.Elsewhere.{taken_elsewhere}
+use Rattle.fs_rules.proofs.Prefixes.{held_still}
 use Rattle.fs_rules.proofs.table.Table.withdraw_flow.Goals as goal
 
 pub invariant_of-self : goal.invariant_of-self
 invariant_of-self g c = record {
   keeps = rw c.take-held.ensures.taken (keeps-filter c.self.inside.config.now c.self.inside.unicast (λ r. not (is_key c.args.rule.now.rule c.args.peer r)) c.self.inside.flows c.self.invariant.keeps);
-  counted = counted_without_flow c.self.inside.unicast c.args.rule.now.rule c.args.peer (routes_of c.self.inside.flows) _ c.self.inside.counts c.lower.new.self c.take-held.result c.self.invariant.keeps.sorted c.self.invariant.counted c.lower.ensures
+  counted = counted_without_flow c.self.inside.unicast c.args.rule.now.rule c.args.peer (routes_of c.self.inside.flows) _ c.self.inside.counts c.lower.new.self c.take-held.result c.self.invariant.keeps.sorted c.self.invariant.counted c.lower.ensures.counted
       (c.take-held.ensures.held ∙ any-routes (is_key c.args.rule.now.rule c.args.peer) c.self.inside.flows)
       (ap routes_of c.take-held.ensures.taken ∙ routes-filter (λ r. not (is_key c.args.rule.now.rule c.args.peer r)) c.self.inside.flows);
+  held = held_still c.self.inside.counts c.lower.new.self c.self.inside.unicast c.lower.ensures.stays c.self.invariant.held;
+  ordered = c.self.invariant.ordered;
 }
 
 pub returns-clause-removed : goal.returns-clause-removed

@@ -1,8 +1,10 @@
-use Rattle.std.proofs.Common.{◌≡◌, refl, sym, ap, ◌∙◌, subst, length, arith}
+use Rattle.std.proofs.Common.{◌≡◌, refl, sym, ap, ◌∙◌, subst, List, length, arith}
 use Rattle.std.specs.BTreeMap.{is_at}
-use Rattle.std.specs.Map.{remove_entry}
-use Rattle.fs_unicast.specs.Unicast.{place_cmp}
+use Rattle.std.specs.Map.{remove_entry, keys_of}
+use Rattle.fs_unicast.specs.Unicast.{place_cmp, Route}
 use Rattle.fs_rules.specs.Changes.{Covers}
+use Rattle.std.specs.List.Sorted.{IsStrictlySortedBy}
+use Rattle.fs_unicast.proofs.PlaceOrder.{place_total}
 use Rattle.fs_rules.specs.Counts.{IsKept}
 use Rattle.fs_rules.specs.Group.{routes_of}
 use Rattle.fs_rules.specs.Table.{Held, ValiditiesStay}
@@ -11,6 +13,8 @@ use Rattle.fs_rules.proofs.Chosen.{held_of, unicast_changed, keeps_after, agree_
 use Rattle.fs_rules.proofs.Counting.{counted_taken}
 use Rattle.fs_rules.proofs.Elsewhere.{covers_noted}
 use Rattle.fs_rules.proofs.Validities.{related_elsewhere, validities_same, told_validities}
+use Rattle.fs_rules.proofs.Entries.{sorted-remove_entry}
+use Rattle.fs_rules.proofs.Prefixes.{held_taken}
 use Rattle.fs_rules.proofs.table.Table.withdraw_unicast_telling.Goals as goal
 
 pub invariant_of-self : goal.invariant_of-self
@@ -19,8 +23,10 @@ invariant_of-self g c = subst (λ u. IsKept c.self.inside.config.now u c.self.in
 pub invariant_of-self-2 : goal.invariant_of-self-2
 invariant_of-self-2 g c = record {
   keeps = keeps_after c.self.inside.config.now c.args.prefix.now c.self.inside.unicast c.remove.new.self c.self.inside.flows c.mend.new.self (agree_taken (record { prefix = c.args.prefix.now; peer = c.args.peer }) c.self.inside.unicast c.remove.new.self c.remove.ensures.removed) c.mend.ensures.mended c.self.invariant.keeps;
-  counted = counted_taken c.args.peer c.args.prefix.now c.self.inside.unicast c.remove.new.self (routes_of c.self.inside.flows) (routes_of c.mend.new.self) c.self.inside.counts c.lower.new.self c.self.invariant.counted c.lower.ensures
+  counted = counted_taken c.args.peer c.args.prefix.now c.self.inside.unicast c.remove.new.self (routes_of c.self.inside.flows) (routes_of c.mend.new.self) c.self.inside.counts c.lower.new.self c.self.invariant.counted c.lower.ensures.counted
       (sym c.remove.ensures.held ∙ c.if-not-remove.false) c.remove.ensures.removed (ap routes_of c.mend.ensures.mended ∙ routes_mended c.args.prefix.now c.remove.new.self c.self.inside.config.now c.self.inside.flows);
+  held = held_taken c.self.inside.counts c.lower.new.self (is_at (place_cmp (record { prefix = c.args.prefix.now; peer = c.args.peer }))) c.self.inside.unicast c.remove.new.self c.lower.ensures.stays c.remove.ensures.removed c.self.invariant.held;
+  ordered = subst (λ (u : List Route). IsStrictlySortedBy place_cmp (keys_of u)) (sym c.remove.ensures.removed) (sorted-remove_entry place_cmp place_total (is_at (place_cmp (record { prefix = c.args.prefix.now; peer = c.args.peer }))) c.self.inside.unicast c.self.invariant.ordered);
 }
 
 pub returns-clause-removed : goal.returns-clause-removed

@@ -1,7 +1,7 @@
 use Rattle.std.proofs.Common.{◌≡◌, false, length}
 use Rattle.fs_rules.specs.Table.{ValiditiesStay}
 use Rattle.fs_rules.proofs.Losing.{IsLosing, Passed}
-use Rattle.fs_rules.proofs.table.Table.lose_unicast.Given as goal
+use Rattle.fs_rules.proofs.table.Table.lose_each.Given as goal
 
 abbrev pub invariant-loop-prefix : goal.invariant-loop-prefix
 invariant-loop-prefix g l = record {

@@ -1,0 +1,16 @@
+use Rattle.std.proofs.Common.{◌≡◌, false, drop}
+use Rattle.std.specs.List.Sorted.{IsStrictlySortedBy}
+use Rattle.std.specs.Map.{keys_of}
+use Rattle.fs_unicast.specs.Unicast.{place_cmp}
+use Rattle.fs_rules.specs.Counts.{AreAmong}
+use Rattle.fs_rules.specs.Table.{ValiditiesStay}
+use Rattle.fs_rules.proofs.Losing.{IsLosing}
+use Rattle.fs_rules.proofs.table.Table.lose_along.Given as goal
+
+abbrev pub invariant-loop-key : goal.invariant-loop-key
+invariant-loop-key g l = record {
+  losing : IsLosing l.peer l.fn.self l.self l.fn.steps l.steps;
+  among : AreAmong l.peer (drop l.key-index l.prefixes) l.self.unicast;
+  ordered : IsStrictlySortedBy place_cmp (keys_of l.self.unicast);
+  told : l.marked ≡ false → ValiditiesStay l.fn.self l.self;
+}
