@@ -187,6 +187,16 @@ def peers_in_turn(count):
     return b"".join(parts), EMPTY_CAPTURE
 
 
+def peers_beside_networks(count):
+    """Peers that come up, give a network, and are lost, one after the other, beside as many networks of another."""
+    parts = [up(1)] + [announce(host(number)) for number in range(count)]
+    for number in range(count):
+        peer = 2 + number % 1023
+        network = bytes([24, 192, number // 256 % 256, number % 256])
+        parts.append(up(peer) + announce(network, peer) + lost(peer))
+    return b"".join(parts), EMPTY_CAPTURE
+
+
 def down_and_lost(count):
     """A peer that is down is lost again and again, beside as many rules of another."""
     parts = [up(1)] + [flow(bytes([1]) + host(number)) for number in range(count)]
@@ -332,6 +342,7 @@ SHAPES = [
     ("prefixes withdrawn, never held", prefixes_never_held, 100000),
     ("a peer up and lost", up_and_lost, 5000),
     ("peers up and lost in turn", peers_in_turn, 5000),
+    ("peers in turn beside networks", peers_beside_networks, 10000),
     ("a peer down, lost again", down_and_lost, 5000),
     ("peers with equal rules", equal_rules, 512),
     ("peers with one network", one_network, 512),
