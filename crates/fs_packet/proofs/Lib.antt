@@ -3,3 +3,4 @@ pub mod Matched
 pub mod Tags
 pub mod Walks
 pub mod Headers
+pub mod Uppers

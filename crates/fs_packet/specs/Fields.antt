@@ -1,5 +1,5 @@
 -- What is read of a packet, or why it isn't read.
-use Rattle.std.specs.Prelude.{ℕ, ◌/◌, ◌<◌, ◌≤◌, ◌==◌, Bool, false, ◌&&◌, ◌||◌, List, length, drop, slice_index, bit_and, nat_le, if◌then◌else◌, Option, Some, None}
+use Rattle.std.specs.Prelude.{◌≡◌, ℕ, ◌/◌, ◌<◌, ◌≤◌, ◌==◌, Bool, true, false, ◌&&◌, ◌||◌, List, length, drop, slice_index, bit_and, nat_le, if◌then◌else◌, Option, Some, None}
 use Rattle.byteorder.specs.Endian.{big_number}
 use Rattle.fs_base.specs.declared.prefix.Family.{Family}
 use Rattle.fs_base.specs.declared.prefix.Family.TheVariants.{V4, V6}
@@ -7,6 +7,8 @@ use Rattle.fs_base.specs.declared.config.Address.{Address}
 use Rattle.fs_base.specs.declared.config.Address.TheVariants.{V4 as V4Address, V6 as V6Address}
 use Rattle.fs_packet.specs.declared.fields.Unread.{Unread}
 use Rattle.fs_packet.specs.declared.fields.Unread.TheVariants.{Foreign, Short, Version, Header, Length}
+use Rattle.fs_packet.specs.declared.fields.Upper.{Upper}
+use Rattle.fs_packet.specs.declared.fields.Upper.TheVariants.{Tcp, Udp, Icmp, Other, Unknown}
 
 abbrev pub unread_number : Unread → ℕ
 unread_number Foreign = 1
@@ -102,7 +104,44 @@ abbrev pub HasHeader : Family → List ℕ → Type 0
 HasHeader V4 packet = 20 ≤ length packet
 HasHeader V6 packet = 40 ≤ length packet
 
--- what is true of each view: its header is whole, and its fragment bits are of a rule's four
-pub record IsView (family : Family) (packet : List ℕ) (fragment : ℕ) : Type 0 where
+-- what the protocol says of the upper layer's header
+abbrev pub upper_of : Family → Option ℕ → Upper
+upper_of family None = Unknown
+upper_of family (Some protocol) =
+    if protocol == 6 then Tcp else (if protocol == 17 then Udp else (if protocol == icmp_number family then Icmp else Other))
+
+-- the protocol, by what it says and its number
+abbrev pub protocol_of : Upper → ℕ → Option ℕ
+protocol_of Tcp number = Some number
+protocol_of Udp number = Some number
+protocol_of Icmp number = Some number
+protocol_of Other number = Some number
+protocol_of Unknown number = None
+
+abbrev pub says_tcp : Upper → Bool
+says_tcp Tcp = true
+says_tcp Udp = false
+says_tcp Icmp = false
+says_tcp Other = false
+says_tcp Unknown = false
+
+abbrev pub says_ports : Upper → Bool
+says_ports Tcp = true
+says_ports Udp = true
+says_ports Icmp = false
+says_ports Other = false
+says_ports Unknown = false
+
+abbrev pub says_icmp : Upper → Bool
+says_icmp Tcp = false
+says_icmp Udp = false
+says_icmp Icmp = true
+says_icmp Other = false
+says_icmp Unknown = false
+
+-- what is true of each view: its header is whole, its fragment bits are of a rule's four, and what its protocol says is
+-- known
+pub record IsView (family : Family) (packet : List ℕ) (fragment number : ℕ) (upper : Upper) : Type 0 where
   pub header : HasHeader family packet
   pub bits : fragment < 16
+  pub told : upper ≡ upper_of family (protocol_of upper number)

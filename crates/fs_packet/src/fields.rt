@@ -1,7 +1,7 @@
 //! The fields of a packet.
 
 ghost use Rattle.std.specs.Prelude.{◌≡◌, ◌<◌, option_map};
-ghost use Rattle.fs_packet.specs.Fields.{has_ports, is_icmp, is_tcp};
+ghost use Rattle.fs_packet.specs.Fields.{has_ports, is_icmp, is_tcp, says_icmp, says_ports, says_tcp, upper_of};
 
 use byteorder::{BigEndian, ByteOrder};
 use fs_base::{Address, Family};
@@ -39,6 +39,18 @@ impl Unread {
     }
 }
 
+/// What the protocol says of the upper layer's header.
+#[derive(Clone, Copy, Drop)]
+pub(crate) enum Upper {
+    Tcp,
+    Udp,
+    /// ICMP in IPv4, ICMPv6 in IPv6.
+    Icmp,
+    Other,
+    /// No protocol is known: a header before the upper layer's isn't held whole.
+    Unknown,
+}
+
 /// A packet's fields, read from the octets of the record where they are asked for. Numbers are in host order.
 #[derive(Drop)]
 pub struct View<'a> {
@@ -48,19 +60,21 @@ pub struct View<'a> {
     /// length hold them; none in a fragment other than the first.
     pub(crate) transport: &'a [u8],
     pub(crate) length: u32,
-    pub(crate) protocol: Option<u8>,
+    /// The protocol's number, where `upper` knows it.
+    pub(crate) number: u8,
+    pub(crate) upper: Upper,
     pub(crate) fragment: u8,
     pub(crate) family: Family, // last, so that no padding is copied
 }
 
 impl<'a> Model for View<'a> {
-    ghost use Rattle.fs_packet.specs.Fields.{IsView, Viewed, viewed};
+    ghost use Rattle.fs_packet.specs.Fields.{IsView, Viewed, protocol_of, viewed};
 
     ghost Value = { Viewed };
 
-    ghost view = { λ v. viewed v.family v.packet.now v.length v.protocol v.fragment v.transport.now };
+    ghost view = { λ v. viewed v.family v.packet.now v.length (protocol_of v.upper v.number) v.fragment v.transport.now };
 
-    ghost invariant = { λ v. IsView v.family v.packet.now v.fragment };
+    ghost invariant = { λ v. IsView v.family v.packet.now v.fragment v.number v.upper };
 }
 
 impl<'a> View<'a> {
@@ -99,27 +113,32 @@ impl<'a> View<'a> {
     pub fn protocol(&self) -> Option<u8>
         ensures { result ≡ self.now.protocol }
     {
-        self.protocol
+        match self.upper {
+            Upper::Unknown => None,
+            Upper::Tcp | Upper::Udp | Upper::Icmp | Upper::Other => Some(self.number),
+        }
     }
 
     /// The ICMP type, of ICMP in IPv4 and of ICMPv6 in IPv6.
     pub fn icmp_type(&self) -> Option<u8>
         ensures { result ≡ self.now.icmp_type }
     {
-        if !is_icmp(self.family, self.protocol) {
+        let transport = self.transport;
+        if !self.is_icmp() {
             return None;
         }
-        self.transport.first().copied()
+        transport.first().copied()
     }
 
     /// The ICMP code, of ICMP in IPv4 and of ICMPv6 in IPv6.
     pub fn icmp_code(&self) -> Option<u8>
         ensures { result ≡ self.now.icmp_code }
     {
-        if !is_icmp(self.family, self.protocol) {
+        let transport = self.transport;
+        if !self.is_icmp() {
             return None;
         }
-        self.transport.get(1).copied()
+        transport.get(1).copied()
     }
 
     /// The source port of TCP or UDP, where the record holds both ports.
@@ -144,7 +163,7 @@ impl<'a> View<'a> {
         ensures source { option_map (λ ports. ports.0) result ≡ self.now.source_port }
         ensures destination { option_map (λ ports. ports.1) result ≡ self.now.destination_port }
     {
-        if !has_ports(self.protocol) || self.transport.len() < 4 {
+        if !self.has_ports() || self.transport.len() < 4 {
             return None;
         }
         Some((
@@ -157,7 +176,7 @@ impl<'a> View<'a> {
     pub fn tcp_octets(&self) -> Option<u16>
         ensures { result ≡ self.now.tcp_octets }
     {
-        if self.protocol != Some(6) || self.transport.len() < 14 {
+        if !self.is_tcp() || self.transport.len() < 14 {
             return None;
         }
         Some(BigEndian::read_u16(&self.transport[12..]))
@@ -197,21 +216,57 @@ impl<'a> View<'a> {
             Family::V6 => Some(BigEndian::read_u32(self.packet) & 0xf_ffff),
         }
     }
+
+    /// Whether the protocol has ports: TCP and UDP.
+    fn has_ports(&self) -> bool
+        ensures { result ≡ has_ports self.now.protocol }
+    {
+        says_ports(self.upper)
+    }
+
+    fn is_tcp(&self) -> bool
+        ensures { result ≡ is_tcp self.now.protocol }
+    {
+        says_tcp(self.upper)
+    }
+
+    /// Whether the protocol is ICMP in the family.
+    fn is_icmp(&self) -> bool
+        ensures { result ≡ is_icmp self.now.family self.now.protocol }
+    {
+        says_icmp(self.upper)
+    }
 }
 
-/// Whether the protocol has ports: TCP and UDP.
-fn has_ports(protocol: Option<u8>) -> bool
-    ensures { result ≡ has_ports protocol }
+fn says_ports(upper: Upper) -> bool
+    ensures { result ≡ says_ports upper }
 {
-    matches!(protocol, Some(6 | 17))
+    matches!(upper, Upper::Tcp | Upper::Udp)
 }
 
-/// Whether the protocol is ICMP in the family.
-fn is_icmp(family: Family, protocol: Option<u8>) -> bool
-    ensures { result ≡ is_icmp family protocol }
+fn says_tcp(upper: Upper) -> bool
+    ensures { result ≡ says_tcp upper }
 {
-    match family {
-        Family::V4 => protocol == Some(1),
-        Family::V6 => protocol == Some(58),
+    matches!(upper, Upper::Tcp)
+}
+
+fn says_icmp(upper: Upper) -> bool
+    ensures { result ≡ says_icmp upper }
+{
+    matches!(upper, Upper::Icmp)
+}
+
+/// What the protocol says, by the family.
+pub(crate) fn upper_of(family: Family, protocol: Option<u8>) -> Upper
+    ensures { result ≡ upper_of family protocol }
+{
+    let Some(number) = protocol else {
+        return Upper::Unknown;
+    };
+    match (family, number) {
+        (_, 6) => Upper::Tcp,
+        (_, 17) => Upper::Udp,
+        (Family::V4, 1) | (Family::V6, 58) => Upper::Icmp,
+        _ => Upper::Other,
     }
 }

@@ -7,7 +7,7 @@ ghost use Rattle.fs_packet.specs.Reading.{behind_link, behind_tags, behind_type,
 ghost use Rattle.fs_packet.specs.Reading.{raw_view, v4_fragment, v4_starts, v4_view, v6_fragment, v6_view, view_of};
 
 use crate::chain::walk;
-use crate::fields::{Unread, View};
+use crate::fields::{Unread, View, upper_of};
 use byteorder::{BigEndian, ByteOrder};
 use fs_base::{Family, Link};
 
@@ -148,7 +148,8 @@ fn v4_view(packet: &[u8]) -> Result<View<'_>, Unread>
         packet,
         transport: v4_transport(packet, size, length as usize, field),
         length: length.into(),
-        protocol: Some(packet[9]),
+        number: packet[9],
+        upper: upper_of(Family::V4, Some(packet[9])),
         fragment: v4_fragment(field),
         family: Family::V4,
     })
@@ -191,7 +192,8 @@ fn v6_view(packet: &[u8]) -> Result<View<'_>, Unread>
         packet,
         transport: chain.behind,
         length,
-        protocol: chain.protocol,
+        number: chain.protocol.unwrap_or(0),
+        upper: upper_of(Family::V6, chain.protocol),
         fragment: v6_fragment(chain.field),
         family: Family::V6,
     })
