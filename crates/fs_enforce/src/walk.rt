@@ -33,6 +33,7 @@ pub fn drops<'r>(rules: &'r Compiled, view: &View<'_>, walked: &mut Vec<Walked<'
 }
 
 /// Puts the rules of its family that the packet walks into `walked`, in place of what stands there.
+#[inline(always)]
 pub(crate) fn walk_packet<'r>(rules: &'r Compiled, view: &View<'_>, walked: &mut Vec<Walked<'r>>)
     requires sound { IsSound rules.now }
     requires room { HasRoom rules.now (vec_capacity walked.old) }
@@ -44,6 +45,7 @@ pub(crate) fn walk_packet<'r>(rules: &'r Compiled, view: &View<'_>, walked: &mut
     walk_family::<Brand>(Blank::new(1), rules, view, walked);
 }
 
+#[inline(always)]
 fn walk_family<'r, L: Ledger>(
     blank: Blank,
     rules: &'r Compiled,
@@ -68,6 +70,7 @@ fn walk_family<'r, L: Ledger>(
 /// Puts the rules that the packet walks into `walked`, in place of what stands there: the matching ones in order, up to
 /// and with the first whose terminal bit is clear (RFC 8955 section 7.3). It takes at most as many steps as the family
 /// has rules that reach the packet.
+#[inline(always)]
 fn walk<'r, L: Ledger>(
     compiled: &Compiled,
     rules: &'r [SharedActions],
