@@ -97,11 +97,33 @@ fn unconnected() -> Error {
     Error::from(ErrorKind::NotConnected)
 }
 
-/// A wire, and what stands at the other end of the connection that it dials.
+/// A wire, and what stands at the other end of the connection that it dials, if that is tried.
 #[derive(Drop)]
 pub struct AnsweredWire<'a, W: Wire> {
-    pub wire: &'a mut W,
-    pub peer: Peer,
+    wire: &'a mut W,
+    peer: Option<Peer>,
+}
+
+impl<'a, W: Wire> AnsweredWire<'a, W> {
+    pub fn new(wire: &'a mut W, peer: Option<Peer>) -> AnsweredWire<'a, W> {
+        AnsweredWire { wire, peer }
+    }
+
+    /// The first fault on the peer's way.
+    pub fn check(&self) -> Result<(), Fault> {
+        match &self.peer {
+            Some(peer) => peer.heard.check(),
+            None => Ok(()),
+        }
+    }
+
+    /// Appends what the peer heard, and whether it heard the connection's end.
+    pub fn tell(&self, heard: &mut Octets, ended: &mut Octets) {
+        if let Some(peer) = &self.peer {
+            heard.append(peer.heard.as_slice());
+            ended.append(peer.ended.as_slice());
+        }
+    }
 }
 
 impl<'a, W: Wire> Wire for AnsweredWire<'a, W> {
@@ -111,31 +133,37 @@ impl<'a, W: Wire> Wire for AnsweredWire<'a, W> {
 
     fn open_end(&mut self, how: Opening<'_>) -> Result<(), Failed> {
         let opened = self.wire.open_end(how);
-        if opened.is_ok() {
-            self.peer.accept();
+        if let (Ok(()), Some(peer)) = (&opened, &mut self.peer) {
+            peer.accept();
         }
         opened
     }
 
     fn read(&mut self, end: u8, into: &mut [u8]) -> Result<usize, Failed> {
-        self.peer.answer();
+        if let Some(peer) = &mut self.peer {
+            peer.answer();
+        }
         self.wire.read(end, into)
     }
 
     fn write(&mut self, end: u8, piece: &[u8]) -> Result<usize, Failed> {
         let moved = self.wire.write(end, piece);
-        if let Ok(count) = &moved {
-            self.peer.hear(*count);
+        if let (Ok(count), Some(peer)) = (&moved, &mut self.peer) {
+            peer.hear(*count);
         }
         moved
     }
 
     /// The wire waits until the peer says no more.
     fn close(&mut self, end: u8) -> Result<(), Failed> {
-        self.peer.answered = usize::MAX;
-        self.peer.answer();
+        if let Some(peer) = &mut self.peer {
+            peer.answered = usize::MAX;
+            peer.answer();
+        }
         let closed = self.wire.close(end);
-        self.peer.hear_end();
+        if let Some(peer) = &mut self.peer {
+            peer.hear_end();
+        }
         closed
     }
 }

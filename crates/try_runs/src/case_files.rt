@@ -1,19 +1,20 @@
 //! A case file, from its first line to its last.
 
 use crate::fault::Fault;
-use crate::fields::{number, parts, word_of};
+use crate::fields::{halves, number, word_of};
 use crate::octets::Octets;
 use crate::runner::Runner;
 use crate::shape::fill;
 use crate::tally::Tally;
 use std::alloc::Global;
+use std::ops::Range;
 
 /// What the case files so far have made. The files that one defines stay for the next.
 #[derive(Drop)]
 pub struct CaseFiles {
     alloc: Global,
     runner: Runner,
-    shape: String,
+    shape: Octets,
     in_shape: bool,
 }
 
@@ -22,7 +23,7 @@ impl CaseFiles {
         CaseFiles {
             alloc,
             runner: Runner::new(alloc),
-            shape: String::new(alloc),
+            shape: Octets::new(alloc),
             in_shape: false,
         }
     }
@@ -35,47 +36,55 @@ impl CaseFiles {
     pub fn read(&mut self, rt: &HostRuntime, name: &str, text: &str) -> Result<(), Fault> {
         self.runner.tally = Tally::new();
         let mut place = 0u64;
-        for line in text.lines() {
-            place = place.saturating_add(1);
-            if let Err(fault) = self.line(rt, line.trim_start()) {
-                println!(rt; "{name}, line {place}: {fault:?}")?;
-                return Err(fault);
-            }
+        match self.lines(rt, text, &mut place) {
+            Ok(()) => self.runner.tally.finish(rt, name),
+            Err(fault) => tell(rt, name, place, fault),
         }
-        self.runner.tally.finish(rt, name)
+    }
+
+    /// Follows the lines, and counts them.
+    fn lines(&mut self, rt: &HostRuntime, text: &str, place: &mut u64) -> Result<(), Fault> {
+        for line in text.lines() {
+            *place = place.saturating_add(1);
+            self.line(rt, line.trim_start())?;
+        }
+        Ok(())
     }
 
     fn line(&mut self, rt: &HostRuntime, line: &str) -> Result<(), Fault> {
         if self.in_shape {
             return self.shape_line(line);
         }
-        match parts(line) {
-            Some(("shape", _)) => {
-                self.shape.clear();
+        let (word, rest) = halves(line);
+        match word {
+            "shape" => {
+                self.shape = Octets::new(self.alloc);
                 self.in_shape = true;
                 Ok(())
             }
-            Some(("row", row)) => self.row(rt, row),
-            Some(("rows", rows)) => self.rows(rt, rows),
+            "row" => self.row(rt, rest),
+            "rows" => self.rows(rt, rest),
             _ => self.runner.line(rt, line),
         }
     }
 
     fn shape_line(&mut self, line: &str) -> Result<(), Fault> {
-        if line == "end" {
-            self.in_shape = false;
-            return Ok(());
+        self.in_shape = line != "end";
+        if self.in_shape {
+            self.shape.word(line);
+            self.shape.word("\n");
         }
-        self.shape.push_str(line)?;
-        self.shape.push_str("\n")?;
-        Ok(())
+        self.shape.check()
     }
 
     /// The lines of the shape, with these fields.
     fn row(&mut self, rt: &HostRuntime, row: &str) -> Result<(), Fault> {
         let mut lines = Octets::new(self.alloc);
-        fill(self.shape.as_str(), row, &mut lines);
-        self.follow(rt, lines.as_text()?)
+        fill(self.shape.as_text()?, row, &mut lines);
+        match lines.as_text() {
+            Ok(text) => self.follow(rt, text),
+            Err(fault) => Err(fault),
+        }
     }
 
     fn follow(&mut self, rt: &HostRuntime, lines: &str) -> Result<(), Fault> {
@@ -88,8 +97,7 @@ impl CaseFiles {
     /// A row for each number from the first to the last, which is its first field.
     fn rows(&mut self, rt: &HostRuntime, rows: &str) -> Result<(), Fault> {
         let (range, others) = rows.split_once(';').ok_or(Fault::NoField)?;
-        let (first, last) = word_of(range.trim())?;
-        for place in number(first)?..number(last)?.saturating_add(1) {
+        for place in range_of(range.trim())? {
             self.numbered_row(rt, place, others)?;
         }
         Ok(())
@@ -97,9 +105,29 @@ impl CaseFiles {
 
     fn numbered_row(&mut self, rt: &HostRuntime, place: u64, others: &str) -> Result<(), Fault> {
         let mut row = Octets::new(self.alloc);
-        row.decimal(place);
+        row.show(&place);
         row.word(";");
         row.word(others);
-        self.row(rt, row.as_text()?)
+        match row.as_text() {
+            Ok(text) => self.row(rt, text),
+            Err(fault) => Err(fault),
+        }
     }
+}
+
+/// The numbers from the first to the last.
+fn range_of(range: &str) -> Result<Range<u64>, Fault> {
+    let (first, last) = word_of(range)?;
+    Ok(number(first)?..number(last)?.saturating_add(1))
+}
+
+/// Prints what is wrong with a line, and hands it on.
+fn tell(rt: &HostRuntime, name: &str, place: u64, fault: Fault) -> Result<(), Fault> {
+    let mut line = Octets::new(rt.alloc());
+    line.word(name);
+    line.word(", line ");
+    line.show(&place);
+    line.word(": ");
+    line.show(&fault);
+    line.print(rt).and(Err(fault))
 }

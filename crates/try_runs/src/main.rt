@@ -25,13 +25,13 @@ use fault::Fault;
 use std::process::ExitCode;
 use std::{env, fs};
 
-/// Reads the case files that the arguments name, one after the other.
-fn read_all(rt: &HostRuntime) -> Result<(), Fault> {
-    let mut case_files = CaseFiles::new(rt.alloc());
+/// Reads the case files that the arguments name, one after the other, and answers whether each could be followed.
+fn read_all(rt: &HostRuntime, case_files: &mut CaseFiles) -> Result<bool, Fault> {
+    let mut is_well = true;
     for name in env::args(rt)?.skip(1) {
-        read_one(rt, &mut case_files, name.as_str())?;
+        is_well = read_one(rt, case_files, name.as_str()).is_ok() && is_well;
     }
-    Ok(())
+    Ok(is_well)
 }
 
 fn read_one(rt: &HostRuntime, case_files: &mut CaseFiles, name: &str) -> Result<(), Fault> {
@@ -40,8 +40,9 @@ fn read_one(rt: &HostRuntime, case_files: &mut CaseFiles, name: &str) -> Result<
 }
 
 fn main(rt: HostRuntime) -> ExitCode {
-    match read_all(&rt) {
-        Ok(()) => ExitCode::SUCCESS,
-        Err(_) => ExitCode::FAILURE,
+    let mut case_files = CaseFiles::new(rt.alloc());
+    match read_all(&rt, &mut case_files) {
+        Ok(true) => ExitCode::SUCCESS,
+        _ => ExitCode::FAILURE,
     }
 }

@@ -63,14 +63,14 @@ fn note_opening(calls: &mut Octets, word: &str, address: &str) {
 
 fn note(calls: &mut Octets, word: &str, end: u8) {
     calls.word(word);
-    calls.decimal(u64::from(end));
+    calls.show(&end);
 }
 
 fn note_moved(calls: &mut Octets, word: &str, end: u8, moved: &Result<usize, Failed>) {
     note(calls, word, end);
     calls.word(" ");
-    calls.decimal(match moved {
-        Ok(count) => *count as u64,
+    calls.show(&match moved {
+        Ok(count) => *count,
         Err(_) => 0,
     });
     calls.word(", ");

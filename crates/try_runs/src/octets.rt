@@ -3,7 +3,7 @@
 use crate::fault::Fault;
 use hex::FromHexError;
 use std::alloc::Global;
-use std::str;
+use std::{fmt, str};
 
 /// Octets that are made piece by piece. They remember the first fault on the way, so that the calls that append answer
 /// no `Result`, and what makes something has one end.
@@ -74,11 +74,19 @@ impl Octets {
         }
     }
 
-    /// A number in decimal digits.
-    pub fn decimal(&mut self, number: u64) {
-        match format!(in self.alloc; "{number}") {
-            Ok(digits) => self.word(digits.as_str()),
+    /// A value as `Debug` prints it: a number in decimal digits.
+    pub fn show<T: fmt::Debug>(&mut self, value: &T) {
+        match format!(in self.alloc; "{value:?}") {
+            Ok(text) => self.word(text.as_str()),
             Err(_) => self.fail(Fault::Memory),
+        }
+    }
+
+    /// Octets as `Debug` prints them, as text where they are one.
+    pub fn show_octets(&mut self, octets: &[u8]) {
+        match str::from_utf8(octets) {
+            Ok(text) => self.show(&text),
+            Err(_) => self.show(&octets),
         }
     }
 
@@ -152,5 +160,12 @@ impl Octets {
     pub fn as_text(&self) -> Result<&str, Fault> {
         self.check()?;
         str::from_utf8(self.held.as_slice()).map_err(|_| Fault::NoText)
+    }
+
+    /// Prints the text, as a line.
+    pub fn print(&self, rt: &HostRuntime) -> Result<(), Fault> {
+        let text = self.as_text()?;
+        println!(rt; "{text}")?;
+        Ok(())
     }
 }

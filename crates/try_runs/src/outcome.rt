@@ -101,10 +101,18 @@ fn run_into_sink(
         return Err(Fault::Memory);
     };
     wire.narrow(size(terms.most.moved).max(1));
+    let given = give(alloc, terms, &mut wire);
+    let mut wire = NotedWire::new(alloc, wire);
+    match given {
+        Ok(()) => run_over_wire(alloc, words, terms, files, sink, &mut wire),
+        Err(fault) => Err(fault),
+    }
+}
+
+fn give(alloc: Global, terms: &Terms, wire: &mut MemWire) -> Result<(), Fault> {
     wire.give(0, Vec::from_slice(alloc, terms.first.given.as_slice())?);
     wire.give(1, Vec::from_slice(alloc, terms.second.given.as_slice())?);
-    let mut wire = NotedWire::new(alloc, wire);
-    run_over_wire(alloc, words, terms, files, sink, &mut wire)
+    Ok(())
 }
 
 fn run_over_wire(
@@ -118,12 +126,9 @@ fn run_over_wire(
     let mut clock = MemClock::new(Vec::from_slice(alloc, &terms.moments)?);
     let limit = terms.limit.max(1);
     let status = fs_cli::run_within(alloc, words, limit, files, sink, noted, &mut clock);
-    let mut outcome = Outcome::new(alloc, status);
-    outcome.written.append(sink.text());
-    outcome.first.append(noted.wire.written(0));
-    outcome.second.append(noted.wire.written(1));
-    outcome.called.append(noted.calls.as_slice());
     noted.calls.check()?;
+    let mut outcome = Outcome::new(alloc, status);
+    outcome.note(sink.text(), noted);
     Ok(outcome)
 }
 
@@ -137,6 +142,14 @@ impl Outcome {
             second: Octets::new(alloc),
             called: Octets::new(alloc),
         }
+    }
+
+    /// What it wrote, and its calls on the wire.
+    fn note(&mut self, written: &[u8], noted: &NotedWire<MemWire>) {
+        self.written.append(written);
+        self.first.append(noted.wire.written(0));
+        self.second.append(noted.wire.written(1));
+        self.called.append(noted.calls.as_slice());
     }
 }
 
@@ -158,29 +171,32 @@ fn run_for_real<W: Wire>(rt: &HostRuntime, words: &[String], wire: &mut W) -> Re
     Ok(fs_cli::run(rt.alloc(), words, &mut files, &mut out, wire, &mut clock))
 }
 
-/// The same in a folder in which the files that the words name stand.
+/// The same in a folder in which the files that the words name stand. Of what goes through a connection what a peer in the
+/// same thread hears is seen.
 fn run_through<W: Wire>(
     rt: &HostRuntime,
     named: &NamedFiles,
     words: &[String],
-    wire: &mut W,
+    wire: &mut AnsweredWire<'_, W>,
 ) -> Result<Outcome, Fault> {
     write_files(rt, named, words)?;
     let status = run_for_real(rt, words, wire)?;
+    wire.check()?;
     let written = fs::read(rt, WRITTEN)?;
     let mut outcome = Outcome::new(rt.alloc(), status);
     outcome.written.append(&written);
+    wire.tell(&mut outcome.second, &mut outcome.called);
     Ok(outcome)
 }
 
-/// Runs the words over the real outside, in which the files that they name stand. What goes through a connection isn't
-/// seen.
+/// Runs the words over the real outside, in which the files that they name stand.
 pub fn run_outside(
     rt: &HostRuntime,
     named: &NamedFiles,
     words: &[String],
 ) -> Result<Outcome, Fault> {
-    run_through(rt, named, words, &mut RealWire::new(rt))
+    let mut wire = RealWire::new(rt);
+    run_through(rt, named, words, &mut AnsweredWire::new(&mut wire, None))
 }
 
 /// Runs the words, and behind them the address of a peer that gives what the terms say, over the real outside: what the
@@ -191,26 +207,34 @@ pub fn run_dialling(
     words: &[String],
     terms: &Terms,
 ) -> Result<Outcome, Fault> {
-    run_answered(rt, named, words, terms, &mut RealWire::new(rt))
+    let peer = Peer::new(rt, terms)?;
+    let mut dialling = Vec::new(rt.alloc());
+    match append_dialling(words, &peer, &mut dialling) {
+        Ok(()) => run_answered(rt, named, &dialling, peer),
+        Err(fault) => Err(fault),
+    }
 }
 
-fn run_answered<W: Wire>(
+/// The words, and behind them the peer's address.
+fn append_dialling(words: &[String], peer: &Peer, made: &mut Vec<String>) -> Result<(), Fault> {
+    for word in words {
+        made.push(word.clone()?)?;
+    }
+    made.push(peer.address()?)?;
+    Ok(())
+}
+
+fn run_answered(
     rt: &HostRuntime,
     named: &NamedFiles,
     words: &[String],
-    terms: &Terms,
-    wire: &mut W,
+    peer: Peer,
 ) -> Result<Outcome, Fault> {
-    let peer = Peer::new(rt, terms)?;
-    let mut dialling = Vec::new(rt.alloc());
-    for word in words {
-        dialling.push(word.clone()?)?;
-    }
-    dialling.push(peer.address()?)?;
-    let mut wire = AnsweredWire { wire, peer };
-    let mut outcome = run_through(rt, named, &dialling, &mut wire)?;
-    wire.peer.heard.check()?;
-    outcome.second.append(wire.peer.heard.as_slice());
-    outcome.called.append(wire.peer.ended.as_slice());
-    Ok(outcome)
+    let mut wire = RealWire::new(rt);
+    run_through(
+        rt,
+        named,
+        words,
+        &mut AnsweredWire::new(&mut wire, Some(peer)),
+    )
 }

@@ -8,9 +8,8 @@ use crate::octets::Octets;
 use crate::outcome::{Outcome, run_dialling, run_in_memory, run_outside};
 use crate::shape::fill_number;
 use crate::tally::Tally;
-use crate::terms::{Due, Failing, Terms};
+use crate::terms::{Due, Failing, NUMBERS, Terms};
 use std::alloc::Global;
-use std::str;
 
 /// The most calls that are made to fail in turn.
 const CALLS: u64 = 1000;
@@ -79,33 +78,41 @@ impl Runner {
     ) -> Result<(), Fault> {
         let mut made = Octets::new(self.alloc);
         fill_number(rest, number, &mut made);
-        self.follow(rt, word, made.as_text()?)
+        match made.as_text() {
+            Ok(text) => self.follow(rt, word, text),
+            Err(fault) => Err(fault),
+        }
     }
 
     fn follow(&mut self, rt: &HostRuntime, word: &str, rest: &str) -> Result<(), Fault> {
+        match word {
+            "ends" | "stops" | "real" | "dials" => self.end_case(rt, word, rest),
+            "calls" => self.count_calls(rt, rest),
+            "wire_calls" => self.count_wire_calls(rt, rest),
+            _ => self.prepare(word, rest),
+        }
+    }
+
+    /// What the next run is given and must answer.
+    fn prepare(&mut self, word: &str, rest: &str) -> Result<(), Fault> {
         match word {
             "case" => self.begin_case(rest),
             "out" => self.expect(rest),
             "octets" => self.expect_octets(rest),
             "words" => self.take_words(rest),
             "word" => self.take_word(rest),
-            "limit"
-            | "room"
-            | "fail_file"
-            | "fail_write"
-            | "fail_wire"
-            | "moment"
-            | "due"
-            | "narrow"
-            | "narrow_files"
-            | "narrow_output" => self.terms.set(word, rest),
             "turns" => self.turn(rest),
             "gives" => self.give(rest),
             "said" => self.expect_said(rest),
             "called" => self.expect_calls(rest),
-            "ends" | "stops" | "real" | "dials" => self.end_case(rt, word, rest),
-            "calls" => self.count_calls(rt, rest),
-            "wire_calls" => self.count_wire_calls(rt, rest),
+            _ if NUMBERS.contains(&word) => self.terms.set(word, rest),
+            _ => self.fill(word, rest),
+        }
+    }
+
+    /// What the files have.
+    fn fill(&mut self, word: &str, rest: &str) -> Result<(), Fault> {
+        match word {
             "file" => self.named.begin(rest),
             "let" => self.define(rest),
             "put" => self.put(rest),
@@ -152,7 +159,10 @@ impl Runner {
     fn take_word(&mut self, word: &str) -> Result<(), Fault> {
         let mut made = Octets::new(self.alloc);
         self.named.append_words(word, &mut made);
-        self.add_word(made.as_text()?)
+        match made.as_text() {
+            Ok(text) => self.add_word(text),
+            Err(fault) => Err(fault),
+        }
     }
 
     fn add_word(&mut self, word: &str) -> Result<(), Fault> {
@@ -223,14 +233,18 @@ impl Runner {
     /// Runs the words, and compares how the run ends. One that stops may have written a front of what is expected.
     fn end_case(&mut self, rt: &HostRuntime, word: &str, digits: &str) -> Result<(), Fault> {
         let due = status(digits)?;
-        let outcome = match word {
-            "real" => run_outside(rt, &self.named, &self.words)?,
-            "dials" => run_dialling(rt, &self.named, &self.words, &self.terms)?,
-            _ => run_in_memory(self.alloc, &self.named, &self.words, &self.terms)?,
-        };
-        self.compare(rt, &outcome, due, word == "stops")?;
+        let outcome = self.run(rt, word)?;
+        let compared = self.compare(rt, &outcome, due, word == "stops");
         self.begin_next();
-        Ok(())
+        compared
+    }
+
+    fn run(&self, rt: &HostRuntime, word: &str) -> Result<Outcome, Fault> {
+        match word {
+            "real" => run_outside(rt, &self.named, &self.words),
+            "dials" => run_dialling(rt, &self.named, &self.words, &self.terms),
+            _ => run_in_memory(self.alloc, &self.named, &self.words, &self.terms),
+        }
     }
 
     fn compare(
@@ -245,12 +259,8 @@ impl Runner {
         let is_front = may_stop && whole.starts_with(written);
         let is_right = outcome.status == due && (is_front || written == whole);
         if self.tally.differs(is_right) {
-            tell(
-                rt,
-                self.case.as_str(),
-                (due, whole),
-                (outcome.status, written),
-            )?;
+            let (due, came) = (Some(due), Some(outcome.status));
+            tell(rt, self.case.as_str(), (due, whole), (came, written))?;
         }
         self.compare_wire(rt, outcome)
     }
@@ -258,9 +268,10 @@ impl Runner {
     /// Compares what was written through the ends of the wire, and the calls on it, where that is said.
     fn compare_wire(&mut self, rt: &HostRuntime, outcome: &Outcome) -> Result<(), Fault> {
         let (case, tally, terms) = (self.case.as_str(), &mut self.tally, &self.terms);
-        compare_due(rt, tally, case, &terms.first.said, &outcome.first)?;
-        compare_due(rt, tally, case, &terms.second.said, &outcome.second)?;
-        compare_due(rt, tally, case, &terms.called, &outcome.called)
+        let first = compare_due(rt, tally, case, &terms.first.said, &outcome.first);
+        let second = compare_due(rt, tally, case, &terms.second.said, &outcome.second);
+        let called = compare_due(rt, tally, case, &terms.called, &outcome.called);
+        first.and(second).and(called)
     }
 
     /// The next run has the same words, and the rest as at first.
@@ -271,32 +282,39 @@ impl Runner {
     /// Lets each call of the files fail in turn until no call is left, and then each of the output.
     fn count_calls(&mut self, rt: &HostRuntime, counts: &str) -> Result<(), Fault> {
         let (files, output) = word_of(counts)?;
-        let (files, output) = (number(files)?, number(output)?);
-        let file_calls = self.calls(Called::Files)?;
-        let output_calls = self.calls(Called::Output)?;
-        if self
-            .tally
-            .differs(file_calls == Some(files) && output_calls == Some(output))
-        {
-            let case = self.case.as_str();
-            println!(rt;
-                "{case}: expected {files} {output}, came {file_calls:?} {output_calls:?}"
-            )?;
-        }
-        self.begin_next();
+        let is_right = self.has_calls(rt, Called::Files, files)?;
+        let is_right = self.has_calls(rt, Called::Output, output)? && is_right;
+        self.end_count(is_right);
         Ok(())
     }
 
     /// Lets each call of the wire fail in turn until no call is left.
     fn count_wire_calls(&mut self, rt: &HostRuntime, count: &str) -> Result<(), Fault> {
-        let count = number(count)?;
-        let calls = self.calls(Called::Wire)?;
-        if self.tally.differs(calls == Some(count)) {
-            let case = self.case.as_str();
-            println!(rt; "{case}: expected {count}, came {calls:?}")?;
-        }
-        self.begin_next();
+        let is_right = self.has_calls(rt, Called::Wire, count)?;
+        self.end_count(is_right);
         Ok(())
+    }
+
+    fn end_count(&mut self, is_right: bool) {
+        self.tally.differs(is_right);
+        self.begin_next();
+    }
+
+    /// Whether as many calls can fail as the digits say. It is printed where they aren't.
+    fn has_calls(&mut self, rt: &HostRuntime, called: Called, digits: &str) -> Result<bool, Fault> {
+        let count = number(digits)?;
+        let calls = self.calls(called)?;
+        if calls == Some(count) {
+            return Ok(true);
+        }
+        let mut line = Octets::new(self.alloc);
+        line.word(self.case.as_str());
+        line.word(": calls that can fail: expected ");
+        line.word(digits);
+        line.word(", came ");
+        line.show(&calls);
+        line.print(rt)?;
+        Ok(false)
     }
 
     /// How many calls can fail: with each of them the run ends with 1 and has written a front of what it must write, of
@@ -346,14 +364,9 @@ fn compare_due(
     due: &Due,
     came: &Octets,
 ) -> Result<(), Fault> {
-    let said = due.octets.as_slice();
-    let came = came.as_slice();
-    if !due.is_said || !tally.differs(said == came) {
-        return Ok(());
-    }
-    match (str::from_utf8(said), str::from_utf8(came)) {
-        (Ok(said), Ok(came)) => println!(rt; "{case}: expected {said:?}, came {came:?}")?,
-        _ => println!(rt; "{case}: expected to be said {said:?}, came {came:?}")?,
+    let (said, came) = (due.octets.as_slice(), came.as_slice());
+    if due.is_said && tally.differs(said == came) {
+        return tell(rt, case, (None, said), (None, came));
     }
     Ok(())
 }
@@ -375,20 +388,26 @@ fn is_of_lines(octets: &[u8]) -> bool {
     }
 }
 
-/// Prints what was expected and what came, each a status and what was written: as text where both are.
+/// Prints what was expected and what came, each a status where there is one, and what was written.
 fn tell(
     rt: &HostRuntime,
     case: &str,
-    expected: (u8, &[u8]),
-    came: (u8, &[u8]),
+    expected: (Option<u8>, &[u8]),
+    came: (Option<u8>, &[u8]),
 ) -> Result<(), Fault> {
-    let (due, whole) = expected;
-    let (status, written) = came;
-    match (str::from_utf8(whole), str::from_utf8(written)) {
-        (Ok(whole), Ok(written)) => println!(rt;
-            "{case}: expected {due} {whole:?}, came {status} {written:?}"
-        )?,
-        _ => println!(rt; "{case}: expected {due} {whole:?}, came {status} {written:?}")?,
+    let mut line = Octets::new(rt.alloc());
+    line.word(case);
+    line.word(": expected ");
+    append_ended(expected.0, expected.1, &mut line);
+    line.word(", came ");
+    append_ended(came.0, came.1, &mut line);
+    line.print(rt)
+}
+
+fn append_ended(status: Option<u8>, written: &[u8], line: &mut Octets) {
+    if let Some(status) = status {
+        line.show(&status);
+        line.word(" ");
     }
-    Ok(())
+    line.show_octets(written);
 }

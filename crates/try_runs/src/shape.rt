@@ -3,15 +3,12 @@
 use crate::fault::Fault;
 use crate::octets::Octets;
 
-/// The marks of the places, without their `%`.
-const MARKS: [&str; 9] = ["1", "2", "3", "4", "5", "6", "7", "8", "9"];
-
 /// The text with a number in place of each `#`.
 pub fn fill_number(text: &str, number: u64, made: &mut Octets) {
     let mut begun = false;
     for part in text.split('#') {
         if begun {
-            made.decimal(number);
+            made.show(&number);
         }
         begun = true;
         made.word(part);
@@ -32,14 +29,12 @@ pub fn fill(text: &str, row: &str, made: &mut Octets) {
     }
 }
 
-/// Appends the field that a part begins with, and the rest of the part.
+/// Appends the field whose digit a part begins with, and the rest of the part.
 fn append_filled(part: &str, row: &str, made: &mut Octets) {
-    for (mark, field) in MARKS.iter().zip(row.split(';')) {
-        if let Some(rest) = part.strip_prefix(*mark) {
-            made.word(field.trim());
-            made.word(rest);
-            return;
-        }
+    let (digit, rest) = part.as_bytes().split_first().unwrap_or((&0, &[]));
+    match row.split(';').nth(usize::from(digit.wrapping_sub(b'1'))) {
+        Some(field) => made.word(field.trim()),
+        None => made.fail(Fault::NoField),
     }
-    made.fail(Fault::NoField);
+    made.append(rest);
 }

@@ -1,6 +1,7 @@
 //! How many cases there were, and how many of them differ.
 
 use crate::fault::Fault;
+use crate::octets::Octets;
 
 /// How many cases were tried, and in how many of them what came wasn't what was expected.
 #[derive(Clone, Copy, Drop)]
@@ -29,9 +30,13 @@ impl Tally {
 
     /// Prints the two counts.
     pub fn finish(&self, rt: &HostRuntime, name: &str) -> Result<(), Fault> {
-        let cases = self.cases;
-        let differ = self.differ;
-        println!(rt; "{name}: {cases} cases, {differ} differ")?;
-        Ok(())
+        let mut line = Octets::new(rt.alloc());
+        line.word(name);
+        line.word(": ");
+        line.show(&self.cases);
+        line.word(" cases, ");
+        line.show(&self.differ);
+        line.word(" differ");
+        line.print(rt)
     }
 }

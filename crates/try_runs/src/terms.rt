@@ -11,6 +11,20 @@ const AMPLE: u64 = 1 << 40;
 /// More than any run writes to its output.
 const ROOM: u64 = 200_000;
 
+/// The words of the numbers that terms have.
+pub const NUMBERS: [&str; 10] = [
+    "limit",
+    "room",
+    "due",
+    "narrow",
+    "narrow_files",
+    "narrow_output",
+    "fail_file",
+    "fail_write",
+    "fail_wire",
+    "moment",
+];
+
 /// The numbers of the calls that fail.
 #[derive(Drop)]
 pub struct Failing {
@@ -132,19 +146,32 @@ impl Terms {
     /// Sets the number of this word, or adds it to those of the word.
     pub fn set(&mut self, word: &str, digits: &str) -> Result<(), Fault> {
         let value = number(digits)?;
-        match word {
-            "limit" => self.limit = value,
-            "room" => self.room = value,
-            "due" => self.due = value,
-            "narrow" => self.most.moved = value,
-            "narrow_files" => self.most.read = value,
-            "narrow_output" => self.most.written = value,
-            "fail_file" => self.failing.files.push(value)?,
-            "fail_write" => self.failing.output.push(value)?,
-            "fail_wire" => self.failing.wire.push(value)?,
-            _ => self.moments.push(value)?,
+        match self.number(word) {
+            Some(place) => *place = value,
+            None => self.list(word).push(value)?,
         }
         Ok(())
+    }
+
+    fn number(&mut self, word: &str) -> Option<&mut u64> {
+        match word {
+            "limit" => Some(&mut self.limit),
+            "room" => Some(&mut self.room),
+            "due" => Some(&mut self.due),
+            "narrow" => Some(&mut self.most.moved),
+            "narrow_files" => Some(&mut self.most.read),
+            "narrow_output" => Some(&mut self.most.written),
+            _ => None,
+        }
+    }
+
+    fn list(&mut self, word: &str) -> &mut Vec<u64> {
+        match word {
+            "fail_file" => &mut self.failing.files,
+            "fail_write" => &mut self.failing.output,
+            "fail_wire" => &mut self.failing.wire,
+            _ => &mut self.moments,
+        }
     }
 
     /// The end of this number, 0 or 1.
