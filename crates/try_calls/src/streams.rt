@@ -280,8 +280,8 @@ fn tape(call: &mut Call<'_>, files: &mut CalmFiles) -> Option<()> {
 }
 
 fn capture(call: &mut Call<'_>, files: &mut CalmFiles) -> Option<()> {
+    let mut into = vec![in call.alloc; 0u8; 262144].ok()?;
     let mut read = call.good::<Capture, CaptureFault>(Capture::begin(Counted::new(0, 999), files))?;
-    let mut into = [0u8; 262144];
     let it = call.good::<Option<Caught>, CaptureFault>(read.next(files, &mut into))??;
     call.show::<(u32, u32, u64)>(&(it.seconds, it.fraction, it.moment));
     call.show::<(u32, usize, u32)>(&(read.link(), it.taken, it.original))
@@ -295,8 +295,8 @@ fn dump(call: &mut Call<'_>, files: &mut CalmFiles) -> Option<()> {
 }
 
 fn pcapng(call: &mut Call<'_>, files: &mut CalmFiles) -> Option<()> {
+    let mut into = vec![in call.alloc; 0u8; 262144].ok()?;
     let mut ng = call.good::<Ng, NgFault>(Ng::begin(Counted::new(0, 999), files))?;
-    let mut into = [0u8; 262144];
     let it = call.good::<Option<NgCaught>, NgFault>(ng.next(files, &mut into))??;
     let link: Option<Link> = ng.link();
     call.show::<(Option<Link>, u64, usize, u32)>(&(link, it.moment, it.taken, it.original))
