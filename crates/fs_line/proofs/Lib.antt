@@ -2,3 +2,4 @@ pub mod Discarding
 pub mod Outputs
 pub mod Parts
 pub mod Walks
+pub mod Decades

@@ -1,5 +1,5 @@
 -- How text reaches a sink through a buffer that keeps octets back.
-use Rattle.std.specs.Prelude.{◌≡◌, ◌≤◌, ◌⊎◌, ℕ, List, [], ◌++◌, Option, Result, OnOk, OnErr}
+use Rattle.std.specs.Prelude.{◌≡◌, ◌≤◌, ◌<◌, ◌+◌, ◌⊎◌, ℕ, List, [], ◌∷◌, ◌++◌, decimal, take, Option, Result, OnOk, OnErr}
 use Rattle.fs_base.specs.Outside.{Rose}
 use Rattle.fs_base.specs.Sink.{Grew, GrewPart}
 use Rattle.fs_base.specs.declared.Sink as sink
@@ -36,3 +36,8 @@ pub record Sent {T E : Type 0} (faults faults_now : ℕ) (before now : Option (L
 abbrev pub Sends : {S T E : Type 0} → sink.Ghosts S → (old new : S) → (pending pending_now text : List ℕ) → Result T E → Type 0
 Sends of_sink old new pending pending_now text result =
     Sent (of_sink.faults old) (of_sink.faults new) (of_sink.written old) (of_sink.written new) pending pending_now text result
+
+-- how the ten numbers from one on are written: the same digits, and the last one
+pub record IsDecade (first : ℕ) (digits : List ℕ) (front : ℕ) : Type 0 where
+  pub short : front < 8
+  pub text : (digit : ℕ) → digit < 10 → decimal (first + digit) ≡ take front digits ++ ((48 + digit) ∷ [])

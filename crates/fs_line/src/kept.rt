@@ -49,8 +49,8 @@ pub(crate) fn keep_passed(output: &mut Output, number: u64)
     requires { length output.old + LINE ≤ CAPACITY }
     ensures { output.new ≡ output.old ++ line_of number [] }
 {
-    output.keep_decimal(number);
-    output.keep_back(b" pass\n");
+    output.keep_number(number);
+    output.keep_word(*b" pass\n");
 }
 
 /// Keeps back the line of a packet that walked one rule, which discards it and says no more.
@@ -58,8 +58,8 @@ pub(crate) fn keep_discarded(output: &mut Output, number: u64, rule: usize)
     requires { length output.old + LINE ≤ CAPACITY }
     ensures { output.new ≡ output.old ++ discarded_line number rule }
 {
-    output.keep_decimal(number);
-    output.keep_back(b" discard rules ");
+    output.keep_number(number);
+    output.keep_word(*b" discard rules ");
     output.keep_decimal(rule);
     output.keep_back(b"\n");
 }
@@ -82,7 +82,7 @@ pub(crate) fn keep_unread(output: &mut Output, number: u64, reason: u8)
     requires { length output.old + LINE ≤ CAPACITY }
     ensures { output.new ≡ output.old ++ unread_line_of number reason }
 {
-    output.keep_decimal(number);
+    output.keep_number(number);
     keep_numbered(output, b" unread ", reason);
     output.keep_back(b"\n");
 }
@@ -94,7 +94,7 @@ pub(crate) fn keep_verdict(output: &mut Output, number: u64, walked: &[Walked<'_
         ≡ output.old ++ (decimal number ++ verdict_text (actions_walked (entries walked.now))) }
     ensures short { length output.new ≤ length output.old + (LONGEST_NUMBER + VERDICT) }
 {
-    output.keep_decimal(number);
+    output.keep_number(number);
     output.keep_back(verdict(walked));
 }
 

@@ -1,6 +1,6 @@
 //! The buffer through which lines leave.
 
-ghost use Rattle.std.specs.Prelude.{◌≡◌, ◌+◌, ◌≤◌, [], ◌++◌, length, IfOk, IsOk, OnErr, OnOk};
+ghost use Rattle.std.specs.Prelude.{◌≡◌, ◌+◌, ◌≤◌, [], ◌<◌, ◌++◌, decimal, length, take, IfOk, IfSome, IsOk, OnErr, OnOk};
 ghost use Rattle.fs_base.specs.Outside.{HasCause};
 ghost use Rattle.fs_base.specs.Sink.{Grew, GrewPart};
 ghost use Rattle.fs_line.specs.Output.{Sends};
@@ -24,16 +24,22 @@ pub struct Output {
     /// `CAPACITY` octets, of which the first `count` are kept back.
     buffer: Vec<u8>,
     count: usize,
+    /// The least of the ten numbers that only the last digit tells apart from the last line's.
+    first: u64,
+    /// Their digits before the last: so many of these.
+    digits: [u8; 8],
+    front: usize,
 }
 
 impl Model for Output {
     ghost use Rattle.std.specs.Prelude.{◌≡◌, ℕ, ◌≤◌, List, length, take};
+    ghost use Rattle.fs_line.specs.Output.{IsDecade};
 
     ghost Value = { List ℕ };
 
     ghost view = { λ a. take a.count a.buffer.items };
 
-    ghost invariant = { λ a. (length a.buffer.items ≡ 65536) × (a.count ≤ 65536) };
+    ghost invariant = { λ a. (length a.buffer.items ≡ 65536) × (a.count ≤ 65536) × IsDecade a.first a.digits a.front };
 }
 
 impl Output {
@@ -44,6 +50,9 @@ impl Output {
         Ok(Output {
             buffer: vec![in alloc; 0u8; CAPACITY]?,
             count: 0,
+            first: 0,
+            digits: [0; 8],
+            front: 0,
         })
     }
 
@@ -119,6 +128,24 @@ impl Output {
         self.count = end;
     }
 
+    /// Adds a word that fits to the octets that are kept back.
+    #[inline(always)]
+    pub(crate) fn keep_word<const N: usize>(&mut self, word: [u8; N])
+        requires { length self.old + N ≤ CAPACITY }
+        ensures { self.new ≡ self.old ++ word.entry }
+    {
+        self.keep_back(&word);
+    }
+
+    /// Keeps only the first so many of the octets that are kept back.
+    #[inline(always)]
+    fn truncate(&mut self, count: usize)
+        requires { count ≤ length self.old }
+        ensures { self.new ≡ take count self.old }
+    {
+        self.count = count;
+    }
+
     /// Adds a number in decimal to the octets that are kept back.
     #[inline(always)]
     pub(crate) fn keep_decimal<N: Integer>(&mut self, number: N)
@@ -127,11 +154,85 @@ impl Output {
         ensures short { length self.new ≤ length self.old + LONGEST_NUMBER }
     {
         let mut buffer = Buffer::new();
-        let digits = buffer.format(number).as_bytes();
+        self.keep_digits(buffer.format(number).as_bytes());
+    }
+
+    /// Adds the digits of a number to the octets that are kept back.
+    #[inline(always)]
+    fn keep_digits(&mut self, digits: &[u8])
+        requires { length self.old + length digits.now ≤ CAPACITY }
+        ensures { self.new ≡ self.old ++ digits.now }
+    {
         let end = self.count + digits.len();
         copy_digits(digits, &mut self.buffer[self.count..end]);
         self.count = end;
     }
+
+    /// Adds a line's number in decimal to the octets that are kept back. Of lines in turn most differ in the last digit
+    /// alone.
+    #[inline(always)]
+    pub(crate) fn keep_number(&mut self, number: u64)
+        requires { length self.old + LONGEST_NUMBER ≤ CAPACITY }
+        ensures text { self.new ≡ self.old ++ decimal number }
+        ensures short { length self.new ≤ length self.old + LONGEST_NUMBER }
+    {
+        let Some(digit) = last_digit(self.first, number) else {
+            return self.keep_next(number);
+        };
+        let end = self.count + self.front;
+        let digits = self.digits;
+        self.keep_back(&digits);
+        self.truncate(end);
+        self.keep_word([b'0' + digit]);
+    }
+
+    /// Adds a number in decimal, and makes it one of the ten.
+    #[inline(never)]
+    fn keep_next(&mut self, number: u64)
+        requires { length self.old + LONGEST_NUMBER ≤ CAPACITY }
+        ensures text { self.new ≡ self.old ++ decimal number }
+        ensures short { length self.new ≤ length self.old + LONGEST_NUMBER }
+    {
+        let mut buffer = Buffer::new();
+        let digits = buffer.format(number).as_bytes();
+        self.keep_digits(digits);
+        self.turn(number, digits);
+    }
+
+    /// Makes a number one of the ten, unless it's too long.
+    fn turn(&mut self, number: u64, text: &[u8])
+        requires { text.now ≡ decimal number }
+        ensures { self.new ≡ self.old }
+    {
+        let front = text.len() - 1;
+        if front < 8 {
+            self.first = number - number % 10;
+            self.digits = front_of(text, front);
+            self.front = front;
+        }
+    }
+}
+
+/// The last digit of a number, where that is the one or one of the nine behind it.
+#[inline(always)]
+fn last_digit(first: u64, number: u64) -> Option<u8>
+    ensures { IfSome result (λ digit. (digit < 10) × (number ≡ first + digit)) }
+{
+    match number.checked_sub(first) {
+        Some(digit) if digit < 10 => Some(digit as u8),
+        _ => None,
+    }
+}
+
+/// The first octets of a text, fewer than eight, in a place of eight.
+fn front_of(text: &[u8], count: usize) -> [u8; 8]
+    requires held { count ≤ length text.now }
+    requires few { count < 8 }
+    ensures { take count result ≡ take count text.now }
+{
+    let mut front = [0u8; 8];
+    copy_digits(&text[..count], &mut front[..count]);
+    front
 }
 
 /// Copies a piece that is mostly short, without a call of the system's up to 8 octets.
