@@ -88,6 +88,7 @@ pub(crate) fn keep_unread(output: &mut Output, number: u64, reason: u8)
 }
 
 /// Keeps back the record's number and what becomes of the packet.
+#[inline(always)]
 pub(crate) fn keep_verdict(output: &mut Output, number: u64, walked: &[Walked<'_>])
     requires { length output.old + (LONGEST_NUMBER + VERDICT) ≤ CAPACITY }
     ensures text { output.new
@@ -153,6 +154,7 @@ pub(crate) fn keep_other(output: &mut Output, rule: usize)
 }
 
 /// Keeps back what the rules walked say beside the verdict, without their rates.
+#[inline(always)]
 pub(crate) fn keep_effects(output: &mut Output, walked: &[Walked<'_>])
     requires { length output.old + EFFECTS ≤ CAPACITY }
     ensures text { output.new ≡ output.old
