@@ -1,8 +1,9 @@
 //! Opening files, and reading the configuration and the rules file.
 
 ghost use Rattle.std.specs.Prelude.{◌≡◌, ◌≢◌, ◌≤◌, IfOk, IsTrue, Some, MatchResult};
-ghost use Rattle.fs_base.specs.Files.{OnlySlot};
+ghost use Rattle.fs_base.specs.Files.{OnlySlot, one_opening};
 ghost use Rattle.fs_base.specs.Outside.{Rose};
+ghost use Rattle.fs_base.specs.Sink.{Grew};
 ghost use Rattle.fs_speaker.specs.Announcer.{CanSend};
 ghost use Rattle.fs_speaker.specs.Sending.{sender_of};
 ghost use Rattle.fs_stages.specs.Refusal.{IsLate, IsOfFile, HasReason, Reaches, answered, or_stop};
@@ -43,6 +44,7 @@ pub fn open<F: Files>(files: &mut F, slot: u8, name: &str) -> Result<(), Refusal
         → MatchResult result
         (λ _. F.holds files.old name.now ≡ Some (F.left files.new slot))
         (HasReason (or_stop Outside (F.holds files.old name.now)) (Rose (F.faults files.old) (F.faults files.new))) }
+    ensures opens { Grew (F.opened files.old) (F.opened files.new) (one_opening slot name.now) }
     ensures others { OnlySlot F.tells F.left F.holds slot files.old files.new }
 {
     match files.open_file(slot, name) {
@@ -74,6 +76,7 @@ fn load<F: Files>(
         (fetch limit (F.holds files.old) name.now)
         (Rose (F.faults files.old) (F.faults files.new))
         result }
+    ensures opens { Grew (F.opened files.old) (F.opened files.new) (one_opening slot name.now) }
     ensures others { OnlySlot F.tells F.left F.holds slot files.old files.new }
 {
     open(files, slot, name)?;
@@ -106,6 +109,7 @@ pub fn load_config<F: Files>(
         (config_stage limit (F.holds files.old) name.now)
         (Rose (F.faults files.old) (F.faults files.new))
         result }
+    ensures opens { Grew (F.opened files.old) (F.opened files.new) (one_opening 0 name.now) }
     ensures others { OnlySlot F.tells F.left F.holds 0 files.old files.new }
 {
     let octets = load(alloc, files, CONFIG_SLOT, name, limit)?;
@@ -138,6 +142,8 @@ pub fn load_rules<F: Files>(
         (rules_stage config.now limit (F.holds files.old) name.now)
         (Rose (F.faults files.old) (F.faults files.new))
         result }
+    ensures opens { Grew (F.opened files.old) (F.opened files.new) (one_opening 1 name.now) }
+    ensures others { OnlySlot F.tells F.left F.holds 1 files.old files.new }
 {
     let octets = load(alloc, files, RULES_SLOT, name, limit)?;
     match fs_conf::read_rules(alloc, &octets, config) {

@@ -2,8 +2,9 @@
 
 ghost use Rattle.std.specs.Prelude.{◌≡◌, ◌≤◌, ◌<◌, None, Some, length};
 ghost use Rattle.std.specs.Prelude.{IsOk, IsTrue, IfOk, IfSome, OnOk, MatchResult};
-ghost use Rattle.fs_base.specs.Files.{OnlySlot};
+ghost use Rattle.fs_base.specs.Files.{OnlySlot, one_opening};
 ghost use Rattle.fs_base.specs.Outside.{Rose};
+ghost use Rattle.fs_base.specs.Sink.{Grew};
 ghost use Rattle.fs_base.specs.declared.config.Config.{Config};
 ghost use Rattle.fs_records.specs.declared.fault.Ended.TheVariants.{Done};
 ghost use Rattle.fs_tape.specs.Header.{IsTimed, longest_payload};
@@ -49,6 +50,7 @@ pub fn play_tape<'a, F: Files>(
         (IsPlayed config.entry.now (tape_stage config.entry.now limit (F.holds files.old) name.now))
         (HasReason (tape_stage config.entry.now limit (F.holds files.old) name.now)
         (Rose (F.faults files.old) (F.faults files.new))) }
+    ensures opens { Grew (F.opened files.old) (F.opened files.new) (one_opening 1 name.now) }
 {
     match play_whole(alloc, files, config, name, limit) {
         Ok(whole) => {
@@ -83,6 +85,7 @@ pub fn play_whole<'a, F: Files>(
         (Rose (F.faults files.old) (F.faults files.new))) }
     ensures slot { IfOk result (λ whole. whole.tape.slot ≡ 1) }
     ensures done { IfOk result (λ whole. whole.tape.end ≡ Some Done) }
+    ensures opens { Grew (F.opened files.old) (F.opened files.new) (one_opening 1 name.now) }
     ensures others { OnlySlot F.tells F.left F.holds 1 files.old files.new }
 {
     let mut tape = open_tape(files, name, limit)?;
@@ -111,6 +114,7 @@ pub(crate) fn open_tape<F: Files>(files: &mut F, name: &str, limit: u64) -> Resu
         (IsOpened limit (F.holds files.old) name.now (F.left files.new 1))
         (λ refusal. (config : Config) → HasReason (tape_stage config limit (F.holds files.old) name.now)
         (Rose (F.faults files.old) (F.faults files.new)) refusal) }
+    ensures opens { Grew (F.opened files.old) (F.opened files.new) (one_opening 1 name.now) }
     ensures others { OnlySlot F.tells F.left F.holds 1 files.old files.new }
 {
     open(files, TAPE_SLOT, name)?;
@@ -144,6 +148,7 @@ fn play_items<F: Files>(
         desk.old desk.new)
         (HasReason (played_to (coming config.now tape.old (F.left files.old tape.old.slot)))
         (Rose (F.faults files.old) (F.faults files.new))) }
+    ensures opened { F.opened files.new ≡ F.opened files.old }
     ensures others { OnlySlot F.tells F.left F.holds tape.old.slot files.old files.new }
 {
     let mut replies = Vec::new(alloc);
@@ -206,6 +211,7 @@ pub(crate) fn next_item<F: Files>(
         (coming config.now tape.new (F.left files.new tape.old.slot)) tape.new.moment buffer.new)
         (HasReason (played_to (coming config.now tape.old (F.left files.old tape.old.slot)))
         (Rose (F.faults files.old) (F.faults files.new))) }
+    ensures opened { F.opened files.new ≡ F.opened files.old }
     ensures others { OnlySlot F.tells F.left F.holds tape.old.slot files.old files.new }
 {
     match tape.next(files, config, buffer) {

@@ -35,8 +35,9 @@ impl<'a> Model for Player<'a> {
 impl<'a> Player<'a> {
     ghost use Rattle.std.specs.Option.{is_some};
     ghost use Rattle.std.specs.Prelude.{ℕ, ◌≡◌, ◌≤◌, ◌<◌, false, List, None, Some, IfOk, IfSome, IsTrue, MatchResult, OnOk};
-    ghost use Rattle.fs_base.specs.Files.{OnlySlot};
+    ghost use Rattle.fs_base.specs.Files.{OnlySlot, one_opening};
     ghost use Rattle.fs_base.specs.Outside.{Rose};
+    ghost use Rattle.fs_base.specs.Sink.{Grew};
     ghost use Rattle.fs_desk.specs.Desk.{Notes, Played};
     ghost use Rattle.fs_desk.specs.Leaves.{Leaves};
     ghost use Rattle.fs_records.specs.declared.fault.Ended.TheVariants.{Done};
@@ -73,6 +74,7 @@ impl<'a> Player<'a> {
             → MatchResult result
             (λ player. Stands items 0 player (F.left files.new 1))
             (IsUnplayed (Rose (F.faults files.old) (F.faults files.new))) }
+        ensures opens { Grew (F.opened files.old) (F.opened files.new) (one_opening 1 name.now) }
         ensures others { OnlySlot F.tells F.left F.holds 1 files.old files.new }
     {
         let mut tape = open_tape(files, name, limit)?;
@@ -134,6 +136,7 @@ impl<'a> Player<'a> {
             × Leaves self.old.desk.config (until moment items) self.new.desk.held)
             (IsUnplayed (Rose (F.faults files.old) (F.faults files.new))) }
         ensures told { OnOk result (Covers self.old.desk.held self.new.desk.changes self.new.desk.held) }
+        ensures opened { F.opened files.new ≡ F.opened files.old }
         ensures others { OnlySlot F.tells F.left F.holds self.old.tape.slot files.old files.new }
     {
         self.desk.watch();
@@ -193,6 +196,7 @@ impl<'a> Player<'a> {
             (λ _. Stands items t self.new (F.left files.new self.old.tape.slot))
             (IsUnplayed (Rose (F.faults files.old) (F.faults files.new))) }
         ensures told { OnOk result (Notes self.old.desk self.new.desk) }
+        ensures opened { F.opened files.new ≡ F.opened files.old }
         ensures others { OnlySlot F.tells F.left F.holds self.old.tape.slot files.old files.new }
     {
         self.replies.clear();

@@ -15,6 +15,7 @@ items-preserved g c = record {
   within = (rw c.in-Some.is at c.in_ok-item.ensures.grows).1;
   config = c.in_ok-play_item.ensures.config ∙ c.items.invariant.config;
   later = omega (arith, c.items.invariant.later, c.in_ok-item.ensures.later);
+  opened = c.in_ok-item.ensures.opened ∙ c.items.invariant.opened;
   others =
       slots_then g.F.Files.tells g.F.Files.left g.F.Files.holds c.args.tape.now.slot c.items.tape.slot c.args.files.now c.items.files c.next_item.new.files
       c.items.invariant.others c.items.invariant.slot c.in_ok-item.ensures.others;

@@ -15,6 +15,7 @@ invariant-items g l = record {
   within : l.tape.place ≤ l.tape.limit;
   config : l.desk.config ≡ l.config;
   later : g.F.Files.faults l.fn.files ≤ g.F.Files.faults l.files;
+  opened : g.F.Files.opened l.files ≡ g.F.Files.opened l.fn.files;
   others : OnlySlot g.F.Files.tells g.F.Files.left g.F.Files.holds l.fn.tape.slot l.fn.files l.files;
   playing : IsTrue g.F.Files.tells
       → Playing l.config l.fn.tape.version (coming l.config l.fn.tape (g.F.Files.left l.fn.files l.fn.tape.slot)) (coming l.config l.tape (g.F.Files.left l.files l.tape.slot)) l.fn.desk l.desk;

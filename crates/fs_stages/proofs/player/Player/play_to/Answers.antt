@@ -33,6 +33,7 @@ items-init g c = record {
   later = search rules;
   ends = λ h. subst (λ (p : PlayerState). IsOpenOrDone p.tape p.ahead) (sym c.self.view_is) h;
   told = covers_first c.args.self.now.desk.held c.self.inside.desk c.watch.new.self (sym (ap (λ (p : PlayerState). p.desk.held) c.self.view_is)) c.watch.ensures;
+  opened = search rules;
   others = search rules;
   played = λ told items s. stands_noted items c.args.moment _ c.watch.new.self _ _ c.watch.ensures
       (subst (λ (p : PlayerState). Stands items c.args.moment p (g.F.Files.left c.args.files.now c.args.self.now.tape.slot)) (sym c.self.view_is) s);

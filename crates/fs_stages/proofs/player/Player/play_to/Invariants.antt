@@ -14,6 +14,7 @@ invariant-items g l = record {
   later : g.F.Files.faults l.fn.files ≤ g.F.Files.faults l.files;
   ends : IsOpenOrDone l.fn.self.tape l.fn.self.ahead → IsOpenOrDone l.self.tape l.self.ahead;
   told : Covers l.fn.self.desk.held l.self.desk.changes l.self.desk.held;
+  opened : g.F.Files.opened l.files ≡ g.F.Files.opened l.fn.files;
   others : OnlySlot g.F.Files.tells g.F.Files.left g.F.Files.holds l.fn.self.tape.slot l.fn.files l.files;
   played : IsTrue g.F.Files.tells → (items : List Timed) → Stands items l.moment l.fn.self (g.F.Files.left l.fn.files l.fn.self.tape.slot)
       → Stands items l.moment l.self (g.F.Files.left l.files l.fn.self.tape.slot);
