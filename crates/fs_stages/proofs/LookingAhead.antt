@@ -49,6 +49,10 @@ unplayed stage a failed refusal e (inr h) = h
 one_version : {A : Type 0} (x : Option A) (view : A → Result Version (End TapeReason)) (a b : Version) → option_map view x ≡ Some (Ok a) → option_map view x ≡ Some (Ok b) → a ≡ b
 one_version x view a b e f = let both : Some (Ok a) ≡ Some (Ok b) = sym e ∙ f in cc
 
+-- none is due where one is
+pub never_due : {A : Type 0} (o : Option TapeItem) (item : TapeItem) → o ≡ None → o ≡ Some item → A
+never_due o item none some = let wrong : None ≡ Some item = sym none ∙ some in absurd cc
+
 -- what is said of an item ahead
 if_then : {A P : Type 0} (o : Option A) → P → IfSome o (λ _. P)
 if_then None p = tt

@@ -34,7 +34,7 @@ impl<'a> Model for Player<'a> {
 
 impl<'a> Player<'a> {
     ghost use Rattle.std.specs.Option.{is_some};
-    ghost use Rattle.std.specs.Prelude.{ℕ, ◌≡◌, ◌≤◌, ◌<◌, false, List, None, Some, IfOk, IfSome, IsTrue, MatchResult, OnOk};
+    ghost use Rattle.std.specs.Prelude.{ℕ, ◌≡◌, ◌≤◌, ◌<◌, [], false, List, None, Some, IfOk, IfSome, IsOk, IsTrue, MatchResult, OnOk};
     ghost use Rattle.fs_base.specs.Files.{OnlySlot, one_opening};
     ghost use Rattle.fs_base.specs.Outside.{Rose};
     ghost use Rattle.fs_base.specs.Sink.{Grew};
@@ -114,7 +114,7 @@ impl<'a> Player<'a> {
     }
 
     /// Plays the items whose moments are at most this one. Behind it [`changes`](Player::changes) tells where the rules
-    /// that are admitted may be others than before.
+    /// that are admitted may be others than before: nowhere, where no item was due.
     ///
     /// # Errors
     ///
@@ -136,6 +136,8 @@ impl<'a> Player<'a> {
             × Leaves self.old.desk.config (until moment items) self.new.desk.held)
             (IsUnplayed (Rose (F.faults files.old) (F.faults files.new))) }
         ensures told { OnOk result (Covers self.old.desk.held self.new.desk.changes self.new.desk.held) }
+        ensures calm { due_item self.old.ahead self.old.tape.moment moment ≡ None
+            → IsOk result × (self.new.desk.changes ≡ record { places = []; all = false }) }
         ensures opened { F.opened files.new ≡ F.opened files.old }
         ensures others { OnlySlot F.tells F.left F.holds self.old.tape.slot files.old files.new }
     {

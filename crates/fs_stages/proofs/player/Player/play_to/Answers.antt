@@ -1,9 +1,10 @@
-use Rattle.std.proofs.Common.{◌∙◌, ℕ, ap, sym, subst, rules}
+use Rattle.std.proofs.Common.{◌≡◌, ◌∙◌, ℕ, None, ap, refl, sym, subst, rules}
 use Rattle.fs_base.specs.declared.config.Config.{Config}
+use Rattle.fs_desk.specs.Desk.{Desked}
 use Rattle.fs_desk.specs.Leaves.{Leaves}
 use Rattle.fs_stages.specs.Play.{IsOpenOrDone, until}
-use Rattle.fs_stages.specs.Player.{PlayerState, Stands}
-use Rattle.fs_stages.proofs.LookingAhead.{covers_first, due_is, fewer_left, leaves_until, match_err, rose_on, stands_noted}
+use Rattle.fs_stages.specs.Player.{PlayerState, Stands, due_item}
+use Rattle.fs_stages.proofs.LookingAhead.{covers_first, due_is, fewer_left, leaves_until, match_err, never_due, rose_on, stands_noted}
 use Rattle.fs_stages.proofs.player.Player.play_to.Goals as goal
 
 pub returns-in_err-step-clause-played : goal.returns-in_err-step-clause-played
@@ -33,8 +34,31 @@ items-init g c = record {
   later = search rules;
   ends = λ h. subst (λ (p : PlayerState). IsOpenOrDone p.tape p.ahead) (sym c.self.view_is) h;
   told = covers_first c.args.self.now.desk.held c.self.inside.desk c.watch.new.self (sym (ap (λ (p : PlayerState). p.desk.held) c.self.view_is)) c.watch.ensures;
+  calm = λ none. (
+    ap (λ (d : Desked). d.changes) c.watch.ensures,
+    subst (λ (p : PlayerState). due_item p.ahead p.tape.moment c.args.moment ≡ None) (sym c.self.view_is) none,
+  );
   opened = search rules;
   others = search rules;
   played = λ told items s. stands_noted items c.args.moment _ c.watch.new.self _ _ c.watch.ensures
       (subst (λ (p : PlayerState). Stands items c.args.moment p (g.F.Files.left c.args.files.now c.args.self.now.tape.slot)) (sym c.self.view_is) s);
 }
+
+pub items-preserved : goal.items-preserved
+items-preserved g c = record {
+  slot = search rules;
+  config = search rules;
+  later = search rules;
+  ends = search rules;
+  told = search rules;
+  calm = λ none. never_due _ c.in-Some.item (c.items.invariant.calm none).1 (sym c.due.ensures ∙ c.in-Some.is);
+  opened = search rules;
+  others = search rules;
+  played = search rules;
+}
+
+pub returns-in_err-step-clause-calm : goal.returns-in_err-step-clause-calm
+returns-in_err-step-clause-calm g c = λ none. never_due _ c.in-Some.item (c.items.invariant.calm none).1 (sym c.due.ensures ∙ c.in-Some.is)
+
+pub returns-clause-calm : goal.returns-clause-calm
+returns-clause-calm g c = λ none. (refl, (c.items.invariant.calm none).0)
