@@ -28,7 +28,7 @@ use Rattle.fs_wires.proofs.PromisingPair.{pair_promises, pair_status}
 use Rattle.fs_cli.specs.Program.{ChecksSo, Does, IsOneOf, Runs, HasNoMoments, HasStatus, HasCauses, Completes, Promises, objects, FailedOver, OutsideFailed, WireServed, Objects, AreTold, FilesKept, SinkKept, WireKept, ClockKept, names_in, happened_in, talk_in, speaks, statuses}
 use Rattle.fs_enforce.specs.Command.{EnforcesSo, Enforced, Wants, Inputs, inputs, inputs_stage, status_for}
 use Rattle.fs_generate.specs.Command.{GeneratesSo, Generated}
-use Rattle.fs_stages.specs.Load.{Names, fetch, config_stage}
+use Rattle.fs_stages.specs.Load.{Names, OpensBoth, fetch, config_stage}
 use Rattle.fs_cli.specs.Command.{Form, Enforce, Surveys, Converts, Check, Gen, form_of, Announce, Listen, Pair}
 use Rattle.fs_mrt.specs.declared.fault.DumpReason.{DumpReason}
 use Rattle.fs_convert.specs.Command.{Converted, ConvertsSo, convert_status, dump_stage, status_for as status_by, status_at as dump_status, verdict_of}
@@ -462,6 +462,15 @@ enforce_as Says form config tape capture config' tape' capture' e asked p = subs
     of (Enforce a b d) = Says a b d
     of _ = ⊤
 
+-- and of a survey, whose status is answered
+pub survey_as : (Says : List ℕ → List ℕ → ℕ → Type 0) (form : Form) (survey survey' : Survey) (config tape config' tape' : List ℕ) (status answer : ℕ)
+    → form ≡ Surveys survey config tape → form ≡ Surveys survey' config' tape' → status ≡ answer → Says config tape status → Says config' tape' answer
+survey_as Says form survey survey' config tape config' tape' status answer e asked same p = subst (Says config' tape') same (subst of (sym e ∙ asked) p)
+  where
+    of : Form → Type 0
+    of (Surveys kind a b) = Says a b status
+    of _ = ⊤
+
 -- the promises of a run, whose words ask for no command
 
 pub promises_none : {F S W C : Type 0} (limit : ℕ) (of_files : files.Ghosts F) (of_sink : sink.Ghosts S) (of_wire : wire.Ghosts W) (of_clock : clock.Ghosts C) (files : F) (sink : S) (wire : W) (clock : C)
@@ -477,6 +486,7 @@ promises_none limit of_files of_sink of_wire of_clock files sink wire clock word
       nothing_done = λ none. (refl, refl, refl, refl);
       check_opens_nothing = λ subject word asked. refl;
       gen_opens_nothing = λ count asked. refl;
+      survey_opens = λ survey config tape asked. not_asked (Surveys survey config tape) (form_of words) e asked;
       wire_unused = λ form asked silent. (refl, refl);
       config_writes_nothing = λ three. (refl, refl, refl);
       limit_writes_nothing = λ seven survey config tape asked. refl;
@@ -518,9 +528,11 @@ pub promises_some : {F S W C : Type 0} (limit : ℕ) (w : Objects F S W C) (word
     → Wants limit (names_in w) config tape capture (w.of_files.left w.files_before 2) (w.of_files.left w.files_behind 2) (happened_in w))
     → ((subject : Subject) (word : List ℕ) → form ≡ Check subject word → FilesKept w)
     → ((count : ℕ) → form ≡ Gen count → FilesKept w)
+    → ((survey : Survey) (config tape : List ℕ) → form ≡ Surveys survey config tape
+    → OpensBoth config tape (w.of_files.opened w.files_before) (w.of_files.opened w.files_behind) answer)
     → (speaks form ≡ false → WireKept w × ClockKept w)
     → Promises limit w words answer
-promises_some limit w words form answer e run known quiet wanting bounded still unfinished unopened generates silent =
+promises_some limit w words form answer e run known quiet wanting bounded still unfinished unopened generates opens silent =
     let call : Happened = happened_in w in
     let talk : Conversation = talk_in w in
     let holds : Names = names_in w in
@@ -533,6 +545,7 @@ promises_some limit w words form answer e run known quiet wanting bounded still 
       nothing_done = λ none. no_form form (form_of words) e none;
       check_opens_nothing = λ subject word asked. unopened subject word (some_form form (Check subject word) (form_of words) e asked);
       gen_opens_nothing = λ count asked. generates count (some_form form (Gen count) (form_of words) e asked);
+      survey_opens = λ survey config tape asked. opens survey config tape (some_form form (Surveys survey config tape) (form_of words) e asked);
       wire_unused = λ asked is unspoken. silent (ap speaks (some_form form asked (form_of words) e is) ∙ unspoken);
       config_writes_nothing = quiet;
       limit_writes_nothing = λ seven survey config tape asked.

@@ -10,7 +10,7 @@ use Rattle.fs_stages.specs.Refusal.{Verdict, Answers}
 use Rattle.fs_convert.specs.Command.{Converts as ConvertsDump, Converted, convert_status}
 use Rattle.fs_enforce.specs.Command.{Enforces, Enforced, Wants, inputs_stage, status_for}
 use Rattle.fs_generate.specs.Command.{Generates, Generated}
-use Rattle.fs_stages.specs.Load.{Names}
+use Rattle.fs_stages.specs.Load.{Names, OpensBoth}
 use Rattle.fs_wires.specs.Announcing.{Announces}
 use Rattle.fs_wires.specs.Conversation.{Conversation, conversation}
 use Rattle.fs_wires.specs.Listening.{ListensTo}
@@ -213,6 +213,9 @@ pub record Promises {F S W C : Type 0} (limit : ℕ) (w : Objects F S W C) (word
       → form_of words ≡ Some (Check subject word) → FilesKept w
   -- `gen` opens no file.
   pub gen_opens_nothing : (count : ℕ) → form_of words ≡ Some (Gen count) → FilesKept w
+  -- A survey opens the configuration and then the tape, each in its slot, and no other file; at 3 the configuration alone.
+  pub survey_opens : (survey : Survey) (config tape : List ℕ) → form_of words ≡ Some (Surveys survey config tape)
+      → OpensBoth config tape (w.of_files.opened w.files_before) (w.of_files.opened w.files_behind) answer
   -- Only `announce`, `listen` and `pair` use the wire, and the clock.
   pub wire_unused : (form : Form) → form_of words ≡ Some form → speaks form ≡ false → WireKept w × ClockKept w
   -- At 3 nothing is written, and neither the wire nor the clock is used, whatever the files tell.

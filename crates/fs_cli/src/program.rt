@@ -7,6 +7,7 @@ ghost use Rattle.fs_cli.specs.declared.command.Subject.{Subject};
 ghost use Rattle.fs_cli.specs.declared.survey.Survey.{Survey};
 ghost use Rattle.fs_cli.specs.Program.{Checks, HasNoMoments, IsOneOf, Promises, Runs, WroteOn, speaks, objects};
 ghost use Rattle.fs_cli.specs.Command.{form_shown, Check, Enforce, Gen, Surveys};
+ghost use Rattle.fs_stages.specs.Load.{OpensBoth};
 ghost use Rattle.fs_enforce.specs.Command.{Wants};
 ghost use Rattle.fs_stages.specs.Refusal.{answered};
 ghost use Rattle.fs_wires.specs.Conversation.{conversation};
@@ -99,6 +100,10 @@ fn perform<F: Files, S: Sink, W: Wire, C: Clock>(
         → (config tape : List ℕ)
         → form_shown job.entry.command ≡ Surveys survey config tape
         → sink.new ≡ sink.old }
+    ensures opens { (survey : Survey)
+        → (config tape : List ℕ)
+        → form_shown job.entry.command ≡ Surveys survey config tape
+        → OpensBoth config tape (F.opened files.old) (F.opened files.new) result }
     ensures still { IsTrue F.tells
         → result ≡ 4
         → (config tape capture : List ℕ)

@@ -7,6 +7,7 @@ ghost use Rattle.fs_base.specs.declared.config.Config.{Config};
 ghost use Rattle.fs_tape.specs.Tape.{Item};
 ghost use Rattle.fs_listing.specs.TapeFault.{tape_fault_line};
 ghost use Rattle.fs_desk.specs.Desk.{Played};
+ghost use Rattle.fs_stages.specs.Load.{OpensBoth};
 ghost use Rattle.fs_stages.specs.Refusal.{IsLate, IsOfTape, answered, status_of};
 ghost use Rattle.fs_stages.specs.Writing.{Writes};
 ghost use Rattle.fs_cli.specs.Survey.{IsOfSurvey, Lists, SaysOf, text_for};
@@ -56,6 +57,8 @@ pub fn survey_tape<F: Files, S: Sink>(
     ensures sink_later { S.faults sink.old ≤ S.faults sink.new }
     ensures possible { IsOfSurvey (answered result) }
     ensures quiet { (answered result ≡ 3) ⊎ (answered result ≡ 6) ⊎ (answered result ≡ 7) → sink.new ≡ sink.old }
+    ensures opens { OpensBoth names.now.config.now names.now.tape.now
+        (F.opened files.old) (F.opened files.new) (answered result) }
 
     ensures lists { IsTrue F.tells
         → Lists (text_for survey) limit (F.holds files.old) names.now.config.now names.now.tape.now

@@ -1,5 +1,7 @@
 -- What the files tell, and the stages of the configuration and the rules file.
-use Rattle.std.specs.Prelude.{ℕ, List, Option, nat_le, length, if◌then◌else◌}
+use Rattle.std.specs.Prelude.{ℕ, List, Option, ◌≢◌, ◌⊎◌, ◌++◌, nat_le, length, if◌then◌else◌}
+use Rattle.fs_base.specs.Files.{Opened, one_opening}
+use Rattle.fs_base.specs.Sink.{Grew}
 use Rattle.fs_base.specs.declared.config.Config.{Config}
 use Rattle.fs_conf.specs.Config.{config_of}
 use Rattle.fs_conf.specs.Rules.{rules_of}
@@ -30,3 +32,10 @@ sending_stage limit holds config rules =
     and_then (config_stage limit holds config) (λ accepted.
     and_then (rules_stage accepted limit holds rules) (λ sending.
     Found (accepted, sending)))
+
+-- The configuration was opened, in slot 0, and then this other file, in slot 1, and none else. At 3 it was the
+-- configuration alone, and at 0 both.
+abbrev pub OpensBoth : (config other : List ℕ) → (before now : Option (List Opened)) → ℕ → Type 0
+OpensBoth config other before now answer =
+    ((answer ≢ 0) × Grew before now (one_opening 0 config))
+    ⊎ ((answer ≢ 3) × Grew before now (one_opening 0 config ++ one_opening 1 other))

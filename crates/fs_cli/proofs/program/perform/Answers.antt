@@ -4,7 +4,8 @@ use Rattle.fs_cli.specs.Command.{Announce, Check, Converts, Enforce, Gen, Listen
 use Rattle.fs_enforce.specs.Command.{Wants}
 use Rattle.fs_wires.specs.Conversation.{conversation}
 use Rattle.fs_stages.specs.Refusal.{answered}
-use Rattle.fs_cli.proofs.Running.{enforce_as, one_but, runs_as, wants_enforce}
+use Rattle.fs_stages.specs.Load.{OpensBoth}
+use Rattle.fs_cli.proofs.Running.{enforce_as, one_but, runs_as, survey_as, wants_enforce}
 use Rattle.fs_cli.proofs.program.perform.Goals as goal
 
 pub returns-in-Enforce-clause-runs : goal.returns-in-Enforce-clause-runs
@@ -37,6 +38,12 @@ returns-in-Survey-clause-runs g c =
     (answered c.survey_tape.result) c.answer_of-in-Survey.result
     (ap form_shown c.in-Survey.is) (sym c.answer_of-in-Survey.ensures.answered)
     (let p = c.survey_tape.ensures.possible in one_but c.survey_tape.result (5 ∷ 8 ∷ 10 ∷ []) (p.0, (p.1, (p.2, tt)))) c.survey_tape.ensures.lists
+
+pub returns-in-Survey-clause-opens : goal.returns-in-Survey-clause-opens
+returns-in-Survey-clause-opens g c = λ survey config tape asked.
+    survey_as (λ config tape answer. OpensBoth config tape (g.F.Files.opened c.args.files.now) (g.F.Files.opened c.survey_tape.new.files) answer)
+    (form_shown c.args.job.command) c.in-Survey.survey survey c.in-Survey.config.now c.in-Survey.tape.now config tape (answered c.survey_tape.result) c.answer_of-in-Survey.result
+    (ap form_shown c.in-Survey.is) asked (sym c.answer_of-in-Survey.ensures.answered) c.survey_tape.ensures.opens
 
 pub returns-in-Convert-clause-runs : goal.returns-in-Convert-clause-runs
 returns-in-Convert-clause-runs g c =

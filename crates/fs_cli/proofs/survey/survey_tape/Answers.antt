@@ -1,9 +1,12 @@
 use Rattle.std.proofs.Common.{◌⊎◌, inl, inr}
 use Rattle.fs_base.specs.Outside.{Rose}
+use Rattle.fs_base.proofs.Grew.{Grew-trans}
 use Rattle.fs_cli.specs.Survey.{ListsSo, text_for}
+use Rattle.fs_stages.specs.Load.{OpensBoth}
 use Rattle.fs_stages.specs.Play.{untimed}
 use Rattle.fs_stages.proofs.Stages.{rose_earlier, answered_err}
 use Rattle.fs_cli.proofs.Surveying.{config_unlisted, tape_unlisted, desk_listed}
+use Rattle.fs_wires.proofs.Statuses.{never_zero}
 use Rattle.fs_cli.proofs.survey.survey_tape.Goals as goal
 
 pub returns-in_err-config-clause-lists : goal.returns-in_err-config-clause-lists
@@ -24,3 +27,16 @@ returns-clause-lists g c = λ told.
     (Rose (g.F.Files.faults c.load_config.new.files) (g.F.Files.faults c.play_tape.new.files)) (Rose (g.S.Sink.faults c.args.sink.now) (g.S.Sink.faults c.tell_refusal.new.sink)) (Rose (g.F.Files.faults c.args.files.now) (g.F.Files.faults c.play_tape.new.files) ⊎ Rose (g.S.Sink.faults c.args.sink.now) (g.S.Sink.faults c.tell_refusal.new.sink)) (g.S.Sink.written c.args.sink.now) (g.S.Sink.written c.tell_refusal.new.sink) c.in-Err.refusal c.tell_refusal.result
     (c.in_ok-config.ensures.reaches told) (c.in_ok-config.ensures.holds told) (c.in-Err.ensures.played told) (λ r. inl (rose_earlier _ _ _ c.in_ok-config.ensures.later r)) (λ r. inr r)
     c.tell_refusal.ensures.said
+
+pub returns-in_err-config-clause-opens : goal.returns-in_err-config-clause-opens
+returns-in_err-config-clause-opens g c =
+    answered_err (λ n. OpensBoth c.args.names.now.config.now c.args.names.now.tape.now (g.F.Files.opened c.args.files.now) (g.F.Files.opened c.load_config.new.files) n)
+    c.from_residual.result c.in_err-config.field-0.0 c.from_residual.ensures.1 (inl (never_zero c.in_err-config.field-0.0, c.in_err-config.ensures.opens))
+
+pub returns-in-Ok-clause-opens : goal.returns-in-Ok-clause-opens
+returns-in-Ok-clause-opens g c =
+    inr (c.write_survey.ensures.late.0, Grew-trans _ _ _ _ _ c.in_ok-config.ensures.opens c.in-Ok.ensures.opens)
+
+pub returns-clause-opens : goal.returns-clause-opens
+returns-clause-opens g c =
+    inr (c.tell_refusal.ensures.possible.0, Grew-trans _ _ _ _ _ c.in_ok-config.ensures.opens c.in-Err.ensures.opens)
