@@ -103,6 +103,8 @@ impl Output {
         requires { octets ≤ CAPACITY }
         ensures sends { Sends S.Sink sink.old sink.new self.old self.new [] result }
         ensures room { OnOk result (length self.new + octets ≤ CAPACITY) }
+        ensures kept_back { length self.old + octets ≤ CAPACITY
+            → IsOk result × (self.new ≡ self.old) × (sink.new ≡ sink.old) }
     {
         if octets <= self.room() {
             return Ok(());
