@@ -318,12 +318,15 @@ fn thinned(alloc: Global, numbers: &[u64], step: usize, most: usize) -> Result<V
     Ok(taken)
 }
 
-/// The numbers before the rules' ranges, and their last ones.
+/// The numbers before the rules' ranges, and their last ones. Those of either port's ranges are among each port's.
 fn ends_of(alloc: Global, rules: &[Fast], field: u8) -> Result<Vec<u64>, Memory> {
     let mut ends = Vec::new(alloc);
     let step = rules.len() / MOST_ASKED + 1;
     for rule in rules.iter().step_by(step) {
         push_limit(&mut ends, rule.limit(field))?;
+        if field == 5 || field == 6 {
+            push_limit(&mut ends, rule.ports_limit())?;
+        }
     }
     Ok(ends)
 }

@@ -88,8 +88,12 @@ impl<'a> Rows<'a> {
         ensures within { (from ≤ result) × (result ≤ to) }
         ensures clear { (place : ℕ) → from ≤ place → place < result → front_of self.now place ≡ 0 }
     {
+        // of equal lengths, so that no place is tested against each
+        let source = &self.source[..to];
+        let into = &self.destination_port[..to];
+        let out_of = &self.source_port[..to];
         let mut place = from;
-        'clear: while place < to && self.front(place) == 0 {
+        'clear: while place < to && source[place] & into[place] & out_of[place] == 0 {
             place += 1;
         }
         place
