@@ -27,3 +27,5 @@ pub mod Filtering
 pub mod Mending
 pub mod Mended
 pub mod Resizing
+pub mod Subnets
+pub mod Opening

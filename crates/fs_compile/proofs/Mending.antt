@@ -1,5 +1,5 @@
 -- An index with the rules of one destination put anew.
-use Rattle.std.proofs.Common.{◌≡◌, ℕ, ◌+◌, ◌-◌, ◌<◌, ◌≤◌, ◌⊎◌, inl, inr, sym, ap, subst, ◌∙◌, Option, None, List, [], length, get_or, arith}
+use Rattle.std.proofs.Common.{◌≡◌, ℕ, ◌+◌, ◌-◌, ◌<◌, ◌≤◌, ◌⊎◌, inl, inr, sym, ap, subst, ◌∙◌, Option, Some, None, List, [], length, get_or, arith}
 use Rattle.std.specs.List.{AllByRecursion, splice}
 use Rattle.std.proofs.lemmas.Bool.{cases_lt}
 use Rattle.std.proofs.lemmas.List.{length-map}
@@ -8,6 +8,7 @@ use Rattle.fs_base.specs.Bits.{width_of}
 use Rattle.fs_rules.specs.Lent.{Listed, all_admitted, shown_lent}
 use Rattle.fs_rules.specs.declared.lent.LentRule.{LentRule}
 use Rattle.fs_compile.specs.declared.buckets.Buckets.{Buckets}
+use Rattle.fs_compile.specs.Buckets.{IsSubnet}
 use Rattle.fs_compile.specs.Index.{AreHoused, Indexed, IsIndexOf, IsOfFamily, StandForEach, actions_of, span_of, spans_of}
 use Rattle.fs_compile.specs.Mending.{AreNarrow, AreTo, HasStretch, IsStretch, Mends, place_by}
 use Rattle.fs_compile.specs.Runs.{AreNesting}
@@ -28,6 +29,7 @@ pub sound_more : (b : Buckets) (n m : ℕ) → AreSound b n → length b.homes.i
 sound_more b n m s le = record {
   size = s.size;
   rising = s.rising;
+  subnets = s.subnets;
   nested = s.nested;
   after = s.after;
   within = s.within;
@@ -73,6 +75,10 @@ pub narrow_spliced : (family : Family) (rules news : List Listed) (from to : ℕ
     → AreNarrow (width_of family) (splice (spans_of rules) from to (spans_of news))
 narrow_spliced family rules news from to each own =
     subst (AreNarrow (width_of family)) (map_spliced (λ r. span_of r.rule) rules news from to) (narrow family (splice rules from to news) (each_spliced (IsOfFamily family) rules news from to each own))
+
+-- the rules of a destination are of a prefix
+pub subnet_to : (family : Family) (news : List Listed) (p : ℕ × ℕ) → AllByRecursion (IsOfFamily family) news → AreTo (Some p) (spans_of news) → 0 < length (spans_of news) → IsSubnet p.0 p.1
+subnet_to family news p own each some = (narrow family news own 0 p (each 0 some)).2
 
 pub nests : (family : Family) (rules : List Listed) (b : Buckets) (target : Option (ℕ × ℕ)) (from to : ℕ) (news : List Listed) → HasStretch family rules b target from to → AreSound b (length b.homes.items) → AllByRecursion (IsOfFamily family) news
     → AreTo target (spans_of news) → AreNesting (splice (spans_of rules) from to (spans_of news))

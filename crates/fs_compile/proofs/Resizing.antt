@@ -6,7 +6,7 @@ use Rattle.std.proofs.lemmas.List.{get_or-replicate, get_or_default, length-repl
 use Rattle.fs_compile.specs.declared.buckets.Buckets.{Buckets}
 use Rattle.fs_compile.specs.declared.nodes.Node.{Node}
 use Rattle.fs_compile.specs.Addresses.{numbers_in, nodes_in}
-use Rattle.fs_compile.specs.Buckets.{AreAbove, AreShifted, moved, node_at}
+use Rattle.fs_compile.specs.Buckets.{AreAbove, AreShifted, IsSubnet, moved, node_at}
 use Rattle.fs_compile.specs.Index.{AreHoused, span_at}
 use Rattle.fs_compile.specs.Mending.{AreTo, IsHolder}
 use Rattle.fs_compile.specs.Search.{AreSound}
@@ -112,6 +112,9 @@ pub sound_resized : (old new : Buckets) (n most bucket from to count : ℕ) (spa
 sound_resized old new n most bucket from to count span s h r fits = record {
   size = let a = r.nodes.size in let b = s.size in omega (arith, a, b, lasts);
   rising = λ i j less below. subst (λ xs. get_or xs i 0 ≤ get_or xs j 0) (sym r.lasts) (s.rising i j less (down below));
+  subnets = λ i below.
+      subst (λ x. IsSubnet x (get_or (numbers_in new.lasts) i 0)) (sym (first_is old new bucket from to count i r (inside i (omega (arith, below, lasts)))))
+      (subst (λ xs. IsSubnet (node_at (nodes_in old.nodes) i).first (get_or xs i 0)) (sym r.lasts) (s.subnets i (down below)));
   nested = λ i j less below meets.
       let a = first_is old new bucket from to count i r (inside i (omega (arith, less, below, lasts))) in
       let b = first_is old new bucket from to count j r (inside j (omega (arith, below, lasts))) in

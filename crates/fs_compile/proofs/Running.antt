@@ -3,7 +3,7 @@ use Rattle.std.proofs.Common.{◌≡◌, ℕ, ◌+◌, ◌-◌, ◌<◌, ◌≤�
 use Rattle.std.proofs.lemmas.Bool.{cases_lt, cases_order}
 use Rattle.std.proofs.lemmas.List.{get_or_append_left, get_or_push}
 use Rattle.fs_compile.specs.declared.nodes.Node.{Node}
-use Rattle.fs_compile.specs.Buckets.{AreBuckets, node_at}
+use Rattle.fs_compile.specs.Buckets.{AreBuckets, IsSubnet, node_at}
 use Rattle.fs_compile.specs.Runs.{AreNesting, AreNodes, ArePlain, AreRuns}
 
 longer : {X : Type 0} (xs : List X) (y : X) → length (xs ++ y ∷ []) ≡ length xs + 1
@@ -134,11 +134,12 @@ pub record AreNodesTo (firsts starts parents : List ℕ) (n : ℕ) (nodes : List
   pub each : (k : ℕ) → k < n → node_at nodes k ≡ record { first = get_or firsts k 0; start = get_or starts k 0; parent = get_or parents k 0 }
 
 -- Runs with their parents and nodes are buckets.
-pub buckets_from : (spans : List (Option (ℕ × ℕ))) (fs ls ss hs ps : List ℕ) (nodes : List (Node ℕ)) (count : ℕ) → AreNesting spans → AreRuns spans fs ls ss hs
+pub buckets_from : (spans : List (Option (ℕ × ℕ))) (fs ls ss hs ps : List ℕ) (nodes : List (Node ℕ)) (count : ℕ) → AreNesting spans → ((i : ℕ) → i < length ls → IsSubnet (get_or fs i 0) (get_or ls i 0)) → AreRuns spans fs ls ss hs
     → ArePlain fs ps 0 → AreNodes fs ss ps (length hs) nodes → length hs ≤ count → AreBuckets ls nodes hs count
-buckets_from spans fs ls ss hs ps nodes count nesting s plain made most = record {
+buckets_from spans fs ls ss hs ps nodes count nesting subnets s plain made most = record {
   size = let a : length nodes ≡ length fs + 1 = made.size in omega (arith, a, sized);
   rising = λ i j less below. nesting.rising (get_or ss i 0) (get_or ss j 0) (get_or fs i 0, get_or ls i 0) (get_or fs j 0, get_or ls j 0) (s.rising i j less below) (s.owner i (omega (arith, less, below))) (s.owner j below);
+  subnets = λ i below. subst (λ x. IsSubnet x (get_or ls i 0)) (sym (first_is i below)) (subnets i below);
   nested = λ i j less below meets. nest i j less below meets;
   after = λ i below. subst (λ x. i < x) (sym (parent_is i below)) (plain.after i (omega arith) (inside i below));
   within = λ i below. subst (λ x. x ≤ length ls) (sym (parent_is i below)) (subst (λ x. get_or ps i 0 ≤ x) sized (plain.within i (omega arith) (inside i below)));

@@ -11,10 +11,11 @@ use Rattle.fs_compile.specs.declared.buckets.Buckets.{Buckets}
 use Rattle.fs_compile.specs.Addresses.{numbers_in, nodes_in}
 use Rattle.fs_compile.specs.Buckets.{node_at}
 use Rattle.fs_compile.specs.Index.{AreHoused, IsOfFamily, span_at, span_of, spans_of}
-use Rattle.fs_compile.specs.Mending.{AreProper, AreTo, IsLeft, IsPassed, IsStretch, Mends, bucket_span, place_by, replaced, span_cmp}
+use Rattle.fs_compile.specs.Mending.{AreTo, IsLeft, IsPassed, IsStretch, Mends, bucket_span, place_by, replaced, span_cmp}
 use Rattle.fs_compile.specs.Runs.{AreNesting}
 use Rattle.fs_compile.specs.Search.{AreSound}
 use Rattle.fs_compile.proofs.Nesting.{Fits, span_proper, spans_fit}
+use Rattle.fs_compile.proofs.Subnets.{subnet_proper}
 use Rattle.fs_compile.proofs.Splicing.{ArePlaced, at_back, at_front, at_middle, filter_back, filter_front, map_spliced}
 
 pub none_some : {X : Type 0} (x : X) → None ≡ Some x → ⊥
@@ -382,10 +383,10 @@ never_both p q passed left = at (passed_before p q passed) (left_behind p q left
 pub record Passes (b : Buckets) (q : ℕ × ℕ) (same : Bool) (n : ℕ) : Type 0 where
   pub within : n ≤ length (numbers_in b.lasts)
   pub before : (i : ℕ) → i < n → IsPassed (bucket_span b i) q same
-  pub behind : (k : ℕ) → k < length b.homes.items → n ≤ get_or b.homes.items k 0 → IsLeft (span_at b k) q same
+  pub behind : (i : ℕ) → n ≤ i → i < length (numbers_in b.lasts) → IsLeft (bucket_span b i) q same
 
 pub stretch_at : (b : Buckets) (count k n m : ℕ) (q : ℕ × ℕ) → AreSound b count → Passes b q false n → Passes b q true m → (node_at (nodes_in b.nodes) n).start ≤ k → k < (node_at (nodes_in b.nodes) m).start → span_cmp (span_at b k) q ≡ Equal
-stretch_at b count k n m q sound h g le less = between (span_at b k) q (h.behind k below (home_over b count n k sound h.within below le)) (g.before (home_of b k) (home_under b count m k sound g.within less)) where
+stretch_at b count k n m q sound h g le less = between (span_at b k) q (h.behind (home_of b k) (home_over b count n k sound h.within below le) (sound.home k below)) (g.before (home_of b k) (home_under b count m k sound g.within less)) where
   below : k < length b.homes.items
   below = let a : start_of b m ≤ length b.homes.items = start_within b count m sound g.within in omega (arith, less, a)
 
@@ -397,39 +398,36 @@ stretch_ordered b count n m q sound h g = at (cases_lt (start_of b m) (start_of 
       let a : start_of b n ≤ length b.homes.items = start_within b count n sound h.within in
       let below : start_of b m < length b.homes.items = omega (arith, less, a) in
       absurd (never_both (span_at b (start_of b m)) q (h.before (home_of b (start_of b m)) (home_under b count n (start_of b m) sound h.within less))
-      (g.behind (start_of b m) below (home_over b count m (start_of b m) sound g.within below (omega arith))))
+      (g.behind (home_of b (start_of b m)) (home_over b count m (start_of b m) sound g.within below (omega arith)) (sound.home (start_of b m) below)))
+
+pub stretch_before : (b : Buckets) (count k n : ℕ) (q : ℕ × ℕ) → AreSound b count → Passes b q false n → k < start_of b n → span_cmp (span_at b k) q ≡ Less
+stretch_before b count k n q sound h less = of_before (span_at b k) q (passed_before (span_at b k) q (h.before (home_of b k) (home_under b count n k sound h.within less)))
+
+pub stretch_behind : (b : Buckets) (count k m : ℕ) (q : ℕ × ℕ) → AreSound b count → Passes b q true m → k < length b.homes.items → start_of b m ≤ k → span_cmp (span_at b k) q ≡ Greater
+stretch_behind b count k m q sound g below le = of_behind (span_at b k) q (left_behind (span_at b k) q (g.behind (home_of b k) (home_over b count m k sound g.within below le) (sound.home k below)))
 
 -- what is left stays so
-pub left_on : (b : Buckets) (count i k : ℕ) (q : ℕ × ℕ) (same : Bool) → AreSound b count → AreProper b → i < length (numbers_in b.lasts) → k < length b.homes.items → i ≤ get_or b.homes.items k 0
-    → IsLeft (bucket_span b i) q same → IsLeft (span_at b k) q same
-left_on b count i k q same sound proper within below le left = at (cases_order i (home_of b k)) where
-  at : (i ≡ home_of b k) ⊎ ((i < home_of b k) ⊎ (home_of b k < i)) → IsLeft (span_at b k) q same
-  at (inl is) = subst (λ n. IsLeft (bucket_span b n) q same) is left
-  at (inr (inr more)) = absurd (omega (arith, le, more))
-  at (inr (inl less)) = by left where
-    home : home_of b k < length (numbers_in b.lasts)
-    home = sound.home k below
+pub left_on : (b : Buckets) (count i j : ℕ) (q : ℕ × ℕ) (same : Bool) → AreSound b count → j < length (numbers_in b.lasts) → i ≤ j → IsLeft (bucket_span b i) q same → IsLeft (bucket_span b j) q same
+left_on b count i j q same sound within le left = at (cases_lt i j) where
+  at : (i < j) ⊎ (j ≤ i) → IsLeft (bucket_span b j) q same
+  at (inr past) = let is : i ≡ j = omega (arith, le, past) in subst (λ n. IsLeft (bucket_span b n) q same) is left
+  at (inl less) = by left where
+    rises : get_or (numbers_in b.lasts) i 0 ≤ get_or (numbers_in b.lasts) j 0
+    rises = sound.rising i j less within
 
-    rises : get_or (numbers_in b.lasts) i 0 ≤ get_or (numbers_in b.lasts) (home_of b k) 0
-    rises = sound.rising i (home_of b k) less home
-
-    by : IsLeft (bucket_span b i) q same → IsLeft (span_at b k) q same
+    by : IsLeft (bucket_span b i) q same → IsLeft (bucket_span b j) q same
     by (inl more) = let a : q.1 < get_or (numbers_in b.lasts) i 0 = more in inl (omega (arith, a, rises))
-    by (inr tied) = ends (cases_lt (get_or (numbers_in b.lasts) i 0) (get_or (numbers_in b.lasts) (home_of b k) 0)) where
+    by (inr tied) = ends (cases_lt (get_or (numbers_in b.lasts) i 0) (get_or (numbers_in b.lasts) j 0)) where
       last : q.1 ≡ get_or (numbers_in b.lasts) i 0
       last = tied.0
 
-      ends : (get_or (numbers_in b.lasts) i 0 < get_or (numbers_in b.lasts) (home_of b k) 0) ⊎ (get_or (numbers_in b.lasts) (home_of b k) 0 ≤ get_or (numbers_in b.lasts) i 0) → IsLeft (span_at b k) q same
+      ends : (get_or (numbers_in b.lasts) i 0 < get_or (numbers_in b.lasts) j 0) ⊎ (get_or (numbers_in b.lasts) j 0 ≤ get_or (numbers_in b.lasts) i 0) → IsLeft (bucket_span b j) q same
       ends (inl later) = inl (omega (arith, last, later))
       ends (inr past) =
-          let own : (node_at (nodes_in b.nodes) (home_of b k)).first ≤ get_or (numbers_in b.lasts) (home_of b k) 0 = proper k below in
-          let inner : (node_at (nodes_in b.nodes) (home_of b k)).first ≤ (node_at (nodes_in b.nodes) i).first = sound.nested i (home_of b k) less home (omega (arith, own, past)) in
+          let own = subnet_proper (node_at (nodes_in b.nodes) j).first (get_or (numbers_in b.lasts) j 0) (sound.subnets j within) in
+          let inner : (node_at (nodes_in b.nodes) j).first ≤ (node_at (nodes_in b.nodes) i).first = sound.nested i j less within (omega (arith, own, past)) in
           let out : (node_at (nodes_in b.nodes) i).first + (if same then 1 else 0) ≤ q.0 = tied.1 in
           inr (omega (arith, last, past, rises), omega (arith, inner, out))
-
--- the bucket of no rule ends before it begins
-pub proper_housed : (family : Family) (rules : List Listed) (b : Buckets) → AllByRecursion (IsOfFamily family) rules → AreHoused (spans_of rules) b → AreProper b
-proper_housed family rules b each housed = λ k below. proper_at family rules k (span_at b k) each (housed.homed k below)
 
 -- A stretch of the buckets is one of the rules.
 pub stretch_some : (xs : List (Option (ℕ × ℕ))) (b : Buckets) (q : ℕ × ℕ) (from to : ℕ) → AreHoused xs b → length b.homes.items ≤ length xs → from ≤ to → to ≤ length b.homes.items

@@ -1,4 +1,4 @@
--- The addresses of a rule's destination have the width of its family.
+-- The addresses of a rule's destination are those of a prefix, and have the width of its family.
 use Rattle.std.proofs.Common.{◌≡◌, ◌∙◌, ℕ, zero, suc, ◌+◌, ◌-◌, ◌^◌, ◌<◌, ◌≤◌, sym, subst, Some, None, List, [], ◌∷◌, pow_pos, arith}
 use Rattle.std.specs.List.{AllByRecursion}
 use Rattle.fs_base.specs.declared.prefix.Family.{Family}
@@ -6,6 +6,7 @@ use Rattle.fs_base.specs.Bits.{IsBlock, width_of, block_of}
 use Rattle.fs_nlri.proofs.Destination.{IsMade}
 use Rattle.fs_order.specs.Laws.{last_shown}
 use Rattle.fs_rules.specs.Lent.{Listed}
+use Rattle.fs_compile.specs.Buckets.{IsSubnet}
 use Rattle.fs_compile.specs.Index.{IsOfFamily, span_of, spans_of}
 use Rattle.fs_compile.specs.Mending.{AreNarrow}
 use Rattle.fs_compile.proofs.Reaching.{HasDestination, family_of_destination, from_span, made_destination}
@@ -13,8 +14,8 @@ use Rattle.fs_compile.proofs.Reaching.{HasDestination, family_of_destination, fr
 none_some : {X : Type 0} (x : X) → None ≡ Some x → ⊥
 none_some x e = absurd cc
 
-span_narrow : (family : Family) (r : Listed) (s : ℕ × ℕ) → IsOfFamily family r → span_of r.rule ≡ Some s → (s.0 < 2 ^ width_of family) × (s.1 < 2 ^ width_of family)
-span_narrow family r s own e = subst (λ (x : ℕ × ℕ). (x.0 < 2 ^ width_of family) × (x.1 < 2 ^ width_of family)) (sym from.span) (subst (λ f. (from.d.1 < 2 ^ width_of f) × (last_shown from.d < 2 ^ width_of f)) same below) where
+span_narrow : (family : Family) (r : Listed) (s : ℕ × ℕ) → IsOfFamily family r → span_of r.rule ≡ Some s → (s.0 < 2 ^ width_of family) × (s.1 < 2 ^ width_of family) × IsSubnet s.0 s.1
+span_narrow family r s own e = subst (λ (x : ℕ × ℕ). (x.0 < 2 ^ width_of family) × (x.1 < 2 ^ width_of family) × IsSubnet x.0 x.1) (sym from.span) (subst (λ f. (from.d.1 < 2 ^ width_of f) × (last_shown from.d < 2 ^ width_of f) × IsSubnet from.d.1 (last_shown from.d)) same below) where
   from : HasDestination r.rule s
   from = from_span r.rule s e
 
@@ -27,11 +28,11 @@ span_narrow family r s own e = subst (λ (x : ℕ × ℕ). (x.0 < 2 ^ width_of f
   block : IsBlock (width_of from.d.0) from.d.2 from.d.1
   block = block_of (width_of from.d.0) from.d.2 from.d.1 made.0 made.1
 
-  below : (from.d.1 < 2 ^ width_of from.d.0) × (last_shown from.d < 2 ^ width_of from.d.0)
+  below : (from.d.1 < 2 ^ width_of from.d.0) × (last_shown from.d < 2 ^ width_of from.d.0) × IsSubnet from.d.1 (last_shown from.d)
   below =
       let within : from.d.1 + 2 ^ (width_of from.d.0 - from.d.2) ≤ 2 ^ width_of from.d.0 = block.within in
       let some : 0 < 2 ^ (width_of from.d.0 - from.d.2) = pow_pos (width_of from.d.0 - from.d.2) in
-      (omega (arith, within, some), omega (arith, within, some))
+      (omega (arith, within, some), omega (arith, within, some), record { count = block.count; host = width_of from.d.0 - from.d.2; begins = block.spelled; ends = omega (arith, some) })
 
 pub narrow : (family : Family) (rs : List Listed) → AllByRecursion (IsOfFamily family) rs → AreNarrow (width_of family) (spans_of rs)
 narrow family [] each k s e = absurd (none_some s e)

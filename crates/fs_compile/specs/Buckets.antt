@@ -1,5 +1,5 @@
 -- Destinations as intervals of addresses, in the order of their last addresses, with the runs of rules that have them.
-use Rattle.std.specs.Prelude.{◌≡◌, ℕ, ◌+◌, ◌-◌, ◌^◌, ◌<◌, ◌≤◌, List, length, get_or}
+use Rattle.std.specs.Prelude.{◌≡◌, ℕ, ◌+◌, ◌-◌, ◌*◌, ◌%◌, ◌^◌, ◌<◌, ◌≤◌, List, length, get_or}
 use Rattle.fs_compile.specs.declared.nodes.Node.{Node}
 
 abbrev pub AreRising : List ℕ → Type 0
@@ -8,11 +8,19 @@ AreRising xs = (i j : ℕ) → i < j → j < length xs → get_or xs i 0 ≤ get
 abbrev pub node_at : List (Node ℕ) → ℕ → Node ℕ
 node_at nodes i = get_or nodes i (record { first = 0; start = 0; parent = 0 })
 
+-- the first and the last address of a prefix, of so many host bits
+pub record IsSubnet (first last : ℕ) : Type 0 where
+  pub count : ℕ
+  pub host : ℕ
+  pub begins : first ≡ count * 2 ^ host
+  pub ends : last + 1 ≡ first + 2 ^ host
+
 -- Of buckets by their last addresses and nodes, with the bucket of each rule that has one, of so many rules. The node
 -- behind the last begins where the rules without a bucket do.
 pub record AreBuckets (lasts : List ℕ) (nodes : List (Node ℕ)) (homes : List ℕ) (count : ℕ) : Type 0 where
   pub size : length nodes ≡ length lasts + 1
   pub rising : AreRising lasts
+  pub subnets : (i : ℕ) → i < length lasts → IsSubnet (node_at nodes i).first (get_or lasts i 0)
   -- one that begins before an earlier one ends begins no later than that
   pub nested : (i j : ℕ) → i < j → j < length lasts
       → (node_at nodes j).first ≤ get_or lasts i 0 → (node_at nodes j).first ≤ (node_at nodes i).first
@@ -44,3 +52,43 @@ pub record AreShifted {K : Type 0} (from down up : ℕ) (old new : List (Node K)
   pub size : length new ≡ length old
   pub front : (k : ℕ) (d : Node K) → k < from → get_or new k d ≡ get_or old k d
   pub back : (k : ℕ) (d : Node K) → from ≤ k → k < length old → get_or new k d ≡ moved down up (get_or old k d)
+
+-- The node of a number before a place, whose parent is named anew where another is put there. Those before `low` lie
+-- before that one, the others within it.
+pub record IsHanded {K : Type 0} (place low number : ℕ) (old new : Node K) : Type 0 where
+  pub first : new.first ≡ old.first
+  pub start : new.start ≡ old.start
+  pub near : old.parent < place → new.parent ≡ old.parent
+  pub over : place ≤ old.parent → number < low → new.parent ≡ (old.parent + 1) % 2 ^ 32
+  pub within : place ≤ old.parent → low ≤ number → new.parent ≡ place
+
+-- the first nodes' parents are named anew
+pub record AreHanded {K : Type 0} (place low to : ℕ) (old new : List (Node K)) : Type 0 where
+  pub size : length new ≡ length old
+  pub done : (k : ℕ) (d : Node K) → k < to → IsHanded place low k (get_or old k d) (get_or new k d)
+  pub rest : (k : ℕ) (d : Node K) → to ≤ k → get_or new k d ≡ get_or old k d
+
+-- a node behind a place at which another with so many rules is put
+abbrev pub moved_on : {K : Type 0} → (count : ℕ) → Node K → Node K
+moved_on count node = record { first = node.first; start = node.start + count; parent = (node.parent + 1) % 2 ^ 32 }
+
+-- the nodes from a place on before another stand behind one that is put there
+pub record AreMovedOn {K : Type 0} (from to count : ℕ) (old new : List (Node K)) : Type 0 where
+  pub size : length new ≡ length old
+  pub front : (k : ℕ) (d : Node K) → k < from → get_or new k d ≡ get_or old k d
+  pub done : (k : ℕ) (d : Node K) → from ≤ k → k < to → get_or new k d ≡ moved_on count (get_or old k d)
+  pub rest : (k : ℕ) (d : Node K) → to ≤ k → get_or new k d ≡ get_or old k d
+
+-- the nodes with one more at a place, of so many rules
+pub record AreOpened {K : Type 0} (place low count : ℕ) (node : Node K) (old new : List (Node K)) : Type 0 where
+  pub size : length new ≡ length old + 1
+  pub front : (k : ℕ) (d : Node K) → k < place → IsHanded place low k (get_or old k d) (get_or new k d)
+  pub at : (d : Node K) → get_or new place d ≡ node
+  pub back : (k : ℕ) (d : Node K) → place ≤ k → k < length old → get_or new (k + 1) d ≡ moved_on count (get_or old k d)
+
+-- each number from one place on before another is one more
+pub record AreRaised (from to : ℕ) (old new : List ℕ) : Type 0 where
+  pub size : length new ≡ length old
+  pub front : (k : ℕ) → k < from → get_or new k 0 ≡ get_or old k 0
+  pub done : (k : ℕ) → from ≤ k → k < to → get_or new k 0 ≡ get_or old k 0 + 1
+  pub rest : (k : ℕ) → to ≤ k → get_or new k 0 ≡ get_or old k 0

@@ -1,5 +1,5 @@
 -- Rules of one destination put anew among others.
-use Rattle.std.specs.Prelude.{◌≡◌, ◌≢◌, ◌⊎◌, ℕ, ◌+◌, ◌-◌, ◌^◌, ◌<◌, ◌≤◌, ◌++◌, Bool, if◌then◌else◌, Option, Some, None, option_map, List, length, get_or, filter}
+use Rattle.std.specs.Prelude.{◌≡◌, ◌≢◌, ◌⊎◌, ℕ, ◌+◌, ◌-◌, ◌^◌, ◌<◌, ◌≤◌, ◌++◌, Bool, false, if◌then◌else◌, Option, Some, None, option_map, List, length, get_or, filter}
 use Rattle.std.specs.List.{AllByRecursion}
 use Rattle.std.specs.Ordering.{is_gt, is_lt, nat_cmp, ordering_then}
 use Rattle.std.specs.declared.cmp.Ordering.{Ordering}
@@ -10,18 +10,18 @@ use Rattle.fs_base.specs.declared.prefix.Prefix.{Prefix}
 use Rattle.fs_nlri.specs.Rule.{shown}
 use Rattle.fs_rules.specs.Lent.{Listed}
 use Rattle.fs_compile.specs.declared.buckets.Buckets.{Buckets}
-use Rattle.fs_compile.specs.Addresses.{numbers_in, nodes_in}
-use Rattle.fs_compile.specs.Buckets.{node_at}
+use Rattle.fs_compile.specs.Addresses.{node_width, nodes_in, numbers_in, width_in}
+use Rattle.fs_compile.specs.Buckets.{IsSubnet, node_at}
 use Rattle.fs_compile.specs.Index.{AreHoused, IsOfFamily, span_at, span_by, span_of, spans_of}
 
 -- each rule has a destination
 abbrev pub AreAll : List (Option (ℕ × ℕ)) → Type 0
 AreAll spans = (k : ℕ) → k < length spans → get_or spans k None ≢ None
 
--- the addresses have so many bits
+-- the addresses are those of prefixes, and have so many bits
 abbrev pub AreNarrow : (width : ℕ) → List (Option (ℕ × ℕ)) → Type 0
 AreNarrow width spans =
-    (k : ℕ) (p : ℕ × ℕ) → get_or spans k None ≡ Some p → (p.0 < 2 ^ width) × (p.1 < 2 ^ width)
+    (k : ℕ) (p : ℕ × ℕ) → get_or spans k None ≡ Some p → (p.0 < 2 ^ width) × (p.1 < 2 ^ width) × IsSubnet p.0 p.1
 
 -- from a place on stand rules of these buckets, those from one number on before another
 abbrev pub Keeps : Buckets → (from to place : ℕ) → List (Option (ℕ × ℕ)) → Type 0
@@ -67,10 +67,6 @@ replaced target news rules =
 abbrev pub bucket_span : Buckets → ℕ → ℕ × ℕ
 bucket_span b i = ((node_at (nodes_in b.nodes) i).first, get_or (numbers_in b.lasts) i 0)
 
--- the bucket of no rule ends before it begins
-abbrev pub AreProper : Buckets → Type 0
-AreProper b = (k : ℕ) → k < length b.homes.items → (span_at b k).0 ≤ (span_at b k).1
-
 -- the one stands before the other, or may be the same
 abbrev pub IsPassed : ℕ × ℕ → ℕ × ℕ → (same : Bool) → Type 0
 IsPassed p q same = (p.1 < q.1) ⊎ ((p.1 ≡ q.1) × (q.0 < p.0 + (if same then 1 else 0)))
@@ -106,6 +102,16 @@ pub record IsHolder (b : Buckets) (bucket : ℕ) (span : ℕ × ℕ) (from to : 
   pub last : get_or (numbers_in b.lasts) bucket 0 ≡ span.1
   pub start : (node_at (nodes_in b.nodes) bucket).start ≡ from
   pub end : (node_at (nodes_in b.nodes) (bucket + 1)).start ≡ to
+
+-- a bucket of these addresses can be put at the place, where its rules stand from the number on
+pub record IsGap (b : Buckets) (bucket : ℕ) (span : ℕ × ℕ) (from : ℕ) : Type 0 where
+  pub within : bucket ≤ length (numbers_in b.lasts)
+  pub few : length (numbers_in b.lasts) + 1 < 2 ^ 32
+  pub first : span.0 < 2 ^ node_width b.nodes
+  pub last : span.1 < 2 ^ width_in b.lasts
+  pub start : (node_at (nodes_in b.nodes) bucket).start ≡ from
+  pub before : (i : ℕ) → i < bucket → IsPassed (bucket_span b i) span false
+  pub behind : (i : ℕ) → bucket ≤ i → i < length (numbers_in b.lasts) → IsLeft (bucket_span b i) span false
 
 -- the buckets of these rules of the family, of which those from one number on before another have the destination
 pub record HasStretch (family : Family) (rules : List Listed) (b : Buckets) (target : Option (ℕ × ℕ)) (from to : ℕ)

@@ -1,6 +1,7 @@
 //! Lists of addresses, in the width of their family.
 
 ghost use Rattle.std.specs.Prelude.{◌≡◌, ◌<◌, ◌≤◌, ◌+◌, ◌^◌, ◌++◌, ◌∷◌, [], ℕ, IsTrue, IfOk, OnOk, get_or, length};
+ghost use Rattle.std.specs.List.{insert};
 ghost use Rattle.fs_base.specs.Bits.{width_of};
 ghost use Rattle.fs_compile.specs.Addresses.{numbers_in, width_in};
 ghost use Rattle.fs_compile.specs.Between.{IsBetween};
@@ -62,6 +63,29 @@ impl Addresses {
         match self {
             Addresses::V4(items) => items.push(address as u32)?,
             Addresses::V6(items) => items.push(address)?,
+        }
+        Ok(())
+    }
+
+    /// Whether the address has the width of the others.
+    pub(crate) fn fits(&self, address: u128) -> bool
+        ensures { IsTrue result → address < 2 ^ width_in self.now }
+    {
+        match self {
+            Addresses::V4(_) => address < 1 << 32,
+            Addresses::V6(_) => true,
+        }
+    }
+
+    /// Puts an address, which has the width of the others, at a place.
+    pub(crate) fn insert(&mut self, place: usize, address: u128) -> Result<(), Memory>
+        requires within { place ≤ length (numbers_in self.old) }
+        requires width { address < 2 ^ width_in self.old }
+        ensures { OnOk result (numbers_in self.new ≡ insert (numbers_in self.old) place address) }
+    {
+        match self {
+            Addresses::V4(items) => items.insert(place, address as u32)?,
+            Addresses::V6(items) => items.insert(place, address)?,
         }
         Ok(())
     }

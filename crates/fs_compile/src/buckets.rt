@@ -6,18 +6,22 @@ ghost use Rattle.std.specs.List.{AllByRecursion, splice};
 ghost use Rattle.fs_base.specs.Bits.{width_of};
 ghost use Rattle.fs_rules.specs.Lent.{all_admitted};
 ghost use Rattle.fs_compile.specs.Addresses.{nodes_in, numbers_in};
+ghost use Rattle.fs_compile.specs.Buckets.{AreRaised, IsSubnet, node_at};
 ghost use Rattle.fs_compile.specs.Index.{AreHoused, IsOfFamily, span_at, spans_of};
-ghost use Rattle.fs_compile.specs.Mending.{AreAll, AreNarrow, AreProper, AreTo, IsHolder, IsLeft, IsPassed, Mends, bucket_span, span_cmp};
+ghost use Rattle.fs_compile.specs.Mending.{AreAll, AreNarrow, AreTo, IsGap, IsHolder, IsLeft, IsPassed, Mends, bucket_span, span_cmp};
 ghost use Rattle.fs_compile.specs.Runs.{AreNesting, RunsOf};
 ghost use Rattle.fs_compile.specs.Search.{AreSound};
 
 use crate::addresses::Addresses;
 use crate::marks::Marks;
-use crate::nodes::Nodes;
+use crate::nodes::{Node, Nodes};
 use crate::runs::{Runs, mended_runs, nodes_of, parents_of, runs_of};
 use fs_base::{Family, Memory};
 use fs_rules::LentRule;
 use std::alloc::Global;
+
+/// The most buckets, of which each has a number of 32 bits, as has the one behind the last.
+const MOST: usize = 0xffff_fffe;
 
 /// The buckets of a family's rules: the runs of rules that have one destination. Buckets are in the order of their
 /// destinations, so that of nested ones the longer stands first and last addresses rise. One whose rules all went may
@@ -38,7 +42,6 @@ impl Buckets {
     /// The numbers from which on and before which the rules stand that have a destination of these addresses.
     pub(crate) fn stretch(&self, first: u128, last: u128) -> (usize, usize)
         requires sound { (count : ℕ) × AreSound self.now count }
-        requires proper { AreProper self.now }
         ensures ordered { result.0 ≤ result.1 }
         ensures within { result.1 ≤ length self.now.homes.items }
         ensures before { (k : ℕ) → k < result.0 → span_cmp (span_at self.now k) (first, last) ≡ Less }
@@ -59,21 +62,105 @@ impl Buckets {
         )
     }
 
-    /// The bucket of these addresses, if its rules are those from one number on before the other. None also where most
-    /// buckets have no rule any more, so that it's time to make them anew.
+    /// Whether most buckets have no rule any more, so that it's time to make them anew.
+    fn are_sparse(&self) -> bool {
+        self.lasts.len() / 2 > self.homes.len()
+    }
+
+    /// The bucket of these addresses, if its rules are those from one number on before the other. None also where the
+    /// buckets are sparse.
     pub(crate) fn holder(&self, first: u128, last: u128, from: usize, to: usize) -> Option<usize>
         requires sound { (count : ℕ) × AreSound self.now count }
-        requires proper { AreProper self.now }
         ensures { IfSome result (λ bucket. IsHolder self.now bucket (first, last) from to) }
     {
         let bucket = self.passed(first, last, false);
-        if bucket == self.lasts.len() || self.lasts.len() / 2 > self.homes.len() {
+        if bucket == self.lasts.len() || self.are_sparse() {
             return None;
         }
         let node = self.nodes.at(bucket);
         let end = self.nodes.at(bucket + 1).start as usize;
         let same = node.first == first && self.lasts.at(bucket) == last;
         (same && node.start as usize == from && end == to).then_some(bucket)
+    }
+
+    /// The place of a bucket of these addresses among the others, if no rules have them and theirs would stand from this
+    /// number on. None also where the buckets are sparse, or as many as can be named.
+    pub(crate) fn gap(&self, first: u128, last: u128, from: usize, to: usize) -> Option<usize>
+        requires { (count : ℕ) × AreSound self.now count }
+        ensures { IfSome result (λ bucket. IsGap self.now bucket (first, last) from × (to ≡ from)) }
+    {
+        let bucket = self.passed(first, last, false);
+        let fits = self.nodes.fits(first) && self.lasts.fits(last) && self.lasts.len() < MOST;
+        let none = from == to && self.nodes.at(bucket).start as usize == from;
+        (fits && none && !self.are_sparse()).then_some(bucket)
+    }
+
+    /// The buckets with one more of these addresses at a place, which has so many rules, from a number on.
+    pub(crate) fn opened(
+        self,
+        alloc: Global,
+        bucket: usize,
+        span: (u128, u128),
+        from: usize,
+        count: usize,
+    ) -> Result<Buckets, Memory>
+        requires sound { AreSound self (length self.homes.items) }
+        requires subnet { IsSubnet span.0 span.1 }
+        requires gap { IsGap self bucket span from }
+        requires fits { count + length self.homes.items < 2 ^ 32 }
+        ensures sound { IfOk result (λ new.
+            (most : ℕ) → count + length self.homes.items ≤ most → AreSound new most) }
+        ensures housed { IfOk result (λ new.
+            (spans news : List (Option (ℕ × ℕ)))
+            → AreHoused spans self
+            → length self.homes.items ≤ length spans
+            → AreTo (Some span) news
+            → length news ≡ count
+            → AreHoused (splice spans from from news) new) }
+    {
+        let low = self.lasts.find(span.0);
+        let parent = self.first_over(bucket, span.0);
+        let node = Node {
+            first: span.0,
+            start: from as u32,
+            parent: parent as u32 + 1,
+        };
+        let mut lasts = self.lasts;
+        let mut nodes = self.nodes;
+        let mut homes = self.homes;
+        lasts.insert(bucket, span.1)?;
+        nodes.open(bucket, low, node, count as u32)?;
+        raise(&mut homes, from);
+        put_between(
+            &mut homes,
+            from,
+            from,
+            vec![in alloc; bucket as u32; count]?,
+        )?;
+        let marks = Marks::of(alloc, &lasts)?;
+        Ok(Buckets {
+            lasts,
+            marks,
+            nodes,
+            homes,
+        })
+    }
+
+    /// The first bucket from one on that begins no later than the address, or how many there are.
+    fn first_over(&self, bucket: usize, first: u128) -> usize
+        requires sound { (count : ℕ) × AreSound self.now count }
+        requires within { bucket ≤ length (numbers_in self.now.lasts) }
+        ensures within { (bucket ≤ result) × (result ≤ length (numbers_in self.now.lasts)) }
+        ensures least { (j : ℕ)
+            → bucket ≤ j
+            → j < result
+            → first < (node_at (nodes_in self.now.nodes) j).first }
+    {
+        let mut parent = bucket;
+        while parent < self.lasts.len() && first < self.nodes.at(parent).first {
+            parent = self.nodes.at(parent).parent as usize;
+        }
+        parent
     }
 
     /// The buckets with so many rules in a bucket, in the place of those from the number `from` on before `to`.
@@ -115,13 +202,12 @@ impl Buckets {
     /// How many buckets stand before these addresses, with those that have them or without.
     fn passed(&self, first: u128, last: u128, same: bool) -> usize
         requires sound { (count : ℕ) × AreSound self.now count }
-        requires proper { AreProper self.now }
         ensures within { result ≤ length (numbers_in self.now.lasts) }
         ensures before { (b : ℕ) → b < result → IsPassed (bucket_span self.now b) (first, last) same }
-        ensures behind { (k : ℕ)
-            → k < length self.now.homes.items
-            → result ≤ get_or self.now.homes.items k 0
-            → IsLeft (span_at self.now k) (first, last) same }
+        ensures behind { (b : ℕ)
+            → result ≤ b
+            → b < length (numbers_in self.now.lasts)
+            → IsLeft (bucket_span self.now b) (first, last) same }
     {
         let mut bucket = self.lasts.find(last);
         while bucket < self.lasts.len() && self.passes(bucket, first, last, same) {
@@ -221,6 +307,16 @@ fn buckets_with(alloc: Global, family: Family, runs: Runs) -> Result<Buckets, Me
         nodes,
         homes: runs.homes,
     })
+}
+
+/// Adds one to each number from a place on.
+fn raise(numbers: &mut [u32], from: usize)
+    requires { (k : ℕ) → k < length numbers.old → get_or numbers.old k 0 + 1 < 2 ^ 32 }
+    ensures { AreRaised from (length numbers.old) numbers.old numbers.new }
+{
+    for place in from..numbers.len() {
+        numbers[place] += 1;
+    }
 }
 
 /// Puts these in the place of the elements from one on before another.

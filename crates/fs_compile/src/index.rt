@@ -125,7 +125,6 @@ impl Index {
 
     /// The numbers from which on and before which the rules of the destination stand, or those without one.
     fn stretch(&self, destination: Option<Prefix>) -> (usize, usize)
-        requires some { (family : Family) × (rules : List Listed) × IsIndexOf family rules self.now }
         ensures stretch { (family : Family) (rules : List Listed)
             → IsIndexOf family rules self.now
             → IsStretch (spans_of rules) (target_of destination) result.0 result.1 }
@@ -293,8 +292,12 @@ fn mended(
     if list.len() == to - from {
         return Ok(old);
     }
-    match old.holder(destination.bits, destination.last(), from, to) {
-        Some(bucket) => old.resized(alloc, bucket, from, to, list.len()),
+    let (first, last) = (destination.bits, destination.last());
+    if let Some(bucket) = old.holder(first, last, from, to) {
+        return old.resized(alloc, bucket, from, to, list.len());
+    }
+    match old.gap(first, last, from, to) {
+        Some(bucket) => old.opened(alloc, bucket, (first, last), from, list.len()),
         None => mended_buckets(alloc, family, &old, from, to, list),
     }
 }

@@ -1,5 +1,6 @@
-use Rattle.std.proofs.Common.{ℕ, List, get_or, length, refl, subst, arith}
+use Rattle.std.proofs.Common.{ℕ, ◌<◌, List, get_or, length, refl, subst, arith}
 use Rattle.fs_compile.specs.Addresses.{numbers_in, nodes_in}
+use Rattle.fs_compile.specs.Buckets.{IsSubnet}
 use Rattle.fs_compile.specs.Runs.{AreNodes, ArePlain}
 use Rattle.fs_compile.proofs.Indexing.{housed_from}
 use Rattle.fs_compile.proofs.Running.{buckets_from}
@@ -8,7 +9,10 @@ use Rattle.fs_compile.proofs.buckets.buckets_with.Goals as goal
 pub returns-clause-sound : goal.returns-clause-sound
 returns-clause-sound c = λ count few.
     buckets_from c.requires.some.0 c.args.runs.firsts.items (numbers_in c.args.runs.lasts) c.args.runs.starts.items c.args.runs.homes.items c.in_ok-parents.parents.items
-    (nodes_in c.in_ok-nodes.nodes) count c.requires.some.3 c.requires.some.1 plain made few where
+    (nodes_in c.in_ok-nodes.nodes) count c.requires.some.3 subnets c.requires.some.1 plain made few where
+      subnets : (i : ℕ) → i < length (numbers_in c.args.runs.lasts) → IsSubnet (get_or c.args.runs.firsts.items i 0) (get_or (numbers_in c.args.runs.lasts) i 0)
+      subnets i below = (c.requires.some.2 (get_or c.args.runs.starts.items i 0) (get_or c.args.runs.firsts.items i 0, get_or (numbers_in c.args.runs.lasts) i 0) (c.requires.some.1.owner i below)).2
+
       plain : ArePlain c.args.runs.firsts.items c.in_ok-parents.parents.items 0
       plain = subst (λ (xs : List ℕ). ArePlain xs c.in_ok-parents.parents.items 0) c.deref.ensures.value c.in_ok-parents.ensures.plain
 

@@ -2,10 +2,10 @@ use Rattle.std.proofs.Common.{◌≡◌, ℕ, ◌≤◌, Option, Some, is_some, 
 use Rattle.std.proofs.lemmas.Result.{IfOk-weaker}
 use Rattle.std.specs.List.{splice}
 use Rattle.fs_rules.specs.Lent.{all_admitted}
-use Rattle.fs_compile.specs.Index.{spans_of}
+use Rattle.fs_compile.specs.Index.{AreHoused, spans_of}
 use Rattle.fs_compile.specs.Mending.{AreTo, HasStretch, target_of}
-use Rattle.fs_compile.proofs.Mending.{mends, narrow_spliced, nests, none_housed, none_sound, rules_size, same_housed, same_sound, spans_size}
-use Rattle.fs_compile.proofs.Stretching.{proper_housed, rest_bare}
+use Rattle.fs_compile.proofs.Mending.{mends, narrow_spliced, nests, none_housed, none_sound, rules_size, same_housed, same_sound, spans_size, subnet_to}
+use Rattle.fs_compile.proofs.Stretching.{rest_bare}
 use Rattle.fs_compile.proofs.index.mended.Goals as goal
 
 pub returns-in_default-clause-sound : goal.returns-in_default-clause-sound
@@ -28,12 +28,6 @@ returns-then-list-to-clause-housed c = λ rules h.
     same_housed c.args.family rules c.args.old (target_of c.args.destination) c.args.from c.args.to (spans_of (all_admitted c.args.list.now)) h c.requires.there
     (omega (arith, c.if-list-to.true, spans_size c.args.list.now))
 
-pub holder-requires-clause-sound : goal.holder-requires-clause-sound
-holder-requires-clause-sound c = (length c.args.old.homes.items, c.requires.sound)
-
-pub holder-requires-clause-proper : goal.holder-requires-clause-proper
-holder-requires-clause-proper c = proper_housed c.args.family c.requires.some.0 c.args.old c.requires.some.1.each c.requires.some.1.housed
-
 pub mended_buckets-requires-clause-some : goal.mended_buckets-requires-clause-some
 mended_buckets-requires-clause-some c = (
   splice (spans_of c.requires.some.0) c.args.from c.args.to (spans_of (all_admitted c.args.list.now)),
@@ -48,13 +42,31 @@ returns-in-Some-holder-clause-sound c = IfOk-weaker c.resized.result _ _ (λ new
 pub returns-in-Some-holder-clause-housed : goal.returns-in-Some-holder-clause-housed
 returns-in-Some-holder-clause-housed c = IfOk-weaker c.resized.result _ _
     (λ new housed. λ rules h.
-    housed (c.in-Some.destination.bits, c.last.result) (spans_of rules) (spans_of (all_admitted c.args.list.now)) c.in-Some-holder.ensures h.housed (let w = h.whole in omega (arith, w, rules_size rules)) there (spans_size c.args.list.now))
+    housed (c.in-Some.destination.bits, c.last-last.result) (spans_of rules) (spans_of (all_admitted c.args.list.now)) c.in-Some-holder.ensures h.housed (let w = h.whole in omega (arith, w, rules_size rules)) there (spans_size c.args.list.now))
     c.resized.ensures.housed where
-      is : ◌≡◌ {A = Option (ℕ × ℕ)} (Some (c.in-Some.destination.bits, c.last.result)) (target_of c.args.destination)
-      is = ap (λ (n : ℕ). Some (c.in-Some.destination.bits, n)) c.last.ensures ∙ sym (ap target_of c.in-Some.is)
+      is : ◌≡◌ {A = Option (ℕ × ℕ)} (Some (c.in-Some.destination.bits, c.last-last.result)) (target_of c.args.destination)
+      is = ap (λ (n : ℕ). Some (c.in-Some.destination.bits, n)) c.last-last.ensures ∙ sym (ap target_of c.in-Some.is)
 
-      there : AreTo (Some (c.in-Some.destination.bits, c.last.result)) (spans_of (all_admitted c.args.list.now))
+      there : AreTo (Some (c.in-Some.destination.bits, c.last-last.result)) (spans_of (all_admitted c.args.list.now))
       there = subst (λ (o : Option (ℕ × ℕ)). AreTo o (spans_of (all_admitted c.args.list.now))) (sym is) c.requires.there
+
+pub opened-requires-clause-subnet : goal.opened-requires-clause-subnet
+opened-requires-clause-subnet c = subnet_to c.args.family (all_admitted c.args.list.now) (c.in-Some.destination.bits, c.last-last.result) c.requires.each there (omega (arith, c.if-list-to.false, c.in-Some-gap.ensures.1, spans_size c.args.list.now)) where
+  there : AreTo (Some (c.in-Some.destination.bits, c.last-last.result)) (spans_of (all_admitted c.args.list.now))
+  there = subst (λ (o : Option (ℕ × ℕ)). AreTo o (spans_of (all_admitted c.args.list.now))) (ap target_of c.in-Some.is ∙ sym (ap (λ (n : ℕ). Some (c.in-Some.destination.bits, n)) c.last-last.ensures)) c.requires.there
+
+pub returns-in-Some-gap-clause-sound : goal.returns-in-Some-gap-clause-sound
+returns-in-Some-gap-clause-sound c = IfOk-weaker c.opened.result _ _
+    (λ new sound. λ rules h. sound _ (let w = h.whole in let i = h.stretch.within in let e = c.in-Some-gap.ensures.1 in omega (arith, w, i, e, rules_size rules))) c.opened.ensures.sound
+
+pub returns-in-Some-gap-clause-housed : goal.returns-in-Some-gap-clause-housed
+returns-in-Some-gap-clause-housed c = IfOk-weaker c.opened.result _ _
+    (λ new housed. λ rules h.
+    subst (λ n. AreHoused (splice (spans_of rules) c.args.from n (spans_of (all_admitted c.args.list.now))) new) (sym c.in-Some-gap.ensures.1)
+    (housed (spans_of rules) (spans_of (all_admitted c.args.list.now)) h.housed (let w = h.whole in omega (arith, w, rules_size rules)) there (spans_size c.args.list.now)))
+    c.opened.ensures.housed where
+      there : AreTo (Some (c.in-Some.destination.bits, c.last-last.result)) (spans_of (all_admitted c.args.list.now))
+      there = subst (λ (o : Option (ℕ × ℕ)). AreTo o (spans_of (all_admitted c.args.list.now))) (ap target_of c.in-Some.is ∙ sym (ap (λ (n : ℕ). Some (c.in-Some.destination.bits, n)) c.last-last.ensures)) c.requires.there
 
 pub returns-in-None-clause-sound : goal.returns-in-None-clause-sound
 returns-in-None-clause-sound c = IfOk-weaker c.mended_buckets.result _ _ (λ new sound. λ rules h. sound _ (let w = h.whole in omega (arith, w))) c.mended_buckets.ensures.sound

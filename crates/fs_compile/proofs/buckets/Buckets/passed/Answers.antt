@@ -4,8 +4,8 @@ use Rattle.fs_compile.proofs.Stretching.{left_on}
 use Rattle.fs_compile.proofs.buckets.Buckets.passed.Goals as goal
 
 pub returns-else-passes-clause-behind : goal.returns-else-passes-clause-behind
-returns-else-passes-clause-behind c = λ k below le.
-    left_on c.args.self.now c.requires.sound.0 c.loop-bucket.bucket k (c.args.first, c.args.last) c.args.same c.requires.sound.1 c.requires.proper within below le
+returns-else-passes-clause-behind c = λ b le below.
+    left_on c.args.self.now c.requires.sound.0 c.loop-bucket.bucket b (c.args.first, c.args.last) c.args.same c.requires.sound.1 below le
     (c.passes.ensures.no c.if-passes.false (c.loop-bucket.invariant.left c.loop-bucket.bucket (omega arith) within)) where
       within : c.loop-bucket.bucket < length (numbers_in c.args.self.now.lasts)
       within = omega (arith, c.loop-bucket-test.true, c.len.ensures)

@@ -1,6 +1,6 @@
 use Rattle.std.proofs.Common.{ℕ, ap, arith}
 use Rattle.fs_compile.specs.declared.nodes.Node.{Node}
-use Rattle.fs_compile.proofs.Stretching.{stretch_at, stretch_ordered}
+use Rattle.fs_compile.proofs.Stretching.{stretch_at, stretch_before, stretch_behind, stretch_ordered}
 use Rattle.fs_compile.proofs.buckets.Buckets.stretch.Goals as goal
 
 pub returns-clause-ordered : goal.returns-clause-ordered
@@ -20,3 +20,15 @@ returns-clause-at c = λ k above below.
     (record { within = c.passed-from.ensures.within; before = c.passed-from.ensures.before; behind = c.passed-from.ensures.behind })
     (record { within = c.passed-to.ensures.within; before = c.passed-to.ensures.before; behind = c.passed-to.ensures.behind })
     (omega (arith, a, above)) (omega (arith, b, below))
+
+pub returns-clause-before : goal.returns-clause-before
+returns-clause-before c = λ k below.
+    let a = ap (λ (n : Node ℕ). n.start) c.at.ensures in
+    stretch_before c.args.self.now c.requires.sound.0 k c.passed-from.result (c.args.first, c.args.last) c.requires.sound.1
+    (record { within = c.passed-from.ensures.within; before = c.passed-from.ensures.before; behind = c.passed-from.ensures.behind }) (omega (arith, a, below))
+
+pub returns-clause-behind : goal.returns-clause-behind
+returns-clause-behind c = λ k above below.
+    let b = ap (λ (n : Node ℕ). n.start) c.at-2.ensures in
+    stretch_behind c.args.self.now c.requires.sound.0 k c.passed-to.result (c.args.first, c.args.last) c.requires.sound.1
+    (record { within = c.passed-to.ensures.within; before = c.passed-to.ensures.before; behind = c.passed-to.ensures.behind }) below (omega (arith, b, above))

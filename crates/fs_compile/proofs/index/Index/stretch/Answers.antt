@@ -3,13 +3,8 @@ use Rattle.fs_compile.specs.Index.{IsIndexOf, spans_of}
 use Rattle.fs_compile.specs.Mending.{IsStretch, target_of}
 use Rattle.fs_compile.proofs.Indexing.{stand_size}
 use Rattle.fs_compile.proofs.Mending.{rules_size}
-use Rattle.fs_compile.proofs.Stretching.{proper_housed, stretch_none, stretch_some}
+use Rattle.fs_compile.proofs.Stretching.{stretch_none, stretch_some}
 use Rattle.fs_compile.proofs.index.Index.stretch.Goals as goal
-
-pub stretch-requires-clause-proper : goal.stretch-requires-clause-proper
-stretch-requires-clause-proper c = proper_housed c.requires.some.0 c.requires.some.1 c.self.inside.buckets inner.each inner.housed where
-  inner : IsIndexOf c.requires.some.0 c.requires.some.1 (record { buckets = c.self.inside.buckets; rules = c.self.inside.rules.items; actions = c.self.inside.actions.items })
-  inner = subst (IsIndexOf c.requires.some.0 c.requires.some.1) (sym c.self.view_is) c.requires.some.2
 
 pub returns-in-Some-clause-stretch : goal.returns-in-Some-clause-stretch
 returns-in-Some-clause-stretch c = λ family rules h.
