@@ -3,9 +3,9 @@ use Rattle.std.proofs.Common.{◌≡◌, ◌≤◌, ◌++◌, ◌∙◌, ◌-◌
 use Rattle.std.proofs.lemmas.List.{length-take, take-take}
 use Rattle.fs_base.specs.Filling.{Fills}
 use Rattle.fs_base.specs.Parts.{window}
-use Rattle.fs_records.specs.Records.{End}
-use Rattle.fs_records.specs.declared.fault.Fault.{Fault}
-use Rattle.fs_records.proofs.Records.{head_filled}
+use Rattle.fs_input.specs.Records.{End}
+use Rattle.fs_input.specs.declared.fault.Fault.{Fault}
+use Rattle.fs_input.proofs.Records.{head_filled}
 use Rattle.fs_capture.specs.Capture.{Begins, Captured, captured_in, coming, is_section, captured_by}
 use Rattle.fs_capture.specs.declared.fault.CaptureReason.{CaptureReason}
 

@@ -5,11 +5,11 @@ use Rattle.fs_pcap.specs.declared.fault.CaptureReason.{CaptureReason as PcapReas
 use Rattle.fs_base.specs.declared.link.Link.{Link}
 use Rattle.fs_pcapng.specs.declared.caught.NgCaught.{NgCaught}
 use Rattle.fs_pcapng.specs.declared.fault.NgReason.{NgReason}
-use Rattle.fs_records.specs.Records.{End, done, limited, bad}
-use Rattle.fs_records.specs.declared.fault.Ended.{Ended}
-use Rattle.fs_records.specs.declared.fault.Ended.TheVariants.{Done, Stopped}
-use Rattle.fs_records.specs.declared.fault.Fault.{Fault}
-use Rattle.fs_records.specs.declared.fault.Fault.TheVariants.{Read, Limit, Bad}
+use Rattle.fs_input.specs.Records.{End, done, limited, bad}
+use Rattle.fs_input.specs.declared.fault.Ended.{Ended}
+use Rattle.fs_input.specs.declared.fault.Ended.TheVariants.{Done, Stopped}
+use Rattle.fs_input.specs.declared.fault.Fault.{Fault}
+use Rattle.fs_input.specs.declared.fault.Fault.TheVariants.{Read, Limit, Bad}
 use Rattle.fs_capture.specs.declared.caught.Caught.{Caught}
 use Rattle.fs_capture.specs.declared.fault.CaptureReason.{CaptureReason}
 use Rattle.fs_capture.specs.declared.fault.CaptureReason.TheVariants.{Pcap, Pcapng}

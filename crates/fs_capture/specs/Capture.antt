@@ -10,10 +10,10 @@ use Rattle.fs_base.specs.declared.link.Link.{Link}
 use Rattle.fs_pcapng.specs.Block.{Packet as Block, Stands, section_header}
 use Rattle.fs_pcapng.specs.Pcapng.{packets_to_come as blocks_to_come, pcapng_of}
 use Rattle.fs_pcapng.specs.declared.fault.NgReason.{NgReason}
-use Rattle.fs_records.specs.Records.{End, limited, bad}
-use Rattle.fs_records.specs.declared.fault.Ended.{Ended}
-use Rattle.fs_records.specs.declared.fault.Fault.{Fault}
-use Rattle.fs_records.specs.declared.fault.Fault.TheVariants.{Read, Limit, Bad}
+use Rattle.fs_input.specs.Records.{End, limited, bad}
+use Rattle.fs_input.specs.declared.fault.Ended.{Ended}
+use Rattle.fs_input.specs.declared.fault.Fault.{Fault}
+use Rattle.fs_input.specs.declared.fault.Fault.TheVariants.{Read, Limit, Bad}
 use Rattle.fs_capture.specs.Answer.{end_as}
 use Rattle.fs_capture.specs.declared.caught.Caught.{Caught}
 use Rattle.fs_capture.specs.declared.fault.CaptureReason.{CaptureReason}

@@ -5,8 +5,8 @@ ghost use Rattle.fs_base.specs.Files.{OnlySlot};
 ghost use Rattle.fs_base.specs.Outside.{Rose};
 ghost use Rattle.fs_base.specs.Parts.{with_part};
 ghost use Rattle.fs_pcap.specs.Head.{longest_record};
-ghost use Rattle.fs_records.specs.Reading.{Advances, answer_of, ended_after};
-ghost use Rattle.fs_records.specs.declared.fault.Fault.TheVariants.{Read};
+ghost use Rattle.fs_input.specs.NextRecord.{Advances, answer_of, ended_after};
+ghost use Rattle.fs_input.specs.declared.fault.Fault.TheVariants.{Read};
 ghost use Rattle.fs_capture.specs.Capture.{Begins, Grows, Times, captured_by, captured_in, coming, is_section, packet_from};
 
 use crate::answer::{block_answer, block_fault, record_answer, record_fault};

@@ -1,8 +1,8 @@
 //! What is wrong with a capture.
 
+use fs_input::Fault;
 use fs_pcap::CaptureReason as PcapReason;
 use fs_pcapng::NgReason;
-use fs_records::Fault;
 
 /// What is wrong with a capture, as its format has it.
 #[derive(Clone, Copy, Debug, PartialEq, Eq, Drop)]

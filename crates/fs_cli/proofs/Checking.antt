@@ -2,10 +2,10 @@
 use Rattle.std.proofs.Common.{◌≡◌, ℕ, List, [], Bool, Option, Result, Ok, Err, inl, inr, refl, subst, sym}
 use Rattle.fs_base.specs.declared.prefix.Family.{Family}
 use Rattle.fs_base.proofs.Grew.{part_whole}
-use Rattle.fs_check.specs.Command.{Wrote}
-use Rattle.fs_check.specs.Text.{WroteText}
-use Rattle.fs_check.specs.declared.command.CheckFault.{CheckFault}
-use Rattle.fs_check.specs.declared.command.CheckFault.TheVariants.{Failed, Memory}
+use Rattle.fs_reports.specs.Command.{Wrote}
+use Rattle.fs_reports.specs.Text.{WroteText}
+use Rattle.fs_reports.specs.declared.command.CheckFault.{CheckFault}
+use Rattle.fs_reports.specs.declared.command.CheckFault.TheVariants.{Failed, Memory}
 use Rattle.fs_cli.specs.declared.command.Subject.{Subject}
 use Rattle.fs_cli.specs.declared.command.Subject.TheVariants.{Nlri, Text}
 use Rattle.fs_cli.specs.Program.{ChecksSo, WroteOn, report_verdict}

@@ -10,7 +10,7 @@ use Rattle.fs_base.specs.declared.Sink as sink
 use Rattle.fs_base.specs.declared.Wire as wire
 use Rattle.fs_base.specs.declared.Clock as clock
 use Rattle.fs_base.proofs.Grew.{Grew-refl}
-use Rattle.fs_records.specs.Records.{End, done, limited, bad}
+use Rattle.fs_input.specs.Records.{End, done, limited, bad}
 use Rattle.fs_base.specs.declared.config.Config.{Config}
 use Rattle.fs_conf.specs.Config.{config_of}
 use Rattle.fs_capture.specs.Capture.{Captured, Recorded, capture_of}
@@ -19,33 +19,33 @@ use Rattle.fs_rules.specs.Table.{Held}
 use Rattle.fs_tape.specs.Tape.{Timed, tape_of}
 use Rattle.fs_tape.specs.Laws.{tape_text}
 use Rattle.fs_tape.specs.declared.fault.TapeReason.{TapeReason}
-use Rattle.fs_wires.specs.Conversation.{Conversation, conversation}
-use Rattle.fs_wires.specs.Promised.{AnnouncePromises, PairPromises}
-use Rattle.fs_wires.proofs.Promising.{announce_promises, announce_status}
-use Rattle.fs_wires.specs.PromisedHearing.{ListenPromises}
-use Rattle.fs_wires.proofs.PromisingHearing.{listen_promises, listen_status}
-use Rattle.fs_wires.proofs.PromisingPair.{pair_promises, pair_status}
+use Rattle.cmd_wire.specs.Conversation.{Conversation, conversation}
+use Rattle.cmd_wire.specs.Promised.{AnnouncePromises, PairPromises}
+use Rattle.cmd_wire.proofs.Promising.{announce_promises, announce_status}
+use Rattle.cmd_wire.specs.PromisedHearing.{ListenPromises}
+use Rattle.cmd_wire.proofs.PromisingHearing.{listen_promises, listen_status}
+use Rattle.cmd_wire.proofs.PromisingPair.{pair_promises, pair_status}
 use Rattle.fs_cli.specs.Program.{ChecksSo, Does, IsOneOf, Runs, HasNoMoments, HasStatus, HasCauses, Completes, Promises, objects, FailedOver, OutsideFailed, WireServed, Objects, AreTold, FilesKept, SinkKept, WireKept, ClockKept, names_in, happened_in, talk_in, speaks, statuses}
-use Rattle.fs_enforce.specs.Command.{EnforcesSo, Enforced, Wants, Inputs, inputs, inputs_stage, status_for}
-use Rattle.fs_generate.specs.Command.{GeneratesSo, Generated}
-use Rattle.fs_stages.specs.Load.{Names, OpensBoth, fetch, config_stage}
+use Rattle.cmd_enforce.specs.Command.{EnforcesSo, Enforced, Wants, Inputs, inputs, inputs_stage, status_for}
+use Rattle.cmd_gen.specs.Command.{GeneratesSo, Generated}
+use Rattle.cmd_stages.specs.Load.{Names, OpensBoth, fetch, config_stage}
 use Rattle.fs_cli.specs.Command.{Form, Enforce, Surveys, Converts, Check, Gen, form_of, Announce, Listen, Pair}
 use Rattle.fs_mrt.specs.declared.fault.DumpReason.{DumpReason}
-use Rattle.fs_convert.specs.Command.{Converted, ConvertsSo, convert_status, dump_stage, status_for as status_by, status_at as dump_status, verdict_of}
-use Rattle.fs_convert.specs.Making.{remade}
-use Rattle.fs_convert.proofs.Fitting.{reads_back_converted}
+use Rattle.cmd_convert.specs.Command.{Converted, ConvertsSo, convert_status, dump_stage, status_for as status_by, status_at as dump_status, verdict_of}
+use Rattle.cmd_convert.specs.Making.{remade}
+use Rattle.cmd_convert.proofs.Fitting.{reads_back_converted}
 use Rattle.fs_cli.specs.Survey.{Text, ListsSo, Surveyed, listed_status, text_for}
 use Rattle.fs_cli.specs.declared.command.Subject.{Subject}
 use Rattle.fs_cli.specs.declared.survey.Survey.{Survey}
 use Rattle.fs_tape.specs.declared.magic.Version.TheVariants.{Two}
-use Rattle.fs_stages.specs.Play.{HasVersion, played_to, tape_stage, accepted_stage}
-use Rattle.fs_enforce.specs.Judge.{capture_stage, lines_from, output_of, rules_by, status_at}
-use Rattle.fs_enforce.specs.Moments.{AnswersAt, HoldAt, verdict_at}
-use Rattle.fs_stages.specs.Refusal.{Answers, answered, Stage, Found, Stopped, and_then, or_stop, status_of}
-use Rattle.fs_stages.specs.declared.refusal.Refusal.{Refusal}
-use Rattle.fs_stages.specs.declared.refusal.Refusal.TheVariants.{Outside, Config as Refused, Tape, Capture, Dump, Memory, Limit, Session}
-use Rattle.fs_wires.proofs.Statuses.{Caused, early_status, late_status, never_early, never_zero, not_rose, same_found}
-use Rattle.fs_wires.proofs.Accepted.{some_found, then_found}
+use Rattle.cmd_stages.specs.Play.{HasVersion, played_to, tape_stage, accepted_stage}
+use Rattle.cmd_enforce.specs.Judge.{capture_stage, lines_from, output_of, rules_by, status_at}
+use Rattle.cmd_enforce.specs.Moments.{AnswersAt, HoldAt, verdict_at}
+use Rattle.cmd_stages.specs.Refusal.{Answers, answered, Stage, Found, Stopped, and_then, or_stop, status_of}
+use Rattle.cmd_stages.specs.declared.refusal.Refusal.{Refusal}
+use Rattle.cmd_stages.specs.declared.refusal.Refusal.TheVariants.{Outside, Config as Refused, Tape, Capture, Dump, Memory, Limit, Session}
+use Rattle.cmd_wire.proofs.Statuses.{Caused, early_status, late_status, never_early, never_zero, not_rose, same_found}
+use Rattle.cmd_wire.proofs.Accepted.{some_found, then_found}
 
 -- the words
 

@@ -7,15 +7,15 @@ use Rattle.fs_conf.specs.Config.{config_of}
 use Rattle.fs_tape.specs.Tape.{Timed}
 use Rattle.fs_tape.specs.declared.fault.TapeReason.{TapeReason}
 use Rattle.fs_desk.specs.Desk.{Desked}
-use Rattle.fs_stages.specs.Load.{Names, config_stage}
-use Rattle.fs_stages.specs.Play.{tape_stage, IsPlayed, untimed}
-use Rattle.fs_stages.specs.Refusal.{answered, Answers, verdict_with, Stage, Found, Stopped, and_then, or_stop, status_of, HasReason}
+use Rattle.cmd_stages.specs.Load.{Names, config_stage}
+use Rattle.cmd_stages.specs.Play.{tape_stage, IsPlayed, untimed}
+use Rattle.cmd_stages.specs.Refusal.{answered, Answers, verdict_with, Stage, Found, Stopped, and_then, or_stop, status_of, HasReason}
 use Rattle.fs_cli.specs.Survey.{Text, stopped_text, ListsSo, SaysOf}
-use Rattle.fs_stages.specs.Writing.{Fails, Writes}
-use Rattle.fs_stages.specs.declared.refusal.Refusal.{Refusal}
-use Rattle.fs_stages.specs.declared.refusal.Refusal.TheVariants.{Outside, Config as Refused, Tape, Capture, Dump, Memory, Limit, Session}
-use Rattle.fs_stages.proofs.Stages.{take_nothing, accepted_with}
-use Rattle.fs_stages.proofs.Texts.{said_whole, said_partly, fails_for}
+use Rattle.cmd_stages.specs.Writing.{Fails, Writes}
+use Rattle.cmd_stages.specs.declared.refusal.Refusal.{Refusal}
+use Rattle.cmd_stages.specs.declared.refusal.Refusal.TheVariants.{Outside, Config as Refused, Tape, Capture, Dump, Memory, Limit, Session}
+use Rattle.cmd_stages.proofs.Stages.{take_nothing, accepted_with}
+use Rattle.cmd_stages.proofs.Texts.{said_whole, said_partly, fails_for}
 use Rattle.fs_desk.proofs.Leaves.{played_leaves}
 
 -- no configuration is refused for a tape

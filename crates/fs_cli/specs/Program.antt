@@ -2,23 +2,23 @@
 use Rattle.std.specs.Prelude.{◌≡◌, ◌⊎◌, ℕ, List, [], ◌∷◌, Bool, true, false, Option, Result, Ok, Err, if◌then◌else◌, ◌↔◌, IsTrue, IfSome, Some, None}
 use Rattle.fs_base.specs.Happened.{Happened, SinkFailed, happened, with_wire, FilesFailed, FilesStood, SinkStood, WireFailed, WireStood, Wrote}
 use Rattle.fs_base.specs.Sink.{Grew, GrewPart}
-use Rattle.fs_check.specs.Report.{Reports}
-use Rattle.fs_check.specs.Text.{ReportsText}
-use Rattle.fs_check.specs.declared.command.CheckFault.{CheckFault}
-use Rattle.fs_check.specs.declared.command.CheckFault.TheVariants.{Failed, Memory}
-use Rattle.fs_stages.specs.Refusal.{Verdict, Answers}
-use Rattle.fs_convert.specs.Command.{Converts as ConvertsDump, Converted, convert_status}
-use Rattle.fs_enforce.specs.Command.{Enforces, Enforced, Wants, inputs_stage, status_for}
-use Rattle.fs_generate.specs.Command.{Generates, Generated}
-use Rattle.fs_stages.specs.Load.{Names, OpensBoth}
-use Rattle.fs_wires.specs.Announcing.{Announces}
-use Rattle.fs_wires.specs.Conversation.{Conversation, conversation}
-use Rattle.fs_wires.specs.Listening.{ListensTo}
-use Rattle.fs_wires.specs.Pairing.{Joins}
-use Rattle.fs_wires.specs.Promised.{AnnouncePromises, HasAnnounceStatus, HasPairStatus, PairPromises}
-use Rattle.fs_wires.specs.PromisedHearing.{HasListenStatus, ListenPromises}
+use Rattle.fs_reports.specs.Report.{Reports}
+use Rattle.fs_reports.specs.Text.{ReportsText}
+use Rattle.fs_reports.specs.declared.command.CheckFault.{CheckFault}
+use Rattle.fs_reports.specs.declared.command.CheckFault.TheVariants.{Failed, Memory}
+use Rattle.cmd_stages.specs.Refusal.{Verdict, Answers}
+use Rattle.cmd_convert.specs.Command.{Converts as ConvertsDump, Converted, convert_status}
+use Rattle.cmd_enforce.specs.Command.{Enforces, Enforced, Wants, inputs_stage, status_for}
+use Rattle.cmd_gen.specs.Command.{Generates, Generated}
+use Rattle.cmd_stages.specs.Load.{Names, OpensBoth}
+use Rattle.cmd_wire.specs.Announcing.{Announces}
+use Rattle.cmd_wire.specs.Conversation.{Conversation, conversation}
+use Rattle.cmd_wire.specs.Listening.{ListensTo}
+use Rattle.cmd_wire.specs.Pairing.{Joins}
+use Rattle.cmd_wire.specs.Promised.{AnnouncePromises, HasAnnounceStatus, HasPairStatus, PairPromises}
+use Rattle.cmd_wire.specs.PromisedHearing.{HasListenStatus, ListenPromises}
 use Rattle.fs_cli.specs.Command.{Form, Enforce, Surveys, Converts, Check, Gen, form_of, Announce, Listen, Pair}
-use Rattle.fs_stages.specs.Play.{HasVersion, accepted_stage}
+use Rattle.cmd_stages.specs.Play.{HasVersion, accepted_stage}
 use Rattle.fs_tape.specs.declared.magic.Version.TheVariants.{Two}
 use Rattle.fs_cli.specs.Survey.{Lists, Surveyed, listed_status, text_for}
 use Rattle.fs_cli.specs.declared.command.Subject.{Subject}

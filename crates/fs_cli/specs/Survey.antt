@@ -3,24 +3,24 @@ use Rattle.std.specs.Prelude.{◌≡◌, ◌≢◌, ◌⊎◌, ◌<◌, ℕ, Lis
 use Rattle.std.specs.Result.{IsErrAnd}
 use Rattle.fs_base.specs.Happened.{Happened, FilesFailed, SinkFailed, Wrote}
 use Rattle.fs_base.specs.Sink.{Grew}
-use Rattle.fs_records.specs.Records.{done}
+use Rattle.fs_input.specs.Records.{done}
 use Rattle.fs_base.specs.declared.config.Config.{Config}
 use Rattle.fs_conf.specs.Config.{config_of}
 use Rattle.fs_cli.specs.declared.survey.Survey.{Survey}
 use Rattle.fs_cli.specs.declared.survey.Survey.TheVariants.{Rules, Shadow, Words}
-use Rattle.fs_listing.specs.Listing.{listing}
-use Rattle.fs_listing.specs.TapeFault.{tape_fault_line}
+use Rattle.fs_reports.specs.Listing.{listing}
+use Rattle.fs_reports.specs.TapeFault.{tape_fault_line}
 use Rattle.fs_rules.specs.Table.{Held}
 use Rattle.fs_shadow.specs.Text.{shadow_listing}
 use Rattle.fs_tape.specs.Tape.{Item, Timed, tape_of}
-use Rattle.fs_worded.specs.Worded.{worded}
-use Rattle.fs_stages.specs.Load.{Names}
+use Rattle.fs_reports.specs.Worded.{worded}
+use Rattle.cmd_stages.specs.Load.{Names}
 use Rattle.fs_desk.specs.Leaves.{Leaves}
-use Rattle.fs_stages.specs.Play.{accepted_stage, untimed}
-use Rattle.fs_stages.specs.Refusal.{Answers, verdict_with, Stage, Found, Stopped, status_of}
-use Rattle.fs_stages.specs.Writing.{Fails}
-use Rattle.fs_stages.specs.declared.refusal.Refusal.{Refusal}
-use Rattle.fs_stages.specs.declared.refusal.Refusal.TheVariants.{Tape}
+use Rattle.cmd_stages.specs.Play.{accepted_stage, untimed}
+use Rattle.cmd_stages.specs.Refusal.{Answers, verdict_with, Stage, Found, Stopped, status_of}
+use Rattle.cmd_stages.specs.Writing.{Fails}
+use Rattle.cmd_stages.specs.declared.refusal.Refusal.{Refusal}
+use Rattle.cmd_stages.specs.declared.refusal.Refusal.TheVariants.{Tape}
 
 -- a survey: its text, of the configuration, the items of a tape, and the routes that they leave held
 abbrev pub Text : Type 0

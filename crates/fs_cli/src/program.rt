@@ -7,20 +7,20 @@ ghost use Rattle.fs_cli.specs.declared.command.Subject.{Subject};
 ghost use Rattle.fs_cli.specs.declared.survey.Survey.{Survey};
 ghost use Rattle.fs_cli.specs.Program.{Checks, HasNoMoments, IsOneOf, Promises, Runs, WroteOn, speaks, objects};
 ghost use Rattle.fs_cli.specs.Command.{form_shown, Check, Enforce, Gen, Surveys};
-ghost use Rattle.fs_stages.specs.Load.{OpensBoth};
-ghost use Rattle.fs_enforce.specs.Command.{Wants};
-ghost use Rattle.fs_stages.specs.Refusal.{answered};
-ghost use Rattle.fs_wires.specs.Conversation.{conversation};
+ghost use Rattle.cmd_stages.specs.Load.{OpensBoth};
+ghost use Rattle.cmd_enforce.specs.Command.{Wants};
+ghost use Rattle.cmd_stages.specs.Refusal.{answered};
+ghost use Rattle.cmd_wire.specs.Conversation.{conversation};
 
 use crate::command::{Command, Subject, parse};
 use crate::survey::{SurveyNames, survey_tape};
+use cmd_convert::{DumpNames, convert};
+use cmd_enforce::{InputNames, enforce};
+use cmd_gen::generate;
+use cmd_stages::{Refusal, status};
+use cmd_wire::{Announcement, Pairing, Reception, announce, listen, pair};
 use fs_base::{Clock, Files, Sink, Wire};
-use fs_check::{CheckFault, check, check_text};
-use fs_convert::{DumpNames, convert};
-use fs_enforce::{InputNames, enforce};
-use fs_generate::generate;
-use fs_stages::{Refusal, status};
-use fs_wires::{Announcement, Pairing, Reception, announce, listen, pair};
+use fs_reports::{CheckFault, check, check_text};
 use std::alloc::Global;
 
 /// The most octets that an input may have.

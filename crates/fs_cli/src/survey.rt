@@ -5,20 +5,19 @@ ghost use Rattle.fs_base.specs.Happened.{happened};
 ghost use Rattle.fs_base.specs.Outside.{Rose};
 ghost use Rattle.fs_base.specs.declared.config.Config.{Config};
 ghost use Rattle.fs_tape.specs.Tape.{Item};
-ghost use Rattle.fs_listing.specs.TapeFault.{tape_fault_line};
+ghost use Rattle.fs_reports.specs.TapeFault.{tape_fault_line};
 ghost use Rattle.fs_desk.specs.Desk.{Played};
-ghost use Rattle.fs_stages.specs.Load.{OpensBoth};
-ghost use Rattle.fs_stages.specs.Refusal.{IsLate, IsOfTape, answered, status_of};
-ghost use Rattle.fs_stages.specs.Writing.{Writes};
+ghost use Rattle.cmd_stages.specs.Load.{OpensBoth};
+ghost use Rattle.cmd_stages.specs.Refusal.{IsLate, IsOfTape, answered, status_of};
+ghost use Rattle.cmd_stages.specs.Writing.{Writes};
 ghost use Rattle.fs_cli.specs.Survey.{IsOfSurvey, Lists, SaysOf, text_for};
 
+use cmd_stages::{Refusal, load_config, play_tape, write_text};
 use fs_base::{Files, Memory, Sink};
 use fs_desk::Desk;
-use fs_listing::{desk_text, tape_fault_text};
+use fs_reports::{desk_text, desk_words, tape_fault_text};
 use fs_shadow::shadow_text;
-use fs_stages::{Refusal, load_config, play_tape, write_text};
 use fs_tape::TapeReason;
-use fs_worded::desk_words;
 use std::alloc::Global;
 
 /// What is told of the routes that a tape leaves.

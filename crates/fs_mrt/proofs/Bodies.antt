@@ -6,9 +6,9 @@ use Rattle.std.proofs.lemmas.Bool.Decides.{nat_tests}
 use Rattle.byteorder.specs.Endian.{big_number}
 use Rattle.byteorder.specs.Numbers.{big_from-take}
 use Rattle.fs_base.specs.declared.counted.Counted.{Counted}
-use Rattle.fs_scan.specs.Reads.{Calls, Reads, whole}
-use Rattle.fs_scan.specs.Scan.{and, field, gives}
-use Rattle.fs_scan.proofs.Lifting.{reads_as, reads_gives, reads_then}
+use Rattle.fs_input.specs.Reads.{Calls, Reads, whole}
+use Rattle.fs_input.specs.Scan.{and, field, gives}
+use Rattle.fs_input.proofs.Lifting.{reads_as, reads_gives, reads_then}
 use Rattle.fs_mrt.specs.Record.{ends_size, front_behind, front_in, time_of}
 use Rattle.fs_mrt.specs.Shape.{family_of, front_size, states_size}
 use Rattle.fs_mrt.specs.declared.fault.DumpReason.{DumpReason}

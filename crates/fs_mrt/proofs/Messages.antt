@@ -7,10 +7,10 @@ use Rattle.std.proofs.lemmas.Bool.Decides.{nat_tests}
 use Rattle.byteorder.specs.Endian.{big_number}
 use Rattle.byteorder.specs.Numbers.{big_from-take}
 use Rattle.fs_base.specs.declared.counted.Counted.{Counted}
-use Rattle.fs_records.specs.declared.fault.Fault.{Fault}
-use Rattle.fs_scan.specs.Reads.{Calls, Reads, whole}
-use Rattle.fs_scan.specs.Scan.{Scanner, and, field, gives, needs}
-use Rattle.fs_scan.proofs.Lifting.{reads_as, reads_ends, reads_gives, reads_then}
+use Rattle.fs_input.specs.declared.fault.Fault.{Fault}
+use Rattle.fs_input.specs.Reads.{Calls, Reads, whole}
+use Rattle.fs_input.specs.Scan.{Scanner, and, field, gives, needs}
+use Rattle.fs_input.proofs.Lifting.{reads_as, reads_ends, reads_gives, reads_then}
 use Rattle.fs_mrt.specs.Dump.{said_from}
 use Rattle.fs_mrt.specs.Record.{message, message_behind, message_in}
 use Rattle.fs_mrt.specs.declared.fault.DumpReason.{DumpReason}

@@ -2,10 +2,10 @@
 use Rattle.std.proofs.Common.{ℕ, List, ◌++◌, Option, Some, None, Bool, true, false, ◌≤◌, ◌+◌, ◌-◌, ◌*◌, max, drop, arith}
 use Rattle.byteorder.specs.Endian.{big_number}
 use Rattle.fs_base.specs.declared.config.Peer.{Peer}
-use Rattle.fs_scan.specs.Coming.{Takes}
-use Rattle.fs_scan.specs.Reads.{whole}
-use Rattle.fs_scan.specs.Scan.{Scanner, and, field, gives, skips}
-use Rattle.fs_scan.proofs.Coming.{and_takes, fails_takes, field_takes, gives_takes, needs_takes, skips_takes}
+use Rattle.fs_input.specs.Coming.{Takes}
+use Rattle.fs_input.specs.Reads.{whole}
+use Rattle.fs_input.specs.Scan.{Scanner, and, field, gives, skips}
+use Rattle.fs_input.proofs.Coming.{and_takes, fails_takes, field_takes, gives_takes, needs_takes, skips_takes}
 use Rattle.fs_mrt.specs.Peers.{number_at}
 use Rattle.fs_mrt.specs.Record.{Spoken, body_in, change, ends_in, ends_size, family_in, front_behind, front_in, head_of, heard_in, message, message_behind, message_in, moment_behind, record_behind, record_in, said_at, said_in, spoken, states_behind, states_in, time_of}
 use Rattle.fs_mrt.specs.Shape.{address_of, address_size, family_of, front_size}

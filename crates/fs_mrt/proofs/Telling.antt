@@ -12,10 +12,10 @@ use Rattle.fs_base.specs.declared.config.Address.{Address}
 use Rattle.fs_base.specs.declared.config.Peer.{Peer}
 use Rattle.fs_base.proofs.Digits.{big_below}
 use Rattle.fs_base.proofs.Octets.{octets_append, octets_drop, octets_take}
-use Rattle.fs_records.specs.Parts.{At, at, parts_from, parts_within, to_come}
-use Rattle.fs_scan.specs.Coming.{Placed, first_part, part_of, placed, all_told}
-use Rattle.fs_scan.specs.Reads.{whole}
-use Rattle.fs_scan.specs.Scan.{Scan, Scanner, and, and_then, behind, fails, field, gives, got, needs, partial, skips, wrong}
+use Rattle.fs_input.specs.Parts.{At, at, parts_from, parts_within, to_come}
+use Rattle.fs_input.specs.Coming.{Placed, first_part, part_of, placed, all_told}
+use Rattle.fs_input.specs.Reads.{whole}
+use Rattle.fs_input.specs.Scan.{Scan, Scanner, and, and_then, behind, fails, field, gives, got, needs, partial, skips, wrong}
 use Rattle.fs_mrt.specs.Laws.{AreHeard, HeardFits, IsHeard, IsSaid}
 use Rattle.fs_mrt.specs.Peers.{is_same, lesser, lowest, number_at}
 use Rattle.fs_mrt.specs.Record.{Spoken, body_in, change, ends_in, ends_size, family_in, front_behind, front_in, head_of, heard_in, message, message_behind, message_in, moment_behind, record_behind, record_in, said_at, said_in, spoken, states_behind, states_in, time_of}

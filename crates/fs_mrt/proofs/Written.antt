@@ -7,10 +7,10 @@ use Rattle.byteorder.specs.Endian.{big_number}
 use Rattle.byteorder.specs.Numbers.{big_from-append}
 use Rattle.fs_base.specs.declared.config.Address.{Address}
 use Rattle.fs_base.specs.declared.config.Peer.{Peer}
-use Rattle.fs_scan.specs.Reads.{whole}
-use Rattle.fs_scan.specs.Scan.{Scanner, and, field, gives, needs, skips}
-use Rattle.fs_scan.proofs.Spelling.{CutAt, Part, Reads, Spells, and_reads, and_spells, cut_at, fails_spells, field_reads, field_spells, gives_reads, gives_spells, map_reads, map_spells, needs_reads, needs_spells, part_spells, skips_reads, skips_spells}
-use Rattle.fs_scan.proofs.Written.{IsSpelled, told_text}
+use Rattle.fs_input.specs.Reads.{whole}
+use Rattle.fs_input.specs.Scan.{Scanner, and, field, gives, needs, skips}
+use Rattle.fs_input.proofs.Spelling.{CutAt, Part, Reads, Spells, and_reads, and_spells, cut_at, fails_spells, field_reads, field_spells, gives_reads, gives_spells, map_reads, map_spells, needs_reads, needs_spells, part_spells, skips_reads, skips_spells}
+use Rattle.fs_input.proofs.Written.{IsSpelled, told_text}
 use Rattle.fs_mrt.specs.Laws.{ReadsBack}
 use Rattle.fs_mrt.specs.Peers.{number_at}
 use Rattle.fs_mrt.specs.Record.{Said, Spoken, body_in, change, ends_in, ends_size, family_in, front_behind, front_in, head_of, headed_in, heard_in, message, message_behind, message_in, moment_behind, record_behind, record_in, said_at, said_in, spoken, states_behind, states_in, time_of}

@@ -2,10 +2,10 @@
 use Rattle.std.specs.Prelude.{ℕ, List, Option, Some, None, Result, Ok, Err, ◌≡◌, ◌≤◌, ◌<◌, ◌++◌, take, ⊤}
 use Rattle.fs_base.specs.declared.config.Config.{Config}
 use Rattle.fs_base.specs.declared.config.Peer.{Peer}
-use Rattle.fs_records.specs.Records.{End}
-use Rattle.fs_records.specs.declared.fault.Ended.{Ended}
-use Rattle.fs_records.specs.declared.fault.Fault.{Fault}
-use Rattle.fs_scan.specs.Coming.{told_to_come}
+use Rattle.fs_input.specs.Records.{End}
+use Rattle.fs_input.specs.declared.fault.Ended.{Ended}
+use Rattle.fs_input.specs.declared.fault.Fault.{Fault}
+use Rattle.fs_input.specs.Coming.{told_to_come}
 use Rattle.fs_mrt.specs.Record.{Said, Spoken, change, message, record_in, spoken}
 use Rattle.fs_mrt.specs.declared.fault.DumpReason.{DumpReason}
 use Rattle.fs_mrt.specs.declared.fault.DumpReason.TheVariants.{Cut}

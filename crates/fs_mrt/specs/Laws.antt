@@ -4,8 +4,8 @@ use Rattle.fs_base.specs.Config.{peer_of}
 use Rattle.fs_base.specs.Language.{IsOctets}
 use Rattle.fs_base.specs.declared.config.Config.{Config}
 use Rattle.fs_base.specs.declared.config.Peer.{Peer}
-use Rattle.fs_records.specs.Records.{done}
-use Rattle.fs_scan.specs.Coming.{IsTextOf}
+use Rattle.fs_input.specs.Records.{done}
+use Rattle.fs_input.specs.Coming.{IsTextOf}
 use Rattle.fs_mrt.specs.Dump.{dump_of}
 use Rattle.fs_mrt.specs.Record.{Said, Spoken, change, message}
 use Rattle.fs_mrt.specs.Written.{entry_gives, entry_text, IsEntry}

@@ -4,8 +4,8 @@ use Rattle.std.specs.Prelude.{ℕ, List, ◌++◌, Option, Some, None, Bool, tru
 use Rattle.byteorder.specs.Endian.{big_number}
 use Rattle.fs_base.specs.declared.config.Address.{Address}
 use Rattle.fs_base.specs.declared.config.Peer.{Peer}
-use Rattle.fs_scan.specs.Reads.{whole}
-use Rattle.fs_scan.specs.Scan.{Scanner, and, fails, field, gives, needs, skips}
+use Rattle.fs_input.specs.Reads.{whole}
+use Rattle.fs_input.specs.Scan.{Scanner, and, fails, field, gives, needs, skips}
 use Rattle.fs_mrt.specs.Peers.{number_at}
 use Rattle.fs_mrt.specs.Shape.{address_of, address_size, family_of, front_size, shape_of, states_size}
 use Rattle.fs_mrt.specs.declared.fault.DumpReason.{DumpReason}

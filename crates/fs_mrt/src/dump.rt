@@ -4,16 +4,15 @@ ghost use Rattle.std.specs.Result.{IsErrOf};
 ghost use Rattle.fs_base.specs.Files.{OnlySlot};
 ghost use Rattle.fs_base.specs.Outside.{Rose};
 ghost use Rattle.fs_base.specs.Parts.{with_part};
-ghost use Rattle.fs_records.specs.Reading.{Advances, answer_of, ended_after};
-ghost use Rattle.fs_records.specs.declared.fault.Fault.TheVariants.{Read};
+ghost use Rattle.fs_input.specs.NextRecord.{Advances, answer_of, ended_after};
+ghost use Rattle.fs_input.specs.declared.fault.Fault.TheVariants.{Read};
 ghost use Rattle.fs_mrt.specs.Dump.{Grows, IsBegun, Times, spoken_from};
 
 use crate::fault::{DumpFault, DumpReason};
 use crate::heard::Heard;
 use crate::records::Records;
 use fs_base::{Config, Counted, Files};
-use fs_records::Ended;
-use fs_scan::next_part;
+use fs_input::{Ended, next_part};
 use std::marker::Model;
 
 /// A dump that is read from a slot.

@@ -1,7 +1,7 @@
 //! Taking the fields of a body.
 ghost use Rattle.std.specs.Prelude.{◌≡◌, ◌≤◌, ◌+◌, [], IfOk, IsTrue, length, take, drop};
-ghost use Rattle.fs_scan.specs.Reads.{Scans, whole};
-ghost use Rattle.fs_scan.specs.Scan.{field};
+ghost use Rattle.fs_input.specs.Reads.{Scans, whole};
+ghost use Rattle.fs_input.specs.Scan.{field};
 ghost use Rattle.fs_mrt.specs.Record.{message_in, states_in, said_in};
 ghost use Rattle.fs_mrt.specs.Dump.{IsWithin, said_from};
 ghost use Rattle.fs_mrt.specs.declared.fault.DumpReason.TheVariants.{Cut};
@@ -10,7 +10,7 @@ use crate::fault::{DumpFault, DumpReason};
 use crate::heard::What;
 use byteorder::{BigEndian, ByteOrder};
 use fs_base::{Counted, Files};
-use fs_scan::{skip_octets, take_octets};
+use fs_input::{skip_octets, take_octets};
 
 /// Takes so many octets into `into`, behind its first `from`.
 pub(crate) fn take_part<F: Files>(

@@ -2,8 +2,8 @@
 ghost use Rattle.std.specs.Prelude.{◌≡◌, ◌≤◌, ◌<◌, ◌+◌, ◌*◌, ◌-◌, [], ℕ, IfOk, IfSome, length, max};
 ghost use Rattle.std.specs.Option.{option_map};
 ghost use Rattle.byteorder.specs.Endian.{big_number};
-ghost use Rattle.fs_scan.specs.Reads.{Scans};
-ghost use Rattle.fs_scan.specs.Scan.{field};
+ghost use Rattle.fs_input.specs.Reads.{Scans};
+ghost use Rattle.fs_input.specs.Scan.{field};
 ghost use Rattle.fs_mrt.specs.Dump.{IsWithin, spoken_from};
 ghost use Rattle.fs_mrt.specs.Record.{addressed_in, body_in, ends_size, family_in, front_in, heard_in, time_of};
 ghost use Rattle.fs_mrt.specs.Shape.{address_of, address_size, front_size, states_size};
@@ -16,7 +16,7 @@ use crate::peers::number_at;
 use crate::shape::{Family, Shape, family_of};
 use byteorder::{BigEndian, ByteOrder};
 use fs_base::{Address, Counted, Files, Peer};
-use fs_scan::skip_octets;
+use fs_input::skip_octets;
 
 /// What the fields before a record's addresses tell: its time, in nanoseconds since the start of 1970, and the family
 /// of the addresses.

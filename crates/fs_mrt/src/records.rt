@@ -9,7 +9,7 @@ use crate::record::{Head, take_body};
 use crate::shape::shape_of;
 use byteorder::{BigEndian, ByteOrder};
 use fs_base::{Config, Counted, Files};
-use fs_scan::Parts;
+use fs_input::Parts;
 use std::marker::Model;
 
 /// The octets of a record's head.

@@ -9,8 +9,8 @@ use Rattle.byteorder.specs.Numbers.{big_number-reads_back, length-bytes_high_fir
 use Rattle.fs_base.specs.Language.{IsOctets}
 use Rattle.fs_base.proofs.Digits.{big_below, big_written, little_below, little_written}
 use Rattle.fs_base.proofs.Octets.{octets_drop}
-use Rattle.fs_records.specs.declared.head.Head.{Head}
-use Rattle.fs_records.specs.declared.head.Head.TheVariants.{Whole, Wrong, Partial}
+use Rattle.fs_input.specs.declared.head.Head.{Head}
+use Rattle.fs_input.specs.declared.head.Head.TheVariants.{Whole, Wrong, Partial}
 use Rattle.fs_pcap.specs.Header.{header_of, link_field, ordered_header}
 use Rattle.fs_pcap.specs.Laws.{HeaderWords, IsHeaderOf, header_text, octets_of}
 use Rattle.fs_base.specs.Link.{link_of}

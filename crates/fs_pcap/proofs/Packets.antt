@@ -6,10 +6,10 @@ use Rattle.std.proofs.lemmas.Bool.Decides.{nat_tests}
 use Rattle.std.proofs.lemmas.Grind.{common_steps}
 use Rattle.fs_base.specs.Language.{IsOctets}
 use Rattle.fs_base.proofs.Octets.{octets_drop, octets_take}
-use Rattle.fs_records.specs.Parts.{At, ReadsText, SpellsText, text_from}
-use Rattle.fs_records.specs.Records.{first_record}
-use Rattle.fs_records.specs.declared.head.Head.TheVariants.{Whole, Wrong, Partial}
-use Rattle.fs_records.proofs.Records.{record_found}
+use Rattle.fs_input.specs.Parts.{At, ReadsText, SpellsText, text_from}
+use Rattle.fs_input.specs.Records.{first_record}
+use Rattle.fs_input.specs.declared.head.Head.TheVariants.{Whole, Wrong, Partial}
+use Rattle.fs_input.proofs.Records.{record_found}
 use Rattle.fs_pcap.specs.Capture.{Captured, packet_of, records}
 use Rattle.fs_pcap.specs.Head.{head_of, said_in}
 use Rattle.fs_pcap.specs.Laws.{Fits, after, octets_of, packet_text, stands}

@@ -5,12 +5,12 @@ use Rattle.std.proofs.lemmas.List.{drop_at, length-drop, length-take, take-take,
 use Rattle.std.proofs.lemmas.Grind.{common_steps}
 use Rattle.fs_base.specs.Language.{IsOctets}
 use Rattle.fs_base.proofs.Octets.{octets_drop, octets_take}
-use Rattle.fs_records.specs.Opening.{opened_by}
-use Rattle.fs_records.specs.Records.{End, done}
-use Rattle.fs_records.specs.declared.head.Head.{Head}
-use Rattle.fs_records.specs.declared.head.Head.TheVariants.{Whole, Wrong, Partial}
-use Rattle.fs_records.proofs.Done.{done_text, text_done}
-use Rattle.fs_records.proofs.Records.{HasHead}
+use Rattle.fs_input.specs.Opening.{opened_by}
+use Rattle.fs_input.specs.Records.{End, done}
+use Rattle.fs_input.specs.declared.head.Head.{Head}
+use Rattle.fs_input.specs.declared.head.Head.TheVariants.{Whole, Wrong, Partial}
+use Rattle.fs_input.proofs.Done.{done_text, text_done}
+use Rattle.fs_input.proofs.Records.{HasHead}
 use Rattle.fs_pcap.specs.Capture.{Captured, Recorded, capture_of, heading_of, packets_to_come, recorded, records}
 use Rattle.fs_pcap.specs.Header.{header_of}
 use Rattle.fs_pcap.specs.Laws.{Fits, HeaderWords, IsCaptureOf, IsHeaderOf, ReadsBack, after, header_text, packet_text, stands}

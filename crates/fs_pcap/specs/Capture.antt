@@ -1,10 +1,10 @@
 -- A capture of the libpcap file format, version 2.4: a header, and records. A record has a head and the captured
 -- octets.
 use Rattle.std.specs.Prelude.{ℕ, List, [], Option, Some, None, Result, Ok, Err, ◌≡◌, ◌≤◌, ◌<◌, take, drop, ⊤}
-use Rattle.fs_records.specs.Opening.{opening}
-use Rattle.fs_records.specs.Records.{End, Format, records_to_come}
-use Rattle.fs_records.specs.declared.fault.Ended.{Ended}
-use Rattle.fs_records.specs.declared.fault.Fault.{Fault}
+use Rattle.fs_input.specs.Opening.{opening}
+use Rattle.fs_input.specs.Records.{End, Format, records_to_come}
+use Rattle.fs_input.specs.declared.fault.Ended.{Ended}
+use Rattle.fs_input.specs.declared.fault.Fault.{Fault}
 use Rattle.fs_pcap.specs.Head.{head_of, longest_record}
 use Rattle.fs_pcap.specs.Header.{header_of}
 use Rattle.fs_pcap.specs.declared.capture.Caught.{Caught}

@@ -1,7 +1,7 @@
 -- The head of a record has 16 octets: seconds, a fraction of them, the captured length and the original length, 4 each.
 use Rattle.std.specs.Prelude.{ℕ, List, length, drop, max, nat_lt, if◌then◌else◌}
-use Rattle.fs_records.specs.declared.head.Head.{Head}
-use Rattle.fs_records.specs.declared.head.Head.TheVariants.{Whole, Wrong, Partial}
+use Rattle.fs_input.specs.declared.head.Head.{Head}
+use Rattle.fs_input.specs.declared.head.Head.TheVariants.{Whole, Wrong, Partial}
 use Rattle.fs_pcap.specs.Order.{number, time_of}
 use Rattle.fs_pcap.specs.declared.fault.CaptureReason.{CaptureReason}
 use Rattle.fs_pcap.specs.declared.fault.CaptureReason.TheVariants.{RecordTooLong}

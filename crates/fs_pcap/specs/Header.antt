@@ -3,8 +3,8 @@
 -- 16 bits count.
 use Rattle.std.specs.Prelude.{ℕ, List, Some, None, ◌%◌, ◌==◌, not, length, drop, nat_lt, if◌then◌else◌}
 use Rattle.byteorder.specs.Endian.{big_number}
-use Rattle.fs_records.specs.declared.head.Head.{Head}
-use Rattle.fs_records.specs.declared.head.Head.TheVariants.{Whole, Wrong, Partial}
+use Rattle.fs_input.specs.declared.head.Head.{Head}
+use Rattle.fs_input.specs.declared.head.Head.TheVariants.{Whole, Wrong, Partial}
 use Rattle.fs_base.specs.Link.{link_of}
 use Rattle.fs_pcap.specs.Order.{number, order_of}
 use Rattle.fs_pcap.specs.declared.fault.CaptureReason.{CaptureReason}

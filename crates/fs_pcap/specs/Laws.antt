@@ -2,8 +2,8 @@
 use Rattle.std.specs.Prelude.{ℕ, List, ◌++◌, Some, ◌≡◌, ◌↔◌, ◌<◌, ◌≤◌, ◌%◌, ◌^◌, length, flat_map, max}
 use Rattle.byteorder.specs.Endian.{big_bytes, little_bytes}
 use Rattle.fs_base.specs.Language.{IsOctets}
-use Rattle.fs_records.specs.Parts.{AllFrom}
-use Rattle.fs_records.specs.Records.{done}
+use Rattle.fs_input.specs.Parts.{AllFrom}
+use Rattle.fs_input.specs.Records.{done}
 use Rattle.fs_pcap.specs.Capture.{Captured, capture_of}
 use Rattle.fs_pcap.specs.Head.{longest_record}
 use Rattle.fs_base.specs.Link.{link_of}

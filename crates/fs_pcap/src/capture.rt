@@ -5,8 +5,8 @@ ghost use Rattle.fs_base.specs.Files.{OnlySlot};
 ghost use Rattle.fs_base.specs.Link.{link_number};
 ghost use Rattle.fs_base.specs.Outside.{Rose};
 ghost use Rattle.fs_base.specs.Parts.{with_part};
-ghost use Rattle.fs_records.specs.Opening.{Opens};
-ghost use Rattle.fs_records.specs.Reading.{Advances, answer_of, ended_after};
+ghost use Rattle.fs_input.specs.Opening.{Opens};
+ghost use Rattle.fs_input.specs.NextRecord.{Advances, answer_of, ended_after};
 ghost use Rattle.fs_pcap.specs.Head.{longest_record};
 ghost use Rattle.fs_pcap.specs.Capture.{Grows, Times, heading_of, packet_from};
 
@@ -14,7 +14,7 @@ use crate::fault::{CaptureFault, CaptureReason};
 use crate::head::{Context, Said};
 use crate::header::{HEADER_SIZE, Heading, read_header};
 use fs_base::{Counted, Files, Link, fill};
-use fs_records::{Ended, next_record, opened};
+use fs_input::{Ended, next_record, opened};
 use std::marker::Model;
 
 /// A captured packet. `taken` octets of it were captured, of `original`; they stand at the front of the buffer that
@@ -59,7 +59,7 @@ impl Model for Capture {
 }
 
 impl Capture {
-    ghost use Rattle.fs_records.specs.declared.fault.Fault.TheVariants.{Read};
+    ghost use Rattle.fs_input.specs.declared.fault.Fault.TheVariants.{Read};
     ghost use Rattle.fs_pcap.specs.Capture.{CaptureState, coming};
 
     /// Reads the header, up to the limit. Octets of its front may have been put back.

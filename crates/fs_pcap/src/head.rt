@@ -3,7 +3,7 @@ ghost use Rattle.std.specs.Prelude.{◌≡◌, length};
 
 use crate::fault::CaptureReason;
 use crate::order::{Endian, Unit};
-use fs_records::{Head, Heads};
+use fs_input::{Head, Heads};
 
 /// The octets of a record's head.
 pub(crate) const HEAD_SIZE: usize = 16;

@@ -1,13 +1,13 @@
 //! The header of a capture, each field judged as soon as it stands whole.
 ghost use Rattle.std.specs.Prelude.{◌≡◌, ◌≤◌, length};
-ghost use Rattle.fs_records.specs.Opening.{IsFrontWithin};
+ghost use Rattle.fs_input.specs.Opening.{IsFrontWithin};
 ghost use Rattle.fs_pcap.specs.Header.{header_of, link_field, ordered_header};
 
 use crate::fault::CaptureReason;
 use crate::order::{Endian, Unit, read_order};
 use byteorder::{BigEndian, ByteOrder};
 use fs_base::Link;
-use fs_records::Head;
+use fs_input::Head;
 
 /// The octets of a capture's header.
 pub(crate) const HEADER_SIZE: usize = 24;

@@ -7,11 +7,11 @@ use Rattle.byteorder.specs.Endian.{big_number}
 use Rattle.fs_base.specs.declared.counted.Counted.{Counted}
 use Rattle.fs_pcap.specs.Order.{number}
 use Rattle.fs_pcap.specs.declared.order.Endian.{Endian}
-use Rattle.fs_scan.specs.Reads.{Calls, Reads}
-use Rattle.fs_scan.specs.Scan.{and, gives}
-use Rattle.fs_scan.proofs.Lifting.{gives_for, reads_as, reads_ends, reads_then}
+use Rattle.fs_input.specs.Reads.{Calls, Reads}
+use Rattle.fs_input.specs.Scan.{and, gives}
+use Rattle.fs_input.proofs.Lifting.{gives_for, reads_as, reads_ends, reads_then}
 use Rattle.fs_pcapng.specs.Block.{Packet, Stands, behind_packet, body_in, described_in, enhanced_in, kind_behind, opened, plain_in, section_in, simple_in, with_interface}
-use Rattle.fs_records.specs.declared.fault.Fault.{Fault}
+use Rattle.fs_input.specs.declared.fault.Fault.{Fault}
 use Rattle.fs_pcapng.specs.Pcapng.{seen_from}
 use Rattle.fs_pcapng.specs.declared.block.Kind.TheVariants.{Described, Enhanced, Simple}
 use Rattle.fs_pcapng.specs.declared.caught.Seen.{Seen}

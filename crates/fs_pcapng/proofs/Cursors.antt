@@ -3,11 +3,11 @@ use Rattle.std.proofs.Common.{◌≡◌, ℕ, suc, zero, List, Bool, true, false
 use Rattle.std.proofs.lemmas.Bool.Decides.{nat_tests}
 use Rattle.fs_base.specs.declared.counted.Counted.{Counted}
 use Rattle.fs_pcap.specs.declared.order.Endian.{Endian}
-use Rattle.fs_records.specs.declared.fault.Fault.{Fault}
-use Rattle.fs_scan.specs.Reads.{Calls, Reads}
-use Rattle.fs_scan.specs.Scan.{and, gives}
-use Rattle.fs_scan.proofs.Lifting.{reads_ends, reads_gives}
-use Rattle.fs_scan.proofs.Stages.{Going, going_more, going_start, going_then}
+use Rattle.fs_input.specs.declared.fault.Fault.{Fault}
+use Rattle.fs_input.specs.Reads.{Calls, Reads}
+use Rattle.fs_input.specs.Scan.{and, gives}
+use Rattle.fs_input.proofs.Lifting.{reads_ends, reads_gives}
+use Rattle.fs_input.proofs.Stages.{Going, going_more, going_start, going_then}
 use Rattle.fs_pcapng.specs.Options.{option_in, options_in, cursor}
 use Rattle.fs_pcapng.specs.declared.fault.NgReason.{NgReason}
 use Rattle.fs_pcapng.specs.declared.fault.NgReason.TheVariants.{Cut}

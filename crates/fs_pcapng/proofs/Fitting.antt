@@ -5,7 +5,7 @@ use Rattle.std.proofs.lemmas.Bool.Decides.{nat_tests}
 use Rattle.std.proofs.lemmas.List.{length-drop, take_all}
 use Rattle.fs_pcap.specs.Order.{number}
 use Rattle.fs_pcap.specs.declared.order.Endian.{Endian}
-use Rattle.fs_scan.specs.Scan.{Scanner, fails}
+use Rattle.fs_input.specs.Scan.{Scanner, fails}
 use Rattle.fs_pcapng.specs.Block.{fitting}
 use Rattle.fs_pcapng.specs.Options.{option_behind, padded, value_in}
 use Rattle.fs_pcapng.specs.declared.fault.NgReason.{NgReason}

@@ -1,6 +1,6 @@
 -- What the parts of a block say.
 use Rattle.std.proofs.Common.{◌≡◌, ℕ, List, Bool, true, false, refl}
-use Rattle.fs_scan.specs.Scan.{Scanner, fails, needs}
+use Rattle.fs_input.specs.Scan.{Scanner, fails, needs}
 use Rattle.fs_pcapng.specs.declared.fault.NgReason.{NgReason}
 
 -- a test that holds is passed

@@ -10,10 +10,10 @@ use Rattle.fs_pcap.specs.Head.{longest_record}
 use Rattle.fs_pcap.specs.Order.{number}
 use Rattle.fs_pcap.specs.declared.order.Endian.{Endian}
 use Rattle.fs_pcap.specs.declared.order.Endian.TheVariants.{Big, Little}
-use Rattle.fs_scan.specs.Reads.{whole}
-use Rattle.fs_scan.specs.Scan.{Scanner, and, field, gives, needs, skips}
-use Rattle.fs_scan.proofs.Spelling.{Part, Reads, Spells, and_spells, cut_at, fails_spells, field_reads, field_spells, gives_spells, map_reads, map_spells, needs_spells, part_spells, skips_reads, skips_spells, weaker_spells}
-use Rattle.fs_scan.proofs.Written.{IsSpelled}
+use Rattle.fs_input.specs.Reads.{whole}
+use Rattle.fs_input.specs.Scan.{Scanner, and, field, gives, needs, skips}
+use Rattle.fs_input.proofs.Spelling.{Part, Reads, Spells, and_spells, cut_at, fails_spells, field_reads, field_spells, gives_spells, map_reads, map_spells, needs_spells, part_spells, skips_reads, skips_spells, weaker_spells}
+use Rattle.fs_input.proofs.Written.{IsSpelled}
 use Rattle.fs_pcapng.specs.Block.{Packet, Stands, allows, behind_packet, block_in, body_in, close_in, cut_to, described_behind, described_in, end_in, enhanced_in, fitting, frame_of, kind_behind, kind_of, least_of, magic_behind, octets_in, opened, order_of, ordered_in, original_in, packet, plain_in, section_header, section_in, simple_behind, simple_by, simple_in, timed_behind, timed_in, total_behind, version_in, with_interface}
 use Rattle.fs_pcapng.specs.Options.{cursor, option_behind, option_in, options_in, padded, unit_in, value_in}
 use Rattle.fs_pcapng.specs.Time.{time_of}

@@ -4,10 +4,10 @@ use Rattle.std.specs.Prelude.{if◌then◌else◌, nat_le, slice_get, slice_inde
 use Rattle.byteorder.specs.Endian.{big_number}
 use Rattle.fs_pcap.specs.Order.{number}
 use Rattle.fs_pcap.specs.declared.order.Endian.{Endian}
-use Rattle.fs_scan.specs.Coming.{Takes}
-use Rattle.fs_scan.specs.Reads.{whole}
-use Rattle.fs_scan.specs.Scan.{Scanner, and, field, gives, needs, skips}
-use Rattle.fs_scan.proofs.Coming.{and_takes, fails_takes, field_takes, gives_takes, needs_takes, skips_takes}
+use Rattle.fs_input.specs.Coming.{Takes}
+use Rattle.fs_input.specs.Reads.{whole}
+use Rattle.fs_input.specs.Scan.{Scanner, and, field, gives, needs, skips}
+use Rattle.fs_input.proofs.Coming.{and_takes, fails_takes, field_takes, gives_takes, needs_takes, skips_takes}
 use Rattle.fs_pcapng.specs.Block.{Stands, behind_packet, block_in, body_in, close_in, cut_to, described_behind, described_in, end_in, enhanced_in, fitting, frame_of, kind_behind, kind_of, magic_behind, octets_in, opened, order_of, ordered_in, original_in, packet, plain_in, section_in, simple_behind, simple_by, simple_in, timed_behind, timed_in, total_behind, version_in, with_interface}
 use Rattle.fs_pcapng.specs.Options.{option_behind, option_in, options_in, padded, unit_in, value_in, cursor}
 use Rattle.fs_pcapng.specs.Time.{time_of}

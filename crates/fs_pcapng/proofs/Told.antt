@@ -6,14 +6,14 @@ use Rattle.std.proofs.lemmas.List.{drop-drop}
 use Rattle.fs_pcap.specs.Order.{number}
 use Rattle.fs_base.specs.Filling.{Fills}
 use Rattle.fs_base.specs.Parts.{window}
-use Rattle.fs_records.specs.declared.fault.Fault.TheVariants.{Read}
-use Rattle.fs_scan.specs.Judging.{scan_of, settled}
-use Rattle.fs_scan.specs.Reads.{Scanned, whole}
-use Rattle.fs_scan.specs.Scan.{Scan, Scanner, and, and_then, behind, field, gives, got, needs, partial, wrong}
-use Rattle.fs_scan.specs.declared.judging.Judged.{Judged}
-use Rattle.fs_scan.specs.declared.judging.Judged.TheVariants.{Whole, Wrong, Partial}
-use Rattle.fs_scan.proofs.Fixed.{IsFixed, and_fixed, fails_fixed, field_fixed, gives_fixed, judged_reads, needs_fixed}
-use Rattle.fs_scan.proofs.Short.{short_reads}
+use Rattle.fs_input.specs.declared.fault.Fault.TheVariants.{Read}
+use Rattle.fs_input.specs.Judging.{scan_of, settled}
+use Rattle.fs_input.specs.Reads.{Scanned, whole}
+use Rattle.fs_input.specs.Scan.{Scan, Scanner, and, and_then, behind, field, gives, got, needs, partial, wrong}
+use Rattle.fs_input.specs.declared.judging.Judged.{Judged}
+use Rattle.fs_input.specs.declared.judging.Judged.TheVariants.{Whole, Wrong, Partial}
+use Rattle.fs_input.proofs.Fixed.{IsFixed, and_fixed, fails_fixed, field_fixed, gives_fixed, judged_reads, needs_fixed}
+use Rattle.fs_input.proofs.CutShort.{short_reads}
 use Rattle.fs_pcapng.specs.Block.{Packet, Stands, enhanced_in, fitting, octets_in, original_in, packet, timed_behind, timed_in}
 use Rattle.fs_pcapng.specs.Packets.{told_behind, told_by, told_in, told_of, told_timed}
 use Rattle.fs_pcapng.specs.Options.{padded}

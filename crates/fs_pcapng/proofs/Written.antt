@@ -9,12 +9,12 @@ use Rattle.fs_base.specs.Parts.{at_limit, window}
 use Rattle.fs_pcap.specs.Head.{longest_record}
 use Rattle.fs_pcap.specs.Order.{number}
 use Rattle.fs_pcap.specs.declared.order.Endian.{Endian}
-use Rattle.fs_records.specs.Records.{End, bad, done}
-use Rattle.fs_scan.specs.Coming.{IsTextOf}
-use Rattle.fs_scan.specs.Reads.{whole}
-use Rattle.fs_scan.specs.Scan.{Scanner, and, field, gives, needs, skips}
-use Rattle.fs_scan.proofs.Spelling.{Reads, and_reads, field_reads, gives_reads, map_reads, needs_reads, skips_reads}
-use Rattle.fs_scan.proofs.Written.{told_text}
+use Rattle.fs_input.specs.Records.{End, bad, done}
+use Rattle.fs_input.specs.Coming.{IsTextOf}
+use Rattle.fs_input.specs.Reads.{whole}
+use Rattle.fs_input.specs.Scan.{Scanner, and, field, gives, needs, skips}
+use Rattle.fs_input.proofs.Spelling.{Reads, and_reads, field_reads, gives_reads, map_reads, needs_reads, skips_reads}
+use Rattle.fs_input.proofs.Written.{told_text}
 use Rattle.fs_pcapng.specs.Block.{Packet, Stands, allows, behind_packet, block_in, body_in, close_in, cut_to, described_behind, described_in, end_in, enhanced_in, fitting, frame_of, kind_behind, kind_of, least_of, magic_behind, octets_in, opened, order_of, ordered_in, original_in, packet, plain_in, section_header, section_in, simple_behind, simple_by, simple_in, timed_behind, timed_in, total_behind, version_in, with_interface}
 use Rattle.fs_pcapng.specs.Laws.{ReadsBack}
 use Rattle.fs_pcapng.specs.Options.{cursor, option_behind, option_in, options_in, padded, sized_in, value_in}

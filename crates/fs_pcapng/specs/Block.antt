@@ -11,8 +11,8 @@ use Rattle.fs_pcap.specs.Order.{number}
 use Rattle.fs_base.specs.declared.link.Link.{Link}
 use Rattle.fs_pcap.specs.declared.order.Endian.{Endian}
 use Rattle.fs_pcap.specs.declared.order.Endian.TheVariants.{Big, Little}
-use Rattle.fs_scan.specs.Reads.{whole}
-use Rattle.fs_scan.specs.Scan.{Scanner, and, fails, field, gives, needs, skips}
+use Rattle.fs_input.specs.Reads.{whole}
+use Rattle.fs_input.specs.Scan.{Scanner, and, fails, field, gives, needs, skips}
 use Rattle.fs_pcapng.specs.Options.{options_in, padded, cursor}
 use Rattle.fs_pcapng.specs.Time.{time_of}
 use Rattle.fs_pcapng.specs.declared.block.Kind.{Kind}

@@ -4,8 +4,8 @@
 use Rattle.std.specs.Prelude.{ℕ, suc, zero, List, ◌+◌, ◌-◌, ◌*◌, ◌/◌, ◌==◌, ◌&&◌, drop, nat_le, slice_index, if◌then◌else◌}
 use Rattle.fs_pcap.specs.Order.{number}
 use Rattle.fs_pcap.specs.declared.order.Endian.{Endian}
-use Rattle.fs_scan.specs.Reads.{whole}
-use Rattle.fs_scan.specs.Scan.{Scanner, and, field, gives, needs, skips}
+use Rattle.fs_input.specs.Reads.{whole}
+use Rattle.fs_input.specs.Scan.{Scanner, and, field, gives, needs, skips}
 use Rattle.fs_pcapng.specs.declared.fault.NgReason.{NgReason}
 use Rattle.fs_pcapng.specs.declared.fault.NgReason.TheVariants.{Length}
 use Rattle.fs_pcapng.specs.declared.options.Cursor.{Cursor}

@@ -3,10 +3,10 @@
 use Rattle.std.specs.Prelude.{ℕ, List, Option, Some, None, ◌≤◌, ◌+◌, ◌*◌, drop, max, slice_get, ⊤}
 use Rattle.fs_pcap.specs.Head.{longest_record}
 use Rattle.fs_pcap.specs.Order.{number}
-use Rattle.fs_scan.specs.Reads.{whole}
-use Rattle.fs_scan.specs.Scan.{Scanner, and, fails, field, gives}
-use Rattle.fs_scan.specs.declared.judging.Judged.{Judged}
-use Rattle.fs_scan.specs.declared.judging.Judged.TheVariants.{Whole, Wrong, Partial}
+use Rattle.fs_input.specs.Reads.{whole}
+use Rattle.fs_input.specs.Scan.{Scanner, and, fails, field, gives}
+use Rattle.fs_input.specs.declared.judging.Judged.{Judged}
+use Rattle.fs_input.specs.declared.judging.Judged.TheVariants.{Whole, Wrong, Partial}
 use Rattle.fs_pcapng.specs.Block.{Stands, fitting}
 use Rattle.fs_pcapng.specs.Time.{time_of}
 use Rattle.fs_pcapng.specs.declared.fault.NgReason.{NgReason}

@@ -4,11 +4,11 @@ use Rattle.std.specs.Prelude.{ℕ, List, [], Option, Some, None, Result, Ok, Err
 use Rattle.fs_base.specs.Parts.{at_limit, window}
 use Rattle.fs_pcap.specs.Head.{longest_record}
 use Rattle.fs_base.specs.declared.link.Link.{Link}
-use Rattle.fs_records.specs.Records.{End, bad, limited}
-use Rattle.fs_records.specs.declared.fault.Ended.{Ended}
-use Rattle.fs_records.specs.declared.fault.Fault.{Fault}
-use Rattle.fs_records.specs.declared.fault.Fault.TheVariants.{Read, Limit, Bad}
-use Rattle.fs_scan.specs.Coming.{told_to_come}
+use Rattle.fs_input.specs.Records.{End, bad, limited}
+use Rattle.fs_input.specs.declared.fault.Ended.{Ended}
+use Rattle.fs_input.specs.declared.fault.Fault.{Fault}
+use Rattle.fs_input.specs.declared.fault.Fault.TheVariants.{Read, Limit, Bad}
+use Rattle.fs_input.specs.Coming.{told_to_come}
 use Rattle.fs_pcapng.specs.Block.{Packet, Stands, block_in}
 use Rattle.fs_pcapng.specs.declared.caught.NgCaught.{NgCaught}
 use Rattle.fs_pcapng.specs.declared.caught.Seen.{Seen}

@@ -2,7 +2,7 @@
 ghost use Rattle.std.specs.Prelude.{◌≡◌, ◌≤◌, ◌<◌, ◌+◌, [], IfOk, IfSome, length};
 ghost use Rattle.std.specs.Option.{option_map};
 ghost use Rattle.fs_pcap.specs.Head.{longest_record};
-ghost use Rattle.fs_scan.specs.Reads.{Scans};
+ghost use Rattle.fs_input.specs.Reads.{Scans};
 ghost use Rattle.fs_pcapng.specs.Block.{body_in, kind_behind, kind_of, least_of, plain_in};
 ghost use Rattle.fs_pcapng.specs.Pcapng.{seen_from};
 ghost use Rattle.fs_pcapng.specs.declared.fault.NgReason.TheVariants.{Cut};

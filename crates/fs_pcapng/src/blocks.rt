@@ -5,7 +5,7 @@ use crate::caught::Seen;
 use crate::fault::{NgFault, NgReason};
 use crate::section::Section;
 use fs_base::{Counted, Files};
-use fs_scan::Parts;
+use fs_input::Parts;
 
 /// The octets of a block's type.
 const KIND_SIZE: usize = 4;

@@ -5,10 +5,10 @@ ghost use Rattle.fs_base.specs.Files.{OnlySlot};
 ghost use Rattle.fs_base.specs.Outside.{Rose};
 ghost use Rattle.fs_base.specs.Parts.{with_part};
 ghost use Rattle.fs_pcap.specs.Head.{longest_record};
-ghost use Rattle.fs_records.specs.Reading.{Advances, answer_of, ended_after};
-ghost use Rattle.fs_records.specs.declared.fault.Fault.TheVariants.{Read};
-ghost use Rattle.fs_scan.specs.Reads.{ScansAgain, whole};
-ghost use Rattle.fs_scan.specs.Scan.{field};
+ghost use Rattle.fs_input.specs.NextRecord.{Advances, answer_of, ended_after};
+ghost use Rattle.fs_input.specs.declared.fault.Fault.TheVariants.{Read};
+ghost use Rattle.fs_input.specs.Reads.{ScansAgain, whole};
+ghost use Rattle.fs_input.specs.Scan.{field};
 ghost use Rattle.fs_pcapng.specs.Block.{block_in};
 ghost use Rattle.fs_pcapng.specs.Pcapng.{Begins, Grows, nothing, packet_from, pcapng_of};
 ghost use Rattle.fs_pcapng.specs.declared.fault.NgReason.TheVariants.{Cut};
@@ -20,8 +20,7 @@ use crate::header::take_header;
 use crate::section::Section;
 use byteorder::{BigEndian, ByteOrder};
 use fs_base::{Counted, Files, Link};
-use fs_records::Ended;
-use fs_scan::{next_part, take_again};
+use fs_input::{Ended, next_part, take_again};
 use std::marker::Model;
 
 /// A capture that is read from a slot.

@@ -1,6 +1,6 @@
 //! What is wrong with a capture.
 
-use fs_records::Fault;
+use fs_input::Fault;
 
 /// What is wrong with a capture.
 #[derive(Clone, Copy, Debug, PartialEq, Eq, Drop)]

@@ -1,16 +1,16 @@
 //! Taking the fields of blocks.
 ghost use Rattle.std.specs.Prelude.{◌≡◌, ◌≤◌, ◌+◌, [], IfOk, length, take, drop};
 ghost use Rattle.fs_pcap.specs.Order.{number};
-ghost use Rattle.fs_scan.specs.Reads.{Scans, whole};
-ghost use Rattle.fs_scan.specs.Scan.{field, skips};
+ghost use Rattle.fs_input.specs.Reads.{Scans, whole};
+ghost use Rattle.fs_input.specs.Scan.{field, skips};
 ghost use Rattle.fs_pcapng.specs.Block.{close_in, end_in};
 ghost use Rattle.fs_pcapng.specs.declared.fault.NgReason.TheVariants.{Cut};
 
 use crate::fault::{NgFault, NgReason};
 use byteorder::{BigEndian, ByteOrder, LittleEndian};
 use fs_base::{Counted, Files};
+use fs_input::{skip_octets, take_octets};
 use fs_pcap::Endian;
-use fs_scan::{skip_octets, take_octets};
 
 /// Where a block stands: the order of its numbers, the place of its first octet, and its total length.
 #[derive(Clone, Copy, Debug, PartialEq, Eq, Drop)]

@@ -1,6 +1,6 @@
 //! Section headers.
 ghost use Rattle.std.specs.Prelude.{◌≡◌, ◌≤◌, ◌<◌, ◌+◌, ◌-◌, ◌%◌, [], IfOk, length};
-ghost use Rattle.fs_scan.specs.Reads.{Scans};
+ghost use Rattle.fs_input.specs.Reads.{Scans};
 ghost use Rattle.fs_pcapng.specs.Block.{allows, order_of, section_in, version_in};
 ghost use Rattle.fs_pcapng.specs.declared.fault.NgReason.TheVariants.{Cut};
 

@@ -1,7 +1,7 @@
 //! The options of an interface.
 ghost use Rattle.std.specs.Prelude.{◌≡◌, ◌≤◌, ◌<◌, ◌+◌, ◌-◌, ◌/◌, ◌*◌, [], IfOk, length};
 ghost use Rattle.fs_pcap.specs.Head.{longest_record};
-ghost use Rattle.fs_scan.specs.Reads.{Scans};
+ghost use Rattle.fs_input.specs.Reads.{Scans};
 ghost use Rattle.fs_pcapng.specs.Options.{option_in, options_in, padded, unit_in, value_in, cursor};
 ghost use Rattle.fs_pcapng.specs.declared.fault.NgReason.TheVariants.{Cut};
 

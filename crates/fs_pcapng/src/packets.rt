@@ -2,8 +2,8 @@
 ghost use Rattle.std.specs.Prelude.{◌≡◌, ◌≤◌, ◌<◌, ◌+◌, ◌-◌, ◌*◌, [], IfOk, Some, length, max, min, take};
 ghost use Rattle.fs_pcap.specs.Head.{longest_record};
 ghost use Rattle.fs_base.specs.Link.{link_of};
-ghost use Rattle.fs_scan.specs.Judging.{scan_of};
-ghost use Rattle.fs_scan.specs.Reads.{Scans};
+ghost use Rattle.fs_input.specs.Judging.{scan_of};
+ghost use Rattle.fs_input.specs.Reads.{Scans};
 ghost use Rattle.fs_pcapng.specs.Block.{cut_to, described_in, enhanced_in, octets_in, simple_in};
 ghost use Rattle.fs_pcapng.specs.Packets.{Suits, told_by, told_in};
 ghost use Rattle.fs_pcapng.specs.Pcapng.{seen_from};
@@ -16,8 +16,8 @@ use crate::options::{padded, read_options};
 use crate::section::{Interface, Section};
 use crate::time::time_of;
 use fs_base::{Counted, Files, Link, fill};
+use fs_input::{Judged, settle};
 use fs_pcap::LONGEST_RECORD;
-use fs_scan::{Judged, settle};
 
 /// The longest packet that is taken.
 const LONGEST_PACKET: u32 = LONGEST_RECORD as u32;

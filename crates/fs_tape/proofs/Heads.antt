@@ -11,7 +11,7 @@ use Rattle.fs_base.specs.Config.{peer_of}
 use Rattle.fs_base.specs.declared.config.Config.{Config}
 use Rattle.fs_base.proofs.Digits.{big_below, big_written}
 use Rattle.fs_base.proofs.Octets.{octets_drop, octets_tail}
-use Rattle.fs_records.specs.declared.head.Head.TheVariants.{Whole, Wrong, Partial}
+use Rattle.fs_input.specs.declared.head.Head.TheVariants.{Whole, Wrong, Partial}
 use Rattle.fs_tape.specs.declared.fault.TapeReason.TheVariants.{Kind, Peer, Length, Moment}
 use Rattle.fs_tape.specs.declared.header.Said.{Said}
 use Rattle.fs_tape.specs.declared.item.Kind.{Kind as RecordKind}

@@ -7,10 +7,10 @@ use Rattle.std.proofs.lemmas.Bool.Decides.{nat_tests}
 use Rattle.std.proofs.lemmas.Grind.{common_steps}
 use Rattle.fs_base.specs.declared.config.Config.{Config}
 use Rattle.fs_base.proofs.Octets.{octets_take}
-use Rattle.fs_records.specs.Parts.{At, ReadsText, SpellsText, at, text_from}
-use Rattle.fs_records.specs.Records.{first_record}
-use Rattle.fs_records.specs.declared.head.Head.TheVariants.{Whole}
-use Rattle.fs_records.proofs.Records.{HasHead, record_found}
+use Rattle.fs_input.specs.Parts.{At, ReadsText, SpellsText, at, text_from}
+use Rattle.fs_input.specs.Records.{first_record}
+use Rattle.fs_input.specs.declared.head.Head.TheVariants.{Whole}
+use Rattle.fs_input.proofs.Records.{HasHead, record_found}
 use Rattle.fs_tape.specs.declared.item.Kind.{Kind as RecordKind}
 use Rattle.fs_tape.specs.declared.item.Kind.TheVariants.{Up, Received, Lost}
 use Rattle.fs_tape.specs.declared.magic.Version.{Version}

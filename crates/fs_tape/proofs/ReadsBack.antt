@@ -6,11 +6,11 @@ use Rattle.std.proofs.lemmas.Grind.{common_steps}
 use Rattle.fs_base.specs.Language.{IsOctets}
 use Rattle.fs_base.specs.declared.config.Config.{Config}
 use Rattle.fs_base.proofs.Octets.{octets_drop}
-use Rattle.fs_records.specs.Opening.{opened_by}
-use Rattle.fs_records.specs.Records.{End, done}
-use Rattle.fs_records.specs.declared.head.Head.{Head}
-use Rattle.fs_records.specs.declared.head.Head.TheVariants.{Whole, Wrong, Partial}
-use Rattle.fs_records.proofs.Done.{done_text, text_done}
+use Rattle.fs_input.specs.Opening.{opened_by}
+use Rattle.fs_input.specs.Records.{End, done}
+use Rattle.fs_input.specs.declared.head.Head.{Head}
+use Rattle.fs_input.specs.declared.head.Head.TheVariants.{Whole, Wrong, Partial}
+use Rattle.fs_input.proofs.Done.{done_text, text_done}
 use Rattle.fs_tape.specs.declared.fault.TapeReason.{TapeReason}
 use Rattle.fs_tape.specs.declared.fault.TapeReason.TheVariants.{Cut}
 use Rattle.fs_tape.specs.declared.magic.Version.{Version}

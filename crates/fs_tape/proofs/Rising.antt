@@ -5,12 +5,12 @@ use Rattle.std.proofs.lemmas.Bool.Decides.{nat_tests}
 use Rattle.byteorder.specs.Endian.{big_number}
 use Rattle.fs_base.specs.Config.{peer_of}
 use Rattle.fs_base.specs.declared.config.Config.{Config}
-use Rattle.fs_records.specs.Parts.{AllFrom, At, Fitting, at}
-use Rattle.fs_records.specs.Records.{first_record, stop}
-use Rattle.fs_records.specs.declared.head.Head.{Head}
-use Rattle.fs_records.specs.declared.head.Head.TheVariants.{Whole, Wrong, Partial}
-use Rattle.fs_records.proofs.Parts.{coming_fit}
-use Rattle.fs_records.proofs.Records.{record_found, records_shrink}
+use Rattle.fs_input.specs.Parts.{AllFrom, At, Fitting, at}
+use Rattle.fs_input.specs.Records.{first_record, stop}
+use Rattle.fs_input.specs.declared.head.Head.{Head}
+use Rattle.fs_input.specs.declared.head.Head.TheVariants.{Whole, Wrong, Partial}
+use Rattle.fs_input.proofs.PartsOfRecords.{coming_fit}
+use Rattle.fs_input.proofs.Records.{record_found, records_shrink}
 use Rattle.fs_tape.specs.Header.{IsTimed, Stands, allows, behind_peer, head_from, head_size, kind_of, peer_field, size_field}
 use Rattle.fs_tape.specs.Laws.{AreFrom, MomentsRise, after}
 use Rattle.fs_tape.specs.Tape.{Timed, records, stands}

@@ -5,8 +5,8 @@ use Rattle.byteorder.specs.Endian.{big_bytes}
 use Rattle.fs_base.specs.Language.{IsOctets}
 use Rattle.fs_base.specs.Config.{peer_of}
 use Rattle.fs_base.specs.declared.config.Config.{Config}
-use Rattle.fs_records.specs.Parts.{AllFrom}
-use Rattle.fs_records.specs.Records.{done}
+use Rattle.fs_input.specs.Parts.{AllFrom}
+use Rattle.fs_input.specs.Records.{done}
 use Rattle.fs_tape.specs.Header.{IsTimed, Stands, longest_payload}
 use Rattle.fs_tape.specs.Magic.{magic_of}
 use Rattle.fs_tape.specs.Tape.{Item, Timed, came_up, items_to_come, received, stands, tape_of, was_lost}

@@ -3,10 +3,10 @@
 use Rattle.std.specs.Prelude.{ℕ, List, [], Option, Some, None, IsSome, Result, Ok, Err, ◌≡◌, ◌≤◌, ◌<◌, take, drop, ⊤}
 use Rattle.fs_base.specs.Config.{peer_of}
 use Rattle.fs_base.specs.declared.config.Config.{Config}
-use Rattle.fs_records.specs.Opening.{opening}
-use Rattle.fs_records.specs.Records.{End, Format, records_to_come}
-use Rattle.fs_records.specs.declared.fault.Ended.{Ended}
-use Rattle.fs_records.specs.declared.fault.Fault.{Fault}
+use Rattle.fs_input.specs.Opening.{opening}
+use Rattle.fs_input.specs.Records.{End, Format, records_to_come}
+use Rattle.fs_input.specs.declared.fault.Ended.{Ended}
+use Rattle.fs_input.specs.declared.fault.Fault.{Fault}
 use Rattle.fs_tape.specs.Header.{IsTimed, Stands, head_from, head_size, longest_payload}
 use Rattle.fs_tape.specs.Magic.{magic_field}
 use Rattle.fs_tape.specs.declared.fault.TapeReason.{TapeReason}

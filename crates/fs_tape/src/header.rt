@@ -1,6 +1,6 @@
 //! The fields of a record's head, each judged as soon as it stands whole.
 ghost use Rattle.std.specs.Prelude.{◌≡◌, ◌≤◌, ◌+◌, length};
-ghost use Rattle.fs_records.specs.Reading.{IsHeadWithin, IsKnown};
+ghost use Rattle.fs_input.specs.NextRecord.{IsHeadWithin, IsKnown};
 ghost use Rattle.fs_tape.specs.Header.{IsSaid, allows, head_size, kind_of, longest_payload, moment_field, peer_field, size_field};
 
 use crate::fault::TapeReason;
@@ -8,7 +8,7 @@ use crate::item::Kind;
 use crate::magic::Version;
 use byteorder::{BigEndian, ByteOrder};
 use fs_base::Config;
-use fs_records::{Head, Heads};
+use fs_input::{Head, Heads};
 use std::marker::Model;
 
 /// The octets of the longest payload of a record.

@@ -1,11 +1,11 @@
 //! The octets that a tape begins with, which tell its version.
 
 ghost use Rattle.std.specs.Prelude.{◌≡◌, ◌<◌, ◌≤◌, IfSome, length};
-ghost use Rattle.fs_records.specs.Opening.{IsFrontWithin};
+ghost use Rattle.fs_input.specs.Opening.{IsFrontWithin};
 ghost use Rattle.fs_tape.specs.Magic.{first_difference, magic_field, version_by};
 
 use crate::fault::TapeReason;
-use fs_records::Head;
+use fs_input::Head;
 
 /// The version of a tape's format.
 #[derive(Clone, Copy, Debug, PartialEq, Eq, Drop)]

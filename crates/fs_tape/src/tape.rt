@@ -6,8 +6,8 @@ ghost use Rattle.fs_base.specs.Files.{OnlySlot};
 ghost use Rattle.fs_base.specs.Outside.{Rose};
 ghost use Rattle.fs_base.specs.Parts.{with_part};
 ghost use Rattle.fs_base.specs.declared.config.Config.{Config};
-ghost use Rattle.fs_records.specs.Opening.{Opens};
-ghost use Rattle.fs_records.specs.Reading.{Advances, answer_of, ended_after};
+ghost use Rattle.fs_input.specs.Opening.{Opens};
+ghost use Rattle.fs_input.specs.NextRecord.{Advances, answer_of, ended_after};
 ghost use Rattle.fs_tape.specs.Header.{longest_payload};
 ghost use Rattle.fs_tape.specs.Magic.{version_number};
 ghost use Rattle.fs_tape.specs.Tape.{Grows, IsBegun, IsItem, Tells, Times, item_from, timed, version_of};
@@ -17,7 +17,7 @@ use crate::header::{Context, Said};
 use crate::item::{Kind, TapeItem};
 use crate::magic::{MAGIC_SIZE, Version, read_magic};
 use fs_base::{Config, Counted, Files, fill};
-use fs_records::{Ended, next_record, opened};
+use fs_input::{Ended, next_record, opened};
 use std::marker::Model;
 
 /// A tape that is read from a slot.
@@ -49,7 +49,7 @@ impl Model for Tape {
 }
 
 impl Tape {
-    ghost use Rattle.fs_records.specs.declared.fault.Fault.TheVariants.{Read};
+    ghost use Rattle.fs_input.specs.declared.fault.Fault.TheVariants.{Read};
     ghost use Rattle.fs_tape.specs.Tape.{TapeState, coming};
 
     /// Reads the magic, up to the limit. Octets of its front may have been put back.

@@ -1,10 +1,10 @@
 use Rattle.std.proofs.Common.{◌∙◌, ◌∷◌, [], ap, refl, sym}
 use Rattle.fs_base.specs.Happened.{happened, with_wire}
 use Rattle.fs_cli.specs.Command.{Announce, Check, Converts, Enforce, Gen, Listen, Pair, Surveys, form_shown}
-use Rattle.fs_enforce.specs.Command.{Wants}
-use Rattle.fs_wires.specs.Conversation.{conversation}
-use Rattle.fs_stages.specs.Refusal.{answered}
-use Rattle.fs_stages.specs.Load.{OpensBoth}
+use Rattle.cmd_enforce.specs.Command.{Wants}
+use Rattle.cmd_wire.specs.Conversation.{conversation}
+use Rattle.cmd_stages.specs.Refusal.{answered}
+use Rattle.cmd_stages.specs.Load.{OpensBoth}
 use Rattle.fs_cli.proofs.Running.{enforce_as, one_but, runs_as, survey_as, wants_enforce}
 use Rattle.fs_cli.proofs.program.perform.Goals as goal
 

@@ -1,6 +1,6 @@
 use Rattle.std.proofs.Common.{ℕ, List, subst, ◌∙◌}
 use Rattle.fs_base.specs.Outside.{Rose}
-use Rattle.fs_stages.specs.Writing.{Writes}
+use Rattle.cmd_stages.specs.Writing.{Writes}
 use Rattle.fs_cli.proofs.survey.write_survey.Goals as goal
 
 pub returns-clause-listed : goal.returns-clause-listed

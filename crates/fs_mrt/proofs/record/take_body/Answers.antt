@@ -1,6 +1,6 @@
 use Rattle.std.proofs.Common.{rules, ◌≡◌, ap, max, sym, ◌-◌}
 use Rattle.std.specs.Option.{option_map}
-use Rattle.fs_scan.proofs.Lifting.{reads_as, reads_then}
+use Rattle.fs_input.proofs.Lifting.{reads_as, reads_then}
 use Rattle.fs_mrt.specs.Dump.{spoken_from}
 use Rattle.fs_mrt.specs.Record.{addressed_in, body_in, ends_in}
 use Rattle.fs_mrt.proofs.record.take_body.Goals as goal

@@ -1,6 +1,6 @@
 use Rattle.std.proofs.Common.{ap}
 use Rattle.std.specs.Option.{option_map}
-use Rattle.fs_scan.proofs.Lifting.{reads_as, reads_then}
+use Rattle.fs_input.proofs.Lifting.{reads_as, reads_then}
 use Rattle.fs_mrt.specs.Dump.{spoken_from}
 use Rattle.fs_mrt.specs.Record.{heard_in, said_at}
 use Rattle.fs_mrt.proofs.record.take_ends.Goals as goal

@@ -1,7 +1,7 @@
 use Rattle.std.proofs.Common.{rules, ◌≡◌, ◌≤◌, ◌+◌, Some, take, drop, subst, ap, sym, ◌∙◌, Ok}
 use Rattle.byteorder.specs.Endian.{big_number}
-use Rattle.fs_scan.specs.Reads.{Reads, calls_of, whole}
-use Rattle.fs_scan.specs.Scan.{field}
+use Rattle.fs_input.specs.Reads.{Reads, calls_of, whole}
+use Rattle.fs_input.specs.Scan.{field}
 use Rattle.fs_mrt.specs.Record.{ends_size}
 use Rattle.fs_mrt.specs.Shape.{family_of, front_size, states_size}
 use Rattle.fs_mrt.specs.declared.fault.DumpReason.TheVariants.{Cut}

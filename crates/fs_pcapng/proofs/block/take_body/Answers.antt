@@ -1,7 +1,7 @@
 use Rattle.std.proofs.Common.{rules, ◌≡◌, true, Some, length, ap, sym, ◌∙◌}
 use Rattle.std.specs.Prelude.{nat_lt}
-use Rattle.fs_scan.proofs.Lifting.{reads_as, reads_ends}
-use Rattle.fs_scan.specs.Scan.{gives}
+use Rattle.fs_input.proofs.Lifting.{reads_as, reads_ends}
+use Rattle.fs_input.specs.Scan.{gives}
 use Rattle.fs_pcapng.specs.Block.{behind_packet, body_in}
 use Rattle.fs_pcapng.proofs.Bodies.{body_described, body_enhanced, body_fails, body_simple, told_of}
 use Rattle.fs_pcapng.proofs.block.take_body.Goals as goal

@@ -2,8 +2,8 @@ use Rattle.std.proofs.Common.{rules, ◌≡◌, ◌+◌, ◌-◌, true, false, S
 use Rattle.std.proofs.lemmas.List.{take_all}
 use Rattle.fs_pcap.specs.Order.{number}
 use Rattle.fs_pcap.specs.declared.order.Endian.{Endian}
-use Rattle.fs_scan.specs.Scan.{fails}
-use Rattle.fs_scan.proofs.Lifting.{reads_as, reads_fails, reads_then}
+use Rattle.fs_input.specs.Scan.{fails}
+use Rattle.fs_input.proofs.Lifting.{reads_as, reads_fails, reads_then}
 use Rattle.fs_pcapng.specs.Block.{allows, frame_of, magic_behind, order_of, ordered_in, version_in}
 use Rattle.fs_pcapng.specs.declared.fault.NgReason.TheVariants.{Length, Magic}
 use Rattle.fs_pcapng.proofs.Parts.{needs_false, needs_true}

@@ -1,7 +1,7 @@
 use Rattle.std.proofs.Common.{rules, ◌≡◌, ◌+◌, ◌-◌, ◌==◌, true}
 use Rattle.fs_pcap.specs.declared.order.Endian.{Endian}
-use Rattle.fs_scan.specs.Scan.{and, gives, needs}
-use Rattle.fs_scan.proofs.Lifting.{reads_as, reads_gives, reads_then}
+use Rattle.fs_input.specs.Scan.{and, gives, needs}
+use Rattle.fs_input.proofs.Lifting.{reads_as, reads_gives, reads_then}
 use Rattle.fs_pcapng.specs.Block.{end_in}
 use Rattle.fs_pcapng.specs.declared.fault.NgReason.TheVariants.{Version}
 use Rattle.fs_pcapng.proofs.Parts.{needs_true}

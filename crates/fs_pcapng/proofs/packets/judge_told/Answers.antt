@@ -1,8 +1,8 @@
 use Rattle.std.proofs.Common.{◌≡◌, ◌≤◌, ◌+◌, ◌-◌, None, Some, length, take, drop, ap, sym, ◌∙◌, arith}
 use Rattle.std.specs.Prelude.{slice_get}
 use Rattle.fs_pcap.specs.Order.{number}
-use Rattle.fs_scan.specs.Judging.{scan_of}
-use Rattle.fs_scan.specs.Scan.{wrong}
+use Rattle.fs_input.specs.Judging.{scan_of}
+use Rattle.fs_input.specs.Scan.{wrong}
 use Rattle.fs_pcapng.specs.Packets.{told_by}
 use Rattle.fs_pcapng.specs.declared.fault.NgReason.TheVariants.{Interface as WrongInterface}
 use Rattle.fs_pcapng.proofs.Fitting.{behind_all}

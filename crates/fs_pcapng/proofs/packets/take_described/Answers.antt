@@ -1,8 +1,8 @@
 use Rattle.std.proofs.Common.{◌≡◌, take, drop, length, ap, sym, ◌∙◌, arith}
 use Rattle.std.proofs.lemmas.List.{take_all}
 use Rattle.fs_pcap.specs.Order.{number}
-use Rattle.fs_scan.specs.Scan.{and, gives}
-use Rattle.fs_scan.proofs.Lifting.{gives_for, reads_ends, reads_then}
+use Rattle.fs_input.specs.Scan.{and, gives}
+use Rattle.fs_input.proofs.Lifting.{gives_for, reads_ends, reads_then}
 use Rattle.fs_pcapng.specs.Block.{close_in, described_behind}
 use Rattle.fs_pcapng.specs.declared.section.Interface.{Interface}
 use Rattle.fs_pcapng.proofs.Bodies.{interface_of}

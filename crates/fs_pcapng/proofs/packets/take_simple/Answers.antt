@@ -1,7 +1,7 @@
 use Rattle.std.proofs.Common.{◌≡◌, ◌≤◌, ◌+◌, Some, take, ap, sym, subst, ◌∙◌, arith}
 use Rattle.std.specs.Prelude.{slice_get}
-use Rattle.fs_scan.specs.Scan.{and, gives}
-use Rattle.fs_scan.proofs.Lifting.{gives_for, reads_as, reads_ends, reads_then}
+use Rattle.fs_input.specs.Scan.{and, gives}
+use Rattle.fs_input.proofs.Lifting.{gives_for, reads_as, reads_ends, reads_then}
 use Rattle.fs_pcapng.specs.Block.{cut_to, octets_in, packet, simple_behind, simple_by, simple_in}
 use Rattle.fs_pcapng.specs.Options.{padded}
 use Rattle.fs_pcapng.specs.Pcapng.{seen_from}

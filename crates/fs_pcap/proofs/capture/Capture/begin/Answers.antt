@@ -1,11 +1,11 @@
 use Rattle.std.proofs.Common.{rules, [], ◌≡◌, ◌≤◌, ◌++◌, drop, arith}
-use Rattle.fs_records.proofs.Fronts.{opens, opens_not, opens_so}
-use Rattle.fs_records.specs.Opening.{IsFrontWithin}
+use Rattle.fs_input.proofs.Fronts.{opens, opens_not, opens_so}
+use Rattle.fs_input.specs.Opening.{IsFrontWithin}
 use Rattle.fs_pcap.specs.Header.{header_of}
 use Rattle.fs_pcap.specs.declared.header.Heading.{Heading}
 use Rattle.fs_pcap.specs.Capture.{CaptureState, heading_of}
 use Rattle.fs_pcap.specs.declared.fault.CaptureReason.TheVariants.{Cut}
-use Rattle.fs_records.proofs.Beginning.{fault_anyhow, front_whole, left_alone, none_back}
+use Rattle.fs_input.proofs.Beginning.{fault_anyhow, front_whole, left_alone, none_back}
 use Rattle.fs_pcap.proofs.capture.Capture.begin.Goals as goal
 
 pub returns-in-Err-clause-opens : goal.returns-in-Err-clause-opens

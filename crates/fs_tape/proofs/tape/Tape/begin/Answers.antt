@@ -1,7 +1,7 @@
 use Rattle.std.proofs.Common.{rules, [], ◌≡◌, ◌≤◌, ◌++◌, drop, arith}
-use Rattle.fs_records.proofs.Beginning.{fault_anyhow, front_whole, left_alone, none_back}
-use Rattle.fs_records.proofs.Fronts.{opens, opens_not, opens_so}
-use Rattle.fs_records.specs.Opening.{IsFrontWithin}
+use Rattle.fs_input.proofs.Beginning.{fault_anyhow, front_whole, left_alone, none_back}
+use Rattle.fs_input.proofs.Fronts.{opens, opens_not, opens_so}
+use Rattle.fs_input.specs.Opening.{IsFrontWithin}
 use Rattle.fs_tape.specs.Magic.{magic_field}
 use Rattle.fs_tape.specs.Tape.{TapeState, version_of}
 use Rattle.fs_tape.specs.declared.fault.TapeReason.TheVariants.{Cut}

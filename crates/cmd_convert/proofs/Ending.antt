@@ -1,0 +1,165 @@
+-- How the answer of `convert` follows from what its parts did.
+use Rattle.std.proofs.Common.{◌≡◌, ◌⊎◌, inl, inr, ◌≤◌, ◌∙◌, ◌++◌, ℕ, List, [], Option, Some, None, Result, Ok, Err, refl, ap, sym, subst}
+use Rattle.std.specs.Result.{IsErrAnd, MatchResult}
+use Rattle.fs_base.specs.Outside.{Rose}
+use Rattle.fs_base.specs.Sink.{Grew, GrewPart}
+use Rattle.fs_base.specs.declared.config.Config.{Config}
+use Rattle.fs_base.proofs.Grew.{Grew-refl, part_whole, part_none}
+use Rattle.fs_line.specs.Output.{Goes}
+use Rattle.fs_line.proofs.Outputs.{goes_flush, goes_flush_part, partly_flushed}
+use Rattle.fs_mrt.specs.Dump.{DumpState, IsBegun, coming, heard_to_come}
+use Rattle.fs_mrt.specs.declared.fault.DumpReason.{DumpReason}
+use Rattle.fs_input.specs.Records.{End, done}
+use Rattle.cmd_stages.specs.Load.{Names, config_stage}
+use Rattle.cmd_stages.specs.Refusal.{Answers, Found, HasReason, Stage, Verdict, answered, or_stop, status_of, verdict_with}
+use Rattle.cmd_stages.specs.declared.refusal.Refusal.{Refusal}
+use Rattle.cmd_stages.specs.declared.refusal.Refusal.TheVariants.{Outside}
+use Rattle.cmd_stages.proofs.Stages.{answers_for, answers_memory, answers_outside, ends_early, rose_earlier, rose_later}
+use Rattle.fs_tape.specs.Laws.{tape_text}
+use Rattle.fs_tape.specs.declared.magic.Version.TheVariants.{Two}
+use Rattle.cmd_convert.specs.Lives.{Life, lives_of, no_lives}
+use Rattle.cmd_convert.specs.Making.{items_from}
+use Rattle.cmd_convert.specs.Command.{Breaks, ConvertsSo, IsAtRecord, dump_stage, status_at, verdict_of}
+
+-- before the dump is read
+
+pub config_ends : (limit : ℕ) (holds : Names) (config dump : List ℕ) (failed failed' : Type 0) (a : Option (List ℕ)) (refusal : Refusal)
+    → HasReason (config_stage limit holds config) failed refusal → (failed → failed') → ConvertsSo limit holds config dump failed' a a (status_of refusal)
+config_ends limit holds config dump failed failed' a refusal h f = inl (ends_early (config_stage limit holds config) failed failed' a refusal h f)
+
+answers_stopped : (config : Config) (limit : ℕ) (stage : Stage (List ℕ)) (failed : Type 0) (a : Option (List ℕ)) (refusal : Refusal)
+    → HasReason stage failed refusal → Answers (verdict_of config limit stage) failed a a (status_of refusal)
+answers_stopped config limit stage failed a refusal (inl h) =
+    subst (λ (s : Stage (List ℕ)). Answers (verdict_of config limit s) failed a a (status_of refusal)) (sym h)
+    (record { status_is = inl refl; part = part_none a a [] (Grew-refl a); whole = λ six one. Grew-refl a })
+answers_stopped config limit stage failed a refusal (inr (inl e)) = answers_memory (verdict_of config limit stage) failed a refusal e
+answers_stopped config limit stage failed a refusal (inr (inr h)) = answers_outside (verdict_of config limit stage) failed a refusal h.0 h.1
+
+module _ (limit : ℕ) (holds : Names) (config dump : List ℕ) (accepted : Config) where
+  pub dump_ends : (names : Names) (failed failed' : Type 0) (a : Option (List ℕ)) (refusal : Refusal)
+      → config_stage limit holds config ≡ Found accepted → names ≡ holds → HasReason (dump_stage names dump) failed refusal → (failed → failed')
+      → ConvertsSo limit holds config dump failed' a a (status_of refusal)
+  dump_ends names failed failed' a refusal found same h f =
+      inr (record {
+        accepted = accepted;
+        found = found;
+        answers = answers_for (verdict_of accepted limit (dump_stage holds dump)) failed failed' a a (status_of refusal)
+            (answers_stopped accepted limit (dump_stage holds dump) failed a refusal
+            (subst (λ (n : Names). HasReason (dump_stage n dump) failed refusal) same h)) f;
+      })
+
+-- what it is to answer and write, where the dump was opened
+pub read_verdict : (config accepted : Config) (limit : ℕ) (names : Names) (name : List ℕ) (left : ℕ → List ℕ) (dump : DumpState) (lives : List Life)
+    → config ≡ accepted → names name ≡ Some (left 1) → IsBegun 1 limit [] dump → ((peer : ℕ) → lives_of lives peer ≡ None)
+    → verdict_of accepted limit (dump_stage names name)
+    ≡ verdict_with (status_at (coming config dump (left dump.slot)).1) (tape_text Two (items_from config (lives_of lives) (coming config dump (left dump.slot)).0))
+read_verdict config accepted limit names name left dump lives same h b down =
+    ap (λ (c : Option (List ℕ)). verdict_of accepted limit (or_stop Outside c)) h
+    ∙ (λ i. verdict_with
+    (status_at (heard_to_come (sym same i).peers (sym b.limit_is i) (sym b.place_is i) (sym b.moment_is i) (sym b.back_is i ++ left (sym b.slot_is i))).1)
+    (tape_text Two (items_from (sym same i) (sym lives_are i)
+    (heard_to_come (sym same i).peers (sym b.limit_is i) (sym b.place_is i) (sym b.moment_is i) (sym b.back_is i ++ left (sym b.slot_is i))).0)))
+  where
+    lives_are : lives_of lives ≡ no_lives
+    lives_are i peer = down peer i
+
+-- What converting did, before what is pending is written out: the whole text went on, or converting broke off.
+abbrev Went : (end : End DumpReason) (before mid : Option (List ℕ)) (first pending text : List ℕ) (failed : Type 0) → {T : Type 0} → Result T Refusal → Type 0
+Went end before mid first pending text failed result =
+    MatchResult result (λ _. (end ≡ done) × Goes before mid first pending text) (Breaks end before mid first pending text failed)
+
+text_whole : (end : End DumpReason) (text : List ℕ) (failed : Type 0) (before now : Option (List ℕ)) (answer : ℕ)
+    → answer ≡ status_at end → Grew before now text → Answers (verdict_with (status_at end) text) failed before now answer
+text_whole end text failed before now answer e grew = record {
+  status_is = inl e;
+  part = part_whole before now text grew;
+  whole = λ six one. grew;
+}
+
+text_broken : (end : End DumpReason) (text : List ℕ) (failed : Type 0) (before now : Option (List ℕ)) (refusal : Refusal)
+    → refusal ≡ Outside → failed → GrewPart before now text → Answers (verdict_with (status_at end) text) failed before now (status_of refusal)
+text_broken end text failed before now refusal e f part = record {
+  status_is = inr (inr (ap status_of e, f));
+  part = part;
+  whole = λ six one. absurd (one (ap status_of e));
+}
+
+-- what is pending was written out
+flushed : {T : Type 0} (end : End DumpReason) (before mid now : Option (List ℕ)) (pending text : List ℕ) (failed : Type 0) (result : Result T Refusal)
+    → Went end before mid [] pending text failed result → Grew mid now pending
+    → Answers (verdict_with (status_at end) text) failed before now (answered result)
+flushed end before mid now pending text failed (Ok value) went grew =
+    text_whole end text failed before now 0 (sym (ap status_at went.0)) (goes_flush now went.1 grew)
+flushed end before mid now pending text failed (Err refusal) (inl h) grew =
+    text_whole end text failed before now (status_of refusal) (sym h.0) (goes_flush now h.1 grew)
+flushed end before mid now pending text failed (Err refusal) (inr h) grew =
+    text_broken end text failed before now refusal h.0 h.1.0 (partly_flushed before mid now pending text h.1.1 (part_whole mid now pending grew))
+
+-- or couldn't be
+unflushed : {T : Type 0} (end : End DumpReason) (before mid now : Option (List ℕ)) (pending text : List ℕ) (failed other : Type 0) (result : Result T Refusal) (refusal : Refusal)
+    → Went end before mid [] pending text other result → GrewPart mid now pending → failed → refusal ≡ Outside
+    → Answers (verdict_with (status_at end) text) failed before now (status_of refusal)
+unflushed end before mid now pending text failed other (Ok value) refusal w part f e =
+    text_broken end text failed before now refusal e f (goes_flush_part now w.1 part)
+unflushed end before mid now pending text failed other (Err cause) refusal (inl h) part f e =
+    text_broken end text failed before now refusal e f (goes_flush_part now h.1 part)
+unflushed end before mid now pending text failed other (Err cause) refusal (inr h) part f e =
+    text_broken end text failed before now refusal e f (partly_flushed before mid now pending text h.1.1 part)
+
+went_from : {T : Type 0} (end : End DumpReason) (before mid : Option (List ℕ)) (first pending text : List ℕ) (failed : Type 0) (result : Result T Refusal)
+    → first ≡ [] → Went end before mid first pending text failed result → Went end before mid [] pending text failed result
+went_from end before mid first pending text failed result e w = subst (λ (p : List ℕ). Went end before mid p pending text failed result) e w
+
+-- the dump was converted, and what is pending was written out, or couldn't be
+module _ (limit : ℕ) (holds names : Names) (config dump : List ℕ) (accepted : Config) (end : End DumpReason) (text first pending : List ℕ)
+    (before mid now : Option (List ℕ)) (f f1 f2 s s1 s2 : ℕ) where
+  converts_so : (answer : ℕ) → config_stage limit holds config ≡ Found accepted → names ≡ holds
+      → verdict_of accepted limit (dump_stage names dump) ≡ verdict_with (status_at end) text
+      → Answers (verdict_with (status_at end) text) (Rose f f2 ⊎ Rose s s2) before now answer
+      → ConvertsSo limit holds config dump (Rose f f2 ⊎ Rose s s2) before now answer
+  converts_so answer found same e a =
+      inr (record {
+        accepted = accepted;
+        found = found;
+        answers =
+            subst (λ (n : Names). Answers (verdict_of accepted limit (dump_stage n dump)) (Rose f f2 ⊎ Rose s s2) before now answer) same
+            (subst (λ (v : Verdict). Answers v (Rose f f2 ⊎ Rose s s2) before now answer) (sym e) a);
+      })
+
+  pub all_flushed : {T : Type 0} (result : Result T Refusal)
+      → config_stage limit holds config ≡ Found accepted → names ≡ holds
+      → verdict_of accepted limit (dump_stage names dump) ≡ verdict_with (status_at end) text → first ≡ []
+      → MatchResult result (λ _. (end ≡ done) × Goes before mid first pending text) (Breaks end before mid first pending text (Rose f1 f2 ⊎ Rose s s1))
+      → f ≤ f1 → s1 ≤ s2 → Grew mid now pending
+      → ConvertsSo limit holds config dump (Rose f f2 ⊎ Rose s s2) before now (answered result)
+  all_flushed result found same e none w l m grew =
+      converts_so (answered result) found same e
+      (answers_for (verdict_with (status_at end) text) (Rose f1 f2 ⊎ Rose s s1) (Rose f f2 ⊎ Rose s s2) before now (answered result)
+      (flushed end before mid now pending text (Rose f1 f2 ⊎ Rose s s1) result (went_from end before mid first pending text (Rose f1 f2 ⊎ Rose s s1) result none w) grew) wider)
+    where
+      wider : Rose f1 f2 ⊎ Rose s s1 → Rose f f2 ⊎ Rose s s2
+      wider (inl r) = inl (rose_earlier f f1 f2 l r)
+      wider (inr r) = inr (rose_later s s1 s2 r m)
+
+  pub not_flushed : {T U : Type 0} (result : Result T Refusal) (answer : Result U Refusal)
+      → config_stage limit holds config ≡ Found accepted → names ≡ holds
+      → verdict_of accepted limit (dump_stage names dump) ≡ verdict_with (status_at end) text → first ≡ []
+      → MatchResult result (λ _. (end ≡ done) × Goes before mid first pending text) (Breaks end before mid first pending text (Rose f1 f2 ⊎ Rose s s1))
+      → s ≤ s1 → Rose s1 s2 → GrewPart mid now pending → IsErrAnd answer (λ e. e ≡ Outside)
+      → ConvertsSo limit holds config dump (Rose f f2 ⊎ Rose s s2) before now (answered answer)
+  not_flushed result (Ok value) found same e none w l r part h = absurd h
+  not_flushed result (Err refusal) found same e none w l r part h =
+      converts_so (status_of refusal) found same e
+      (unflushed end before mid now pending text (Rose f f2 ⊎ Rose s s2) (Rose f1 f2 ⊎ Rose s s1) result refusal
+      (went_from end before mid first pending text (Rose f1 f2 ⊎ Rose s s1) result none w) part (inr (rose_earlier s s1 s2 l r)) h)
+
+-- no status of a dump that was opened is that of a configuration, or of want of memory
+
+pub never_quiet : {A : Type 0} (status : ℕ) → IsAtRecord status → (status ≡ 3) ⊎ (status ≡ 6) → A
+never_quiet status h (inl e) = absurd (h.1 e)
+never_quiet status h (inr e) = absurd (h.2 e)
+
+pub outside_quiet : {T A : Type 0} (r : Result T Refusal) → IsErrAnd r (λ e. e ≡ Outside) → (answered r ≡ 3) ⊎ (answered r ≡ 6) → A
+outside_quiet (Ok t) h q = absurd h
+outside_quiet (Err refusal) h (inl q) = let at : status_of Outside ≡ 3 = ap status_of (sym h) ∙ q in absurd cc
+outside_quiet (Err refusal) h (inr q) = let at : status_of Outside ≡ 6 = ap status_of (sym h) ∙ q in absurd cc

@@ -1,0 +1,22 @@
+use Rattle.std.proofs.Common.{ap, sym}
+use Rattle.fs_line.proofs.Outputs.{sends_as}
+use Rattle.fs_mrt.specs.Dump.{said_from}
+use Rattle.fs_mrt.specs.declared.heard.What.{What}
+use Rattle.cmd_convert.specs.Lives.{lives_of}
+use Rattle.cmd_convert.specs.Making.{made_by, text_at}
+use Rattle.cmd_convert.proofs.Writing.{change_lives}
+use Rattle.cmd_convert.proofs.making.Making.write_heard.Goals as goal
+
+pub returns-in-Change-clause-lives : goal.returns-in-Change-clause-lives
+returns-in-Change-clause-lives g c =
+    change_lives c.write_change.result (lives_of c.write_change.new.self.lives) (lives_of c.args.self.now.lives) c.args.self.now.config c.args.heard.peer
+    c.in-Change.old c.in-Change.new c.args.heard.what c.args.buffer.now c.args.heard.wide (lives_of c.args.self.now.lives c.args.heard.peer)
+    c.in-Change.is c.write_change.ensures.lives
+
+pub returns-in-Change-clause-sends : goal.returns-in-Change-clause-sends
+returns-in-Change-clause-sends g c =
+    sends_as
+    (ap (λ (what : What). text_at c.args.heard.moment
+    (made_by c.args.self.now.config c.args.heard.peer c.args.heard.wide (said_from what c.args.buffer.now) (lives_of c.args.self.now.lives c.args.heard.peer)).0)
+    (sym c.in-Change.is))
+    (c.write_change.ensures.sends c.args.heard.wide)

@@ -1,0 +1,20 @@
+-- A dump that was converted is read back as a tape.
+use Rattle.std.specs.Prelude.{ℕ, List, ◌≡◌, ◌↔◌, ◌<◌, length, Some}
+use Rattle.fs_base.specs.Language.{IsOctets}
+use Rattle.fs_base.specs.declared.config.Config.{Config}
+use Rattle.fs_conf.specs.Config.{config_of}
+use Rattle.fs_input.specs.Records.{done}
+use Rattle.fs_tape.specs.Laws.{tape_text}
+use Rattle.fs_tape.specs.Tape.{Timed, tape_of}
+use Rattle.fs_tape.specs.declared.magic.Version.TheVariants.{Two}
+use Rattle.cmd_convert.specs.Making.{remade}
+
+-- a tape of the second version with these items gives them all where it lies below the limit, and nowhere else
+abbrev pub GivesBack : Config → ℕ → List Timed → Type 0
+GivesBack config limit items = (tape_of config limit (tape_text Two items) ≡ (items, done)) ↔ (length (tape_text Two items) < limit)
+
+-- so of the items that a dump makes for the configuration of a file, whatever the dump's end
+abbrev pub ReadsBackConverted : Type 0
+ReadsBackConverted =
+    (text : List ℕ) (config : Config) (limit tape_limit : ℕ) (content : List ℕ) → config_of text ≡ Some config → IsOctets content
+    → GivesBack config tape_limit (remade config limit content).0

@@ -1,0 +1,358 @@
+-- A capture that is judged packet by packet, each under the routes held at its moment.
+use Rattle.std.proofs.Common.{◌≡◌, ◌≢◌, ◌⊎◌, inl, inr, ◌≤◌, ◌<◌, ◌+◌, ◌^◌, ◌==◌, ℕ, List, [], ◌∷◌, ◌++◌, Bool, true, false, Option, Some, None, length, refl, ap, sym, ◌∙◌, subst, append_assoc, append-nil, length-append, arith}
+use Rattle.std.specs.Option.{is_some}
+use Rattle.std.specs.Prelude.{IfSome, Result, Ok, Err, if◌then◌else◌}
+use Rattle.std.specs.Result.{IsErrAnd}
+use Rattle.std.proofs.lemmas.Bool.Decides.{nat_tests}
+use Rattle.fs_base.specs.Outside.{Rose}
+use Rattle.fs_base.specs.Parts.{with_part}
+use Rattle.fs_base.specs.declared.config.Config.{Config}
+use Rattle.fs_input.specs.Records.{End, done}
+use Rattle.fs_desk.specs.Laws.{LeaveSame}
+use Rattle.fs_desk.specs.Leaves.{Leaves}
+use Rattle.fs_line.specs.Output.{Goes, Stops}
+use Rattle.fs_line.proofs.Outputs.{goes_none, goes_then, goes_stops, goes_as, stops_as}
+use Rattle.fs_capture.specs.Capture.{Captured, CaptureState, Recorded, coming, packet_from}
+use Rattle.fs_capture.specs.declared.caught.Caught.{Caught}
+use Rattle.fs_capture.specs.declared.fault.CaptureReason.{CaptureReason}
+use Rattle.fs_rules.specs.Table.{Held}
+use Rattle.fs_tape.specs.Tape.{Item, Timed}
+use Rattle.cmd_stages.specs.declared.refusal.Refusal.{Refusal}
+use Rattle.cmd_stages.specs.declared.refusal.Refusal.TheVariants.{Outside, Memory}
+use Rattle.cmd_stages.specs.Play.{until}
+use Rattle.cmd_stages.specs.Player.{IsUnplayed, PlayerState, Stands, due_item}
+use Rattle.fs_tape.specs.declared.item.TapeItem.{TapeItem}
+use Rattle.cmd_stages.specs.Refusal.{answered, status_of}
+use Rattle.cmd_stages.proofs.LookingAhead.{stands_later}
+use Rattle.cmd_stages.proofs.Playing.{all_more}
+use Rattle.cmd_enforce.specs.Judge.{AdmittedRules, Ceases, IsAtPacket, admitted_rules, always, hand_text, in_hand, lines_from, output_of, packet_text, rules_by, status_at}
+use Rattle.cmd_enforce.specs.Moments.{BreaksBehind, BreaksOff, CameTo, Follows, HoldAt, IsUnjudged, LeaveSameAt, came_lines}
+
+-- tapes that leave the same routes leave one list of held routes
+abbrev pub OneList : Type 0
+OneList =
+    (config : Config) (items other : List Item) (held kept : Held)
+    → LeaveSame config items other → Leaves config items held → Leaves config other kept → held ≡ kept
+
+-- the lines of packets, and then of others
+lines_append : (rules : ℕ → AdmittedRules) (n : ℕ) (xs ys : List Captured) → lines_from n rules (xs ++ ys) ≡ lines_from n rules xs ++ lines_from (n + length xs) rules ys
+lines_append rules n [] ys = ap (λ (k : ℕ). lines_from k rules ys) (omega (arith))
+lines_append rules n (x ∷ xs) ys =
+    ap (λ (z : List ℕ). packet_text (n + 1) (rules x.moment) x.link x.octets ++ z) (lines_append rules (n + 1) xs ys)
+    ∙ sym (append_assoc (packet_text (n + 1) (rules x.moment) x.link x.octets) (lines_from (n + 1) rules xs) (lines_from (n + 1 + length xs) rules ys))
+    ∙ ap (λ (k : ℕ). (packet_text (n + 1) (rules x.moment) x.link x.octets ++ lines_from (n + 1) rules xs) ++ lines_from k rules ys) (omega (arith))
+
+-- the lines take nothing of a tape but the routes that it holds at the packets' moments
+
+lines_agree : OneList → (config : Config) (items other : List Timed) (held kept : ℕ → Held) (n : ℕ) (packets : List Captured)
+    → LeaveSameAt config items other packets → HoldAt config items held packets → HoldAt config other kept packets
+    → lines_from n (rules_by held) packets ≡ lines_from n (rules_by kept) packets
+lines_agree one config items other held kept n [] same a b = refl
+lines_agree one config items other held kept n (packet ∷ packets) same a b =
+    let now : held packet.moment ≡ kept packet.moment =
+    one config (until packet.moment items) (until packet.moment other) (held packet.moment) (kept packet.moment) same.0 a.0 b.0 in
+    ap (λ (h : Held). packet_text (n + 1) (admitted_rules h) packet.link packet.octets ++ lines_from (n + 1) (rules_by held) packets) now
+    ∙ ap (λ (more : List ℕ). packet_text (n + 1) (admitted_rules (kept packet.moment)) packet.link packet.octets ++ more)
+    (lines_agree one config items other held kept (n + 1) packets same.1 a.1 b.1)
+
+pub outputs_agree : OneList → (config : Config) (items other : List Timed) (held kept : ℕ → Held) (capture : Recorded)
+    → LeaveSameAt config items other capture.packets → HoldAt config items held capture.packets → HoldAt config other kept capture.packets
+    → output_of held capture ≡ output_of kept capture
+outputs_agree one config items other held kept capture same a b = lines_agree one config items other held kept 0 capture.packets same a b
+
+same_at : (config : Config) (items : List Timed) (packets : List Captured) → LeaveSameAt config items items packets
+same_at config items [] = tt
+same_at config items (packet ∷ packets) = (record { unicast = λ place. refl; flows = λ rule peer. refl }, same_at config items packets)
+
+-- the routes of a table from a moment on: of that moment alone
+
+abbrev with_table : (ℕ → Held) → ℕ → Held → ℕ → Held
+with_table held m table t = if t == m then table else held t
+
+itself : (n : ℕ) → (n == n) ≡ true
+itself n = grind (arith, nat_tests)
+
+one_number : (a b : ℕ) → (a == b) ≡ true → a ≡ b
+one_number a b e = grind (arith, nat_tests, e)
+
+holds_still : (config : Config) (items : List Timed) (held : ℕ → Held) (m : ℕ) (table : Held) (gone : List Captured)
+    → HoldAt config items held gone → Leaves config (until m items) table → HoldAt config items (with_table held m table) gone
+holds_still config items held m table [] all l = tt
+holds_still config items held m table (packet ∷ gone) all l =
+    (by (packet.moment == m) refl, holds_still config items held m table gone all.1 l)
+  where
+    by : (b : Bool) → (packet.moment == m) ≡ b → Leaves config (until packet.moment items) (if b then table else held packet.moment)
+    by true e = subst (λ (t : ℕ). Leaves config (until t items) table) (sym (one_number packet.moment m e)) l
+    by false e = all.0
+
+-- one more packet, under a table of the routes held at its moment
+pub record Extended (config : Config) (items : List Timed) (held : ℕ → Held) (gone : List Captured) (packet : Captured) (table : Held) : Type 0 where
+  pub kept : ℕ → Held
+  pub leaves : HoldAt config items kept (gone ++ packet ∷ [])
+  pub lines : lines_from 0 (rules_by kept) (gone ++ packet ∷ [])
+      ≡ lines_from 0 (rules_by held) gone ++ packet_text (length gone + 1) (admitted_rules table) packet.link packet.octets
+
+extend : OneList → (config : Config) (items : List Timed) (held : ℕ → Held) (gone : List Captured) (packet : Captured) (table : Held)
+    → HoldAt config items held gone → Leaves config (until packet.moment items) table → Extended config items held gone packet table
+extend one config items held gone packet table a l =
+    let kept : ℕ → Held = with_table held packet.moment table in
+    let still : HoldAt config items kept gone = holds_still config items held packet.moment table gone a l in
+    let here : kept packet.moment ≡ table = ap (λ (b : Bool). if b then table else held packet.moment) (itself packet.moment) in
+    let zero : 0 + length gone ≡ length gone = omega arith in
+    record {
+      kept = kept;
+      leaves = all_more (λ (p : Captured). Leaves config (until p.moment items) (kept p.moment)) gone (packet ∷ []) still
+          (subst (λ (h : Held). Leaves config (until packet.moment items) h) (sym here) l, tt);
+      lines =
+          lines_append (rules_by kept) 0 gone (packet ∷ [])
+          ∙ ap (λ (front : List ℕ). front ++ lines_from (0 + length gone) (rules_by kept) (packet ∷ []))
+          (lines_agree one config items items kept held 0 gone (same_at config items gone) still a)
+          ∙ ap (λ (more : List ℕ). lines_from 0 (rules_by held) gone ++ more)
+          (append-nil (packet_text (0 + length gone + 1) (admitted_rules (kept packet.moment)) packet.link packet.octets)
+          ∙ ap (λ (k : ℕ). packet_text (k + 1) (admitted_rules (kept packet.moment)) packet.link packet.octets) zero
+          ∙ ap (λ (h : Held). packet_text (length gone + 1) (admitted_rules h) packet.link packet.octets) here);
+    }
+
+followed_none : (config : Config) (items : List Timed) (all : List Captured × End CaptureReason) (now : Option (List ℕ)) (pending : List ℕ) (table : Held)
+    → Follows config items all all now now pending pending 0
+followed_none config items all now pending table = record {
+  held = always table;
+  gone = [];
+  parts = refl;
+  end_is = refl;
+  count = refl;
+  leaves = tt;
+  goes = goes_none now pending;
+}
+
+pub followed_more : OneList → (config : Config) (items : List Timed) (all rest rest' : List Captured × End CaptureReason) (before now now' : Option (List ℕ)) (pending pending_now pending' : List ℕ) (number : ℕ) (packet : Captured) (table : Held)
+    → Follows config items all rest before now pending pending_now number → rest ≡ with_part packet rest'
+    → Leaves config (until packet.moment items) table
+    → Goes now now' pending_now pending' (packet_text (number + 1) (admitted_rules table) packet.link packet.octets)
+    → Follows config items all rest' before now' pending pending' (number + 1)
+followed_more one config items all rest rest' before now now' pending pending_now pending' number packet table f e l g =
+    let more : Extended config items f.held f.gone packet table = extend one config items f.held f.gone packet table f.leaves l in
+    record {
+      held = more.kept;
+      gone = f.gone ++ packet ∷ [];
+      parts = f.parts ∙ ap (λ (r : List Captured × End CaptureReason). f.gone ++ r.0) e ∙ sym (append_assoc f.gone (packet ∷ []) rest'.0);
+      end_is = f.end_is ∙ ap (λ (r : List Captured × End CaptureReason). r.1) e;
+      count = ap (λ (n : ℕ). n + 1) f.count ∙ sym (length-append f.gone (packet ∷ []));
+      leaves = more.leaves;
+      goes = goes_as
+          (ap (λ (n : ℕ). lines_from 0 (rules_by f.held) f.gone ++ packet_text (n + 1) (admitted_rules table) packet.link packet.octets) f.count ∙ sym more.lines)
+          (goes_then f.goes g);
+    }
+
+-- the packets that judging came to
+abbrev came_of : {config : Config} {items : List Timed} {all rest : List Captured × End CaptureReason} {before now : Option (List ℕ)} {pending pending_now : List ℕ} {number : ℕ}
+    → Follows config items all rest before now pending pending_now number → CameTo config items all.0
+came_of {rest = rest} f = record { held = f.held; judged = f.gone; rest = rest.0; parts = f.parts; leaves = f.leaves }
+
+pub followed_done : (config : Config) (items : List Timed) (all rest : List Captured × End CaptureReason) (before now : Option (List ℕ)) (pending pending_now : List ℕ) (number : ℕ)
+    → Follows config items all rest before now pending pending_now number → rest ≡ ([], done)
+    → (came : CameTo config items all.0) × (came.rest ≡ []) × (all.1 ≡ done) × Goes before now pending pending_now (came_lines came)
+followed_done config items all rest before now pending pending_now number f e =
+    (came_of f, ap (λ (r : List Captured × End CaptureReason). r.0) e, f.end_is ∙ ap (λ (r : List Captured × End CaptureReason). r.1) e, f.goes)
+
+rose_before : (early mid after : ℕ) → early ≤ mid → Rose mid after → Rose early after
+rose_before early mid after l r = omega (arith, l, r)
+
+-- a call on the files failed
+files_failed : (config : Config) (items : List Timed) (all rest : List Captured × End CaptureReason) (left : List Captured) (before now : Option (List ℕ)) (pending pending_now : List ℕ) (number : ℕ) (failed : Type 0) (refusal : Refusal)
+    → Follows config items all rest before now pending pending_now number → refusal ≡ Outside → failed
+    → BreaksOff config items all left before now pending pending_now failed refusal
+files_failed config items all rest left before now pending pending_now number failed refusal f s h = (
+  came_of f,
+  inr (inr (
+    s,
+    h,
+    inl (record {
+      front = lines_from 0 (rules_by f.held) f.gone;
+      rest = [];
+      parts = sym (append-nil (lines_from 0 (rules_by f.held) f.gone));
+      goes = f.goes;
+    }),
+  )),
+)
+
+pub followed_ceased : (config : Config) (items : List Timed) (all rest : List Captured × End CaptureReason) (left : List Captured) (before now : Option (List ℕ)) (pending pending_now : List ℕ) (number early mid after : ℕ) (other : Type 0) (cause refusal : Refusal)
+    → Follows config items all rest before now pending pending_now number → early ≤ mid → refusal ≡ cause → Ceases rest (Rose mid after) cause
+    → BreaksOff config items all left before now pending pending_now (Rose early after ⊎ other) refusal
+followed_ceased config items all rest left before now pending pending_now number early mid after other cause refusal f l s (inl h) =
+    (came_of f, inl (ap status_at f.end_is ∙ h.1 ∙ ap status_of (sym s), h.0, f.goes))
+followed_ceased config items all rest left before now pending pending_now number early mid after other cause refusal f l s (inr h) =
+    files_failed config items all rest left before now pending pending_now number (Rose early after ⊎ other) refusal f (s ∙ h.0) (inl (rose_before early mid after l h.1))
+
+-- memory was wanting, and these packets are left
+pub followed_wanting : (config : Config) (items : List Timed) (all rest : List Captured × End CaptureReason) (left : List Captured) (before now : Option (List ℕ)) (pending pending_now : List ℕ) (number : ℕ) (failed : Type 0) (refusal : Refusal)
+    → Follows config items all rest before now pending pending_now number → IsUnjudged rest.0 left → refusal ≡ Memory
+    → BreaksOff config items all left before now pending pending_now failed refusal
+followed_wanting config items all rest left before now pending pending_now number failed refusal f u s = (came_of f, inr (inl (s, u, f.goes)))
+
+-- so where the tape couldn't be played on
+pub followed_unplayed : (config : Config) (items : List Timed) (all rest : List Captured × End CaptureReason) (left : List Captured) (before now : Option (List ℕ)) (pending pending_now : List ℕ) (number early mid after : ℕ) (other : Type 0) (cause refusal : Refusal)
+    → Follows config items all rest before now pending pending_now number → IsUnjudged rest.0 left → early ≤ mid → refusal ≡ cause → IsUnplayed (Rose mid after) cause
+    → BreaksOff config items all left before now pending pending_now (Rose early after ⊎ other) refusal
+followed_unplayed config items all rest left before now pending pending_now number early mid after other cause refusal f u l s (inl h) =
+    followed_wanting config items all rest left before now pending pending_now number (Rose early after ⊎ other) refusal f u (s ∙ h)
+followed_unplayed config items all rest left before now pending pending_now number early mid after other cause refusal f u l s (inr h) =
+    files_failed config items all rest left before now pending pending_now number (Rose early after ⊎ other) refusal f (s ∙ h.0) (inl (rose_before early mid after l h.1))
+
+-- the sink failed within the line of a packet
+pub followed_stopped : OneList → (config : Config) (items : List Timed) (all rest rest' : List Captured × End CaptureReason) (left : List Captured) (before now now' : Option (List ℕ)) (pending pending_now pending' : List ℕ) (number : ℕ) (packet : Captured) (table : Held) (files : Type 0) (first mid after : ℕ) (refusal : Refusal)
+    → Follows config items all rest before now pending pending_now number → rest ≡ with_part packet rest' → Leaves config (until packet.moment items) table
+    → Stops now now' pending_now pending' (packet_text (number + 1) (admitted_rules table) packet.link packet.octets)
+    → first ≤ mid → Rose mid after → refusal ≡ Outside
+    → BreaksOff config items all left before now' pending pending' (files ⊎ Rose first after) refusal
+followed_stopped one config items all rest rest' left before now now' pending pending_now pending' number packet table files first mid after refusal f e l stop later rose s =
+    let more : Extended config items f.held f.gone packet table = extend one config items f.held f.gone packet table f.leaves l in (
+      record {
+        held = more.kept;
+        judged = f.gone ++ packet ∷ [];
+        rest = rest'.0;
+        parts = f.parts ∙ ap (λ (r : List Captured × End CaptureReason). f.gone ++ r.0) e ∙ sym (append_assoc f.gone (packet ∷ []) rest'.0);
+        leaves = more.leaves;
+      },
+      inr (inr (
+        s,
+        inr (rose_before first mid after later rose),
+        inr (stops_as
+            (ap (λ (n : ℕ). lines_from 0 (rules_by f.held) f.gone ++ packet_text (n + 1) (admitted_rules table) packet.link packet.octets) f.count ∙ sym more.lines)
+            (goes_stops f.goes stop)),
+      )),
+    )
+
+-- the packet in hand, if there is one
+
+pub followed_hand : OneList → (config : Config) (items : List Timed) (all rest : List Captured × End CaptureReason) (before now now' : Option (List ℕ)) (pending pending_now pending' : List ℕ) (number number' : ℕ) (hand : Option Caught) (into : List ℕ) (table : Held)
+    → Follows config items all (in_hand hand into rest) before now pending pending_now number → IfSome hand (λ caught. Leaves config (until caught.moment items) table)
+    → Goes now now' pending_now pending' (hand_text (number + 1) (admitted_rules table) hand into) → number' ≡ number + (if is_some hand then 1 else 0)
+    → Follows config items all rest before now' pending pending' number'
+followed_hand one config items all rest before now now' pending pending_now pending' number number' None into table f l g n = record {
+  held = f.held;
+  gone = f.gone;
+  parts = f.parts;
+  end_is = f.end_is;
+  count = let same : number' ≡ number = omega (arith, n) in same ∙ f.count;
+  leaves = f.leaves;
+  goes = goes_as (append-nil (lines_from 0 (rules_by f.held) f.gone)) (goes_then f.goes g);
+}
+followed_hand one config items all rest before now now' pending pending_now pending' number number' (Some caught) into table f l g n =
+    subst (λ (k : ℕ). Follows config items all rest before now' pending pending' k) (sym n)
+    (followed_more one config items all (with_part (packet_from caught into) rest) rest before now now' pending pending_now pending' number (packet_from caught into) table f refl l g)
+
+pub stopped_hand : OneList → (config : Config) (items : List Timed) (all rest : List Captured × End CaptureReason) (left : List Captured) (before now now' : Option (List ℕ)) (pending pending_now pending' : List ℕ) (number : ℕ) (hand : Option Caught) (into : List ℕ) (table : Held) (files : Type 0) (first after : ℕ) (refusal : Refusal)
+    → Follows config items all (in_hand hand into rest) before now pending pending_now number → IfSome hand (λ caught. Leaves config (until caught.moment items) table)
+    → Stops now now' pending_now pending' (hand_text (number + 1) (admitted_rules table) hand into)
+    → Rose first after → refusal ≡ Outside
+    → BreaksOff config items all left before now' pending pending' (files ⊎ Rose first after) refusal
+stopped_hand one config items all rest left before now now' pending pending_now pending' number None into table files first after refusal f l stop rose s =
+    (came_of f, inr (inr (s, inr rose, inr (stops_as (append-nil (lines_from 0 (rules_by f.held) f.gone)) (goes_stops f.goes stop)))))
+stopped_hand one config items all rest left before now now' pending pending_now pending' number (Some caught) into table files first after refusal f l stop rose s =
+    followed_stopped one config items all (with_part (packet_from caught into) rest) rest left before now now' pending pending_now pending' number (packet_from caught into) table files first first after refusal
+    f refl l stop (omega arith) rose s
+
+-- it is what judging awaits
+pub hand_unjudged : (hand : Option Caught) (into : List ℕ) (rest : List Captured × End CaptureReason) → IsUnjudged (in_hand hand into rest).0 rest.0
+hand_unjudged None into rest = inl refl
+hand_unjudged (Some caught) into rest = inr (packet_from caught into, refl)
+
+pub hand_counted : (hand : Option Caught) (longest number number' place : ℕ) → number ≤ place → IfSome hand (λ caught. (caught.taken ≤ longest) × (number < place))
+    → number' ≡ number + (if is_some hand then 1 else 0) → number' ≤ place
+hand_counted None longest number number' place l h e = omega (arith, l, e)
+hand_counted (Some caught) longest number number' place l h e = omega (arith, h.1, e)
+
+-- it fits
+pub hand_fits : (hand : Option Caught) (longest room number place limit : ℕ) → longest ≤ room → place ≤ limit → limit < 2 ^ 64
+    → IfSome hand (λ caught. (caught.taken ≤ longest) × (number < place)) → IfSome hand (λ caught. (caught.taken ≤ room) × (number + 1 < 2 ^ 64))
+hand_fits None longest room number place limit r w f h = tt
+hand_fits (Some caught) longest room number place limit r w f h = (omega (arith, h.0, r), below number place limit h.1 w f)
+  where
+    below : (number place limit : ℕ) → number < place → place ≤ limit → limit < 2 ^ 64 → number + 1 < 2 ^ 64
+    below number place limit a b d = omega (arith, a, b, d)
+
+-- what failed in a part failed in the whole
+
+pub breaks_wider : (config : Config) (items : List Timed) (all : List Captured × End CaptureReason) (left : List Captured) (before now : Option (List ℕ)) (pending pending_now : List ℕ) (failed other : Type 0) (refusal : Refusal)
+    → (failed → other) → BreaksOff config items all left before now pending pending_now failed refusal → BreaksOff config items all left before now pending pending_now other refusal
+breaks_wider config items all left before now pending pending_now failed other refusal f b = (b.0, by b.1)
+  where
+    by : BreaksBehind all.1 left b.0 before now pending pending_now failed refusal → BreaksBehind all.1 left b.0 before now pending pending_now other refusal
+    by (inl h) = inl h
+    by (inr (inl h)) = inr (inl h)
+    by (inr (inr h)) = inr (inr (h.0, f h.1, h.2))
+
+pub rose_back : (f f1 f2 s s1 s2 : ℕ) → f ≤ f1 → s ≤ s1 → Rose f1 f2 ⊎ Rose s1 s2 → Rose f f2 ⊎ Rose s s2
+rose_back f f1 f2 s s1 s2 l m (inl r) = inl (rose_before f f1 f2 l r)
+rose_back f f1 f2 s s1 s2 l m (inr r) = inr (rose_before s s1 s2 m r)
+
+-- where nothing is ahead nothing is due
+pub never_due : {A : Type 0} (ahead : Option TapeItem) (at moment : ℕ) → ahead ≡ None → is_some (due_item ahead at moment) ≡ true → A
+never_due None at moment e h = absurd cc
+never_due (Some item) at moment e h = absurd cc
+
+-- the slots of the tape and of the capture are apart
+
+not_same : (one two : ℕ) → one ≡ 1 → two ≡ 2 → one ≢ two
+not_same one two e f g = let wrong : 1 ≡ 2 = sym e ∙ g ∙ f in absurd cc
+
+-- behind a read of the capture the tape stands where it stood, also for a later moment
+pub awaits : (items : List Timed) (player : PlayerState) (t t' slot tape : ℕ) (left left' : ℕ → List ℕ)
+    → slot ≡ 2 → tape ≡ 1 → ((other : ℕ) → other ≢ slot → left' other ≡ left other) → t ≤ t'
+    → Stands items t player (left 1) → Stands items t' player (left' tape)
+awaits items player t t' slot tape left left' two one kept l s =
+    subst (Stands items t' player) (sym (kept 1 (not_same 1 slot refl two)) ∙ ap left' (sym one)) (stands_later items t t' player (left 1) l s)
+
+-- the capture is read from its own slot
+pub read_on : (capture capture' : CaptureState) (packet : Captured) (slot : ℕ) (left left' : ℕ → List ℕ)
+    → slot ≡ 2 → coming capture (left slot) ≡ with_part packet (coming capture' (left' slot)) → coming capture (left 2) ≡ with_part packet (coming capture' (left' 2))
+read_on capture capture' packet slot left left' two e =
+    subst (λ (n : ℕ). coming capture (left n) ≡ with_part packet (coming capture' (left' n))) two e
+
+-- the same of equal moments, players and slots
+pub stands_as : (items : List Timed) (t t' : ℕ) (player player' : PlayerState) (left : ℕ → List ℕ) (slot : ℕ)
+    → t' ≡ t → player' ≡ player → slot ≡ 1 → Stands items t player (left slot) → Stands items t' player' (left 1)
+stands_as items t t' player player' left slot e f one s =
+    subst (λ (n : ℕ). Stands items n player' (left 1)) (sym e)
+    (subst (λ (p : PlayerState). Stands items t p (left 1)) (sym f) (subst (λ (n : ℕ). Stands items t player (left n)) one s))
+
+pub stands_at : (items : List Timed) (t t' : ℕ) (player : PlayerState) (left : ℕ → List ℕ) (slot : ℕ)
+    → t ≡ t' → slot ≡ 1 → Stands items t player (left 1) → Stands items t' player (left slot)
+stands_at items t t' player left slot e one s =
+    subst (λ (n : ℕ). Stands items n player (left slot)) e (subst (λ (n : ℕ). Stands items t player (left n)) (sym one) s)
+
+-- behind the items of a packet's moment the configuration and the capture are as they were
+pub followed_as : (config config' : Config) (items : List Timed) (all : List Captured × End CaptureReason) (packet : Captured) (capture : CaptureState) (octets octets' : List ℕ) (before now : Option (List ℕ)) (pending pending_now : List ℕ) (number : ℕ)
+    → config' ≡ config → octets' ≡ octets → Follows config items all (with_part packet (coming capture octets)) before now pending pending_now number
+    → Follows config' items all (with_part packet (coming capture octets')) before now pending pending_now number
+followed_as config config' items all packet capture octets octets' before now pending pending_now number e o f =
+    subst (λ (c : Config). Follows c items all (with_part packet (coming capture octets')) before now pending pending_now number) (sym e)
+    (subst (λ (left : List ℕ). Follows config items all (with_part packet (coming capture left)) before now pending pending_now number) (sym o) f)
+
+pub capture_apart : (tape : ℕ) → tape ≡ 1 → 2 ≢ tape
+capture_apart tape one same = not_same tape 2 one refl (sym same)
+
+-- no packet was judged
+pub followed_first : (config : Config) (items : List Timed) (all : List Captured × End CaptureReason) (now : Option (List ℕ)) (pending : List ℕ) (number : ℕ) (table : Held)
+    → number ≡ 0 → Follows config items all all now now pending pending number
+followed_first config items all now pending number table e =
+    subst (λ (n : ℕ). Follows config items all all now now pending pending n) (sym e) (followed_none config items all now pending table)
+
+pub followed_read : (config : Config) (items : List Timed) (all rest rest' : List Captured × End CaptureReason) (before now : Option (List ℕ)) (pending pending_now : List ℕ) (number : ℕ)
+    → rest ≡ rest' → Follows config items all rest before now pending pending_now number → Follows config items all rest' before now pending pending_now number
+followed_read config items all rest rest' before now pending pending_now number e f =
+    subst (λ (r : List Captured × End CaptureReason). Follows config items all r before now pending pending_now number) e f
+
+pub number_fits : (number place next limit whole : ℕ) → number ≤ place → place < next → next ≤ limit → limit ≡ whole → whole < 2 ^ 64 → number + 1 < 2 ^ 64
+number_fits number place next limit whole a b d e f = omega (arith, a, b, d, e, f)
+
+-- an error that a `?` hands on
+
+pub six_of : {T : Type 0} (r : Result T Refusal) (cause : Refusal) → IsErrAnd r (λ e. e ≡ cause) → answered r ≡ 6 → status_of cause ≡ 6
+six_of (Ok t) cause h six = absurd h
+six_of (Err e) cause h six = ap status_of (sym h) ∙ six
+
+pub packet_wants_none : {T A : Type 0} (r : Result T Refusal) (cause : Refusal) → IsErrAnd r (λ e. e ≡ cause) → IsAtPacket (status_of cause) → answered r ≡ 6 → A
+packet_wants_none (Ok t) cause h at six = absurd h
+packet_wants_none (Err e) cause h at six = absurd (at.1 (ap status_of (sym h) ∙ six))

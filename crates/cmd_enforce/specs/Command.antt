@@ -1,0 +1,86 @@
+-- What `enforce` is given, and what it answers and writes (the order of work: configuration, tape, capture).
+use Rattle.std.specs.Prelude.{ℕ, List, [], ◌≡◌, ◌⊎◌, ◌<◌, Option, Some, length}
+use Rattle.fs_input.specs.Records.{done}
+use Rattle.fs_base.specs.declared.config.Config.{Config}
+use Rattle.fs_tape.specs.Tape.{Timed, tape_of}
+use Rattle.fs_capture.specs.Capture.{CaptureState, Recorded, capture_of, coming}
+use Rattle.cmd_stages.specs.Refusal.{Stage, Found, Stopped, and_then, status_of, EndsEarly}
+use Rattle.cmd_stages.specs.Load.{Names}
+use Rattle.fs_base.specs.Happened.{Happened, FilesFailed, SinkFailed, Wrote}
+use Rattle.fs_conf.specs.Config.{config_of}
+use Rattle.fs_rules.specs.Table.{Held}
+use Rattle.cmd_stages.specs.Play.{HasVersion, accepted_stage}
+use Rattle.fs_tape.specs.declared.magic.Version.TheVariants.{Two}
+use Rattle.cmd_enforce.specs.Judge.{capture_stage, status_at, output_of}
+use Rattle.cmd_enforce.specs.Moments.{AnswersAt, HoldAt, WroteJudged, packets_of}
+
+pub record Inputs : Type 0 where
+  pub config : Config
+  pub items : List Timed
+  pub capture : Recorded
+
+abbrev pub inputs : Config → List Timed → Recorded → Inputs
+inputs config items capture = record { config = config; items = items; capture = capture }
+
+abbrev pub inputs_stage : ℕ → Names → (config tape capture : List ℕ) → Stage Inputs
+inputs_stage limit holds config tape capture =
+    and_then (accepted_stage limit holds config tape) (λ accepted.
+    and_then (capture_stage limit holds capture) (λ found.
+    Found (inputs accepted.0 accepted.1 found)))
+
+-- the status that the inputs call for
+abbrev pub status_for : Stage Inputs → ℕ
+status_for (Found given) = status_at given.capture.end
+status_for (Stopped refusal) = status_of refusal
+
+-- The configuration and the tape are accepted, and the capture was judged under the routes that the tape holds at the
+-- packets' moments.
+pub record Judges (limit : ℕ) (holds : Names) (config tape capture : List ℕ) (failed : Type 0) (before now : Option (List ℕ)) (answer : ℕ) : Type 0 where
+  pub accepted : Config
+  pub items : List Timed
+  pub found : accepted_stage limit holds config tape ≡ Found (accepted, items)
+  pub judged : AnswersAt accepted items (capture_stage limit holds capture) failed before now answer
+
+abbrev pub EnforcesSo : ℕ → Names → (config tape capture : List ℕ) → Type 0 → (before now : Option (List ℕ)) → ℕ → Type 0
+EnforcesSo limit holds config tape capture failed before now answer =
+    EndsEarly (accepted_stage limit holds config tape) failed before now answer
+    ⊎ Judges limit holds config tape capture failed before now answer
+
+abbrev pub Enforces : ℕ → Names → (config tape capture : List ℕ) → Happened → ℕ → Type 0
+Enforces limit holds config tape capture call answer =
+    EnforcesSo limit holds config tape capture (FilesFailed call ⊎ SinkFailed call) call.before.written call.now.written answer
+
+-- At want of memory behind configuration and tape the lines of all packets that were judged were written, and the others
+-- are left in the capture, but for at most one that was read; over a tape of the first version none was judged.
+pub record Unfinished (limit : ℕ) (holds : Names) (config tape capture left : List ℕ) (before now : Option (List ℕ)) : Type 0 where
+  pub accepted : Config
+  pub items : List Timed
+  pub found : accepted_stage limit holds config tape ≡ Found (accepted, items)
+  pub reader : CaptureState
+  pub judged : WroteJudged accepted items (packets_of (capture_stage limit holds capture)) (coming reader left).0 before now
+  pub none : (HasVersion limit holds tape Two → ⊥) → judged.came.judged ≡ []
+
+-- That; or the capture wasn't opened, and nothing was written.
+abbrev pub Wants : ℕ → Names → (config tape capture left_before left : List ℕ) → Happened → Type 0
+Wants limit holds config tape capture left_before left call =
+    ((left ≡ left_before) × Wrote call []) ⊎ Unfinished limit holds config tape capture left call.before.written call.now.written
+
+-- Of the files that these names hold, all of them without a fault and within the limit, the lines of the capture's
+-- packets were written: of the ordered walk over the rules that validation admits from the routes that the tape holds at
+-- the packet's moment.
+pub record Enforced (limit : ℕ) (holds : Names) (config tape capture : List ℕ) (call : Happened) : Type 0 where
+  pub config_octets : List ℕ
+  pub config_is : holds config ≡ Some config_octets
+  pub config_within : length config_octets < limit
+  pub accepted : Config
+  pub accepted_is : config_of config_octets ≡ Some accepted
+  pub tape_octets : List ℕ
+  pub tape_is : holds tape ≡ Some tape_octets
+  pub items : List Timed
+  pub items_are : tape_of accepted limit tape_octets ≡ (items, done)
+  pub capture_octets : List ℕ
+  pub capture_is : holds capture ≡ Some capture_octets
+  pub capture_done : (capture_of limit capture_octets).end ≡ done
+  pub held : ℕ → Held
+  pub leaves : HoldAt accepted items held (capture_of limit capture_octets).packets
+  pub wrote : Wrote call (output_of held (capture_of limit capture_octets))

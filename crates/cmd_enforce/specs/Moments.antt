@@ -1,0 +1,114 @@
+-- The lines of a capture's packets, each under the routes that a tape holds at its moment, and what becomes of them.
+use Rattle.std.specs.Prelude.{ℕ, List, [], ◌∷◌, ◌++◌, Option, Result, ◌≡◌, ◌≢◌, ◌⊎◌, MatchResult, length}
+use Rattle.std.specs.List.{AllByRecursion}
+use Rattle.fs_base.specs.Happened.{Happened, FilesFailed, SinkFailed}
+use Rattle.fs_base.specs.Sink.{Grew}
+use Rattle.fs_base.specs.declared.config.Config.{Config}
+use Rattle.fs_input.specs.Records.{End, done}
+use Rattle.fs_capture.specs.Capture.{Captured, CaptureState, Recorded, coming, recorded}
+use Rattle.fs_capture.specs.declared.fault.CaptureReason.{CaptureReason}
+use Rattle.fs_rules.specs.Table.{Held}
+use Rattle.fs_tape.specs.Tape.{Timed}
+use Rattle.fs_desk.specs.Laws.{LeaveSame}
+use Rattle.fs_desk.specs.Leaves.{Leaves}
+use Rattle.fs_line.specs.Output.{Goes, Partly}
+use Rattle.cmd_stages.specs.Play.{until}
+use Rattle.cmd_stages.specs.Load.{Names}
+use Rattle.cmd_stages.specs.Refusal.{Answers, Stage, Found, Stopped, Verdict, status_of, verdict_with}
+use Rattle.cmd_stages.specs.declared.refusal.Refusal.{Refusal}
+use Rattle.cmd_stages.specs.declared.refusal.Refusal.TheVariants.{Outside, Memory}
+use Rattle.cmd_enforce.specs.Judge.{capture_stage, lines_from, rules_by, status_at}
+
+-- At the moment of each of these packets the items up to that moment leave these routes held.
+abbrev pub HoldAt : Config → List Timed → (ℕ → Held) → List Captured → Type 0
+HoldAt config items held packets =
+    AllByRecursion (λ (packet : Captured). Leaves config (until packet.moment items) (held packet.moment)) packets
+
+-- at the moment of each of these packets both tapes leave the same
+abbrev pub LeaveSameAt : Config → (items other : List Timed) → List Captured → Type 0
+LeaveSameAt config items other packets =
+    AllByRecursion (λ (packet : Captured). LeaveSame config (until packet.moment items) (until packet.moment other)) packets
+
+-- The packets that judging came to, the rest, and the routes that are held at the moments of those.
+pub record CameTo (config : Config) (items : List Timed) (packets : List Captured) : Type 0 where
+  pub held : ℕ → Held
+  pub judged : List Captured
+  pub rest : List Captured
+  pub parts : packets ≡ judged ++ rest
+  pub leaves : HoldAt config items held judged
+
+-- the lines of the packets that judging came to
+abbrev pub came_lines : {config : Config} {items : List Timed} {packets : List Captured} → CameTo config items packets → List ℕ
+came_lines came = lines_from 0 (rules_by came.held) came.judged
+
+-- Of all packets some were judged, under the routes that are held at their moments, and the rest is to come.
+pub record Follows (config : Config) (items : List Timed) (all rest : List Captured × End CaptureReason) (before now : Option (List ℕ)) (pending pending_now : List ℕ) (number : ℕ) : Type 0 where
+  pub held : ℕ → Held
+  pub gone : List Captured
+  pub parts : all.0 ≡ gone ++ rest.0
+  pub end_is : all.1 ≡ rest.1
+  pub count : number ≡ length gone
+  pub leaves : HoldAt config items held gone
+  pub goes : Goes before now pending pending_now (lines_from 0 (rules_by held) gone)
+
+-- nothing but what is left, or one packet before it, which was read
+abbrev pub IsUnjudged : (rest left : List Captured) → Type 0
+IsUnjudged rest left = (rest ≡ left) ⊎ ((packet : Captured) × (rest ≡ packet ∷ left))
+
+-- Why judging ended early: the capture ends so, behind all its packets; or memory was wanting, behind the lines of all
+-- packets that were judged, and the rest is what the capture is still to give, with the packet that was read last; or a
+-- call on the outside failed, and a front of these lines went on.
+abbrev pub BreaksBehind : {config : Config} {items : List Timed} {packets : List Captured}
+    → End CaptureReason → (left : List Captured) → CameTo config items packets → (before now : Option (List ℕ)) → (pending pending_now : List ℕ) → Type 0 → Refusal → Type 0
+BreaksBehind end left came before now pending pending_now failed refusal =
+    ((status_at end ≡ status_of refusal) × (came.rest ≡ []) × Goes before now pending pending_now (came_lines came))
+    ⊎ ((refusal ≡ Memory) × IsUnjudged came.rest left × Goes before now pending pending_now (came_lines came))
+    ⊎ ((refusal ≡ Outside) × failed × Partly before now pending pending_now (came_lines came))
+
+abbrev pub BreaksOff : Config → List Timed → List Captured × End CaptureReason → (left : List Captured) → (before now : Option (List ℕ)) → (pending pending_now : List ℕ) → Type 0 → Refusal → Type 0
+BreaksOff config items coming left before now pending pending_now failed refusal =
+    (came : CameTo config items coming.0) × BreaksBehind coming.1 left came before now pending pending_now failed refusal
+
+abbrev pub JudgesSo : {T : Type 0} → Config → List Timed → List Captured × End CaptureReason → (left : List Captured) → (before now : Option (List ℕ)) → (pending pending_now : List ℕ) → Type 0 → Result T Refusal → Type 0
+JudgesSo config items coming left before now pending pending_now failed result =
+    MatchResult result
+    (λ _. (came : CameTo config items coming.0) × (came.rest ≡ []) × (coming.1 ≡ done) × Goes before now pending pending_now (came_lines came))
+    (BreaksOff config items coming left before now pending pending_now failed)
+
+-- The packets to come were all judged, up to the capture's end; or judging broke off, and these packets are left in it.
+abbrev pub JudgesMoments : {T : Type 0} → Config → List Timed → List Captured × End CaptureReason → (left : List Captured) → Happened → (pending pending_now : List ℕ) → Result T Refusal → Type 0
+JudgesMoments config items coming left call pending pending_now result =
+    JudgesSo config items coming left call.before.written call.now.written pending pending_now (FilesFailed call ⊎ SinkFailed call) result
+
+abbrev pub packets_of : Stage Recorded → List Captured
+packets_of (Found capture) = capture.packets
+packets_of (Stopped refusal) = []
+
+-- of a capture of which judging came to these packets
+abbrev pub verdict_at : (ℕ → Held) → List Captured → Stage Recorded → Verdict
+verdict_at held judged (Found capture) = verdict_with (status_at capture.end) (lines_from 0 (rules_by held) judged)
+verdict_at held judged (Stopped refusal) = verdict_with (status_of refusal) []
+
+-- The packets of a capture were judged under the routes that the tape holds at their moments. All of them were, but for
+-- want of memory and for a call on the outside that failed.
+pub record AnswersAt (config : Config) (items : List Timed) (stage : Stage Recorded) (failed : Type 0) (before now : Option (List ℕ)) (answer : ℕ) : Type 0 where
+  pub came : CameTo config items (packets_of stage)
+  pub answers : Answers (verdict_at came.held came.judged stage) failed before now answer
+  pub all : answer ≢ 6 → answer ≢ 1 → came.rest ≡ []
+
+-- The lines of all packets that were judged were written. The others are left, but for at most one that was read.
+pub record WroteJudged (config : Config) (items : List Timed) (packets left : List Captured) (before now : Option (List ℕ)) : Type 0 where
+  pub came : CameTo config items packets
+  pub unjudged : IsUnjudged came.rest left
+  pub wrote : Grew before now (came_lines came)
+
+-- a capture was opened of which this is to come
+abbrev pub IsCaptureOpened : ℕ → Names → List ℕ → List ℕ → CaptureState → Type 0
+IsCaptureOpened limit holds name left capture =
+    capture_stage limit holds name ≡ Found (recorded (coming capture left))
+
+-- no packet was judged: the capture has none, and ends so; or memory was wanting, or a call on the outside failed
+abbrev pub EndsBefore : Stage Recorded → Type 0 → Refusal → Type 0
+EndsBefore stage failed refusal =
+    ((packets_of stage ≡ []) × ((held : ℕ → Held) → (verdict_at held [] stage).status ≡ status_of refusal))
+    ⊎ (refusal ≡ Memory) ⊎ ((refusal ≡ Outside) × failed)

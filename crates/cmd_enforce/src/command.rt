@@ -1,0 +1,68 @@
+//! The command `enforce`.
+
+ghost use Rattle.std.specs.Prelude.{◌≡◌, ◌≢◌, ◌≤◌, IsTrue};
+ghost use Rattle.fs_base.specs.Happened.{happened};
+ghost use Rattle.cmd_enforce.specs.Command.{Enforces, Wants};
+ghost use Rattle.cmd_stages.specs.Play.{HasVersion};
+ghost use Rattle.cmd_stages.specs.Refusal.{answered};
+ghost use Rattle.fs_tape.specs.declared.magic.Version.TheVariants.{Two};
+
+use crate::capture::open_capture;
+use crate::judge::judge_capture;
+use crate::names::InputNames;
+use cmd_stages::{Player, Refusal, load_config, play_whole};
+use fs_base::{Files, Sink};
+use fs_tape::Version;
+use std::alloc::Global;
+
+/// Plays the tape, and writes a line for each packet of the capture: by the rules that a tape of the first version
+/// leaves admitted, and by those that one of the second version admits at the packet's moment. That one is read twice.
+///
+/// # Errors
+///
+/// The first of these, in this order of work: the configuration's, the tape's, the capture's. What is written before
+/// the capture is read is nothing. Over a tape of the first version no memory is taken behind the first packet; over
+/// one of the second version, at want of memory the lines of the packets before are written.
+pub fn enforce<F: Files, S: Sink>(
+    alloc: Global,
+    files: &mut F,
+    sink: &mut S,
+    names: &InputNames<'_>,
+    limit: u64,
+) -> Result<(), Refusal>
+    ensures files_later { F.faults files.old ≤ F.faults files.new }
+    ensures sink_later { S.faults sink.old ≤ S.faults sink.new }
+    ensures possible { (answered result ≢ 8) × (answered result ≢ 10) }
+    ensures quiet { answered result ≡ 3 → sink.new ≡ sink.old }
+    ensures still { IsTrue F.tells → answered result ≡ 4 → sink.new ≡ sink.old }
+    ensures unwritten { IsTrue F.tells → answered result ≡ 6
+        → (HasVersion limit (F.holds files.old) names.now.tape.now Two → ⊥) → sink.new ≡ sink.old }
+
+    ensures enforces { IsTrue F.tells
+        → Enforces limit (F.holds files.old) names.now.config.now names.now.tape.now names.now.capture.now
+        (happened F.Files S.Sink files.old files.new sink.old sink.new)
+        (answered result) }
+    ensures wanting { IsTrue F.tells
+        → answered result ≡ 6
+        → Wants limit (F.holds files.old) names.now.config.now names.now.tape.now names.now.capture.now
+        (F.left files.old 2) (F.left files.new 2)
+        (happened F.Files S.Sink files.old files.new sink.old sink.new) }
+{
+    let config = load_config(alloc, files, names.config, limit)?;
+    let whole = play_whole(alloc, files, &config, names.tape, limit)?;
+    let mut capture = open_capture(files, names.capture, limit)?;
+    match whole.version {
+        Version::One => judge_capture(
+            alloc,
+            files,
+            sink,
+            &mut capture,
+            Player::ended(alloc, whole),
+        ),
+        Version::Two => {
+            drop(whole); // the second reading begins with an empty table
+            let player = Player::begin(alloc, files, &config, names.tape, limit)?;
+            judge_capture(alloc, files, sink, &mut capture, player)
+        }
+    }
+}

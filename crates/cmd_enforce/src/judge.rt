@@ -1,0 +1,272 @@
+//! The packets of a capture, each judged by the rules that the tape admits at its moment.
+
+ghost use Rattle.std.specs.Prelude.{◌≡◌, ◌≤◌, ◌<◌, ◌^◌, ◌⊎◌, ℕ, List, [], Option, None, true, IsTrue, IfOk, IfSome, MatchResult, length};
+ghost use Rattle.std.specs.Option.{is_some};
+ghost use Rattle.fs_base.specs.Happened.{happened};
+ghost use Rattle.fs_base.specs.Outside.{Rose};
+ghost use Rattle.fs_capture.specs.Capture.{Captured, coming, recorded};
+ghost use Rattle.fs_capture.specs.declared.fault.CaptureReason.{CaptureReason};
+ghost use Rattle.fs_desk.specs.Leaves.{Leaves};
+ghost use Rattle.fs_pcap.specs.Head.{longest_record};
+ghost use Rattle.fs_input.specs.Records.{End};
+ghost use Rattle.cmd_stages.specs.Play.{IsOpenOrDone, until};
+ghost use Rattle.cmd_stages.specs.Player.{Stands, due_item};
+ghost use Rattle.cmd_stages.specs.Refusal.{Found, answered};
+ghost use Rattle.fs_tape.specs.Tape.{Timed};
+ghost use Rattle.cmd_enforce.specs.Judge.{admitted_rules, EndsTape, found_behind, in_hand, IsOfCapture, IsOfPackets};
+ghost use Rattle.fs_compile.specs.Matcher.{admitted_in};
+ghost use Rattle.fs_compile.specs.Mending.{AreOwn};
+ghost use Rattle.cmd_enforce.specs.Matcher.{StandsFor};
+ghost use Rattle.cmd_enforce.specs.Moments.{AnswersAt, BreaksOff, Follows, JudgesMoments, WroteJudged};
+
+use crate::capture::next_packet;
+use crate::following::Following;
+use crate::lines::{Lines, judge_hand, judge_packet};
+use cmd_stages::{Player, Refusal};
+use fs_base::{Files, Sink};
+use fs_capture::{Capture, Caught};
+use fs_desk::same_routes;
+use fs_pcap::LONGEST_RECORD;
+use std::alloc::Global;
+use std::mem::forget;
+
+/// Writes a line for each packet of the capture, by the rules that the tape admits at the packet's moment. All lines
+/// are handed to the sink before it returns. The table of the tape's routes isn't freed: the program ends behind it.
+///
+/// # Errors
+///
+/// `Outside` where the files or the sink failed; `Capture` where the capture has a fault, behind the lines of the
+/// packets before it; `Limit` where it has too many octets; what ends the tape, and `Memory` where the machine refused
+/// memory, behind the lines of the packets that were judged before. Where nothing of the tape is ahead, memory is
+/// wanting before the first packet is read, or not at all.
+pub(crate) fn judge_capture<F: Files, S: Sink>(
+    alloc: Global,
+    files: &mut F,
+    sink: &mut S,
+    capture: &mut Capture,
+    player: Player<'_>,
+) -> Result<(), Refusal>
+    requires slot { capture.old.slot ≡ 2 }
+    requires open { capture.old.end ≡ None }
+    requires moment { capture.old.moment ≡ 0 }
+    requires within { capture.old.place ≤ capture.old.limit }
+    requires fits { capture.old.limit < 2 ^ 64 }
+    requires tape { player.tape.slot ≡ 1 }
+    requires ends { IsOpenOrDone player.tape player.ahead }
+    ensures files_later { F.faults files.old ≤ F.faults files.new }
+    ensures sink_later { S.faults sink.old ≤ S.faults sink.new }
+    ensures possible { IsOfPackets (answered result) }
+    ensures unwritten { player.entry.ahead ≡ None
+        → answered result ≡ 6
+        → (sink.new ≡ sink.old) × (files.new ≡ files.old) × (capture.new ≡ capture.old) }
+
+    ensures judges { IsTrue F.tells
+        → (items : List Timed)
+        → Stands items 0 player.entry (F.left files.old 1)
+        → AnswersAt player.entry.desk.config items
+        (Found (recorded (coming capture.old (F.left files.old 2))))
+        (Rose (F.faults files.old) (F.faults files.new) ⊎ Rose (S.faults sink.old) (S.faults sink.new))
+        (S.written sink.old)
+        (S.written sink.new)
+        (answered result) }
+    ensures wanting { IsTrue F.tells
+        → answered result ≡ 6
+        → (items : List Timed)
+        → Stands items 0 player.entry (F.left files.old 1)
+        → WroteJudged player.entry.desk.config items
+        (coming capture.old (F.left files.old 2)).0
+        (coming capture.new (F.left files.new 2)).0
+        (S.written sink.old) (S.written sink.new) }
+{
+    let mut buffer = vec![in alloc; 0u8; LONGEST_RECORD]?;
+    let mut lines = Lines::new(alloc)?;
+    let mut following = Following::new(alloc, player)?;
+    let judged = judge_all(
+        files,
+        capture,
+        &mut following,
+        &mut buffer,
+        &mut lines,
+        sink,
+    );
+    forget(following); // the program ends here: no route is given back by itself
+    judged
+}
+
+/// Judges all packets of the capture, and writes out their lines.
+fn judge_all<F: Files, S: Sink>(
+    files: &mut F,
+    capture: &mut Capture,
+    following: &mut Following<'_>,
+    buffer: &mut [u8],
+    lines: &mut Lines,
+    sink: &mut S,
+) -> Result<(), Refusal>
+    requires room { longest_record ≤ length buffer.old }
+    requires slot { capture.old.slot ≡ 2 }
+    requires open { capture.old.end ≡ None }
+    requires moment { capture.old.moment ≡ 0 }
+    requires within { capture.old.place ≤ capture.old.limit }
+    requires fits { capture.old.limit < 2 ^ 64 }
+    requires tape { following.old.player.tape.slot ≡ 1 }
+    requires ends { IsOpenOrDone following.old.player.tape following.old.player.ahead }
+    requires stands { StandsFor (admitted_rules following.old.player.desk.held) following.old.rules }
+    requires own { AreOwn (admitted_in following.old.player.desk.held) }
+    requires none { (lines.old.output ≡ []) × (lines.old.number ≡ 0) }
+    ensures files_later { F.faults files.old ≤ F.faults files.new }
+    ensures sink_later { S.faults sink.old ≤ S.faults sink.new }
+    ensures possible { IsOfPackets (answered result) }
+    ensures ends { EndsTape following.new.player result }
+    ensures unwritten { following.old.player.ahead ≡ None
+        → answered result ≡ 6
+        → (sink.new ≡ sink.old) × (files.new ≡ files.old) × (capture.new ≡ capture.old) }
+
+    ensures judges { IsTrue F.tells
+        → (items : List Timed)
+        → Stands items 0 following.old.player (F.left files.old 1)
+        → AnswersAt following.old.player.desk.config items
+        (Found (recorded (coming capture.old (F.left files.old 2))))
+        (Rose (F.faults files.old) (F.faults files.new) ⊎ Rose (S.faults sink.old) (S.faults sink.new))
+        (S.written sink.old)
+        (S.written sink.new)
+        (answered result) }
+    ensures wanting { IsTrue F.tells
+        → answered result ≡ 6
+        → (items : List Timed)
+        → Stands items 0 following.old.player (F.left files.old 1)
+        → WroteJudged following.old.player.desk.config items
+        (coming capture.old (F.left files.old 2)).0
+        (coming capture.new (F.left files.new 2)).0
+        (S.written sink.old) (S.written sink.new) }
+{
+    let judged = judge_packets(files, capture, following, buffer, lines, sink);
+    lines.output.flush(sink)?;
+    judged
+}
+
+/// Judges the packets of the capture. Memory is taken between the items of a packet's moment and that packet, and before
+/// the first one.
+fn judge_packets<F: Files, S: Sink>(
+    files: &mut F,
+    capture: &mut Capture,
+    following: &mut Following<'_>,
+    buffer: &mut [u8],
+    lines: &mut Lines,
+    sink: &mut S,
+) -> Result<(), Refusal>
+    requires room { longest_record ≤ length buffer.old }
+    requires slot { capture.old.slot ≡ 2 }
+    requires open { capture.old.end ≡ None }
+    requires within { capture.old.place ≤ capture.old.limit }
+    requires fits { capture.old.limit < 2 ^ 64 }
+    requires tape { following.old.player.tape.slot ≡ 1 }
+    requires ends { IsOpenOrDone following.old.player.tape following.old.player.ahead }
+    requires stands { StandsFor (admitted_rules following.old.player.desk.held) following.old.rules }
+    requires own { AreOwn (admitted_in following.old.player.desk.held) }
+    requires first { lines.old.number ≡ 0 }
+    ensures files_later { F.faults files.old ≤ F.faults files.new }
+    ensures sink_later { S.faults sink.old ≤ S.faults sink.new }
+    ensures possible { IsOfPackets (answered result) }
+    ensures ends { EndsTape following.new.player result }
+    ensures early { following.old.player.ahead ≡ None
+        → answered result ≡ 6
+        → (sink.new ≡ sink.old)
+        × (files.new ≡ files.old)
+        × (capture.new ≡ capture.old)
+        × (lines.new.output ≡ lines.old.output) }
+
+    ensures judged { IsTrue F.tells
+        → (items : List Timed)
+        → Stands items capture.old.moment following.old.player (F.left files.old 1)
+        → JudgesMoments following.old.player.desk.config items
+        (coming capture.old (F.left files.old 2))
+        (coming capture.new (F.left files.new 2)).0
+        (happened F.Files S.Sink files.old files.new sink.old sink.new)
+        lines.old.output lines.new.output result }
+{
+    same_routes(); // what is held at one moment is one list
+    let mut hand = None;
+    'changes: while let Some(caught) = judge_on(
+        files, capture, following, buffer, lines, sink, hand,
+    )? {
+        following.follow(files, caught.moment)?;
+        hand = Some(caught);
+    }
+    Ok(())
+}
+
+/// Judges packets while the tape stands still: the one in hand, if there is one, and those of the capture up to the first
+/// before which an item is to be played, which is handed back. `None` at the capture's end. All memory is taken before
+/// the first of them.
+fn judge_on<F: Files, S: Sink>(
+    files: &mut F,
+    capture: &mut Capture,
+    following: &Following<'_>,
+    buffer: &mut [u8],
+    lines: &mut Lines,
+    sink: &mut S,
+    hand: Option<Caught>,
+) -> Result<Option<Caught>, Refusal>
+    requires room { longest_record ≤ length buffer.old }
+    requires slot { capture.old.slot ≡ 2 }
+    requires open { capture.old.end ≡ None }
+    requires within { capture.old.place ≤ capture.old.limit }
+    requires fits { capture.old.limit < 2 ^ 64 }
+    requires stands { StandsFor (admitted_rules following.now.player.desk.held) following.now.rules }
+    requires number { lines.old.number ≤ capture.old.place }
+    requires hand { IfSome hand (λ caught.
+        (caught.taken ≤ longest_record) × (lines.old.number < capture.old.place)) }
+    ensures files_later { F.faults files.old ≤ F.faults files.new }
+    ensures sink_later { S.faults sink.old ≤ S.faults sink.new }
+    ensures possible { IsOfCapture (answered result) }
+    ensures slot { capture.new.slot ≡ capture.old.slot }
+    ensures limit { capture.new.limit ≡ capture.old.limit }
+    ensures early { answered result ≡ 6
+        → (sink.new ≡ sink.old)
+        × (files.new ≡ files.old)
+        × (capture.new ≡ capture.old)
+        × (lines.new.output ≡ lines.old.output) }
+    ensures found { IfOk result (λ found. IfSome found (λ caught.
+        (capture.new.end ≡ None)
+        × (capture.old.place < capture.new.place)
+        × (capture.new.place ≤ capture.new.limit)
+        × (lines.new.number < capture.new.place)
+        × (caught.taken ≤ longest_record)
+        × (capture.new.moment ≡ caught.moment)
+        × (is_some (due_item following.now.player.ahead following.now.player.tape.moment caught.moment) ≡ true))) }
+
+    ensures judged { IsTrue F.tells
+        → (items : List Timed)
+        → (all : List Captured × End CaptureReason)
+        → (first : Option (List ℕ))
+        → (pending : List ℕ)
+        → Stands items capture.old.moment following.now.player (F.left files.old 1)
+        → IfSome hand (λ caught.
+        Leaves following.now.player.desk.config (until caught.moment items) following.now.player.desk.held)
+        → Follows following.now.player.desk.config items all
+        (in_hand hand buffer.old (coming capture.old (F.left files.old 2)))
+        first (S.written sink.old) pending lines.old.output lines.old.number
+        → MatchResult result
+        (λ found.
+        IfSome found (λ _. Stands items capture.new.moment following.now.player (F.left files.new 1))
+        × Follows following.now.player.desk.config items all
+        (found_behind found buffer.new (coming capture.new (F.left files.new 2)))
+        first (S.written sink.new) pending lines.new.output lines.new.number)
+        (BreaksOff following.now.player.desk.config items all
+        (coming capture.new (F.left files.new 2)).0
+        first (S.written sink.new) pending lines.new.output
+        (Rose (F.faults files.old) (F.faults files.new) ⊎ Rose (S.faults sink.old) (S.faults sink.new))) }
+{
+    same_routes(); // what is held at one moment is one list
+    let rules = &following.rules;
+    let mut walked = Vec::with_capacity(following.alloc, rules.most())?;
+    judge_hand(rules, hand, buffer, &mut walked, lines, sink)?;
+    'packets: while let Some(caught) = next_packet(files, capture, buffer)? {
+        if following.player.is_due(caught.moment) {
+            return Ok(Some(caught));
+        }
+        let octets = &buffer[..caught.taken];
+        judge_packet(rules, caught.link, octets, &mut walked, lines, sink)?;
+    }
+    Ok(None)
+}

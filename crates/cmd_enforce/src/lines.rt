@@ -1,0 +1,133 @@
+//! The lines of packets.
+
+ghost use Rattle.std.specs.Prelude.{◌≡◌, ◌≤◌, ◌<◌, ◌+◌, ◌^◌, [], IfOk, IfSome, if◌then◌else◌, length, vec_capacity};
+ghost use Rattle.std.specs.Option.{is_some};
+ghost use Rattle.cmd_enforce.specs.Judge.{AdmittedRules, hand_text, packet_text, rules_for, seen_of};
+ghost use Rattle.cmd_enforce.specs.Matcher.{HasRoom, IsSound, StandsFor};
+ghost use Rattle.fs_line.specs.Line.{line_of};
+ghost use Rattle.fs_line.specs.Output.{Sends};
+ghost use Rattle.fs_rules.specs.Walk.{walk_of};
+
+use crate::walk::walk_packet;
+use fs_base::{Failed, Link, Memory, Sink};
+use fs_capture::Caught;
+use fs_compile::Compiled;
+use fs_line::{Output, Walked, write_packet_line, write_unread_line};
+use fs_packet::{Unread, View, view};
+use std::alloc::Global;
+
+/// The output of lines, and the number of the last one.
+#[derive(Drop)]
+pub(crate) struct Lines {
+    pub(crate) output: Output,
+    pub(crate) number: u64,
+}
+
+impl Lines {
+    pub(crate) fn new(alloc: Global) -> Result<Lines, Memory>
+        ensures { IfOk result (λ lines. (lines.output ≡ []) × (lines.number ≡ 0)) }
+    {
+        Ok(Lines {
+            output: Output::new(alloc)?,
+            number: 0,
+        })
+    }
+}
+
+/// Judges the packet in hand, where there is one: its octets stand at the front of the buffer.
+pub(crate) fn judge_hand<'r, S: Sink>(
+    rules: &'r Compiled,
+    hand: Option<Caught>,
+    buffer: &[u8],
+    walked: &mut Vec<Walked<'r>>,
+    lines: &mut Lines,
+    sink: &mut S,
+) -> Result<(), Failed>
+    requires sound { IsSound rules.now }
+    requires room { HasRoom rules.now (vec_capacity walked.old) }
+    requires hand { IfSome hand (λ caught.
+        (caught.taken ≤ length buffer.now) × (lines.old.number + 1 < 2 ^ 64)) }
+    ensures room { vec_capacity walked.new ≡ vec_capacity walked.old }
+    ensures number { lines.new.number ≡ lines.old.number + (if is_some hand then 1 else 0) }
+    ensures later { S.faults sink.old ≤ S.faults sink.new }
+    ensures sends { (admitted : AdmittedRules)
+        → StandsFor admitted rules.now
+        → Sends S.Sink sink.old sink.new lines.old.output lines.new.output
+        (hand_text (lines.old.number + 1) admitted hand buffer.now) result }
+{
+    match hand {
+        Some(caught) => judge_packet(
+            rules,
+            caught.link,
+            &buffer[..caught.taken],
+            walked,
+            lines,
+            sink,
+        ),
+        None => Ok(()),
+    }
+}
+
+/// Writes the line of the next packet. No memory is taken: there is room for each rule of its family.
+pub(crate) fn judge_packet<'r, S: Sink>(
+    rules: &'r Compiled,
+    link: Option<Link>,
+    octets: &[u8],
+    walked: &mut Vec<Walked<'r>>,
+    lines: &mut Lines,
+    sink: &mut S,
+) -> Result<(), Failed>
+    requires sound { IsSound rules.now }
+    requires room { HasRoom rules.now (vec_capacity walked.old) }
+    requires fits { lines.old.number + 1 < 2 ^ 64 }
+    ensures room { vec_capacity walked.new ≡ vec_capacity walked.old }
+    ensures number { lines.new.number ≡ lines.old.number + 1 }
+    ensures later { S.faults sink.old ≤ S.faults sink.new }
+    ensures sends { (admitted : AdmittedRules)
+        → StandsFor admitted rules.now
+        → Sends S.Sink sink.old sink.new lines.old.output lines.new.output
+        (packet_text (lines.old.number + 1) admitted link octets.now) result }
+{
+    lines.number += 1;
+    match read_packet(link, octets) {
+        Ok(view) => write_walk(rules, &view, walked, lines, sink),
+        Err(unread) => write_unread_line(&mut lines.output, sink, lines.number, unread.number()),
+    }
+}
+
+/// The view of a packet behind this link type.
+///
+/// # Errors
+///
+/// Why it isn't read: so where the link type isn't known.
+#[inline(always)]
+fn read_packet(link: Option<Link>, octets: &[u8]) -> Result<View<'_>, Unread>
+    ensures { result ≡ seen_of link octets.now }
+{
+    match link {
+        Some(link) => view(link, octets),
+        None => Err(Unread::Foreign),
+    }
+}
+
+/// Writes the line of a packet that could be read, by the rules that it walks.
+fn write_walk<'r, S: Sink>(
+    rules: &'r Compiled,
+    view: &View<'_>,
+    walked: &mut Vec<Walked<'r>>,
+    lines: &mut Lines,
+    sink: &mut S,
+) -> Result<(), Failed>
+    requires sound { IsSound rules.now }
+    requires room { HasRoom rules.now (vec_capacity walked.old) }
+    ensures room { vec_capacity walked.new ≡ vec_capacity walked.old }
+    ensures number { lines.new.number ≡ lines.old.number }
+    ensures later { S.faults sink.old ≤ S.faults sink.new }
+    ensures sends { (admitted : AdmittedRules)
+        → StandsFor admitted rules.now
+        → Sends S.Sink sink.old sink.new lines.old.output lines.new.output
+        (line_of lines.old.number (walk_of view.now (rules_for view.now.family admitted))) result }
+{
+    walk_packet(rules, view, walked);
+    write_packet_line(&mut lines.output, sink, lines.number, walked)
+}

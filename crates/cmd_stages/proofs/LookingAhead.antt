@@ -1,0 +1,292 @@
+-- A player that holds one item ahead.
+use Rattle.std.proofs.Common.{◌≡◌, inl, inr, ◌≤◌, ◌<◌, ◌-◌, ℕ, suc, List, [], ◌∷◌, ◌++◌, Bool, true, false, Option, Some, None, refl, ap, sym, ◌∙◌, subst, append_assoc, append-nil, arith, filter}
+use Rattle.std.specs.Prelude.{nat_le, if◌then◌else◌, option_map, Result, Ok, Err, IfSome, MatchResult}
+use Rattle.std.specs.Option.{is_some}
+use Rattle.std.specs.Result.{IsErrAnd}
+use Rattle.std.specs.List.{AllByRecursion}
+use Rattle.std.proofs.lemmas.Bool.Decides.{nat_tests}
+use Rattle.fs_base.specs.Files.{OnlySlot}
+use Rattle.fs_base.specs.Outside.{Rose}
+use Rattle.fs_base.specs.Parts.{with_part}
+use Rattle.fs_input.specs.Records.{End, done, limited, bad}
+use Rattle.fs_base.specs.declared.config.Config.{Config}
+use Rattle.fs_tape.specs.Laws.{AreFrom}
+use Rattle.fs_tape.specs.Tape.{IsItem, Item, TapeState, Timed, coming, item_from, items_to_come, timed, version_of}
+use Rattle.fs_tape.specs.declared.fault.TapeReason.{TapeReason}
+use Rattle.fs_tape.specs.declared.item.TapeItem.{TapeItem}
+use Rattle.fs_tape.specs.declared.magic.Version.{Version}
+use Rattle.fs_tape.specs.declared.magic.Version.TheVariants.{One, Two}
+use Rattle.fs_tape.proofs.Rising.{moments_rise}
+use Rattle.fs_desk.specs.Desk.{Desked, Played, Plays}
+use Rattle.fs_desk.specs.Leaves.{Leaves}
+use Rattle.fs_desk.proofs.Leaves.{played_leaves}
+use Rattle.fs_rules.specs.Changes.{Covers, Noted}
+use Rattle.fs_rules.specs.Table.{Held}
+use Rattle.cmd_stages.specs.declared.refusal.Refusal.{Refusal}
+use Rattle.cmd_stages.specs.Load.{Names}
+use Rattle.cmd_stages.specs.Refusal.{Stage, Found, Stopped, HasReason}
+use Rattle.cmd_stages.specs.Play.{Gives, HasVersion, HaveNoMoments, IsOpened, played_to, tape_stage, until, untimed}
+use Rattle.cmd_stages.specs.Player.{IsReady, IsUnplayed, PlayerState, Stands, due_item, items_ahead, to_play}
+use Rattle.cmd_stages.proofs.Playing.{all_more, untimed_more}
+
+-- what the reader gave is held ahead
+ahead_of : (found : Option TapeItem) (before now : List Timed × End TapeReason) (moment : ℕ) (into : List ℕ)
+    → Gives before now moment into found → before ≡ items_ahead found moment into now
+ahead_of None before now moment into h = h
+ahead_of (Some item) before now moment into h = h
+
+found_items : (r : List Timed × End TapeReason) (items : List Timed) → played_to r ≡ Found items → r ≡ (items, done)
+found_items (found, done) items e = let same : found ≡ items = cc in ap (λ (l : List Timed). (l, done)) same
+found_items (found, limited) items e = absurd cc
+found_items (found, bad reason place) items e = absurd cc
+
+-- a stage that gives its value has no refusal of its own
+pub unplayed : {A : Type 0} (stage : Stage A) (a : A) (failed : Type 0) (refusal : Refusal) → stage ≡ Found a → HasReason stage failed refusal
+    → IsUnplayed failed refusal
+unplayed stage a failed refusal e (inl h) = let wrong : Found a ≡ Stopped refusal = sym e ∙ h in absurd cc
+unplayed stage a failed refusal e (inr h) = h
+
+one_version : {A : Type 0} (x : Option A) (view : A → Result Version (End TapeReason)) (a b : Version) → option_map view x ≡ Some (Ok a) → option_map view x ≡ Some (Ok b) → a ≡ b
+one_version x view a b e f = let both : Some (Ok a) ≡ Some (Ok b) = sym e ∙ f in cc
+
+-- none is due where one is
+pub never_due : {A : Type 0} (o : Option TapeItem) (item : TapeItem) → o ≡ None → o ≡ Some item → A
+never_due o item none some = let wrong : None ≡ Some item = sym none ∙ some in absurd cc
+
+-- what is said of an item ahead
+if_then : {A P : Type 0} (o : Option A) → P → IfSome o (λ _. P)
+if_then None p = tt
+if_then (Some a) p = p
+
+if_ahead : {A P : Type 0} (o : Option A) (a : A) → o ≡ Some a → IfSome o (λ _. P) → P
+if_ahead None a e h = absurd cc
+if_ahead (Some b) a e h = h
+
+abbrev pub player_with : TapeState → Option TapeItem → List ℕ → Desked → PlayerState
+player_with tape ahead into desk = record { tape = tape; ahead = ahead; into = into; desk = desk }
+
+-- nothing is played yet
+pub stands_first : (config : Config) (limit : ℕ) (holds : Names) (name left left' : List ℕ) (items : List Timed) (tape tape' : TapeState) (ahead : Option TapeItem) (into : List ℕ) (desk : Desked)
+    → tape_stage config limit holds name ≡ Found items → HasVersion limit holds name Two → IsOpened limit holds name left tape
+    → Gives (coming config tape left) (coming config tape' left') tape'.moment into ahead → tape'.version ≡ tape.version
+    → Played config [] desk → Stands items 0 (player_with tape' ahead into desk) left'
+stands_first config limit holds name left left' items tape tape' ahead into desk e v o g same p =
+    let config_is : desk.config ≡ config = p.config_is in
+    let all : (items, done) ≡ to_play (player_with tape' ahead into desk) left' =
+    sym (found_items (coming config tape left) items (sym (o.comes config) ∙ e))
+    ∙ ahead_of ahead _ _ _ _ g
+    ∙ ap (λ (c : Config). items_ahead ahead tape'.moment into (coming c tape' left')) (sym config_is) in
+    record {
+      gone = [];
+      parts = ap (λ (r : List Timed × End TapeReason). r.0) all;
+      ends = sym (ap (λ (r : List Timed × End TapeReason). r.1) all);
+      early = tt;
+      played = subst (λ (c : Config). Played c [] desk) (sym config_is) p;
+      version_is = if_then ahead (same ∙ one_version (holds name) (version_of limit) tape.version Two o.has_version v);
+    }
+
+-- the item ahead was played, and the next one was read
+pub stands_step : (items : List Timed) (t : ℕ) (old new : PlayerState) (left left' : List ℕ) (item : TapeItem)
+    → old.ahead ≡ Some item → old.tape.moment ≤ t → Stands items t old left
+    → Plays (item_from item old.into) old.desk new.desk → new.desk.config ≡ old.desk.config
+    → Gives (coming old.desk.config old.tape left) (coming old.desk.config new.tape left') new.tape.moment new.into new.ahead
+    → new.tape.version ≡ old.tape.version → Stands items t new left'
+stands_step items t old new left left' item h m s plays same g v =
+    let first : Timed = timed old.tape.moment (item_from item old.into) in
+    let all : to_play old left ≡ with_part first (to_play new left') =
+    ap (λ (a : Option TapeItem). items_ahead a old.tape.moment old.into (coming old.desk.config old.tape left)) h
+    ∙ ap (with_part first)
+    (ahead_of new.ahead _ _ _ _ g
+    ∙ ap (λ (c : Config). items_ahead new.ahead new.tape.moment new.into (coming c new.tape left')) (sym same)) in
+    record {
+      gone = s.gone ++ first ∷ [];
+      parts = s.parts ∙ ap (λ (r : List Timed × End TapeReason). s.gone ++ r.0) all ∙ sym (append_assoc s.gone (first ∷ []) (to_play new left').0);
+      ends = sym (ap (λ (r : List Timed × End TapeReason). r.1) all) ∙ s.ends;
+      early = all_more (λ (x : Timed). x.moment ≤ t) s.gone (first ∷ []) s.early (m, tt);
+      played = subst (λ (c : Config). Played c (untimed (s.gone ++ first ∷ [])) new.desk) (sym same)
+          (subst (λ (z : List Item). Played old.desk.config z new.desk) (sym (untimed_more s.gone (first ∷ [])))
+          (plays old.desk.config (untimed s.gone) s.played));
+      version_is = if_then new.ahead (v ∙ if_ahead old.ahead item h s.version_is);
+    }
+
+-- whatever the desk notes
+pub stands_noted : (items : List Timed) (t : ℕ) (player : PlayerState) (desk : Desked) (noted : Noted) (left : List ℕ) → desk ≡ record player.desk { changes = noted } → Stands items t player left → Stands items t (record player { desk = desk }) left
+stands_noted items t player desk noted left e s = subst (λ (d : Desked). Stands items t (record player { desk = d }) left) (sym e) (record {
+  gone = s.gone;
+  parts = s.parts;
+  ends = s.ends;
+  early = s.early;
+  played = record { config_is = s.played.config_is; held_is = s.played.held_is; listed = s.played.listed; sessions = s.played.sessions; each = s.played.each };
+  version_is = s.version_is;
+})
+
+-- from there on nothing has changed
+pub covers_first : (base : Held) (old desk : Desked) → base ≡ old.held → desk ≡ record old { changes = record { places = []; all = false } } → Covers base desk.changes desk.held
+covers_first base old desk b e = subst (λ (d : Desked). Covers base d.changes d.held) (sym e) (subst (λ (h : Held). Covers h (record { places = []; all = false }) old.held) (sym b) (λ none family. refl))
+
+-- a later moment is no less late
+pub stands_later : (items : List Timed) (t t' : ℕ) (player : PlayerState) (left : List ℕ) → t ≤ t' → Stands items t player left → Stands items t' player left
+stands_later items t t' player left l s = record {
+  gone = s.gone;
+  parts = s.parts;
+  ends = s.ends;
+  early = all_other (λ (x : Timed). x.moment ≤ t) (λ (x : Timed). x.moment ≤ t') (λ x h. omega (arith, l, h)) s.gone s.early;
+  played = s.played;
+  version_is = s.version_is;
+}
+  where
+    all_other : {A : Type 0} (P Q : A → Type 0) → ((x : A) → P x → Q x) → (xs : List A) → AllByRecursion P xs → AllByRecursion Q xs
+    all_other P Q f [] all = tt
+    all_other P Q f (x ∷ xs) all = (f x all.0, all_other P Q f xs all.1)
+
+-- what is still to be played is late, where no item is due
+
+from_later : (at t : ℕ) (items : List Timed) → t < at → AreFrom at items → AllByRecursion (λ (x : Timed). t < x.moment) items
+from_later at t [] l all = tt
+from_later at t (x ∷ items) l all = (omega (arith, l, all.0), from_later at t items l all.1)
+
+late : (ahead : Option TapeItem) (at t : ℕ) (into : List ℕ) (rest : List Timed × End TapeReason)
+    → due_item ahead at t ≡ None → IfSome ahead (λ _. AreFrom at rest.0) → AllByRecursion (λ (x : Timed). t < x.moment) (items_ahead ahead at into rest).0
+late None at t into rest h all = tt
+late (Some item) at t into rest h all =
+    let below : t < at = by (nat_le at t) refl h in
+    (below, from_later at t rest.0 below all)
+  where
+    by : (b : Bool) → nat_le at t ≡ b → (if b then Some item else None) ≡ None → t < at
+    by true e h = absurd cc
+    by false e h = grind (arith, nat_tests, e)
+
+rises : (config : Config) (version : Version) (limit taken moment : ℕ) (left : List ℕ) → version ≡ Two → AreFrom moment (items_to_come config version limit taken moment left).0
+rises config version limit taken moment left e =
+    subst (λ (v : Version). AreFrom moment (items_to_come config v limit taken moment left).0) (sym e) (moments_rise config limit taken moment left)
+
+none_until : (t : ℕ) (rest : List Timed) → AllByRecursion (λ (x : Timed). t < x.moment) rest → filter (λ (x : Timed). nat_le x.moment t) rest ≡ []
+none_until t [] all = refl
+none_until t (x ∷ rest) all =
+    let out : nat_le x.moment t ≡ false = after t x.moment all.0 in
+    ap (λ (b : Bool). if b then x ∷ filter (λ (x : Timed). nat_le x.moment t) rest else filter (λ (x : Timed). nat_le x.moment t) rest) out
+    ∙ none_until t rest all.1
+  where
+    after : (t m : ℕ) → t < m → nat_le m t ≡ false
+    after t m l = grind (arith, nat_tests, l)
+
+-- those up to t are those that were played
+until_gone : (t : ℕ) (gone rest : List Timed) → AllByRecursion (λ (x : Timed). x.moment ≤ t) gone → AllByRecursion (λ (x : Timed). t < x.moment) rest
+    → filter (λ (x : Timed). nat_le x.moment t) (gone ++ rest) ≡ gone
+until_gone t [] rest early late = none_until t rest late
+until_gone t (x ∷ gone) rest early late =
+    let in_time : nat_le x.moment t ≡ true = before t x.moment early.0 in
+    ap (λ (b : Bool). if b then x ∷ filter (λ (x : Timed). nat_le x.moment t) (gone ++ rest) else filter (λ (x : Timed). nat_le x.moment t) (gone ++ rest)) in_time
+    ∙ ap (λ (l : List Timed). x ∷ l) (until_gone t gone rest early.1 late)
+  where
+    before : (t m : ℕ) → m ≤ t → nat_le m t ≡ true
+    before t m l = grind (arith, nat_tests, l)
+
+-- Where no item is due any more, the desk holds what the items up to this moment leave.
+pub leaves_until : (items : List Timed) (t : ℕ) (player : PlayerState) (left : List ℕ) → Stands items t player left
+    → due_item player.ahead player.tape.moment t ≡ None → Leaves player.desk.config (until t items) player.desk.held
+leaves_until items t player left s none =
+    let behind : AllByRecursion (λ (x : Timed). t < x.moment) (to_play player left).0 =
+    late player.ahead player.tape.moment t player.into (coming player.desk.config player.tape left) none
+    (rising player.ahead player.tape.version s.version_is) in
+    let same : filter (λ (x : Timed). nat_le x.moment t) items ≡ s.gone =
+    ap (filter (λ (x : Timed). nat_le x.moment t)) s.parts ∙ until_gone t s.gone (to_play player left).0 s.early behind in
+    subst (λ (l : List Timed). Leaves player.desk.config (untimed l) player.desk.held) (sym same)
+    (played_leaves player.desk.config (untimed s.gone) player.desk s.played)
+  where
+    rising : (o : Option TapeItem) (version : Version) → IfSome o (λ _. version ≡ Two)
+        → IfSome o (λ _. AreFrom player.tape.moment (items_to_come player.desk.config version player.tape.limit player.tape.place player.tape.moment left).0)
+    rising None version h = tt
+    rising (Some item) version h = rises player.desk.config version player.tape.limit player.tape.place player.tape.moment left h
+
+-- so of a test for an item that is due
+pub none_due : (o : Option TapeItem) → is_some o ≡ false → o ≡ None
+none_due None h = refl
+none_due (Some item) h = absurd cc
+
+-- a tape without moments was played to its end
+no_moments : (items : List Timed) → HaveNoMoments One items → AllByRecursion (λ (x : Timed). x.moment ≤ 0) items
+no_moments [] all = tt
+no_moments (x ∷ items) all = (let none : x.moment ≡ 0 = all.0 refl in omega (arith, none), no_moments items all.1)
+
+pub stands_ended : (items : List Timed) (tape : TapeState) (into : List ℕ) (desk : Desked) (left : List ℕ)
+    → Played desk.config (untimed items) desk → HaveNoMoments One items → Stands items 0 (player_with tape None into desk) left
+stands_ended items tape into desk left p none = record {
+  gone = items;
+  parts = sym (append-nil items);
+  ends = refl;
+  early = no_moments items none;
+  played = p;
+  version_is = tt;
+}
+
+pub rose_on : (before mid after : ℕ) (refusal : Refusal) → before ≤ mid → IsUnplayed (Rose mid after) refusal → IsUnplayed (Rose before after) refusal
+rose_on before mid after refusal l (inl h) = inl h
+rose_on before mid after refusal l (inr h) = inr (h.0, rose h.1)
+  where
+    rose : Rose mid after → Rose before after
+    rose r = omega (arith, l, r)
+
+-- the item that is due is held ahead, and its moment has come
+pub due_is : (ahead : Option TapeItem) (at moment : ℕ) (item : TapeItem) → due_item ahead at moment ≡ Some item → (ahead ≡ Some item) × (at ≤ moment)
+due_is None at moment item h = absurd cc
+due_is (Some other) at moment item h = by (nat_le at moment) refl h
+  where
+    by : (b : Bool) → nat_le at moment ≡ b → (if b then Some other else None) ≡ Some item → (Some other ≡ Some item) × (at ≤ moment)
+    by true e h = (h, grind (arith, nat_tests, e))
+    by false e h = absurd cc
+
+-- what is left behind the item ahead, where there is one
+abbrev pub ahead_left : Option TapeItem → (limit place : ℕ) → ℕ
+ahead_left None limit place = 0
+ahead_left (Some item) limit place = suc (limit - place)
+
+pub fewer_left : (old new : Option TapeItem) (item : TapeItem) (limit place limit' place' : ℕ)
+    → old ≡ Some item → limit' ≡ limit → IfSome new (λ _. (place < place') × (place' ≤ limit')) → ahead_left new limit' place' < ahead_left old limit place
+fewer_left old new item limit place limit' place' h e g =
+    subst (λ (o : Option TapeItem). ahead_left new limit' place' < ahead_left o limit place) (sym h) (by new g)
+  where
+    by : (new : Option TapeItem) → IfSome new (λ _. (place < place') × (place' ≤ limit')) → ahead_left new limit' place' < suc (limit - place)
+    by None g = omega (arith)
+    by (Some next) g = omega (arith, e, g.0, g.1)
+
+-- what is said of an error that a `?` hands on
+pub match_err : {T E : Type 0} {R : E → Type 0} (P : T → Type 0) (Q : E → Type 0) (r : Result T E) → IsErrAnd r R → ((e : E) → R e → Q e) → MatchResult r P Q
+match_err P Q (Ok t) h f = absurd h
+match_err P Q (Err e) h f = f e h
+
+-- the first item was read ahead, or why it wasn't
+
+pub stands_begun : (config : Config) (limit : ℕ) (holds : Names) (name : List ℕ) (left left' : ℕ → List ℕ) (items : List Timed) (tape tape' : TapeState) (ahead : Option TapeItem) (into : List ℕ) (desk : Desked)
+    → tape_stage config limit holds name ≡ Found items → HasVersion limit holds name Two → IsOpened limit holds name (left 1) tape → tape.slot ≡ 1
+    → Gives (coming config tape (left tape.slot)) (coming config tape' (left' tape.slot)) tape'.moment into ahead → tape'.version ≡ tape.version
+    → Played config [] desk → Stands items 0 (player_with tape' ahead into desk) (left' 1)
+stands_begun config limit holds name left left' items tape tape' ahead into desk e v o one g same p =
+    stands_first config limit holds name (left 1) (left' 1) items tape tape' ahead into desk e v o
+    (subst (λ (n : ℕ). Gives (coming config tape (left n)) (coming config tape' (left' n)) tape'.moment into ahead) one g) same p
+
+pub unbegun : (config : Config) (limit : ℕ) (holds : Names) (name : List ℕ) (left : ℕ → List ℕ) (items : List Timed) (tape : TapeState) (before mid after : ℕ) (refusal : Refusal)
+    → tape_stage config limit holds name ≡ Found items → IsOpened limit holds name (left 1) tape → tape.slot ≡ 1 → before ≤ mid
+    → HasReason (played_to (coming config tape (left tape.slot))) (Rose mid after) refusal → IsUnplayed (Rose before after) refusal
+unbegun config limit holds name left items tape before mid after refusal e o one l h =
+    rose_on before mid after refusal l
+    (unplayed (played_to (coming config tape (left 1))) items (Rose mid after) refusal (sym (o.comes config) ∙ e)
+    (subst (λ (n : ℕ). HasReason (played_to (coming config tape (left n))) (Rose mid after) refusal) one h))
+
+pub slots_then : {F : Type 0} (tells : Bool) (left : F → ℕ → List ℕ) (holds : F → List ℕ → Option (List ℕ)) (slot slot' : ℕ) (old mid new : F)
+    → OnlySlot tells left holds slot old mid → slot' ≡ slot → OnlySlot tells left holds slot' mid new → OnlySlot tells left holds slot old new
+slots_then tells left holds slot slot' old mid new a same b = λ told. record {
+  others = λ other n. (b told).others other (λ e. n (e ∙ same)) ∙ (a told).others other n;
+  names = (b told).names ∙ (a told).names;
+}
+
+pub ready_ahead : (o : Option TapeItem) (tape : TapeState) (place : ℕ) (config config' : Config) → config' ≡ config
+    → IfSome o (IsItem config) → IfSome o (λ _. tape.end ≡ None) → IfSome o (λ _. (place < tape.place) × (tape.place ≤ tape.limit))
+    → IfSome o (IsReady tape config')
+ready_ahead None tape place config config' e known unended grows = tt
+ready_ahead (Some item) tape place config config' e known unended grows =
+    (subst (λ (c : Config). IsItem c item) (sym e) known, unended, grows.1)
+
+pub with_room : (o : Option TapeItem) (R : Type 0) (P : TapeItem → Type 0) → R → IfSome o P → IfSome o (λ item. R × P item)
+with_room None R P r h = tt
+with_room (Some item) R P r h = (r, h)

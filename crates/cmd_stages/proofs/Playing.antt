@@ -1,0 +1,133 @@
+-- A tape that is played item by item.
+use Rattle.std.proofs.Common.{◌≡◌, inl, inr, ◌≤◌, ℕ, List, [], ◌∷◌, ◌++◌, Option, Some, option_map, Result, Ok, Err, refl, ap, sym, ◌∙◌, subst, append_assoc, append-nil, arith, drop}
+use Rattle.std.specs.List.{AllByRecursion}
+use Rattle.std.proofs.lemmas.List.{map-append}
+use Rattle.fs_base.specs.Outside.{Rose}
+use Rattle.fs_base.specs.Parts.{with_part}
+use Rattle.fs_input.specs.Records.{End, done, limited, bad}
+use Rattle.fs_base.specs.declared.config.Config.{Config}
+use Rattle.fs_tape.specs.Tape.{IsBegun, Item, TapeState, Timed, coming, items_to_come, tape_of, version_of}
+use Rattle.fs_tape.specs.declared.fault.TapeReason.{TapeReason}
+use Rattle.fs_tape.specs.Header.{IsTimed}
+use Rattle.fs_tape.specs.declared.magic.Version.{Version}
+use Rattle.fs_tape.specs.declared.magic.Version.TheVariants.{One, Two}
+use Rattle.cmd_stages.specs.declared.refusal.Refusal.{Refusal}
+use Rattle.cmd_stages.specs.declared.refusal.Refusal.TheVariants.{Outside}
+use Rattle.cmd_stages.specs.Refusal.{Stage, Found, Stopped, and_then, or_stop, HasReason}
+use Rattle.cmd_stages.specs.Load.{Names}
+use Rattle.cmd_stages.specs.Play.{HasVersion, HaveNoMoments, IsOpened, IsWhole, PlaysOn, played_to, tape_stage, untimed}
+use Rattle.fs_desk.specs.Desk.{Desked, Played}
+
+-- of all items some were played, and the rest is to come
+pub record Playing (config : Config) (version : Version) (all rest : List Timed × End TapeReason) (old now : Desked) : Type 0 where
+  pub gone : List Timed
+  pub parts : all.0 ≡ gone ++ rest.0
+  pub end_is : all.1 ≡ rest.1
+  pub moments : HaveNoMoments version gone
+  pub played : (items : List Item) → Played config items old → Played config (items ++ untimed gone) now
+
+pub all_more : {A : Type 0} (P : A → Type 0) (xs ys : List A) → AllByRecursion P xs → AllByRecursion P ys → AllByRecursion P (xs ++ ys)
+all_more P [] ys all more = more
+all_more P (x ∷ xs) ys all more = (all.0, all_more P xs ys all.1 more)
+
+-- an item of a tape of the first version has the moment 0
+pub no_moment : (version : Version) (last moment : ℕ) → IsTimed version last moment → version ≡ One → moment ≡ 0
+no_moment One last moment h e = h
+no_moment Two last moment h e = absurd cc
+
+pub untimed_more : (xs ys : List Timed) → untimed (xs ++ ys) ≡ untimed xs ++ untimed ys
+untimed_more xs ys = map-append (λ (t : Timed). t.item) xs ys
+
+pub playing_more : (config : Config) (version : Version) (all rest rest' : List Timed × End TapeReason) (old now now' : Desked) (timed : Timed)
+    → Playing config version all rest old now → rest ≡ with_part timed rest' → (version ≡ One → timed.moment ≡ 0)
+    → ((items : List Item) → Played config items now → Played config (items ++ timed.item ∷ []) now')
+    → Playing config version all rest' old now'
+playing_more config version all rest rest' old now now' timed p e m f = record {
+  gone = p.gone ++ timed ∷ [];
+  parts = p.parts ∙ ap (λ (r : List Timed × End TapeReason). p.gone ++ r.0) e ∙ sym (append_assoc p.gone (timed ∷ []) rest'.0);
+  end_is = p.end_is ∙ ap (λ (r : List Timed × End TapeReason). r.1) e;
+  moments = all_more (λ (t : Timed). version ≡ One → t.moment ≡ 0) p.gone (timed ∷ []) p.moments (m, tt);
+  played = λ items q. subst (λ (z : List Item). Played config z now')
+      (append_assoc items (untimed p.gone) (timed.item ∷ []) ∙ ap (λ (z : List Item). items ++ z) (sym (untimed_more p.gone (timed ∷ []))))
+      (f (items ++ untimed p.gone) (p.played items q));
+}
+
+pub playing_done : (config : Config) (version : Version) (all rest : List Timed × End TapeReason) (old now : Desked) → Playing config version all rest old now → rest ≡ ([], done) → PlaysOn config version all old now
+playing_done config version all rest old now p e = record {
+  done_is = p.end_is ∙ ap (λ (r : List Timed × End TapeReason). r.1) e;
+  moments = subst (HaveNoMoments version) (sym (p.parts ∙ ap (λ (r : List Timed × End TapeReason). p.gone ++ r.0) e ∙ append-nil p.gone)) p.moments;
+  played = λ items q. subst (λ (z : List Timed). Played config (items ++ untimed z) now)
+      (sym (p.parts ∙ ap (λ (r : List Timed × End TapeReason). p.gone ++ r.0) e ∙ append-nil p.gone)) (p.played items q);
+}
+
+same_stop : (items items' : List Timed) (end : End TapeReason) (refusal : Refusal) → played_to (items, end) ≡ Stopped refusal → played_to (items', end) ≡ Stopped refusal
+same_stop items items' done refusal h = absurd cc
+same_stop items items' limited refusal h = h
+same_stop items items' (bad reason place) refusal h = h
+
+rose_before : (old mid now : ℕ) → old ≤ mid → Rose mid now → Rose old now
+rose_before old mid now l r = omega (arith, l, r)
+
+-- a tape that was played to its end
+pub all_played : (config : Config) (version : Version) (all : List Timed × End TapeReason) (old new : Desked) → PlaysOn config version all old new → played_to all ≡ Found all.0
+all_played config version all old new p = subst (λ (e : End TapeReason). played_to (all.0, e) ≡ Found all.0) (sym p.done_is) refl
+
+-- what a tape of this content is to give, where it was opened so
+abbrev opened_to : Config → ℕ → List ℕ → Result Version (End TapeReason) → List Timed × End TapeReason
+opened_to config limit octets opened =
+    elim opened as (λ _. List Timed × End TapeReason) [
+      | Ok version ↦ items_to_come config version limit 8 0 (drop 8 octets)
+      | Err end ↦ ([], end)
+    ]
+
+-- an opened tape's items are all to come
+pub tape_opened : (config : Config) (limit : ℕ) (octets left : List ℕ) (tape : TapeState) (slot counted : ℕ)
+    → counted ≡ limit → (version_of counted octets ≡ Ok tape.version) × (left ≡ drop 8 octets) → IsBegun slot counted tape
+    → tape_of config limit octets ≡ coming config tape left
+tape_opened config limit octets left tape slot counted l o begun =
+    ap (λ (n : ℕ). tape_of config n octets) (sym l)
+    ∙ ap (opened_to config counted octets) o.0
+    ∙ (λ i. items_to_come config tape.version (sym begun.limit_is i) (sym begun.place_is i) (sym begun.moment_is i) (sym o.1 i))
+
+-- read from a slot of the files
+tape_read : (config : Config) (limit : ℕ) (holds : Names) (name : List ℕ) (before after : ℕ → List ℕ) (tape : TapeState) (slot counted : ℕ)
+    → slot ≡ 1 → holds name ≡ Some (before 1) → counted ≡ limit
+    → (version_of counted (before slot) ≡ Ok tape.version) × (after slot ≡ drop 8 (before slot)) → IsBegun slot counted tape
+    → tape_stage config limit holds name ≡ played_to (coming config tape (after 1))
+tape_read config limit holds name before after tape slot counted one h l o begun =
+    ap (λ (content : Option (List ℕ)). and_then (or_stop Outside content) (λ z. played_to (tape_of config limit z))) (h ∙ ap (λ (n : ℕ). Some (before n)) (sym one))
+    ∙ ap played_to
+    (tape_opened config limit (before slot) (after 1) tape slot counted l (o.0, sym (ap after one) ∙ o.1) begun)
+
+pub opened_so : (limit : ℕ) (holds : Names) (name : List ℕ) (before after : ℕ → List ℕ) (tape : TapeState) (slot counted : ℕ)
+    → slot ≡ 1 → holds name ≡ Some (before 1) → counted ≡ limit
+    → (version_of counted (before slot) ≡ Ok tape.version) × (after slot ≡ drop 8 (before slot)) → IsBegun slot counted tape
+    → IsOpened limit holds name (after 1) tape
+opened_so limit holds name before after tape slot counted one h l o begun = record {
+  comes = λ config. tape_read config limit holds name before after tape slot counted one h l o begun;
+  has_version =
+      ap (option_map (version_of limit)) h
+      ∙ ap (λ (n : ℕ). Some (version_of limit (before n))) (sym one)
+      ∙ ap (λ (n : ℕ). Some (version_of n (before slot))) (sym l)
+      ∙ ap Some o.0;
+}
+
+-- the whole tape was played
+pub played_whole : (config : Config) (limit : ℕ) (holds : Names) (name left : List ℕ) (tape : TapeState) (version : Version) (first new : Desked)
+    → IsOpened limit holds name left tape → version ≡ tape.version → PlaysOn config tape.version (coming config tape left) first new
+    → Played config [] first → IsWhole config limit holds name version new
+played_whole config limit holds name left tape version first new o v p f = record {
+  played = record {
+    items = (coming config tape left).0;
+    found = o.comes config ∙ all_played config tape.version (coming config tape left) first new p;
+    played = p.played [] f;
+  };
+  has_version = subst (HasVersion limit holds name) (sym v) o.has_version;
+  moments = subst (λ (z : Version). HaveNoMoments z (coming config tape left).0) (sym v) p.moments;
+}
+
+pub refused_whole : (stage : Stage (List Timed)) (all : List Timed × End TapeReason) (before mid after : ℕ) (refusal : Refusal)
+    → stage ≡ played_to all → before ≤ mid → HasReason (played_to all) (Rose mid after) refusal → HasReason stage (Rose before after) refusal
+refused_whole stage all before mid after refusal e l (inl h) = inl (e ∙ h)
+refused_whole stage all before mid after refusal e l (inr (inl h)) = inr (inl h)
+refused_whole stage all before mid after refusal e l (inr (inr h)) = inr (inr (h.0, rose_before before mid after l h.1))

@@ -1,0 +1,223 @@
+-- How what `pair` answers follows from its stages.
+use Rattle.std.proofs.Common.{◌≡◌, ◌⊎◌, inl, inr, ◌∙◌, ℕ, List, ◌++◌, Bool, false, Option, Some, None, IfSome, Result, Ok, Err, refl, ap, sym, subst}
+use Rattle.std.specs.Option.{is_some}
+use Rattle.fs_base.specs.Config.{peer_of}
+use Rattle.fs_base.specs.Wire.{EndCloses, Told, WireEnds, joined_end}
+use Rattle.fs_base.specs.declared.config.Config.{Config}
+use Rattle.fs_base.specs.declared.config.Peer.{Peer}
+use Rattle.fs_speaker.specs.declared.Sending.{Sending}
+use Rattle.fs_speaker.specs.Announcer.{Announcing, CanSend, announcing}
+use Rattle.fs_speaker.specs.Line.{fresh}
+use Rattle.fs_speaker.specs.Sending.{sender_of}
+use Rattle.fs_peering.proofs.WrittenInParts.{told_and}
+use Rattle.fs_peering.specs.Joined.{AreJoined, of_first, of_second}
+use Rattle.fs_peering.specs.Round.{octets_in}
+use Rattle.fs_desk.specs.Desk.{Desked, Played}
+use Rattle.fs_desk.proofs.Leaves.{played_leaves}
+use Rattle.fs_peering.specs.declared.tell.Ending.{Ending}
+use Rattle.fs_peering.specs.declared.tell.Ending.TheVariants.{Done, Closed as HasClosed, Ended, AtLimit}
+use Rattle.fs_peering.specs.Tell.{begins_with}
+use Rattle.fs_peering.specs.Hearer.{tape_of}
+use Rattle.fs_peering.specs.Pair.{Arrives, Pairs, PairsOver, PairsSo}
+use Rattle.cmd_stages.specs.Load.{Names, config_stage, rules_stage}
+use Rattle.cmd_stages.specs.Refusal.{Found, HasReason, answered, status_of, and_then, or_stop}
+use Rattle.cmd_stages.specs.declared.refusal.Refusal.{Refusal}
+use Rattle.cmd_stages.proofs.Stages.{answers_for}
+use Rattle.cmd_wire.specs.Announcing.{IsBrokenOff, IsOfSession}
+use Rattle.cmd_wire.specs.Conversation.{Conversation}
+use Rattle.cmd_wire.specs.Listed.{IsListing, ListsDesk, TellsListing, verdict_by}
+use Rattle.cmd_wire.specs.Pairing.{BothBegin, Joined, JoinsSo, Meets}
+use Rattle.cmd_wire.proofs.FromStages.{config_early, rules_early, sending_found, wire_early}
+use Rattle.fs_speaker.proofs.Lowest.{sender_told}
+use Rattle.cmd_wire.specs.Listening.{Begins}
+use Rattle.std.specs.Result.{IfErr, IsErrAnd}
+use Rattle.cmd_stages.specs.declared.refusal.Refusal.TheVariants.{Config as Refused}
+
+-- neither is answered with 3
+not_three : (ending : Ending) (text : List ℕ) → (verdict_by ending text).status ≡ 3 → ⊥
+not_three Done text e = absurd cc
+not_three (HasClosed why) text e = absurd cc
+not_three Ended text e = absurd cc
+not_three AtLimit text e = absurd cc
+
+pub never_three : {A : Type 0} (ending : Ending) (desk : Desked) (failed : Type 0) (before now : Option (List ℕ)) (answer : ℕ)
+    → TellsListing ending desk failed before now answer → answer ≡ 3 → A
+never_three ending desk failed before now answer (inl none) three = let at : ◌≡◌ {A = ℕ} 6 3 = sym none.0 ∙ three in absurd cc
+never_three {A} ending desk failed before now answer (inr told) three = by told.1.1.status_is
+  where
+    by : (answer ≡ (verdict_by ending told.0).status) ⊎ (answer ≡ 6) ⊎ ((answer ≡ 1) × failed) → A
+    by (inl h) = absurd (not_three ending told.0 (sym h ∙ three))
+    by (inr (inl h)) = let at : ◌≡◌ {A = ℕ} 6 3 = sym h ∙ three in absurd cc
+    by (inr (inr h)) = let at : ◌≡◌ {A = ℕ} 1 3 = sym h.0 ∙ three in absurd cc
+
+pub broken_three : {A : Type 0} (failed : Type 0) (refusal : Refusal) → IsBrokenOff failed refusal → status_of refusal ≡ 3 → A
+broken_three failed refusal (inl h) three = let at : ◌≡◌ {A = ℕ} 6 3 = ap status_of (sym h) ∙ three in absurd cc
+broken_three failed refusal (inr h) three = let at : ◌≡◌ {A = ℕ} 1 3 = ap status_of (sym h.0) ∙ three in absurd cc
+
+pub broken_session : (failed : Type 0) (refusal : Refusal) → IsBrokenOff failed refusal → IsOfSession (status_of refusal)
+broken_session failed refusal (inl h) = subst (λ (r : Refusal). IsOfSession (status_of r)) (sym h) ((λ e. absurd cc), (λ e. absurd cc), λ e. absurd cc)
+broken_session failed refusal (inr h) = subst (λ (r : Refusal). IsOfSession (status_of r)) (sym h.0) ((λ e. absurd cc), (λ e. absurd cc), λ e. absurd cc)
+
+-- what was told of both ends that were opened, spoken through, and closed
+
+abbrev coupled : WireEnds → WireEnds → Type 0
+coupled before now = now ≡ record { first = joined_end before.first; second = joined_end before.second }
+
+joined_so : (a b : WireEnds) → coupled a b → AreJoined b
+joined_so a b d = subst AreJoined (sym d) (refl, refl, refl, refl)
+
+-- the text lists what the receiving end took
+lists_for : (config : Config) (peer : Peer) (sending : Sending) (desk : Desked) (limit : ℕ) (given text : List ℕ) (ending : Ending) (b c : WireEnds)
+    → (p : Pairs ending config peer sending desk peer.number limit given b c) → ListsDesk ending desk text → ending ≡ Done
+    → IsListing config (tape_of peer.number p.announced) text
+lists_for config peer sending desk limit given text ending b c p lists e =
+    let came : Arrives config peer sending desk peer.number limit (of_first p.events) (of_second p.events) p.announced p.replied =
+    subst (λ (n : Ending). PairsSo n config peer sending desk peer.number limit p.events p.announced p.replied c) e p.ends in
+    let played : Played config (tape_of peer.number p.announced) desk =
+    subst (λ (z : List ℕ). Played config (tape_of peer.number z) desk) (sym came.all_is)
+    (subst (λ (o : Config). Played o (tape_of peer.number (octets_in (of_first p.events))) desk) p.config_is came.receives.played) in
+    record {
+      held = desk.held;
+      leaves = played_leaves config (tape_of peer.number p.announced) desk played;
+      text_is = lists e config (tape_of peer.number p.announced) played;
+    }
+
+met : (ending : Ending) (config : Config) (peer : Peer) (sending : Sending) (desk : Desked) (limit : ℕ) (given text : List ℕ)
+    → ListsDesk ending desk text → (a b c : WireEnds)
+    → coupled a b → (AreJoined b → Pairs ending config peer sending desk peer.number limit given b c) → Meets ending config peer sending desk limit given text a c
+met ending config peer sending desk limit given text lists a b c d f =
+    let p : Pairs ending config peer sending desk peer.number limit given b c = f (joined_so a b d) in
+    record {
+      pairs = record {
+        config_is = p.config_is;
+        events = p.events;
+        announced = p.announced;
+        replied = p.replied;
+        heard_first = p.heard_first;
+        heard_second = p.heard_second;
+        wrote_first = p.wrote_first ∙ ap (λ (e : WireEnds). e.first.written ++ p.replied) d;
+        wrote_second = p.wrote_second ∙ ap (λ (e : WireEnds). e.second.written ++ p.announced) d;
+        asked = p.asked;
+        front = p.front;
+        lived = p.lived;
+        arrives = p.arrives;
+        late = p.late;
+        ends = p.ends;
+      };
+      lists = lists_for config peer sending desk limit given text ending b c p lists;
+    }
+
+closed_so : (ending : Ending) (config : Config) (peer : Peer) (sending : Sending) (desk : Desked) (limit : ℕ) (given text : List ℕ) (a b c : WireEnds)
+    → Meets ending config peer sending desk limit given text a b → EndCloses b c → Meets ending config peer sending desk limit given text a c
+closed_so ending config peer sending desk limit given text a b c m e = subst (Meets ending config peer sending desk limit given text a) (sym e) m
+
+pub joined : (ending : Ending) (config : Config) (peer : Peer) (sending : Sending) (desk : Desked) (limit : ℕ) (text : List ℕ) (t0 t1 t2 t3 : Option WireEnds) (answers answers' : Option (List ℕ))
+    → ListsDesk ending desk text → sender_of config.peers ≡ Some peer → Told coupled t0 t1
+    → PairsOver ending config peer sending desk peer.number limit t1 t2 answers answers' → Told EndCloses t2 t3
+    → Joined ending config sending limit text (record { ends = t0; ends_now = t3; answers = answers; answers_now = answers' })
+joined ending config peer sending desk limit text t0 t1 t2 t3 answers answers' lists p opens pairs closes = record {
+  peer = peer;
+  peer_is = p;
+  desk = desk;
+  given = pairs.given;
+  grew = pairs.grew;
+  told = told_and (Meets ending config peer sending desk limit pairs.given text) EndCloses (Meets ending config peer sending desk limit pairs.given text)
+      (closed_so ending config peer sending desk limit pairs.given text) t0 t2 t3
+      (told_and coupled (λ b n. AreJoined b → Pairs ending config peer sending desk peer.number limit pairs.given b n) (Meets ending config peer sending desk limit pairs.given text)
+      (met ending config peer sending desk limit pairs.given text lists) t0 t1 t2 opens pairs.told)
+      closes;
+}
+
+-- as the peer that the rules are sent for
+pub joined_from : (ending : Ending) (config : Config) (sending : Sending) (begun desk : Desked) (number limit : ℕ) (text : List ℕ) (sender : Announcing) (started : Bool)
+    (t0 t1 t2 t3 : Option WireEnds) (answers answers' : Option (List ℕ))
+    → BothBegin config sending begun number sender started
+    → ListsDesk ending desk text
+    → Told coupled t0 t1
+    → ((config : Config) (whose : Peer) (sending : Sending) → begun.config ≡ config → peer_of number config.peers ≡ Some whose
+    → sender ≡ begins_with config whose sending → started ≡ false → PairsOver ending config whose sending desk number limit t1 t2 answers answers')
+    → Told EndCloses t2 t3
+    → Joined ending config sending limit text (record { ends = t0; ends_now = t3; answers = answers; answers_now = answers' })
+joined_from ending config sending begun desk number limit text sender started t0 t1 t2 t3 answers answers' b lists opens pairs closes =
+    joined ending config b.peer sending desk limit text t0 t1 t2 t3 answers answers' lists b.peer_is opens
+    (subst (λ (n : ℕ). PairsOver ending config b.peer sending desk n limit t1 t2 answers answers') b.number_is
+    (pairs config b.peer sending b.config_is b.known b.sender_is b.unstarted))
+    closes
+
+abbrev Made : Config → Sending → Option Peer → Announcing → Bool → ℕ → Type 0
+Made config sending o sender started count =
+    IfSome o (λ peer. (sender ≡ announcing config peer sending fresh false 0) × ((started ≡ false) × (count ≡ 0)))
+
+-- both ends before their first octets
+pub both_begin : (config : Config) (sending : Sending) (desk : Desked) (number heard : ℕ) (sender : Announcing) (started : Bool) (count : ℕ)
+    → Begins config desk number heard → Made config sending (sender_of config.peers) sender started count
+    → BothBegin config sending desk number sender started
+both_begin config sending desk number heard sender started count b made =
+    let own : Made config sending (Some b.peer) sender started count = subst (λ (o : Option Peer). Made config sending o sender started count) b.peer_is made in
+    record {
+      peer = b.peer;
+      peer_is = b.peer_is;
+      number_is = b.number_is;
+      known = ap (λ (n : ℕ). peer_of n config.peers) b.number_is ∙ sender_told config.peers b.peer b.peer_is;
+      config_is = b.config_is;
+      sender_is = own.0;
+      unstarted = own.1.0;
+    }
+
+-- a peer that rules may be sent for is there
+pub lowest_broken : {T : Type 0} (config : Config) (o : Option Peer) (sending : Sending) (r : Result T Refusal) (refusal : Refusal) → CanSend config o sending
+    → HasReason (and_then {B = Config × Peer} (or_stop Refused o) (λ peer. Found (config, peer))) ⊥ refusal → IsErrAnd r (λ e. e ≡ refusal) → IfErr r (IsBrokenOff ⊥)
+lowest_broken config o sending (Ok t) refusal can reason e = tt
+lowest_broken config None sending (Err other) refusal can reason e = absurd can
+lowest_broken config (Some peer) sending (Err other) refusal can (inl h) e = absurd cc
+lowest_broken config (Some peer) sending (Err other) refusal can (inr h) e = subst (IsBrokenOff ⊥) (sym e) h
+
+pub unheard : (config : Config) (o : Option Peer) (sending : Sending) (sender : Announcing) (started : Bool) (count : ℕ) → CanSend config o sending
+    → Made config sending o sender started count → count ≡ 0
+unheard config None sending sender started count can made = absurd can
+unheard config (Some peer) sending sender started count can made = made.1.1
+
+pub still_open : (config : Config) (o : Option Peer) (sending : Sending) (sender : Announcing) (started : Bool) (count : ℕ) → CanSend config o sending
+    → Made config sending o sender started count → is_some sender.line.closed ≡ false
+still_open config None sending sender started count can made = absurd can
+still_open config (Some peer) sending sender started count can made = ap (λ (n : Announcing). is_some n.line.closed) made.0
+
+-- the run ended before anything was written
+
+pub pair_config_stops : (limit : ℕ) (holds : Names) (config rules : List ℕ) (failed failed' : Type 0) (a : Option (List ℕ)) (talk : Conversation) (refusal : Refusal)
+    → HasReason (config_stage limit holds config) failed refusal → (failed → failed')
+    → JoinsSo limit holds config rules failed' a a talk (status_of refusal)
+pair_config_stops limit holds config rules failed failed' a talk refusal h f = inl (config_early limit holds config rules failed failed' a refusal h f)
+
+pub pair_rules_stop : (limit : ℕ) (holds holds' : Names) (config rules : List ℕ) (accepted : Config) (failed failed' : Type 0) (a : Option (List ℕ)) (talk : Conversation) (refusal : Refusal)
+    → config_stage limit holds config ≡ Found accepted → holds' ≡ holds → HasReason (rules_stage accepted limit holds' rules) failed refusal → (failed → failed')
+    → JoinsSo limit holds config rules failed' a a talk (status_of refusal)
+pair_rules_stop limit holds holds' config rules accepted failed failed' a talk refusal e same h f =
+    inl (rules_early limit holds holds' config rules accepted failed failed' a refusal e same h f)
+
+pub pair_wire_stops : (limit : ℕ) (holds : Names) (config rules : List ℕ) (failed failed' : Type 0) (a : Option (List ℕ)) (talk : Conversation) (refusal : Refusal)
+    → IsBrokenOff failed refusal → (failed → failed') → JoinsSo limit holds config rules failed' a a talk (status_of refusal)
+pair_wire_stops limit holds config rules failed failed' a talk refusal h f = inl (wire_early limit holds config rules failed failed' a refusal h f)
+
+-- or the session ended
+
+pub pair_told : {T : Type 0} (limit : ℕ) (holds holds' : Names) (config rules : List ℕ) (accepted : Config) (sending : Sending) (ending : Ending)
+    (begun desk : Desked) (number : ℕ) (sender : Announcing) (started : Bool) (failed failed' : Type 0)
+    (before now : Option (List ℕ)) (talk : Conversation) (result : Result T Refusal)
+    → config_stage limit holds config ≡ Found accepted → holds' ≡ holds → rules_stage accepted limit holds' rules ≡ Found sending
+    → BothBegin accepted sending begun number sender started
+    → ((config : Config) (sending : Sending) (text : List ℕ) → BothBegin config sending begun number sender started → ListsDesk ending desk text → Joined ending config sending limit text talk)
+    → TellsListing ending desk failed before now (answered result) → (failed → failed')
+    → JoinsSo limit holds config rules failed' before now talk (answered result)
+pair_told limit holds holds' config rules accepted sending ending begun desk number sender started failed failed' before now talk result e same r b speaks (inl none) f =
+    inl (record { reason = inr (inl none.0); nothing = none.1 })
+pair_told limit holds holds' config rules accepted sending ending begun desk number sender started failed failed' before now talk result e same r b speaks (inr told) f =
+    inr (record {
+      accepted = accepted;
+      sending = sending;
+      found = sending_found limit holds holds' config rules accepted sending e same r;
+      ending = ending;
+      text = told.0;
+      speaks = speaks accepted sending told.0 b told.1.0;
+      answers = answers_for (verdict_by ending told.0) failed failed' before now (answered result) told.1.1 f;
+    })

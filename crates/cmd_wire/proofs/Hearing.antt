@@ -1,0 +1,209 @@
+-- How what `listen` answers follows from its stages.
+use Rattle.std.proofs.Common.{◌≡◌, ◌⊎◌, inl, inr, ◌∙◌, ℕ, List, [], ◌∷◌, ◌++◌, length, nat_le, Bool, true, false, if◌then◌else◌, Option, Some, None, append-nil, refl, ap, sym, subst}
+use Rattle.std.proofs.lemmas.Option.{same_Some}
+use Rattle.fs_base.specs.Config.{peer_of}
+use Rattle.fs_base.specs.Wire.{EndCloses, Told, WireEnds}
+use Rattle.fs_base.specs.declared.config.Config.{Config}
+use Rattle.fs_base.specs.declared.config.Peer.{Peer}
+use Rattle.fs_attrs.specs.declared.update.Update.{Update}
+use Rattle.fs_speaker.specs.declared.Closed.{Closed}
+use Rattle.fs_session.specs.declared.transition.Phase.{Phase}
+use Rattle.fs_speaker.specs.Announcer.{is_established}
+use Rattle.fs_speaker.specs.Sending.{sender_of}
+use Rattle.fs_speaker.specs.Session.{Last, at_start, closed, still}
+use Rattle.fs_desk.specs.Desk.{Desked, Played}
+use Rattle.fs_desk.specs.Limit.{bounded_from, bounded_session}
+use Rattle.fs_desk.proofs.Leaves.{played_leaves}
+use Rattle.fs_peering.proofs.WrittenInParts.{told_and, told_as}
+use Rattle.fs_peering.specs.Round.{Pieces, octets_in}
+use Rattle.fs_peering.specs.declared.tell.Ending.{Ending}
+use Rattle.fs_peering.specs.declared.tell.Ending.TheVariants.{Done, Closed as HasClosed, Ended, AtLimit}
+use Rattle.fs_peering.specs.Hearer.{ClosesIn, ExpiresAt, HasClosed as ClosesOnce, tape_of}
+use Rattle.fs_peering.specs.Listen.{EndsSo, Listens, ListensOver, ListensSo}
+use Rattle.cmd_stages.specs.Load.{Names, config_stage}
+use Rattle.cmd_stages.specs.Refusal.{Found, HasReason, Stage, and_then, or_stop, status_of}
+use Rattle.cmd_stages.specs.declared.refusal.Refusal.{Refusal}
+use Rattle.cmd_stages.specs.declared.refusal.Refusal.TheVariants.{Config as Refused}
+use Rattle.cmd_stages.proofs.Stages.{answers_for, ends_early, reason_then}
+use Rattle.cmd_wire.specs.Announcing.{IsBrokenOff}
+use Rattle.fs_peering.proofs.Hearing.{octets_more}
+use Rattle.cmd_wire.specs.Conversation.{Conversation}
+use Rattle.cmd_wire.specs.Listening.{Begins, HasExpired, Heard, Hears, IsHeard, ListenedSo, ListensThrough, ending_by, ending_of, hearing_stage, listening, with_peer}
+use Rattle.cmd_wire.specs.Listed.{ListsDesk, TellsListing, verdict_by}
+use Rattle.fs_speaker.proofs.Lowest.{sender_told}
+use Rattle.cmd_wire.proofs.FromStages.{is_below, is_reached}
+
+pub closes_behind : (config : Config) (peer : Peer) (heard earlier : Pieces) (moment : ℕ) (piece said more : List ℕ) (why : Closed)
+    → heard ≡ earlier ++ (moment, piece) ∷ [] → ClosesIn config peer.number peer earlier moment piece said why
+    → (bounded_from config peer (octets_in heard ++ more)).1 ≡ closed why
+closes_behind config peer heard earlier moment piece said more why split c =
+    ap (λ (z : List ℕ). (bounded_from config peer (z ++ more)).1) (ap octets_in split ∙ octets_more earlier moment piece)
+    ∙ ap (λ (p : List Update × Last). p.1) (c.over.stays more)
+
+pub expired_so : (config : Config) (peer : Peer) (heard : Pieces) (said : List ℕ) (why : Closed) (t : ClosesOnce config peer.number peer heard said why)
+    → ExpiresAt config peer t.earlier t.moment said why → HasExpired config peer heard
+expired_so config peer heard said why t x = record {
+  earlier = t.earlier;
+  moment = t.moment;
+  piece = t.piece;
+  split = t.split;
+  lived = t.lived;
+  due = x.due;
+}
+
+-- the session is that of the peer of the number
+pub session_is : (config : Config) (number : ℕ) (peer : Peer) (octets : List ℕ) → peer_of number config.peers ≡ Some peer
+    → (bounded_session config number octets).1 ≡ (bounded_from config peer octets).1
+session_is config number peer octets e =
+    ap (λ (o : Option Peer). let s : List Update × Last = elim o [ None ↦ ([], still at_start) | Some p ↦ bounded_from config p octets ] in s.1) e
+
+-- the end that is due
+
+due_still : (config : Config) (peer : Peer) (limit : ℕ) (octets : List ℕ) (phase : Phase) (met up : Bool)
+    → (bounded_from config peer octets).1 ≡ still phase → nat_le limit (length octets) ≡ met → is_established phase.state ≡ up
+    → (if met then AtLimit else if up then Done else Ended) ≡ ending_of config peer limit octets
+due_still config peer limit octets phase met up found m u = sym (
+    ap (ending_by limit (length octets)) found
+    ∙ ap (λ (b : Bool). if b then AtLimit else if is_established phase.state then Done else Ended) m
+    ∙ ap (λ (b : Bool). if met then AtLimit else if b then Done else Ended) u)
+
+module _ (desk : Desked) (peer : Peer) (limit : ℕ) (heard : Pieces) (said left : List ℕ) (is_of : peer_of peer.number desk.config.peers ≡ Some peer) where
+  found_from : (phase : Phase) → (bounded_session desk.config peer.number (octets_in heard)).1 ≡ still phase → (bounded_from desk.config peer (octets_in heard)).1 ≡ still phase
+  found_from phase e = sym (session_is desk.config peer.number peer (octets_in heard) is_of) ∙ e
+
+  due_closed : (why : Closed) → ClosesOnce desk.config peer.number peer heard said why → IsHeard (HasClosed why) desk.config peer limit heard
+  due_closed why t = by t.closes
+    where
+      by : ExpiresAt desk.config peer t.earlier t.moment said why ⊎ ClosesIn desk.config peer.number peer t.earlier t.moment t.piece said why
+          → IsHeard (HasClosed why) desk.config peer limit heard
+      by (inl x) = inr (ap HasClosed x.why_is, expired_so desk.config peer heard said why t x)
+      by (inr c) = inl (sym (ap (ending_by limit (length (octets_in heard)))
+          (ap (λ (z : List ℕ). (bounded_from desk.config peer z).1) (sym (append-nil (octets_in heard)))
+          ∙ closes_behind desk.config peer heard t.earlier t.moment t.piece said [] why t.split c)))
+
+  due_of : (ending : Ending) → ListensSo ending desk peer.number peer limit heard said left → IsHeard ending desk.config peer limit heard
+  due_of Done t = inl (due_still desk.config peer limit (octets_in heard) t.receives.phase false true (found_from t.receives.phase t.receives.found) (is_below limit (length (octets_in heard)) t.within) t.settled)
+  due_of (HasClosed why) t = due_closed why t
+  due_of Ended t = inl (due_still desk.config peer limit (octets_in heard) t.receives.phase false false (found_from t.receives.phase t.receives.found) (is_below limit (length (octets_in heard)) t.within) t.settled)
+  due_of AtLimit t = inl (due_still desk.config peer limit (octets_in heard) t.receives.phase true (is_established t.receives.phase.state) (found_from t.receives.phase t.receives.found) (is_reached limit (length (octets_in heard)) t.met) refl)
+
+-- what was told of a connection that was taken, heard, and closed
+
+module _ (ending : Ending) (config : Config) (desk : Desked) (number limit : ℕ) (given : List ℕ) where
+  abbrev Taken : WireEnds → WireEnds → Type 0
+  Taken before now = Listens ending config desk number limit given (listening before) now
+
+  taken : (a b c : WireEnds) → b ≡ listening a → Listens ending config desk number limit given b c → Taken a c
+  taken a b c d l = subst (λ (e : WireEnds). Listens ending config desk number limit given e c) d l
+
+  closed_so : (a b c : WireEnds) → Taken a b → EndCloses b c → Taken a c
+  closed_so a b c l e = subst (λ (x : WireEnds). Taken a x) (sym e) l
+
+abbrev listened : WireEnds → WireEnds → Type 0
+listened before now = now ≡ listening before
+
+pub through : (ending : Ending) (config : Config) (desk : Desked) (number limit : ℕ) (t0 t1 t2 t3 : Option WireEnds) (answers answers' : Option (List ℕ))
+    → Told listened t0 t1 → ListensOver ending config desk number limit t1 t2 answers answers' → Told EndCloses t2 t3
+    → ListensThrough ending config desk number limit (record { ends = t0; ends_now = t3; answers = answers; answers_now = answers' })
+through ending config desk number limit t0 t1 t2 t3 answers answers' opens l closes = record {
+  given = l.given;
+  grew = l.grew;
+  told = told_and (Taken ending config desk number limit l.given) EndCloses (Taken ending config desk number limit l.given)
+      (closed_so ending config desk number limit l.given) t0 t2 t3
+      (told_and listened (Listens ending config desk number limit l.given) (Taken ending config desk number limit l.given)
+      (taken ending config desk number limit l.given) t0 t1 t2 opens l.told)
+      closes;
+}
+
+-- as the peer with the lowest number
+
+module _ (ending : Ending) (config : Config) (desk : Desked) (peer : Peer) (text : List ℕ) (limit : ℕ)
+    (peer_is : sender_of config.peers ≡ Some peer)
+    (text_is : ListsDesk ending desk text) where
+  is_of : peer_of peer.number config.peers ≡ Some peer
+  is_of = sender_told config.peers peer peer_is
+
+  hears_of : (given : List ℕ) (before now : WireEnds) → Listens ending config desk peer.number limit given (listening before) now
+      → Hears ending config peer text limit given before now
+  hears_of given before now l =
+      let whose_is : l.whose ≡ peer = same_Some l.whose peer (sym l.whose_is ∙ is_of) in
+      let there : peer_of peer.number desk.config.peers ≡ Some peer = subst (λ (c : Config). peer_of peer.number c.peers ≡ Some peer) (sym l.config_is) is_of in
+      let ends : ListensSo ending desk peer.number peer limit l.heard l.said now.first.left =
+      subst (λ (p : Peer). ListensSo ending desk peer.number p limit l.heard l.said now.first.left) whose_is l.ends in
+      record {
+        desk = desk;
+        config_is = l.config_is;
+        heard = l.heard;
+        said = l.said;
+        read = l.read;
+        wrote = l.wrote;
+        asked = l.asked;
+        ends = ends;
+        due = subst (λ (c : Config). IsHeard ending c peer limit l.heard) l.config_is (due_of desk peer limit l.heard l.said now.first.left there ending ends);
+        lists = λ done.
+            let met : EndsSo true desk peer.number peer limit l.heard l.said now.first.left =
+            subst (λ (e : Ending). ListensSo e desk peer.number peer limit l.heard l.said now.first.left) done ends in
+            let played : Played config (tape_of peer.number (octets_in l.heard)) desk =
+            subst (λ (c : Config). Played c (tape_of peer.number (octets_in l.heard)) desk) l.config_is met.receives.played in
+            record {
+              held = desk.held;
+              leaves = played_leaves config (tape_of peer.number (octets_in l.heard)) desk played;
+              text_is = text_is done config (tape_of peer.number (octets_in l.heard)) played;
+            };
+      }
+
+  heard_of : (talk : Conversation) → ListensThrough ending config desk peer.number limit talk → Heard ending config peer text limit talk
+  heard_of talk l = record {
+    given = l.given;
+    grew = l.grew;
+    told = told_as (λ before now. Listens ending config desk peer.number limit l.given (listening before) now) (Hears ending config peer text limit l.given)
+        (hears_of l.given) talk.ends talk.ends_now l.told;
+  }
+
+-- the run ended before anything was written
+
+pub config_unheard : (limit : ℕ) (holds : Names) (config : List ℕ) (failed failed' : Type 0) (a : Option (List ℕ)) (talk : Conversation) (refusal : Refusal)
+    → HasReason (config_stage limit holds config) failed refusal → (failed → failed')
+    → ListenedSo limit holds config failed' a a talk (status_of refusal)
+config_unheard limit holds config failed failed' a talk refusal h f =
+    inl (ends_early (hearing_stage limit holds config) failed failed' a refusal (reason_then (config_stage limit holds config) with_peer failed refusal h) f)
+
+peer_in : (limit : ℕ) (holds : Names) (config : List ℕ) (accepted : Config) → config_stage limit holds config ≡ Found accepted
+    → hearing_stage limit holds config ≡ with_peer accepted
+peer_in limit holds config accepted e = ap (λ (s : Stage Config). and_then s with_peer) e
+
+pub peer_unheard : (limit : ℕ) (holds : Names) (config : List ℕ) (accepted : Config) (failed : Type 0) (a : Option (List ℕ)) (talk : Conversation) (refusal : Refusal)
+    → config_stage limit holds config ≡ Found accepted → HasReason (with_peer accepted) ⊥ refusal
+    → ListenedSo limit holds config failed a a talk (status_of refusal)
+peer_unheard limit holds config accepted failed a talk refusal e h =
+    inl (ends_early (hearing_stage limit holds config) ⊥ failed a refusal
+    (subst (λ (s : Stage (Config × Peer)). HasReason s ⊥ refusal) (sym (peer_in limit holds config accepted e)) h) (λ never. absurd never))
+
+pub wire_unheard : (limit : ℕ) (holds : Names) (config : List ℕ) (failed failed' : Type 0) (a : Option (List ℕ)) (talk : Conversation) (refusal : Refusal)
+    → IsBrokenOff failed refusal → (failed → failed') → ListenedSo limit holds config failed' a a talk (status_of refusal)
+wire_unheard limit holds config failed failed' a talk refusal h f =
+    inl (ends_early (hearing_stage limit holds config) failed failed' a refusal (inr h) f)
+
+-- or the session ended
+
+pub session_heard : (limit : ℕ) (holds : Names) (config : List ℕ) (accepted : Config) (desk desk' : Desked) (number count : ℕ) (ending : Ending) (failed failed' : Type 0)
+    (before now : Option (List ℕ)) (talk : Conversation) (answer : ℕ)
+    → config_stage limit holds config ≡ Found accepted → Begins accepted desk number count
+    → ListensThrough ending desk.config desk' number limit talk
+    → TellsListing ending desk' failed before now answer → (failed → failed')
+    → ListenedSo limit holds config failed' before now talk answer
+session_heard limit holds config accepted desk desk' number count ending failed failed' before now talk answer e b l (inl none) f =
+    inl (record { reason = inr (inl none.0); nothing = none.1 })
+session_heard limit holds config accepted desk desk' number count ending failed failed' before now talk answer e b l (inr t) f =
+    let here : ListensThrough ending accepted desk' b.peer.number limit talk =
+    subst (λ (n : ℕ). ListensThrough ending accepted desk' n limit talk) b.number_is
+    (subst (λ (c : Config). ListensThrough ending c desk' number limit talk) b.config_is l) in
+    inr (record {
+      accepted = accepted;
+      peer = b.peer;
+      found = peer_in limit holds config accepted e ∙ ap (λ (o : Option Peer). and_then {B = Config × Peer} (or_stop Refused o) (λ peer. Found (accepted, peer))) b.peer_is;
+      ending = ending;
+      text = t.0;
+      hears = heard_of ending accepted desk' b.peer t.0 limit b.peer_is t.1.0 talk here;
+      answers = answers_for (verdict_by ending t.0) failed failed' before now answer t.1.1 f;
+    })

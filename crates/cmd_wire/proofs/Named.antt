@@ -1,0 +1,73 @@
+-- An announcing end that the other end stayed open for named an identifier other than 0.0.0.0.
+use Rattle.std.proofs.Common.{◌≡◌, ℕ, zero, suc, ◌<◌, List, [], Option, None, Some, refl, ap, sym, ◌∙◌, arith}
+use Rattle.fs_base.specs.Config.{peer_of}
+use Rattle.fs_base.specs.declared.config.Config.{Config}
+use Rattle.fs_base.specs.declared.config.Peer.{Peer}
+use Rattle.fs_attrs.specs.declared.update.Update.{Update}
+use Rattle.fs_conf.specs.Laws.{HasPeerNumbers}
+use Rattle.fs_conf.proofs.Accepted.{accepts_numbers}
+use Rattle.fs_conf.proofs.Found.{found_each}
+use Rattle.fs_speaker.specs.Session.{Last, at_start, closed, session_from, still}
+use Rattle.fs_speaker.specs.Sending.{is_lowest, sender_of}
+use Rattle.fs_speaker.specs.declared.Sending.{Sending}
+use Rattle.fs_speaker.specs.declared.Closed.{Closed}
+use Rattle.fs_speaker.specs.declared.Closed.TheVariants.{Fault}
+use Rattle.fs_session.specs.declared.transition.Phase.{Phase}
+use Rattle.fs_speaker.specs.JointLaws.{CanArrive, IsUnnamed}
+use Rattle.fs_speaker.proofs.Lowest.{sender_told}
+use Rattle.fs_speaker.proofs.Unnamed.{refused}
+use Rattle.fs_desk.specs.Desk.{Desked}
+use Rattle.fs_desk.specs.Limit.{bounded, bounded_from, bounded_session}
+use Rattle.fs_peering.specs.Pair.{Arrives}
+use Rattle.fs_peering.specs.Round.{Pieces, octets_in}
+use Rattle.cmd_stages.specs.Load.{Names, sending_stage}
+use Rattle.cmd_stages.specs.Refusal.{Found}
+use Rattle.cmd_wire.proofs.Accepted.{accepted_files, arrivable}
+
+-- a limit of routes leaves a session without updates as it is
+bounded_none : (most : Option ℕ) (last : Last) → bounded most ([], last) ≡ ([], last)
+bounded_none most last = refl
+
+same_last : (why : Closed) (now : Phase) → closed why ≡ still now → ⊥
+same_last why now e = absurd cc
+
+module _ (config : Config) (peer : Peer) (sending : Sending) (desk : Desked) (limit : ℕ) (heard told : Pieces)
+    (announced replied : List ℕ) (known : peer_of peer.number config.peers ≡ Some peer) (config_is : desk.config ≡ config)
+    (a : Arrives config peer sending desk peer.number limit heard told announced replied) where
+  -- what the receiving end took doesn't close its session
+  took_open : (bounded_from config peer announced).1 ≡ still a.receives.phase
+  took_open =
+      sym (ap (λ (o : Option Peer). (elim o as (λ _. List Update × Last) [ None ↦ ([], still at_start) | Some p ↦ bounded_from config p announced ]).1) known)
+      ∙ ap (λ (octets : List ℕ). (bounded_session config peer.number octets).1) a.all_is
+      ∙ sym (ap (λ (c : Config). (bounded_session c peer.number (octets_in heard)).1) config_is) ∙ a.receives.found
+
+  unnamed_closes : IsUnnamed config peer sending → ⊥
+  unnamed_closes un =
+      let refuses : session_from config peer at_start announced ≡ ([], closed (Fault 2 3)) =
+      ap (session_from config peer at_start) a.said_is ∙ refused config peer sending un _ in
+      let closes : bounded_from config peer announced ≡ ([], closed (Fault 2 3)) =
+      ap (bounded peer.max_routes) refuses ∙ bounded_none peer.max_routes (closed (Fault 2 3)) in
+      same_last (Fault 2 3) a.receives.phase (sym (ap (λ (x : List Update × Last). x.1) closes) ∙ took_open)
+
+-- rules that arrived could arrive
+pub arrived : (limit : ℕ) (holds : Names) (config rules : List ℕ) (accepted : Config) (sending : Sending) (peer : Peer)
+    → sending_stage limit holds config rules ≡ Found (accepted, sending) → sender_of accepted.peers ≡ Some peer
+    → (desk : Desked) (heard told : Pieces) (announced replied : List ℕ) → desk.config ≡ accepted
+    → Arrives accepted peer sending desk peer.number limit heard told announced replied → CanArrive accepted peer sending
+arrived limit holds config rules accepted sending peer found low desk heard told announced replied config_is a =
+    arrivable limit holds config rules accepted sending peer found low (by sending.id refl)
+  where
+    by : (id : ℕ) → sending.id ≡ id → 0 < sending.id
+    by zero e =
+        let files = accepted_files limit holds config rules accepted sending found in
+        let numbers = accepts_numbers files.text accepted files.config_is in
+        let own = found_each HasPeerNumbers (is_lowest accepted.peers) accepted.peers peer numbers.peers low in
+        absurd (unnamed_closes accepted peer sending desk limit heard told announced replied (sender_told accepted.peers peer low) config_is a (record {
+          peer_as = own.asn;
+          some_peer = own.some_as;
+          hold_time = numbers.hold_time;
+          not_one = numbers.not_one;
+          not_two = numbers.not_two;
+          unnamed = e;
+        }))
+    by (suc n) e = omega (arith, e)

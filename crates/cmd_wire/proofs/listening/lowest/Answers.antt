@@ -1,0 +1,6 @@
+use Rattle.std.proofs.Common.{sym}
+use Rattle.fs_speaker.proofs.Lowest.{is_told}
+use Rattle.cmd_wire.proofs.listening.lowest.Goals as goal
+
+pub new-requires : goal.new-requires
+new-requires c = is_told c.args.config.now.peers c.in-Some.peer.now (sym c.in-Some.ensures)

@@ -1,0 +1,122 @@
+-- What `listen` answers, writes, and says to the other end.
+use Rattle.std.specs.Prelude.{◌≡◌, ◌⊎◌, ℕ, List, [], ◌∷◌, ◌++◌, length, nat_le, if◌then◌else◌, Option, Some, None}
+use Rattle.fs_base.specs.Happened.{Happened, FilesFailed, SinkFailed, WireFailed}
+use Rattle.fs_base.specs.Sink.{Grew}
+use Rattle.fs_base.specs.Wire.{Told, WireEnds, opened_end}
+use Rattle.fs_base.specs.declared.config.Config.{Config}
+use Rattle.fs_base.specs.declared.config.Peer.{Peer}
+use Rattle.fs_speaker.specs.declared.Closed.TheVariants.{Fault}
+use Rattle.fs_speaker.specs.Announcer.{is_established}
+use Rattle.fs_speaker.specs.Sending.{sender_of}
+use Rattle.fs_speaker.specs.Session.{Last, closed, still}
+use Rattle.fs_speaker.specs.Times.{at_moment, tick_at}
+use Rattle.fs_session.specs.declared.times.Tick.TheVariants.{Expires}
+use Rattle.fs_desk.specs.Desk.{Desked}
+use Rattle.fs_desk.specs.Limit.{bounded_from}
+use Rattle.fs_peering.specs.Round.{Pieces, moments_in, octets_in}
+use Rattle.fs_peering.specs.declared.tell.Ending.{Ending}
+use Rattle.fs_peering.specs.declared.tell.Ending.TheVariants.{Done, Closed as HasClosed, Ended, AtLimit}
+use Rattle.fs_peering.specs.Hearer.{Receives, tape_of, course_of}
+use Rattle.fs_peering.specs.Listen.{Listens, ListensSo}
+use Rattle.cmd_stages.specs.Load.{Names, config_stage}
+use Rattle.cmd_stages.specs.Refusal.{Answers, EndsEarly, Found, Stage, and_then, or_stop}
+use Rattle.cmd_stages.specs.declared.refusal.Refusal.TheVariants.{Config as Refused}
+use Rattle.cmd_wire.specs.Conversation.{Conversation}
+use Rattle.cmd_wire.specs.Listed.{IsListing, verdict_by}
+
+-- The configuration is accepted, and this is its peer with the lowest number.
+abbrev pub with_peer : Config → Stage (Config × Peer)
+with_peer accepted = and_then (or_stop Refused (sender_of accepted.peers)) (λ peer. Found (accepted, peer))
+
+abbrev pub hearing_stage : ℕ → Names → List ℕ → Stage (Config × Peer)
+hearing_stage limit holds config = and_then (config_stage limit holds config) with_peer
+
+-- a desk of that peer, which is up and has sent nothing yet
+pub record Begins (config : Config) (desk : Desked) (number count : ℕ) : Type 0 where
+  pub peer : Peer
+  pub peer_is : sender_of config.peers ≡ Some peer
+  pub number_is : number ≡ peer.number
+  pub config_is : desk.config ≡ config
+  pub fresh : Receives desk number count [] []
+
+-- The end that the peer's octets call for: they close the session; or they are as many as the limit; or they leave it
+-- established; or they end before.
+abbrev pub ending_by : (limit size : ℕ) → Last → Ending
+ending_by limit size (closed why) = HasClosed why
+ending_by limit size (still phase) =
+    if nat_le limit size then AtLimit else if is_established phase.state then Done else Ended
+
+abbrev pub ending_of : Config → Peer → ℕ → List ℕ → Ending
+ending_of config peer limit octets = ending_by limit (length octets) (bounded_from config peer octets).1
+
+-- The hold time expired: the pieces up to the last leave the session open, and at the last one's moment the time on which
+-- they agree has passed since a message came (RFC 4271, section 6.5).
+pub record HasExpired (config : Config) (peer : Peer) (heard : Pieces) : Type 0 where
+  pub earlier : Pieces
+  pub moment : ℕ
+  pub piece : List ℕ
+  pub split : heard ≡ earlier ++ (moment, piece) ∷ []
+  pub lived : (course_of config peer earlier).point.closed ≡ None
+  pub due : tick_at (course_of config peer earlier).point.phase.hold
+      (at_moment moment (course_of config peer earlier).point.times)
+      ≡ Expires
+
+-- It is the end that the octets call for, or a hold time expired.
+abbrev pub IsHeard : Ending → Config → Peer → (limit : ℕ) → Pieces → Type 0
+IsHeard ending config peer limit heard =
+    (ending ≡ ending_of config peer limit (octets_in heard)) ⊎ ((ending ≡ HasClosed (Fault 4 0)) × HasExpired config peer heard)
+
+-- Of what the other end was to give these pieces were read, each before the clock answered a moment, and this was written
+-- to it. Where they leave the session established, the text is the listing of a tape on which the peer comes up and sends
+-- these octets.
+pub record Hears (ending : Ending) (config : Config) (peer : Peer) (text : List ℕ) (limit : ℕ) (given : List ℕ)
+    (before now : WireEnds) : Type 0 where
+  pub desk : Desked
+  pub config_is : desk.config ≡ config
+  pub heard : Pieces
+  pub said : List ℕ
+  pub read : before.first.to_receive ≡ octets_in heard ++ now.first.left
+  pub wrote : now.first.written ≡ before.first.written ++ said
+  pub asked : moments_in heard ≡ given
+  pub ends : ListensSo ending desk peer.number peer limit heard said now.first.left
+  pub due : IsHeard ending config peer limit heard
+  pub lists : ending ≡ Done → IsListing config (tape_of peer.number (octets_in heard)) text
+
+-- The same, where wire and clock tell.
+pub record Heard (ending : Ending) (config : Config) (peer : Peer) (text : List ℕ) (limit : ℕ) (talk : Conversation) : Type 0 where
+  pub given : List ℕ
+  pub grew : Grew talk.answers talk.answers_now given
+  pub told : Told (Hears ending config peer text limit given) talk.ends talk.ends_now
+
+-- end 0 listens, and has taken a connection
+abbrev pub listening : WireEnds → WireEnds
+listening ends = record { first = opened_end ends.first; second = ends.second }
+
+-- by the desk
+pub record ListensThrough (ending : Ending) (config : Config) (desk : Desked) (number limit : ℕ) (talk : Conversation) : Type 0 where
+  pub given : List ℕ
+  pub grew : Grew talk.answers talk.answers_now given
+  pub told : Told (λ before now. Listens ending config desk number limit given (listening before) now)
+      talk.ends talk.ends_now
+
+-- The configuration is accepted, the session with the other end ended so, and that was answered.
+pub record Listened (limit : ℕ) (holds : Names) (config : List ℕ) (failed : Type 0) (before now : Option (List ℕ))
+    (talk : Conversation) (answer : ℕ) : Type 0 where
+  pub accepted : Config
+  pub peer : Peer
+  pub found : hearing_stage limit holds config ≡ Found (accepted, peer)
+  pub ending : Ending
+  pub text : List ℕ
+  pub hears : Heard ending accepted peer text limit talk
+  pub answers : Answers (verdict_by ending text) failed before now answer
+
+-- Or the run ended before anything was written.
+abbrev pub ListenedSo : (limit : ℕ) (holds : Names) → (config : List ℕ) → Type 0 → (before now : Option (List ℕ)) → Conversation → ℕ → Type 0
+ListenedSo limit holds config failed before now talk answer =
+    EndsEarly (hearing_stage limit holds config) failed before now answer
+    ⊎ Listened limit holds config failed before now talk answer
+
+abbrev pub ListensTo : (limit : ℕ) (holds : Names) → (config : List ℕ) → Happened → Conversation → ℕ → Type 0
+ListensTo limit holds config call talk answer =
+    ListenedSo limit holds config (FilesFailed call ⊎ (SinkFailed call ⊎ WireFailed call))
+    call.before.written call.now.written talk answer

@@ -1,0 +1,133 @@
+//! The command `pair`.
+
+ghost use Rattle.std.specs.Prelude.{◌≡◌, ◌≤◌, ◌⊎◌, [], false, IfErr, IfOk, IsTrue, List, ℕ};
+ghost use Rattle.std.specs.Option.{is_some};
+ghost use Rattle.fs_base.specs.Happened.{happened, with_wire};
+ghost use Rattle.fs_base.specs.Outside.{Rose};
+ghost use Rattle.fs_base.specs.declared.config.Config.{Config};
+ghost use Rattle.fs_desk.specs.Desk.{standing_at_desk};
+ghost use Rattle.fs_peering.specs.Hearer.{Receives, is_ended};
+ghost use Rattle.fs_speaker.specs.Announcer.{CanSend};
+ghost use Rattle.fs_speaker.specs.Sending.{sender_of};
+ghost use Rattle.fs_speaker.specs.declared.Sending.{Sending};
+ghost use Rattle.cmd_stages.specs.Refusal.{answered};
+ghost use Rattle.cmd_wire.specs.Announcing.{IsBrokenOff, IsOfSession};
+ghost use Rattle.cmd_wire.specs.Conversation.{conversation};
+ghost use Rattle.cmd_wire.specs.Listed.{ListsDesk};
+ghost use Rattle.cmd_wire.specs.Pairing.{BothBegin, Joined, Joins};
+
+use crate::listed::tell_listing;
+use crate::listening::lowest;
+use cmd_stages::{Refusal, load_config, load_rules};
+use fs_base::{Clock, Config, Files, Opening, Sink, Wire};
+use fs_peering::{Ending, Hearer, Room, Sender, TalkFault, pair_over};
+use fs_speaker::Sending;
+use std::alloc::Global;
+
+/// What is to be announced from one end to the other: the names of the configuration and the rules file, and the most
+/// octets, plus one, that a file or an end may give.
+#[derive(Clone, Copy, Drop)]
+pub struct Pairing<'w> {
+    pub config: &'w str,
+    pub rules: &'w str,
+    pub limit: u64,
+}
+
+/// Joins both ends of the wire, announces the rules through one of them as the configuration's peer with the lowest
+/// number, receives them through the other, and writes the listing of what was received; of a session that closed, or
+/// that ended before it was established, the line of that (RFC 4271 sections 4.5, 6 and 8).
+///
+/// # Errors
+///
+/// The first of these, in this order of work: the configuration's, the rules file's, the wire's, the session's, the
+/// sink's.
+pub fn pair<F: Files, S: Sink, W: Wire, C: Clock>(
+    alloc: Global,
+    files: &mut F,
+    sink: &mut S,
+    wire: &mut W,
+    clock: &mut C,
+    order: &Pairing<'_>,
+) -> Result<(), Refusal>
+    requires { 1 ≤ order.now.limit }
+    ensures possible { IsOfSession (answered result) }
+    ensures quiet { (answered result ≡ 3) ⊎ (answered result ≡ 6) → sink.new ≡ sink.old }
+    ensures unspoken { answered result ≡ 3 → wire.new ≡ wire.old }
+    ensures unasked { answered result ≡ 3 → clock.new ≡ clock.old }
+
+    ensures joins { IsTrue F.tells
+        → Joins order.now.limit (F.holds files.old) order.now.config.now order.now.rules.now
+        (with_wire W.Wire wire.old wire.new (happened F.Files S.Sink files.old files.new sink.old sink.new))
+        (conversation W.Wire C.Clock wire.old wire.new clock.old clock.new)
+        (answered result) }
+{
+    let config = load_config(alloc, files, order.config, order.limit)?;
+    let sending = load_rules(alloc, files, &config, order.rules, order.limit)?;
+    let mut ends = both_ends(alloc, &config, sending)?;
+    let ending = join(alloc, wire, clock, &mut ends, order.limit)?;
+    tell_listing(alloc, ending, ends.hearer.desk(), sink)
+}
+
+/// Both ends of a session: the receiving one, and the announcing one.
+#[derive(Drop)]
+struct Ends<'a> {
+    hearer: Hearer<'a>,
+    sender: Sender<'a>,
+}
+
+/// Both ends of the session with the configuration's peer with the lowest number, before their first octets.
+fn both_ends<'a>(alloc: Global, config: &'a Config, sending: Sending) -> Result<Ends<'a>, Refusal>
+    requires { CanSend config.now (sender_of config.now.peers) sending }
+    ensures broken { IfErr result (IsBrokenOff ⊥) }
+    ensures fresh { IfOk result (λ ends. Receives ends.hearer.desk ends.hearer.peer ends.hearer.count [] []) }
+    ensures open { IfOk result (λ ends. is_ended (standing_at_desk ends.hearer.desk ends.hearer.peer) ≡ false) }
+    ensures unheard { IfOk result (λ ends. ends.sender.count ≡ 0) }
+    ensures other { IfOk result (λ ends. is_some ends.sender.announcer.line.closed ≡ false) }
+    ensures begins { IfOk result (λ ends. BothBegin config.entry.now sending
+        ends.hearer.desk ends.hearer.peer ends.sender.announcer ends.sender.started) }
+{
+    let hearer = lowest(alloc, config)?;
+    let sender = Sender::new(alloc, config, sending)?;
+    Ok(Ends { hearer, sender })
+}
+
+/// Joins both ends, announces and receives, and closes the announcing end.
+fn join<W: Wire, C: Clock>(
+    alloc: Global,
+    wire: &mut W,
+    clock: &mut C,
+    ends: &mut Ends<'_>,
+    limit: u64,
+) -> Result<Ending, Refusal>
+    requires some { 1 ≤ limit }
+    requires fresh { Receives ends.old.hearer.desk ends.old.hearer.peer ends.old.hearer.count [] [] }
+    requires open { is_ended (standing_at_desk ends.old.hearer.desk ends.old.hearer.peer) ≡ false }
+    requires unheard { ends.old.sender.count ≡ 0 }
+    requires other { is_some ends.old.sender.announcer.line.closed ≡ false }
+    ensures later { W.faults wire.old ≤ W.faults wire.new }
+    ensures broken { IfErr result (IsBrokenOff (Rose (W.faults wire.old) (W.faults wire.new))) }
+    ensures joined { IfOk result (λ ending. (config : Config) (sending : Sending) (text : List ℕ)
+        → BothBegin config sending
+        ends.old.hearer.desk ends.old.hearer.peer ends.old.sender.announcer ends.old.sender.started
+        → ListsDesk ending ends.new.hearer.desk text
+        → Joined ending config sending limit text
+        (conversation W.Wire C.Clock wire.old wire.new clock.old clock.new)) }
+{
+    let mut room = Room::new(alloc);
+    wire.open_end(Opening::Both)?;
+    match pair_over(
+        wire,
+        clock,
+        &mut ends.hearer,
+        &mut ends.sender,
+        limit,
+        &mut room,
+    ) {
+        Ok(ending) => {
+            wire.close(1)?;
+            Ok(ending)
+        }
+        Err(TalkFault::Failed) => Err(Refusal::Outside),
+        Err(TalkFault::Memory) => Err(Refusal::Memory),
+    }
+}

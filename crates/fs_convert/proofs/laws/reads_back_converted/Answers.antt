@@ -1,5 +1,0 @@
-use Rattle.fs_convert.proofs.Fitting.{reads_back_converted}
-use Rattle.fs_convert.proofs.laws.reads_back_converted.Goals as goal
-
-pub returns : goal.returns
-returns c = reads_back_converted

@@ -1,5 +1,0 @@
-use Rattle.fs_enforce.proofs.AtMoments.{outputs_agree}
-use Rattle.fs_enforce.proofs.laws.same_lines.Goals as goal
-
-pub returns : goal.returns
-returns c = outputs_agree c.same_routes.ensures

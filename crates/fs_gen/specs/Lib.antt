@@ -1,5 +1,0 @@
-pub mod Configuration
-pub mod Draws
-pub mod Generator
-pub mod Messages
-pub mod Octets

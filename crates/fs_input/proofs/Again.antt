@@ -1,0 +1,101 @@
+-- The first octets of a part, of which some were put back.
+use Rattle.std.proofs.Common.{◌≡◌, ◌≢◌, ℕ, List, [], ◌++◌, Bool, true, false, Result, ◌<◌, ◌≤◌, ◌+◌, ◌==◌, ◌&&◌, not, length, refl, ap, sym, ◌∙◌, subst, arith}
+use Rattle.std.specs.Prelude.{Option, if◌then◌else◌}
+use Rattle.std.proofs.lemmas.Bool.Decides.{nat_tests}
+use Rattle.fs_base.specs.Draws.{Draws, Passed}
+use Rattle.fs_base.specs.Filling.{Fills}
+use Rattle.fs_base.specs.Parts.{window}
+use Rattle.fs_base.specs.declared.counted.Counted.{Counted}
+use Rattle.fs_base.proofs.Drawing.{draws_ahead}
+use Rattle.fs_input.specs.NextRecord.{short_fault}
+use Rattle.fs_input.specs.declared.fault.Fault.{Fault}
+use Rattle.fs_input.specs.Reads.{Calls, Fails, HasMore, IsOver, Reads, Took, ahead, ends_by, whole}
+use Rattle.fs_input.specs.Scan.{Scanner, field}
+use Rattle.fs_input.proofs.CutShort.{field_fails, more_is, over_is}
+use Rattle.fs_input.proofs.Taking.{field_took}
+
+ahead_at : (counted : Counted) (left : ℕ → List ℕ) (slot : ℕ) → slot ≡ counted.slot → ahead counted left slot ≡ counted.back ++ left slot
+ahead_at counted left slot same = let test : (slot == counted.slot) ≡ true = grind (arith, nat_tests) in rw test refl
+
+pub ahead_here : (counted : Counted) (left : ℕ → List ℕ) → ahead counted left counted.slot ≡ counted.back ++ left counted.slot
+ahead_here counted left = ahead_at counted left counted.slot refl
+
+pub ahead_other : (counted : Counted) (left : ℕ → List ℕ) (slot : ℕ) → slot ≢ counted.slot → ahead counted left slot ≡ left slot
+ahead_other counted left slot apart = let test : (slot == counted.slot) ≡ false = grind (arith, nat_tests) in rw test refl
+
+-- where nothing was put back, what is left is the slot's
+ahead_none : (counted : Counted) (left : ℕ → List ℕ) (slot : ℕ) → counted.back ≡ [] → ahead counted left slot ≡ left slot
+ahead_none counted left slot none = by (slot == counted.slot)
+  where
+    by : (test : Bool) → (if test then counted.back ++ left slot else left slot) ≡ left slot
+    by true = ap (λ back. back ++ left slot) none
+    by false = refl
+
+pub nothing_ahead : (counted : Counted) (left : ℕ → List ℕ) → counted.back ≡ [] → ahead counted left ≡ left
+nothing_ahead counted left none = λ i slot. ahead_none counted left slot none i
+
+-- a call behind which nothing is put back, as before it
+pub reads_ahead : {T A R : Type 0} {scanner : Scanner A R} {cut : R} {tells : T → A} {told : Bool} {calls calls' : Calls}
+    {left left' : ℕ → List ℕ} {holds holds' : List ℕ → Option (List ℕ)} {old new : Counted} {result : Result T (Fault R)}
+    → old.back ≡ [] → new.back ≡ []
+    → Reads told calls calls' left left' holds holds' scanner cut old new tells result
+    → Reads told calls calls' (ahead old left) (ahead new left') holds holds' scanner cut old new tells result
+reads_ahead {scanner = scanner} {cut = cut} {tells = tells} {told = told} {calls = calls} {calls' = calls'} {left = left} {left' = left'}
+    {holds = holds} {holds' = holds'} {old = old} {new = new} {result = result} none later h =
+    subst (λ l. Reads told calls calls' l (ahead new left') holds holds' scanner cut old new tells result) (sym (nothing_ahead old left none))
+    (subst (λ l. Reads told calls calls' left l holds holds' scanner cut old new tells result) (sym (nothing_ahead new left' later)) h)
+
+module _ (old new : Counted) (left left' : ℕ → List ℕ) (same : new.slot ≡ old.slot) where
+  pub again_others : ((other : ℕ) → other ≢ old.slot → left' other ≡ left other) → (other : ℕ) → other ≢ old.slot
+      → ahead new left' other ≡ ahead old left other
+  again_others kept other apart =
+      ahead_other new left' other (λ e. apart (e ∙ same)) ∙ kept other apart ∙ sym (ahead_other old left other apart)
+
+  -- what holds of the octets that were put back and of those that the slot has left
+  again : (P : List ℕ → List ℕ → Type 0) → P (old.back ++ left old.slot) (new.back ++ left' old.slot)
+      → P (ahead old left old.slot) (ahead new left' old.slot)
+  again P h =
+      subst (λ before. P before (ahead new left' old.slot)) (sym (ahead_here old left))
+      (subst (λ later. P (old.back ++ left old.slot) later) (sym (ahead_at new left' old.slot (sym same))) h)
+
+  pub again_passed : Draws old new (left old.slot) (left' old.slot)
+      → Passed old.limit old.taken new.taken (ahead old left old.slot) (ahead new left' old.slot)
+  again_passed h = again (λ before later. Passed old.limit old.taken new.taken before later) (draws_ahead old new (left old.slot) (left' old.slot) h)
+
+  module _ (into : List ℕ) (count : ℕ)
+      (filled : Fills (window old.limit old.taken (old.back ++ left old.slot)) (old.back ++ left old.slot) (new.back ++ left' old.slot) into count) where
+    pub again_took : {R : Type 0} → length into ≤ count → new.taken ≡ old.taken + count
+        → Took (field {A = List ℕ} {R = R} (length into) whole old.taken (window old.limit old.taken (ahead old left old.slot)))
+        (length (window old.limit old.taken (ahead old left old.slot))) old.taken new.taken (ahead old left old.slot) (ahead new left' old.slot) into
+    again_took {R} all now =
+        again
+        (λ before later. Took (field {A = List ℕ} {R = R} (length into) whole old.taken (window old.limit old.taken before))
+        (length (window old.limit old.taken before)) old.taken new.taken before later into)
+        (field_took old.limit old.taken new.taken (old.back ++ left old.slot) (new.back ++ left' old.slot) into count filled all now)
+
+    module _ (short : count < length into) (within : old.taken ≤ old.limit) (now : new.taken ≡ old.taken + count) (most : new.limit ≡ old.limit) where
+      -- the octets end before the field is whole
+      pub again_fails : {R : Type 0} (cut : R)
+          → Fails (ends_by (field {A = List ℕ} {R = R} (length into) whole) cut old.limit old.taken (ahead old left old.slot))
+          (short_fault cut new.taken new.limit)
+      again_fails {R} cut =
+          again
+          (λ before later. Fails (ends_by (field {A = List ℕ} {R = R} (length into) whole) cut old.limit old.taken before) (short_fault cut new.taken new.limit))
+          (subst
+          (λ limit. Fails (ends_by (field {A = List ℕ} {R = R} (length into) whole) cut old.limit old.taken (old.back ++ left old.slot))
+          (short_fault cut new.taken limit))
+          (sym most)
+          (field_fails cut old.limit old.taken new.taken (old.back ++ left old.slot) (new.back ++ left' old.slot) into count filled short within now))
+
+      -- and before its first octet, or not
+      pub again_over : ((count == 0) && not (new.taken == new.limit)) ≡ true → IsOver old.limit old.taken (ahead old left old.slot)
+      again_over test =
+          again (λ before later. IsOver old.limit old.taken before)
+          (over_is old.limit old.taken new.taken (old.back ++ left old.slot) (new.back ++ left' old.slot) into count filled short within now
+          (sym (ap (λ n. (count == 0) && not (new.taken == n)) most) ∙ test))
+
+      pub again_more : ((count == 0) && not (new.taken == new.limit)) ≡ false → HasMore old.limit old.taken (ahead old left old.slot)
+      again_more test =
+          again (λ before later. HasMore old.limit old.taken before)
+          (more_is old.limit old.taken new.taken (old.back ++ left old.slot) (new.back ++ left' old.slot) into count filled short within now
+          (sym (ap (λ n. (count == 0) && not (new.taken == n)) most) ∙ test))

@@ -1,0 +1,98 @@
+-- What an input answers where its octets end before a field is whole.
+use Rattle.std.proofs.Common.{◌≡◌, ◌≢◌, ℕ, List, Bool, true, false, Some, ◌≤◌, ◌<◌, ◌+◌, ◌-◌, ◌==◌, ◌&&◌, not, min, inl, inr, length, refl, ap, sym, ◌∙◌, subst, arith}
+use Rattle.std.specs.Prelude.{if◌then◌else◌, nat_le}
+use Rattle.std.proofs.lemmas.List.{length-take}
+use Rattle.std.proofs.lemmas.Bool.Decides.{nat_tests}
+use Rattle.fs_base.specs.Filling.{Fills}
+use Rattle.fs_base.specs.Parts.{at_limit, window}
+use Rattle.fs_input.specs.NextRecord.{short_fault}
+use Rattle.fs_input.specs.Records.{bad, limited}
+use Rattle.fs_input.specs.declared.fault.Fault.TheVariants.{Bad, Limit, Read}
+use Rattle.fs_input.specs.Scan.{Scanner, field, partial}
+use Rattle.fs_input.specs.Reads.{Fails, HasMore, IsOver, end_of, ends_by, whole}
+
+same_limit : (limit taken taken' count size : ℕ) → taken ≤ limit → count ≡ min (limit - taken) size → taken' ≡ taken + count
+    → nat_le (limit - taken) size ≡ (taken' == limit)
+same_limit limit taken taken' count size within all now = grind (arith, nat_tests)
+
+-- all octets that are judged were taken
+pub limit_is : (limit taken taken' count : ℕ) (left : List ℕ) → taken ≤ limit → count ≡ length (window limit taken left)
+    → taken' ≡ taken + count → at_limit limit taken left ≡ (taken' == limit)
+limit_is limit taken taken' count left within all now =
+    same_limit limit taken taken' count (length left) within (all ∙ length-take (limit - taken) left) now
+
+short_by : {R : Type 0} (cut : R) (reached test : Bool) (place place' : ℕ) → reached ≡ test → place ≡ place'
+    → Fails (Some (if reached then limited else bad cut place)) (if test then Limit else Bad cut place')
+short_by cut true true place place' same at_place = refl
+short_by cut true false place place' same at_place = absurd cc
+short_by cut false true place place' same at_place = absurd cc
+short_by cut false false place place' same at_place = ap (λ n. Some (bad cut n)) at_place
+
+-- the fault of a chain for which these octets are too few
+pub short_fails : {A R : Type 0} (scanner : Scanner A R) (cut : R) (limit taken taken' count : ℕ) (left : List ℕ)
+    → taken ≤ limit → count ≡ length (window limit taken left) → taken' ≡ taken + count
+    → scanner taken (window limit taken left) ≡ partial
+    → Fails (ends_by scanner cut limit taken left) (short_fault cut taken' limit)
+short_fails scanner cut limit taken taken' count left within all now h =
+    subst
+    (λ scan. Fails (end_of cut (at_limit limit taken left) taken (length (window limit taken left)) scan) (short_fault cut taken' limit))
+    (sym h)
+    (short_by cut (at_limit limit taken left) (taken' == limit) (taken + length (window limit taken left)) taken'
+    (limit_is limit taken taken' count left within all now) (omega (arith, all, now)))
+
+-- an input that ends short didn't fail
+pub short_reads : {R : Type 0} (cut : R) (taken limit : ℕ) → short_fault cut taken limit ≢ Read
+short_reads {R} cut taken limit = by (taken == limit)
+  where
+    by : (test : Bool) → (if test then Limit else Bad cut taken) ≢ Read
+    by true e = absurd cc
+    by false e = absurd cc
+
+-- a buffer that wasn't filled took all that is judged
+pub all_taken : (limit taken : ℕ) (left left' into : List ℕ) (count : ℕ) → Fills (window limit taken left) left left' into count
+    → count < length into → count ≡ length (window limit taken left)
+all_taken limit taken left left' into count filled short = omega (arith, filled.count_is, short)
+
+pub field_short : {R : Type 0} (size place : ℕ) (octets : List ℕ) → length octets < size
+    → field {A = List ℕ} {R = R} size whole place octets ≡ partial
+field_short size place octets short = let test : nat_le size (length octets) ≡ false = grind (arith, nat_tests) in rw test refl
+
+pub field_fails : {R : Type 0} (cut : R) (limit taken taken' : ℕ) (left left' into : List ℕ) (count : ℕ)
+    → Fills (window limit taken left) left left' into count → count < length into → taken ≤ limit → taken' ≡ taken + count
+    → Fails (ends_by (field (length into) whole) cut limit taken left) (short_fault cut taken' limit)
+field_fails cut limit taken taken' left left' into count filled short within now =
+    let all = all_taken limit taken left left' into count filled short in
+    let few : length (window limit taken left) < length into = omega (arith, all, short) in
+    short_fails (field (length into) whole) cut limit taken taken' count left within all now
+    (field_short (length into) taken (window limit taken left) few)
+
+-- The test whether the input ended before a field.
+pub over_is : (limit taken taken' : ℕ) (left left' into : List ℕ) (count : ℕ)
+    → Fills (window limit taken left) left left' into count → count < length into → taken ≤ limit → taken' ≡ taken + count
+    → ((count == 0) && not (taken' == limit)) ≡ true → IsOver limit taken left
+over_is limit taken taken' left left' into count filled short within now test =
+    let all = all_taken limit taken left left' into count filled short in
+    let same = limit_is limit taken taken' count left within all now in
+    by (count == 0) (taken' == limit) refl refl test same all
+  where
+    by : (none reached : Bool) → (count == 0) ≡ none → (taken' == limit) ≡ reached → (none && not reached) ≡ true
+        → at_limit limit taken left ≡ (taken' == limit) → count ≡ length (window limit taken left) → IsOver limit taken left
+    by true true n r e same all = absurd cc
+    by true false n r e same all = record { below = same ∙ r; none = (let zero : count ≡ 0 = grind (arith, nat_tests) in omega (arith, zero, all)) }
+    by false true n r e same all = absurd cc
+    by false false n r e same all = absurd cc
+
+pub more_is : (limit taken taken' : ℕ) (left left' into : List ℕ) (count : ℕ)
+    → Fills (window limit taken left) left left' into count → count < length into → taken ≤ limit → taken' ≡ taken + count
+    → ((count == 0) && not (taken' == limit)) ≡ false → HasMore limit taken left
+more_is limit taken taken' left left' into count filled short within now test =
+    let all = all_taken limit taken left left' into count filled short in
+    let same = limit_is limit taken taken' count left within all now in
+    by (count == 0) (taken' == limit) refl refl test same all
+  where
+    by : (none reached : Bool) → (count == 0) ≡ none → (taken' == limit) ≡ reached → (none && not reached) ≡ false
+        → at_limit limit taken left ≡ (taken' == limit) → count ≡ length (window limit taken left) → HasMore limit taken left
+    by true true n r e same all = inl (same ∙ r)
+    by true false n r e same all = absurd cc
+    by false true n r e same all = inl (same ∙ r)
+    by false false n r e same all = inr (let some : 0 < count = grind (arith, nat_tests) in omega (arith, some, all))

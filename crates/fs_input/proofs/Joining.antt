@@ -1,0 +1,94 @@
+-- A chain of fields that is read one by one: what the first gives and what the next gives join.
+use Rattle.std.proofs.Common.{◌≡◌, ℕ, List, Bool, Some, ◌≤◌, ◌+◌, ◌-◌, length, drop, refl, ap, sym, ◌∙◌, subst, arith}
+use Rattle.std.specs.Prelude.{if◌then◌else◌}
+use Rattle.std.proofs.lemmas.List.{drop-drop, length-drop, length-take}
+use Rattle.fs_base.specs.Parts.{at_limit, window}
+use Rattle.fs_base.proofs.Parts.{limit_behind, window_behind}
+use Rattle.fs_input.specs.Records.{End, bad, limited}
+use Rattle.fs_input.specs.declared.fault.Fault.{Fault}
+use Rattle.fs_input.specs.declared.fault.Fault.TheVariants.{Read, Limit, Bad}
+use Rattle.fs_input.specs.Scan.{Scan, Scanner, and, and_then, behind, got, partial, wrong}
+use Rattle.fs_input.specs.Reads.{Fails, Took, end_of, ends_by}
+
+-- what is judged behind so many octets
+pub record IsBehind (limit taken taken' n : ℕ) (left left' : List ℕ) : Type 0 where
+  pub judged : window limit taken' left' ≡ drop n (window limit taken left)
+  pub size : length (window limit taken' left') ≡ length (window limit taken left) - n
+  pub limited : at_limit limit taken' left' ≡ at_limit limit taken left
+
+pub behind_took : (limit taken taken' n : ℕ) (left left' : List ℕ) → n ≤ length (window limit taken left) → taken' ≡ taken + n
+    → left' ≡ drop n left → IsBehind limit taken taken' n left left'
+behind_took limit taken taken' n left left' within place rest =
+    let room : n ≤ limit - taken = omega (arith, within, length-take (limit - taken) left) in
+    let had : n ≤ length left = omega (arith, within, length-take (limit - taken) left) in
+    let judged : window limit taken' left' ≡ drop n (window limit taken left) = rw (rest, place) (window_behind limit taken n left room) in
+    record {
+      judged = judged;
+      size = ap length judged ∙ length-drop n (window limit taken left);
+      limited = rw (rest, place) (limit_behind limit taken n left room had);
+    }
+
+-- a fault of the first field is one of the chain
+ends_first : {A B R : Type 0} (next : A → Scanner B R) (place : ℕ) (octets : List ℕ) (cut : R) (limit : Bool) (taken size : ℕ)
+    (scan : Scan A R) (end : End R)
+    → end_of cut limit taken size scan ≡ Some end → end_of cut limit taken size (and_then next place octets scan) ≡ Some end
+ends_first next place octets cut limit taken size (got value count) end h = absurd cc
+ends_first next place octets cut limit taken size (wrong reason at) end h = h
+ends_first next place octets cut limit taken size partial end h = h
+
+pub fails_first : {A B R : Type 0} (next : A → Scanner B R) (place : ℕ) (octets : List ℕ) (cut : R) (limit : Bool) (taken size : ℕ)
+    (scan : Scan A R) (fault : Fault R)
+    → Fails (end_of cut limit taken size scan) fault → Fails (end_of cut limit taken size (and_then next place octets scan)) fault
+fails_first next place octets cut limit taken size scan Read h = h
+fails_first next place octets cut limit taken size scan Limit h = ends_first next place octets cut limit taken size scan limited h
+fails_first next place octets cut limit taken size scan (Bad reason at) h =
+    ends_first next place octets cut limit taken size scan (bad reason at) h
+
+-- how the input ends behind so many octets
+pub end_behind : {A R : Type 0} (cut : R) (limit : Bool) (taken size n : ℕ) (scan : Scan A R) → n ≤ size
+    → end_of cut limit taken size (behind n scan) ≡ end_of cut limit (taken + n) (size - n) scan
+end_behind cut limit taken size n (got value count) within = refl
+end_behind cut limit taken size n (wrong reason at) within = refl
+end_behind cut limit taken size n partial within =
+    let same : taken + size ≡ taken + n + (size - n) = omega arith in
+    ap (λ place. Some (if limit then limited else bad cut place)) same
+
+module _ {A B R : Type 0} (first : Scanner A R) (next : A → Scanner B R) (limit taken taken' : ℕ) (left left' : List ℕ) (value : A) where
+  -- what the chain says, where the first field was taken
+  pub chain_is : (took : Took (first taken (window limit taken left)) (length (window limit taken left)) taken taken' left left' value)
+      → and first next taken (window limit taken left) ≡ behind took.count (next value taken' (window limit taken' left'))
+  chain_is took =
+      let judged = window limit taken left in
+      let rest = behind_took limit taken taken' took.count left left' took.within took.taken_is took.left_is in
+      ap (and_then next taken judged) took.is
+      ∙ (λ i. behind took.count (next value ((sym took.taken_is) i) ((sym rest.judged) i)))
+
+  pub both_took : (taken'' : ℕ) (left'' : List ℕ) (last : B)
+      → Took (first taken (window limit taken left)) (length (window limit taken left)) taken taken' left left' value
+      → Took (next value taken' (window limit taken' left')) (length (window limit taken' left')) taken' taken'' left' left'' last
+      → Took (and first next taken (window limit taken left)) (length (window limit taken left)) taken taken'' left left'' last
+  both_took taken'' left'' last took more =
+      let rest = behind_took limit taken taken' took.count left left' took.within took.taken_is took.left_is in
+      record {
+        count = took.count + more.count;
+        is = chain_is took ∙ ap (behind took.count) more.is;
+        within = omega (arith, took.within, more.within, rest.size);
+        taken_is = omega (arith, took.taken_is, more.taken_is);
+        left_is =
+            more.left_is ∙ ap (drop more.count) took.left_is ∙ drop-drop more.count took.count left
+            ∙ ap (λ n. drop n left) (let n : took.count + more.count ≡ took.count + more.count = refl in n);
+      }
+
+  second_ends : (cut : R) → Took (first taken (window limit taken left)) (length (window limit taken left)) taken taken' left left' value
+      → ends_by (and first next) cut limit taken left ≡ ends_by (next value) cut limit taken' left'
+  second_ends cut took =
+      let rest = behind_took limit taken taken' took.count left left' took.within took.taken_is took.left_is in
+      let scan = next value taken' (window limit taken' left') in
+      ap (end_of cut (at_limit limit taken left) taken (length (window limit taken left))) (chain_is took)
+      ∙ end_behind cut (at_limit limit taken left) taken (length (window limit taken left)) took.count scan took.within
+      ∙ (λ i. end_of cut ((sym rest.limited) i) ((sym took.taken_is) i) ((sym rest.size) i) scan)
+
+  pub fails_second : (cut : R) (fault : Fault R)
+      → Took (first taken (window limit taken left)) (length (window limit taken left)) taken taken' left left' value
+      → Fails (ends_by (next value) cut limit taken' left') fault → Fails (ends_by (and first next) cut limit taken left) fault
+  fails_second cut fault took h = subst (λ end. Fails end fault) (sym (second_ends cut took)) h

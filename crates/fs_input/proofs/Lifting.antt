@@ -1,0 +1,188 @@
+-- Calls that read fields one behind the other read the chain.
+use Rattle.std.proofs.Common.{◌≡◌, ℕ, List, Bool, true, Option, Result, Ok, Err, ◌≤◌, length, refl, ap, sym, ◌∙◌, subst, arith, le_trans}
+use Rattle.std.specs.Prelude.{IfErr}
+use Rattle.fs_base.specs.Draws.{Passed}
+use Rattle.fs_base.specs.Outside.{Rose}
+use Rattle.fs_base.specs.Parts.{at_limit, window}
+use Rattle.fs_base.specs.declared.counted.Counted.{Counted}
+use Rattle.fs_base.proofs.Drawing.{passed_none, passed_then}
+use Rattle.fs_input.specs.declared.fault.Fault.{Fault}
+use Rattle.fs_input.specs.declared.fault.Fault.TheVariants.{Read, Bad}
+use Rattle.fs_input.specs.Scan.{Scanner, and, fails, field, gives}
+use Rattle.fs_input.specs.Reads.{Calls, Fails, Reads, Scanned, Starts, Took, end_of, whole}
+use Rattle.fs_input.proofs.Joining.{both_took, fails_first, fails_second}
+
+rose_later : (early mid late : ℕ) → early ≤ mid → Rose mid late → Rose early late
+rose_later early mid late l r = omega (arith, l, r)
+
+pub failed_later : {T R : Type 0} (result : Result T (Fault R)) (early mid late : ℕ) → early ≤ mid
+    → IfErr result (λ fault. fault ≡ Read → Rose mid late) → IfErr result (λ fault. fault ≡ Read → Rose early late)
+failed_later (Ok answer) early mid late l h = h
+failed_later (Err fault) early mid late l h = λ read. rose_later early mid late l (h read)
+
+-- what one call took of the input, and then another
+pub passed_behind : (old now new : Counted) (left left' left'' : ℕ → List ℕ) → now.slot ≡ old.slot → now.limit ≡ old.limit
+    → Passed old.limit old.taken now.taken (left old.slot) (left' old.slot)
+    → Passed now.limit now.taken new.taken (left' now.slot) (left'' now.slot)
+    → Passed old.limit old.taken new.taken (left old.slot) (left'' old.slot)
+passed_behind old now new left left' left'' slot limit one more =
+    passed_then old.limit old.taken now.taken new.taken (left old.slot) (left' old.slot) (left'' old.slot) one
+    (subst (λ slot. Passed old.limit now.taken new.taken (left' slot) (left'' slot)) slot
+    (subst (λ limit. Passed limit now.taken new.taken (left' now.slot) (left'' now.slot)) limit more))
+
+module _ {T U A B R : Type 0} (first : Scanner A R) (next : A → Scanner B R) (cut : R) (tells : T → A) (tells2 : U → B) where
+  scanned_then : (limit taken taken' taken'' : ℕ) (left left' left'' : List ℕ) (answer : T) (result : Result U (Fault R))
+      → Scanned first cut limit taken taken' left left' tells (Ok answer)
+      → Scanned (next (tells answer)) cut limit taken' taken'' left' left'' tells2 result
+      → Scanned (and first next) cut limit taken taken'' left left'' tells2 result
+  scanned_then limit taken taken' taken'' left left' left'' answer (Ok last) took more =
+      both_took first next limit taken taken' left left' (tells answer) taken'' left'' (tells2 last) took more
+  scanned_then limit taken taken' taken'' left left' left'' answer (Err fault) took more =
+      fails_second first next limit taken taken' left left' (tells answer) cut fault took more
+
+-- where the first field was read, and then the next
+pub reads_then : {T U A B R : Type 0} {first : Scanner A R} {cut : R} {tells : T → A} {told : Bool} {calls mid late : Calls}
+    {left left' left'' : ℕ → List ℕ} {holds holds' holds'' : List ℕ → Option (List ℕ)} {old now new : Counted} {answer : T}
+    {result : Result U (Fault R)} (next : A → Scanner B R) (tells2 : U → B)
+    → Reads told calls mid left left' holds holds' first cut old now tells (Ok answer)
+    → Reads told mid late left' left'' holds' holds'' (next (tells answer)) cut now new tells2 result
+    → Reads told calls late left left'' holds holds'' (and first next) cut old new tells2 result
+reads_then {first = first} {cut = cut} {tells = tells} {told = told} {calls = calls} {mid = mid} {late = late}
+    {left = left} {left' = left'} {left'' = left''} {old = old} {now = now} {new = new} {answer = answer} {result = result}
+    next tells2 one more = record {
+      later = le_trans one.later more.later;
+      failed = failed_later result calls.faults mid.faults late.faults one.later more.failed;
+      slot = more.slot ∙ one.slot;
+      limit = more.limit ∙ one.limit;
+      scanned = λ tells_so.
+          scanned_then first next cut tells tells2 old.limit old.taken now.taken new.taken (left old.slot) (left' old.slot) (left'' old.slot)
+          answer result
+          (one.scanned tells_so)
+          (subst (λ slot. Scanned (next (tells answer)) cut old.limit now.taken new.taken (left' slot) (left'' slot) tells2 result) one.slot
+          (subst (λ limit. Scanned (next (tells answer)) cut limit now.taken new.taken (left' now.slot) (left'' now.slot) tells2 result) one.limit
+          (more.scanned tells_so)));
+      others = λ tells_so other apart.
+          more.others tells_so other (λ same. apart (same ∙ one.slot)) ∙ one.others tells_so other apart;
+      same = λ tells_so. more.same tells_so ∙ one.same tells_so;
+      took = λ tells_so.
+          passed_behind old now new left left' left'' one.slot one.limit (one.took tells_so) (more.took tells_so);
+      opened = more.opened ∙ one.opened;
+    }
+
+-- where the first field could not be read
+pub reads_ends : {T U A B R : Type 0} {first : Scanner A R} {cut : R} {tells : T → A} {told : Bool} {calls late : Calls}
+    {left left' : ℕ → List ℕ} {holds holds' : List ℕ → Option (List ℕ)} {old new : Counted} {fault : Fault R}
+    (next : A → Scanner B R) (tells2 : U → B)
+    → Reads told calls late left left' holds holds' first cut old new tells (Err fault)
+    → Reads told calls late left left' holds holds' (and first next) cut old new tells2 (Err fault)
+reads_ends {first = first} {cut = cut} {left = left} {old = old} {fault = fault} next tells2 one = record {
+  later = one.later;
+  failed = one.failed;
+  slot = one.slot;
+  limit = one.limit;
+  scanned = λ tells_so.
+      fails_first next old.taken (window old.limit old.taken (left old.slot)) cut _ old.taken _ _ fault (one.scanned tells_so);
+  others = one.others;
+  same = one.same;
+  took = one.took;
+  opened = one.opened;
+}
+
+-- a value that takes no octets
+pub reads_gives : {T A R : Type 0} {cut : R} {told : Bool} {calls : Calls} {left : ℕ → List ℕ} {holds : List ℕ → Option (List ℕ)}
+    {now : Counted} (tells : T → A) (answer : T)
+    → Reads told calls calls left left holds holds (gives (tells answer)) cut now now tells (Ok answer)
+reads_gives {left = left} {now = now} tells answer = record {
+  later = omega arith;
+  failed = tt;
+  slot = refl;
+  limit = refl;
+  scanned = λ tells_so. record { count = 0; is = refl; within = (omega arith); taken_is = (omega arith); left_is = refl };
+  others = λ tells_so other apart. refl;
+  same = λ tells_so. refl;
+  took = λ tells_so. passed_none now.limit now.taken (left now.slot) now.within;
+  opened = refl;
+}
+
+-- a fault
+pub reads_fails : {T A R : Type 0} {cut : R} {told : Bool} {calls : Calls} {left : ℕ → List ℕ} {holds : List ℕ → Option (List ℕ)}
+    {now : Counted} (tells : T → A) (reason : R) (place : ℕ)
+    → Reads told calls calls left left holds holds (fails {A = A} reason place) cut now now tells (Err (Bad reason place))
+reads_fails {R = R} {left = left} {now = now} tells reason place = record {
+  later = omega arith;
+  failed = never;
+  slot = refl;
+  limit = refl;
+  scanned = λ tells_so. refl;
+  others = λ tells_so other apart. refl;
+  same = λ tells_so. refl;
+  took = λ tells_so. passed_none now.limit now.taken (left now.slot) now.within;
+  opened = refl;
+} where
+  never : {late : ℕ} → ◌≡◌ {A = Fault R} (Bad reason place) Read → Rose late late
+  never e = absurd cc
+
+-- a chain that says the same of the octets that are left
+scanned_as : {T A R : Type 0} (one other : Scanner A R) (cut : R) (limit taken taken' : ℕ) (left left' : List ℕ) (tells : T → A)
+    (result : Result T (Fault R))
+    → one taken (window limit taken left) ≡ other taken (window limit taken left)
+    → Scanned one cut limit taken taken' left left' tells result → Scanned other cut limit taken taken' left left' tells result
+scanned_as one other cut limit taken taken' left left' tells (Ok answer) same h =
+    subst (λ scan. Took scan (length (window limit taken left)) taken taken' left left' (tells answer)) same h
+scanned_as one other cut limit taken taken' left left' tells (Err fault) same h =
+    subst (λ scan. Fails (end_of cut (at_limit limit taken left) taken (length (window limit taken left)) scan) fault) same h
+
+pub reads_as : {T A R : Type 0} {one : Scanner A R} {cut : R} {tells : T → A} {told : Bool} {calls calls' : Calls}
+    {left left' : ℕ → List ℕ} {holds holds' : List ℕ → Option (List ℕ)} {old new : Counted} {result : Result T (Fault R)}
+    (other : Scanner A R) → ((octets : List ℕ) → one old.taken octets ≡ other old.taken octets)
+    → Reads told calls calls' left left' holds holds' one cut old new tells result
+    → Reads told calls calls' left left' holds holds' other cut old new tells result
+reads_as {one = one} {cut = cut} {tells = tells} {left = left} {left' = left'} {old = old} {new = new} {result = result} other same h = record {
+  later = h.later;
+  failed = h.failed;
+  slot = h.slot;
+  limit = h.limit;
+  scanned = λ tells_so.
+      scanned_as one other cut old.limit old.taken new.taken (left old.slot) (left' old.slot) tells result
+      (same (window old.limit old.taken (left old.slot))) (h.scanned tells_so);
+  others = h.others;
+  same = h.same;
+  took = h.took;
+  opened = h.opened;
+}
+
+-- what an answer tells of a value that takes no octets
+pub gives_for : {T A R : Type 0} {cut : R} {told : Bool} {calls : Calls} {left : ℕ → List ℕ} {holds : List ℕ → Option (List ℕ)} {now : Counted}
+    (value : A) (tells : T → A) (answer : T) → value ≡ tells answer
+    → Reads told calls calls left left holds holds (gives value) cut now now tells (Ok answer)
+gives_for {now = now} value tells answer e =
+    reads_as (gives value) (λ octets. ap (λ v. gives v now.taken octets) (sym e)) (reads_gives tells answer)
+
+-- the first field of a part, where it was taken
+pub starts_reads : {R : Type 0} {cut : R} {told : Bool} {calls calls' : Calls} {left left' : ℕ → List ℕ}
+    {holds holds' : List ℕ → Option (List ℕ)} {old new : Counted} {into : List ℕ} {size : ℕ}
+    → Starts told calls calls' left left' holds holds' size cut old new into (Ok true)
+    → Reads told calls calls' left left' holds holds' (field size whole) cut old new (λ (_ : Bool). into) (Ok true)
+starts_reads h = record {
+  later = h.later;
+  failed = tt;
+  slot = h.slot;
+  limit = h.limit;
+  scanned = h.started;
+  others = h.others;
+  same = h.same;
+  took = h.took;
+  opened = h.opened;
+}
+
+-- the same, where the fault of the format, the size and the answer are known by equations
+pub starts_as : {R : Type 0} {cut other : R} {told : Bool} {calls calls' : Calls} {left left' : ℕ → List ℕ}
+    {holds holds' : List ℕ → Option (List ℕ)} {old new : Counted} {into : List ℕ} {result result' : Result Bool (Fault R)} (size : ℕ)
+    → cut ≡ other → length into ≡ size → result ≡ result'
+    → Starts told calls calls' left left' holds holds' (length into) cut old new into result
+    → Starts told calls calls' left left' holds holds' size other old new into result'
+starts_as {cut = cut} {other = other} {told = told} {calls = calls} {calls' = calls'} {left = left} {left' = left'} {holds = holds}
+    {holds' = holds'} {old = old} {new = new} {into = into} {result = result} {result' = result'} size same sized answered h =
+    subst (λ r. Starts told calls calls' left left' holds holds' size other old new into r) answered
+    (subst (λ n. Starts told calls calls' left left' holds holds' n other old new into result) sized
+    (subst (λ c. Starts told calls calls' left left' holds holds' (length into) c old new into result) same h))

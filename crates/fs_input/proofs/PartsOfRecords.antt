@@ -1,0 +1,183 @@
+-- Laws of the parts that a reader reads.
+use Rattle.std.proofs.Common.{◌≡◌, ℕ, zero, suc, Bool, List, [], ◌∷◌, ◌++◌, Option, Some, None, ◌<◌, ◌≤◌, ◌+◌, ◌-◌, ◌⊎◌, inl, inr, length, take, drop, refl, ap, sym, ◌∙◌, arith, append_assoc, length-drop, subst}
+use Rattle.std.specs.Prelude.{nat_le}
+use Rattle.std.proofs.lemmas.List.{length-take}
+use Rattle.fs_base.specs.Language.{IsOctets}
+use Rattle.fs_base.specs.Parts.{at_limit, window, with_part}
+use Rattle.fs_base.proofs.Octets.{octets_right}
+use Rattle.fs_base.proofs.Parts.{limit_behind, window_behind}
+use Rattle.fs_input.specs.Parts.{AllFrom, At, Fitting, ReadsText, Reader, Shrinks, SpellsText, at, judged, parts_from, parts_within, text_from, to_come}
+
+either : {A : Type 0} (o : Option A) → (o ≡ None) ⊎ ((x : A) × (o ≡ Some x))
+either None = inl refl
+either (Some x) = inr (x, refl)
+
+within_end : {S A : Type 0} (next : Reader S A) (n : ℕ) (now : At S) → next now ≡ None → parts_within next n now ≡ ([], now)
+unfolding parts_within
+within_end next zero now h = refl
+within_end next (suc n) now h = rw (h, parts_within) refl
+
+within_step : {S A : Type 0} (next : Reader S A) (n : ℕ) (now : At S) (found : A × At S)
+    → next now ≡ Some found → parts_within next (suc n) now ≡ with_part found.0 (parts_within next n found.1)
+unfolding parts_within
+within_step next n now found h = rw (h, parts_within) refl
+
+no_room : {S A : Type 0} (next : Reader S A) → Shrinks next → (now : At S) (found : A × At S)
+    → next now ≡ Some found → length now.octets ≤ 0 → ⊥
+no_room next shrinks now found h none = let s : length found.1.octets < length now.octets = shrinks now found h in omega arith
+
+-- a count that reaches the octets' length is enough
+enough : {S A : Type 0} (next : Reader S A) → Shrinks next → (n m : ℕ) (now : At S)
+    → length now.octets ≤ n → length now.octets ≤ m → parts_within next n now ≡ parts_within next m now
+enough next shrinks zero zero now a b = refl
+enough next shrinks zero (suc m) now a b = elim (either (next now)) [
+  | inl h ↦ within_end next zero now h ∙ sym (within_end next (suc m) now h)
+  | inr found ↦ absurd (no_room next shrinks now found.0 found.1 a)
+]
+enough next shrinks (suc n) zero now a b = elim (either (next now)) [
+  | inl h ↦ within_end next (suc n) now h ∙ sym (within_end next zero now h)
+  | inr found ↦ absurd (no_room next shrinks now found.0 found.1 b)
+]
+enough next shrinks (suc n) (suc m) now a b = elim (either (next now)) [
+  | inl h ↦ within_end next (suc n) now h ∙ sym (within_end next (suc m) now h)
+  | inr found ↦
+      let s : length found.0.1.octets < length now.octets = shrinks now found.0 found.1 in
+      within_step next n now found.0 found.1
+      ∙ ap (with_part found.0.0) (enough next shrinks n m found.0.1 (omega arith) (omega arith))
+      ∙ sym (within_step next m now found.0 found.1)
+]
+
+-- where no part stands there are none, and the reader stays
+pub parts_end : {S A : Type 0} (next : Reader S A) (now : At S) → next now ≡ None → parts_from next now ≡ ([], now)
+unfolding parts_from
+parts_end next now h = within_end next (length now.octets) now h
+
+-- where a part stands it is the first, and the others are those behind it
+pub parts_step : {S A : Type 0} (next : Reader S A) → Shrinks next → (now : At S) (found : A × At S)
+    → next now ≡ Some found → parts_from next now ≡ with_part found.0 (parts_from next found.1)
+unfolding parts_from
+parts_step next shrinks now found h =
+    let s : length found.1.octets < length now.octets = shrinks now found h in
+    enough next shrinks (length now.octets) (suc (length now.octets)) now (omega arith) (omega arith)
+    ∙ within_step next (length now.octets) now found h
+    ∙ ap (with_part found.0) (enough next shrinks (length now.octets) (length found.1.octets) found.1 (omega arith) (omega arith))
+
+-- the state behind these parts
+abbrev pub state_behind : {S A : Type 0} → (S → A → S) → S → List A → S
+state_behind after state [] = state
+state_behind after state (part ∷ parts) = state_behind after (after state part) parts
+
+-- what was written of a list of parts is read back as that list
+pub parts_spelled : {S A : Type 0} (next : Reader S A) (text : S → A → List ℕ) (Fits : S → A → Type 0) (after : S → A → S)
+    → Shrinks next → ((state : S) → next (at state []) ≡ None) → ReadsText next text Fits after
+    → (state : S) (items : List A) → AllFrom Fits after state items
+    → parts_from next (at state (text_from text after state items)) ≡ (items, at (state_behind after state items) [])
+parts_spelled next text Fits after shrinks none reads state [] all = parts_end next (at state []) (none state)
+parts_spelled next text Fits after shrinks none reads state (item ∷ items) all =
+    let rest = text_from text after (after state item) items in
+    parts_step next shrinks (at state (text state item ++ rest)) (item, at (after state item) rest) (reads state item rest all.0)
+    ∙ ap (with_part item) (parts_spelled next text Fits after shrinks none reads (after state item) items all.1)
+
+-- the octets are the texts of these parts, each of which fits, and what is left
+abbrev pub AreRead : {S A : Type 0} → (S → A → List ℕ) → (S → A → Type 0) → (S → A → S) → At S → List A × At S → Type 0
+AreRead text Fits after now parts =
+    (now.octets ≡ text_from text after now.state parts.0 ++ parts.1.octets) × AllFrom Fits after now.state parts.0
+
+none_read : {S A : Type 0} (next : Reader S A) (text : S → A → List ℕ) (Fits : S → A → Type 0) (after : S → A → S) (now : At S)
+    → next now ≡ None → AreRead text Fits after now (parts_from next now)
+none_read next text Fits after now h = rw (parts_end next now h) (refl, tt)
+
+one_read : {S A : Type 0} (text : S → A → List ℕ) (Fits : S → A → Type 0) (after : S → A → S) (now : At S) (found : A × At S)
+    (parts : List A × At S)
+    → (now.octets ≡ text now.state found.0 ++ found.1.octets) × Fits now.state found.0 × (found.1.state ≡ after now.state found.0)
+    → AreRead text Fits after found.1 parts → AreRead text Fits after now (with_part found.0 parts)
+one_read text Fits after now found parts first later =
+    let behind = subst
+    (λ state. (found.1.octets ≡ text_from text after state parts.0 ++ parts.1.octets) × AllFrom Fits after state parts.0)
+    first.2 later in (
+      first.0 ∙ ap (λ rest. text now.state found.0 ++ rest) behind.0
+          ∙ sym (append_assoc (text now.state found.0) (text_from text after (after now.state found.0) parts.0) parts.1.octets),
+      (first.1, behind.1),
+    )
+
+read_by : {S A : Type 0} (next : Reader S A) (text : S → A → List ℕ) (Fits : S → A → Type 0) (after : S → A → S)
+    → Shrinks next → SpellsText next text Fits after → (n : ℕ) (now : At S) → IsOctets now.octets → length now.octets ≤ n
+    → AreRead text Fits after now (parts_from next now)
+read_by next text Fits after shrinks spells zero now are a = elim (either (next now)) [
+  | inl h ↦ none_read next text Fits after now h
+  | inr found ↦ absurd (no_room next shrinks now found.0 found.1 a)
+]
+read_by next text Fits after shrinks spells (suc n) now are a = elim (either (next now)) [
+  | inl h ↦ none_read next text Fits after now h
+  | inr found ↦
+      let s : length found.0.1.octets < length now.octets = shrinks now found.0 found.1 in
+      let first = spells now found.0 are found.1 in
+      let behind : IsOctets found.0.1.octets =
+      octets_right (text now.state found.0.0) found.0.1.octets (subst IsOctets first.0 are) in
+      rw (parts_step next shrinks now found.0 found.1)
+      (one_read text Fits after now found.0 (parts_from next found.0.1) first
+      (read_by next text Fits after shrinks spells n found.0.1 behind (omega arith)))
+]
+
+-- octets are the texts of their parts, and what is left
+pub parts_read : {S A : Type 0} (next : Reader S A) (text : S → A → List ℕ) (Fits : S → A → Type 0) (after : S → A → S)
+    → Shrinks next → SpellsText next text Fits after → (now : At S) → IsOctets now.octets
+    → AreRead text Fits after now (parts_from next now)
+parts_read next text Fits after shrinks spells now are =
+    read_by next text Fits after shrinks spells (length now.octets) now are (omega arith)
+
+fit_step : {S A : Type 0} (Fits : S → A → Type 0) (after : S → A → S) (state : S) (part : A) (behind : S) (parts : List A)
+    → Fits state part × (behind ≡ after state part) → AllFrom Fits after behind parts → AllFrom Fits after state (part ∷ parts)
+fit_step Fits after state part behind parts first later = (first.0, subst (λ s. AllFrom Fits after s parts) first.1 later)
+
+fit_by : {S A : Type 0} (next : Reader S A) (Fits : S → A → Type 0) (after : S → A → S)
+    → Shrinks next → Fitting next Fits after → (n : ℕ) (now : At S) → length now.octets ≤ n
+    → AllFrom Fits after now.state (parts_from next now).0
+fit_by next Fits after shrinks fits zero now a = elim (either (next now)) [
+  | inl h ↦ rw (parts_end next now h) tt
+  | inr found ↦ absurd (no_room next shrinks now found.0 found.1 a)
+]
+fit_by next Fits after shrinks fits (suc n) now a = elim (either (next now)) [
+  | inl h ↦ rw (parts_end next now h) tt
+  | inr found ↦
+      let s : length found.0.1.octets < length now.octets = shrinks now found.0 found.1 in
+      rw (parts_step next shrinks now found.0 found.1)
+      (fit_step Fits after now.state found.0.0 found.0.1.state (parts_from next found.0.1).0 (fits now found.0 found.1)
+      (fit_by next Fits after shrinks fits n found.0.1 (omega arith)))
+]
+
+-- what holds of each part that is read holds of all of them, along the states
+pub coming_fit : {S A E : Type 0} (next : Reader S A) (stop : Bool → ℕ → At S → E) (Fits : S → A → Type 0) (after : S → A → S)
+    → Shrinks next → Fitting next Fits after
+    → (limit taken : ℕ) (now : At S) → AllFrom Fits after now.state (to_come next stop limit taken now).0
+unfolding to_come
+coming_fit next stop Fits after shrinks fits limit taken now =
+    fit_by next Fits after shrinks fits (length (judged limit taken now).octets) (judged limit taken now) (omega arith)
+
+-- no part stands in what is judged: only the end is to come
+pub to_come_end : {S A E : Type 0} (next : Reader S A) (stop : Bool → ℕ → At S → E) (limit taken : ℕ) (now : At S)
+    → next (judged limit taken now) ≡ None
+    → to_come next stop limit taken now ≡ ([], stop (at_limit limit taken now.octets) taken (judged limit taken now))
+unfolding to_come
+to_come_end next stop limit taken now h =
+    let octets = window limit taken now.octets in
+    let place : taken + length octets - length octets ≡ taken = omega arith in
+    rw (parts_end next (judged limit taken now) h, place) refl
+
+-- a part stands there, of `n` octets: it comes first, and then what is to come behind these octets
+pub to_come_step : {S A E : Type 0} (next : Reader S A) (stop : Bool → ℕ → At S → E) → Shrinks next
+    → (limit taken : ℕ) (now : At S) (part : A) (state : S) (n : ℕ)
+    → n ≤ length (window limit taken now.octets)
+    → next (judged limit taken now) ≡ Some (part, at state (drop n (window limit taken now.octets)))
+    → to_come next stop limit taken now ≡ with_part part (to_come next stop limit (taken + n) (at state (drop n now.octets)))
+unfolding to_come
+to_come_step next stop shrinks limit taken now part state n a h =
+    let left = now.octets in
+    let within : n ≤ limit - taken = omega (arith, length-take (limit - taken) left) in
+    let had : n ≤ length left = omega (arith, length-take (limit - taken) left) in
+    let behind : take (limit - (taken + n)) (drop n left) ≡ drop n (take (limit - taken) left) = window_behind limit taken n left within in
+    let limited : nat_le (limit - (taken + n)) (length (drop n left)) ≡ nat_le (limit - taken) (length left) =
+    limit_behind limit taken n left within had in
+    let place : taken + n + length (drop n (take (limit - taken) left)) ≡ taken + length (take (limit - taken) left) =
+    omega (arith, length-drop n (take (limit - taken) left)) in
+    rw (parts_step next shrinks (judged limit taken now) (part, at state (drop n (take (limit - taken) left))) h, behind, limited, place) refl

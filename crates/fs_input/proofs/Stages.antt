@@ -1,0 +1,182 @@
+-- Loops that read a chain of fields: what of the chain is still to be read, behind the fields that were.
+use Rattle.std.proofs.Common.{◌≡◌, ℕ, List, Bool, Option, Result, Ok, Err, IsTrue, ◌≢◌, ◌≤◌, ◌+◌, length, drop, refl, ap, sym, ◌∙◌, subst, arith, le_trans}
+use Rattle.std.proofs.lemmas.List.{drop-drop}
+use Rattle.fs_base.specs.Draws.{Passed}
+use Rattle.fs_base.specs.Parts.{at_limit, window}
+use Rattle.fs_base.specs.declared.counted.Counted.{Counted}
+use Rattle.fs_base.proofs.Drawing.{passed_none}
+use Rattle.fs_input.specs.declared.fault.Fault.{Fault}
+use Rattle.fs_input.specs.Scan.{Scan, Scanner, and, behind, got, partial, wrong}
+use Rattle.fs_input.specs.Records.{End}
+use Rattle.fs_input.specs.Reads.{Calls, Fails, Reads, Scanned, Took, end_of, ends_by}
+use Rattle.fs_input.proofs.Joining.{behind_took, chain_is, end_behind}
+use Rattle.fs_input.proofs.Lifting.{failed_later, passed_behind}
+
+-- so many octets of the chain were taken, and this rest of it is to be read
+pub record Stage {A R : Type 0} (chain rest : Scanner A R) (limit taken taken' : ℕ) (left left' : List ℕ) : Type 0 where
+  pub count : ℕ
+  pub within : count ≤ length (window limit taken left)
+  pub place : taken' ≡ taken + count
+  pub rest_is : left' ≡ drop count left
+  pub is : chain taken (window limit taken left) ≡ behind count (rest taken' (window limit taken' left'))
+
+behind_none : {A R : Type 0} (scan : Scan A R) → scan ≡ behind 0 scan
+behind_none (got value count) = let same : count ≡ 0 + count = omega arith in ap (λ n. got value n) same
+behind_none (wrong reason place) = refl
+behind_none partial = refl
+
+behind_more : {A R : Type 0} (n m : ℕ) (scan : Scan A R) → behind n (behind m scan) ≡ behind (n + m) scan
+behind_more n m (got value count) = let same : n + (m + count) ≡ n + m + count = omega arith in ap (λ k. got value k) same
+behind_more n m (wrong reason place) = refl
+behind_more n m partial = refl
+
+stage_start : {A R : Type 0} (chain : Scanner A R) (limit taken : ℕ) (left : List ℕ) → Stage chain chain limit taken taken left left
+stage_start chain limit taken left = record {
+  count = 0;
+  within = (omega arith);
+  place = (omega arith);
+  rest_is = refl;
+  is = behind_none (chain taken (window limit taken left));
+}
+
+module _ {A R : Type 0} (chain rest : Scanner A R) (limit taken taken' taken'' : ℕ) (left left' left'' : List ℕ) where
+  stages : (last : Scanner A R) → Stage chain rest limit taken taken' left left' → Stage rest last limit taken' taken'' left' left''
+      → Stage chain last limit taken taken'' left left''
+  stages last one more =
+      let behind_one = behind_took limit taken taken' one.count left left' one.within one.place one.rest_is in
+      record {
+        count = one.count + more.count;
+        within = omega (arith, one.within, more.within, behind_one.size);
+        place = omega (arith, one.place, more.place);
+        rest_is =
+            more.rest_is ∙ ap (drop more.count) one.rest_is ∙ drop-drop more.count one.count left
+            ∙ ap (λ n. drop n left) (let n : one.count + more.count ≡ one.count + more.count = refl in n);
+        is =
+            one.is ∙ ap (behind one.count) more.is
+            ∙ behind_more one.count more.count (last taken'' (window limit taken'' left''));
+      }
+
+  stage_took : (value : A) → Stage chain rest limit taken taken' left left'
+      → Took (rest taken' (window limit taken' left')) (length (window limit taken' left')) taken' taken'' left' left'' value
+      → Took (chain taken (window limit taken left)) (length (window limit taken left)) taken taken'' left left'' value
+  stage_took value one more =
+      let behind_one = behind_took limit taken taken' one.count left left' one.within one.place one.rest_is in
+      record {
+        count = one.count + more.count;
+        is = one.is ∙ ap (behind one.count) more.is;
+        within = omega (arith, one.within, more.within, behind_one.size);
+        taken_is = omega (arith, one.place, more.taken_is);
+        left_is =
+            more.left_is ∙ ap (drop more.count) one.rest_is ∙ drop-drop more.count one.count left
+            ∙ ap (λ n. drop n left) (let n : one.count + more.count ≡ one.count + more.count = refl in n);
+      }
+
+  stage_ends : (cut : R) → Stage chain rest limit taken taken' left left' → ends_by chain cut limit taken left ≡ ends_by rest cut limit taken' left'
+  stage_ends cut one =
+      let behind_one = behind_took limit taken taken' one.count left left' one.within one.place one.rest_is in
+      let scan = rest taken' (window limit taken' left') in
+      ap (ends_of (at_limit limit taken left) taken (length (window limit taken left))) one.is
+      ∙ end_behind cut (at_limit limit taken left) taken (length (window limit taken left)) one.count scan one.within
+      ∙ (λ i. ends_of ((sym behind_one.limited) i) ((sym one.place) i) ((sym behind_one.size) i) scan)
+    where
+      ends_of : Bool → (taken size : ℕ) → Scan A R → Option (End R)
+      ends_of limit taken size scan = end_of cut limit taken size scan
+
+-- a field of the rest was taken
+stage_field : {A B R : Type 0} (first : Scanner B R) (next : B → Scanner A R) (limit taken taken' : ℕ) (left left' : List ℕ) (value : B)
+    → Took (first taken (window limit taken left)) (length (window limit taken left)) taken taken' left left' value
+    → Stage (and first next) (next value) limit taken taken' left left'
+stage_field first next limit taken taken' left left' value took = record {
+  count = took.count;
+  within = took.within;
+  place = took.taken_is;
+  rest_is = took.left_is;
+  is = chain_is first next limit taken taken' left left' value took;
+}
+
+-- What a loop did to the files that has read a chain up to this rest of it.
+module _ {A R : Type 0} (told : Bool) (calls calls' : Calls) (left left' : ℕ → List ℕ) (holds holds' : List ℕ → Option (List ℕ)) where
+  pub record Going (chain rest : Scanner A R) (old now : Counted) : Type 0 where
+    pub later : calls.faults ≤ calls'.faults
+    pub slot : now.slot ≡ old.slot
+    pub limit : now.limit ≡ old.limit
+    pub staged : IsTrue told → Stage chain rest old.limit old.taken now.taken (left old.slot) (left' old.slot)
+    pub others : IsTrue told → (other : ℕ) → other ≢ old.slot → left' other ≡ left other
+    pub same : IsTrue told → holds' ≡ holds
+    pub took : IsTrue told → Passed old.limit old.taken now.taken (left old.slot) (left' old.slot)
+    pub opened : calls'.opened ≡ calls.opened
+
+pub going_start : {A R : Type 0} {told : Bool} {calls : Calls} {left : ℕ → List ℕ} {holds : List ℕ → Option (List ℕ)} {now : Counted}
+    (chain : Scanner A R) → Going told calls calls left left holds holds chain chain now now
+going_start {left = left} {now = now} chain = record {
+  later = omega arith;
+  slot = refl;
+  limit = refl;
+  staged = λ tells_so. stage_start chain now.limit now.taken (left now.slot);
+  others = λ tells_so other apart. refl;
+  same = λ tells_so. refl;
+  took = λ tells_so. passed_none now.limit now.taken (left now.slot) now.within;
+  opened = refl;
+}
+
+-- one field more
+pub going_more : {T A B R : Type 0} {chain : Scanner A R} {first : Scanner B R} {cut : R} {tells : T → B} {told : Bool} {calls mid late : Calls}
+    {left left' left'' : ℕ → List ℕ} {holds holds' holds'' : List ℕ → Option (List ℕ)} {old now new : Counted} {answer : T}
+    (next : B → Scanner A R)
+    → Going told calls mid left left' holds holds' chain (and first next) old now
+    → Reads told mid late left' left'' holds' holds'' first cut now new tells (Ok answer)
+    → Going told calls late left left'' holds holds'' chain (next (tells answer)) old new
+going_more {chain = chain} {first = first} {cut = cut} {tells = tells} {left = left} {left' = left'} {left'' = left''} {old = old} {now = now}
+    {new = new} {answer = answer} next one more = record {
+      later = le_trans one.later more.later;
+      slot = more.slot ∙ one.slot;
+      limit = more.limit ∙ one.limit;
+      staged = λ tells_so.
+          stages chain (and first next) old.limit old.taken now.taken new.taken (left old.slot) (left' old.slot) (left'' old.slot)
+          (next (tells answer)) (one.staged tells_so)
+          (stage_field first next old.limit now.taken new.taken (left' old.slot) (left'' old.slot) (tells answer)
+          (subst (λ slot. Scanned first cut old.limit now.taken new.taken (left' slot) (left'' slot) tells (Ok answer)) one.slot
+          (subst (λ limit. Scanned first cut limit now.taken new.taken (left' now.slot) (left'' now.slot) tells (Ok answer)) one.limit
+          (more.scanned tells_so))));
+      others = λ tells_so other apart.
+          more.others tells_so other (λ same. apart (same ∙ one.slot)) ∙ one.others tells_so other apart;
+      same = λ tells_so. more.same tells_so ∙ one.same tells_so;
+      took = λ tells_so.
+          passed_behind old now new left left' left'' one.slot one.limit (one.took tells_so) (more.took tells_so);
+      opened = more.opened ∙ one.opened;
+    }
+
+staged_reads : {T A R : Type 0} (chain rest : Scanner A R) (cut : R) (tells : T → A) (limit taken taken' taken'' : ℕ) (left left' left'' : List ℕ)
+    (result : Result T (Fault R))
+    → Stage chain rest limit taken taken' left left' → Scanned rest cut limit taken' taken'' left' left'' tells result
+    → Scanned chain cut limit taken taken'' left left'' tells result
+staged_reads chain rest cut tells limit taken taken' taken'' left left' left'' (Ok answer) one more =
+    stage_took chain rest limit taken taken' taken'' left left' left'' (tells answer) one more
+staged_reads chain rest cut tells limit taken taken' taken'' left left' left'' (Err fault) one more =
+    subst (λ end. Fails end fault) (sym (stage_ends chain rest limit taken taken' taken'' left left' left'' cut one)) more
+
+-- and then the rest
+pub going_then : {T A R : Type 0} {chain rest : Scanner A R} {cut : R} {tells : T → A} {told : Bool} {calls mid late : Calls}
+    {left left' left'' : ℕ → List ℕ} {holds holds' holds'' : List ℕ → Option (List ℕ)} {old now new : Counted} {result : Result T (Fault R)}
+    → Going told calls mid left left' holds holds' chain rest old now
+    → Reads told mid late left' left'' holds' holds'' rest cut now new tells result
+    → Reads told calls late left left'' holds holds'' chain cut old new tells result
+going_then {chain = chain} {rest = rest} {cut = cut} {tells = tells} {calls = calls} {mid = mid} {late = late} {left = left} {left' = left'}
+    {left'' = left''} {old = old} {now = now} {new = new} {result = result} one more = record {
+      later = le_trans one.later more.later;
+      failed = failed_later result calls.faults mid.faults late.faults one.later more.failed;
+      slot = more.slot ∙ one.slot;
+      limit = more.limit ∙ one.limit;
+      scanned = λ tells_so.
+          staged_reads chain rest cut tells old.limit old.taken now.taken new.taken (left old.slot) (left' old.slot) (left'' old.slot) result
+          (one.staged tells_so)
+          (subst (λ slot. Scanned rest cut old.limit now.taken new.taken (left' slot) (left'' slot) tells result) one.slot
+          (subst (λ limit. Scanned rest cut limit now.taken new.taken (left' now.slot) (left'' now.slot) tells result) one.limit
+          (more.scanned tells_so)));
+      others = λ tells_so other apart.
+          more.others tells_so other (λ same. apart (same ∙ one.slot)) ∙ one.others tells_so other apart;
+      same = λ tells_so. more.same tells_so ∙ one.same tells_so;
+      took = λ tells_so.
+          passed_behind old now new left left' left'' one.slot one.limit (one.took tells_so) (more.took tells_so);
+      opened = more.opened ∙ one.opened;
+    }

@@ -1,0 +1,30 @@
+use Rattle.std.proofs.Common.{◌≡◌, ◌≢◌, ◌≤◌, ◌++◌, ◌-◌, [], None, ℕ, length, IsTrue}
+use Rattle.fs_base.specs.Draws.{Draws}
+use Rattle.fs_input.specs.Coming.{part_in, told_to_come}
+use Rattle.fs_input.proofs.reading.next_told.Given as goal
+
+abbrev pub invariant-parts : goal.invariant-parts
+invariant-parts g l =
+    let chain = part_in g.P.Parts.first (g.P.Parts.behind l.given) in
+    record {
+      room : length l.into ≡ length l.fn.into;
+      straight : l.fn.counted.back ≡ [] → l.counted.back ≡ [];
+      slot : l.counted.slot ≡ l.fn.counted.slot;
+      limit : l.counted.limit ≡ l.fn.counted.limit;
+      place : l.fn.counted.taken ≤ l.counted.taken;
+      moves : g.P.Parts.Moves l.fn.parts l.parts None;
+      later : g.F.Files.faults l.fn.files ≤ g.F.Files.faults l.files;
+      others : IsTrue g.F.Files.tells → (other : ℕ) → other ≢ l.fn.counted.slot → g.F.Files.left l.files other ≡ g.F.Files.left l.fn.files other;
+      same : IsTrue g.F.Files.tells → g.F.Files.holds l.files ≡ g.F.Files.holds l.fn.files;
+      took :
+          IsTrue g.F.Files.tells
+          → Draws l.fn.counted l.counted (g.F.Files.left l.fn.files l.fn.counted.slot) (g.F.Files.left l.files l.fn.counted.slot);
+      opened : g.F.Files.opened l.files ≡ g.F.Files.opened l.fn.files;
+      coming :
+          IsTrue g.F.Files.tells
+          → told_to_come chain g.P.Parts.cut l.fn.counted.limit l.fn.counted.taken l.fn.parts (l.fn.counted.back ++ g.F.Files.left l.fn.files l.fn.counted.slot)
+          ≡ told_to_come chain g.P.Parts.cut l.counted.limit l.counted.taken l.parts (l.counted.back ++ g.F.Files.left l.files l.counted.slot);
+    }
+
+abbrev pub decreases-parts : goal.decreases-parts
+decreases-parts g l = l.counted.limit - l.counted.taken

@@ -1,0 +1,9 @@
+pub mod Parts
+pub mod Records
+pub mod NextRecord
+pub mod Opening
+pub mod Scan
+pub mod Reads
+pub mod Judging
+pub mod Coming
+pub mod Reading

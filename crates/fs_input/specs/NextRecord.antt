@@ -1,0 +1,56 @@
+-- What reading the next record answers, and what is to come then.
+use Rattle.std.specs.Prelude.{ℕ, List, [], Option, Some, None, Result, Ok, Err, ◌≡◌, ◌≤◌, ◌<◌, ◌==◌, ◌&&◌, not, if◌then◌else◌, ⊤}
+use Rattle.fs_input.specs.Records.{End, done, limited, bad}
+use Rattle.fs_input.specs.declared.fault.Ended.{Ended}
+use Rattle.fs_input.specs.declared.fault.Ended.TheVariants.{Done, Stopped}
+use Rattle.fs_input.specs.declared.fault.Fault.{Fault}
+use Rattle.fs_input.specs.declared.fault.Fault.TheVariants.{Read, Limit, Bad}
+use Rattle.fs_input.specs.declared.head.Found.{Found}
+use Rattle.fs_input.specs.declared.head.Head.{Head}
+use Rattle.fs_input.specs.declared.head.Head.TheVariants.{Whole, Wrong, Partial}
+
+-- A wrong field begins within the octets in hand. A whole head has all its octets, and a payload of no more than `most`.
+abbrev pub IsHeadWithin : {A R : Type 0} → (size most count : ℕ) → Head A R → Type 0
+IsHeadWithin size most count (Whole said payload) = (size ≤ count) × (payload ≤ most)
+IsHeadWithin size most count (Wrong reason offset) = offset < count
+IsHeadWithin size most count Partial = count < size
+
+-- what a whole head says is known
+abbrev pub IsKnown : {A R : Type 0} → (A → Type 0) → Head A R → Type 0
+IsKnown Known (Whole said payload) = Known said
+IsKnown Known (Wrong reason offset) = ⊤
+IsKnown Known Partial = ⊤
+
+-- what an input that ended answers from then on
+abbrev pub answer_of : {T R : Type 0} → Ended R → Result (Option T) (Fault R)
+answer_of Done = Ok None
+answer_of (Stopped fault) = Err fault
+
+-- how an input stands ended behind an answer
+abbrev pub ended_after : {T R : Type 0} → Result (Option T) (Fault R) → Option (Ended R)
+ended_after (Ok (Some found)) = None
+ended_after (Ok None) = Some Done
+ended_after (Err fault) = Some (Stopped fault)
+
+-- What was to come is what stands behind the record that the answer gives; or nothing but the end that it tells.
+abbrev pub Advances : {T B R : Type 0} → List B × End R → (T → List B × End R) → Result (Option T) (Fault R) → Type 0
+Advances before behind (Ok (Some found)) = before ≡ behind found
+Advances before behind (Ok None) = before ≡ ([], done)
+Advances before behind (Err Read) = ⊤
+Advances before behind (Err Limit) = before ≡ ([], limited)
+Advances before behind (Err (Bad reason place)) = before ≡ ([], bad reason place)
+
+-- A record raises the place, up to the limit at most. Its payload has no more than `most` octets, and what its head says
+-- is known.
+abbrev pub Grows : {A R : Type 0} → (A → Type 0) → (most old new limit : ℕ) → Result (Option (Found A)) (Fault R) → Type 0
+Grows Known most old new limit (Ok (Some found)) = (old < new) × (new ≤ limit) × (found.size ≤ most) × Known found.said
+Grows Known most old new limit _ = ⊤
+
+-- the fault of an input of which no octet is left to be taken
+abbrev pub short_fault : {R : Type 0} → R → (taken limit : ℕ) → Fault R
+short_fault cut taken limit = if taken == limit then Limit else Bad cut taken
+
+-- what an input answers where so many octets of a head were the last to be taken
+abbrev pub short_answer : {T R : Type 0} → R → (taken limit count : ℕ) → Result (Option T) (Fault R)
+short_answer cut taken limit count =
+    if count == 0 && not (taken == limit) then Ok None else Err (short_fault cut taken limit)

@@ -1,0 +1,133 @@
+-- What a call that reads a chain of fields does to the files and to the slot that it reads.
+use Rattle.std.specs.Prelude.{ℕ, List, ◌++◌, Option, Some, None, Result, Ok, Err, Bool, true, false, IsTrue, IfErr, ◌≡◌, ◌≢◌, ◌≤◌, ◌<◌, ◌+◌, ◌==◌, ◌⊎◌, length, drop, if◌then◌else◌, ⊤}
+use Rattle.fs_base.specs.Draws.{Passed}
+use Rattle.fs_base.specs.Files.{Opened}
+use Rattle.fs_base.specs.Outside.{Rose}
+use Rattle.fs_base.specs.Parts.{at_limit, window}
+use Rattle.fs_base.specs.declared.counted.Counted.{Counted}
+use Rattle.fs_base.specs.declared.Files as files
+use Rattle.fs_input.specs.Records.{End, bad, limited}
+use Rattle.fs_input.specs.declared.fault.Fault.{Fault}
+use Rattle.fs_input.specs.declared.fault.Fault.TheVariants.{Read, Limit, Bad}
+use Rattle.fs_input.specs.Scan.{Scan, Scanner, field, got, partial, wrong}
+
+module _ {A R : Type 0} where
+  -- a scan gave this value, and its octets were taken
+  pub record Took (scan : Scan A R) (judged taken taken' : ℕ) (left left' : List ℕ) (value : A) : Type 0 where
+    pub count : ℕ
+    pub is : scan ≡ got value count
+    pub within : count ≤ judged
+    pub taken_is : taken' ≡ taken + count
+    pub left_is : left' ≡ drop count left
+
+  -- how an input ends, of which so many octets are judged behind those that were taken, where a scan gives no value
+  abbrev pub end_of : R → Bool → (taken size : ℕ) → Scan A R → Option (End R)
+  end_of cut limit taken size (got value count) = None
+  end_of cut limit taken size (wrong reason place) = Some (bad reason place)
+  end_of cut limit taken size partial = Some (if limit then limited else bad cut (taken + size))
+
+  abbrev pub ends_by : Scanner A R → R → (limit taken : ℕ) → List ℕ → Option (End R)
+  ends_by scanner cut limit taken left =
+      end_of cut (at_limit limit taken left) taken (length (window limit taken left)) (scanner taken (window limit taken left))
+
+-- a fault is how the input ends
+abbrev pub Fails : {R : Type 0} → Option (End R) → Fault R → Type 0
+Fails end Read = ⊤
+Fails end Limit = end ≡ Some limited
+Fails end (Bad reason place) = end ≡ Some (bad reason place)
+
+-- The answer is what the chain says of the octets that are judged; `tells` says what an answer tells of its value.
+abbrev pub Scanned : {T A R : Type 0} → Scanner A R → R → (limit taken taken' : ℕ) → (left left' : List ℕ) → (T → A)
+    → Result T (Fault R) → Type 0
+Scanned scanner cut limit taken taken' left left' tells (Ok answer) =
+    Took (scanner taken (window limit taken left)) (length (window limit taken left)) taken taken' left left' (tells answer)
+Scanned scanner cut limit taken taken' left left' tells (Err fault) = Fails (ends_by scanner cut limit taken left) fault
+
+-- what files show of the calls so far: their faults, and their openings
+pub record Calls : Type 0 where
+  pub faults : ℕ
+  pub opened : Option (List Opened)
+
+abbrev pub calls_of : {F : Type 0} → files.Ghosts F → F → Calls
+calls_of of_files now = record { faults = of_files.faults now; opened = of_files.opened now }
+
+-- The files that tell their octets give those of the slot as the chain says, none past the limit whatever is answered, and
+-- nothing else changes. Their faults never fall, and rose where `Read` is answered. No file is opened.
+module _ {T A R : Type 0} (told : Bool) (calls calls' : Calls) (left left' : ℕ → List ℕ)
+    (holds holds' : List ℕ → Option (List ℕ)) where
+  pub record Reads (scanner : Scanner A R) (cut : R) (old new : Counted) (tells : T → A) (result : Result T (Fault R)) : Type 0 where
+    pub later : calls.faults ≤ calls'.faults
+    pub failed : IfErr result (λ fault. fault ≡ Read → Rose calls.faults calls'.faults)
+    pub slot : new.slot ≡ old.slot
+    pub limit : new.limit ≡ old.limit
+    pub scanned :
+        IsTrue told
+        → Scanned scanner cut old.limit old.taken new.taken (left old.slot) (left' old.slot) tells result
+    pub others : IsTrue told → (other : ℕ) → other ≢ old.slot → left' other ≡ left other
+    pub same : IsTrue told → holds' ≡ holds
+    pub took : IsTrue told → Passed old.limit old.taken new.taken (left old.slot) (left' old.slot)
+    pub opened : calls'.opened ≡ calls.opened
+
+-- what is left of an input, where octets of it were put back
+abbrev pub ahead : Counted → (ℕ → List ℕ) → ℕ → List ℕ
+ahead counted left slot = if slot == counted.slot then counted.back ++ left slot else left slot
+
+-- so of files before and behind a call; in a clause: `Scans F.Files files.old files.new ..`
+abbrev pub Scans : {F T A R : Type 0} → files.Ghosts F → (old new : F) → Scanner A R → R → (before now : Counted)
+    → (T → A) → Result T (Fault R) → Type 0
+Scans of_files old new scanner cut before now tells result =
+    Reads of_files.tells (calls_of of_files old) (calls_of of_files new) (of_files.left old) (of_files.left new)
+    (of_files.holds old) (of_files.holds new) scanner cut before now tells result
+
+-- and where octets of the input were put back
+abbrev pub ScansAgain : {F T A R : Type 0} → files.Ghosts F → (old new : F) → Scanner A R → R → (before now : Counted)
+    → (T → A) → Result T (Fault R) → Type 0
+ScansAgain of_files old new scanner cut before now tells result =
+    Reads of_files.tells (calls_of of_files old) (calls_of of_files new)
+    (ahead before (of_files.left old)) (ahead now (of_files.left new))
+    (of_files.holds old) (of_files.holds new) scanner cut before now tells result
+
+-- the input ended below the limit, and nothing of it is left
+pub record IsOver (limit taken : ℕ) (left : List ℕ) : Type 0 where
+  pub below : at_limit limit taken left ≡ false
+  pub none : length (window limit taken left) ≡ 0
+
+-- something is left, or the limit was reached
+abbrev pub HasMore : (limit taken : ℕ) → List ℕ → Type 0
+HasMore limit taken left = (at_limit limit taken left ≡ true) ⊎ (0 < length (window limit taken left))
+
+abbrev pub whole : List ℕ → List ℕ
+whole octets = octets
+
+-- The octets of a part's first field were taken; or the input ended before the part; or it ends within this field.
+abbrev pub Started : {R : Type 0} → (size : ℕ) → R → (limit taken taken' : ℕ) → (left left' into : List ℕ)
+    → Result Bool (Fault R) → Type 0
+Started {R} size cut limit taken taken' left left' into (Ok true) =
+    Took (field {A = List ℕ} {R = R} size whole taken (window limit taken left)) (length (window limit taken left)) taken taken' left left' into
+Started size cut limit taken taken' left left' into (Ok false) = IsOver limit taken left
+Started size cut limit taken taken' left left' into (Err fault) =
+    Fails (ends_by (field size whole) cut limit taken left) fault × (fault ≢ Read → HasMore limit taken left)
+
+-- A call that begins a part does to the files what `Reads` says of one that reads a chain of fields.
+module _ {R : Type 0} (told : Bool) (calls calls' : Calls) (left left' : ℕ → List ℕ) (holds holds' : List ℕ → Option (List ℕ)) where
+  pub record Starts (size : ℕ) (cut : R) (old new : Counted) (into : List ℕ) (result : Result Bool (Fault R)) : Type 0 where
+    pub later : calls.faults ≤ calls'.faults
+    pub failed : IfErr result (λ fault. fault ≡ Read → Rose calls.faults calls'.faults)
+    pub slot : new.slot ≡ old.slot
+    pub limit : new.limit ≡ old.limit
+    pub started :
+        IsTrue told
+        → Started size cut old.limit old.taken new.taken (left old.slot) (left' old.slot) into result
+    pub others : IsTrue told → (other : ℕ) → other ≢ old.slot → left' other ≡ left other
+    pub same : IsTrue told → holds' ≡ holds
+    pub took : IsTrue told → Passed old.limit old.taken new.taken (left old.slot) (left' old.slot)
+    pub opened : calls'.opened ≡ calls.opened
+
+-- so of files before and behind a call, where octets may have been put back; in a clause:
+-- `StartsIn F.Files files.old files.new ..`
+abbrev pub StartsIn : {F R : Type 0} → files.Ghosts F → (old new : F) → (size : ℕ) → R → (before now : Counted)
+    → (into : List ℕ) → Result Bool (Fault R) → Type 0
+StartsIn of_files old new size cut before now into result =
+    Starts of_files.tells (calls_of of_files old) (calls_of of_files new)
+    (ahead before (of_files.left old)) (ahead now (of_files.left new))
+    (of_files.holds old) (of_files.holds new) size cut before now into result

@@ -1,0 +1,159 @@
+//! Reading an input part by part, up to one that tells something.
+ghost use Rattle.std.specs.Prelude.{◌≡◌, ◌≤◌, ◌<◌, ◌++◌, [], None, IsSome, IsTrue, IfOk, IfSome, length};
+ghost use Rattle.std.specs.Option.{option_map};
+ghost use Rattle.std.specs.Result.{IsErrOf};
+ghost use Rattle.fs_base.specs.Draws.{Draws};
+ghost use Rattle.fs_base.specs.Files.{OnlySlot};
+ghost use Rattle.fs_base.specs.Outside.{Rose};
+ghost use Rattle.fs_base.specs.Parts.{with_part};
+ghost use Rattle.fs_input.specs.NextRecord.{Advances, answer_of, ended_after};
+ghost use Rattle.fs_input.specs.declared.fault.Fault.TheVariants.{Read};
+ghost use Rattle.fs_input.specs.Coming.{part_in, parts_to_come, told_to_come};
+ghost use Rattle.fs_input.specs.Reading.{Grows, part_told, answer_told};
+
+use crate::fault::{Ended, Fault};
+use crate::fields::take_first;
+use crate::parts::{MOST_FIRST, Parts};
+use crate::record::{answer, ended_by};
+use fs_base::{Counted, Files};
+
+/// Reads up to the next part of an input that tells something. Octets that were put back are read first. `None`: the
+/// input ended behind a part. After that, and after any fault, each call answers the same again and reads nothing.
+///
+/// # Errors
+///
+/// `Bad` with the first field that stands whole and is wrong, as soon as it is read, or with the format's cut where the
+/// input ends within a part; `Limit` where the limit is reached and no field before it is wrong; `Read` where the
+/// files failed.
+pub fn next_part<F: Files, P: Parts>(
+    given: &P::Given,
+    parts: &mut P,
+    counted: &mut Counted,
+    end: &mut Option<Ended<P::Reason>>,
+    files: &mut F,
+    into: &mut [u8],
+) -> Result<Option<P::Told>, Fault<P::Reason>>
+    requires room { P.most ≤ length into.old }
+    ensures straight { counted.old.back ≡ [] → counted.new.back ≡ [] }
+    ensures room { length into.new ≡ length into.old }
+    ensures later { F.faults files.old ≤ F.faults files.new }
+    ensures read { end.old ≡ None → IsErrOf result Read → Rose (F.faults files.old) (F.faults files.new) }
+    ensures slot { counted.new.slot ≡ counted.old.slot }
+    ensures limit { counted.new.limit ≡ counted.old.limit }
+    ensures again { IfSome end.old (λ ended. result ≡ answer_of ended) }
+    ensures stays { IsSome end.old
+        → (counted.new ≡ counted.old) × (end.new ≡ end.old) × (parts.new ≡ parts.old) }
+    ensures unread { IsSome end.old → files.new ≡ files.old }
+    ensures ended { end.new ≡ ended_after result }
+    ensures grows { end.old ≡ None → Grows counted.old.taken counted.new.taken counted.new.limit result }
+    ensures moves { P.Moves parts.old parts.new (answer_told result) }
+
+    ensures advances { IsTrue F.tells
+        → end.old ≡ None
+        → Advances
+        (told_to_come (part_in P.first (P.behind given.now)) P.cut counted.old.limit counted.old.taken parts.old
+        (counted.old.back ++ F.left files.old counted.old.slot))
+        (λ told. with_part
+        (P.part_of into.new told)
+        (told_to_come (part_in P.first (P.behind given.now)) P.cut counted.new.limit counted.new.taken parts.new
+        (counted.new.back ++ F.left files.new counted.old.slot)))
+        result }
+    ensures took { IsTrue F.tells
+        → Draws counted.old counted.new (F.left files.old counted.old.slot) (F.left files.new counted.old.slot) }
+    ensures opened { F.opened files.new ≡ F.opened files.old }
+    ensures others { OnlySlot F.tells F.left F.holds counted.old.slot files.old files.new }
+{
+    if let Some(ended) = *end {
+        return answer(ended);
+    }
+    let found = next_told(given, parts, counted, files, into);
+    *end = ended_by(&found);
+    found
+}
+
+/// Reads parts up to one that tells something, of an input that hasn't ended.
+fn next_told<F: Files, P: Parts>(
+    given: &P::Given,
+    parts: &mut P,
+    counted: &mut Counted,
+    files: &mut F,
+    into: &mut [u8],
+) -> Result<Option<P::Told>, Fault<P::Reason>>
+    requires room { P.most ≤ length into.old }
+    ensures straight { counted.old.back ≡ [] → counted.new.back ≡ [] }
+    ensures room { length into.new ≡ length into.old }
+    ensures later { F.faults files.old ≤ F.faults files.new }
+    ensures read { IsErrOf result Read → Rose (F.faults files.old) (F.faults files.new) }
+    ensures slot { counted.new.slot ≡ counted.old.slot }
+    ensures limit { counted.new.limit ≡ counted.old.limit }
+    ensures grows { Grows counted.old.taken counted.new.taken counted.new.limit result }
+    ensures moves { P.Moves parts.old parts.new (answer_told result) }
+
+    ensures advances { IsTrue F.tells
+        → Advances
+        (told_to_come (part_in P.first (P.behind given.now)) P.cut counted.old.limit counted.old.taken parts.old
+        (counted.old.back ++ F.left files.old counted.old.slot))
+        (λ told. with_part
+        (P.part_of into.new told)
+        (told_to_come (part_in P.first (P.behind given.now)) P.cut counted.new.limit counted.new.taken parts.new
+        (counted.new.back ++ F.left files.new counted.old.slot)))
+        result }
+    ensures took { IsTrue F.tells
+        → Draws counted.old counted.new (F.left files.old counted.old.slot) (F.left files.new counted.old.slot) }
+    ensures opened { F.opened files.new ≡ F.opened files.old }
+    ensures others { OnlySlot F.tells F.left F.holds counted.old.slot files.old files.new }
+{
+    'parts: loop {
+        match advance(given, parts, counted, files, into) {
+            Ok(Some(Some(told))) => return Ok(Some(told)),
+            Ok(Some(None)) => {}
+            Ok(None) => return Ok(None),
+            Err(fault) => return Err(fault),
+        }
+    }
+}
+
+/// Reads one part: what it tells, if anything. `None`: the input ended before it.
+fn advance<F: Files, P: Parts>(
+    given: &P::Given,
+    parts: &mut P,
+    counted: &mut Counted,
+    files: &mut F,
+    into: &mut [u8],
+) -> Result<Option<Option<P::Told>>, Fault<P::Reason>>
+    requires room { P.most ≤ length into.old }
+    ensures straight { counted.old.back ≡ [] → counted.new.back ≡ [] }
+    ensures room { length into.new ≡ length into.old }
+    ensures later { F.faults files.old ≤ F.faults files.new }
+    ensures read { IsErrOf result Read → Rose (F.faults files.old) (F.faults files.new) }
+    ensures slot { counted.new.slot ≡ counted.old.slot }
+    ensures limit { counted.new.limit ≡ counted.old.limit }
+    ensures grows { IfOk result (λ found. IfSome found (λ told. counted.old.taken < counted.new.taken)) }
+    ensures moves { P.Moves parts.old parts.new (part_told result) }
+
+    ensures advances { IsTrue F.tells
+        → Advances
+        (parts_to_come (part_in P.first (P.behind given.now)) P.cut counted.old.limit counted.old.taken parts.old
+        (counted.old.back ++ F.left files.old counted.old.slot))
+        (λ told. with_part
+        (option_map (P.part_of into.new) told)
+        (parts_to_come (part_in P.first (P.behind given.now)) P.cut counted.new.limit counted.new.taken parts.new
+        (counted.new.back ++ F.left files.new counted.new.slot)))
+        result }
+    ensures took { IsTrue F.tells
+        → Draws counted.old counted.new (F.left files.old counted.old.slot) (F.left files.new counted.old.slot) }
+    ensures opened { F.opened files.new ≡ F.opened files.old }
+    ensures others { OnlySlot F.tells F.left F.holds counted.old.slot files.old files.new }
+{
+    let mut octets = [0u8; MOST_FIRST];
+    let size = parts.first_size(given);
+    let front = &mut octets[..size];
+    match take_first(parts.cut(), counted, files, front) {
+        Ok(true) => match parts.take_behind(given, front, counted, files, into) {
+            Ok(told) => Ok(Some(told)),
+            Err(fault) => Err(fault),
+        },
+        Ok(false) => Ok(None),
+        Err(fault) => Err(fault),
+    }
+}

@@ -1,9 +1,0 @@
-use Rattle.std.proofs.Common.{◌≡◌, ◌<◌, All, map, take}
-use Rattle.fs_listing.proofs.Numbers.{number_of}
-use Rattle.fs_listing.proofs.peers.numbers_of.Given as goal
-
-abbrev pub invariant-loop-peer : goal.invariant-loop-peer
-invariant-loop-peer l = record {
-  numbers : l.numbers.items ≡ map number_of (take l.peer-index l.peers);
-  below : All (λ n. n < 65536) l.numbers.items;
-}

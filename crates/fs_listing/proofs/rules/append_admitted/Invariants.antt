@@ -1,9 +1,0 @@
-use Rattle.std.proofs.Common.{◌≡◌, ◌+◌, ◌++◌, map, drop}
-use Rattle.fs_rules.specs.Lent.{shown_lent}
-use Rattle.fs_listing.specs.Rules.{admitted_lines}
-use Rattle.fs_listing.proofs.rules.append_admitted.Given as goal
-
-abbrev pub invariant-loop-place : goal.invariant-loop-place
-invariant-loop-place l =
-    l.text.items ++ admitted_lines l.family (l.place + 1) (map shown_lent (drop l.place l.rules))
-    ≡ l.fn.text.items ++ admitted_lines l.family 1 (map shown_lent l.rules)

@@ -1,4 +1,0 @@
-pub mod Listing
-pub mod Peers
-pub mod Rules
-pub mod TapeFault

@@ -1,0 +1,145 @@
+-- Of all moments a later one lies so far above an earlier one where some of them do.
+use Rattle.std.proofs.Common.{◌≡◌, ◌⊎◌, inl, inr, ℕ, ◌+◌, ◌<◌, ◌≤◌, nat_le, List, [], ◌∷◌, ◌++◌, length, Bool, true, false, if◌then◌else◌, None, Some, refl, ap, sym, ◌∙◌, ◌*◌, subst, append_assoc, arith}
+use Rattle.std.proofs.lemmas.Bool.Decides.{nat_tests}
+use Rattle.std.proofs.lemmas.Grind.{flat_map-append}
+use Rattle.std.proofs.lemmas.List.{map-append}
+use Rattle.fs_base.specs.declared.config.Config.{Config}
+use Rattle.fs_base.specs.declared.config.Peer.{Peer}
+use Rattle.fs_attrs.specs.declared.update.Update.{Update}
+use Rattle.fs_peering.specs.HoldTime.{Spans, most}
+use Rattle.fs_peering.proofs.Moments.{positive}
+use Rattle.fs_speaker.specs.Sending.{needs_of}
+use Rattle.fs_speaker.specs.Session.{Last}
+use Rattle.fs_speaker.specs.Side.{announcer, receiver}
+use Rattle.fs_speaker.specs.Times.{at_moment, tick_at}
+use Rattle.fs_speaker.specs.Transition.{Machine}
+use Rattle.fs_speaker.specs.declared.Sending.{Sending}
+use Rattle.fs_speaker.specs.declared.Closed.TheVariants.{Fault}
+use Rattle.fs_session.specs.declared.times.Tick.TheVariants.{Expires}
+use Rattle.fs_peering.specs.Joined.{Heard, moments_of, of_first, of_second}
+use Rattle.fs_peering.specs.Round.{Pieces, moments_in, octets_in}
+use Rattle.fs_peering.specs.Hearer.{ClosesIn, ExpiresAt, HasClosed}
+use Rattle.fs_peering.specs.Pair.{LieApart, Reaches, RunsLate, told_by}
+use Rattle.fs_peering.specs.Course.{course}
+use Rattle.fs_peering.proofs.Expiring.{Expired, bounded_late, closed_late}
+use Rattle.fs_peering.proofs.Lasting.{expires_late}
+use Rattle.fs_peering.proofs.Staying.{stands}
+
+reaches_behind : (least : ℕ) (xs ys : List ℕ) → Reaches least ys → Reaches least (xs ++ ys)
+reaches_behind least [] ys r = r
+reaches_behind least (x ∷ xs) ys r = inr (reaches_behind least xs ys r)
+
+reaches_front : (least : ℕ) (xs ys : List ℕ) → Reaches least xs → Reaches least (xs ++ ys)
+reaches_front least [] ys r = absurd r
+reaches_front least (x ∷ xs) ys (inl h) = inl h
+reaches_front least (x ∷ xs) ys (inr r) = inr (reaches_front least xs ys r)
+
+pub apart_front : (least : ℕ) (xs ys : List ℕ) → LieApart least xs → LieApart least (xs ++ ys)
+apart_front least [] ys a = absurd a
+apart_front least (x ∷ xs) ys (inl r) = inl (reaches_front (x + least) xs ys r)
+apart_front least (x ∷ xs) ys (inr a) = inr (apart_front least xs ys a)
+
+-- the greatest of them is one
+reaches_most : (least : ℕ) (xs : List ℕ) → 0 < least → least ≤ most xs → Reaches least xs
+reaches_most least [] some far = absurd (omega (arith, some, far))
+reaches_most least (x ∷ xs) some far = by (λ f. reaches_most least xs some f) (nat_le least x) refl
+  where
+    is : nat_le least x ≡ true → least ≤ x
+    is h = grind (arith, nat_tests, h)
+
+    other : nat_le least x ≡ false → x < least
+    other h = grind (arith, nat_tests, h)
+
+    by : (least ≤ most xs → Reaches least xs) → (b : Bool) → nat_le least x ≡ b → Reaches least (x ∷ xs)
+    by rest true h = inl (is h)
+    by rest false h = let below = other h in inr (rest (omega (arith, far, below)))
+
+pub apart_spans : (least : ℕ) (moments : List ℕ) → 0 < least → Spans least moments → LieApart least moments
+apart_spans least moments some s = subst (LieApart least) (sym s.split) (by s.earlier s.some s.apart)
+  where
+    by : (earlier : List ℕ) → 0 < length earlier → most earlier + least ≤ most s.later → LieApart least (earlier ++ s.later)
+    by [] none far = absurd (omega (arith, none))
+    by (x ∷ xs) one far =
+        inl (reaches_behind (x + least) xs s.later (reaches_most (x + least) s.later (omega (arith, some)) (omega (arith, far))))
+
+-- those of one end are some of both
+reaches_first : (least : ℕ) (events : List Heard) → Reaches least (moments_in (of_first events)) → Reaches least (moments_of events)
+reaches_first least [] r = absurd r
+reaches_first least (event ∷ events) r = by (λ k. reaches_first least events k) event.first r
+  where
+    by : (Reaches least (moments_in (of_first events)) → Reaches least (moments_of events)) → (b : Bool)
+        → Reaches least (moments_in ((if b then (event.moment, event.piece) ∷ [] else []) ++ of_first events)) → Reaches least (moments_of (event ∷ events))
+    by rest true (inl h) = inl h
+    by rest true (inr k) = inr (rest k)
+    by rest false k = inr (rest k)
+
+reaches_second : (least : ℕ) (events : List Heard) → Reaches least (moments_in (of_second events)) → Reaches least (moments_of events)
+reaches_second least [] r = absurd r
+reaches_second least (event ∷ events) r = by (λ k. reaches_second least events k) event.first r
+  where
+    by : (Reaches least (moments_in (of_second events)) → Reaches least (moments_of events)) → (b : Bool)
+        → Reaches least (moments_in ((if b then [] else (event.moment, event.piece) ∷ []) ++ of_second events)) → Reaches least (moments_of (event ∷ events))
+    by rest true k = inr (rest k)
+    by rest false (inl h) = inl h
+    by rest false (inr k) = inr (rest k)
+
+pub apart_first : (least : ℕ) (events : List Heard) → LieApart least (moments_in (of_first events)) → LieApart least (moments_of events)
+apart_first least [] a = absurd a
+apart_first least (event ∷ events) a = by (λ k. apart_first least events k) event.first a
+  where
+    by : (LieApart least (moments_in (of_first events)) → LieApart least (moments_of events)) → (b : Bool)
+        → LieApart least (moments_in ((if b then (event.moment, event.piece) ∷ [] else []) ++ of_first events)) → LieApart least (moments_of (event ∷ events))
+    by rest true (inl r) = inl (reaches_first (event.moment + least) events r)
+    by rest true (inr k) = inr (rest k)
+    by rest false k = inr (rest k)
+
+pub apart_second : (least : ℕ) (events : List Heard) → LieApart least (moments_in (of_second events)) → LieApart least (moments_of events)
+apart_second least [] a = absurd a
+apart_second least (event ∷ events) a = by (λ k. apart_second least events k) event.first a
+  where
+    by : (LieApart least (moments_in (of_second events)) → LieApart least (moments_of events)) → (b : Bool)
+        → LieApart least (moments_in ((if b then [] else (event.moment, event.piece) ∷ []) ++ of_second events)) → LieApart least (moments_of (event ∷ events))
+    by rest true k = inr (rest k)
+    by rest false (inl r) = inl (reaches_second (event.moment + least) events r)
+    by rest false (inr k) = inr (rest k)
+
+-- the hold time of an end expired at one of the moments
+module _ (machine : Machine) (heard earlier later : Pieces) (event : ℕ × List ℕ) (split : heard ≡ earlier ++ event ∷ later) (lived : (course machine earlier).point.closed ≡ None)
+    (due : tick_at (course machine earlier).point.phase.hold (at_moment event.0 (course machine earlier).point.times) ≡ Expires) where
+  abbrev hold : ℕ
+  hold = (course machine earlier).point.phase.hold
+
+  far : LieApart (1000 * hold) (moments_in heard)
+  far =
+      let late = expires_late machine earlier event.0 lived due in
+      subst (LieApart (1000 * hold))
+      (append_assoc (moments_in earlier) (event.0 ∷ []) (moments_in later) ∙ sym (ap moments_in split ∙ map-append (λ (e : ℕ × List ℕ). e.0) earlier (event ∷ later)))
+      (apart_front (1000 * hold) (moments_in earlier ++ event.0 ∷ []) (moments_in later)
+      (apart_spans (1000 * hold) (moments_in earlier ++ event.0 ∷ []) (positive hold late.0) late.1))
+
+  runs_late : (given : List ℕ) → ((least : ℕ) → LieApart least (moments_in heard) → LieApart least given) → RunsLate machine heard given
+  runs_late given lift = record {
+    taken = octets_in earlier;
+    untaken = octets_in (event ∷ later);
+    split = ap octets_in split ∙ flat_map-append (λ (e : ℕ × List ℕ). e.1) earlier (event ∷ later);
+    phase = (course machine earlier).point.phase;
+    found = (stands machine earlier lived).found;
+    timed = (expires_late machine earlier event.0 lived due).0;
+    apart = lift (1000 * hold) far;
+  }
+
+pub late_first : (config : Config) (peer : ℕ) (whose : Peer) (events : List Heard) (replied : List ℕ) → HasClosed config peer whose (of_first events) replied (Fault 4 0)
+    → RunsLate (receiver config whose) (of_first events) (moments_of events)
+late_first config peer whose events replied c = by c.closes
+  where
+    by : ExpiresAt config whose c.earlier c.moment replied (Fault 4 0) ⊎ ClosesIn config peer whose c.earlier c.moment c.piece replied (Fault 4 0)
+        → RunsLate (receiver config whose) (of_first events) (moments_of events)
+    by (inl x) = runs_late (receiver config whose) (of_first events) c.earlier [] (c.moment, c.piece) c.split c.lived x.due (moments_of events) (λ least a. apart_first least events a)
+    by (inr y) = absurd (bounded_late config whose ((octets_in c.earlier ++ c.piece) ++ []) (ap (λ (z : List Update × Last). z.1) (y.over.stays [])))
+
+pub late_second : (config : Config) (sending : Sending) (events : List Heard) → (told_by config sending (of_second events)).point.closed ≡ Some (Fault 4 0)
+    → RunsLate (announcer config (needs_of sending.rules)) (of_second events) (moments_of events)
+late_second config sending events c =
+    let machine : Machine = announcer config (needs_of sending.rules) in
+    let x : Expired machine (of_second events) = closed_late machine (of_second events) c in
+    runs_late machine (of_second events) x.earlier x.later x.event x.split x.lived x.due (moments_of events) (λ least a. apart_second least events a)

@@ -1,0 +1,100 @@
+-- One piece more.
+use Rattle.std.proofs.Common.{◌≡◌, ◌⊎◌, inl, inr, ℕ, suc, zero, List, [], ◌∷◌, ◌++◌, Option, Some, None, refl, ap, sym, ◌∙◌, subst, append_assoc, append-nil}
+use Rattle.std.proofs.lemmas.Option.{none-some}
+use Rattle.fs_message.specs.Write.{message_text}
+use Rattle.fs_speaker.specs.End.{first_point, ticked, ticks}
+use Rattle.fs_speaker.specs.Handed.{Handed, Point, hand, handed, point, runs_by}
+use Rattle.fs_speaker.specs.Times.{at_moment, tick_at, written_now}
+use Rattle.fs_speaker.specs.Transition.{Machine}
+use Rattle.fs_speaker.specs.declared.Closed.{Closed}
+use Rattle.fs_speaker.specs.declared.Closed.TheVariants.{Fault}
+use Rattle.fs_session.specs.declared.times.Tick.{Tick}
+use Rattle.fs_session.specs.declared.times.Tick.TheVariants.{Quiet, Keeps, Expires}
+use Rattle.fs_session.specs.declared.times.Times.{Times}
+use Rattle.fs_peering.specs.Round.{Pieces}
+use Rattle.fs_peering.specs.Course.{after, hears, course, course_from}
+
+-- so many KEEPALIVEs
+abbrev pub keepalives : ℕ → List ℕ
+keepalives zero = []
+keepalives (suc n) = keepalives n ++ message_text 4 []
+
+more : (machine : Machine) (now : Handed) (heard : Pieces) (event : ℕ × List ℕ)
+    → course_from machine now (heard ++ event ∷ []) ≡ after (course_from machine now heard) (hears machine event (course_from machine now heard).point)
+more machine now [] event = refl
+more machine now (first ∷ heard) event = more machine (after now (hears machine first now.point)) heard event
+
+pub course_more : (machine : Machine) (heard : Pieces) (event : ℕ × List ℕ)
+    → course machine (heard ++ event ∷ []) ≡ after (course machine heard) (hears machine event (course machine heard).point)
+course_more machine heard event = more machine (handed first_point [] []) heard event
+
+-- what each piece more leaves true is true of all
+module _ (P : Pieces → Type 0) (step : (heard : Pieces) (event : ℕ × List ℕ) → P heard → P (heard ++ event ∷ [])) where
+  behind : (earlier later : Pieces) → P earlier → P (earlier ++ later)
+  behind earlier [] p = subst P (sym (append-nil earlier)) p
+  behind earlier (event ∷ later) p =
+      subst P (append_assoc earlier (event ∷ []) later) (behind (earlier ++ event ∷ []) later (step earlier event p))
+
+  pub by_pieces : P [] → (heard : Pieces) → P heard
+  by_pieces none heard = behind [] heard none
+
+-- What an open end makes of a piece where its hold time hasn't expired: the clock says KEEPALIVEs, and none without a hold
+-- time; then the octets in hand are run.
+pub record Steps (machine : Machine) (event : ℕ × List ℕ) (now : Point) : Type 0 where
+  pub times : Times
+  pub kept : ℕ
+  pub point_is : (hears machine event now).point ≡ (runs_by machine now.phase times (now.waiting ++ event.1)).point
+  pub text_is : (hears machine event now).text ≡ keepalives kept ++ (runs_by machine now.phase times (now.waiting ++ event.1)).text
+  pub untimed : now.phase.hold ≡ 0 → kept ≡ 0
+
+module _ (machine : Machine) (event : ℕ × List ℕ) (now : Point) where
+  abbrev then_at : Times
+  then_at = at_moment event.0 now.times
+
+  abbrev woke_by : Option Closed → Handed
+  woke_by c = elim c [ Some why ↦ handed now [] [] | None ↦ ticks (tick_at now.phase.hold then_at) now.waiting now.phase then_at ]
+
+  abbrev hand_by : Option Closed → Point → Handed
+  hand_by c p = elim c [ Some why ↦ handed p [] [] | None ↦ runs_by machine p.phase (at_moment event.0 p.times) (p.waiting ++ event.1) ]
+
+  woke_is : (tick : Tick) → now.closed ≡ None → tick_at now.phase.hold then_at ≡ tick → ticked event.0 now ≡ ticks tick now.waiting now.phase then_at
+  woke_is tick e k = ap woke_by e ∙ ap (λ (x : Tick). ticks x now.waiting now.phase then_at) k
+
+  stepped : (times : Times) (kept : ℕ) → ticked event.0 now ≡ handed (point now.waiting now.phase times None) [] (keepalives kept) → (now.phase.hold ≡ 0 → kept ≡ 0)
+      → Steps machine event now
+  stepped times kept w untimed = record {
+    times = at_moment event.0 times;
+    kept = kept;
+    point_is = ap (λ (m : Handed). (hand machine event.0 m.point event.1).point) w;
+    text_is = ap (λ (m : Handed). m.text ++ (hand machine event.0 m.point event.1).text) w;
+    untimed = untimed;
+  }
+
+  timed : tick_at now.phase.hold then_at ≡ Keeps → now.phase.hold ≡ 0 → ◌≡◌ {A = ℕ} 1 0
+  timed k z = absurd (quiet (subst (λ (n : ℕ). tick_at n then_at ≡ Keeps) z k))
+    where
+      quiet : Quiet ≡ Keeps → ⊥
+      quiet h = cc
+
+  pub steps : now.closed ≡ None → Steps machine event now ⊎ (tick_at now.phase.hold (at_moment event.0 now.times) ≡ Expires)
+  steps e = by (tick_at now.phase.hold then_at) refl
+    where
+      by : (tick : Tick) → tick_at now.phase.hold then_at ≡ tick → Steps machine event now ⊎ (tick_at now.phase.hold then_at ≡ Expires)
+      by Quiet k = inl (stepped then_at 0 (woke_is Quiet e k) (λ z. refl))
+      by Keeps k = inl (stepped (written_now then_at) 1 (woke_is Keeps e k) (timed k))
+      by Expires k = inr k
+
+  -- an end that is open behind it was so before, and its hold time didn't expire
+  pub lived : (hears machine event now).point.closed ≡ None → (now.closed ≡ None) × Steps machine event now
+  lived end = by now.closed refl
+    where
+      shut : (why : Closed) → (ticked event.0 now).point.closed ≡ Some why → (hears machine event now).point.closed ≡ Some why
+      shut why e = ap (λ (c : Option Closed). (hand_by c (ticked event.0 now).point).point.closed) e ∙ e
+
+      at : now.closed ≡ None → Steps machine event now ⊎ (tick_at now.phase.hold then_at ≡ Expires) → (now.closed ≡ None) × Steps machine event now
+      at e (inl s) = (e, s)
+      at e (inr k) = absurd (none-some (Fault 4 0) (sym end ∙ shut (Fault 4 0) (ap (λ (m : Handed). m.point.closed) (woke_is Expires e k))))
+
+      by : (c : Option Closed) → now.closed ≡ c → (now.closed ≡ None) × Steps machine event now
+      by None e = at e (steps e)
+      by (Some why) e = absurd (none-some why (sym end ∙ shut why (ap (λ (m : Handed). m.point.closed) (ap woke_by e) ∙ e)))

@@ -1,0 +1,305 @@
+-- Two joined ends, round by round.
+use Rattle.std.proofs.Common.{◌≡◌, ℕ, ◌+◌, ◌-◌, ◌<◌, List, [], ◌∷◌, ◌++◌, Bool, true, false, Option, Some, None, if◌then◌else◌, length, refl, ap, sym, ◌∙◌, subst, arith, append_assoc, append-nil, length-append, IsTrue}
+use Rattle.std.proofs.lemmas.Grind.{flat_map-append}
+use Rattle.std.proofs.lemmas.List.{map-append}
+use Rattle.fs_base.specs.Sink.{Grew}
+use Rattle.fs_base.specs.Wire.{Told, WireEnd, WireEnds, heard_end}
+use Rattle.fs_base.proofs.Grew.{Grew-refl, Grew-trans}
+use Rattle.fs_peering.specs.declared.joined.Flow.{Flow}
+use Rattle.fs_peering.specs.declared.joined.Talk.{Talk}
+use Rattle.fs_peering.specs.declared.joined.Talk.TheVariants.{Broken, Done}
+use Rattle.fs_peering.specs.Joined.{AreJoined, Ended, Exchanged, ExchangedOut, Exchanges, Heard, Side, StopsSo, heard_by, moments_of, of_first, of_second}
+use Rattle.fs_peering.specs.Flow.{no_flow, first_heard, second_heard, second_said}
+use Rattle.fs_peering.specs.Round.{Pieces, Speech, Stance, Round, octets_in}
+use Rattle.fs_peering.proofs.Composing.{octets_then, same_stance}
+use Rattle.fs_peering.proofs.WrittenInParts.{told_and, told_same}
+
+side_none : (stance : Stance) (end : WireEnd) → end.joined ≡ true → end.left ≡ [] → Side stance stance [] [] [] end end
+side_none stance end tied empty = record {
+  stands = λ earlier spoken s. same_stance stance _ _ _ _ (sym (append-nil earlier)) (sym (append-nil spoken)) s;
+  read = sym empty;
+  wrote = sym (append-nil end.written);
+  tied = tied;
+}
+
+-- an end heard more and said more
+side_more : (s0 s1 s2 : Stance) (heard more : Pieces) (said out others : List ℕ) (b m n : WireEnd) → Side s0 s1 heard said others b m
+    → ((earlier : Pieces) (spoken : List ℕ) → s1 earlier spoken → s2 (earlier ++ more) (spoken ++ out)) → m.left ≡ octets_in more ++ n.left
+    → n.written ≡ m.written ++ out → n.joined ≡ m.joined → Side s0 s2 (heard ++ more) (said ++ out) others b n
+side_more s0 s1 s2 heard more said out others b m n s stands read wrote tied = record {
+  stands = λ earlier spoken e. same_stance s2 _ _ _ _ (append_assoc earlier heard more) (append_assoc spoken said out)
+      (stands (earlier ++ heard) (spoken ++ said) (s.stands earlier spoken e));
+  read = s.read ∙ ap (λ (octets : List ℕ). octets_in heard ++ octets) read ∙ sym (append_assoc (octets_in heard) (octets_in more) n.left)
+      ∙ ap (λ (octets : List ℕ). octets ++ n.left) (sym (octets_then heard more));
+  wrote = wrote ∙ ap (λ (octets : List ℕ). octets ++ out) s.wrote ∙ append_assoc b.written said out;
+  tied = tied ∙ s.tied;
+}
+
+joined_left : (end : WireEnd) (out : List ℕ) → end.joined ≡ true → (heard_end out end).left ≡ end.left ++ out
+joined_left end out tied = ap (λ (b : Bool). if b then end.left ++ out else end.left) tied
+
+-- the other end said more
+side_told : (s0 s1 : Stance) (heard : Pieces) (said others out : List ℕ) (b m n : WireEnd) → Side s0 s1 heard said others b m
+    → n ≡ heard_end out m → Side s0 s1 heard said (others ++ out) b n
+side_told s0 s1 heard said others out b m n s e = record {
+  stands = s.stands;
+  read = ap (λ (octets : List ℕ). octets ++ out) s.read ∙ append_assoc (octets_in heard) m.left out
+      ∙ ap (λ (octets : List ℕ). octets_in heard ++ octets) (sym (ap (λ (end : WireEnd). end.left) e ∙ joined_left m out s.tied));
+  wrote = ap (λ (end : WireEnd). end.written) e ∙ s.wrote;
+  tied = ap (λ (end : WireEnd). end.joined) e ∙ s.tied;
+}
+
+side_same : (s0 s1 : Stance) (heard heard' : Pieces) (said said' others others' : List ℕ) (b n : WireEnd) → heard ≡ heard' → said ≡ said' → others ≡ others'
+    → Side s0 s1 heard said others b n → Side s0 s1 heard' said' others' b n
+side_same s0 s1 heard heard' said said' others others' b n h s o side = rw (← h, ← s, ← o) side
+
+-- Both ends, with the counts of octets.
+pub record Exchanging (r r' a a' : Stance) (given : List ℕ) (flow : Flow) (before now : WireEnds) : Type 0 where
+  pub events : List Heard
+  pub exchanged : Exchanged r r' a a' events before now
+  pub asked : moments_of events ≡ given
+  pub to_first : flow.to_first ≡ length now.first.left
+  pub to_second : flow.to_second ≡ length now.second.left
+  pub first_read : flow.first_read ≡ length (octets_in (of_first events))
+  pub second_read : flow.second_read ≡ length (octets_in (of_second events))
+
+exchanging_none : (r a : Stance) (ends : WireEnds) → AreJoined ends → Exchanging r r a a [] no_flow ends ends
+exchanging_none r a ends j = record {
+  events = [];
+  exchanged = record {
+    replied = [];
+    announced = [];
+    one = side_none r ends.first j.0 j.2;
+    other = side_none a ends.second j.1 j.3;
+  };
+  asked = refl;
+  to_first = sym (ap length j.2);
+  to_second = sym (ap length j.3);
+  first_read = refl;
+  second_read = refl;
+}
+
+abbrev event : Bool → ℕ → List ℕ → Heard
+event first moment piece = record { first = first; moment = moment; piece = piece }
+
+first_more : (events : List Heard) (moment : ℕ) (got : List ℕ)
+    → (of_first (events ++ event true moment got ∷ []) ≡ of_first events ++ (moment, got) ∷ []) × (of_second (events ++ event true moment got ∷ []) ≡ of_second events)
+first_more events moment got =
+    (flat_map-append (heard_by true) events (event true moment got ∷ []), flat_map-append (heard_by false) events (event true moment got ∷ []) ∙ append-nil (of_second events))
+
+second_more : (events : List Heard) (moment : ℕ) (got : List ℕ)
+    → (of_first (events ++ event false moment got ∷ []) ≡ of_first events) × (of_second (events ++ event false moment got ∷ []) ≡ of_second events ++ (moment, got) ∷ [])
+second_more events moment got =
+    (flat_map-append (heard_by true) events (event false moment got ∷ []) ∙ append-nil (of_first events), flat_map-append (heard_by false) events (event false moment got ∷ []))
+
+moments_more : (events : List Heard) (given : List ℕ) (first : Bool) (moment : ℕ) (got : List ℕ) → moments_of events ≡ given
+    → moments_of (events ++ event first moment got ∷ []) ≡ given ++ moment ∷ []
+moments_more events given first moment got e =
+    map-append (λ (h : Heard). h.moment) events (event first moment got ∷ []) ∙ ap (λ (moments : List ℕ). moments ++ moment ∷ []) e
+
+-- of what was left these octets were read
+left_less : (left left' got : List ℕ) (n count : ℕ) → left ≡ (got ++ []) ++ left' → n ≡ length left → length got ≡ count → n - count ≡ length left'
+left_less left left' got n count e h k =
+    let whole : length left ≡ length got + length left' = ap length (e ∙ ap (λ (octets : List ℕ). octets ++ left') (append-nil got)) ∙ length-append got left' in
+    omega (arith, h, k, whole)
+
+left_grown : (m n : WireEnd) (out : List ℕ) (count said : ℕ) → n ≡ heard_end out m → m.joined ≡ true → count ≡ length m.left → length out ≡ said → count + said ≡ length n.left
+left_grown m n out count said e tied h k =
+    let whole : length n.left ≡ length m.left + length out = ap (λ (end : WireEnd). length end.left) e ∙ ap length (joined_left m out tied) ∙ length-append m.left out in
+    omega (arith, h, k, whole)
+
+read_more : (heard heard' : Pieces) (moment : ℕ) (got : List ℕ) (n count : ℕ) → heard' ≡ heard ++ (moment, got) ∷ [] → n ≡ length (octets_in heard) → length got ≡ count
+    → n + count ≡ length (octets_in heard')
+read_more heard heard' moment got n count e h k =
+    let whole : length (octets_in heard') ≡ length (octets_in heard) + length got =
+    ap (λ (p : Pieces). length (octets_in p)) e ∙ ap length (octets_then heard ((moment, got) ∷ []) ∙ ap (λ (octets : List ℕ). octets_in heard ++ octets) (append-nil got))
+    ∙ length-append (octets_in heard) got in
+    omega (arith, h, k, whole)
+
+exchanging_first : (r r1 r2 a a1 : Stance) (given : List ℕ) (flow : Flow) (moment count said : ℕ) (b m n : WireEnds) → Exchanging r r1 a a1 given flow b m
+    → Round r1 r2 0 moment count said m n → Exchanging r r2 a a1 (given ++ moment ∷ []) (first_heard count said flow) b n
+exchanging_first r r1 r2 a a1 given flow moment count said b m n x round =
+    let more = first_more x.events moment round.got in
+    record {
+      events = x.events ++ event true moment round.got ∷ [];
+      exchanged = record {
+        replied = x.exchanged.replied ++ round.out;
+        announced = x.exchanged.announced;
+        one = side_same r r2 _ _ _ _ _ _ b.first n.first (sym more.0) refl refl
+            (side_more r r1 r2 (of_first x.events) ((moment, round.got) ∷ []) x.exchanged.replied round.out x.exchanged.announced b.first m.first n.first
+            x.exchanged.one round.part.stands round.part.read round.part.wrote round.part.tied);
+        other = side_same a a1 _ _ _ _ _ _ b.second n.second (sym more.1) refl refl
+            (side_told a a1 (of_second x.events) x.exchanged.announced x.exchanged.replied round.out b.second m.second n.second x.exchanged.other round.part.other);
+      };
+      asked = moments_more x.events given true moment round.got x.asked;
+      to_first = left_less m.first.left n.first.left round.got flow.to_first count round.part.read x.to_first round.counted;
+      to_second = left_grown m.second n.second round.out flow.to_second said round.part.other x.exchanged.other.tied x.to_second round.sized;
+      first_read = read_more (of_first x.events) _ moment round.got flow.first_read count more.0 x.first_read round.counted;
+      second_read = x.second_read ∙ ap (λ (p : Pieces). length (octets_in p)) (sym more.1);
+    }
+
+exchanging_second : (r r1 a a1 a2 : Stance) (given : List ℕ) (flow : Flow) (moment count said : ℕ) (b m n : WireEnds) → Exchanging r r1 a a1 given flow b m
+    → Round a1 a2 1 moment count said m n → Exchanging r r1 a a2 (given ++ moment ∷ []) (second_heard count said flow) b n
+exchanging_second r r1 a a1 a2 given flow moment count said b m n x round =
+    let more = second_more x.events moment round.got in
+    record {
+      events = x.events ++ event false moment round.got ∷ [];
+      exchanged = record {
+        replied = x.exchanged.replied;
+        announced = x.exchanged.announced ++ round.out;
+        one = side_same r r1 _ _ _ _ _ _ b.first n.first (sym more.0) refl refl
+            (side_told r r1 (of_first x.events) x.exchanged.replied x.exchanged.announced round.out b.first m.first n.first x.exchanged.one round.part.other);
+        other = side_same a a2 _ _ _ _ _ _ b.second n.second (sym more.1) refl refl
+            (side_more a a1 a2 (of_second x.events) ((moment, round.got) ∷ []) x.exchanged.announced round.out x.exchanged.replied b.second m.second n.second
+            x.exchanged.other round.part.stands round.part.read round.part.wrote round.part.tied);
+      };
+      asked = moments_more x.events given false moment round.got x.asked;
+      to_first = left_grown m.first n.first round.out flow.to_first said round.part.other x.exchanged.one.tied x.to_first round.sized;
+      to_second = left_less m.second.left n.second.left round.got flow.to_second count round.part.read x.to_second round.counted;
+      first_read = x.first_read ∙ ap (λ (p : Pieces). length (octets_in p)) (sym more.0);
+      second_read = read_more (of_second x.events) _ moment round.got flow.second_read count more.1 x.second_read round.counted;
+    }
+
+exchanging_said : (r r1 a a1 a2 : Stance) (given : List ℕ) (flow : Flow) (said : ℕ) (b m n : WireEnds) → Exchanging r r1 a a1 given flow b m
+    → Speech a1 a2 1 said m n → Exchanging r r1 a a2 given (second_said said flow) b n
+exchanging_said r r1 a a1 a2 given flow said b m n x speech = record {
+  events = x.events;
+  exchanged = record {
+    replied = x.exchanged.replied;
+    announced = x.exchanged.announced ++ speech.out;
+    one = side_told r r1 (of_first x.events) x.exchanged.replied x.exchanged.announced speech.out b.first m.first n.first x.exchanged.one speech.part.other;
+    other = side_same a a2 _ _ _ _ _ _ b.second n.second (append-nil (of_second x.events)) refl refl
+        (side_more a a1 a2 (of_second x.events) [] x.exchanged.announced speech.out x.exchanged.replied b.second m.second n.second
+        x.exchanged.other speech.part.stands speech.part.read speech.part.wrote speech.part.tied);
+  };
+  asked = x.asked;
+  to_first = left_grown m.first n.first speech.out flow.to_first said speech.part.other x.exchanged.one.tied x.to_first speech.sized;
+  to_second = x.to_second ∙ ap length (speech.part.read);
+  first_read = x.first_read;
+  second_read = x.second_read;
+}
+
+-- So where the wire tells, between joined ends; and the clock answered these moments.
+pub record Talking (r r' a a' : Stance) (flow : Flow) (before now : Option WireEnds) (answers answers' : Option (List ℕ)) : Type 0 where
+  pub given : List ℕ
+  pub grew : Grew answers answers' given
+  pub told : Told (λ b n. AreJoined b → Exchanging r r' a a' given flow b n) before now
+
+pub talking_none : (r a : Stance) (told : Option WireEnds) (answers : Option (List ℕ)) → Talking r r a a no_flow told told answers answers
+talking_none r a told answers = record {
+  given = [];
+  grew = Grew-refl answers;
+  told = told_same (λ b n. AreJoined b → Exchanging r r a a [] no_flow b n) (λ ends j. exchanging_none r a ends j) told;
+}
+
+pub talking_first : (r r1 r2 a a1 : Stance) (flow flow' : Flow) (moment count said : ℕ) (before now later : Option WireEnds) (answers asked last : Option (List ℕ))
+    → Talking r r1 a a1 flow before now answers asked → flow' ≡ first_heard count said flow → Told (Round r1 r2 0 moment count said) now later → Grew asked last (moment ∷ [])
+    → Talking r r2 a a1 flow' before later answers last
+talking_first r r1 r2 a a1 flow flow' moment count said before now later answers asked last t e round grew = record {
+  given = t.given ++ moment ∷ [];
+  grew = Grew-trans answers asked last t.given (moment ∷ []) t.grew grew;
+  told = subst (λ (f : Flow). Told (λ b n. AreJoined b → Exchanging r r2 a a1 (t.given ++ moment ∷ []) f b n) before later) (sym e)
+      (told_and (λ b n. AreJoined b → Exchanging r r1 a a1 t.given flow b n) (Round r1 r2 0 moment count said)
+      (λ b n. AreJoined b → Exchanging r r2 a a1 (t.given ++ moment ∷ []) (first_heard count said flow) b n)
+      (λ b m n x turned j. exchanging_first r r1 r2 a a1 t.given flow moment count said b m n (x j) turned) before now later t.told round);
+}
+
+pub talking_second : (r r1 a a1 a2 : Stance) (flow flow' : Flow) (moment count said : ℕ) (before now later : Option WireEnds) (answers asked last : Option (List ℕ))
+    → Talking r r1 a a1 flow before now answers asked → flow' ≡ second_heard count said flow → Told (Round a1 a2 1 moment count said) now later → Grew asked last (moment ∷ [])
+    → Talking r r1 a a2 flow' before later answers last
+talking_second r r1 a a1 a2 flow flow' moment count said before now later answers asked last t e round grew = record {
+  given = t.given ++ moment ∷ [];
+  grew = Grew-trans answers asked last t.given (moment ∷ []) t.grew grew;
+  told = subst (λ (f : Flow). Told (λ b n. AreJoined b → Exchanging r r1 a a2 (t.given ++ moment ∷ []) f b n) before later) (sym e)
+      (told_and (λ b n. AreJoined b → Exchanging r r1 a a1 t.given flow b n) (Round a1 a2 1 moment count said)
+      (λ b n. AreJoined b → Exchanging r r1 a a2 (t.given ++ moment ∷ []) (second_heard count said flow) b n)
+      (λ b m n x turned j. exchanging_second r r1 a a1 a2 t.given flow moment count said b m n (x j) turned) before now later t.told round);
+}
+
+pub talking_said : (r r1 a a1 a2 : Stance) (flow flow' : Flow) (said : ℕ) (before now later : Option WireEnds) (answers asked : Option (List ℕ))
+    → Talking r r1 a a1 flow before now answers asked → flow' ≡ second_said said flow → Told (Speech a1 a2 1 said) now later
+    → Talking r r1 a a2 flow' before later answers asked
+talking_said r r1 a a1 a2 flow flow' said before now later answers asked t e speech = record {
+  given = t.given;
+  grew = t.grew;
+  told = subst (λ (f : Flow). Told (λ b n. AreJoined b → Exchanging r r1 a a2 t.given f b n) before later) (sym e)
+      (told_and (λ b n. AreJoined b → Exchanging r r1 a a1 t.given flow b n) (Speech a1 a2 1 said)
+      (λ b n. AreJoined b → Exchanging r r1 a a2 t.given (second_said said flow) b n)
+      (λ b m n x spoke j. exchanging_said r r1 a a1 a2 t.given flow said b m n (x j) spoke) before now later t.told speech);
+}
+
+-- What the counts say of octets when no more is heard.
+abbrev pub Counts : Talk → Ended → (limit : ℕ) → Flow → Type 0
+Counts talk end limit flow =
+    (events : List Heard) (now : WireEnds) → flow.to_first ≡ length now.first.left → flow.to_second ≡ length now.second.left
+    → flow.first_read ≡ length (octets_in (of_first events))
+    → StopsSo talk end (length (octets_in (of_first events))) limit now
+
+pub talked : (talk : Talk) (r r' a a' : Stance) (end : Ended) (limit : ℕ) (flow : Flow) (before now : Option WireEnds) (answers answers' : Option (List ℕ))
+    → Talking r r' a a' flow before now answers answers' → Counts talk end limit flow → Exchanges talk r r' a a' end limit before now answers answers'
+talked talk r r' a a' end limit flow before now answers answers' t stops = record {
+  given = t.given;
+  grew = t.grew;
+  told = by before now t.told;
+}
+  where
+    by : (before now : Option WireEnds) → Told (λ b n. AreJoined b → Exchanging r r' a a' t.given flow b n) before now
+        → Told (λ b n. AreJoined b → ExchangedOut talk r r' a a' end limit t.given b n) before now
+    by before None told = tt
+    by None (Some n) told = absurd told
+    by (Some b) (Some n) told = λ j.
+        let x = told j in
+        record { events = x.events; exchanged = x.exchanged; asked = x.asked; stops = stops x.events n x.to_first x.to_second x.first_read }
+
+-- octets in flight to an end arrive there: a read of none found none left
+never_arrives : (left left' got : List ℕ) (flying count : ℕ) → left ≡ (got ++ []) ++ left' → flying ≡ length left → 0 < flying → length got ≡ count → count ≡ 0 → left' ≡ [] → ⊥
+never_arrives left left' got flying count e h some k none empty =
+    let whole : length left ≡ length got + length left' = ap length (e ∙ ap (λ (octets : List ℕ). octets ++ left') (append-nil got)) ∙ length-append got left' in
+    absurd (omega (arith, h, some, k, none, whole, ap length empty))
+
+pub never_first : (r r1 r2 a a1 : Stance) (end : Ended) (limit : ℕ) (flow : Flow) (moment count said : ℕ) (before now later : Option WireEnds) (answers asked last : Option (List ℕ))
+    → Talking r r1 a a1 flow before now answers asked → Told (Round r1 r2 0 moment count said) now later → Grew asked last (moment ∷ []) → 0 < flow.to_first → count ≡ 0
+    → Exchanges Broken r r2 a a1 end limit before later answers last
+never_first r r1 r2 a a1 end limit flow moment count said before now later answers asked last t round grew some none = record {
+  given = t.given ++ moment ∷ [];
+  grew = Grew-trans answers asked last t.given (moment ∷ []) t.grew grew;
+  told = told_and (λ b n. AreJoined b → Exchanging r r1 a a1 t.given flow b n) (Round r1 r2 0 moment count said)
+      (λ b n. AreJoined b → ExchangedOut Broken r r2 a a1 end limit (t.given ++ moment ∷ []) b n)
+      (λ b m n x turned j. absurd (never_arrives m.first.left n.first.left turned.got flow.to_first count turned.part.read (x j).to_first some turned.counted none (turned.none none)))
+      before now later t.told round;
+}
+
+pub never_second : (r r1 a a1 a2 : Stance) (end : Ended) (limit : ℕ) (flow : Flow) (moment count said : ℕ) (before now later : Option WireEnds) (answers asked last : Option (List ℕ))
+    → Talking r r1 a a1 flow before now answers asked → Told (Round a1 a2 1 moment count said) now later → Grew asked last (moment ∷ []) → 0 < flow.to_second → count ≡ 0
+    → Exchanges Broken r r1 a a2 end limit before later answers last
+never_second r r1 a a1 a2 end limit flow moment count said before now later answers asked last t round grew some none = record {
+  given = t.given ++ moment ∷ [];
+  grew = Grew-trans answers asked last t.given (moment ∷ []) t.grew grew;
+  told = told_and (λ b n. AreJoined b → Exchanging r r1 a a1 t.given flow b n) (Round a1 a2 1 moment count said)
+      (λ b n. AreJoined b → ExchangedOut Broken r r1 a a2 end limit (t.given ++ moment ∷ []) b n)
+      (λ b m n x turned j. absurd (never_arrives m.second.left n.second.left turned.got flow.to_second count turned.part.read (x j).to_second some turned.counted none (turned.none none)))
+      before now later t.told round;
+}
+
+pub no_octets : (octets : List ℕ) → 0 ≡ length octets → octets ≡ []
+no_octets [] h = refl
+no_octets (octet ∷ octets) h = absurd (omega (arith, h))
+
+-- the second end said no more
+pub talked_done : (r r1 a a1 a2 : Stance) (end : Ended) (limit : ℕ) (flow : Flow) (before now later : Option WireEnds) (answers asked : Option (List ℕ))
+    → Talking r r1 a a1 flow before now answers asked → Told (Speech a1 a2 1 0) now later → end.over_first ≡ false → end.over_second ≡ false → flow.first_read < limit
+    → end.count < limit → flow.to_first ≡ 0 → IsTrue end.begun → (end.ready ≡ false → flow.to_second ≡ 0) → (IsTrue end.ready → end.ahead ≡ 0)
+    → Exchanges Done r r1 a a2 end limit before later answers asked
+talked_done r r1 a a1 a2 end limit flow before now later answers asked t speech one other within counted none begun rest all =
+    talked Done r r1 a a2 end limit (second_said 0 flow) before later answers asked
+    (talking_said r r1 a a1 a2 flow (second_said 0 flow) 0 before now later answers asked t refl speech)
+    (λ events ends first second read. record {
+      open_first = one;
+      open_second = other;
+      within_first = subst (λ (n : ℕ). n < limit) read within;
+      within_second = counted;
+      heard_first = no_octets ends.first.left (omega (arith, first, none));
+      begun = begun;
+      heard_second = λ waits. no_octets ends.second.left (omega (arith, second, rest waits));
+      all = all;
+    })

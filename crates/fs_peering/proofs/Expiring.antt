@@ -1,0 +1,318 @@
+-- No octets close an end with Hold Timer Expired: only the clock does.
+use Rattle.std.proofs.Common.{◌≡◌, ◌⊎◌, inl, inr, ◌==◌, ◌||◌, not, ℕ, ◌-◌, nat_lt, List, [], ◌∷◌, ◌++◌, length, drop, get_or, min, Bool, true, false, if◌then◌else◌, Option, Some, None, Result, Ok, Err, refl, ap, sym, ◌∙◌, subst, append_assoc}
+use Rattle.std.proofs.lemmas.Option.{none-some, same_Some}
+use Rattle.byteorder.specs.Endian.{big_number}
+use Rattle.fs_base.specs.Parts.{parts_of}
+use Rattle.fs_base.specs.declared.config.Config.{Config}
+use Rattle.fs_base.specs.declared.config.Peer.{Peer}
+use Rattle.fs_message.specs.Capabilities.{Field, are_parameters, capabilities_of}
+use Rattle.fs_message.specs.Header.{allows, fault, header_fault, kind_at, kind_wrong, marker_wrong, size_at, size_wrong}
+use Rattle.fs_message.specs.Notice.{notice_of}
+use Rattle.fs_message.specs.Open.{fields_fault, open_of, opened as reads_open}
+use Rattle.fs_message.specs.Stream.{Message, first_message, header_of, wrong_at}
+use Rattle.fs_message.specs.declared.fault.MessageFault.{MessageFault}
+use Rattle.fs_message.specs.declared.open_.Open.{Open}
+use Rattle.fs_attrs.specs.declared.update.Update.{Update}
+use Rattle.fs_attrs.specs.declared.update.UpdateFault.{UpdateFault}
+use Rattle.fs_attrs.specs.declared.update.UpdateFault.TheVariants.{List as ListFault, Network, Optional, Memory as NoMemory}
+use Rattle.fs_speaker.specs.Announcer.{is_established}
+use Rattle.fs_speaker.specs.Handed.{Handed, Point, hand, handed, runs, runs_by, shuts}
+use Rattle.fs_speaker.specs.Session.{Last, at_start, closed, plays, rest_closes, session_by, session_from, still}
+use Rattle.fs_speaker.specs.Side.{receiver}
+use Rattle.fs_speaker.specs.Times.{at_moment, taken_in, tick_at}
+use Rattle.fs_speaker.specs.Transition.{Machine, closing_of, faulted, not_taken, notified, opened, phase, taken, transition_at, transition_by, updates}
+use Rattle.fs_speaker.specs.declared.Closed.{Closed}
+use Rattle.fs_speaker.specs.declared.Closed.TheVariants.{Fault, NoFamily}
+use Rattle.fs_speaker.specs.declared.State.{State}
+use Rattle.fs_speaker.specs.declared.State.TheVariants.{WaitOpen, WaitKeep, Established, Closed as IsClosed}
+use Rattle.fs_session.specs.declared.times.Tick.TheVariants.{Expires}
+use Rattle.fs_session.specs.declared.times.Times.{Times}
+use Rattle.fs_session.specs.declared.transition.Phase.{Phase}
+use Rattle.fs_speaker.proofs.Handing.{ran, runs_none, runs_step}
+use Rattle.fs_speaker.proofs.SessionSteps.{going, plays_none, plays_step}
+use Rattle.fs_desk.specs.Limit.{bounded_from, first_over, too_many}
+use Rattle.fs_peering.specs.Opening.{opened_by, opens, front_message}
+use Rattle.fs_speaker.specs.End.{ticks}
+use Rattle.fs_peering.specs.Round.{Pieces}
+use Rattle.fs_peering.specs.Course.{hears, course}
+use Rattle.fs_speaker.proofs.Lasting.{last_update}
+use Rattle.fs_peering.proofs.Courses.{Steps, by_pieces, steps, course_more}
+
+abbrev Made : Type 0
+Made = Result (Phase × Option Update) Closed
+
+never : true ≡ false → ⊥
+never e = cc
+
+-- another closing than by the clock
+abbrev NotLate : Closed → Type 0
+NotLate (Fault code subcode) = (code == 4) ≡ false
+NotLate _ = Unit {0}
+
+no_late : (why : Closed) → NotLate why → why ≡ Fault 4 0 → ⊥
+no_late why n e = never (subst NotLate e n)
+
+abbrev WrongNot : Option MessageFault → Type 0
+WrongNot None = Unit {0}
+WrongNot (Some wrong) = NotLate (faulted wrong)
+
+header_not : (header : List ℕ) → WrongNot (header_fault header)
+header_not header =
+    by (marker_wrong header) (nat_lt (length header) 18) (size_wrong (size_at header)) (nat_lt (length header) 19) (kind_wrong (kind_at header)) (not (allows (kind_at header) (size_at header)))
+  where
+    by : (a b c d e f : Bool)
+        → WrongNot (if a then Some (fault 1 1) else if b then None else if c then Some (fault 1 2) else if d then None else if e then Some (fault 1 3) else if f then Some (fault 1 2) else None)
+    by true b c d e f = refl
+    by false true c d e f = tt
+    by false false true d e f = refl
+    by false false false true e f = tt
+    by false false false false true f = refl
+    by false false false false false true = refl
+    by false false false false false false = tt
+
+wrong_not : (octets : List ℕ) → WrongNot (wrong_at octets)
+wrong_not octets = header_not (header_of octets)
+
+fields_not : (body : List ℕ) → WrongNot (fields_fault body)
+fields_not body =
+    by (not (get_or body 0 0 == 4)) (big_number 2 (drop 1 body) == 0) (big_number 2 (drop 3 body) == 1 || big_number 2 (drop 3 body) == 2) (big_number 4 (drop 5 body) == 0)
+    (not (get_or body 9 0 == length body - 10))
+  where
+    by : (a b c d e : Bool)
+        → WrongNot (if a then Some (fault 2 1) else if b then Some (fault 2 2) else if c then Some (fault 2 6) else if d then Some (fault 2 3) else if e then Some (fault 2 4) else None)
+    by true b c d e = refl
+    by false true c d e = refl
+    by false false true d e = refl
+    by false false false true e = refl
+    by false false false false true = refl
+    by false false false false false = tt
+
+abbrev OpenNot : Result Open MessageFault → Type 0
+OpenNot (Ok found) = Unit {0}
+OpenNot (Err wrong) = NotLate (faulted wrong)
+
+either_open : (b : Bool) (x y : Result Open MessageFault) → OpenNot x → OpenNot y → OpenNot (if b then x else y)
+either_open true x y p q = p
+either_open false x y p q = q
+
+reads_not : (expected : ℕ) (body : List ℕ) (capabilities : List Field) → OpenNot (reads_open expected body capabilities)
+reads_not expected body capabilities = either_open _ (Err (fault 2 2)) (Ok _) refl tt
+
+open_not : (expected : ℕ) (body : List ℕ) → OpenNot (open_of expected body)
+open_not expected body = by (fields_fault body) (fields_not body)
+  where
+    by : (o : Option MessageFault) → WrongNot o
+        → OpenNot (elim o [ Some wrong ↦ Err wrong | None ↦ if are_parameters (drop 10 body) then reads_open expected body (capabilities_of (drop 10 body)) else Err (fault 2 4) ])
+    by None n =
+        either_open (are_parameters (drop 10 body)) (reads_open expected body (capabilities_of (drop 10 body))) (Err (fault 2 4)) (reads_not expected body (capabilities_of (drop 10 body))) refl
+    by (Some wrong) n = n
+
+abbrev MadeNot : Made → Type 0
+MadeNot (Ok next) = Unit {0}
+MadeNot (Err why) = NotLate why
+
+either : (b : Bool) (x y : Made) → MadeNot x → MadeNot y → MadeNot (if b then x else y)
+either true x y p q = p
+either false x y p q = q
+
+update_not : (wrong : UpdateFault) → NotLate (closing_of wrong)
+update_not ListFault = refl
+update_not Network = refl
+update_not (Optional why) = refl
+update_not NoMemory = tt
+
+updates_not : (now : Phase) (r : Result (Option Update) UpdateFault) → MadeNot (updates now r)
+updates_not now (Ok update) = tt
+updates_not now (Err wrong) = update_not wrong
+
+module _ (machine : Machine) where
+  opened_not : (r : Result Open MessageFault) → OpenNot r → MadeNot (opened machine r)
+  opened_not (Ok found) n = either (machine.lacks found) (Err NoFamily) (taken (phase WaitKeep found.four (min machine.offer found.hold_time)) None) tt tt
+  opened_not (Err wrong) n = n
+
+  at_not : (state : State) (four : Bool) (hold : ℕ) (message : Message) → MadeNot (transition_at machine state four hold message)
+  at_not WaitOpen four hold message =
+      either (message.kind == 1) (opened machine (open_of machine.expected message.body)) not_taken
+      (opened_not (open_of machine.expected message.body) (open_not machine.expected message.body)) refl
+  at_not WaitKeep four hold message = either (message.kind == 4) (taken (phase Established four hold) None) not_taken tt refl
+  at_not Established four hold message =
+      let now : Phase = phase Established four hold in
+      let stays : Made = taken now None in
+      let other : Made = if message.kind == 5 then stays else not_taken in
+      let alive : Made = if message.kind == 4 then stays else other in
+      either (message.kind == 2) (updates now (machine.update four message.body)) alive (updates_not now (machine.update four message.body))
+      (either (message.kind == 4) stays other tt (either (message.kind == 5) stays not_taken tt refl))
+  at_not IsClosed four hold message = refl
+
+  transition_not : (now : Phase) (message : Message) → MadeNot (transition_by machine now message)
+  transition_not now message =
+      either (message.kind == 3) (Err (notified (notice_of message.body))) (transition_at machine now.state now.four now.hold message) tt (at_not now.state now.four now.hold message)
+
+  -- handed over
+  abbrev RunsNot : Handed → Type 0
+  RunsNot made = made.point.closed ≡ Some (Fault 4 0) → ⊥
+
+  shut_not : (now : Phase) (times : Times) (why : Closed) → NotLate why → RunsNot (shuts machine now times why)
+  shut_not now times why n e = no_late why n (same_Some why (Fault 4 0) e)
+
+  runs_not : (messages : List Message) (now : Phase) (times : Times) (waiting : List ℕ) (wrong : Option MessageFault) → WrongNot wrong → RunsNot (runs machine now times messages waiting wrong)
+  runs_not [] now times waiting None n = subst RunsNot (sym (runs_none machine now times waiting None)) (λ e. none-some (Fault 4 0) e)
+  runs_not [] now times waiting (Some wrong) n = subst RunsNot (sym (runs_none machine now times waiting (Some wrong))) (shut_not now times (faulted wrong) n)
+  runs_not (message ∷ messages) now times waiting wrong n =
+      subst RunsNot (sym (runs_step machine now times message messages waiting wrong))
+      (by (λ next. runs_not messages next (taken_in now.state times) waiting wrong n) (transition_by machine now message) (transition_not now message))
+    where
+      by : ((next : Phase) → RunsNot (runs machine next (taken_in now.state times) messages waiting wrong)) → (made : Made) → MadeNot made
+          → RunsNot (ran machine now times made (λ next. runs machine next (taken_in now.state times) messages waiting wrong))
+      by rest (Ok next) m e = rest next.0 e
+      by rest (Err why) m e = shut_not now times why m e
+
+  runs_by_not : (now : Phase) (times : Times) (octets : List ℕ) → RunsNot (runs_by machine now times octets)
+  runs_by_not now times octets =
+      runs_not (parts_of first_message octets).0 now times (parts_of first_message octets).1 (wrong_at (parts_of first_message octets).1) (wrong_not (parts_of first_message octets).1)
+
+  -- as a session
+  abbrev LastNot : Last → Type 0
+  LastNot (still now) = Unit {0}
+  LastNot (closed why) = NotLate why
+
+  rest_not : (now : Phase) (wrong : Option MessageFault) → WrongNot wrong → LastNot (rest_closes now wrong)
+  rest_not now None n = tt
+  rest_not now (Some wrong) n = n
+
+  plays_not : (messages : List Message) (now : Phase) (wrong : Option MessageFault) → WrongNot wrong → LastNot (plays machine now messages wrong).1
+  plays_not [] now wrong n = subst (λ (z : List Update × Last). LastNot z.1) (sym (plays_none machine now wrong)) (rest_not now wrong n)
+  plays_not (message ∷ messages) now wrong n =
+      subst (λ (z : List Update × Last). LastNot z.1) (sym (plays_step machine now message messages wrong))
+      (by (λ next. plays_not messages next wrong n) (transition_by machine now message) (transition_not now message))
+    where
+      by : ((next : Phase) → LastNot (plays machine next messages wrong).1) → (made : Made) → MadeNot made → LastNot (going made (λ next. plays machine next messages wrong)).1
+      by rest (Ok next) m = subst LastNot (sym (last_update next.1 (plays machine next.0 messages wrong))) (rest next.0)
+      by rest (Err why) m = m
+
+  session_not : (now : Phase) (octets : List ℕ) → LastNot (session_by machine now octets).1
+  session_not now octets = plays_not (parts_of first_message octets).0 now (wrong_at (parts_of first_message octets).1) (wrong_not (parts_of first_message octets).1)
+
+  -- up to where it is established
+  abbrev Opened : Type 0
+  Opened = Last × List ℕ
+
+  abbrev chosen : Message × List ℕ → Made → (Phase → Opened) → Opened
+  chosen found (Ok next) rest = if is_established next.0.state then (still next.0, found.1) else rest next.0
+  chosen found (Err why) rest = (closed why, [])
+
+  opens_step : (now : Phase) (found : Message × List ℕ) (later : List (Message × List ℕ)) (wrong : Option MessageFault)
+      → opens machine now (found ∷ later) wrong ≡ chosen found (transition_by machine now found.0) (λ next. opens machine next later wrong)
+  unfolding opens
+  opens_step now found later wrong = at (transition_by machine now found.0)
+    where
+      at : (made : Made)
+          → elim made [ Err why ↦ (closed why, []) | Ok next ↦ if is_established next.0.state then (still next.0, found.1) else opens machine next.0 later wrong ]
+          ≡ chosen found made (λ next. opens machine next later wrong)
+      at (Ok next) = refl
+      at (Err why) = refl
+
+  opens_none : (now : Phase) (wrong : Option MessageFault) → opens machine now [] wrong ≡ (rest_closes now wrong, [])
+  unfolding opens
+  opens_none now wrong = refl
+
+  opens_not : (parts : List (Message × List ℕ)) (now : Phase) (wrong : Option MessageFault) → WrongNot wrong → LastNot (opens machine now parts wrong).0
+  opens_not [] now wrong n = subst (λ (z : Opened). LastNot z.0) (sym (opens_none now wrong)) (rest_not now wrong n)
+  opens_not (found ∷ later) now wrong n =
+      subst (λ (z : Opened). LastNot z.0) (sym (opens_step now found later wrong))
+      (by (λ next. opens_not later next wrong n) (transition_by machine now found.0) (transition_not now found.0))
+    where
+      up : (b : Bool) (next : Phase) → LastNot (opens machine next later wrong).0 → LastNot (if b then (still next, found.1) else opens machine next later wrong).0
+      up true next rest = tt
+      up false next rest = rest
+
+      by : ((next : Phase) → LastNot (opens machine next later wrong).0) → (made : Made) → MadeNot made → LastNot (chosen found made (λ next. opens machine next later wrong)).0
+      by rest (Ok next) m = up (is_established next.0.state) next.0 (rest next.0)
+      by rest (Err why) m = m
+
+  opened_by_not : (now : Phase) (octets : List ℕ) → LastNot (opened_by machine now octets).0
+  opened_by_not now octets = opens_not (parts_of front_message octets).0 now (wrong_at (parts_of front_message octets).1) (wrong_not (parts_of front_message octets).1)
+
+  last_late : (last : Last) → LastNot last → last ≡ closed (Fault 4 0) → ⊥
+  last_late last n e = never (subst LastNot e n)
+
+  pub session_late : (now : Phase) (octets : List ℕ) → (session_by machine now octets).1 ≡ closed (Fault 4 0) → ⊥
+  session_late now octets e = last_late (session_by machine now octets).1 (session_not now octets) e
+
+  pub opened_late : (now : Phase) (octets : List ℕ) → (opened_by machine now octets).0 ≡ closed (Fault 4 0) → ⊥
+  opened_late now octets e = last_late (opened_by machine now octets).0 (opened_by_not now octets) e
+
+  -- An end that heard pieces and is closed so is closed by the clock, at one of them.
+  pub record Expired (heard : Pieces) : Type 0 where
+    pub earlier : Pieces
+    pub event : ℕ × List ℕ
+    pub later : Pieces
+    pub split : heard ≡ earlier ++ event ∷ later
+    pub lived : (course machine earlier).point.closed ≡ None
+    pub due : tick_at (course machine earlier).point.phase.hold (at_moment event.0 (course machine earlier).point.times) ≡ Expires
+
+  abbrev ClosedLate : Pieces → Type 0
+  ClosedLate heard = (course machine heard).point.closed ≡ Some (Fault 4 0) → Expired heard
+
+  module _ (heard : Pieces) (event : ℕ × List ℕ) (before : ClosedLate heard) (e : (course machine (heard ++ event ∷ [])).point.closed ≡ Some (Fault 4 0)) where
+    abbrev here : Point
+    here = (course machine heard).point
+
+    abbrev hand_by : Option Closed → Point → Handed
+    hand_by c p = elim c [ Some why ↦ handed p [] [] | None ↦ runs_by machine p.phase (at_moment event.0 p.times) (p.waiting ++ event.1) ]
+
+    abbrev woke_by : Option Closed → Handed
+    woke_by c = elim c [
+      | Some why ↦ handed here [] []
+      | None ↦ ticks (tick_at here.phase.hold (at_moment event.0 here.times)) here.waiting here.phase (at_moment event.0 here.times)
+    ]
+
+    there : (hears machine event here).point.closed ≡ Some (Fault 4 0)
+    there = sym (ap (λ (m : Handed). m.point.closed) (course_more machine heard event)) ∙ e
+
+    shut : (why : Closed) → here.closed ≡ Some why → (hears machine event here).point.closed ≡ Some why
+    shut why k =
+        ap (λ (m : Handed). (hand machine event.0 m.point event.1).point.closed) (ap woke_by k)
+        ∙ ap (λ (c : Option Closed). (hand_by c here).point.closed) k
+        ∙ k
+
+    late_more : Expired (heard ++ event ∷ [])
+    late_more = by here.closed refl
+      where
+        alive : here.closed ≡ None → Steps machine event here ⊎ (tick_at here.phase.hold (at_moment event.0 here.times) ≡ Expires) → Expired (heard ++ event ∷ [])
+        alive k (inl s) =
+            absurd (runs_by_not here.phase s.times (here.waiting ++ event.1) (sym (ap (λ (p : Point). p.closed) s.point_is) ∙ there))
+        alive k (inr due) = record { earlier = heard; event = event; later = []; split = refl; lived = k; due = due }
+
+        by : (c : Option Closed) → here.closed ≡ c → Expired (heard ++ event ∷ [])
+        by None k = alive k (steps machine event here k)
+        by (Some why) k =
+            let x = before (k ∙ sym (shut why k) ∙ there) in
+            record {
+              earlier = x.earlier;
+              event = x.event;
+              later = x.later ++ event ∷ [];
+              split = ap (λ (z : Pieces). z ++ event ∷ []) x.split ∙ append_assoc x.earlier (x.event ∷ x.later) (event ∷ []);
+              lived = x.lived;
+              due = x.due;
+            }
+
+  pub closed_late : (heard : Pieces) → (course machine heard).point.closed ≡ Some (Fault 4 0) → Expired heard
+  closed_late heard = by_pieces ClosedLate (λ earlier event before e. late_more earlier event before e) (λ e. absurd (none-some (Fault 4 0) e)) heard
+
+-- with a limit of routes
+pub bounded_late : (config : Config) (peer : Peer) (octets : List ℕ) → (bounded_from config peer octets).1 ≡ closed (Fault 4 0) → ⊥
+bounded_late config peer octets e = by (first_over peer.max_routes session.0) refl
+  where
+    session : List Update × Last
+    session = session_from config peer at_start octets
+
+    chosen : Option (List Update) → List Update × Last
+    chosen o = elim o [ None ↦ session | Some front ↦ (front, closed too_many) ]
+
+    other : closed too_many ≡ closed (Fault 4 0) → ⊥
+    other h = cc
+
+    by : (o : Option (List Update)) → first_over peer.max_routes session.0 ≡ o → ⊥
+    by None f = session_late (receiver config peer) at_start octets (sym (ap (λ (x : Option (List Update)). (chosen x).1) f) ∙ e)
+    by (Some front) f = other (sym (ap (λ (x : Option (List Update)). (chosen x).1) f) ∙ e)

@@ -1,0 +1,419 @@
+-- Two joined ends of which the announcing one has the identifier 0.0.0.0: its OPEN is refused, and nothing else closes them.
+use Rattle.std.proofs.Common.{◌≡◌, ◌⊎◌, inl, inr, ◌<◌, ◌^◌, ◌==◌, ℕ, Bool, true, false, if◌then◌else◌, List, [], ◌∷◌, ◌++◌, length, take, drop, Option, Some, None, Result, Err, Ok, refl, ap, sym, ◌∙◌, subst, append_assoc, append-nil, arith}
+use Rattle.std.proofs.lemmas.List.{take-append-drop}
+use Rattle.std.proofs.lemmas.Option.{none-some, same_Some}
+use Rattle.fs_base.specs.declared.config.Config.{Config}
+use Rattle.fs_base.specs.declared.config.Peer.{Peer}
+use Rattle.fs_attrs.specs.declared.update.Update.{Update}
+use Rattle.fs_message.specs.Stream.{Message, first_message}
+use Rattle.fs_message.specs.Write.{open_body}
+use Rattle.fs_message.specs.declared.fault.MessageFault.{MessageFault}
+use Rattle.fs_message.specs.declared.open_.Open.{Open}
+use Rattle.fs_message.proofs.OpenReadBack.{open_unnamed}
+use Rattle.fs_message.proofs.StreamLaws.{message_stable}
+use Rattle.fs_message.proofs.TextFirst.{text_first}
+use Rattle.fs_speaker.specs.Announcer.{open_sent}
+use Rattle.fs_speaker.specs.End.{ticked, ticks}
+use Rattle.fs_speaker.specs.Handed.{Handed, Point, hand, handed, point, runs_by, shuts}
+use Rattle.fs_speaker.specs.JointLaws.{IsUnnamed}
+use Rattle.fs_speaker.specs.Line.{Step, step_by, stops, takes, waits}
+use Rattle.fs_speaker.specs.Session.{Last, at_start, closed, session_by}
+use Rattle.fs_speaker.specs.Side.{at_fault, notice_text}
+use Rattle.fs_speaker.specs.Times.{at_moment, tick_at}
+use Rattle.fs_speaker.specs.Transition.{Machine, opened, transition_by}
+use Rattle.fs_speaker.specs.World.{World, at_first, happens, next_said, run, runs_on, says, sent, taker_comes, taker_of, teller_comes, teller_of}
+use Rattle.fs_speaker.specs.declared.Closed.{Closed}
+use Rattle.fs_speaker.specs.declared.Closed.TheVariants.{Fault, Notified}
+use Rattle.fs_speaker.specs.declared.Sending.{Sending}
+use Rattle.fs_speaker.specs.declared.event.Event.{Event}
+use Rattle.fs_speaker.specs.declared.event.Event.TheVariants.{Send, Deliver, Tick as TickEvent, Cut}
+use Rattle.fs_session.specs.declared.times.Times.{Times}
+use Rattle.fs_session.specs.declared.transition.Phase.{Phase}
+use Rattle.fs_speaker.proofs.Arriving.{open_fits}
+use Rattle.fs_speaker.proofs.Handing.{runs_stops, runs_waits}
+use Rattle.fs_speaker.proofs.Handover.{closed_hand, open_hand}
+use Rattle.fs_speaker.proofs.ReplySteps.{Shows, told}
+use Rattle.fs_speaker.proofs.SessionSteps.{machine_stops, step_found}
+use Rattle.fs_peering.specs.Laws.{ClosesUnnamed}
+
+same_why : (a b : Closed) → closed a ≡ closed b → a ≡ b
+same_why a b e = cc
+
+-- An end at which one message closes, wherever more follows: of the octets up to it the end waits for more, or closes so.
+module _ (machine : Machine) (why : Closed) (text : List ℕ) (message : Message)
+    (first : (more : List ℕ) → first_message (text ++ more) ≡ Some (message, more)) (err : transition_by machine at_start message ≡ Err why) where
+  shuts_all : (more : List ℕ) → session_by machine at_start (text ++ more) ≡ ([], closed why)
+  shuts_all more =
+      ap (λ (z : List ℕ). session_by machine at_start z) (sym (append-nil (text ++ more)))
+      ∙ machine_stops machine at_start why (text ++ more) [] (step_found machine at_start (text ++ more) (message, more) (Err why) (first more) err)
+
+  abbrev Comes : Times → List ℕ → Handed → Type 0
+  Comes times octets made = (made ≡ handed (point octets at_start times None) [] []) ⊎ (made ≡ shuts machine at_start times why)
+
+  no_both : (next : Phase × Option Update) → ◌≡◌ {A = Result (Phase × Option Update) Closed} (Ok next) (Err why) → ⊥
+  no_both next e = cc
+
+  comes : (times : Times) (octets rest more : List ℕ) → octets ++ rest ≡ text ++ more → Comes times octets (runs_by machine at_start times octets)
+  comes times octets rest more e = by (step_by machine at_start octets) refl
+    where
+      by : (step : Step) → step_by machine at_start octets ≡ step → Comes times octets (runs_by machine at_start times octets)
+      by waits h = inl (runs_waits machine at_start times octets h)
+      by (stops other) h =
+          let same : closed other ≡ closed why =
+          ap (λ (s : List Update × Last). s.1)
+          (sym (machine_stops machine at_start other octets rest h) ∙ ap (λ (z : List ℕ). session_by machine at_start z) e ∙ shuts_all more) in
+          inr (ap (λ (z : List ℕ). runs_by machine at_start times z) (sym (append-nil octets)) ∙ runs_stops machine at_start times other octets [] h
+          ∙ ap (λ (c : Closed). shuts machine at_start times c) (same_why other why same))
+      by (takes next update behind) h =
+          let shows : Shows machine at_start octets (takes next update behind) = subst (Shows machine at_start octets) h (told machine at_start octets) in
+          let found : ◌≡◌ {A = Option (Message × List ℕ)} (Some (shows.0, behind ++ rest)) (Some (message, more)) =
+          sym (message_stable octets rest (shows.0, behind) shows.1) ∙ ap first_message e ∙ first more in
+          let same : shows.0 ≡ message = ap (λ (f : Message × List ℕ). f.0) (same_Some (shows.0, behind ++ rest) (message, more) found) in
+          absurd (no_both (next, update) (sym shows.2 ∙ ap (transition_by machine at_start) same ∙ err))
+
+  -- it waits for more of it, or has closed so
+  abbrev pub IsEnd : List ℕ → Point → Type 0
+  IsEnd heard now = ((now.closed ≡ None) × ((now.phase ≡ at_start) × (now.waiting ≡ heard))) ⊎ (now.closed ≡ Some why)
+
+  -- What a piece made of it: it waits on and says nothing; or it closes and says so; or it had closed.
+  abbrev pub Made : List ℕ → Point → Handed → Type 0
+  Made heard now made =
+      ((now.closed ≡ None) × ((made.point.closed ≡ None) × ((made.point.phase ≡ at_start) × ((made.point.waiting ≡ heard) × (made.text ≡ [])))))
+      ⊎ (((now.closed ≡ None) × ((made.point.closed ≡ Some why) × (made.text ≡ at_fault machine.farewell why)))
+      ⊎ ((now.closed ≡ Some why) × ((made.point.closed ≡ Some why) × (made.text ≡ []))))
+
+  end_hand : (heard piece rest more : List ℕ) (now : Point) (moment : ℕ) → IsEnd heard now → (now.closed ≡ None → (heard ++ piece) ++ rest ≡ text ++ more)
+      → Made (heard ++ piece) now (hand machine moment now piece)
+  end_hand heard piece rest more now moment (inr shut) goes =
+      let there : hand machine moment now piece ≡ handed now [] [] = closed_hand machine moment now piece why shut in
+      inr (inr (shut, (ap (λ (h : Handed). h.point.closed) there ∙ shut, ap (λ (h : Handed). h.text) there)))
+  end_hand heard piece rest more now moment (inl i) goes = by (comes times (heard ++ piece) rest more (goes i.0))
+    where
+      times : Times
+      times = at_moment moment now.times
+
+      made_is : hand machine moment now piece ≡ runs_by machine at_start times (heard ++ piece)
+      made_is =
+          open_hand machine moment now piece i.0 ∙ ap (λ (p : Phase). runs_by machine p times (now.waiting ++ piece)) i.1.0
+          ∙ ap (λ (z : List ℕ). runs_by machine at_start times (z ++ piece)) i.1.1
+
+      by : Comes times (heard ++ piece) (runs_by machine at_start times (heard ++ piece)) → Made (heard ++ piece) now (hand machine moment now piece)
+      by (inl w) =
+          let at : hand machine moment now piece ≡ handed (point (heard ++ piece) at_start times None) [] [] = made_is ∙ w in
+          inl (i.0, (ap (λ (h : Handed). h.point.closed) at, (ap (λ (h : Handed). h.point.phase) at, (ap (λ (h : Handed). h.point.waiting) at, ap (λ (h : Handed). h.text) at))))
+      by (inr s) =
+          let at : hand machine moment now piece ≡ shuts machine at_start times why = made_is ∙ s in
+          inr (inl (i.0, (ap (λ (h : Handed). h.point.closed) at, ap (λ (h : Handed). h.text) at)))
+
+  -- the clock does nothing at it
+  end_tick : (heard : List ℕ) (now : Point) (moment : ℕ) → IsEnd heard now
+      → IsEnd heard (ticked moment now).point × (((ticked moment now).text ≡ []) × ((ticked moment now).point.closed ≡ now.closed))
+  end_tick heard now moment (inr shut) =
+      let at : ticked moment now ≡ handed now [] [] = ap (λ (c : Option Closed). elim c [
+        | Some w ↦ handed now [] []
+        | None ↦ ticks (tick_at now.phase.hold (at_moment moment now.times)) now.waiting now.phase (at_moment moment now.times)
+      ]) shut in
+      (inr (ap (λ (h : Handed). h.point.closed) at ∙ shut), (ap (λ (h : Handed). h.text) at, ap (λ (h : Handed). h.point.closed) at))
+  end_tick heard now moment (inl i) =
+      let at : ticked moment now ≡ handed (point now.waiting at_start (at_moment moment now.times) None) [] [] =
+      ap (λ (c : Option Closed). elim c [
+        | Some w ↦ handed now [] []
+        | None ↦ ticks (tick_at now.phase.hold (at_moment moment now.times)) now.waiting now.phase (at_moment moment now.times)
+      ]) i.0 ∙ ap (λ (p : Phase). ticks (tick_at p.hold (at_moment moment now.times)) now.waiting p (at_moment moment now.times)) i.1.0 in (
+        inl (ap (λ (h : Handed). h.point.closed) at, (ap (λ (h : Handed). h.point.phase) at, ap (λ (h : Handed). h.point.waiting) at ∙ i.1.1)),
+        (ap (λ (h : Handed). h.text) at, ap (λ (h : Handed). h.point.closed) at ∙ sym i.0),
+      )
+
+-- what was heard and what is in flight is a front of all that was said, and all of it while the wire isn't cut
+abbrev Flies : (heard flying whole : List ℕ) → Bool → Type 0
+Flies heard flying whole cut = (rest : List ℕ) × ((heard ++ (flying ++ rest) ≡ whole) × (cut ≡ false → rest ≡ []))
+
+flies_said : (heard flying whole text : List ℕ) (cut : Bool) → Flies heard flying whole cut → Flies heard (sent cut flying text) (whole ++ text) cut
+flies_said heard flying whole text true f = (
+  f.0 ++ text,
+  (
+    ap (λ (z : List ℕ). heard ++ z) (sym (append_assoc flying f.0 text)) ∙ sym (append_assoc heard (flying ++ f.0) text) ∙ ap (λ (z : List ℕ). z ++ text) f.1.0,
+    λ e. absurd (never e),
+  ),
+)
+  where
+    never : true ≡ false → ⊥
+    never e = cc
+flies_said heard flying whole text false f = (
+  [],
+  (
+    ap (λ (z : List ℕ). heard ++ z) (append-nil (flying ++ text)) ∙ sym (append_assoc heard flying text)
+        ∙ ap (λ (z : List ℕ). (heard ++ z) ++ text) (sym (append-nil flying) ∙ ap (λ (z : List ℕ). flying ++ z) (sym (f.1.1 refl)))
+        ∙ ap (λ (z : List ℕ). z ++ text) f.1.0,
+    λ e. refl,
+  ),
+)
+
+taken_front : (heard flying rest : List ℕ) (n : ℕ) → (heard ++ take n flying) ++ (drop n flying ++ rest) ≡ heard ++ (flying ++ rest)
+taken_front heard flying rest n =
+    append_assoc heard (take n flying) (drop n flying ++ rest)
+    ∙ ap (λ (z : List ℕ). heard ++ z) (sym (append_assoc (take n flying) (drop n flying) rest) ∙ ap (λ (z : List ℕ). z ++ rest) (take-append-drop n flying))
+
+flies_taken : (heard flying whole : List ℕ) (cut : Bool) (n : ℕ) → Flies heard flying whole cut → Flies (heard ++ take n flying) (drop n flying) whole cut
+flies_taken heard flying whole cut n f = (f.0, (taken_front heard flying f.0 n ∙ f.1.0, f.1.1))
+
+flies_cut : (heard flying whole : List ℕ) (cut : Bool) → Flies heard flying whole cut → Flies heard [] whole true
+flies_cut heard flying whole cut f = (flying ++ f.0, (f.1.0, λ e. absurd (never e)))
+  where
+    never : true ≡ false → ⊥
+    never e = cc
+
+nothing : (xs ys : List ℕ) → xs ++ ys ≡ [] → xs ≡ []
+nothing [] ys e = refl
+nothing (x ∷ xs) ys e = absurd cc
+
+module _ (config : Config) (peer : Peer) (sending : Sending) (un : IsUnnamed config peer sending) where
+  abbrev taker : Machine
+  taker = taker_of config peer sending
+
+  abbrev teller : Machine
+  teller = teller_of config peer sending
+
+  abbrev opening : List ℕ
+  opening = open_sent config peer sending
+
+  abbrev body : List ℕ
+  body = open_body peer.asn config.hold_time sending.id
+
+  abbrev notice : List ℕ
+  notice = notice_text 2 3
+
+  first_open : (more : List ℕ) → first_message (opening ++ more) ≡ Some (record { kind = 1; body = body }, more)
+  first_open more = let fits = open_fits (length body) refl in text_first 1 body more (omega arith) (omega arith) fits.0 fits.1
+
+  first_notice : (more : List ℕ) → first_message (notice ++ more) ≡ Some (record { kind = 3; body = 2 ∷ 3 ∷ [] }, more)
+  first_notice more = text_first 3 (2 ∷ 3 ∷ []) more (omega arith) (omega arith) refl (omega arith)
+
+  zero_small : (n : ℕ) → n ≡ 0 → n < 2 ^ 32
+  zero_small n e = rw e (omega arith)
+
+  refuses : transition_by taker at_start (record { kind = 1; body = body }) ≡ Err (Fault 2 3)
+  refuses = ap (λ (r : Result Open MessageFault). opened taker r)
+      (open_unnamed peer.asn config.hold_time sending.id un.peer_as un.hold_time (zero_small sending.id un.unnamed) un.some_peer un.not_one un.not_two un.unnamed)
+
+  is_told : transition_by teller at_start (record { kind = 3; body = 2 ∷ 3 ∷ [] }) ≡ Err (Notified 2 3)
+  is_told = refl
+
+  abbrev IsTaker : List ℕ → Point → Type 0
+  IsTaker = IsEnd taker (Fault 2 3) opening (record { kind = 1; body = body }) first_open refuses
+
+  abbrev IsTeller : List ℕ → Point → Type 0
+  IsTeller = IsEnd teller (Notified 2 3) notice (record { kind = 3; body = 2 ∷ 3 ∷ [] }) first_notice is_told
+
+  -- the receiving end said nothing while it was open, and then its NOTIFICATION
+  abbrev Said : Option Closed → List ℕ → Type 0
+  Said how said = ((how ≡ None) × (said ≡ [])) ⊎ ((how ≡ Some (Fault 2 3)) × (said ≡ notice))
+
+  record Refused (w : World) : Type 0 where
+    octets : List ℕ
+    heard : List ℕ
+    more : List ℕ
+    said : List ℕ
+    taker_is : IsTaker octets w.taker
+    teller_is : IsTeller heard w.teller
+    said_is : Said w.taker.closed said
+    flies : w.taker.closed ≡ None → Flies octets w.to_taker (opening ++ more) w.cut
+    goes : w.teller.closed ≡ None → Flies heard w.to_teller said w.cut
+
+  more_said : (octets flying more text : List ℕ) (cut : Bool) → Flies octets flying (opening ++ more) cut → Flies octets (sent cut flying text) (opening ++ (more ++ text)) cut
+  more_said octets flying more text cut f =
+      subst (λ (z : List ℕ). Flies octets (sent cut flying text) z cut) (append_assoc opening more text) (flies_said octets flying (opening ++ more) text cut f)
+
+  -- the announcing end said something
+  teller_said : (w : World) (r : Refused w) (now : Point) (flying heard : List ℕ) (text : List ℕ) → IsTeller heard now → (now.closed ≡ None → Flies heard flying r.said w.cut)
+      → (n : ℕ) → Refused (record { taker = w.taker; teller = now; to_taker = sent w.cut w.to_taker text; to_teller = flying; appended = n; cut = w.cut; taken = w.taken })
+  teller_said w r now flying heard text is goes n = record {
+    octets = r.octets;
+    heard = heard;
+    more = r.more ++ text;
+    said = r.said;
+    taker_is = r.taker_is;
+    teller_is = is;
+    said_is = r.said_is;
+    flies = λ o. more_said r.octets w.to_taker r.more text w.cut (r.flies o);
+    goes = goes;
+  }
+
+  -- the receiving end was handed a piece
+  taker_made : (w : World) (r : Refused w) (moment count : ℕ) → Refused (taker_comes (hand taker moment w.taker (take count w.to_taker)) (drop count w.to_taker) w)
+  taker_made w r moment count = by r.taker_is
+    where
+      piece : List ℕ
+      piece = take count w.to_taker
+
+      made : Handed
+      made = hand taker moment w.taker piece
+
+      now : World
+      now = taker_comes made (drop count w.to_taker) w
+
+      goes_on : w.teller.closed ≡ None → Flies r.heard (sent w.cut w.to_teller made.text) (r.said ++ made.text) w.cut
+      goes_on o = flies_said r.heard w.to_teller r.said made.text w.cut (r.goes o)
+
+      -- so it stands, with this said
+      so : IsTaker (r.octets ++ piece) made.point → Said made.point.closed (r.said ++ made.text) → (made.point.closed ≡ None → w.taker.closed ≡ None) → Refused now
+      so is said opens = record {
+        octets = r.octets ++ piece;
+        heard = r.heard;
+        more = r.more;
+        said = r.said ++ made.text;
+        taker_is = is;
+        teller_is = r.teller_is;
+        said_is = said;
+        flies = λ o. flies_taken r.octets w.to_taker (opening ++ r.more) w.cut count (r.flies (opens o));
+        goes = goes_on;
+      }
+
+      was_open : w.taker.closed ≡ None → r.said ≡ []
+      was_open o = at r.said_is
+        where
+          at : Said w.taker.closed r.said → r.said ≡ []
+          at (inl s) = s.1
+          at (inr s) = absurd (none-some (Fault 2 3) (sym o ∙ s.0))
+
+      was_shut : w.taker.closed ≡ Some (Fault 2 3) → r.said ≡ notice
+      was_shut c = at r.said_is
+        where
+          at : Said w.taker.closed r.said → r.said ≡ notice
+          at (inl s) = absurd (none-some (Fault 2 3) (sym s.0 ∙ c))
+          at (inr s) = s.1
+
+      from : Made taker (Fault 2 3) opening (record { kind = 1; body = body }) first_open refuses (r.octets ++ piece) w.taker made → Refused now
+      from (inl m) =
+          so (inl (m.1.0, (m.1.1.0, m.1.1.1.0))) (inl (m.1.0, ap (λ (z : List ℕ). r.said ++ z) m.1.1.1.1 ∙ append-nil r.said ∙ was_open m.0)) (λ o. m.0)
+      from (inr (inl m)) =
+          so (inr m.1.0) (inr (m.1.0, ap (λ (z : List ℕ). r.said ++ z) m.1.1 ∙ ap (λ (z : List ℕ). z ++ notice) (was_open m.0))) (λ o. m.0)
+      from (inr (inr m)) =
+          so (inr m.1.0) (inr (m.1.0, ap (λ (z : List ℕ). r.said ++ z) m.1.1 ∙ append-nil r.said ∙ was_shut m.0)) (λ o. absurd (none-some (Fault 2 3) (sym o ∙ m.1.0)))
+
+      by : IsTaker r.octets w.taker → Refused now
+      by (inl i) =
+          let f = r.flies i.0 in
+          from (end_hand taker (Fault 2 3) opening (record { kind = 1; body = body }) first_open refuses r.octets piece (drop count w.to_taker ++ f.0) r.more w.taker moment (inl i)
+          (λ o. taken_front r.octets w.to_taker f.0 count ∙ f.1.0))
+      by (inr c) =
+          from (end_hand taker (Fault 2 3) opening (record { kind = 1; body = body }) first_open refuses r.octets piece [] [] w.taker moment (inr c)
+          (λ o. absurd (none-some (Fault 2 3) (sym o ∙ c))))
+
+  -- the announcing end was
+  teller_made : (w : World) (r : Refused w) (moment count : ℕ) → Refused (teller_comes (hand teller moment w.teller (take count w.to_teller)) (drop count w.to_teller) w)
+  teller_made w r moment count = by r.teller_is
+    where
+      piece : List ℕ
+      piece = take count w.to_teller
+
+      made : Handed
+      made = hand teller moment w.teller piece
+
+      now : World
+      now = teller_comes made (drop count w.to_teller) w
+
+      so : IsTeller (r.heard ++ piece) made.point → (made.point.closed ≡ None → w.teller.closed ≡ None) → Refused now
+      so is opens =
+          teller_said w r made.point (drop count w.to_teller) (r.heard ++ piece) made.text is (λ o. flies_taken r.heard w.to_teller r.said w.cut count (r.goes (opens o))) w.appended
+
+      from : Made teller (Notified 2 3) notice (record { kind = 3; body = 2 ∷ 3 ∷ [] }) first_notice is_told (r.heard ++ piece) w.teller made → Refused now
+      from (inl m) = so (inl (m.1.0, (m.1.1.0, m.1.1.1.0))) (λ o. m.0)
+      from (inr (inl m)) = so (inr m.1.0) (λ o. m.0)
+      from (inr (inr m)) = so (inr m.1.0) (λ o. absurd (none-some (Notified 2 3) (sym o ∙ m.1.0)))
+
+      -- what it was handed is a front of the NOTIFICATION
+      fronts : (rest : List ℕ) → (r.heard ++ piece) ++ rest ≡ r.said → Said w.taker.closed r.said → (rest : List ℕ) × ((r.heard ++ piece) ++ rest ≡ notice ++ [])
+      fronts rest e (inl s) = (notice, ap (λ (z : List ℕ). z ++ notice) (nothing (r.heard ++ piece) rest (e ∙ s.1)))
+      fronts rest e (inr s) = (rest, e ∙ s.1)
+
+      by : IsTeller r.heard w.teller → Refused now
+      by (inl i) =
+          let f = r.goes i.0 in
+          let front = fronts (drop count w.to_teller ++ f.0) (taken_front r.heard w.to_teller f.0 count ∙ f.1.0) r.said_is in
+          from (end_hand teller (Notified 2 3) notice (record { kind = 3; body = 2 ∷ 3 ∷ [] }) first_notice is_told r.heard piece front.0 [] w.teller moment (inl i) (λ o. front.1))
+      by (inr c) =
+          from (end_hand teller (Notified 2 3) notice (record { kind = 3; body = 2 ∷ 3 ∷ [] }) first_notice is_told r.heard piece [] [] w.teller moment (inr c)
+          (λ o. absurd (none-some (Notified 2 3) (sym o ∙ c))))
+
+  -- the clock was heard
+  taker_ticks : (w : World) (r : Refused w) (moment : ℕ) → Refused (taker_comes (ticked moment w.taker) w.to_taker w)
+  taker_ticks w r moment =
+      let t = end_tick taker (Fault 2 3) opening (record { kind = 1; body = body }) first_open refuses r.octets w.taker moment r.taker_is in
+      record {
+        octets = r.octets;
+        heard = r.heard;
+        more = r.more;
+        said = r.said ++ (ticked moment w.taker).text;
+        taker_is = t.0;
+        teller_is = r.teller_is;
+        said_is =
+            subst (λ (how : Option Closed). Said how (r.said ++ (ticked moment w.taker).text)) (sym t.1.1)
+            (subst (Said w.taker.closed) (sym (ap (λ (z : List ℕ). r.said ++ z) t.1.0 ∙ append-nil r.said)) r.said_is);
+        flies = λ o. r.flies (sym t.1.1 ∙ o);
+        goes = λ o. flies_said r.heard w.to_teller r.said (ticked moment w.taker).text w.cut (r.goes o);
+      }
+
+  teller_ticks : (w : World) (r : Refused w) (moment : ℕ) → Refused (teller_comes (ticked moment w.teller) w.to_teller w)
+  teller_ticks w r moment =
+      let t = end_tick teller (Notified 2 3) notice (record { kind = 3; body = 2 ∷ 3 ∷ [] }) first_notice is_told r.heard w.teller moment r.teller_is in
+      teller_said w r (ticked moment w.teller).point w.to_teller r.heard (ticked moment w.teller).text t.0 (λ o. r.goes (sym t.1.1 ∙ o)) w.appended
+
+  refused_on : (w : World) (event : Event) → Refused w → Refused (happens config peer sending event w)
+  refused_on w Send r = by (next_said config peer sending w.teller w.appended)
+    where
+      by : (text : Option (List ℕ)) → Refused (says text w)
+      by None = r
+      by (Some text) = teller_said w r w.teller w.to_teller r.heard text r.teller_is r.goes _
+  refused_on w (Deliver to count moment) r = by (to == 0)
+    where
+      by : (zeroth : Bool) → Refused (if zeroth then taker_comes (hand taker moment w.taker (take count w.to_taker)) (drop count w.to_taker) w
+          else teller_comes (hand teller moment w.teller (take count w.to_teller)) (drop count w.to_teller) w)
+      by true = taker_made w r moment count
+      by false = teller_made w r moment count
+  refused_on w (TickEvent end moment) r = by (end == 0)
+    where
+      by : (zeroth : Bool) → Refused (if zeroth then taker_comes (ticked moment w.taker) w.to_taker w else teller_comes (ticked moment w.teller) w.to_teller w)
+      by true = taker_ticks w r moment
+      by false = teller_ticks w r moment
+  refused_on w Cut r = record {
+    octets = r.octets;
+    heard = r.heard;
+    more = r.more;
+    said = r.said;
+    taker_is = r.taker_is;
+    teller_is = r.teller_is;
+    said_is = r.said_is;
+    flies = λ o. flies_cut r.octets w.to_taker (opening ++ r.more) w.cut (r.flies o);
+    goes = λ o. flies_cut r.heard w.to_teller r.said w.cut (r.goes o);
+  }
+
+  refused_first : Refused (at_first config peer sending)
+  refused_first = record {
+    octets = [];
+    heard = [];
+    more = [];
+    said = [];
+    taker_is = inl (refl, (refl, refl));
+    teller_is = inl (refl, (refl, refl));
+    said_is = inl (refl, refl);
+    flies = λ o. ([], (refl, λ e. refl));
+    goes = λ o. ([], (refl, λ e. refl));
+  }
+
+  refused_all : (events : List Event) (w : World) → Refused w → Refused (runs_on config peer sending w events)
+  refused_all [] w r = r
+  refused_all (event ∷ events) w r = refused_all events (happens config peer sending event w) (refused_on w event r)
+
+  taker_so : (now : Point) (octets : List ℕ) → IsTaker octets now → (now.closed ≡ None) ⊎ (now.closed ≡ Some (Fault 2 3))
+  taker_so now octets (inl i) = inl i.0
+  taker_so now octets (inr c) = inr c
+
+  teller_so : (now : Point) (heard : List ℕ) → IsTeller heard now → (now.closed ≡ None) ⊎ (now.closed ≡ Some (Notified 2 3))
+  teller_so now heard (inl i) = inl i.0
+  teller_so now heard (inr c) = inr c
+
+pub closes_unnamed : ClosesUnnamed
+closes_unnamed config peer sending events un =
+    let r = refused_all config peer sending un events (at_first config peer sending) (refused_first config peer sending un) in
+    (taker_so config peer sending un (run config peer sending events).taker r.octets r.taker_is, teller_so config peer sending un (run config peer sending events).teller r.heard r.teller_is)

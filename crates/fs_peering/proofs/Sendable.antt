@@ -1,0 +1,72 @@
+-- What may be announced can arrive.
+use Rattle.std.proofs.Common.{◌≡◌, ◌<◌, ◌≤◌, ◌&&◌, ℕ, zero, suc, List, [], ◌∷◌, length, map, take, nat_le, nat_lt, Bool, true, false, refl, arith}
+use Rattle.std.proofs.lemmas.Bool.Decides.{nat_tests}
+use Rattle.std.specs.List.{AllByRecursion, list_all}
+use Rattle.fs_base.proofs.Lists.{each_both}
+use Rattle.fs_base.specs.declared.config.Config.{Config}
+use Rattle.fs_base.specs.declared.config.Peer.{Peer}
+use Rattle.fs_speaker.specs.JointLaws.{CanArrive, TakesFront, TakesNone}
+use Rattle.fs_speaker.specs.Laws.{AreSendable, ComesBack, IsSent}
+use Rattle.fs_speaker.specs.Sending.{is_short, update_sent}
+use Rattle.fs_speaker.specs.Transition.{terms_of}
+use Rattle.fs_speaker.specs.World.{run}
+use Rattle.fs_speaker.specs.declared.Sending.{Sending}
+use Rattle.fs_speaker.specs.declared.Sent.{Sent}
+use Rattle.fs_speaker.proofs.Returning.{comes_back}
+use Rattle.fs_peering.specs.Laws.{AreRead, SendsFront}
+
+both_true : (a b : Bool) → (a && b) ≡ true → (a ≡ true) × (b ≡ true)
+both_true true true e = (refl, refl)
+both_true true false e = absurd cc
+both_true false b e = absurd cc
+
+each_true : (test : Sent → Bool) (rules : List Sent) → list_all test rules ≡ true → AllByRecursion (λ sent. test sent ≡ true) rules
+each_true test [] e = tt
+each_true test (sent ∷ rules) e = let b = both_true (test sent) (list_all test rules) e in (b.0, each_true test rules b.1)
+
+few : (n : ℕ) → nat_le n 255 ≡ true → n ≤ 255
+few n e = grind (arith, nat_tests, e)
+
+module _ (config : Config) (peer : Peer) (sending : Sending) (read : AreRead config peer sending)
+    (can : ((nat_le (length sending.as_path) 255 && list_all (λ (asn : ℕ). nat_lt 0 asn) sending.as_path) && list_all (is_short (terms_of config peer true) sending.as_path) sending.rules) ≡ true) where
+  abbrev test : Sent → Bool
+  test = is_short (terms_of config peer true) sending.as_path
+
+  arrives : 0 < sending.id → CanArrive config peer sending
+  arrives named =
+      let parts = both_true (nat_le (length sending.as_path) 255 && list_all (λ (asn : ℕ). nat_lt 0 asn) sending.as_path) (list_all test sending.rules) can in
+      let path = both_true (nat_le (length sending.as_path) 255) (list_all (λ (asn : ℕ). nat_lt 0 asn) sending.as_path) parts.0 in
+      let numbers : AreSendable sending.as_path = record { few = few (length sending.as_path) path.0; each = read.path } in
+      record {
+        local_as = read.local_as;
+        some_as = read.some_as;
+        local_id = read.local_id;
+        some_id = read.some_id;
+        hold_time = read.hold_time;
+        not_one = read.not_one;
+        not_two = read.not_two;
+        peer_as = read.peer_as;
+        some_peer = read.some_peer;
+        id = read.id;
+        named = named;
+        read =
+            each_both IsSent (λ (sent : Sent). test sent ≡ true) (ComesBack config peer sending)
+            (λ sent is short. comes_back config peer sending numbers sent is short) sending.rules read.rules (each_true test sending.rules parts.1);
+      }
+
+pub sends_front : TakesFront → TakesNone → SendsFront
+sends_front front none config peer sending events read can = by sending.id refl
+  where
+    by : (id : ℕ) → sending.id ≡ id → (n : ℕ) × ((run config peer sending events).taken ≡ take n (map (update_sent config peer sending) sending.rules))
+    by zero e = (
+      0,
+      (none config peer sending events (record {
+        peer_as = read.peer_as;
+        some_peer = read.some_peer;
+        hold_time = read.hold_time;
+        not_one = read.not_one;
+        not_two = read.not_two;
+        unnamed = e;
+      })).0,
+    )
+    by (suc n) e = front config peer sending events (arrives config peer sending read can (omega (arith, e)))

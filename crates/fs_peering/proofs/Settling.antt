@@ -1,0 +1,83 @@
+-- An end that is settled stays so.
+use Rattle.std.proofs.Common.{◌≡◌, ◌||◌, ℕ, ◌+◌, ◌-◌, ◌≤◌, List, ◌++◌, length, take, drop, length-drop, Bool, true, false, Option, Some, None, Result, Ok, Err, IfSome, refl, ap, sym, ◌∙◌, arith}
+use Rattle.std.specs.Option.{is_some}
+use Rattle.std.proofs.lemmas.List.{take_rest}
+use Rattle.fs_message.specs.Deframer.{pending}
+use Rattle.fs_speaker.specs.Announcer.{Announcing, FeedsEnd, StaysEnded, TicksEnd, is_established, machine_in, with_line}
+use Rattle.fs_speaker.specs.Line.{Advanced, Lined, Step, closed_after, moved, state_in, step_by, stops, takes, waits}
+use Rattle.fs_speaker.specs.Sending.{needs_of}
+use Rattle.fs_speaker.specs.declared.Closed.{Closed}
+use Rattle.fs_speaker.specs.declared.State.TheVariants.{Closed as IsClosed}
+use Rattle.fs_session.specs.declared.transition.Phase.{Phase}
+use Rattle.fs_peering.specs.Sender.{KeepsSettled}
+use Rattle.fs_peering.specs.Teller.{is_settled}
+use Rattle.fs_peering.proofs.Quieting.{step_goes, unawaited}
+
+-- one that has closed is settled
+shut_settled : (line : Lined) (why : Closed) → line.closed ≡ Some why → is_settled line ≡ true
+shut_settled line why e = ap (λ (c : Option Closed). is_some c || is_established (elim c [ Some w ↦ IsClosed | None ↦ line.phase.state ])) e
+
+pub open_settled : (line : Lined) → line.closed ≡ None → is_settled line ≡ is_established line.phase.state
+open_settled line e = ap (λ (c : Option Closed). is_some c || is_established (elim c [ Some w ↦ IsClosed | None ↦ line.phase.state ])) e
+
+no_call : {A : Type 0} (why : Closed) (a : A) (result : Result A Closed) → result ≡ Ok a → result ≡ Err why → ⊥
+no_call why a result e f = absurd cc
+
+-- of an end that a call leaves open
+pub alive_before : {A : Type 0} (old new : Announcing) (result : Result A Closed) (a : A) (out out' : List ℕ) → result ≡ Ok a → StaysEnded old new result out out' → old.line.closed ≡ None
+alive_before old new result a out out' e stays = by old.line.closed refl stays
+  where
+    by : (c : Option Closed) → old.line.closed ≡ c → IfSome c (λ why. (result ≡ Err why) × (new ≡ old) × (out' ≡ out)) → old.line.closed ≡ None
+    by None h k = h
+    by (Some why) h k = absurd (no_call why a result e k.0)
+
+pub fed_settled : (old new : Announcing) (moment : ℕ) (piece out out' : List ℕ) (result : Result ℕ Closed) → new ≡ with_line old new.line → StaysEnded old new result out out'
+    → new.line.closed ≡ closed_after result → FeedsEnd moment old new piece out out' result → KeepsSettled old new
+fed_settled old new moment piece out out' result same stays shut feeds = (same, λ h. by result refl h)
+  where
+    by : (r : Result ℕ Closed) → result ≡ r → is_settled old.line ≡ true → is_settled new.line ≡ true
+    by (Err why) e h = shut_settled new.line why (shut ∙ ap closed_after e)
+    by (Ok count) e h =
+        let alive = alive_before old new result count out out' e stays in
+        let up : is_established old.line.phase.state ≡ true = sym (open_settled old.line alive) ∙ h in
+        let fed = rw e at feeds alive in
+        open_settled new.line (shut ∙ ap closed_after e)
+        ∙ at (step_by (machine_in old) old.line.phase (pending old.line.framing ++ piece)) refl fed.0 up
+      where
+        at : (step : Step) → step_by (machine_in old) old.line.phase (pending old.line.framing ++ piece) ≡ step → Advanced step (moved moment old.line) new.line piece count None
+            → is_established old.line.phase.state ≡ true → is_established new.line.phase.state ≡ true
+        at waits k did up = ap (λ (p : Phase). is_established p.state) did.2 ∙ up
+        at (takes next update behind) k did up =
+            ap (λ (p : Phase). is_established p.state) did.3
+            ∙ (step_goes old.config (needs_of old.sending.rules) old.line.phase next (pending old.line.framing ++ piece) behind update (unawaited old.line.phase.state up) k).up up
+        at (stops why) k did up = absurd did
+
+pub woke_settled : (old new : Announcing) (moment : ℕ) (out out' : List ℕ) (result : Result (Unit {0}) Closed) → new ≡ with_line old new.line → StaysEnded old new result out out'
+    → new.line.closed ≡ closed_after result → TicksEnd moment old new out out' result → KeepsSettled old new
+woke_settled old new moment out out' result same stays shut ticks_so = (same, λ h. by result refl h)
+  where
+    by : (r : Result (Unit {0}) Closed) → result ≡ r → is_settled old.line ≡ true → is_settled new.line ≡ true
+    by (Err why) e h = shut_settled new.line why (shut ∙ ap closed_after e)
+    by (Ok u) e h =
+        let alive = alive_before old new result u out out' e stays in
+        open_settled new.line (shut ∙ ap closed_after e) ∙ ap (λ (p : Phase). is_established p.state) (ticks_so alive).1.1 ∙ sym (open_settled old.line alive) ∙ h
+
+pub settled_then : (a b c : Announcing) → KeepsSettled a b → KeepsSettled b c → KeepsSettled a c
+settled_then a b c f l = (l.0 ∙ ap (λ (n : Announcing). with_line n c.line) f.0, λ h. l.1 (f.1 h))
+
+pub settled_same : (a : Announcing) → KeepsSettled a a
+settled_same a = (refl, λ h. h)
+
+-- an open one that is settled is established
+pub settled_up : (line : Lined) → line.closed ≡ None → is_settled line ≡ true → is_established (state_in line) ≡ true
+settled_up line e h = sym (ap (λ (c : Option Closed). is_some c || is_established (state_in line)) e) ∙ h
+
+pub counts_bound : (was : Bool) (needed needed' count total : ℕ) (rest : List ℕ) → count ≤ length rest → (was ≡ false → needed' ≡ needed + count) → (was ≡ true → needed' ≡ needed)
+    → needed + length rest ≤ total → needed' + length (take (length rest - count) (drop count rest)) ≤ total
+counts_bound was needed needed' count total rest few added kept bound =
+    let left : length (take (length rest - count) (drop count rest)) ≡ length rest - count = ap length (take_rest rest count) ∙ length-drop count rest in
+    by was refl left
+  where
+    by : (b : Bool) → was ≡ b → length (take (length rest - count) (drop count rest)) ≡ length rest - count → needed' + length (take (length rest - count) (drop count rest)) ≤ total
+    by false h left = let more = added h in omega (arith, more, left, few, bound)
+    by true h left = let same = kept h in omega (arith, same, left, few, bound)

@@ -1,0 +1,29 @@
+use Rattle.std.proofs.Common.{◌≡◌, ◌≤◌, ◌<◌, ◌+◌, ◌-◌, false}
+use Rattle.fs_peering.proofs.Exchanging.{Talking}
+use Rattle.fs_peering.proofs.joined.exchange.Given as goal
+
+abbrev pub invariant-loop-flow : goal.invariant-loop-flow
+invariant-loop-flow g l = record {
+  later : g.W.Wire.faults l.fn.wire ≤ g.W.Wire.faults l.wire;
+  within_first : l.flow.first_read < l.fn.limit;
+  within_second : g.A.Speaker.count l.second < l.fn.limit;
+  open_first : g.R.Speaker.over l.first ≡ false;
+  open_second : g.A.Speaker.over l.second ≡ false;
+  counted : g.A.Speaker.ready l.second ≡ false → g.A.Speaker.count l.second ≡ l.flow.second_read;
+  own_first : g.R.Speaker.own l.first ≡ g.R.Speaker.own l.fn.first;
+  own_second : g.A.Speaker.own l.second ≡ g.A.Speaker.own l.fn.second;
+  talking :
+      Talking
+      (g.R.Speaker.stands l.fn.first)
+      (g.R.Speaker.stands l.first)
+      (g.A.Speaker.stands l.fn.second)
+      (g.A.Speaker.stands l.second)
+      l.flow
+      (g.W.Wire.tells l.fn.wire)
+      (g.W.Wire.tells l.wire)
+      (g.C.Clock.answers l.fn.clock)
+      (g.C.Clock.answers l.clock);
+}
+
+abbrev pub decreases-loop-flow : goal.decreases-loop-flow
+decreases-loop-flow g l = (l.fn.limit - l.flow.first_read) + (l.fn.limit - l.flow.second_read) + g.A.Speaker.ahead l.second

@@ -1,0 +1,5 @@
+use Rattle.fs_peering.proofs.Lasting.{expires_late}
+use Rattle.fs_peering.proofs.laws.expires_late.Goals as goal
+
+pub returns : goal.returns
+returns c = expires_late

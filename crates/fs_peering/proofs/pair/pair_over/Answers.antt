@@ -1,0 +1,22 @@
+use Rattle.std.proofs.Common.{◌≡◌, ℕ, ap, subst}
+use Rattle.fs_desk.specs.Desk.{standing_at_desk}
+use Rattle.fs_peering.specs.Pair.{EndsTalk}
+use Rattle.fs_peering.specs.declared.hearer.Hearer.{Hearer}
+use Rattle.fs_peering.specs.declared.sender.Sender.{Sender}
+use Rattle.fs_peering.proofs.Paired.{pairs_as, speaks_start}
+use Rattle.fs_peering.proofs.pair.pair_over.Goals as goal
+
+pub returns-clause-pairs : goal.returns-clause-pairs
+returns-clause-pairs g c config whose sending d w e s =
+    let first : Hearer = c.args.hearer.now in
+    let last : Hearer = c.exchange.new.first in
+    let before : Sender = c.args.sender.now in
+    let after : Sender = c.exchange.new.second in
+    let kept = c.in_ok-talk.ensures.own in
+    let same : last.peer ≡ first.peer = ap (λ (h : Hearer). h.peer) kept.0 in
+    pairs_as first.desk last.desk first.peer last.peer first.count last.count c.args.limit same (ap (λ (h : Hearer). h.desk) kept.0) c.requires.fresh
+    before.announcer after.announcer before.started after.started before.count after.count (ap (λ (s : Sender). s.announcer) kept.1) config whose sending d w
+    (speaks_start before.announcer before.started before.count config whose sending e s c.requires.unheard) e
+    (g.W.Wire.tells c.args.wire.now) (g.W.Wire.tells c.exchange.new.wire) (g.C.Clock.answers c.args.clock.now) (g.C.Clock.answers c.exchange.new.clock)
+    c.in_ok-talk.talk c.ending_of.result c.in_ok-talk.ensures.talked
+    (subst (λ (n : ℕ). EndsTalk c.in_ok-talk.talk (standing_at_desk last.desk n) after.announcer.line c.ending_of.result) same c.ending_of.ensures)

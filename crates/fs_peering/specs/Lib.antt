@@ -1,0 +1,14 @@
+pub mod Round
+pub mod Listening
+pub mod Flow
+pub mod Joined
+pub mod Opening
+pub mod HoldTime
+pub mod Course
+pub mod Teller
+pub mod Tell
+pub mod Hearer
+pub mod Listen
+pub mod Sender
+pub mod Pair
+pub mod Laws

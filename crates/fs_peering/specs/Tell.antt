@@ -1,0 +1,88 @@
+-- What an announcing end says over a wire, and how that ends.
+use Rattle.std.specs.Prelude.{◌≡◌, ℕ, ◌+◌, ◌≤◌, ◌<◌, List, [], ◌∷◌, ◌++◌, length, flat_map, true, false, Option, Some}
+use Rattle.fs_base.specs.declared.config.Config.{Config}
+use Rattle.fs_base.specs.declared.config.Peer.{Peer}
+use Rattle.fs_base.specs.Sink.{Grew}
+use Rattle.fs_base.specs.Wire.{Told, WireEnds}
+use Rattle.fs_speaker.specs.declared.Sending.{Sending}
+use Rattle.fs_speaker.specs.Announcer.{Announcing, announcing, is_established, open_sent}
+use Rattle.fs_speaker.specs.Line.{fresh}
+use Rattle.fs_speaker.specs.Sending.{needs_of, text_sent}
+use Rattle.fs_speaker.specs.Session.{at_start, still}
+use Rattle.fs_speaker.specs.Side.{announcer}
+use Rattle.fs_speaker.specs.Transition.{Machine}
+use Rattle.fs_session.specs.declared.transition.Phase.{Phase}
+use Rattle.fs_peering.specs.Round.{Pieces, moments_in, octets_in}
+use Rattle.fs_peering.specs.declared.tell.Ending.{Ending}
+use Rattle.fs_peering.specs.declared.tell.Ending.TheVariants.{Done, Closed as HasClosed, Ended, AtLimit}
+use Rattle.fs_peering.specs.Course.{course}
+use Rattle.fs_peering.specs.Opening.{opened_by}
+use Rattle.fs_peering.specs.Teller.{ClosesSo, IsListening}
+
+-- What an announcing end says before its rules that hears these pieces: its OPEN, what is answered to them, and what the
+-- clock appends.
+abbrev pub answers_to : Config → Peer → Sending → Pieces → List ℕ
+answers_to config peer sending heard =
+    open_sent config peer sending ++ (course (announcer config (needs_of sending.rules)) heard).text
+
+-- The octets that the end heard establish its session before the limit, and it said that, and its rules.
+pub record SaidAll (config : Config) (peer : Peer) (sending : Sending) (limit : ℕ) (heard : Pieces) (said : List ℕ)
+    : Type 0 where
+  pub phase : Phase
+  pub behind : List ℕ
+  pub found : opened_by (announcer config (needs_of sending.rules)) at_start (octets_in heard) ≡ (still phase, behind)
+  pub up : is_established phase.state ≡ true
+  pub within : length (octets_in heard) < limit + length behind
+  pub said_is : said
+      ≡ answers_to config peer sending heard ++ flat_map (text_sent config peer phase.four sending) sending.rules
+
+-- As many octets as the limit came, and they close nowhere. None of those behind the message that establishes counts.
+pub record MetLimit (machine : Machine) (limit : ℕ) (octets : List ℕ) : Type 0 where
+  pub phase : Phase
+  pub behind : List ℕ
+  pub found : opened_by machine at_start octets ≡ (still phase, behind)
+  pub met : limit + length behind ≤ length octets
+
+-- They end before the session is established.
+pub record EndsBefore (machine : Machine) (limit : ℕ) (octets left : List ℕ) : Type 0 where
+  pub phase : Phase
+  pub found : opened_by machine at_start octets ≡ (still phase, [])
+  pub down : is_established phase.state ≡ false
+  pub within : length octets < limit
+  pub none : left ≡ []
+
+abbrev pub TellsSo : Ending → Config → Peer → Sending → (limit : ℕ) → Pieces → (said left : List ℕ) → Type 0
+TellsSo Done config peer sending limit heard said left = SaidAll config peer sending limit heard said
+TellsSo (HasClosed why) config peer sending limit heard said left =
+    ((course (announcer config (needs_of sending.rules)) heard).point.closed ≡ Some why)
+    × (ClosesSo (announcer config (needs_of sending.rules)) (moments_in heard) (octets_in heard) why
+    × (said ≡ answers_to config peer sending heard))
+TellsSo AtLimit config peer sending limit heard said left =
+    MetLimit (announcer config (needs_of sending.rules)) limit (octets_in heard)
+    × (said ≡ answers_to config peer sending heard)
+TellsSo Ended config peer sending limit heard said left =
+    EndsBefore (announcer config (needs_of sending.rules)) limit (octets_in heard) left
+    × (said ≡ answers_to config peer sending heard)
+
+-- The end of the wire gave these pieces of what it had left, each before the clock answered its moment, and this was
+-- written through it. Behind all pieces but the last the end was open and not established.
+pub record Tells (ending : Ending) (config : Config) (peer : Peer) (sending : Sending) (limit : ℕ) (given : List ℕ)
+    (before now : WireEnds) : Type 0 where
+  pub heard : Pieces
+  pub said : List ℕ
+  pub read : before.second.left ≡ octets_in heard ++ now.second.left
+  pub wrote : now.second.written ≡ before.second.written ++ said
+  pub asked : moments_in heard ≡ given
+  pub listened : (earlier : Pieces) (last : ℕ × List ℕ) → heard ≡ earlier ++ last ∷ []
+      → IsListening (course (announcer config (needs_of sending.rules)) earlier).point
+  pub ends : TellsSo ending config peer sending limit heard said now.second.left
+
+pub record TellsOver (ending : Ending) (config : Config) (peer : Peer) (sending : Sending) (limit : ℕ)
+    (before now : Option WireEnds) (answers answers' : Option (List ℕ)) : Type 0 where
+  pub given : List ℕ
+  pub grew : Grew answers answers' given
+  pub told : Told (Tells ending config peer sending limit given) before now
+
+-- an end before its first octet
+abbrev pub begins_with : Config → Peer → Sending → Announcing
+begins_with config peer sending = announcing config peer sending fresh false 0

@@ -1,0 +1,33 @@
+//! The ends of a session over a wire: the loop that carries what an end hears and says, the end that announces rules, the
+//! end that receives them, and both joined.
+#![tactic(auto)]
+
+mod fault;
+mod hearer;
+mod joined;
+mod laws;
+mod listen;
+mod listening;
+mod pair;
+mod room;
+mod round;
+mod sender;
+mod speaker;
+mod steps;
+mod tell;
+mod teller;
+
+pub use fault::TalkFault;
+pub use hearer::Hearer;
+pub use joined::{Flow, Talk, exchange};
+pub use laws::{closes_unnamed, expires_late, never_expires, opens_the_session, sends_a_front};
+pub use listen::listen_over;
+pub use listening::{Heard, hear_out};
+pub use pair::pair_over;
+pub use room::Room;
+pub use round::say_all;
+pub use sender::Sender;
+pub use speaker::Speaker;
+pub use steps::{closes, is_established, is_settled, say, start, sum};
+pub use tell::{Ending, announce_over};
+pub use teller::Teller;

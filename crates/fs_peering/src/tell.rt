@@ -1,0 +1,72 @@
+//! An announcing end over a wire.
+
+ghost use Rattle.std.specs.Prelude.{◌≡◌, ◌≤◌, false, IfOk};
+ghost use Rattle.std.specs.Result.{IsErrOf};
+ghost use Rattle.fs_base.specs.Outside.{Rose};
+ghost use Rattle.fs_base.specs.declared.config.Config.{Config};
+ghost use Rattle.fs_base.specs.declared.config.Peer.{Peer};
+ghost use Rattle.fs_speaker.specs.declared.Sending.{Sending};
+ghost use Rattle.fs_peering.specs.Tell.{TellsOver, begins_with};
+ghost use Rattle.fs_peering.specs.Teller.{is_settled};
+
+use crate::fault::TalkFault;
+use crate::listening::{Heard, hear_out};
+use crate::room::Room;
+use crate::round::say_all;
+use crate::speaker::Speaker;
+use crate::teller::Teller;
+use fs_base::{Clock, Wire};
+use fs_speaker::Closed;
+
+/// How a session over a wire ended.
+#[derive(Clone, Copy, Debug, PartialEq, Eq, Drop)]
+pub enum Ending {
+    /// All was said or heard.
+    Done,
+    /// An end has closed.
+    Closed(Closed),
+    /// The stream ended before the session was established.
+    Ended,
+    /// As many octets as the limit came.
+    AtLimit,
+}
+
+/// Announces through end 1 of the wire, which is open: the OPEN, then what answers the octets that come, up to the
+/// message that establishes the session, and then the rules.
+///
+/// # Errors
+///
+/// `Failed` where the wire failed; `Memory` where the machine refused memory.
+pub fn announce_over<W: Wire, C: Clock>(
+    wire: &mut W,
+    clock: &mut C,
+    teller: &mut Teller<'_>,
+    limit: u64,
+    room: &mut Room,
+) -> Result<Ending, TalkFault>
+    requires some { 1 ≤ limit }
+    requires fresh { teller.old.count ≡ 0 }
+    requires open { is_settled teller.old.announcer.line ≡ false }
+    ensures later { W.faults wire.old ≤ W.faults wire.new }
+    ensures failed { IsErrOf result TalkFault.Failed → Rose (W.faults wire.old) (W.faults wire.new) }
+    ensures tells { IfOk result (λ ending. (config : Config) (peer : Peer) (sending : Sending)
+        → teller.old.announcer ≡ begins_with config peer sending → teller.old.started ≡ false
+        → TellsOver ending config peer sending limit (W.tells wire.old) (W.tells wire.new)
+        (C.answers clock.old) (C.answers clock.new)) }
+{
+    say_all(wire, 1, teller, room)?;
+    match hear_out(wire, clock, 1, teller, limit, room)? {
+        Heard::Over => {
+            if let Some(why) = teller.closed() {
+                return Ok(Ending::Closed(why));
+            }
+            if limit <= teller.count() {
+                return Ok(Ending::AtLimit);
+            }
+            say_all(wire, 1, teller, room)?;
+            Ok(Ending::Done)
+        }
+        Heard::AtLimit => Ok(Ending::AtLimit),
+        Heard::All => Ok(Ending::Ended),
+    }
+}

@@ -1,5 +1,0 @@
-use Rattle.fs_receive.proofs.Expiring.{bounded_late, opened_late, session_late}
-use Rattle.fs_receive.proofs.laws.never_expires.Goals as goal
-
-pub returns : goal.returns
-returns c = record { by_session = session_late; by_opening = opened_late; bounded = bounded_late }

@@ -1,5 +1,0 @@
-pub mod Hearer
-pub mod Listen
-pub mod Sender
-pub mod Pair
-pub mod Laws

@@ -1,4 +1,0 @@
-pub mod Parts
-pub mod Records
-pub mod Reading
-pub mod Opening

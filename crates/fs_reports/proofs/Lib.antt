@@ -1,0 +1,3 @@
+pub mod Reported
+mod Numbers
+mod PeerLines

@@ -1,0 +1,10 @@
+use Rattle.std.proofs.Common.{ℕ, List, ◌++◌, ap, ◌∙◌}
+use Rattle.fs_reports.specs.Listing.{desk_text}
+use Rattle.fs_reports.proofs.PeerLines.{desk_lists}
+use Rattle.fs_reports.proofs.listing.desk_text.Goals as goal
+
+pub returns : goal.returns
+returns c = λ config items played.
+    c.in_ok-append_desk.ensures
+    ∙ ap (λ (front : List ℕ). front ++ desk_text c.args.desk.now) c.new-text.ensures.items
+    ∙ desk_lists config items c.args.desk.now played

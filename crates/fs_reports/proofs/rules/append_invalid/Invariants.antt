@@ -1,0 +1,9 @@
+use Rattle.std.proofs.Common.{◌≡◌, ◌++◌, map, drop}
+use Rattle.fs_rules.specs.Lent.{shown_held}
+use Rattle.fs_reports.specs.Rules.{invalid_lines}
+use Rattle.fs_reports.proofs.rules.append_invalid.Given as goal
+
+abbrev pub invariant-loop-route : goal.invariant-loop-route
+invariant-loop-route l =
+    l.text.items ++ invalid_lines l.family (map shown_held (drop l.route-index l.routes))
+    ≡ l.fn.text.items ++ invalid_lines l.family (map shown_held l.routes)

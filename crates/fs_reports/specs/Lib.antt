@@ -1,0 +1,8 @@
+pub mod Report
+pub mod Command
+pub mod Text
+pub mod Listing
+pub mod Peers
+pub mod Rules
+pub mod TapeFault
+pub mod Worded

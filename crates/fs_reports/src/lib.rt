@@ -1,0 +1,20 @@
+//! The texts that commands write: what is said of NLRI in hexadecimal and of a rule in words, the listing of the peers and
+//! the rules, the line of a tape's fault, and the admitted rules in words.
+#![tactic(auto)]
+
+mod command;
+mod listing;
+mod peers;
+mod report;
+mod rules;
+mod tape_fault;
+mod text;
+mod worded;
+
+pub use command::{CheckFault, check};
+pub use listing::desk_text;
+pub use peers::append_codes;
+pub use report::{Report, report_on};
+pub use tape_fault::tape_fault_text;
+pub use text::{check_text, report_on_text};
+pub use worded::desk_words;

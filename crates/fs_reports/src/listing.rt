@@ -1,0 +1,37 @@
+//! The listing of the peers and the rules, as a desk stands.
+
+ghost use Rattle.std.specs.Prelude.{◌≡◌, ◌++◌, IfOk, List, OnOk};
+ghost use Rattle.fs_base.specs.declared.config.Config.{Config};
+ghost use Rattle.fs_tape.specs.Tape.{Item};
+ghost use Rattle.fs_desk.specs.Desk.{Played};
+ghost use Rattle.fs_reports.specs.Listing.{desk_text, listing};
+
+use crate::peers::append_peers;
+use crate::rules::append_rules;
+use fs_base::{Family, Memory};
+use fs_desk::Desk;
+use std::alloc::Global;
+
+/// The listing: a line for each configured peer, by number, then for IPv4 and for IPv6 the admitted rules in order and
+/// the held routes that aren't valid.
+///
+/// # Errors
+///
+/// `Memory` where the machine refused memory.
+pub fn desk_text(alloc: Global, desk: &Desk<'_>) -> Result<Vec<u8>, Memory>
+    ensures { IfOk result (λ text. (config : Config) (items : List Item) → Played config items desk.now
+        → text.items ≡ listing config items desk.now.held) }
+{
+    let mut text = Vec::new(alloc);
+    append_desk(alloc, desk, &mut text)?;
+    Ok(text)
+}
+
+/// Appends the listing.
+fn append_desk(alloc: Global, desk: &Desk<'_>, text: &mut Vec<u8>) -> Result<(), Memory>
+    ensures { OnOk result (text.new.items ≡ text.old.items ++ desk_text desk.now) }
+{
+    append_peers(alloc, desk, text)?;
+    append_rules(alloc, Family::V4, desk.table(), text)?;
+    append_rules(alloc, Family::V6, desk.table(), text)
+}

@@ -1,0 +1,99 @@
+//! The lines of peers.
+
+ghost use Rattle.std.specs.Prelude.{◌≡◌, ◌++◌, IfOk, OnOk};
+ghost use Rattle.fs_desk.specs.Desk.{standing_at_desk};
+ghost use Rattle.fs_reports.specs.Peers.{codes_text, desk_peers, numbers_of, standing_text, state_name, peer_line, peers_text};
+
+use fs_base::{Memory, Peer};
+use fs_desk::Desk;
+use fs_line::{append, append_decimal};
+use fs_speaker::{Closed, Standing, State};
+use std::alloc::Global;
+
+/// Appends the lines of the configured peers, by their numbers.
+pub fn append_peers(alloc: Global, desk: &Desk<'_>, text: &mut Vec<u8>) -> Result<(), Memory>
+    ensures { OnOk result (text.new.items ≡ text.old.items ++ desk_peers desk.now) }
+{
+    let numbers = numbers_of(alloc, desk.config().peers.as_slice())?;
+    append_each(desk, &numbers, text)
+}
+
+/// Appends the line of each of these peers.
+fn append_each(desk: &Desk<'_>, numbers: &[u16], text: &mut Vec<u8>) -> Result<(), Memory>
+    ensures { OnOk result (text.new.items ≡ text.old.items ++ peers_text numbers.now (standing_at_desk desk.now)) }
+{
+    for number in numbers {
+        append_peer(*number, desk.state(*number), text)?;
+    }
+    Ok(())
+}
+
+/// The numbers of the peers, each once, by size.
+fn numbers_of(alloc: Global, peers: &[Peer]) -> Result<Vec<u16>, Memory>
+    ensures { IfOk result (λ numbers. numbers.items ≡ numbers_of peers.now) }
+{
+    let mut numbers = Vec::with_capacity(alloc, peers.len())?;
+    for peer in peers {
+        numbers.push(peer.number)?;
+    }
+    numbers.sort_unstable();
+    numbers.dedup();
+    Ok(numbers)
+}
+
+/// Appends the line of a peer: its number and how it stands with it.
+fn append_peer(number: u16, standing: Standing, text: &mut Vec<u8>) -> Result<(), Memory>
+    ensures { OnOk result (text.new.items ≡ text.old.items ++ peer_line number standing) }
+{
+    append(b"peer ", text)?;
+    append_decimal(number, text)?;
+    append(b" ", text)?;
+    append_standing(standing, text)?;
+    append(b"\n", text)
+}
+
+/// Appends how it stands with a peer.
+fn append_standing(standing: Standing, text: &mut Vec<u8>) -> Result<(), Memory>
+    ensures { OnOk result (text.new.items ≡ text.old.items ++ standing_text standing) }
+{
+    match standing {
+        Standing::Down => append(b"down", text),
+        Standing::Live(state) => append(state_name(state), text),
+        Standing::Ended(Closed::Fault { code, subcode }) => append_codes(
+            b"closed ", code, subcode, text,
+        ),
+        Standing::Ended(Closed::Notified { code, subcode }) => append_codes(
+            b"notified ",
+            code,
+            subcode,
+            text,
+        ),
+        Standing::Ended(Closed::NoFamily | Closed::Memory) => append(b"closed", text),
+    }
+}
+
+/// Appends a word and the two codes of a NOTIFICATION (RFC 4271 section 4.5).
+///
+/// # Errors
+///
+/// `Memory` where the machine refused memory.
+pub fn append_codes(word: &[u8], code: u8, subcode: u8, text: &mut Vec<u8>) -> Result<(), Memory>
+    ensures { OnOk result (text.new.items ≡ text.old.items ++ codes_text word.now code subcode) }
+{
+    append(word, text)?;
+    append_decimal(code, text)?;
+    append(b"/", text)?;
+    append_decimal(subcode, text)
+}
+
+/// The name of an open session's state.
+fn state_name(state: State) -> &'static [u8]
+    ensures { result.now ≡ state_name state }
+{
+    match state {
+        State::WaitOpen => b"wait-open",
+        State::WaitKeep => b"wait-keepalive",
+        State::Established => b"established",
+        State::Closed => b"closed",
+    }
+}

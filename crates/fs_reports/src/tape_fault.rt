@@ -1,0 +1,47 @@
+//! The line of a tape's fault.
+
+ghost use Rattle.std.specs.Prelude.{◌≡◌, ◌++◌, IfOk, OnOk};
+ghost use Rattle.fs_reports.specs.TapeFault.{tape_reason_name, tape_fault_line};
+
+use fs_base::Memory;
+use fs_line::{append, append_decimal};
+use fs_tape::TapeReason;
+use std::alloc::Global;
+
+/// The line of a tape's fault: its name and its place, the octet at which the tape is wrong.
+///
+/// # Errors
+///
+/// `Memory` where the machine refused memory.
+pub fn tape_fault_text(alloc: Global, reason: TapeReason, place: u64) -> Result<Vec<u8>, Memory>
+    ensures { IfOk result (λ text. text.items ≡ tape_fault_line reason place) }
+{
+    let mut text = Vec::new(alloc);
+    append_line(reason, place, &mut text)?;
+    Ok(text)
+}
+
+/// Appends the line.
+fn append_line(reason: TapeReason, place: u64, text: &mut Vec<u8>) -> Result<(), Memory>
+    ensures { OnOk result (text.new.items ≡ text.old.items ++ tape_fault_line reason place) }
+{
+    append(b"tape ", text)?;
+    append(reason_name(reason), text)?;
+    append(b" at ", text)?;
+    append_decimal(place, text)?;
+    append(b"\n", text)
+}
+
+/// The name of a tape's fault.
+fn reason_name(reason: TapeReason) -> &'static [u8]
+    ensures { result.now ≡ tape_reason_name reason }
+{
+    match reason {
+        TapeReason::Magic => b"Magic",
+        TapeReason::Kind => b"Kind",
+        TapeReason::Peer => b"Peer",
+        TapeReason::Length => b"Length",
+        TapeReason::Cut => b"Cut",
+        TapeReason::Moment => b"Moment",
+    }
+}

@@ -1,0 +1,65 @@
+//! The admitted rules in words, as a desk stands.
+
+ghost use Rattle.std.specs.Prelude.{◌≡◌, ◌++◌, IfOk, List, OnOk, map};
+ghost use Rattle.std.specs.String.{string_bytes};
+ghost use Rattle.fs_base.specs.declared.config.Config.{Config};
+ghost use Rattle.fs_tape.specs.Tape.{Item};
+ghost use Rattle.fs_desk.specs.Desk.{Played};
+ghost use Rattle.fs_rules.specs.Lent.{shown_lent};
+ghost use Rattle.fs_reports.specs.Worded.{family_words, rule_line, rule_lines, words_of_held, worded};
+
+use fs_base::{Family, Memory};
+use fs_desk::Desk;
+use fs_rules::{LentRule, Table};
+use fs_text::print;
+use std::alloc::Global;
+
+/// A line for each admitted rule, in order, first those of IPv4 and then those of IPv6: its text with its actions.
+///
+/// # Errors
+///
+/// `Memory` where the machine refused memory.
+pub fn desk_words(alloc: Global, desk: &Desk<'_>) -> Result<Vec<u8>, Memory>
+    ensures { IfOk result (λ text. (config : Config) (items : List Item) → Played config items desk.now
+        → text.items ≡ worded config items desk.now.held) }
+{
+    let mut text = String::new(alloc);
+    append_table(desk.table(), &mut text)?;
+    Ok(text.into_bytes())
+}
+
+/// Appends the lines of the admitted rules of both families.
+fn append_table(table: &Table<'_>, text: &mut String) -> Result<(), Memory>
+    ensures { OnOk result (string_bytes text.new ≡ string_bytes text.old ++ words_of_held table.now) }
+{
+    append_family(Family::V4, table, text)?;
+    append_family(Family::V6, table, text)
+}
+
+/// Appends the lines of a family's admitted rules.
+fn append_family(family: Family, table: &Table<'_>, text: &mut String) -> Result<(), Memory>
+    ensures { OnOk result (string_bytes text.new ≡ string_bytes text.old ++ family_words family table.now) }
+{
+    let rules = table.admitted(family)?;
+    append_rules(&rules, text)
+}
+
+/// Appends the lines of these rules.
+fn append_rules(rules: &[LentRule<'_>], text: &mut String) -> Result<(), Memory>
+    ensures { OnOk result (string_bytes text.new
+        ≡ string_bytes text.old ++ rule_lines (map shown_lent rules.now)) }
+{
+    for rule in rules {
+        append_rule(rule, text)?;
+    }
+    Ok(())
+}
+
+/// Appends the line of a rule.
+fn append_rule(rule: &LentRule<'_>, text: &mut String) -> Result<(), Memory>
+    ensures { OnOk result (string_bytes text.new ≡ string_bytes text.old ++ rule_line (shown_lent rule.now)) }
+{
+    print(rule.rule, rule.actions.actions(), text)?;
+    text.push_str("\n")?;
+    Ok(())
+}

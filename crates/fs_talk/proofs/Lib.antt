@@ -1,5 +1,0 @@
-pub mod Telling
-pub mod Composing
-pub mod Attending
-mod Speaking
-mod Exchanging

@@ -1,4 +1,0 @@
-pub mod Round
-pub mod Listening
-pub mod Flow
-pub mod Joined

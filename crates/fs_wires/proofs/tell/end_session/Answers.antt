@@ -1,5 +1,0 @@
-use Rattle.fs_stages.proofs.Texts.{said_whole}
-use Rattle.fs_wires.proofs.tell.end_session.Goals as goal
-
-pub returns-clause-told : goal.returns-clause-told
-returns-clause-told g c = said_whole 8 c.args.line.now _ _ _ c.in_ok-write_text.ensures.written
