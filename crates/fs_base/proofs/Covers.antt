@@ -1,5 +1,5 @@
 -- Which prefixes lie under which, and how the order tells it.
-use Rattle.std.proofs.Common.{ℕ, ◌≡◌, ◌+◌, ◌-◌, ◌^◌, ◌<◌, ◌≤◌, ◌⊎◌, inl, inr, refl, sym, ap, ◌∙◌, subst, arith, true, ◌&&◌, ◌==◌, nat_le, nat_cmp, is_le, pow_pos}
+use Rattle.std.proofs.Common.{ℕ, ◌≡◌, ◌+◌, ◌-◌, ◌^◌, ◌<◌, ◌≤◌, ◌⊎◌, inl, inr, refl, sym, ap, ◌∙◌, subst, arith, true, ◌&&◌, ◌==◌, nat_le, nat_cmp, is_le, pow_pos, true≢false}
 use Rattle.std.specs.Ordering.{ordering_then}
 use Rattle.std.proofs.lemmas.Bool.Decides.{nat_tests}
 use Rattle.std.proofs.lemmas.Bool.{cases_lt}
@@ -202,3 +202,13 @@ range_law p f q family bits length = same_tests (covers p q) (is_le (prefix_cmp 
 
   back : (is_le (prefix_cmp f q) && is_le (prefix_cmp q p)) ≡ true → covers p q ≡ true
   back h = between_covered p f q under (and_first (is_le (prefix_cmp f q)) (is_le (prefix_cmp q p)) h) (and_second (is_le (prefix_cmp f q)) (is_le (prefix_cmp q p)) h)
+
+pub same_family_of : (f g : Family) → (afi_of f == afi_of g) ≡ true → f ≡ g
+same_family_of V4 V4 h = refl
+same_family_of V4 V6 h = absurd (true≢false (sym h))
+same_family_of V6 V4 h = absurd (true≢false (sym h))
+same_family_of V6 V6 h = refl
+
+pub family_itself : (family : Family) → (afi_of family == afi_of family) ≡ true
+family_itself V4 = refl
+family_itself V6 = refl

@@ -6,6 +6,7 @@ use Rattle.std.proofs.lemmas.List.{drop-append-le, drop-drop, drop_all, length-d
 use Rattle.std.proofs.lemmas.Grind.{common_steps}
 use Rattle.fs_base.specs.declared.counted.Counted.{Counted}
 use Rattle.fs_base.specs.Draws.{Draws, Passed}
+use Rattle.fs_base.specs.Outside.{Rose}
 
 drop_join : (n : ℕ) (xs ys : List ℕ) → drop n (xs ++ ys) ≡ drop n xs ++ drop (n - length xs) ys
 drop_join n xs ys = by (cases_lt (length xs) n)
@@ -164,3 +165,6 @@ content_more all octets octets' back back' left left' piece is none none' takes 
     (sym (ap (λ (b : List ℕ). b ++ left) none) ∙ takes ∙ ap (λ (b : List ℕ). piece ++ (b ++ left')) none')
     ∙ sym (append_assoc octets piece left')
     ∙ ap (λ (front : List ℕ). front ++ left') (sym grown)
+
+pub rose_earlier : (old mid now : ℕ) → old ≤ mid → Rose mid now → Rose old now
+rose_earlier old mid now l r = omega (arith, l, r)

@@ -17,3 +17,6 @@ pub mod Lists
 pub mod Seeking
 pub mod Digits
 pub mod SamePrefix
+pub mod NumberTests
+pub mod Options
+pub mod Orderings

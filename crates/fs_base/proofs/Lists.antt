@@ -219,3 +219,18 @@ find_filter p q (x ∷ xs) = at (p x) (find_filter p q xs) where
 pub find_on : {X : Type 0} (p q : X → Bool) (xs : List X) → AllByRecursion (λ x. p x ≡ q x) xs → find p xs ≡ find q xs
 find_on p q [] h = refl
 find_on p q (x ∷ xs) h = let e : p x ≡ q x = h.0 in let k : find p xs ≡ find q xs = find_on p q xs h.1 in cc
+
+pub each_filtered : {X : Type 0} (P : X → Type 0) (p : X → Bool) (xs : List X) → AllByRecursion P xs → AllByRecursion P (filter p xs)
+each_filtered P p [] h = tt
+each_filtered P p (x ∷ xs) h = at (p x) (each_filtered P p xs h.1) where
+  at : (b : Bool) → AllByRecursion P (filter p xs) → AllByRecursion P (cond b (x ∷ filter p xs) (filter p xs))
+  at true ih = (h.0, ih)
+  at false ih = ih
+
+pub filter_filtered : {X : Type 0} (p q : X → Bool) → ((x : X) → p x ≡ true → q x ≡ true) → (xs : List X) → filter p (filter q xs) ≡ filter p xs
+filter_filtered p q h [] = refl
+filter_filtered {X} p q h (x ∷ xs) = at (q x) (p x) (h x) refl (filter_filtered p q h xs) where
+  at : (b c : Bool) → (c ≡ true → b ≡ true) → p x ≡ c → filter p (filter q xs) ≡ filter p xs → filter p (cond b (x ∷ filter q xs) (filter q xs)) ≡ cond c (x ∷ filter p xs) (filter p xs)
+  at true c g e ih = ap (λ d. cond d (x ∷ filter p (filter q xs)) (filter p (filter q xs))) e ∙ ap (λ ys. cond c (x ∷ ys) ys) ih
+  at false true g e ih = absurd (true≢false (sym (g refl)))
+  at false false g e ih = ih

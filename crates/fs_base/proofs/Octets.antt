@@ -3,6 +3,8 @@ use Rattle.std.proofs.Common.{◌≡◌, ℕ, ◌+◌, ◌<◌, ◌≤◌, List,
 use Rattle.std.proofs.lemmas.List.{take_at, drop_at, take-append-drop, take-take, get_or_past}
 use Rattle.std.proofs.lemmas.List.Elements.{All-from_get_or, All-append, All-take, All-drop}
 use Rattle.std.proofs.lemmas.Bool.{cases_lt}
+use Rattle.std.specs.List.{AllByRecursion, concat}
+use Rattle.std.proofs.lemmas.Grind.{common_steps}
 use Rattle.fs_base.specs.Language.{IsOctets}
 
 pub octets_from : (octets : List ℕ) → ((i : ℕ) → get_or octets i 0 < 256) → IsOctets octets
@@ -80,3 +82,14 @@ take-append-add {A} (x ∷ front) rest n =
 pub take_longer : (m n : ℕ) (octets : List ℕ) → m ≤ n → take n octets ≡ take m octets ++ drop m (take n octets)
 take_longer m n octets le =
     sym (subst (λ (front : List ℕ). front ++ drop m (take n octets) ≡ take n octets) (take-take m n octets le) (take-append-drop m (take n octets)))
+
+pub each_at : (P : List ℕ → Type 0) (done : List (List ℕ)) (x : List ℕ) (xs : List (List ℕ)) → AllByRecursion P (done ++ x ∷ xs) → P x
+each_at P [] x xs h = h.0
+each_at P (y ∷ ys) x xs h = each_at P ys x xs h.1
+
+pub octets_of_each : (actions : List (List ℕ)) → AllByRecursion IsOctets actions → IsOctets (concat actions)
+octets_of_each [] each = octets_nil
+octets_of_each (action ∷ actions) each = octets_append action (concat actions) each.0 (octets_of_each actions each.1)
+
+pub take_of_none : (n : ℕ) (octets : List ℕ) → octets ≡ [] → take n octets ≡ []
+take_of_none n octets none = grind (arith, common_steps)

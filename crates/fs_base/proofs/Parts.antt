@@ -5,13 +5,10 @@ use Rattle.std.proofs.lemmas.List.{drop-take, length-take}
 use Rattle.std.proofs.lemmas.Bool.Decides.{nat_tests}
 use Rattle.std.specs.List.{AllByRecursion}
 use Rattle.fs_base.specs.Parts.{with_part, parts_within, parts_of, parts_then, Shrinks, Stable, ReadsText, window, at_limit, to_come}
+use Rattle.fs_base.proofs.Options.{none_or_some}
 
 abbrev Reading : {A : Type 0} → (List ℕ → Option (A × List ℕ)) → List ℕ → Type 0
 Reading {A} next octets = (next octets ≡ None) ⊎ ((found : A × List ℕ) × (next octets ≡ Some found))
-
-either : {A : Type 0} (o : Option A) → (o ≡ None) ⊎ ((x : A) × (o ≡ Some x))
-either None = inl refl
-either (Some x) = inr (x, refl)
 
 within_end : {A : Type 0} (next : List ℕ → Option (A × List ℕ)) (n : ℕ) (octets : List ℕ)
     → next octets ≡ None → parts_within next n octets ≡ ([], octets)
@@ -32,15 +29,15 @@ no_room next shrinks octets found h none = let s : length found.1 < length octet
 enough : {A : Type 0} (next : List ℕ → Option (A × List ℕ)) → Shrinks next → (n m : ℕ) (octets : List ℕ)
     → length octets ≤ n → length octets ≤ m → parts_within next n octets ≡ parts_within next m octets
 enough next shrinks zero zero octets a b = refl
-enough next shrinks zero (suc m) octets a b = elim (either (next octets)) [
+enough next shrinks zero (suc m) octets a b = elim (none_or_some (next octets)) [
   | inl h ↦ within_end next zero octets h ∙ sym (within_end next (suc m) octets h)
   | inr found ↦ absurd (no_room next shrinks octets found.0 found.1 a)
 ]
-enough next shrinks (suc n) zero octets a b = elim (either (next octets)) [
+enough next shrinks (suc n) zero octets a b = elim (none_or_some (next octets)) [
   | inl h ↦ within_end next (suc n) octets h ∙ sym (within_end next zero octets h)
   | inr found ↦ absurd (no_room next shrinks octets found.0 found.1 b)
 ]
-enough next shrinks (suc n) (suc m) octets a b = elim (either (next octets)) [
+enough next shrinks (suc n) (suc m) octets a b = elim (none_or_some (next octets)) [
   | inl h ↦ within_end next (suc n) octets h ∙ sym (within_end next (suc m) octets h)
   | inr found ↦
       let s : length found.0.1 < length octets = shrinks octets found.0 found.1 in
@@ -69,11 +66,11 @@ parts_step next shrinks octets found h =
 append_by : {A : Type 0} (next : List ℕ → Option (A × List ℕ)) → Shrinks next → Stable next → (n : ℕ) (octets more : List ℕ)
     → length octets ≤ n
     → parts_of next (octets ++ more) ≡ parts_then (parts_of next octets) (parts_of next ((parts_of next octets).1 ++ more))
-append_by next shrinks stable zero octets more a = elim (either (next octets)) [
+append_by next shrinks stable zero octets more a = elim (none_or_some (next octets)) [
   | inl h ↦ rw (parts_end next octets h) refl
   | inr found ↦ absurd (no_room next shrinks octets found.0 found.1 a)
 ]
-append_by next shrinks stable (suc n) octets more a = elim (either (next octets)) [
+append_by next shrinks stable (suc n) octets more a = elim (none_or_some (next octets)) [
   | inl h ↦ rw (parts_end next octets h) refl
   | inr found ↦
       let s : length found.0.1 < length octets = shrinks octets found.0 found.1 in

@@ -1,5 +1,5 @@
 -- The order of prefixes is what its words say.
-use Rattle.std.proofs.Common.{ℕ, ◌≡◌, ◌+◌, ◌-◌, ◌^◌, ◌<◌, ◌≤◌, ◌⊎◌, inl, inr, refl, sym, ap, ◌∙◌, arith, true, false, nat_cmp, is_eq, Ordering, Less, Equal, Greater, pow_pos, true≢false}
+use Rattle.std.proofs.Common.{ℕ, ◌≡◌, ◌+◌, ◌-◌, ◌^◌, ◌<◌, ◌≤◌, ◌⊎◌, inl, inr, sym, ap, ◌∙◌, arith, true, false, nat_cmp, is_eq, Less, Equal, pow_pos, true≢false}
 use Rattle.std.specs.Ordering.{ordering_then}
 use Rattle.std.proofs.lemmas.Bool.{cases_lt}
 use Rattle.std.proofs.lemmas.Bool.Decides.{nat_tests}
@@ -10,6 +10,7 @@ use Rattle.fs_base.specs.Prefix.{covers, prefix_cmp, last_address, prefix_total}
 use Rattle.fs_base.specs.Laws.{IsPrecedence}
 use Rattle.fs_base.proofs.Covers.{Covers, covers_fact, meeting_covers, same_width}
 use Rattle.fs_base.proofs.Nesting.{Alike, alike, alike_test}
+use Rattle.fs_base.proofs.Orderings.{equal_of_is_eq}
 
 first_family : (f g a b m n : ℕ) → f < g → ordering_then (nat_cmp f g) (ordering_then (nat_cmp a b) (nat_cmp n m)) ≡ Less
 first_family f g a b m n h = grind (arith, nat_tests)
@@ -19,11 +20,6 @@ first_last f g a b m n h k = grind (arith, nat_tests)
 
 longer_first : (f g a b m n : ℕ) → f ≡ g → a ≤ b → n < m → ordering_then (nat_cmp f g) (ordering_then (nat_cmp a b) (nat_cmp n m)) ≡ Less
 longer_first f g a b m n h k l = grind (arith, nat_tests)
-
-equal_is : (o : Ordering) → is_eq o ≡ true → o ≡ Equal
-equal_is Less h = cc
-equal_is Equal h = refl
-equal_is Greater h = cc
 
 pub precedence_law : IsPrecedence prefix_cmp
 precedence_law = record { total = prefix_total; families = families; nested = nested; apart = apart; same = same } where
@@ -72,4 +68,4 @@ precedence_law = record { total = prefix_total; families = families; nested = ne
     there h = let e : Alike p q = alike p q (ap is_eq h) in (e.family, e.bits, e.length)
 
     back : (p.family ≡ q.family) × (p.bits ≡ q.bits) × (p.length ≡ q.length) → prefix_cmp p q ≡ Equal
-    back h = equal_is (prefix_cmp p q) (alike_test p q (record { family = h.0; length = h.2; bits = h.1 }))
+    back h = equal_of_is_eq (prefix_cmp p q) (alike_test p q (record { family = h.0; length = h.2; bits = h.1 }))

@@ -1,0 +1,26 @@
+-- Laws of numbertests.
+use Rattle.std.proofs.lemmas.Bool.Decides.{nat_tests}
+use Rattle.std.proofs.Common.{◌≡◌, ◌==◌, ℕ, true, arith, false, ◌<◌, ◌≤◌, ◌+◌, ◌*◌}
+use Rattle.std.specs.Prelude.{nat_le}
+use Rattle.std.proofs.Math.Nat.{add-mul, mul-le-mul_right}
+
+pub eq_itself : (n : ℕ) → (n == n) ≡ true
+eq_itself n = grind (arith, nat_tests)
+
+pub equal_of_eq : (a b : ℕ) → (a == b) ≡ true → a ≡ b
+equal_of_eq a b e = grind (arith, nat_tests, e)
+
+pub le_false : (a b : ℕ) → b < a → nat_le a b ≡ false
+le_false a b h = let s = h in grind (arith, nat_tests)
+
+pub le_true : (a b : ℕ) → a ≤ b → nat_le a b ≡ true
+le_true a b h = let s = h in grind (arith, nat_tests)
+
+pub next_row : (a b size : ℕ) → a < b → a * size + size ≤ b * size
+next_row a b size h =
+    let row : (a + 1) * size ≡ a * size + 1 * size = add-mul a 1 size in
+    let more : (a + 1) * size ≤ b * size = mul-le-mul_right size (omega arith) in
+    omega arith
+
+pub not_zero : (n : ℕ) → 0 < n → (n == 0) ≡ false
+not_zero n some = grind (arith, nat_tests)
