@@ -1,6 +1,6 @@
 -- A capture of either format: of the pcapng format where its first four octets are the type of a section header, and of
 -- the libpcap format else.
-use Rattle.std.specs.Prelude.{ℕ, List, [], Option, Some, None, Bool, Result, Ok, Err, ◌≡◌, ◌≤◌, ◌<◌, ◌==◌, ◌&&◌, if◌then◌else◌, length, map, take, ⊤}
+use Rattle.std.specs.Prelude.{ℕ, List, [], Option, Some, None, Bool, Result, Ok, Err, ◌≡◌, ◌≤◌, ◌==◌, ◌&&◌, if◌then◌else◌, length, map, take, ⊤}
 use Rattle.byteorder.specs.Endian.{big_number}
 use Rattle.fs_base.specs.Parts.{window}
 use Rattle.fs_pcap.specs.Capture.{Captured as Record, Recorded as Records, capture_of as pcap_of, packets_to_come as records_to_come}
@@ -10,10 +10,10 @@ use Rattle.fs_base.specs.declared.link.Link.{Link}
 use Rattle.fs_pcapng.specs.Block.{Packet as Block, Stands, section_header}
 use Rattle.fs_pcapng.specs.Pcapng.{packets_to_come as blocks_to_come, pcapng_of}
 use Rattle.fs_pcapng.specs.declared.fault.NgReason.{NgReason}
-use Rattle.fs_input.specs.Records.{End, limited, bad}
+use Rattle.fs_input.specs.NextRecord.{Grows as GrowsBy}
+use Rattle.fs_input.specs.Records.{End}
 use Rattle.fs_input.specs.declared.fault.Ended.{Ended}
 use Rattle.fs_input.specs.declared.fault.Fault.{Fault}
-use Rattle.fs_input.specs.declared.fault.Fault.TheVariants.{Read, Limit, Bad}
 use Rattle.fs_capture.specs.Answer.{end_as}
 use Rattle.fs_capture.specs.declared.caught.Caught.{Caught}
 use Rattle.fs_capture.specs.declared.fault.CaptureReason.{CaptureReason}
@@ -95,20 +95,10 @@ packet_from caught into = record { link = caught.link; moment = caught.moment; o
 
 -- A packet raises the place, up to the limit at most. It isn't too long.
 abbrev pub Grows : (old new limit : ℕ) → Result (Option Caught) (Fault CaptureReason) → Type 0
-Grows old new limit (Ok (Some caught)) = (old < new) × (new ≤ limit) × (caught.taken ≤ longest_record)
-Grows old new limit (Ok None) = ⊤
-Grows old new limit (Err fault) = ⊤
+Grows old new limit result = GrowsBy (λ (caught : Caught). caught.taken ≤ longest_record) old new limit result
 
 -- a packet's moment becomes the capture's, and doesn't fall
 abbrev pub Times : (old new : ℕ) → Result (Option Caught) (Fault CaptureReason) → Type 0
 Times old new (Ok (Some caught)) = (new ≡ caught.moment) × (old ≤ new)
 Times old new (Ok None) = ⊤
 Times old new (Err fault) = ⊤
-
--- An opened capture is still to give all packets. A fault is what ends it before them.
-abbrev pub Begins : {T : Type 0} → List Captured × End CaptureReason → (T → List Captured × End CaptureReason)
-    → Result T (Fault CaptureReason) → Type 0
-Begins all coming (Ok capture) = all ≡ coming capture
-Begins all coming (Err Read) = ⊤
-Begins all coming (Err Limit) = all ≡ ([], limited)
-Begins all coming (Err (Bad reason place)) = all ≡ ([], bad reason place)

@@ -1,13 +1,14 @@
 //! A capture, read packet by packet.
-ghost use Rattle.std.specs.Prelude.{◌≡◌, ◌≤◌, ◌++◌, None, IsSome, IsTrue, IfOk, IfSome, length};
+ghost use Rattle.std.specs.Prelude.{◌≡◌, ◌≤◌, ◌++◌, None, IsTrue, IfOk, length};
 ghost use Rattle.std.specs.Result.{IsErrOf};
 ghost use Rattle.fs_base.specs.Files.{OnlySlot};
 ghost use Rattle.fs_base.specs.Outside.{Rose};
 ghost use Rattle.fs_base.specs.Parts.{with_part};
 ghost use Rattle.fs_pcap.specs.Head.{longest_record};
-ghost use Rattle.fs_input.specs.NextRecord.{Advances, answer_of, ended_after};
+ghost use Rattle.fs_input.specs.NextRecord.{GivesNext};
 ghost use Rattle.fs_input.specs.declared.fault.Fault.TheVariants.{Read};
-ghost use Rattle.fs_capture.specs.Capture.{Begins, Grows, Times, captured_by, captured_in, coming, is_section, packet_from};
+ghost use Rattle.fs_input.specs.Opening.{Begins};
+ghost use Rattle.fs_capture.specs.Capture.{Grows, Times, captured_by, captured_in, coming, is_section, packet_from};
 
 use crate::answer::{block_answer, block_fault, record_answer, record_fault};
 use crate::caught::Caught;
@@ -86,27 +87,15 @@ impl Capture {
         into: &mut [u8],
     ) -> Result<Option<Caught>, CaptureFault>
         requires { longest_record ≤ length into.old }
-        ensures later { F.faults files.old ≤ F.faults files.new }
-        ensures read { self.old.end ≡ None → IsErrOf result Read → Rose (F.faults files.old) (F.faults files.new) }
-        ensures slot { self.new.slot ≡ self.old.slot }
-        ensures limit { self.new.limit ≡ self.old.limit }
-        ensures again { IfSome self.old.end (λ ended. result ≡ answer_of ended) }
-        ensures stays { IsSome self.old.end → self.new ≡ self.old }
-        ensures unread { IsSome self.old.end → files.new ≡ files.old }
-        ensures ended { self.new.end ≡ ended_after result }
-        ensures grows { self.old.end ≡ None → Grows self.old.place self.new.place self.new.limit result }
-        ensures times { self.old.end ≡ None → Times self.old.moment self.new.moment result }
-
-        ensures advances { IsTrue F.tells
-            → self.old.end ≡ None
-            → Advances
+        ensures gives { GivesNext F.Files files.old files.new self.old.slot self.new.slot self.old.limit self.new.limit
+            self.old.end self.new.end (self.new ≡ self.old)
             (coming self.old (F.left files.old self.old.slot))
             (λ caught. with_part
             (packet_from caught into.new)
             (coming self.new (F.left files.new self.old.slot)))
             result }
-        ensures opened { F.opened files.new ≡ F.opened files.old }
-        ensures others { OnlySlot F.tells F.left F.holds self.old.slot files.old files.new }
+        ensures grows { self.old.end ≡ None → Grows self.old.place self.new.place self.new.limit result }
+        ensures times { self.old.end ≡ None → Times self.old.moment self.new.moment result }
     {
         match &mut self.reader {
             Reader::Records(capture) => {

@@ -23,7 +23,7 @@ module _ {S P R : Type 0} (chain : Chain S P R) (takes : (state : S) → Takes 1
   part_advances {left = left} {left' = left'} {old = old} {new = new} {tells = tells} {answer = answer} now tells_so h =
       part_comes chain cut old.limit old.taken new.taken now (left old.slot) (left' old.slot) (tells answer) takes (h.scanned tells_so)
       ∙ (λ i. with_part (tells answer).0
-      (parts_to_come chain cut ((sym h.limit) i) new.taken (tells answer).1 (left' ((sym h.slot) i))))
+      (parts_to_come chain cut ((sym h.passes.limit) i) new.taken (tells answer).1 (left' ((sym h.passes.slot) i))))
 
   -- the input ended before the part
   pub over_advances : (limit taken : ℕ) (now : S) (left : List ℕ) → IsOver limit taken left

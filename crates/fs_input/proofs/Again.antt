@@ -9,7 +9,7 @@ use Rattle.fs_base.specs.declared.counted.Counted.{Counted}
 use Rattle.fs_base.proofs.Drawing.{draws_ahead}
 use Rattle.fs_input.specs.NextRecord.{short_fault}
 use Rattle.fs_input.specs.declared.fault.Fault.{Fault}
-use Rattle.fs_input.specs.Reads.{Calls, Fails, HasMore, IsOver, Reads, Took, ahead, ends_by, whole}
+use Rattle.fs_input.specs.Reads.{Calls, Fails, HasMore, IsOver, Passes, PassesOn, Reads, Took, ahead, ends_by, whole}
 use Rattle.fs_input.specs.Scan.{Scanner, field}
 use Rattle.fs_input.proofs.CutShort.{field_fails, more_is, over_is}
 use Rattle.fs_input.proofs.Taking.{field_took}
@@ -34,19 +34,28 @@ ahead_none counted left slot none = by (slot == counted.slot)
 pub nothing_ahead : (counted : Counted) (left : ℕ → List ℕ) → counted.back ≡ [] → ahead counted left ≡ left
 nothing_ahead counted left none = λ i slot. ahead_none counted left slot none i
 
+-- a call, where what was left is told in another way
+pub reads_over : {T A R : Type 0} {scanner : Scanner A R} {cut : R} {tells : T → A} {told : Bool} {calls calls' : Calls}
+    {left left' other other' : ℕ → List ℕ} {holds holds' : List ℕ → Option (List ℕ)} {old new : Counted} {result : Result T (Fault R)}
+    → left ≡ other → left' ≡ other'
+    → Reads told calls calls' left left' holds holds' scanner cut old new tells result
+    → Reads told calls calls' other other' holds holds' scanner cut old new tells result
+reads_over {scanner = scanner} {cut = cut} {tells = tells} {told = told} {calls = calls} {calls' = calls'} {left' = left'} {other = other}
+    {holds = holds} {holds' = holds'} {old = old} {new = new} {result = result} first last h =
+    subst (λ l. Reads told calls calls' other l holds holds' scanner cut old new tells result) last
+    (subst (λ l. Reads told calls calls' l left' holds holds' scanner cut old new tells result) first h)
+
 -- a call behind which nothing is put back, as before it
 pub reads_ahead : {T A R : Type 0} {scanner : Scanner A R} {cut : R} {tells : T → A} {told : Bool} {calls calls' : Calls}
     {left left' : ℕ → List ℕ} {holds holds' : List ℕ → Option (List ℕ)} {old new : Counted} {result : Result T (Fault R)}
     → old.back ≡ [] → new.back ≡ []
     → Reads told calls calls' left left' holds holds' scanner cut old new tells result
     → Reads told calls calls' (ahead old left) (ahead new left') holds holds' scanner cut old new tells result
-reads_ahead {scanner = scanner} {cut = cut} {tells = tells} {told = told} {calls = calls} {calls' = calls'} {left = left} {left' = left'}
-    {holds = holds} {holds' = holds'} {old = old} {new = new} {result = result} none later h =
-    subst (λ l. Reads told calls calls' l (ahead new left') holds holds' scanner cut old new tells result) (sym (nothing_ahead old left none))
-    (subst (λ l. Reads told calls calls' left l holds holds' scanner cut old new tells result) (sym (nothing_ahead new left' later)) h)
+reads_ahead {left = left} {left' = left'} {old = old} {new = new} none later h =
+    reads_over (sym (nothing_ahead old left none)) (sym (nothing_ahead new left' later)) h
 
 module _ (old new : Counted) (left left' : ℕ → List ℕ) (same : new.slot ≡ old.slot) where
-  pub again_others : ((other : ℕ) → other ≢ old.slot → left' other ≡ left other) → (other : ℕ) → other ≢ old.slot
+  again_others : ((other : ℕ) → other ≢ old.slot → left' other ≡ left other) → (other : ℕ) → other ≢ old.slot
       → ahead new left' other ≡ ahead old left other
   again_others kept other apart =
       ahead_other new left' other (λ e. apart (e ∙ same)) ∙ kept other apart ∙ sym (ahead_other old left other apart)
@@ -58,7 +67,7 @@ module _ (old new : Counted) (left left' : ℕ → List ℕ) (same : new.slot �
       subst (λ before. P before (ahead new left' old.slot)) (sym (ahead_here old left))
       (subst (λ later. P (old.back ++ left old.slot) later) (sym (ahead_at new left' old.slot (sym same))) h)
 
-  pub again_passed : Draws old new (left old.slot) (left' old.slot)
+  again_passed : Draws old new (left old.slot) (left' old.slot)
       → Passed old.limit old.taken new.taken (ahead old left old.slot) (ahead new left' old.slot)
   again_passed h = again (λ before later. Passed old.limit old.taken new.taken before later) (draws_ahead old new (left old.slot) (left' old.slot) h)
 
@@ -99,3 +108,19 @@ module _ (old new : Counted) (left left' : ℕ → List ℕ) (same : new.slot �
           again (λ before later. HasMore old.limit old.taken before)
           (more_is old.limit old.taken new.taken (old.back ++ left old.slot) (new.back ++ left' old.slot) into count filled short within now
           (sym (ap (λ n. (count == 0) && not (new.taken == n)) most) ∙ test))
+
+-- what a call does to the files, where octets were put back
+pub again_passes : {told : Bool} {calls calls' : Calls} {holds holds' : List ℕ → Option (List ℕ)} (old new : Counted) (left left' : ℕ → List ℕ)
+    → Passes told calls calls' left left' holds holds' (Draws old new (left old.slot) (left' old.slot)) old new
+    → PassesOn told calls calls' (ahead old left) (ahead new left') holds holds' old new
+again_passes old new left left' h = record {
+  later = h.later;
+  slot = h.slot;
+  limit = h.limit;
+  others = λ tells_so. record {
+    others = again_others old new left left' h.slot (h.others tells_so).others;
+    names = (h.others tells_so).names;
+  };
+  took = λ tells_so. again_passed old new left left' h.slot (h.took tells_so);
+  opened = h.opened;
+}

@@ -13,31 +13,11 @@ use Rattle.fs_input.specs.Scan.{Scan, Scanner, and, and_then, behind, fails, fie
 
 -- how many octets the parts of a chain take
 
-pub gives_takes : {A R : Type 0} (value : A) → Takes {A = A} {R = R} 0 (gives value)
-gives_takes value place octets found count h =
-    let none : 0 ≡ count = cc in (omega arith, omega arith)
-
-pub fails_takes : {A R : Type 0} (least : ℕ) (reason : R) (spot : ℕ) → Takes {A = A} least (fails reason spot)
-fails_takes least reason spot place octets found count h = absurd cc
-
-pub needs_takes : {A R : Type 0} (least : ℕ) (test : Bool) (reason : R) (spot : ℕ) (next : Scanner A R) → Takes least next
-    → Takes least (needs test reason spot next)
-needs_takes least true reason spot next h = h
-needs_takes least false reason spot next h = fails_takes least reason spot
-
 pub field_takes : {A R : Type 0} (size : ℕ) (read : List ℕ → A) → Takes {A = A} {R = R} size (field size read)
 field_takes {A = A} {R = R} size read place octets found count h = by (nat_le size (length octets)) refl h
   where
     by : (test : Bool) → nat_le size (length octets) ≡ test
         → ◌≡◌ {A = Scan A R} (if test then got (read (take size octets)) size else partial) (got found count) → (size ≤ count) × (count ≤ length octets)
-    by true t e = let same : size ≡ count = cc in let held : size ≤ length octets = grind (arith, nat_tests) in (omega arith, omega arith)
-    by false t e = absurd cc
-
-pub skips_takes : {R : Type 0} (size : ℕ) → Takes {A = ℕ} {R = R} size (skips size)
-skips_takes {R = R} size place octets found count h = by (nat_le size (length octets)) refl h
-  where
-    by : (test : Bool) → nat_le size (length octets) ≡ test
-        → ◌≡◌ {A = Scan ℕ R} (if test then got size size else partial) (got found count) → (size ≤ count) × (count ≤ length octets)
     by true t e = let same : size ≡ count = cc in let held : size ≤ length octets = grind (arith, nat_tests) in (omega arith, omega arith)
     by false t e = absurd cc
 
@@ -48,40 +28,38 @@ behind_takes n (got found m) value count h =
 behind_takes n (wrong reason spot) value count h = absurd cc
 behind_takes n partial value count h = absurd cc
 
-pub and_takes : {A B R : Type 0} (least : ℕ) (first : Scanner A R) (next : A → Scanner B R) → Takes least first
-    → ((value : A) → Takes 0 (next value)) → Takes least (and first next)
-and_takes {A = A} {B = B} {R = R} least first next takes rest place octets found count h = by (first place octets) refl h
-  where
-    by : (scan : Scan A R) → first place octets ≡ scan → and_then next place octets scan ≡ got found count
-        → (least ≤ count) × (count ≤ length octets)
-    by (got value n) s e =
-        let one = takes place octets value n s in
-        let more = behind_takes n (next value (place + n) (drop n octets)) found count e in
-        let last = rest value (place + n) (drop n octets) found more.0 more.1 in
-        let a : least ≤ n = one.0 in
-        let b : n ≤ length octets = one.1 in
-        let c : more.0 ≤ length (drop n octets) = last.1 in
-        (omega (arith, more.2), omega (arith, more.2, length-drop n octets))
-    by (wrong reason spot) s e = absurd cc
-    by partial s e = absurd cc
-
 -- parts
 
 module _ {S P R : Type 0} (chain : Chain S P R) where
-  shrinks_by : (now : At (Placed S)) (found : P × At (Placed S)) (scan : Scan (P × S) R) → chain now.state.now now.state.place now.octets ≡ scan
-      → ((state : S) → Takes 1 (chain state)) → part_of now scan ≡ Some found → length found.1.octets < length now.octets
-  shrinks_by now found (got value count) s takes h =
-      let held = takes now.state.now now.state.place now.octets value count s in
-      let some : 1 ≤ count = held.0 in
-      let within : count ≤ length now.octets = held.1 in
-      let rest : at (placed value.1 (now.state.place + count)) (drop count now.octets) ≡ found.1 = cc in
-      let size : length (drop count now.octets) ≡ length found.1.octets = ap (λ (a : At (Placed S)). length a.octets) rest in
-      omega (arith, size, length-drop count now.octets)
-  shrinks_by now found (wrong reason spot) s takes h = absurd cc
-  shrinks_by now found partial s takes h = absurd cc
+  -- the part that stands here, and what stands behind it
+  pub record IsPart (now : At (Placed S)) (found : P × At (Placed S)) : Type 0 where
+    pub count : ℕ
+    pub is : chain now.state.now now.state.place now.octets ≡ got (found.0, found.1.state.now) count
+    pub rest_is : found.1.octets ≡ drop count now.octets
 
-  shrinks : ((state : S) → Takes 1 (chain state)) → Shrinks (first_part chain)
-  shrinks takes now found h = shrinks_by now found (chain now.state.now now.state.place now.octets) refl takes h
+  found_by : (now : At (Placed S)) (found : P × At (Placed S)) (scan : Scan (P × S) R) → chain now.state.now now.state.place now.octets ≡ scan
+      → part_of now scan ≡ Some found → IsPart now found
+  found_by now found (got value count) s h =
+      let first : value.0 ≡ found.0 = cc in
+      let rest : at (placed value.1 (now.state.place + count)) (drop count now.octets) ≡ found.1 = cc in
+      record {
+        count = count;
+        is = s ∙ (λ i. got (first i, (rest i).state.now) count);
+        rest_is = sym (ap (λ (a : At (Placed S)). a.octets) rest);
+      }
+  found_by now found (wrong reason spot) s h = absurd cc
+  found_by now found partial s h = absurd cc
+
+  pub part_found : (now : At (Placed S)) (found : P × At (Placed S)) → first_part chain now ≡ Some found → IsPart now found
+  part_found now found h = found_by now found (chain now.state.now now.state.place now.octets) refl h
+
+  pub shrinks : ((state : S) → Takes 1 (chain state)) → Shrinks (first_part chain)
+  shrinks takes now found h =
+      let p = part_found now found h in
+      let held = takes now.state.now now.state.place now.octets (found.0, found.1.state.now) p.count p.is in
+      let some : 1 ≤ p.count = held.0 in
+      let within : p.count ≤ length now.octets = held.1 in
+      omega (arith, some, within, ap length p.rest_is, length-drop p.count now.octets)
 
   -- a part that was taken comes first
   pub part_comes : (cut : R) (limit taken taken' : ℕ) (now : S) (left left' : List ℕ) (part : P × S)

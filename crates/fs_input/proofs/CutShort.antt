@@ -67,32 +67,27 @@ field_fails cut limit taken taken' left left' into count filled short within now
     (field_short (length into) taken (window limit taken left) few)
 
 -- The test whether the input ended before a field.
-pub over_is : (limit taken taken' : ℕ) (left left' into : List ℕ) (count : ℕ)
-    → Fills (window limit taken left) left left' into count → count < length into → taken ≤ limit → taken' ≡ taken + count
-    → ((count == 0) && not (taken' == limit)) ≡ true → IsOver limit taken left
-over_is limit taken taken' left left' into count filled short within now test =
-    let all = all_taken limit taken left left' into count filled short in
-    let same = limit_is limit taken taken' count left within all now in
-    by (count == 0) (taken' == limit) refl refl test same all
-  where
-    by : (none reached : Bool) → (count == 0) ≡ none → (taken' == limit) ≡ reached → (none && not reached) ≡ true
-        → at_limit limit taken left ≡ (taken' == limit) → count ≡ length (window limit taken left) → IsOver limit taken left
-    by true true n r e same all = absurd cc
-    by true false n r e same all = record { below = same ∙ r; none = (let zero : count ≡ 0 = grind (arith, nat_tests) in omega (arith, zero, all)) }
-    by false true n r e same all = absurd cc
-    by false false n r e same all = absurd cc
+module _ (limit taken taken' : ℕ) (left left' into : List ℕ) (count : ℕ) (filled : Fills (window limit taken left) left left' into count)
+    (short : count < length into) (within : taken ≤ limit) (now : taken' ≡ taken + count) where
+  all : count ≡ length (window limit taken left)
+  all = all_taken limit taken left left' into count filled short
 
-pub more_is : (limit taken taken' : ℕ) (left left' into : List ℕ) (count : ℕ)
-    → Fills (window limit taken left) left left' into count → count < length into → taken ≤ limit → taken' ≡ taken + count
-    → ((count == 0) && not (taken' == limit)) ≡ false → HasMore limit taken left
-more_is limit taken taken' left left' into count filled short within now test =
-    let all = all_taken limit taken left left' into count filled short in
-    let same = limit_is limit taken taken' count left within all now in
-    by (count == 0) (taken' == limit) refl refl test same all
-  where
-    by : (none reached : Bool) → (count == 0) ≡ none → (taken' == limit) ≡ reached → (none && not reached) ≡ false
-        → at_limit limit taken left ≡ (taken' == limit) → count ≡ length (window limit taken left) → HasMore limit taken left
-    by true true n r e same all = inl (same ∙ r)
-    by true false n r e same all = absurd cc
-    by false true n r e same all = inl (same ∙ r)
-    by false false n r e same all = inr (let some : 0 < count = grind (arith, nat_tests) in omega (arith, some, all))
+  at_end : (reached : Bool) → (taken' == limit) ≡ reached → at_limit limit taken left ≡ reached
+  at_end reached r = limit_is limit taken taken' count left within all now ∙ r
+
+  pub over_is : ((count == 0) && not (taken' == limit)) ≡ true → IsOver limit taken left
+  over_is test = by (count == 0) (taken' == limit) refl refl test
+    where
+      by : (none reached : Bool) → (count == 0) ≡ none → (taken' == limit) ≡ reached → (none && not reached) ≡ true → IsOver limit taken left
+      by true true n r e = absurd cc
+      by true false n r e =
+          record { below = at_end false r; none = (let zero : count ≡ 0 = grind (arith, nat_tests) in omega (arith, zero, all)) }
+      by false reached n r e = absurd cc
+
+  pub more_is : ((count == 0) && not (taken' == limit)) ≡ false → HasMore limit taken left
+  more_is test = by (count == 0) (taken' == limit) refl refl test
+    where
+      by : (none reached : Bool) → (count == 0) ≡ none → (taken' == limit) ≡ reached → (none && not reached) ≡ false → HasMore limit taken left
+      by none true n r e = inl (at_end true r)
+      by true false n r e = absurd cc
+      by false false n r e = inr (let some : 0 < count = grind (arith, nat_tests) in omega (arith, some, all))

@@ -1,10 +1,11 @@
 -- An input of records is done exactly where it is below the limit and is the text of its records.
-use Rattle.std.proofs.Common.{◌≡◌, ℕ, List, [], ◌++◌, Bool, true, false, None, ◌<◌, ◌≤◌, ◌+◌, ◌-◌, ◌==◌, length, take, refl, ap, sym, ◌∙◌, ◌↔◌, subst, arith, eqb-true, append-nil}
+use Rattle.std.proofs.Common.{◌≡◌, ℕ, List, [], ◌++◌, Bool, true, false, None, ◌<◌, ◌≤◌, ◌+◌, ◌-◌, ◌==◌, length, take, refl, ap, sym, ◌∙◌, subst, arith, eqb-true, append-nil}
 use Rattle.std.specs.Prelude.{if◌then◌else◌}
 use Rattle.std.proofs.lemmas.Bool.Decides.{nat_tests}
 use Rattle.std.proofs.lemmas.Grind.{common_steps}
 use Rattle.fs_base.specs.Language.{IsOctets}
 use Rattle.fs_base.specs.Parts.{at_limit, window}
+use Rattle.fs_base.proofs.Octets.{take_of_none}
 use Rattle.fs_input.specs.Parts.{AllFrom, ReadsText, SpellsText, at, parts_from, text_from, to_come}
 use Rattle.fs_input.specs.Records.{End, Format, bad, done, end_by, ends_short, first_record, head_at, records_to_come}
 use Rattle.fs_input.specs.declared.head.Head.{Head}
@@ -18,18 +19,6 @@ module _ {S B : Type 0} (text : S → B → List ℕ) (Fits : S → B → Type 0
     pub spelled : left ≡ text_from text after state items
     pub fit : AllFrom Fits after state items
     pub below : taken + length left < limit
-
--- A law of all formats. Each format's crate states its own instance as a clause.
-abbrev pub IsDone : Type 1
-IsDone =
-    (S A B R : Type 0) (format : Format S A B R) (text : S → B → List ℕ) (Fits : S → B → Type 0) (after : S → B → S)
-    → ((state : S) → 0 < format.head_size state)
-    → ((state : S) → format.head_of state [] ≡ Partial)
-    → ReadsText (first_record format) text Fits after
-    → SpellsText (first_record format) text Fits after
-    → (limit taken : ℕ) (state : S) (left : List ℕ) (items : List B)
-    → IsOctets left
-    → (records_to_come format limit taken state left ≡ (items, done)) ↔ IsText text Fits after limit taken state left items
 
 -- the limit isn't reached, and nothing is left
 record IsOver (limit : Bool) (size : ℕ) : Type 0 where
@@ -50,17 +39,14 @@ end_over cut limit place size (Whole said payload) e = short_over cut limit plac
 end_over cut limit place size (Wrong reason offset) e = cc
 end_over cut limit place size Partial e = short_over cut limit place size e
 
-nothing : (octets : List ℕ) → length octets ≡ 0 → octets ≡ []
+pub nothing : (octets : List ℕ) → length octets ≡ 0 → octets ≡ []
 nothing octets none = grind (arith, common_steps)
 
-all_taken : (n : ℕ) (octets : List ℕ) → length octets ≤ n → take n octets ≡ octets
+pub all_taken : (n : ℕ) (octets : List ℕ) → length octets ≤ n → take n octets ≡ octets
 all_taken n octets within = grind (arith, common_steps)
 
-none_taken : (n : ℕ) (octets : List ℕ) → octets ≡ [] → take n octets ≡ []
-none_taken n octets none = grind (arith, common_steps)
-
 -- what an input that is done has left is judged whole
-below_limit : (limit taken : ℕ) (left : List ℕ) → at_limit limit taken left ≡ false → taken + length left < limit
+pub below_limit : (limit taken : ℕ) (left : List ℕ) → at_limit limit taken left ≡ false → taken + length left < limit
 below_limit limit taken left below = grind (arith, nat_tests)
 
 pub done_text : {S A B R : Type 0} (format : Format S A B R) (text : S → B → List ℕ) (Fits : S → B → Type 0) (after : S → B → S)
@@ -87,7 +73,7 @@ done_text {B = B} {R} format text Fits after some spells limit taken state left 
     }
 
 none_head : {S A B R : Type 0} (format : Format S A B R) (state : S) → format.head_of state [] ≡ Partial → head_at format (at state []) ≡ Partial
-none_head format state empty = ap (format.head_of state) (none_taken (format.head_size state) [] refl) ∙ empty
+none_head format state empty = ap (format.head_of state) (take_of_none (format.head_size state) [] refl) ∙ empty
 
 none_at : {S A B R : Type 0} (format : Format S A B R) → ((state : S) → format.head_of state [] ≡ Partial) → (state : S)
     → first_record format (at state []) ≡ None

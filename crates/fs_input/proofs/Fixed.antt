@@ -11,6 +11,7 @@ use Rattle.fs_input.specs.Scan.{Scan, Scanner, and, and_then, behind, fails, fie
 use Rattle.fs_input.specs.Reads.{Scanned, end_of}
 use Rattle.fs_input.specs.declared.judging.Judged.{Judged}
 use Rattle.fs_input.specs.declared.judging.Judged.TheVariants.{Whole, Wrong, Partial}
+use Rattle.fs_input.proofs.Coming.{behind_takes}
 use Rattle.fs_input.proofs.CutShort.{all_taken, short_fails}
 
 -- what was said stays said where more octets follow
@@ -72,13 +73,6 @@ field_fixed {A} {R} size read = record {
   enough_by octets true t h = absurd cc
   enough_by octets false t h = grind (arith, nat_tests)
 
-behind_got : {A R : Type 0} (n : ℕ) (scan : Scan A R) (value : A) (count : ℕ) → behind n scan ≡ got value count
-    → (m : ℕ) × (scan ≡ got value m) × (count ≡ n + m)
-behind_got n (got found m) value count h =
-    let value_is : found ≡ value = cc in let count_is : n + m ≡ count = cc in (m, ap (λ v. got v m) value_is, sym count_is)
-behind_got n (wrong reason spot) value count h = absurd cc
-behind_got n partial value count h = absurd cc
-
 behind_partial : {A R : Type 0} (n : ℕ) (scan : Scan A R) → behind n scan ≡ partial → scan ≡ partial
 behind_partial n (got found m) h = absurd cc
 behind_partial n (wrong reason spot) h = absurd cc
@@ -120,7 +114,7 @@ and_fixed {A} {B} {R} a b first next one rest = record {
       → and_then next place octets scan ≡ got value count → (count ≡ a + b) × (a + b ≤ length octets)
   takes_by place octets value count (got found n) s h =
       let held = one.takes place octets found n s in
-      let more = behind_got n (next found (place + n) (drop n octets)) value count h in
+      let more = behind_takes n (next found (place + n) (drop n octets)) value count h in
       let last = (rest found).takes (place + n) (drop n octets) value more.0 more.1 in
       (omega (arith, held.0, last.0, more.2), omega (arith, held.0, held.1, last.1, length-drop n octets))
   takes_by place octets value count (wrong reason spot) s h = absurd cc

@@ -1,7 +1,7 @@
 -- What stands before the records, filled as far as the octets and the limit reach, says what the input opens.
-use Rattle.std.proofs.Common.{◌≡◌, ℕ, List, Bool, true, false, Result, Ok, Err, subst, ◌+◌, ◌-◌, ◌==◌, min, length, take, drop, refl, ap, sym, ◌∙◌, arith}
+use Rattle.std.proofs.Common.{◌≡◌, ℕ, List, [], ◌++◌, Bool, true, false, Result, Ok, Err, subst, ◌≤◌, ◌+◌, ◌-◌, ◌==◌, min, length, take, drop, refl, ap, sym, ◌∙◌, arith}
 use Rattle.std.specs.Prelude.{if◌then◌else◌, nat_le}
-use Rattle.std.proofs.lemmas.List.{length-take}
+use Rattle.std.proofs.lemmas.List.{drop_all, length-take}
 use Rattle.std.proofs.lemmas.Bool.Decides.{nat_tests}
 use Rattle.fs_base.specs.Filling.{Fills}
 use Rattle.fs_base.specs.Parts.{window}
@@ -31,7 +31,7 @@ module _ {V R : Type 0} (size : ℕ) (front_of : List ℕ → Head V R) (cut : R
   by_short limit left behind left' false count h = h
 
   -- what is answered then opens the input
-  pub opens : (limit taken : ℕ) (left left' front : List ℕ) (count taken' : ℕ) (said : Head V R) → taken ≡ 0
+  opens : (limit taken : ℕ) (left left' front : List ℕ) (count taken' : ℕ) (said : Head V R) → taken ≡ 0
       → Fills (window limit taken left) left left' front count → length front ≡ size → said ≡ front_of (take count front)
       → IsFrontWithin size count said → taken' ≡ taken + count
       → Opens (λ v. v) (opening size front_of cut limit left) (drop size left) left' (opened_answer cut taken' limit said)
@@ -53,19 +53,52 @@ module _ {V R : Type 0} (size : ℕ) (front_of : List ℕ → Head V R) (cut : R
       (by_short limit left (drop size left) left' (count == limit) count
       (opens_with limit taken left left' front count Partial none fills len h ∙ rw (short, test) refl))
 
--- a fault that ends an input before its records is that of what was to be opened
-by_fault : {T V R : Type 0} (view : T → V) (found : Result V (End R)) (behind left : List ℕ) (fault : Fault R)
-    → Opens (λ v. v) found behind left (Err fault) → Opens view found behind left (Err fault)
-by_fault view found behind left Read h = tt
-by_fault view found behind left Limit h = h
-by_fault view found behind left (Bad reason place) h = h
+-- a fault that ends an input before its records is that of what was to be opened, whatever is left
+by_fault : {T V R : Type 0} (view : T → V) (found : Result V (End R)) (behind left left' : List ℕ) (fault : Fault R)
+    → Opens (λ v. v) found behind left (Err fault) → Opens view found behind left' (Err fault)
+by_fault view found behind left left' Read h = tt
+by_fault view found behind left left' Limit h = h
+by_fault view found behind left left' (Bad reason place) h = h
 
-pub opens_not : {T V R : Type 0} (view : T → V) (found : Result V (End R)) (behind left : List ℕ) (answer : Result V (Fault R)) (fault : Fault R)
-    → Opens (λ v. v) found behind left answer → answer ≡ Err fault → Opens view found behind left (Err fault)
-opens_not {V = V} {R} view found behind left answer fault h is =
-    by_fault view found behind left fault (subst (λ (a : Result V (Fault R)). Opens (λ v. v) found behind left a) is h)
+-- what opens an input is a whole front
+pub opened_whole : {V R : Type 0} (cut : R) (limit : Bool) (size : ℕ) (head : Head V R) (value : V) → opened_by cut limit size head ≡ Ok value
+    → (n : ℕ) × (head ≡ Whole value n)
+opened_whole cut limit size (Whole found n) value h = let same : found ≡ value = cc in (n, ap (λ v. Whole v n) same)
+opened_whole cut limit size (Wrong reason place) value h = absurd cc
+opened_whole cut limit size Partial value h = absurd cc
 
-pub opens_so : {T V R : Type 0} (view : T → V) (found : Result V (End R)) (behind left : List ℕ) (answer : Result V (Fault R)) (input : T)
-    → Opens (λ v. v) found behind left answer → answer ≡ Ok (view input) → Opens view found behind left (Ok input)
-opens_so {V = V} {R} view found behind left answer input h is =
-    subst (λ (a : Result V (Fault R)). Opens (λ v. v) found behind left a) is h
+-- what opens an input has all its octets
+front_whole : {V R : Type 0} (cut : R) (size count taken limit : ℕ) (said : Head V R) (value : V)
+    → IsFrontWithin size count said → opened_answer cut taken limit said ≡ Ok value → size ≤ count
+front_whole cut size count taken limit (Whole said none) value within e = within
+front_whole cut size count taken limit (Wrong reason place) value within e = absurd cc
+front_whole cut size count taken limit Partial value within e = absurd cc
+
+-- An input that is opened, of whose front octets may have been put back: what was answered of the octets that were filled.
+module _ {V R : Type 0} (size : ℕ) (cut : R) (limit taken taken' count : ℕ) (back back' : List ℕ) (said : Head V R)
+    (within : IsFrontWithin size count said) where
+  -- an opened one has taken all that was put back
+  pub none_back : (value : V) → opened_answer cut taken' limit said ≡ Ok value → length back ≤ size → back' ≡ drop count back → back' ≡ []
+  none_back value is few gone =
+      let whole : size ≤ count = front_whole cut size count taken' limit said value within is in
+      gone ∙ drop_all count back (omega (arith, few, whole))
+
+  module _ (front_of : List ℕ → Head V R) (left left' front : List ℕ)
+      (filled : Fills (window limit taken (back ++ left)) (back ++ left) (back' ++ left') front count) (start : taken ≡ 0)
+      (sized : length front ≡ size) (exact : said ≡ front_of (take count front)) (now : taken' ≡ taken + count) where
+    answered : (answer : Result V (Fault R)) → opened_answer cut taken' limit said ≡ answer
+        → Opens (λ v. v) (opening size front_of cut limit (back ++ left)) (drop size (back ++ left)) (back' ++ left') answer
+    answered answer is =
+        subst (λ (a : Result V (Fault R)). Opens (λ v. v) (opening size front_of cut limit (back ++ left)) (drop size (back ++ left)) (back' ++ left') a) is
+        (opens size front_of cut limit taken (back ++ left) (back' ++ left') front count taken' said start filled sized exact within now)
+
+    pub opens_not : {T : Type 0} (view : T → V) (fault : Fault R) → opened_answer cut taken' limit said ≡ Err fault
+        → Opens view (opening size front_of cut limit (back ++ left)) (drop size (back ++ left)) left' (Err fault)
+    opens_not view fault is =
+        by_fault view (opening size front_of cut limit (back ++ left)) (drop size (back ++ left)) (back' ++ left') left' fault (answered (Err fault) is)
+
+    pub opens_so : {T : Type 0} (view : T → V) (input : T) → opened_answer cut taken' limit said ≡ Ok (view input) → back' ≡ []
+        → Opens view (opening size front_of cut limit (back ++ left)) (drop size (back ++ left)) left' (Ok input)
+    opens_so view input is none =
+        let h = answered (Ok (view input)) is in
+        (h.0, ap (λ (b : List ℕ). b ++ left') (sym none) ∙ h.1)

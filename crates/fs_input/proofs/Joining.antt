@@ -1,5 +1,5 @@
 -- A chain of fields that is read one by one: what the first gives and what the next gives join.
-use Rattle.std.proofs.Common.{◌≡◌, ℕ, List, Bool, Some, ◌≤◌, ◌+◌, ◌-◌, length, drop, refl, ap, sym, ◌∙◌, subst, arith}
+use Rattle.std.proofs.Common.{◌≡◌, ℕ, List, Bool, true, false, Some, ◌≤◌, ◌+◌, ◌-◌, length, drop, refl, ap, sym, ◌∙◌, subst, arith}
 use Rattle.std.specs.Prelude.{if◌then◌else◌}
 use Rattle.std.proofs.lemmas.List.{drop-drop, length-drop, length-take}
 use Rattle.fs_base.specs.Parts.{at_limit, window}
@@ -7,7 +7,7 @@ use Rattle.fs_base.proofs.Parts.{limit_behind, window_behind}
 use Rattle.fs_input.specs.Records.{End, bad, limited}
 use Rattle.fs_input.specs.declared.fault.Fault.{Fault}
 use Rattle.fs_input.specs.declared.fault.Fault.TheVariants.{Read, Limit, Bad}
-use Rattle.fs_input.specs.Scan.{Scan, Scanner, and, and_then, behind, got, partial, wrong}
+use Rattle.fs_input.specs.Scan.{Scan, Scanner, and, and_then, behind, fails, got, needs, partial, wrong}
 use Rattle.fs_input.specs.Reads.{Fails, Took, end_of, ends_by}
 
 -- what is judged behind so many octets
@@ -75,8 +75,7 @@ module _ {A B R : Type 0} (first : Scanner A R) (next : A → Scanner B R) (limi
         within = omega (arith, took.within, more.within, rest.size);
         taken_is = omega (arith, took.taken_is, more.taken_is);
         left_is =
-            more.left_is ∙ ap (drop more.count) took.left_is ∙ drop-drop more.count took.count left
-            ∙ ap (λ n. drop n left) (let n : took.count + more.count ≡ took.count + more.count = refl in n);
+            more.left_is ∙ ap (drop more.count) took.left_is ∙ drop-drop more.count took.count left;
       }
 
   second_ends : (cut : R) → Took (first taken (window limit taken left)) (length (window limit taken left)) taken taken' left left' value
@@ -92,3 +91,13 @@ module _ {A B R : Type 0} (first : Scanner A R) (next : A → Scanner B R) (limi
       → Took (first taken (window limit taken left)) (length (window limit taken left)) taken taken' left left' value
       → Fails (ends_by (next value) cut limit taken' left') fault → Fails (ends_by (and first next) cut limit taken left) fault
   fails_second cut fault took h = subst (λ end. Fails end fault) (sym (second_ends cut took)) h
+
+-- a test that holds is passed
+pub needs_true : {A R : Type 0} (test : Bool) (reason : R) (spot : ℕ) (next : Scanner A R) → test ≡ true
+    → (place : ℕ) (octets : List ℕ) → next place octets ≡ needs test reason spot next place octets
+needs_true test reason spot next holds place octets = rw holds refl
+
+-- and one that fails is a fault
+pub needs_false : {A R : Type 0} (test : Bool) (reason : R) (spot : ℕ) (next : Scanner A R) (at : ℕ) → test ≡ false → at ≡ spot
+    → (place : ℕ) (octets : List ℕ) → fails {A = A} reason at place octets ≡ needs test reason spot next place octets
+needs_false test reason spot next at fails_so same place octets = rw (fails_so, same) refl

@@ -3,7 +3,6 @@ pub mod Records
 pub mod AdvancingRecords
 pub mod Done
 pub mod Fronts
-pub mod Beginning
 pub mod Taking
 pub mod Again
 pub mod CutShort

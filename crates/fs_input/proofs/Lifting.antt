@@ -1,34 +1,87 @@
 -- Calls that read fields one behind the other read the chain.
-use Rattle.std.proofs.Common.{◌≡◌, ℕ, List, Bool, true, Option, Result, Ok, Err, ◌≤◌, length, refl, ap, sym, ◌∙◌, subst, arith, le_trans}
+use Rattle.std.proofs.Common.{◌≡◌, ℕ, List, [], Bool, true, Option, Result, Ok, Err, ◌≤◌, length, refl, ap, sym, ◌∙◌, subst, arith, le_trans}
 use Rattle.std.specs.Prelude.{IfErr}
-use Rattle.fs_base.specs.Draws.{Passed}
+use Rattle.fs_base.specs.Draws.{Draws, Passed}
 use Rattle.fs_base.specs.Outside.{Rose}
 use Rattle.fs_base.specs.Parts.{at_limit, window}
 use Rattle.fs_base.specs.declared.counted.Counted.{Counted}
-use Rattle.fs_base.proofs.Drawing.{passed_none, passed_then}
+use Rattle.fs_base.proofs.Drawing.{draws_more, draws_straight, passed_none, passed_then, rose_earlier}
 use Rattle.fs_input.specs.declared.fault.Fault.{Fault}
 use Rattle.fs_input.specs.declared.fault.Fault.TheVariants.{Read, Bad}
 use Rattle.fs_input.specs.Scan.{Scanner, and, fails, field, gives}
-use Rattle.fs_input.specs.Reads.{Calls, Fails, Reads, Scanned, Starts, Took, end_of, whole}
+use Rattle.fs_input.specs.Reads.{Calls, Fails, Passes, PassesOn, Reads, Scanned, Starts, Took, end_of, whole}
 use Rattle.fs_input.proofs.Joining.{both_took, fails_first, fails_second}
-
-rose_later : (early mid late : ℕ) → early ≤ mid → Rose mid late → Rose early late
-rose_later early mid late l r = omega (arith, l, r)
 
 pub failed_later : {T R : Type 0} (result : Result T (Fault R)) (early mid late : ℕ) → early ≤ mid
     → IfErr result (λ fault. fault ≡ Read → Rose mid late) → IfErr result (λ fault. fault ≡ Read → Rose early late)
 failed_later (Ok answer) early mid late l h = h
-failed_later (Err fault) early mid late l h = λ read. rose_later early mid late l (h read)
+failed_later (Err fault) early mid late l h = λ read. rose_earlier early mid late l (h read)
 
--- what one call took of the input, and then another
-pub passed_behind : (old now new : Counted) (left left' left'' : ℕ → List ℕ) → now.slot ≡ old.slot → now.limit ≡ old.limit
-    → Passed old.limit old.taken now.taken (left old.slot) (left' old.slot)
-    → Passed now.limit now.taken new.taken (left' now.slot) (left'' now.slot)
-    → Passed old.limit old.taken new.taken (left old.slot) (left'' old.slot)
-passed_behind old now new left left' left'' slot limit one more =
-    passed_then old.limit old.taken now.taken new.taken (left old.slot) (left' old.slot) (left'' old.slot) one
-    (subst (λ slot. Passed old.limit now.taken new.taken (left' slot) (left'' slot)) slot
-    (subst (λ limit. Passed limit now.taken new.taken (left' now.slot) (left'' now.slot)) limit more))
+-- what was taken, told in another way
+pub passes_as : {One Other : Type 0} {told : Bool} {calls calls' : Calls} {left left' : ℕ → List ℕ} {holds holds' : List ℕ → Option (List ℕ)}
+    {old new : Counted} → (One → Other) → Passes told calls calls' left left' holds holds' One old new
+    → Passes told calls calls' left left' holds holds' Other old new
+passes_as told_so h = record {
+  later = h.later;
+  slot = h.slot;
+  limit = h.limit;
+  others = h.others;
+  took = λ tells_so. told_so (h.took tells_so);
+  opened = h.opened;
+}
+
+-- one call, and then another
+pub passes_more : {One More All : Type 0} {told : Bool} {calls mid late : Calls} {left left' left'' : ℕ → List ℕ}
+    {holds holds' holds'' : List ℕ → Option (List ℕ)} {old now new : Counted} → (One → More → All)
+    → Passes told calls mid left left' holds holds' One old now → Passes told mid late left' left'' holds' holds'' More now new
+    → Passes told calls late left left'' holds holds'' All old new
+passes_more took one more = record {
+  later = le_trans one.later more.later;
+  slot = more.slot ∙ one.slot;
+  limit = more.limit ∙ one.limit;
+  others = λ tells_so. record {
+    others = λ other apart.
+        (more.others tells_so).others other (λ same. apart (same ∙ one.slot)) ∙ (one.others tells_so).others other apart;
+    names = (more.others tells_so).names ∙ (one.others tells_so).names;
+  };
+  took = λ tells_so. took (one.took tells_so) (more.took tells_so);
+  opened = more.opened ∙ one.opened;
+}
+
+pub passes_then : {told : Bool} {calls mid late : Calls} {left left' left'' : ℕ → List ℕ} {holds holds' holds'' : List ℕ → Option (List ℕ)}
+    {old now new : Counted} → PassesOn told calls mid left left' holds holds' old now → PassesOn told mid late left' left'' holds' holds'' now new
+    → PassesOn told calls late left left'' holds holds'' old new
+passes_then {left = left} {left' = left'} {left'' = left''} {old = old} {now = now} {new = new} one more =
+    passes_more
+    (λ first last. passed_then old.limit old.taken now.taken new.taken (left old.slot) (left' old.slot) (left'' old.slot) first
+    (subst (λ slot. Passed old.limit now.taken new.taken (left' slot) (left'' slot)) one.slot
+    (subst (λ limit. Passed limit now.taken new.taken (left' now.slot) (left'' now.slot)) one.limit last)))
+    one more
+
+pub passes_in : {told : Bool} {calls mid late : Calls} {left left' left'' : ℕ → List ℕ} {holds holds' holds'' : List ℕ → Option (List ℕ)}
+    {old now new : Counted} → Passes told calls mid left left' holds holds' (Draws old now (left old.slot) (left' old.slot)) old now
+    → Passes told mid late left' left'' holds' holds'' (Draws now new (left' now.slot) (left'' now.slot)) now new
+    → Passes told calls late left left'' holds holds'' (Draws old new (left old.slot) (left'' old.slot)) old new
+passes_in {left = left} {left' = left'} {left'' = left''} one more =
+    passes_more (draws_more _ _ _ left left' left'' one.slot one.limit) one more
+
+-- where nothing was put back the slot alone was read
+pub passes_straight : {told : Bool} {calls calls' : Calls} {left left' : ℕ → List ℕ} {holds holds' : List ℕ → Option (List ℕ)} {old new : Counted}
+    → old.back ≡ [] → Passes told calls calls' left left' holds holds' (Draws old new (left old.slot) (left' old.slot)) old new
+    → PassesOn told calls calls' left left' holds holds' old new
+passes_straight none h = passes_as (draws_straight _ _ _ _ none) h
+
+-- nothing was done
+pub passes_none : {told : Bool} {calls : Calls} {left : ℕ → List ℕ} {holds : List ℕ → Option (List ℕ)} {now : Counted}
+    → PassesOn told calls calls left left holds holds now now
+passes_none {left = left} {now = now} = record {
+  later = omega arith;
+  slot = refl;
+  limit = refl;
+  others = λ tells_so. record { others = λ other apart. refl; names = refl };
+  took = λ tells_so. passed_none now.limit now.taken (left now.slot) now.within;
+  opened = refl;
+}
 
 module _ {T U A B R : Type 0} (first : Scanner A R) (next : A → Scanner B R) (cut : R) (tells : T → A) (tells2 : U → B) where
   scanned_then : (limit taken taken' taken'' : ℕ) (left left' left'' : List ℕ) (answer : T) (result : Result U (Fault R))
@@ -50,23 +103,15 @@ pub reads_then : {T U A B R : Type 0} {first : Scanner A R} {cut : R} {tells : T
 reads_then {first = first} {cut = cut} {tells = tells} {told = told} {calls = calls} {mid = mid} {late = late}
     {left = left} {left' = left'} {left'' = left''} {old = old} {now = now} {new = new} {answer = answer} {result = result}
     next tells2 one more = record {
-      later = le_trans one.later more.later;
-      failed = failed_later result calls.faults mid.faults late.faults one.later more.failed;
-      slot = more.slot ∙ one.slot;
-      limit = more.limit ∙ one.limit;
+      passes = passes_then one.passes more.passes;
+      failed = failed_later result calls.faults mid.faults late.faults one.passes.later more.failed;
       scanned = λ tells_so.
           scanned_then first next cut tells tells2 old.limit old.taken now.taken new.taken (left old.slot) (left' old.slot) (left'' old.slot)
           answer result
           (one.scanned tells_so)
-          (subst (λ slot. Scanned (next (tells answer)) cut old.limit now.taken new.taken (left' slot) (left'' slot) tells2 result) one.slot
-          (subst (λ limit. Scanned (next (tells answer)) cut limit now.taken new.taken (left' now.slot) (left'' now.slot) tells2 result) one.limit
-          (more.scanned tells_so)));
-      others = λ tells_so other apart.
-          more.others tells_so other (λ same. apart (same ∙ one.slot)) ∙ one.others tells_so other apart;
-      same = λ tells_so. more.same tells_so ∙ one.same tells_so;
-      took = λ tells_so.
-          passed_behind old now new left left' left'' one.slot one.limit (one.took tells_so) (more.took tells_so);
-      opened = more.opened ∙ one.opened;
+          (subst (λ slot. Scanned (next (tells answer)) cut old.limit now.taken new.taken (left' slot) (left'' slot) tells2 result) one.passes.slot
+          (subst (λ limit. Scanned (next (tells answer)) cut limit now.taken new.taken (left' now.slot) (left'' now.slot) tells2 result)
+          one.passes.limit (more.scanned tells_so)));
     }
 
 -- where the first field could not be read
@@ -76,48 +121,30 @@ pub reads_ends : {T U A B R : Type 0} {first : Scanner A R} {cut : R} {tells : T
     → Reads told calls late left left' holds holds' first cut old new tells (Err fault)
     → Reads told calls late left left' holds holds' (and first next) cut old new tells2 (Err fault)
 reads_ends {first = first} {cut = cut} {left = left} {old = old} {fault = fault} next tells2 one = record {
-  later = one.later;
+  passes = one.passes;
   failed = one.failed;
-  slot = one.slot;
-  limit = one.limit;
   scanned = λ tells_so.
       fails_first next old.taken (window old.limit old.taken (left old.slot)) cut _ old.taken _ _ fault (one.scanned tells_so);
-  others = one.others;
-  same = one.same;
-  took = one.took;
-  opened = one.opened;
 }
 
 -- a value that takes no octets
 pub reads_gives : {T A R : Type 0} {cut : R} {told : Bool} {calls : Calls} {left : ℕ → List ℕ} {holds : List ℕ → Option (List ℕ)}
     {now : Counted} (tells : T → A) (answer : T)
     → Reads told calls calls left left holds holds (gives (tells answer)) cut now now tells (Ok answer)
-reads_gives {left = left} {now = now} tells answer = record {
-  later = omega arith;
+reads_gives tells answer = record {
+  passes = passes_none;
   failed = tt;
-  slot = refl;
-  limit = refl;
   scanned = λ tells_so. record { count = 0; is = refl; within = (omega arith); taken_is = (omega arith); left_is = refl };
-  others = λ tells_so other apart. refl;
-  same = λ tells_so. refl;
-  took = λ tells_so. passed_none now.limit now.taken (left now.slot) now.within;
-  opened = refl;
 }
 
 -- a fault
 pub reads_fails : {T A R : Type 0} {cut : R} {told : Bool} {calls : Calls} {left : ℕ → List ℕ} {holds : List ℕ → Option (List ℕ)}
     {now : Counted} (tells : T → A) (reason : R) (place : ℕ)
     → Reads told calls calls left left holds holds (fails {A = A} reason place) cut now now tells (Err (Bad reason place))
-reads_fails {R = R} {left = left} {now = now} tells reason place = record {
-  later = omega arith;
+reads_fails {R = R} tells reason place = record {
+  passes = passes_none;
   failed = never;
-  slot = refl;
-  limit = refl;
   scanned = λ tells_so. refl;
-  others = λ tells_so other apart. refl;
-  same = λ tells_so. refl;
-  took = λ tells_so. passed_none now.limit now.taken (left now.slot) now.within;
-  opened = refl;
 } where
   never : {late : ℕ} → ◌≡◌ {A = Fault R} (Bad reason place) Read → Rose late late
   never e = absurd cc
@@ -138,17 +165,11 @@ pub reads_as : {T A R : Type 0} {one : Scanner A R} {cut : R} {tells : T → A} 
     → Reads told calls calls' left left' holds holds' one cut old new tells result
     → Reads told calls calls' left left' holds holds' other cut old new tells result
 reads_as {one = one} {cut = cut} {tells = tells} {left = left} {left' = left'} {old = old} {new = new} {result = result} other same h = record {
-  later = h.later;
+  passes = h.passes;
   failed = h.failed;
-  slot = h.slot;
-  limit = h.limit;
   scanned = λ tells_so.
       scanned_as one other cut old.limit old.taken new.taken (left old.slot) (left' old.slot) tells result
       (same (window old.limit old.taken (left old.slot))) (h.scanned tells_so);
-  others = h.others;
-  same = h.same;
-  took = h.took;
-  opened = h.opened;
 }
 
 -- what an answer tells of a value that takes no octets
@@ -164,15 +185,9 @@ pub starts_reads : {R : Type 0} {cut : R} {told : Bool} {calls calls' : Calls} {
     → Starts told calls calls' left left' holds holds' size cut old new into (Ok true)
     → Reads told calls calls' left left' holds holds' (field size whole) cut old new (λ (_ : Bool). into) (Ok true)
 starts_reads h = record {
-  later = h.later;
+  passes = h.passes;
   failed = tt;
-  slot = h.slot;
-  limit = h.limit;
   scanned = h.started;
-  others = h.others;
-  same = h.same;
-  took = h.took;
-  opened = h.opened;
 }
 
 -- the same, where the fault of the format, the size and the answer are known by equations

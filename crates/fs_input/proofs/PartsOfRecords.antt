@@ -1,16 +1,13 @@
 -- Laws of the parts that a reader reads.
-use Rattle.std.proofs.Common.{◌≡◌, ℕ, zero, suc, Bool, List, [], ◌∷◌, ◌++◌, Option, Some, None, ◌<◌, ◌≤◌, ◌+◌, ◌-◌, ◌⊎◌, inl, inr, length, take, drop, refl, ap, sym, ◌∙◌, arith, append_assoc, length-drop, subst}
+use Rattle.std.proofs.Common.{◌≡◌, ℕ, zero, suc, Bool, List, [], ◌∷◌, ◌++◌, Some, None, ◌<◌, ◌≤◌, ◌+◌, ◌-◌, inl, inr, length, take, drop, refl, ap, sym, ◌∙◌, arith, append_assoc, length-drop, subst}
 use Rattle.std.specs.Prelude.{nat_le}
 use Rattle.std.proofs.lemmas.List.{length-take}
 use Rattle.fs_base.specs.Language.{IsOctets}
 use Rattle.fs_base.specs.Parts.{at_limit, window, with_part}
 use Rattle.fs_base.proofs.Octets.{octets_right}
 use Rattle.fs_base.proofs.Parts.{limit_behind, window_behind}
+use Rattle.fs_base.proofs.Options.{none_or_some}
 use Rattle.fs_input.specs.Parts.{AllFrom, At, Fitting, ReadsText, Reader, Shrinks, SpellsText, at, judged, parts_from, parts_within, text_from, to_come}
-
-either : {A : Type 0} (o : Option A) → (o ≡ None) ⊎ ((x : A) × (o ≡ Some x))
-either None = inl refl
-either (Some x) = inr (x, refl)
 
 within_end : {S A : Type 0} (next : Reader S A) (n : ℕ) (now : At S) → next now ≡ None → parts_within next n now ≡ ([], now)
 unfolding parts_within
@@ -30,15 +27,15 @@ no_room next shrinks now found h none = let s : length found.1.octets < length n
 enough : {S A : Type 0} (next : Reader S A) → Shrinks next → (n m : ℕ) (now : At S)
     → length now.octets ≤ n → length now.octets ≤ m → parts_within next n now ≡ parts_within next m now
 enough next shrinks zero zero now a b = refl
-enough next shrinks zero (suc m) now a b = elim (either (next now)) [
+enough next shrinks zero (suc m) now a b = elim (none_or_some (next now)) [
   | inl h ↦ within_end next zero now h ∙ sym (within_end next (suc m) now h)
   | inr found ↦ absurd (no_room next shrinks now found.0 found.1 a)
 ]
-enough next shrinks (suc n) zero now a b = elim (either (next now)) [
+enough next shrinks (suc n) zero now a b = elim (none_or_some (next now)) [
   | inl h ↦ within_end next (suc n) now h ∙ sym (within_end next zero now h)
   | inr found ↦ absurd (no_room next shrinks now found.0 found.1 b)
 ]
-enough next shrinks (suc n) (suc m) now a b = elim (either (next now)) [
+enough next shrinks (suc n) (suc m) now a b = elim (none_or_some (next now)) [
   | inl h ↦ within_end next (suc n) now h ∙ sym (within_end next (suc m) now h)
   | inr found ↦
       let s : length found.0.1.octets < length now.octets = shrinks now found.0 found.1 in
@@ -62,6 +59,29 @@ parts_step next shrinks now found h =
     ∙ within_step next (length now.octets) now found h
     ∙ ap (with_part found.0) (enough next shrinks (length now.octets) (length found.1.octets) found.1 (omega arith) (omega arith))
 
+-- what holds where no part stands, and of a part and those behind it where it holds of these, holds of all parts
+module _ {S A : Type 0} (next : Reader S A) (shrinks : Shrinks next) (P : At S → List A × At S → Type 0)
+    (none : (now : At S) → next now ≡ None → P now ([], now))
+    (more : (now : At S) (found : A × At S) → next now ≡ Some found → P found.1 (parts_from next found.1)
+    → P now (with_part found.0 (parts_from next found.1))) where
+  end_all : (now : At S) → next now ≡ None → P now (parts_from next now)
+  end_all now h = subst (P now) (sym (parts_end next now h)) (none now h)
+
+  parts_by : (n : ℕ) (now : At S) → length now.octets ≤ n → P now (parts_from next now)
+  parts_by zero now a = elim (none_or_some (next now)) [
+    | inl h ↦ end_all now h
+    | inr found ↦ absurd (no_room next shrinks now found.0 found.1 a)
+  ]
+  parts_by (suc n) now a = elim (none_or_some (next now)) [
+    | inl h ↦ end_all now h
+    | inr found ↦
+        let s : length found.0.1.octets < length now.octets = shrinks now found.0 found.1 in
+        subst (P now) (sym (parts_step next shrinks now found.0 found.1)) (more now found.0 found.1 (parts_by n found.0.1 (omega arith)))
+  ]
+
+  pub parts_all : (now : At S) → P now (parts_from next now)
+  parts_all now = parts_by (length now.octets) now (omega arith)
+
 -- the state behind these parts
 abbrev pub state_behind : {S A : Type 0} → (S → A → S) → S → List A → S
 state_behind after state [] = state
@@ -83,10 +103,6 @@ abbrev pub AreRead : {S A : Type 0} → (S → A → List ℕ) → (S → A → 
 AreRead text Fits after now parts =
     (now.octets ≡ text_from text after now.state parts.0 ++ parts.1.octets) × AllFrom Fits after now.state parts.0
 
-none_read : {S A : Type 0} (next : Reader S A) (text : S → A → List ℕ) (Fits : S → A → Type 0) (after : S → A → S) (now : At S)
-    → next now ≡ None → AreRead text Fits after now (parts_from next now)
-none_read next text Fits after now h = rw (parts_end next now h) (refl, tt)
-
 one_read : {S A : Type 0} (text : S → A → List ℕ) (Fits : S → A → Type 0) (after : S → A → S) (now : At S) (found : A × At S)
     (parts : List A × At S)
     → (now.octets ≡ text now.state found.0 ++ found.1.octets) × Fits now.state found.0 × (found.1.state ≡ after now.state found.0)
@@ -100,51 +116,20 @@ one_read text Fits after now found parts first later =
       (first.1, behind.1),
     )
 
-read_by : {S A : Type 0} (next : Reader S A) (text : S → A → List ℕ) (Fits : S → A → Type 0) (after : S → A → S)
-    → Shrinks next → SpellsText next text Fits after → (n : ℕ) (now : At S) → IsOctets now.octets → length now.octets ≤ n
-    → AreRead text Fits after now (parts_from next now)
-read_by next text Fits after shrinks spells zero now are a = elim (either (next now)) [
-  | inl h ↦ none_read next text Fits after now h
-  | inr found ↦ absurd (no_room next shrinks now found.0 found.1 a)
-]
-read_by next text Fits after shrinks spells (suc n) now are a = elim (either (next now)) [
-  | inl h ↦ none_read next text Fits after now h
-  | inr found ↦
-      let s : length found.0.1.octets < length now.octets = shrinks now found.0 found.1 in
-      let first = spells now found.0 are found.1 in
-      let behind : IsOctets found.0.1.octets =
-      octets_right (text now.state found.0.0) found.0.1.octets (subst IsOctets first.0 are) in
-      rw (parts_step next shrinks now found.0 found.1)
-      (one_read text Fits after now found.0 (parts_from next found.0.1) first
-      (read_by next text Fits after shrinks spells n found.0.1 behind (omega arith)))
-]
-
 -- octets are the texts of their parts, and what is left
 pub parts_read : {S A : Type 0} (next : Reader S A) (text : S → A → List ℕ) (Fits : S → A → Type 0) (after : S → A → S)
     → Shrinks next → SpellsText next text Fits after → (now : At S) → IsOctets now.octets
     → AreRead text Fits after now (parts_from next now)
-parts_read next text Fits after shrinks spells now are =
-    read_by next text Fits after shrinks spells (length now.octets) now are (omega arith)
+parts_read {S} {A} next text Fits after shrinks spells =
+    parts_all next shrinks (λ now parts. IsOctets now.octets → AreRead text Fits after now parts) (λ now h are. (refl, tt))
+    (λ now found h later are.
+    let first = spells now found are h in
+    one_read text Fits after now found (parts_from next found.1) first
+    (later (octets_right (text now.state found.0) found.1.octets (subst IsOctets first.0 are))))
 
 fit_step : {S A : Type 0} (Fits : S → A → Type 0) (after : S → A → S) (state : S) (part : A) (behind : S) (parts : List A)
     → Fits state part × (behind ≡ after state part) → AllFrom Fits after behind parts → AllFrom Fits after state (part ∷ parts)
 fit_step Fits after state part behind parts first later = (first.0, subst (λ s. AllFrom Fits after s parts) first.1 later)
-
-fit_by : {S A : Type 0} (next : Reader S A) (Fits : S → A → Type 0) (after : S → A → S)
-    → Shrinks next → Fitting next Fits after → (n : ℕ) (now : At S) → length now.octets ≤ n
-    → AllFrom Fits after now.state (parts_from next now).0
-fit_by next Fits after shrinks fits zero now a = elim (either (next now)) [
-  | inl h ↦ rw (parts_end next now h) tt
-  | inr found ↦ absurd (no_room next shrinks now found.0 found.1 a)
-]
-fit_by next Fits after shrinks fits (suc n) now a = elim (either (next now)) [
-  | inl h ↦ rw (parts_end next now h) tt
-  | inr found ↦
-      let s : length found.0.1.octets < length now.octets = shrinks now found.0 found.1 in
-      rw (parts_step next shrinks now found.0 found.1)
-      (fit_step Fits after now.state found.0.0 found.0.1.state (parts_from next found.0.1).0 (fits now found.0 found.1)
-      (fit_by next Fits after shrinks fits n found.0.1 (omega arith)))
-]
 
 -- what holds of each part that is read holds of all of them, along the states
 pub coming_fit : {S A E : Type 0} (next : Reader S A) (stop : Bool → ℕ → At S → E) (Fits : S → A → Type 0) (after : S → A → S)
@@ -152,7 +137,9 @@ pub coming_fit : {S A E : Type 0} (next : Reader S A) (stop : Bool → ℕ → A
     → (limit taken : ℕ) (now : At S) → AllFrom Fits after now.state (to_come next stop limit taken now).0
 unfolding to_come
 coming_fit next stop Fits after shrinks fits limit taken now =
-    fit_by next Fits after shrinks fits (length (judged limit taken now).octets) (judged limit taken now) (omega arith)
+    parts_all next shrinks (λ now parts. AllFrom Fits after now.state parts.0) (λ now h. tt)
+    (λ now found h later. fit_step Fits after now.state found.0 found.1.state (parts_from next found.1).0 (fits now found h) later)
+    (judged limit taken now)
 
 -- no part stands in what is judged: only the end is to come
 pub to_come_end : {S A E : Type 0} (next : Reader S A) (stop : Bool → ℕ → At S → E) (limit taken : ℕ) (now : At S)

@@ -1,6 +1,5 @@
 -- Octets that are skipped piece by piece.
 use Rattle.std.proofs.Common.{◌≡◌, ℕ, List, ◌≤◌, ◌+◌, length, drop}
-use Rattle.fs_base.specs.Draws.{Passed}
 use Rattle.fs_base.specs.Parts.{window}
 
 -- so many octets were taken
@@ -8,13 +7,3 @@ pub record Skipped (limit taken taken' n : ℕ) (left left' : List ℕ) : Type 0
   pub within : n ≤ length (window limit taken left)
   pub place : taken' ≡ taken + n
   pub rest : left' ≡ drop n left
-
--- and none past the limit
-pub skipped_passed : (limit taken taken' n : ℕ) (left left' : List ℕ) → Skipped limit taken taken' n left left' → taken' ≤ limit
-    → Passed limit taken taken' left left'
-skipped_passed limit taken taken' n left left' h within = record {
-  count = n;
-  taken_is = h.place;
-  within = within;
-  left_is = h.rest;
-}

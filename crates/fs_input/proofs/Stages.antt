@@ -1,16 +1,14 @@
 -- Loops that read a chain of fields: what of the chain is still to be read, behind the fields that were.
-use Rattle.std.proofs.Common.{◌≡◌, ℕ, List, Bool, Option, Result, Ok, Err, IsTrue, ◌≢◌, ◌≤◌, ◌+◌, length, drop, refl, ap, sym, ◌∙◌, subst, arith, le_trans}
+use Rattle.std.proofs.Common.{◌≡◌, ℕ, List, Bool, Option, Result, Ok, Err, IsTrue, ◌≤◌, ◌+◌, length, drop, refl, ap, sym, ◌∙◌, subst, arith}
 use Rattle.std.proofs.lemmas.List.{drop-drop}
-use Rattle.fs_base.specs.Draws.{Passed}
 use Rattle.fs_base.specs.Parts.{at_limit, window}
 use Rattle.fs_base.specs.declared.counted.Counted.{Counted}
-use Rattle.fs_base.proofs.Drawing.{passed_none}
 use Rattle.fs_input.specs.declared.fault.Fault.{Fault}
 use Rattle.fs_input.specs.Scan.{Scan, Scanner, and, behind, got, partial, wrong}
 use Rattle.fs_input.specs.Records.{End}
-use Rattle.fs_input.specs.Reads.{Calls, Fails, Reads, Scanned, Took, end_of, ends_by}
+use Rattle.fs_input.specs.Reads.{Calls, Fails, PassesOn, Reads, Scanned, Took, end_of, ends_by}
 use Rattle.fs_input.proofs.Joining.{behind_took, chain_is, end_behind}
-use Rattle.fs_input.proofs.Lifting.{failed_later, passed_behind}
+use Rattle.fs_input.proofs.Lifting.{failed_later, passes_none, passes_then}
 
 -- so many octets of the chain were taken, and this rest of it is to be read
 pub record Stage {A R : Type 0} (chain rest : Scanner A R) (limit taken taken' : ℕ) (left left' : List ℕ) : Type 0 where
@@ -20,12 +18,12 @@ pub record Stage {A R : Type 0} (chain rest : Scanner A R) (limit taken taken' :
   pub rest_is : left' ≡ drop count left
   pub is : chain taken (window limit taken left) ≡ behind count (rest taken' (window limit taken' left'))
 
-behind_none : {A R : Type 0} (scan : Scan A R) → scan ≡ behind 0 scan
+pub behind_none : {A R : Type 0} (scan : Scan A R) → scan ≡ behind 0 scan
 behind_none (got value count) = let same : count ≡ 0 + count = omega arith in ap (λ n. got value n) same
 behind_none (wrong reason place) = refl
 behind_none partial = refl
 
-behind_more : {A R : Type 0} (n m : ℕ) (scan : Scan A R) → behind n (behind m scan) ≡ behind (n + m) scan
+pub behind_more : {A R : Type 0} (n m : ℕ) (scan : Scan A R) → behind n (behind m scan) ≡ behind (n + m) scan
 behind_more n m (got value count) = let same : n + (m + count) ≡ n + m + count = omega arith in ap (λ k. got value k) same
 behind_more n m (wrong reason place) = refl
 behind_more n m partial = refl
@@ -49,8 +47,7 @@ module _ {A R : Type 0} (chain rest : Scanner A R) (limit taken taken' taken'' :
         within = omega (arith, one.within, more.within, behind_one.size);
         place = omega (arith, one.place, more.place);
         rest_is =
-            more.rest_is ∙ ap (drop more.count) one.rest_is ∙ drop-drop more.count one.count left
-            ∙ ap (λ n. drop n left) (let n : one.count + more.count ≡ one.count + more.count = refl in n);
+            more.rest_is ∙ ap (drop more.count) one.rest_is ∙ drop-drop more.count one.count left;
         is =
             one.is ∙ ap (behind one.count) more.is
             ∙ behind_more one.count more.count (last taken'' (window limit taken'' left''));
@@ -67,8 +64,7 @@ module _ {A R : Type 0} (chain rest : Scanner A R) (limit taken taken' taken'' :
         within = omega (arith, one.within, more.within, behind_one.size);
         taken_is = omega (arith, one.place, more.taken_is);
         left_is =
-            more.left_is ∙ ap (drop more.count) one.rest_is ∙ drop-drop more.count one.count left
-            ∙ ap (λ n. drop n left) (let n : one.count + more.count ≡ one.count + more.count = refl in n);
+            more.left_is ∙ ap (drop more.count) one.rest_is ∙ drop-drop more.count one.count left;
       }
 
   stage_ends : (cut : R) → Stage chain rest limit taken taken' left left' → ends_by chain cut limit taken left ≡ ends_by rest cut limit taken' left'
@@ -97,26 +93,14 @@ stage_field first next limit taken taken' left left' value took = record {
 -- What a loop did to the files that has read a chain up to this rest of it.
 module _ {A R : Type 0} (told : Bool) (calls calls' : Calls) (left left' : ℕ → List ℕ) (holds holds' : List ℕ → Option (List ℕ)) where
   pub record Going (chain rest : Scanner A R) (old now : Counted) : Type 0 where
-    pub later : calls.faults ≤ calls'.faults
-    pub slot : now.slot ≡ old.slot
-    pub limit : now.limit ≡ old.limit
+    pub passes : PassesOn told calls calls' left left' holds holds' old now
     pub staged : IsTrue told → Stage chain rest old.limit old.taken now.taken (left old.slot) (left' old.slot)
-    pub others : IsTrue told → (other : ℕ) → other ≢ old.slot → left' other ≡ left other
-    pub same : IsTrue told → holds' ≡ holds
-    pub took : IsTrue told → Passed old.limit old.taken now.taken (left old.slot) (left' old.slot)
-    pub opened : calls'.opened ≡ calls.opened
 
 pub going_start : {A R : Type 0} {told : Bool} {calls : Calls} {left : ℕ → List ℕ} {holds : List ℕ → Option (List ℕ)} {now : Counted}
     (chain : Scanner A R) → Going told calls calls left left holds holds chain chain now now
 going_start {left = left} {now = now} chain = record {
-  later = omega arith;
-  slot = refl;
-  limit = refl;
+  passes = passes_none;
   staged = λ tells_so. stage_start chain now.limit now.taken (left now.slot);
-  others = λ tells_so other apart. refl;
-  same = λ tells_so. refl;
-  took = λ tells_so. passed_none now.limit now.taken (left now.slot) now.within;
-  opened = refl;
 }
 
 -- one field more
@@ -128,22 +112,14 @@ pub going_more : {T A B R : Type 0} {chain : Scanner A R} {first : Scanner B R} 
     → Going told calls late left left'' holds holds'' chain (next (tells answer)) old new
 going_more {chain = chain} {first = first} {cut = cut} {tells = tells} {left = left} {left' = left'} {left'' = left''} {old = old} {now = now}
     {new = new} {answer = answer} next one more = record {
-      later = le_trans one.later more.later;
-      slot = more.slot ∙ one.slot;
-      limit = more.limit ∙ one.limit;
+      passes = passes_then one.passes more.passes;
       staged = λ tells_so.
           stages chain (and first next) old.limit old.taken now.taken new.taken (left old.slot) (left' old.slot) (left'' old.slot)
           (next (tells answer)) (one.staged tells_so)
           (stage_field first next old.limit now.taken new.taken (left' old.slot) (left'' old.slot) (tells answer)
-          (subst (λ slot. Scanned first cut old.limit now.taken new.taken (left' slot) (left'' slot) tells (Ok answer)) one.slot
-          (subst (λ limit. Scanned first cut limit now.taken new.taken (left' now.slot) (left'' now.slot) tells (Ok answer)) one.limit
+          (subst (λ slot. Scanned first cut old.limit now.taken new.taken (left' slot) (left'' slot) tells (Ok answer)) one.passes.slot
+          (subst (λ limit. Scanned first cut limit now.taken new.taken (left' now.slot) (left'' now.slot) tells (Ok answer)) one.passes.limit
           (more.scanned tells_so))));
-      others = λ tells_so other apart.
-          more.others tells_so other (λ same. apart (same ∙ one.slot)) ∙ one.others tells_so other apart;
-      same = λ tells_so. more.same tells_so ∙ one.same tells_so;
-      took = λ tells_so.
-          passed_behind old now new left left' left'' one.slot one.limit (one.took tells_so) (more.took tells_so);
-      opened = more.opened ∙ one.opened;
     }
 
 staged_reads : {T A R : Type 0} (chain rest : Scanner A R) (cut : R) (tells : T → A) (limit taken taken' taken'' : ℕ) (left left' left'' : List ℕ)
@@ -163,20 +139,12 @@ pub going_then : {T A R : Type 0} {chain rest : Scanner A R} {cut : R} {tells : 
     → Reads told calls late left left'' holds holds'' chain cut old new tells result
 going_then {chain = chain} {rest = rest} {cut = cut} {tells = tells} {calls = calls} {mid = mid} {late = late} {left = left} {left' = left'}
     {left'' = left''} {old = old} {now = now} {new = new} {result = result} one more = record {
-      later = le_trans one.later more.later;
-      failed = failed_later result calls.faults mid.faults late.faults one.later more.failed;
-      slot = more.slot ∙ one.slot;
-      limit = more.limit ∙ one.limit;
+      passes = passes_then one.passes more.passes;
+      failed = failed_later result calls.faults mid.faults late.faults one.passes.later more.failed;
       scanned = λ tells_so.
           staged_reads chain rest cut tells old.limit old.taken now.taken new.taken (left old.slot) (left' old.slot) (left'' old.slot) result
           (one.staged tells_so)
-          (subst (λ slot. Scanned rest cut old.limit now.taken new.taken (left' slot) (left'' slot) tells result) one.slot
-          (subst (λ limit. Scanned rest cut limit now.taken new.taken (left' now.slot) (left'' now.slot) tells result) one.limit
+          (subst (λ slot. Scanned rest cut old.limit now.taken new.taken (left' slot) (left'' slot) tells result) one.passes.slot
+          (subst (λ limit. Scanned rest cut limit now.taken new.taken (left' now.slot) (left'' now.slot) tells result) one.passes.limit
           (more.scanned tells_so)));
-      others = λ tells_so other apart.
-          more.others tells_so other (λ same. apart (same ∙ one.slot)) ∙ one.others tells_so other apart;
-      same = λ tells_so. more.same tells_so ∙ one.same tells_so;
-      took = λ tells_so.
-          passed_behind old now new left left' left'' one.slot one.limit (one.took tells_so) (more.took tells_so);
-      opened = more.opened ∙ one.opened;
     }

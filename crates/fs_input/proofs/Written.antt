@@ -11,20 +11,12 @@ use Rattle.fs_input.specs.Coming.{Chain, IsTextOf, Takes, all_given, all_told, o
 use Rattle.fs_input.specs.Reads.{Took, end_of, ends_by}
 use Rattle.fs_input.specs.Scan.{Scan, got, partial, wrong}
 use Rattle.fs_input.proofs.Coming.{done_comes, end_comes, part_comes}
+use Rattle.fs_input.proofs.Done.{all_taken, below_limit, nothing}
 use Rattle.fs_input.proofs.Spelling.{Reads, Spells}
 
--- the limit isn't reached, or it is
-below_limit : (limit taken : ℕ) (left : List ℕ) → at_limit limit taken left ≡ false → taken + length left < limit
-below_limit limit taken left below = grind (arith, nat_tests)
-
+-- the limit isn't reached
 free_of : (limit taken : ℕ) (left : List ℕ) → taken + length left < limit → at_limit limit taken left ≡ false
 free_of limit taken left below = grind (arith, nat_tests)
-
-all_taken : (n : ℕ) (octets : List ℕ) → length octets ≤ n → take n octets ≡ octets
-all_taken n octets within = grind (arith, common_steps)
-
-nothing : (octets : List ℕ) → length octets ≡ 0 → octets ≡ []
-nothing octets none = grind (arith, common_steps)
 
 module _ {S P W R : Type 0} (chain : Chain S P R) (text : W → List ℕ) (Fits : S → W → Type 0) (gives : S → W → P × S) where
   -- each value is spelled by a written part that fits, and tells it
@@ -41,6 +33,14 @@ module _ {S P W R : Type 0} (chain : Chain S P R) (text : W → List ℕ) (Fits 
     pub fit : AllFrom Fits (λ state part. (gives state part).1) now written
     pub parts_are : parts ≡ all_given gives now written
     pub below : taken + length left < limit
+
+  -- a part takes octets, where the text of each has some
+  pub spelled_takes : ((state : S) (part : W) → Fits state part → 0 < length (text part))
+      → ((state : S) → Spells (IsSpelled state) (chain state)) → (state : S) → Takes 1 (chain state)
+  spelled_takes some spells state place octets value count h =
+      let s = spells state place octets value count h in
+      let long = some state s.1.part s.1.fits in
+      (omega (arith, long, s.0, length-take count octets, ap length s.1.text_is), s.0)
 
   module _ (cut : R) (takes : (state : S) → Takes 1 (chain state)) (spells : (state : S) → Spells (IsSpelled state) (chain state)) (limit : ℕ) where
     abbrev Done : ℕ → S → List ℕ → List P → Type 0

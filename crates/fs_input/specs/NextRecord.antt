@@ -1,5 +1,9 @@
 -- What reading the next record answers, and what is to come then.
-use Rattle.std.specs.Prelude.{ℕ, List, [], Option, Some, None, Result, Ok, Err, ◌≡◌, ◌≤◌, ◌<◌, ◌==◌, ◌&&◌, not, if◌then◌else◌, ⊤}
+use Rattle.std.specs.Prelude.{ℕ, List, [], Option, Some, None, IsSome, IfSome, IsTrue, Result, Ok, Err, ◌≡◌, ◌≤◌, ◌<◌, ◌==◌, ◌&&◌, not, if◌then◌else◌, ⊤}
+use Rattle.std.specs.Result.{IsErrOf}
+use Rattle.fs_base.specs.Files.{OnlySlot}
+use Rattle.fs_base.specs.Outside.{Rose}
+use Rattle.fs_base.specs.declared.Files as files
 use Rattle.fs_input.specs.Records.{End, done, limited, bad}
 use Rattle.fs_input.specs.declared.fault.Ended.{Ended}
 use Rattle.fs_input.specs.declared.fault.Ended.TheVariants.{Done, Stopped}
@@ -40,11 +44,34 @@ Advances before behind (Err Read) = ⊤
 Advances before behind (Err Limit) = before ≡ ([], limited)
 Advances before behind (Err (Bad reason place)) = before ≡ ([], bad reason place)
 
--- A record raises the place, up to the limit at most. Its payload has no more than `most` octets, and what its head says
--- is known.
-abbrev pub Grows : {A R : Type 0} → (A → Type 0) → (most old new limit : ℕ) → Result (Option (Found A)) (Fault R) → Type 0
-Grows Known most old new limit (Ok (Some found)) = (old < new) × (new ≤ limit) × (found.size ≤ most) × Known found.said
-Grows Known most old new limit _ = ⊤
+-- What is given raises the place, up to the limit at most, and more holds of it.
+abbrev pub Grows : {T R : Type 0} → (T → Type 0) → (old new limit : ℕ) → Result (Option T) (Fault R) → Type 0
+Grows Holds old new limit (Ok (Some found)) = (old < new) × (new ≤ limit) × Holds found
+Grows Holds old new limit _ = ⊤
+
+-- a record's payload has no more than `most` octets, and what its head says is known
+abbrev pub IsHeld : {A : Type 0} → (A → Type 0) → (most : ℕ) → Found A → Type 0
+IsHeld Known most found = (found.size ≤ most) × Known found.said
+
+-- What a call does that reads the next part of an input in a slot. `before` is what was to come, and `behind` tells what
+-- is to come behind a part.
+pub record GivesNext {F T B R : Type 0} (of_files : files.Ghosts F) (old new : F) (slot slot' limit limit' : ℕ)
+    (end end' : Option (Ended R)) (Stays : Type 0) (before : List B × End R) (behind : T → List B × End R)
+    (result : Result (Option T) (Fault R)) : Type 0 where
+  -- the faults of the files never fall, and rose where `Read` is answered
+  pub later : of_files.faults old ≤ of_files.faults new
+  pub read : end ≡ None → IsErrOf result Read → Rose (of_files.faults old) (of_files.faults new)
+  pub slot_is : slot' ≡ slot
+  pub limit_is : limit' ≡ limit
+  -- an input that ended answers the same again, stays as it is, and isn't read
+  pub again : IfSome end (λ ended. result ≡ answer_of ended)
+  pub stays : IsSome end → Stays
+  pub unread : IsSome end → new ≡ old
+  pub ended : end' ≡ ended_after result
+  pub advances : IsTrue of_files.tells → end ≡ None → Advances before behind result
+  -- no file is opened, and of files that tell their octets nothing changes but the slot
+  pub opened : of_files.opened new ≡ of_files.opened old
+  pub others : OnlySlot of_files.tells of_files.left of_files.holds slot old new
 
 -- the fault of an input of which no octet is left to be taken
 abbrev pub short_fault : {R : Type 0} → R → (taken limit : ℕ) → Fault R

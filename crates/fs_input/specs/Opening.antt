@@ -1,5 +1,5 @@
 -- What stands before the records of an input: so many octets, judged field by field as they are filled.
-use Rattle.std.specs.Prelude.{ℕ, List, Result, Ok, Err, Bool, ◌≡◌, ◌<◌, ◌≤◌, length, take, nat_le, if◌then◌else◌, ⊤}
+use Rattle.std.specs.Prelude.{ℕ, List, [], Result, Ok, Err, Bool, ◌≡◌, ◌<◌, ◌≤◌, length, take, nat_le, if◌then◌else◌, ⊤}
 use Rattle.fs_input.specs.NextRecord.{short_fault}
 use Rattle.fs_input.specs.Records.{End, limited, bad}
 use Rattle.fs_input.specs.declared.fault.Fault.{Fault}
@@ -25,6 +25,13 @@ Opens view opened behind left (Ok input) = (opened ≡ Ok (view input)) × (left
 Opens view opened behind left (Err Read) = ⊤
 Opens view opened behind left (Err Limit) = opened ≡ Err limited
 Opens view opened behind left (Err (Bad reason place)) = opened ≡ Err (bad reason place)
+
+-- An opened input is still to give all parts. A fault is what ends it before them.
+abbrev pub Begins : {T P R : Type 0} → List P × End R → (T → List P × End R) → Result T (Fault R) → Type 0
+Begins all coming (Ok input) = all ≡ coming input
+Begins all coming (Err Read) = ⊤
+Begins all coming (Err Limit) = all ≡ ([], limited)
+Begins all coming (Err (Bad reason place)) = all ≡ ([], bad reason place)
 
 -- what is answered where the octets before the records say this, and so many were taken
 abbrev pub opened_answer : {V R : Type 0} → R → (taken limit : ℕ) → Head V R → Result V (Fault R)

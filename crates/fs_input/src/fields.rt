@@ -1,7 +1,6 @@
 //! Taking and skipping the octets of fields.
 ghost use Rattle.std.specs.Prelude.{◌≡◌, ◌≤◌, ◌+◌, ◌<◌, ◌==◌, ◌&&◌, [], IfOk, IsTrue, length, not};
-ghost use Rattle.fs_base.specs.Draws.{Draws};
-ghost use Rattle.fs_input.specs.Reads.{Scans, ScansAgain, StartsIn};
+ghost use Rattle.fs_input.specs.Reads.{PassesIn, Scans, ScansAgain, StartsIn};
 ghost use Rattle.fs_input.specs.Scan.{field, skips};
 
 use crate::fault::Fault;
@@ -26,13 +25,7 @@ pub fn take_octets<F: Files, R: Copy + Drop>(
     ensures reads { Scans F.Files files.old files.new (field (length into.new) (λ octets. octets)) cut counted.old
         counted.new (λ _. into.new) result }
 {
-    let Ok(count) = fill(counted, files, into) else {
-        return Err(Fault::Read);
-    };
-    if count < into.len() {
-        return Err(short(cut, counted));
-    }
-    Ok(())
+    take_again(cut, counted, files, into)
 }
 
 /// Takes the octets of the first field of a part of the input, those that were put back first. `false`: the input ended
@@ -52,8 +45,7 @@ pub fn take_first<F: Files, R: Copy + Drop>(
     ensures straight { counted.old.back ≡ [] → counted.new.back ≡ [] }
     ensures taken { IfOk result (λ found.
         IsTrue found → counted.new.taken ≡ counted.old.taken + length into.new) }
-    ensures took { IsTrue F.tells
-        → Draws counted.old counted.new (F.left files.old counted.old.slot) (F.left files.new counted.old.slot) }
+    ensures passes { PassesIn F.Files files.old files.new counted.old counted.new }
     ensures starts { StartsIn F.Files files.old files.new (length into.new) cut counted.old counted.new into.new
         result }
 {
@@ -81,6 +73,7 @@ fn is_over(counted: &Counted, count: usize) -> bool
 /// # Errors
 ///
 /// As of `take_octets`.
+#[inline(always)]
 pub fn take_again<F: Files, R: Copy + Drop>(
     cut: R,
     counted: &mut Counted,
@@ -89,6 +82,7 @@ pub fn take_again<F: Files, R: Copy + Drop>(
 ) -> Result<(), Fault<R>>
     requires few { length counted.old.back ≤ length into.old }
     ensures none { IfOk result (λ _. counted.new.back ≡ []) }
+    ensures straight { counted.old.back ≡ [] → counted.new.back ≡ [] }
     ensures taken { IfOk result (λ _. counted.new.taken ≡ counted.old.taken + length into.new) }
     ensures reads { ScansAgain F.Files files.old files.new (field (length into.new) (λ octets. octets)) cut counted.old
         counted.new (λ _. into.new) result }

@@ -1,12 +1,12 @@
 //! Reading an input part by part, up to one that tells something.
-ghost use Rattle.std.specs.Prelude.{◌≡◌, ◌≤◌, ◌<◌, ◌++◌, [], None, IsSome, IsTrue, IfOk, IfSome, length};
+ghost use Rattle.std.specs.Prelude.{◌≡◌, ◌≤◌, ◌<◌, ◌++◌, [], None, IsTrue, IfOk, IfSome, length};
 ghost use Rattle.std.specs.Option.{option_map};
 ghost use Rattle.std.specs.Result.{IsErrOf};
 ghost use Rattle.fs_base.specs.Draws.{Draws};
-ghost use Rattle.fs_base.specs.Files.{OnlySlot};
 ghost use Rattle.fs_base.specs.Outside.{Rose};
 ghost use Rattle.fs_base.specs.Parts.{with_part};
-ghost use Rattle.fs_input.specs.NextRecord.{Advances, answer_of, ended_after};
+ghost use Rattle.fs_input.specs.NextRecord.{Advances, GivesNext};
+ghost use Rattle.fs_input.specs.Reads.{PassesIn};
 ghost use Rattle.fs_input.specs.declared.fault.Fault.TheVariants.{Read};
 ghost use Rattle.fs_input.specs.Coming.{part_in, parts_to_come, told_to_come};
 ghost use Rattle.fs_input.specs.Reading.{Grows, part_told, answer_told};
@@ -36,21 +36,9 @@ pub fn next_part<F: Files, P: Parts>(
     requires room { P.most ≤ length into.old }
     ensures straight { counted.old.back ≡ [] → counted.new.back ≡ [] }
     ensures room { length into.new ≡ length into.old }
-    ensures later { F.faults files.old ≤ F.faults files.new }
-    ensures read { end.old ≡ None → IsErrOf result Read → Rose (F.faults files.old) (F.faults files.new) }
-    ensures slot { counted.new.slot ≡ counted.old.slot }
-    ensures limit { counted.new.limit ≡ counted.old.limit }
-    ensures again { IfSome end.old (λ ended. result ≡ answer_of ended) }
-    ensures stays { IsSome end.old
-        → (counted.new ≡ counted.old) × (end.new ≡ end.old) × (parts.new ≡ parts.old) }
-    ensures unread { IsSome end.old → files.new ≡ files.old }
-    ensures ended { end.new ≡ ended_after result }
-    ensures grows { end.old ≡ None → Grows counted.old.taken counted.new.taken counted.new.limit result }
-    ensures moves { P.Moves parts.old parts.new (answer_told result) }
-
-    ensures advances { IsTrue F.tells
-        → end.old ≡ None
-        → Advances
+    ensures gives { GivesNext F.Files files.old files.new counted.old.slot counted.new.slot counted.old.limit
+        counted.new.limit end.old end.new
+        ((counted.new ≡ counted.old) × (end.new ≡ end.old) × (parts.new ≡ parts.old))
         (told_to_come (part_in P.first (P.behind given.now)) P.cut counted.old.limit counted.old.taken parts.old
         (counted.old.back ++ F.left files.old counted.old.slot))
         (λ told. with_part
@@ -58,10 +46,10 @@ pub fn next_part<F: Files, P: Parts>(
         (told_to_come (part_in P.first (P.behind given.now)) P.cut counted.new.limit counted.new.taken parts.new
         (counted.new.back ++ F.left files.new counted.old.slot)))
         result }
+    ensures grows { end.old ≡ None → Grows counted.old.taken counted.new.taken counted.new.limit result }
+    ensures moves { P.Moves parts.old parts.new (answer_told result) }
     ensures took { IsTrue F.tells
         → Draws counted.old counted.new (F.left files.old counted.old.slot) (F.left files.new counted.old.slot) }
-    ensures opened { F.opened files.new ≡ F.opened files.old }
-    ensures others { OnlySlot F.tells F.left F.holds counted.old.slot files.old files.new }
 {
     if let Some(ended) = *end {
         return answer(ended);
@@ -82,10 +70,8 @@ fn next_told<F: Files, P: Parts>(
     requires room { P.most ≤ length into.old }
     ensures straight { counted.old.back ≡ [] → counted.new.back ≡ [] }
     ensures room { length into.new ≡ length into.old }
-    ensures later { F.faults files.old ≤ F.faults files.new }
     ensures read { IsErrOf result Read → Rose (F.faults files.old) (F.faults files.new) }
-    ensures slot { counted.new.slot ≡ counted.old.slot }
-    ensures limit { counted.new.limit ≡ counted.old.limit }
+    ensures passes { PassesIn F.Files files.old files.new counted.old counted.new }
     ensures grows { Grows counted.old.taken counted.new.taken counted.new.limit result }
     ensures moves { P.Moves parts.old parts.new (answer_told result) }
 
@@ -98,10 +84,6 @@ fn next_told<F: Files, P: Parts>(
         (told_to_come (part_in P.first (P.behind given.now)) P.cut counted.new.limit counted.new.taken parts.new
         (counted.new.back ++ F.left files.new counted.old.slot)))
         result }
-    ensures took { IsTrue F.tells
-        → Draws counted.old counted.new (F.left files.old counted.old.slot) (F.left files.new counted.old.slot) }
-    ensures opened { F.opened files.new ≡ F.opened files.old }
-    ensures others { OnlySlot F.tells F.left F.holds counted.old.slot files.old files.new }
 {
     'parts: loop {
         match advance(given, parts, counted, files, into) {
@@ -124,10 +106,8 @@ fn advance<F: Files, P: Parts>(
     requires room { P.most ≤ length into.old }
     ensures straight { counted.old.back ≡ [] → counted.new.back ≡ [] }
     ensures room { length into.new ≡ length into.old }
-    ensures later { F.faults files.old ≤ F.faults files.new }
     ensures read { IsErrOf result Read → Rose (F.faults files.old) (F.faults files.new) }
-    ensures slot { counted.new.slot ≡ counted.old.slot }
-    ensures limit { counted.new.limit ≡ counted.old.limit }
+    ensures passes { PassesIn F.Files files.old files.new counted.old counted.new }
     ensures grows { IfOk result (λ found. IfSome found (λ told. counted.old.taken < counted.new.taken)) }
     ensures moves { P.Moves parts.old parts.new (part_told result) }
 
@@ -140,10 +120,6 @@ fn advance<F: Files, P: Parts>(
         (parts_to_come (part_in P.first (P.behind given.now)) P.cut counted.new.limit counted.new.taken parts.new
         (counted.new.back ++ F.left files.new counted.new.slot)))
         result }
-    ensures took { IsTrue F.tells
-        → Draws counted.old counted.new (F.left files.old counted.old.slot) (F.left files.new counted.old.slot) }
-    ensures opened { F.opened files.new ≡ F.opened files.old }
-    ensures others { OnlySlot F.tells F.left F.holds counted.old.slot files.old files.new }
 {
     let mut octets = [0u8; MOST_FIRST];
     let size = parts.first_size(given);

@@ -1,11 +1,11 @@
 //! Reading an input record by record, whatever counts the reads give.
-ghost use Rattle.std.specs.Prelude.{◌≡◌, ◌≤◌, [], ℕ, None, IsSome, IsTrue, IfSome, length, take};
+ghost use Rattle.std.specs.Prelude.{◌≡◌, ◌≤◌, [], None, IsTrue, length, take};
 ghost use Rattle.std.specs.Result.{IsErrOf};
 ghost use Rattle.fs_base.specs.Draws.{Draws};
-ghost use Rattle.fs_base.specs.Files.{OnlySlot};
 ghost use Rattle.fs_base.specs.Outside.{Rose};
 ghost use Rattle.fs_base.specs.Parts.{with_part};
-ghost use Rattle.fs_input.specs.NextRecord.{Advances, Grows, answer_of, ended_after, short_answer, short_fault};
+ghost use Rattle.fs_input.specs.NextRecord.{Advances, GivesNext, Grows, IsHeld, answer_of, ended_after, short_answer, short_fault};
+ghost use Rattle.fs_input.specs.Reads.{PassesIn};
 ghost use Rattle.fs_input.specs.Records.{records_to_come};
 
 use crate::fault::{Ended, Fault};
@@ -31,20 +31,8 @@ pub fn next_record<F: Files, H: Heads>(
     requires room { H.most ≤ length into.old }
     requires none { counted.old.back ≡ [] }
     ensures none { counted.new.back ≡ [] }
-    ensures later { F.faults files.old ≤ F.faults files.new }
-    ensures read { end.old ≡ None → IsErrOf result Fault.Read → Rose (F.faults files.old) (F.faults files.new) }
-    ensures slot { counted.new.slot ≡ counted.old.slot }
-    ensures limit { counted.new.limit ≡ counted.old.limit }
-    ensures again { IfSome end.old (λ ended. result ≡ answer_of ended) }
-    ensures stays { IsSome end.old → (counted.new ≡ counted.old) × (end.new ≡ end.old) }
-    ensures unread { IsSome end.old → files.new ≡ files.old }
-    ensures ended { end.new ≡ ended_after result }
-    ensures grows { end.old ≡ None
-        → Grows (H.Known heads.now) H.most counted.old.taken counted.new.taken counted.new.limit result }
-
-    ensures advances { IsTrue F.tells
-        → end.old ≡ None
-        → Advances
+    ensures gives { GivesNext F.Files files.old files.new counted.old.slot counted.new.slot counted.old.limit
+        counted.new.limit end.old end.new ((counted.new ≡ counted.old) × (end.new ≡ end.old))
         (records_to_come H.format counted.old.limit counted.old.taken heads.now (F.left files.old counted.old.slot))
         (λ found. with_part
         (H.format.item_of found.said (take found.size into.new))
@@ -55,10 +43,10 @@ pub fn next_record<F: Files, H: Heads>(
         (H.format.behind heads.now found.said)
         (F.left files.new counted.old.slot)))
         result }
+    ensures grows { end.old ≡ None
+        → Grows (IsHeld (H.Known heads.now) H.most) counted.old.taken counted.new.taken counted.new.limit result }
     ensures took { IsTrue F.tells
         → Draws counted.old counted.new (F.left files.old counted.old.slot) (F.left files.new counted.old.slot) }
-    ensures opened { F.opened files.new ≡ F.opened files.old }
-    ensures others { OnlySlot F.tells F.left F.holds counted.old.slot files.old files.new }
 {
     if let Some(ended) = *end {
         return answer(ended);
@@ -131,11 +119,10 @@ fn advance<F: Files, H: Heads>(
     requires room { H.most ≤ length into.old }
     requires none { counted.old.back ≡ [] }
     ensures none { counted.new.back ≡ [] }
-    ensures later { F.faults files.old ≤ F.faults files.new }
     ensures read { IsErrOf result Fault.Read → Rose (F.faults files.old) (F.faults files.new) }
-    ensures slot { counted.new.slot ≡ counted.old.slot }
-    ensures limit { counted.new.limit ≡ counted.old.limit }
-    ensures grows { Grows (H.Known heads.now) H.most counted.old.taken counted.new.taken counted.new.limit result }
+    ensures passes { PassesIn F.Files files.old files.new counted.old counted.new }
+    ensures grows { Grows (IsHeld (H.Known heads.now) H.most) counted.old.taken counted.new.taken counted.new.limit
+        result }
 
     ensures advances { IsTrue F.tells
         → Advances
@@ -149,10 +136,6 @@ fn advance<F: Files, H: Heads>(
         (H.format.behind heads.now found.said)
         (F.left files.new counted.old.slot)))
         result }
-    ensures took { IsTrue F.tells
-        → Draws counted.old counted.new (F.left files.old counted.old.slot) (F.left files.new counted.old.slot) }
-    ensures opened { F.opened files.new ≡ F.opened files.old }
-    ensures others { OnlySlot F.tells F.left F.holds counted.old.slot files.old files.new }
 {
     let mut octets = [0u8; MOST_HEAD];
     let size = heads.head_size();

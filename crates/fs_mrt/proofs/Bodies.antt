@@ -1,19 +1,22 @@
 -- What the parts of a body say.
-use Rattle.std.proofs.Common.{◌≡◌, ℕ, List, Bool, true, Option, Some, Ok, ◌≤◌, ◌+◌, ◌*◌, take, drop, refl, ap, sym, ◌∙◌, arith}
+use Rattle.std.proofs.Common.{◌≡◌, ℕ, List, Bool, true, Option, Some, Result, Ok, ◌≤◌, ◌+◌, ◌-◌, ◌*◌, max, take, drop, refl, ap, sym, ◌∙◌, arith}
 use Rattle.std.specs.Prelude.{nat_le, if◌then◌else◌}
 use Rattle.std.proofs.lemmas.List.{drop-take}
 use Rattle.std.proofs.lemmas.Bool.Decides.{nat_tests}
 use Rattle.byteorder.specs.Endian.{big_number}
 use Rattle.byteorder.specs.Numbers.{big_from-take}
+use Rattle.fs_base.specs.declared.config.Peer.{Peer}
 use Rattle.fs_base.specs.declared.counted.Counted.{Counted}
+use Rattle.fs_input.specs.declared.fault.Fault.{Fault}
 use Rattle.fs_input.specs.Reads.{Calls, Reads, whole}
 use Rattle.fs_input.specs.Scan.{and, field, gives}
 use Rattle.fs_input.proofs.Lifting.{reads_as, reads_gives, reads_then}
-use Rattle.fs_mrt.specs.Record.{ends_size, front_behind, front_in, time_of}
+use Rattle.fs_mrt.specs.Record.{Spoken, addressed_in, body_in, ends_in, ends_size, front_behind, front_in, time_of}
 use Rattle.fs_mrt.specs.Shape.{family_of, front_size, states_size}
 use Rattle.fs_mrt.specs.declared.fault.DumpReason.{DumpReason}
 use Rattle.fs_mrt.specs.declared.fault.DumpReason.TheVariants.{Cut}
 use Rattle.fs_mrt.specs.declared.record.Front.{Front}
+use Rattle.fs_mrt.specs.declared.record.Head.{Head}
 use Rattle.fs_mrt.specs.declared.shape.Family.{Family}
 use Rattle.fs_mrt.specs.declared.shape.Shape.{Shape as RecordShape}
 
@@ -63,3 +66,18 @@ front_reads {old = old} {now = now} spot seconds size shape octets family time f
     (reads_as (front_behind spot old.taken seconds size shape (take (front_size shape + 2) octets))
     (λ rest. told_front spot seconds size shape octets family time old.taken now.taken rest four is room at_time)
     (reads_gives (λ (front : Front). front) (record { time = time; family = family }))))
+
+-- what stands behind the front of a body
+pub body_reads : {T : Type 0} {told : Bool} {calls mid late : Calls} {left left' left'' : ℕ → List ℕ} {holds holds' holds'' : List ℕ → Option (List ℕ)}
+    {old now new : Counted} {tells : T → Option Spoken} {result : Result T (Fault DumpReason)}
+    (peers : List Peer) (moment later front_end : ℕ) (head : Head) (shape : RecordShape) (front : Front)
+    → head.shape ≡ Some shape → later ≡ max moment front.time → front_end ≡ ends_size shape front.family
+    → Reads told calls mid left left' holds holds' (front_in head.spot head.seconds head.size shape) Cut old now (λ (f : Front). f) (Ok front)
+    → Reads told mid late left' left'' holds' holds'' (addressed_in peers later (head.size - front_end) shape front.family) Cut now new tells result
+    → Reads told calls late left left'' holds holds'' (body_in peers moment head.spot head.seconds head.size head.shape) Cut old new tells result
+body_reads {old = old} {now = now} {tells = tells} peers moment later front_end head shape front is at_moment ends first more =
+    reads_as (body_in peers moment head.spot head.seconds head.size head.shape)
+    (λ octets. ap (λ s. body_in peers moment head.spot head.seconds head.size s old.taken octets) (sym is))
+    (reads_then (ends_in peers moment head.size shape) tells first
+    (reads_as (ends_in peers moment head.size shape front)
+    (λ octets i. addressed_in peers (at_moment i) (head.size - ends i) shape front.family now.taken octets) more))

@@ -1,5 +1,4 @@
-pub mod Takes
 pub mod Messages
 pub mod Bodies
-pub mod Telling
 mod Written
+pub mod AllHeard

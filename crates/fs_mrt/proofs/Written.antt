@@ -1,5 +1,5 @@
 -- Records as they stand in a dump: what is read of one, and that no other octets are.
-use Rattle.std.proofs.Common.{◌≡◌, ℕ, List, [], ◌++◌, Option, Some, None, Bool, true, false, ◌≤◌, ◌+◌, ◌-◌, ◌*◌, ◌==◌, ◌&&◌, max, length, take, drop, refl, ap, sym, subst, ◌∙◌, arith, append-nil, append_assoc, length-append}
+use Rattle.std.proofs.Common.{◌≡◌, ℕ, List, [], ◌++◌, Option, Some, None, Bool, true, false, ◌<◌, ◌≤◌, ◌+◌, ◌-◌, ◌*◌, ◌==◌, ◌&&◌, max, length, take, drop, refl, ap, sym, subst, ◌∙◌, arith, append-nil, append_assoc, length-append}
 use Rattle.std.specs.Prelude.{if◌then◌else◌, nat_le}
 use Rattle.std.proofs.lemmas.List.{drop-drop, drop_at, length-drop}
 use Rattle.std.proofs.lemmas.Bool.Decides.{nat_tests}
@@ -7,22 +7,23 @@ use Rattle.byteorder.specs.Endian.{big_number}
 use Rattle.byteorder.specs.Numbers.{big_from-append}
 use Rattle.fs_base.specs.declared.config.Address.{Address}
 use Rattle.fs_base.specs.declared.config.Peer.{Peer}
+use Rattle.fs_base.proofs.Bools.{and_parts}
+use Rattle.fs_input.specs.Coming.{Takes}
 use Rattle.fs_input.specs.Reads.{whole}
-use Rattle.fs_input.specs.Scan.{Scanner, and, field, gives, needs, skips}
-use Rattle.fs_input.proofs.Spelling.{CutAt, Part, Reads, Spells, and_reads, and_spells, cut_at, fails_spells, field_reads, field_spells, gives_reads, gives_spells, map_reads, map_spells, needs_reads, needs_spells, part_spells, skips_reads, skips_spells}
-use Rattle.fs_input.proofs.Written.{IsSpelled, told_text}
+use Rattle.fs_input.specs.Scan.{Scanner, and, field, gives, skips}
+use Rattle.fs_input.proofs.Spelling.{Part, Reads, Spells, and_reads, and_spells, cut_at, fails_spells, field_reads, field_spells, gives_reads, gives_spells, map_reads, map_spells, needs_reads, needs_spells, part_spells, skips_reads, skips_spells}
+use Rattle.fs_input.proofs.Written.{IsSpelled, spelled_takes, told_text}
 use Rattle.fs_mrt.specs.Laws.{ReadsBack}
 use Rattle.fs_mrt.specs.Peers.{number_at}
 use Rattle.fs_mrt.specs.Record.{Said, Spoken, body_in, change, ends_in, ends_size, family_in, front_behind, front_in, head_of, headed_in, heard_in, message, message_behind, message_in, moment_behind, record_behind, record_in, said_at, said_in, spoken, states_behind, states_in, time_of}
 use Rattle.fs_mrt.specs.Shape.{address_of, address_size, family_of, front_size, shape_of, states_size}
-use Rattle.fs_mrt.specs.Written.{Body, Entry, Header, IsBody, IsEntry, IsHeader, IsMessage, IsSaidBy, IsTold, body_text, entry_gives, entry_text, entry_told, header_text, heard_as, peer_in, said_of, shape_in, told, unread}
+use Rattle.fs_mrt.specs.Written.{Body, Entry, Header, IsBody, IsEntry, IsHeader, IsSaidBy, body_text, entry_gives, entry_text, entry_told, header_text, heard_as, peer_in, said_of, shape_in, told, unread}
 use Rattle.fs_mrt.specs.declared.fault.DumpReason.{DumpReason}
-use Rattle.fs_mrt.specs.declared.fault.DumpReason.TheVariants.{Cut, Family as WrongFamily, Length, Message as WrongMessage}
+use Rattle.fs_mrt.specs.declared.fault.DumpReason.TheVariants.{Cut, Length, Family as WrongFamily, Message as WrongMessage}
 use Rattle.fs_mrt.specs.declared.record.Front.{Front}
 use Rattle.fs_mrt.specs.declared.record.Head.{Head}
 use Rattle.fs_mrt.specs.declared.shape.Family.{Family}
 use Rattle.fs_mrt.specs.declared.shape.Shape.{Shape as RecordShape}
-use Rattle.fs_mrt.proofs.Takes.{record_takes}
 
 -- messages and states
 
@@ -183,16 +184,12 @@ family_spells spot start seconds size shape octets part (Some family) most same 
           most = most;
         }
 
-both_true : (a b : Bool) → (a && b) ≡ true → (a ≡ true) × (b ≡ true)
-both_true true b e = (refl, e)
-both_true false b e = absurd cc
-
 front_spells : (spot seconds size : ℕ) (shape : RecordShape) → Spells (FrontSpelled seconds size shape) (front_in spot seconds size shape)
 front_spells spot seconds size shape place =
     needs_spells (FrontSpelled seconds size shape) (nat_le (front_size shape + 2) size && nat_le size 65536) Length spot
     (and (field (front_size shape + 2) whole) (front_behind spot place seconds size shape))
     (λ test.
-    let second : nat_le size 65536 ≡ true = (both_true (nat_le (front_size shape + 2) size) (nat_le size 65536) test).1 in
+    let second : nat_le size 65536 ≡ true = (and_parts (nat_le (front_size shape + 2) size) (nat_le size 65536) test).1 in
     let most : size ≤ 65536 = grind (arith, nat_tests) in
     and_spells (Part (front_size shape + 2)) (FrontSpelled seconds size shape) (field (front_size shape + 2) whole) (front_behind spot place seconds size shape)
     (part_spells (front_size shape + 2))
@@ -326,7 +323,7 @@ head_is spot h a b c d =
 
 -- records
 
-abbrev Given : List Peer → ℕ → Option Spoken × ℕ → List ℕ → Type 0
+abbrev pub Given : List Peer → ℕ → Option Spoken × ℕ → List ℕ → Type 0
 Given peers moment = IsSpelled (record_in peers) entry_text (λ moment. IsEntry peers) (entry_gives peers) moment
 
 record_given : (peers : List Peer) (moment : ℕ) (octets : List ℕ) (h : HeaderSpelled octets) (shape : Option RecordShape) (heard : Option Spoken) (body : List ℕ)
@@ -350,7 +347,7 @@ record_given peers moment octets h (Some shape) heard body known b = record {
   value_is = ap (λ x. (x, moment_behind moment x)) b.heard_is;
 }
 
-record_spells : (peers : List Peer) (moment : ℕ) → Spells (Given peers moment) (record_in peers moment)
+pub record_spells : (peers : List Peer) (moment : ℕ) → Spells (Given peers moment) (record_in peers moment)
 record_spells peers moment place =
     and_spells (Part 12) (Given peers moment) (field 12 whole) (record_behind peers moment place) (part_spells 12)
     (λ octets part p.
@@ -365,6 +362,16 @@ record_spells peers moment place =
     (body_spells peers moment (place + 8) (big_number 4 h.header.seconds) (big_number 4 h.header.size) (shape_in h.header))
     (λ heard body b. record_given peers moment part h (shape_in h.header) heard body refl b)))
     place
+
+entry_some : (peers : List Peer) (moment : ℕ) (entry : Entry) → IsEntry peers entry → 0 < length (entry_text entry)
+entry_some peers moment (unread h body) is =
+    omega (arith, length-append (header_text h) body, length-append h.seconds (h.kind ++ (h.subtype ++ h.size)), is.0.seconds)
+entry_some peers moment (told h shape family body) is =
+    omega (arith, length-append (header_text h) (body_text body), length-append h.seconds (h.kind ++ (h.subtype ++ h.size)), is.header.seconds)
+
+pub record_takes : (peers : List Peer) (moment : ℕ) → Takes 1 (record_in peers moment)
+record_takes peers moment =
+    spelled_takes (record_in peers) entry_text (λ moment. IsEntry peers) (entry_gives peers) (entry_some peers) (record_spells peers) moment
 
 -- what was written is read
 

@@ -1,7 +1,8 @@
 -- An MRT dump: records, one behind the other. Those of configured peers are heard.
-use Rattle.std.specs.Prelude.{ℕ, List, Option, Some, None, Result, Ok, Err, ◌≡◌, ◌≤◌, ◌<◌, ◌++◌, take, ⊤}
+use Rattle.std.specs.Prelude.{ℕ, List, Option, Some, None, Result, Ok, Err, ◌≡◌, ◌≤◌, ◌++◌, take, ⊤}
 use Rattle.fs_base.specs.declared.config.Config.{Config}
 use Rattle.fs_base.specs.declared.config.Peer.{Peer}
+use Rattle.fs_input.specs.NextRecord.{Grows as GrowsBy}
 use Rattle.fs_input.specs.Records.{End}
 use Rattle.fs_input.specs.declared.fault.Ended.{Ended}
 use Rattle.fs_input.specs.declared.fault.Fault.{Fault}
@@ -59,9 +60,7 @@ IsWithin (Change old new) = ⊤
 
 -- A record that is heard raises the place, up to the limit at most. Its message isn't too long.
 abbrev pub Grows : (old new limit : ℕ) → Result (Option Heard) (Fault DumpReason) → Type 0
-Grows old new limit (Ok (Some heard)) = (old < new) × (new ≤ limit) × IsWithin heard.what
-Grows old new limit (Ok None) = ⊤
-Grows old new limit (Err fault) = ⊤
+Grows old new limit result = GrowsBy (λ (heard : Heard). IsWithin heard.what) old new limit result
 
 -- the moment of what was heard becomes the dump's; where nothing was, the last one's stays
 abbrev pub Times : (old new : ℕ) → Result (Option Heard) (Fault DumpReason) → Type 0

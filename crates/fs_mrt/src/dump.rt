@@ -1,11 +1,7 @@
 //! A dump, read record by record.
-ghost use Rattle.std.specs.Prelude.{◌≡◌, ◌≤◌, None, IsOk, IsSome, IsTrue, IfOk, IfSome, length};
-ghost use Rattle.std.specs.Result.{IsErrOf};
-ghost use Rattle.fs_base.specs.Files.{OnlySlot};
-ghost use Rattle.fs_base.specs.Outside.{Rose};
+ghost use Rattle.std.specs.Prelude.{◌≡◌, ◌≤◌, None, IsOk, IfOk, length};
 ghost use Rattle.fs_base.specs.Parts.{with_part};
-ghost use Rattle.fs_input.specs.NextRecord.{Advances, answer_of, ended_after};
-ghost use Rattle.fs_input.specs.declared.fault.Fault.TheVariants.{Read};
+ghost use Rattle.fs_input.specs.NextRecord.{GivesNext};
 ghost use Rattle.fs_mrt.specs.Dump.{Grows, IsBegun, Times, spoken_from};
 
 use crate::fault::{DumpFault, DumpReason};
@@ -79,27 +75,15 @@ impl Dump {
     ) -> Result<Option<Heard>, DumpFault>
         requires { 65536 ≤ length into.old }
         ensures room { length into.new ≡ length into.old }
-        ensures later { F.faults files.old ≤ F.faults files.new }
-        ensures read { self.old.end ≡ None → IsErrOf result Read → Rose (F.faults files.old) (F.faults files.new) }
-        ensures slot { self.new.slot ≡ self.old.slot }
-        ensures limit { self.new.limit ≡ self.old.limit }
-        ensures again { IfSome self.old.end (λ ended. result ≡ answer_of ended) }
-        ensures stays { IsSome self.old.end → self.new ≡ self.old }
-        ensures unread { IsSome self.old.end → files.new ≡ files.old }
-        ensures ended { self.new.end ≡ ended_after result }
-        ensures grows { self.old.end ≡ None → Grows self.old.place self.new.place self.new.limit result }
-        ensures times { self.old.end ≡ None → Times self.old.moment self.new.moment result }
-
-        ensures advances { IsTrue F.tells
-            → self.old.end ≡ None
-            → Advances
+        ensures gives { GivesNext F.Files files.old files.new self.old.slot self.new.slot self.old.limit self.new.limit
+            self.old.end self.new.end (self.new ≡ self.old)
             (coming config.now self.old (F.left files.old self.old.slot))
             (λ heard. with_part
             (spoken_from heard into.new)
             (coming config.now self.new (F.left files.new self.old.slot)))
             result }
-        ensures opened { F.opened files.new ≡ F.opened files.old }
-        ensures others { OnlySlot F.tells F.left F.holds self.old.slot files.old files.new }
+        ensures grows { self.old.end ≡ None → Grows self.old.place self.new.place self.new.limit result }
+        ensures times { self.old.end ≡ None → Times self.old.moment self.new.moment result }
     {
         next_part(
             config,

@@ -5,7 +5,7 @@ ghost use Rattle.byteorder.specs.Endian.{big_number};
 ghost use Rattle.fs_input.specs.Reads.{Scans};
 ghost use Rattle.fs_input.specs.Scan.{field};
 ghost use Rattle.fs_mrt.specs.Dump.{IsWithin, spoken_from};
-ghost use Rattle.fs_mrt.specs.Record.{addressed_in, body_in, ends_size, family_in, front_in, heard_in, time_of};
+ghost use Rattle.fs_mrt.specs.Record.{body_in, ends_size, family_in, front_in, heard_in, time_of};
 ghost use Rattle.fs_mrt.specs.Shape.{address_of, address_size, front_size, states_size};
 ghost use Rattle.fs_mrt.specs.declared.fault.DumpReason.TheVariants.{Cut};
 
@@ -198,35 +198,11 @@ pub(crate) fn take_body<F: Files>(
                 size: head.size as usize - ends_size(shape, front.family),
                 shape,
             };
-            take_ends(peers, front.family, rest, counted, files, into)
+            match take_address(front.family, counted, files) {
+                Ok(address) => take_heard(rest, number_at(peers, address), counted, files, into),
+                Err(fault) => Err(fault),
+            }
         }
-        Err(fault) => Err(fault),
-    }
-}
-
-/// Reads both addresses, and what stands behind them.
-fn take_ends<F: Files>(
-    peers: &[Peer],
-    family: Family,
-    rest: Rest,
-    counted: &mut Counted,
-    files: &mut F,
-    into: &mut [u8],
-) -> Result<Option<Heard>, DumpFault>
-    requires room { 65536 ≤ length into.old }
-    requires size { rest.size ≤ 65536 }
-    requires some { states_size rest.shape ≤ rest.size }
-    requires none { counted.old.back ≡ [] }
-    ensures none { counted.new.back ≡ [] }
-    ensures room { length into.new ≡ length into.old }
-    ensures moment { IfOk result (λ found. IfSome found (λ heard. heard.moment ≡ rest.moment)) }
-    ensures within { IfOk result (λ found. IfSome found (λ heard. IsWithin heard.what)) }
-    ensures grows { IfOk result (λ _. counted.old.taken ≤ counted.new.taken) }
-    ensures reads { Scans F.Files files.old files.new (addressed_in peers.now rest.moment rest.size rest.shape family)
-        Cut counted.old counted.new (option_map (λ heard. spoken_from heard into.new)) result }
-{
-    match take_address(family, counted, files) {
-        Ok(address) => take_heard(rest, number_at(peers, address), counted, files, into),
         Err(fault) => Err(fault),
     }
 }

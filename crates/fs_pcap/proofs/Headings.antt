@@ -19,6 +19,7 @@ use Rattle.fs_pcap.specs.declared.fault.CaptureReason.{CaptureReason}
 use Rattle.fs_pcap.specs.declared.fault.CaptureReason.TheVariants.{Magic, Version, Link as UnreadLink}
 use Rattle.fs_pcap.specs.declared.header.Heading.{Heading}
 use Rattle.fs_base.specs.declared.link.Link.{Link}
+use Rattle.fs_base.proofs.Bools.{true_of_not}
 use Rattle.fs_pcap.specs.declared.order.Endian.{Endian}
 use Rattle.fs_pcap.specs.declared.order.Endian.TheVariants.{Big, Little}
 use Rattle.fs_pcap.specs.declared.order.Unit.{Unit as FractionUnit}
@@ -65,10 +66,6 @@ link_told order unit word (Some link) heading n l h =
     let same : record { order = order; unit = unit; link = link } ≡ heading = cc in
     (ap (λ (z : Heading). z.order) same, ap (λ (z : Heading). z.unit) same, l ∙ ap (λ (z : Heading). Some z.link) same)
 
-not_true : (b : Bool) → not b ≡ false → b ≡ true
-not_true true h = refl
-not_true false h = cc
-
 ordered_told : (order : Endian) (unit : FractionUnit) (header : List ℕ) (heading : Heading) (n : ℕ)
     → order_of (big_number 4 header) ≡ Some (order, unit) → ordered_header order unit header ≡ Whole heading n → IsHeading header heading
 ordered_told order unit header heading n known h =
@@ -93,8 +90,8 @@ ordered_told order unit header heading n known h =
     by false false false false false v w s f =
         let word = number order 4 (drop 20 header) in
         let link = link_told order unit word (link_of (word % 65536)) heading n refl f in
-        let major : number order 2 (drop 4 header) ≡ 2 = eqb-true (number order 2 (drop 4 header)) 2 (not_true _ v) in
-        let minor : number order 2 (drop 6 header) ≡ 4 = eqb-true (number order 2 (drop 6 header)) 4 (not_true _ w) in
+        let major : number order 2 (drop 4 header) ≡ 2 = eqb-true (number order 2 (drop 4 header)) 2 (true_of_not _ v) in
+        let minor : number order 2 (drop 6 header) ≡ 4 = eqb-true (number order 2 (drop 6 header)) 4 (true_of_not _ w) in
         record {
           size = (grind (arith, nat_tests));
           order_is = known ∙ (λ i. Some (link.0 i, link.1 i));

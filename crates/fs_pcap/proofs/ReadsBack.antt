@@ -2,14 +2,13 @@
 use Rattle.std.proofs.Common.{◌≡◌, ℕ, List, [], ◌++◌, Some, None, Result, Ok, Err, Bool, ◌<◌, ◌≤◌, length, take, drop, refl, ap, sym, subst, ◌∙◌, arith, length-append, take-append-drop}
 use Rattle.std.specs.Prelude.{nat_le, flat_map}
 use Rattle.std.proofs.lemmas.List.{drop_at, length-drop, length-take, take-take, take_at}
-use Rattle.std.proofs.lemmas.Grind.{common_steps}
 use Rattle.fs_base.specs.Language.{IsOctets}
 use Rattle.fs_base.proofs.Octets.{octets_drop, octets_take}
 use Rattle.fs_input.specs.Opening.{opened_by}
 use Rattle.fs_input.specs.Records.{End, done}
-use Rattle.fs_input.specs.declared.head.Head.{Head}
-use Rattle.fs_input.specs.declared.head.Head.TheVariants.{Whole, Wrong, Partial}
-use Rattle.fs_input.proofs.Done.{done_text, text_done}
+use Rattle.fs_input.specs.declared.head.Head.TheVariants.{Partial}
+use Rattle.fs_input.proofs.Fronts.{opened_whole}
+use Rattle.fs_input.proofs.Done.{all_taken, done_text, text_done}
 use Rattle.fs_input.proofs.Records.{HasHead}
 use Rattle.fs_pcap.specs.Capture.{Captured, Recorded, capture_of, heading_of, packets_to_come, recorded, records}
 use Rattle.fs_pcap.specs.Header.{header_of}
@@ -31,9 +30,6 @@ behind_opening limit body opened =
       | Ok heading ↦ recorded heading.link (packets_to_come heading limit 24 0 body)
       | Err end ↦ record { link = None; packets = []; end = end }
     ]
-
-all_taken : (n : ℕ) (octets : List ℕ) → length octets ≤ n → take n octets ≡ octets
-all_taken n octets within = grind (arith, common_steps)
 
 has_head : HasHead records
 has_head now = omega arith
@@ -82,18 +78,12 @@ text_read limit content link packets h =
       below = (omega (arith, length-append header body, size, below));
     }))
 
-opened_whole : (limit : Bool) (size : ℕ) (said : Head Heading CaptureReason) (heading : Heading)
-    → opened_by Cut limit size said ≡ Ok heading → (n : ℕ) × (said ≡ Whole heading n)
-opened_whole limit size (Whole found n) heading h = let same : found ≡ heading = cc in (n, ap (λ f. Whole f n) same)
-opened_whole limit size (Wrong reason place) heading h = absurd cc
-opened_whole limit size Partial heading h = absurd cc
-
 -- an opened capture has a whole header at its front
 header_stands : (limit : ℕ) (content : List ℕ) (heading : Heading) → heading_of limit content ≡ Ok heading
     → (length (take 24 content) ≡ 24) × (24 ≤ length content) × IsHeading (take 24 content) heading
 header_stands limit content heading h =
     let front = take 24 (take limit content) in
-    let said = opened_whole (nat_le limit (length content)) (length front) (header_of front) heading h in
+    let said = opened_whole Cut (nat_le limit (length content)) (length front) (header_of front) heading h in
     let is : IsHeading front heading = heading_told front heading said.0 said.1 in
     let room : 24 ≤ limit = omega (arith, is.size, length-take 24 (take limit content), length-take limit content) in
     let same : front ≡ take 24 content = take-take 24 limit content room in

@@ -1,6 +1,7 @@
 -- A capture of the libpcap file format, version 2.4: a header, and records. A record has a head and the captured
 -- octets.
-use Rattle.std.specs.Prelude.{ℕ, List, [], Option, Some, None, Result, Ok, Err, ◌≡◌, ◌≤◌, ◌<◌, take, drop, ⊤}
+use Rattle.std.specs.Prelude.{ℕ, List, [], Option, Some, None, Result, Ok, Err, ◌≡◌, ◌≤◌, take, drop}
+use Rattle.fs_input.specs.NextRecord.{Grows as GrowsBy}
 use Rattle.fs_input.specs.Opening.{opening}
 use Rattle.fs_input.specs.Records.{End, Format, records_to_come}
 use Rattle.fs_input.specs.declared.fault.Ended.{Ended}
@@ -94,9 +95,7 @@ packet_from caught into = record {
 
 -- A record raises the place, up to the limit at most. Its octets are those that were captured, and none too many.
 abbrev pub Grows : (old new limit : ℕ) → Result (Option Caught) (Fault CaptureReason) → Type 0
-Grows old new limit (Ok (Some caught)) = (old < new) × (new ≤ limit) × (caught.taken ≤ longest_record)
-Grows old new limit (Ok None) = ⊤
-Grows old new limit (Err fault) = ⊤
+Grows old new limit result = GrowsBy (λ (caught : Caught). caught.taken ≤ longest_record) old new limit result
 
 -- a record's moment becomes the capture's; where none is given the last one's stays
 abbrev pub Times : (old new : ℕ) → Result (Option Caught) (Fault CaptureReason) → Type 0

@@ -1,12 +1,12 @@
 //! A capture, read record by record.
-ghost use Rattle.std.specs.Prelude.{◌≡◌, ◌≤◌, ◌++◌, [], None, IsSome, IsTrue, IfOk, IfSome, drop, length};
+ghost use Rattle.std.specs.Prelude.{◌≡◌, ◌≤◌, ◌++◌, [], None, IsTrue, IfOk, drop, length};
 ghost use Rattle.std.specs.Result.{IsErrOf};
 ghost use Rattle.fs_base.specs.Files.{OnlySlot};
 ghost use Rattle.fs_base.specs.Link.{link_number};
 ghost use Rattle.fs_base.specs.Outside.{Rose};
 ghost use Rattle.fs_base.specs.Parts.{with_part};
 ghost use Rattle.fs_input.specs.Opening.{Opens};
-ghost use Rattle.fs_input.specs.NextRecord.{Advances, answer_of, ended_after};
+ghost use Rattle.fs_input.specs.NextRecord.{GivesNext};
 ghost use Rattle.fs_pcap.specs.Head.{longest_record};
 ghost use Rattle.fs_pcap.specs.Capture.{Grows, Times, heading_of, packet_from};
 
@@ -132,28 +132,16 @@ impl Capture {
         into: &mut [u8],
     ) -> Result<Option<Caught>, CaptureFault>
         requires { longest_record ≤ length into.old }
-        ensures later { F.faults files.old ≤ F.faults files.new }
-        ensures read { self.old.end ≡ None → IsErrOf result Read → Rose (F.faults files.old) (F.faults files.new) }
-        ensures slot { self.new.slot ≡ self.old.slot }
-        ensures limit { self.new.limit ≡ self.old.limit }
-        ensures heading { self.new.heading ≡ self.old.heading }
-        ensures again { IfSome self.old.end (λ ended. result ≡ answer_of ended) }
-        ensures stays { IsSome self.old.end → self.new ≡ self.old }
-        ensures unread { IsSome self.old.end → files.new ≡ files.old }
-        ensures ended { self.new.end ≡ ended_after result }
-        ensures grows { self.old.end ≡ None → Grows self.old.place self.new.place self.new.limit result }
-        ensures times { self.old.end ≡ None → Times self.old.moment self.new.moment result }
-
-        ensures advances { IsTrue F.tells
-            → self.old.end ≡ None
-            → Advances
+        ensures gives { GivesNext F.Files files.old files.new self.old.slot self.new.slot self.old.limit self.new.limit
+            self.old.end self.new.end (self.new ≡ self.old)
             (coming self.old (F.left files.old self.old.slot))
             (λ caught. with_part
             (packet_from caught into.new)
             (coming self.new (F.left files.new self.old.slot)))
             result }
-        ensures opened { F.opened files.new ≡ F.opened files.old }
-        ensures others { OnlySlot F.tells F.left F.holds self.old.slot files.old files.new }
+        ensures heading { self.new.heading ≡ self.old.heading }
+        ensures grows { self.old.end ≡ None → Grows self.old.place self.new.place self.new.limit result }
+        ensures times { self.old.end ≡ None → Times self.old.moment self.new.moment result }
     {
         let context = Context {
             order: self.heading.order,

@@ -1,6 +1,6 @@
 -- The body of a block, and what it gives.
-use Rattle.std.proofs.Common.{◌≡◌, ◌≢◌, ℕ, List, Bool, true, false, Option, Some, None, Result, Ok, Err, ◌==◌, drop, length, ap, sym, arith}
-use Rattle.std.specs.Prelude.{if◌then◌else◌, nat_lt}
+use Rattle.std.proofs.Common.{◌≡◌, ◌≢◌, ℕ, List, Bool, true, false, Option, Some, None, Result, Ok, Err, ◌≤◌, ◌+◌, ◌==◌, drop, length, ap, sym, ◌∙◌, arith}
+use Rattle.std.specs.Prelude.{if◌then◌else◌, nat_lt, slice_get}
 use Rattle.std.specs.Option.{option_map}
 use Rattle.std.proofs.lemmas.Bool.Decides.{nat_tests}
 use Rattle.byteorder.specs.Endian.{big_number}
@@ -8,18 +8,21 @@ use Rattle.fs_base.specs.declared.counted.Counted.{Counted}
 use Rattle.fs_pcap.specs.Order.{number}
 use Rattle.fs_pcap.specs.declared.order.Endian.{Endian}
 use Rattle.fs_input.specs.Reads.{Calls, Reads}
-use Rattle.fs_input.specs.Scan.{and, gives}
+use Rattle.fs_input.specs.Scan.{Scanner, and, field, gives}
 use Rattle.fs_input.proofs.Lifting.{gives_for, reads_as, reads_ends, reads_then}
-use Rattle.fs_pcapng.specs.Block.{Packet, Stands, behind_packet, body_in, described_in, enhanced_in, kind_behind, opened, plain_in, section_in, simple_in, with_interface}
+use Rattle.fs_pcapng.specs.Block.{Packet, Stands, behind_packet, body_in, cut_to, described_in, fitting, kind_behind, octets_in, opened, packet, plain_in, section_in, simple_behind, simple_by, simple_in, with_interface}
+use Rattle.fs_pcapng.specs.Options.{padded}
 use Rattle.fs_input.specs.declared.fault.Fault.{Fault}
 use Rattle.fs_pcapng.specs.Pcapng.{seen_from}
-use Rattle.fs_pcapng.specs.declared.block.Kind.TheVariants.{Described, Enhanced, Simple}
+use Rattle.fs_pcapng.specs.declared.block.Kind.{Kind}
+use Rattle.fs_pcapng.specs.declared.block.Kind.TheVariants.{Described}
 use Rattle.fs_pcapng.specs.declared.caught.Seen.{Seen}
 use Rattle.fs_pcapng.specs.declared.fault.NgReason.{NgReason}
 use Rattle.fs_pcapng.specs.declared.fault.NgReason.TheVariants.{Cut, TooMany}
 use Rattle.fs_pcapng.specs.declared.fields.Frame.{Frame}
-use Rattle.fs_pcapng.proofs.Parts.{needs_true}
+use Rattle.fs_input.proofs.Joining.{needs_true}
 use Rattle.fs_pcapng.specs.declared.section.Interface.{Interface}
+use Rattle.fs_pcapng.proofs.Fitting.{fits}
 
 -- a section header, or a block that is none
 pub header_kind : (now : Stands) (start : ℕ) (kind : List ℕ) → big_number 4 kind ≡ 0x0a0d0d0a → (place : ℕ) (octets : List ℕ)
@@ -42,6 +45,34 @@ interface_of order head unit = record { link = number order 2 head; snap = numbe
 abbrev pub told_of : (into : List ℕ) → Stands → Option Seen → Option Packet × Stands
 told_of into now found = (option_map (seen_from into) found, now)
 
+-- a block of this kind
+pub body_as : {T : Type 0} {told : Bool} {calls calls' : Calls} {left left' : ℕ → List ℕ} {holds holds' : List ℕ → Option (List ℕ)} {old new : Counted}
+    {tells : T → Option Packet × Stands} {result : Result T (Fault NgReason)} {kind other : Kind} (frame : Frame) (now : Stands) → other ≡ kind
+    → Reads told calls calls' left left' holds holds' (body_in frame now kind) Cut old new tells result
+    → Reads told calls calls' left left' holds holds' (body_in frame now other) Cut old new tells result
+body_as {old = old} {other = other} frame now same h =
+    reads_as (body_in frame now other) (λ octets. ap (λ k. body_in frame now k old.taken octets) (sym same)) h
+
+-- a simple packet's octets, behind its length
+pub simple_reads : {T : Type 0} {told : Bool} {calls mid late : Calls} {left left' left'' : ℕ → List ℕ}
+    {holds holds' holds'' : List ℕ → Option (List ℕ)} {old now new : Counted} {tells : T → Packet} {result : Result T (Fault NgReason)}
+    (frame : Frame) (stands : Stands) (interface : Interface) (original captured : ℕ)
+    → Some interface ≡ slice_get stands.interfaces 0 → captured ≡ cut_to interface.snap original
+    → captured ≤ 262144 → 16 + padded captured ≤ frame.total
+    → Reads told calls mid left left' holds holds' (field 4 (number frame.order 4)) Cut old now (λ (n : ℕ). n) (Ok original)
+    → Reads told mid late left' left'' holds' holds''
+    (and (octets_in frame 16 captured) (λ octets. gives (packet stands.moment interface.link original octets))) Cut now new tells result
+    → Reads told calls late left left'' holds holds'' (simple_in frame stands) Cut old new tells result
+simple_reads {old = old} {now = now} {tells = tells} frame stands interface original captured found cut few room first more =
+    let rest : ℕ → Scanner Packet NgReason = λ n.
+    and (octets_in frame 16 n) (λ octets. gives (packet stands.moment interface.link original octets)) in
+    reads_as (simple_in frame stands) (λ octets. ap (λ s. simple_by frame stands.moment s old.taken octets) found)
+    (reads_then (simple_behind frame interface stands.moment) tells first
+    (reads_as (simple_behind frame interface stands.moment original)
+    (λ octets. fits frame 16 captured (frame.start + 8) (rest captured) few room now.taken octets
+    ∙ ap (λ n. fitting frame 16 n (frame.start + 8) (rest n) now.taken octets) cut)
+    more))
+
 module _ {told : Bool} {calls calls' : Calls} {left left' : ℕ → List ℕ} {holds holds' : List ℕ → Option (List ℕ)} {old new : Counted}
     (frame : Frame) (now later : Stands) (into : List ℕ) where
   pub body_described : {interface : Interface} → nat_lt (length now.interfaces) 256 ≡ true → later ≡ with_interface now interface
@@ -54,18 +85,12 @@ module _ {told : Bool} {calls calls' : Calls} {left left' : ℕ → List ℕ} {h
       (reads_then (λ interface. gives (None, with_interface now interface)) (told_of into later) h
       (gives_for (None, with_interface now interface) (told_of into later) None (ap (λ s. (None, s)) (sym is))))
 
-  pub body_enhanced : {seen : Seen} → later ≡ behind_packet now (seen_from into seen)
-      → Reads told calls calls' left left' holds holds' (enhanced_in frame now) Cut old new (seen_from into) (Ok seen)
-      → Reads told calls calls' left left' holds holds' (body_in frame now Enhanced) Cut old new (told_of into later) (Ok (Some seen))
-  body_enhanced {seen = seen} is h =
-      reads_then (λ found. gives (Some found, behind_packet now found)) (told_of into later) h
-      (gives_for (Some (seen_from into seen), behind_packet now (seen_from into seen)) (told_of into later) (Some seen)
-      (ap (λ s. (Some (seen_from into seen), s)) (sym is)))
-
-  pub body_simple : {seen : Seen} → later ≡ behind_packet now (seen_from into seen)
-      → Reads told calls calls' left left' holds holds' (simple_in frame now) Cut old new (seen_from into) (Ok seen)
-      → Reads told calls calls' left left' holds holds' (body_in frame now Simple) Cut old new (told_of into later) (Ok (Some seen))
-  body_simple {seen = seen} is h =
+  -- what a packet's block gives
+  pub body_packet : {seen : Seen} (first : Scanner Packet NgReason) → later ≡ behind_packet now (seen_from into seen)
+      → Reads told calls calls' left left' holds holds' first Cut old new (seen_from into) (Ok seen)
+      → Reads told calls calls' left left' holds holds' (and first (λ found. gives (Some found, behind_packet now found))) Cut old new
+      (told_of into later) (Ok (Some seen))
+  body_packet {seen = seen} first is h =
       reads_then (λ found. gives (Some found, behind_packet now found)) (told_of into later) h
       (gives_for (Some (seen_from into seen), behind_packet now (seen_from into seen)) (told_of into later) (Some seen)
       (ap (λ s. (Some (seen_from into seen), s)) (sym is)))

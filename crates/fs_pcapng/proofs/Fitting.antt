@@ -1,8 +1,7 @@
 -- What a packet's block tells, passed field by field.
-use Rattle.std.proofs.Common.{◌≡◌, ℕ, List, true, false, ◌≤◌, ◌<◌, ◌+◌, take, drop, length, refl, subst, arith}
-use Rattle.std.specs.Prelude.{nat_le}
-use Rattle.std.proofs.lemmas.Bool.Decides.{nat_tests}
+use Rattle.std.proofs.Common.{◌≡◌, ℕ, List, ◌≤◌, ◌<◌, ◌+◌, take, drop, length, refl, subst, arith}
 use Rattle.std.proofs.lemmas.List.{length-drop, take_all}
+use Rattle.fs_base.proofs.NumberTests.{le_false, le_true}
 use Rattle.fs_pcap.specs.Order.{number}
 use Rattle.fs_pcap.specs.declared.order.Endian.{Endian}
 use Rattle.fs_input.specs.Scan.{Scanner, fails}
@@ -12,12 +11,6 @@ use Rattle.fs_pcapng.specs.declared.fault.NgReason.{NgReason}
 use Rattle.fs_pcapng.specs.declared.fault.NgReason.TheVariants.{Length}
 use Rattle.fs_pcapng.specs.declared.fields.Frame.{Frame}
 use Rattle.fs_pcapng.specs.declared.options.Cursor.{Cursor}
-
-le_true : (a b : ℕ) → a ≤ b → nat_le a b ≡ true
-le_true a b h = let s = h in grind (arith, nat_tests)
-
-le_false : (a b : ℕ) → b < a → nat_le a b ≡ false
-le_false a b h = let s = h in grind (arith, nat_tests)
 
 -- a number that is read of what stands behind the first octets, all that is left
 pub behind_all : (n m : ℕ) (octets : List ℕ) → length octets ≤ n + m → take m (drop n octets) ≡ drop n octets

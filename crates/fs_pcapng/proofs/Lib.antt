@@ -1,7 +1,5 @@
 pub mod Dividing
 pub mod Cursors
-pub mod Parts
-pub mod Takes
 pub mod Fitting
 pub mod Opening
 pub mod Bodies

@@ -18,10 +18,11 @@ use Rattle.fs_input.proofs.Advancing.{part_advances}
 use Rattle.fs_input.proofs.Again.{ahead_here, ahead_other, nothing_ahead, reads_ahead}
 use Rattle.fs_input.proofs.Coming.{end_comes}
 use Rattle.fs_pcapng.specs.Block.{Packet, Stands, block_in, kind_behind, opened, section_in}
-use Rattle.fs_pcapng.specs.Pcapng.{Begins, nothing, packets_to_come, pcapng_of}
+use Rattle.fs_input.specs.Opening.{Begins}
+use Rattle.fs_pcapng.specs.Pcapng.{nothing, packets_to_come, pcapng_of}
 use Rattle.fs_pcapng.specs.declared.fault.NgReason.{NgReason}
 use Rattle.fs_pcapng.specs.declared.fault.NgReason.TheVariants.{Cut}
-use Rattle.fs_pcapng.proofs.Takes.{block_takes}
+use Rattle.fs_pcapng.proofs.Spelled.{block_takes}
 
 module _ (limit : ℕ) (content : List ℕ) where
   picks : (test : Bool) → (length (window limit 0 content) == 0) && not (at_limit limit 0 content) ≡ test
@@ -74,7 +75,7 @@ module _ {told : Bool} {calls calls' : Calls} (left left' : ℕ → List ℕ) {h
       let held = block_takes nothing old.taken (window old.limit old.taken content) _ took.count took.is in
       let one : 1 ≤ took.count = held.0 in
       let some : 0 < length (window old.limit old.taken content) = omega (arith, one, held.1) in
-      let behind : ahead new left' new.slot ≡ left' old.slot = λ i. nothing_ahead new left' none i (h.slot i) in
+      let behind : ahead new left' new.slot ≡ left' old.slot = λ i. nothing_ahead new left' none i (h.passes.slot i) in
       ap (λ l. pcapng_of old.limit l) (sym (ahead_here old left))
       ∙ judged old.limit content (subst (λ n. 0 < length (window old.limit n content)) start some)
       ∙ ap (λ n. packets_to_come old.limit n nothing content) (sym start)
@@ -94,7 +95,7 @@ module _ {told : Bool} {calls calls' : Calls} (left left' : ℕ → List ℕ) {h
       → Reads told calls calls' (ahead old left) (ahead new left') holds holds' (block_in nothing) Cut old new (λ (_ : T). (None, now)) result
       → (other : ℕ) → other ≢ old.slot → left' other ≡ left other
   opens_others tells_so h other apart =
-      sym (ahead_other new left' other (λ e. apart (e ∙ h.slot))) ∙ h.others tells_so other apart ∙ ahead_other old left other apart
+      sym (ahead_other new left' other (λ e. apart (e ∙ h.passes.slot))) ∙ (h.passes.others tells_so).others other apart ∙ ahead_other old left other apart
 
 module _ {T U : Type 0} {told : Bool} {calls mid late : Calls} (left : ℕ → List ℕ) {left' left'' : ℕ → List ℕ} {holds holds' holds'' : List ℕ → Option (List ℕ)}
     {old now new : Counted} {answer : T} (later : Stands) (kind : List ℕ) (start : old.taken ≡ 0) (is : big_number 4 kind ≡ 0x0a0d0d0a) where

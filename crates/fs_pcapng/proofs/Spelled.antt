@@ -4,27 +4,53 @@ use Rattle.std.specs.Prelude.{if◌then◌else◌, flat_map, nat_le, nat_lt, sli
 use Rattle.std.specs.List.{AllByRecursion}
 use Rattle.std.proofs.lemmas.List.{drop_at}
 use Rattle.std.proofs.lemmas.Bool.Decides.{nat_tests}
+use Rattle.fs_base.proofs.Bools.{and_parts}
 use Rattle.byteorder.specs.Endian.{big_number}
 use Rattle.byteorder.specs.Numbers.{big_from-append, little_from-append}
 use Rattle.fs_pcap.specs.Head.{longest_record}
 use Rattle.fs_pcap.specs.Order.{number}
 use Rattle.fs_pcap.specs.declared.order.Endian.{Endian}
 use Rattle.fs_pcap.specs.declared.order.Endian.TheVariants.{Big, Little}
+use Rattle.fs_input.specs.Coming.{Takes}
 use Rattle.fs_input.specs.Reads.{whole}
 use Rattle.fs_input.specs.Scan.{Scanner, and, field, gives, needs, skips}
 use Rattle.fs_input.proofs.Spelling.{Part, Reads, Spells, and_spells, cut_at, fails_spells, field_reads, field_spells, gives_spells, map_reads, map_spells, needs_spells, part_spells, skips_reads, skips_spells, weaker_spells}
-use Rattle.fs_input.proofs.Written.{IsSpelled}
+use Rattle.fs_input.proofs.Written.{IsSpelled, spelled_takes}
 use Rattle.fs_pcapng.specs.Block.{Packet, Stands, allows, behind_packet, block_in, body_in, close_in, cut_to, described_behind, described_in, end_in, enhanced_in, fitting, frame_of, kind_behind, kind_of, least_of, magic_behind, octets_in, opened, order_of, ordered_in, original_in, packet, plain_in, section_header, section_in, simple_behind, simple_by, simple_in, timed_behind, timed_in, total_behind, version_in, with_interface}
 use Rattle.fs_pcapng.specs.Options.{cursor, option_behind, option_in, options_in, padded, unit_in, value_in}
 use Rattle.fs_pcapng.specs.Time.{time_of}
-use Rattle.fs_pcapng.specs.Written.{Block, Choice, Description, Fits, IsBlock, IsChoice, IsPlain, Outer, Record, Section, Short, block_gives, block_text, body_text, choice_text, described, enhanced, gives_by, packet_of, section, short_of, simple, skipped, unit_behind, unit_of}
+use Rattle.fs_pcapng.specs.Written.{Block, Choice, Description, Fits, IsBlock, IsChoice, IsPlain, Outer, Record, Section, Short, Written, block_gives, block_text, body_text, choice_text, described, enhanced, gives_by, packet_of, section, short_of, simple, skipped, unit_behind, unit_of}
 use Rattle.fs_pcapng.specs.declared.block.Kind.{Kind}
 use Rattle.fs_pcapng.specs.declared.block.Kind.TheVariants.{Described, Enhanced, Simple, Other}
 use Rattle.fs_pcapng.specs.declared.fault.NgReason.{NgReason}
-use Rattle.fs_pcapng.specs.declared.fault.NgReason.TheVariants.{Interface as WrongInterface, Length, Magic, RecordTooLong, TooMany, Version}
+use Rattle.fs_pcapng.specs.declared.fault.NgReason.TheVariants.{Length, Magic, RecordTooLong, TooMany, Version, Interface as WrongInterface}
 use Rattle.fs_pcapng.specs.declared.fields.Frame.{Frame}
 use Rattle.fs_pcapng.specs.declared.options.Cursor.{Cursor}
 use Rattle.fs_pcapng.specs.declared.section.Interface.{Interface}
+
+-- octets in three parts
+record CutTwice (n m : ℕ) (octets : List ℕ) : Type 0 where
+  pub first : List ℕ
+  pub second : List ℕ
+  pub third : List ℕ
+  pub is : octets ≡ first ++ (second ++ third)
+  pub first_size : length first ≡ n
+  pub second_size : length second ≡ m
+  pub third_size : n + m + length third ≡ length octets
+
+cut_twice : (n m : ℕ) (octets : List ℕ) → n + m ≤ length octets → CutTwice n m octets
+cut_twice n m octets held =
+    let a = cut_at n octets (omega (arith, held)) in
+    let b = cut_at m a.rest (omega (arith, held, a.rest_size)) in
+    record {
+      first = a.front;
+      second = b.front;
+      third = b.rest;
+      is = a.is ∙ ap (λ l. a.front ++ l) b.is;
+      first_size = a.front_size;
+      second_size = b.front_size;
+      third_size = omega (arith, held, a.rest_size, b.rest_size);
+    }
 
 -- numbers
 
@@ -38,10 +64,6 @@ record Num (order : Endian) (size value : ℕ) (part : List ℕ) : Type 0 where
 
 num_spells : (order : Endian) (size : ℕ) → Spells {R = NgReason} (Num order size) (field size (number order size))
 num_spells order size = field_spells (Num order size) size (number order size) (λ part long. record { is = refl; long = long })
-
-both_true : (a b : Bool) → (a && b) ≡ true → (a ≡ true) × (b ≡ true)
-both_true true b e = (refl, e)
-both_true false b e = absurd cc
 
 padded_more : (n : ℕ) → n ≤ padded n
 padded_more n = omega arith
@@ -86,7 +108,7 @@ ValueFound now size test next value =
     (length value ≡ padded size) × (next ≡ cursor (now.left - 4 - padded size) (if test then slice_index value 0 else now.unit))
 
 pub is_one : (code size : ℕ) → (code == 9 && size == 1) ≡ true → size ≡ 1
-is_one code size t = let second = (both_true (code == 9) (size == 1) t).1 in grind (arith, nat_tests, second)
+is_one code size t = let second = (and_parts (code == 9) (size == 1) t).1 in grind (arith, nat_tests, second)
 
 module _ (now : Cursor) (size : ℕ) where
   abbrev value_by : Bool → Scanner Cursor NgReason
@@ -256,7 +278,7 @@ ordered_spells start total magic (Some order) m told_so =
     needs_spells (λ found more. SectionRead total found (magic ++ more)) (allows 28 (number order 4 total)) Length (start + 4)
     (version_in (frame_of order start (number order 4 total)))
     (λ test.
-    let both = both_true (nat_le 28 (number order 4 total)) (number order 4 total % 4 == 0) test in
+    let both = and_parts (nat_le 28 (number order 4 total)) (number order 4 total % 4 == 0) test in
     let first = both.0 in
     let second = both.1 in
     version_spells start order total magic m told_so (grind (arith, nat_tests, first)) (grind (arith, nat_tests, second)))
@@ -291,29 +313,6 @@ module _ (order : Endian) (now : Stands) (start total : ℕ) where
 
   -- a description
 
-  record HeadRead (head : List ℕ) : Type 0 where
-    pub link : List ℕ
-    pub reserved : List ℕ
-    pub snap : List ℕ
-    pub is : head ≡ link ++ (reserved ++ snap)
-    pub link_size : length link ≡ 2
-    pub reserved_size : length reserved ≡ 2
-    pub snap_size : length snap ≡ 4
-
-  head_read : (head : List ℕ) → length head ≡ 8 → HeadRead head
-  head_read head long =
-      let a = cut_at 2 head (omega (arith, long)) in
-      let b = cut_at 2 a.rest (omega (arith, long, a.rest_size)) in
-      record {
-        link = a.front;
-        reserved = b.front;
-        snap = b.rest;
-        is = a.is ∙ ap (λ l. a.front ++ l) b.is;
-        link_size = a.front_size;
-        reserved_size = b.front_size;
-        snap_size = omega (arith, long, a.rest_size, b.rest_size);
-      }
-
   pub snap_is : (link reserved snap : List ℕ) → length link ≡ 2 → length reserved ≡ 2 → drop 4 (link ++ (reserved ++ snap)) ≡ snap
   snap_is link reserved snap l r =
       ap (drop 4) (sym (append_assoc link reserved snap)) ∙ drop_at (link ++ reserved) snap 4 (omega (arith, length-append link reserved, l, r))
@@ -323,12 +322,12 @@ module _ (order : Endian) (now : Stands) (start total : ℕ) where
       → BodyRead order now Described total
       (None, with_interface now (record { link = number order 2 head; snap = number order 4 (drop 4 head); unit = unit })) (part ++ (options ++ again))
   described_found head part options again unit least room p c closing =
-      let h = head_read part p.long in
-      let d : Description = record { link = h.link; reserved = h.reserved; snap = h.snap; choices = c.choices } in
-      let link : number order 2 head ≡ number order 2 h.link =
-      ap (number order 2) (p.is ∙ h.is) ∙ number_first order 2 h.link (h.reserved ++ h.snap) h.link_size in
-      let snap : number order 4 (drop 4 head) ≡ number order 4 h.snap =
-      ap (λ l. number order 4 (drop 4 l)) (p.is ∙ h.is) ∙ ap (number order 4) (snap_is h.link h.reserved h.snap h.link_size h.reserved_size) in
+      let h = cut_twice 2 2 part (omega (arith, p.long)) in
+      let d : Description = record { link = h.first; reserved = h.second; snap = h.third; choices = c.choices } in
+      let link : number order 2 head ≡ number order 2 h.first =
+      ap (number order 2) (p.is ∙ h.is) ∙ number_first order 2 h.first (h.second ++ h.third) h.first_size in
+      let snap : number order 4 (drop 4 head) ≡ number order 4 h.third =
+      ap (λ l. number order 4 (drop 4 l)) (p.is ∙ h.is) ∙ ap (number order 4) (snap_is h.first h.second h.third h.first_size h.second_size) in
       let text : part ++ options ≡ body_text (described d) = λ i. h.is i ++ c.is i in
       record {
         block = described d;
@@ -336,7 +335,7 @@ module _ (order : Endian) (now : Stands) (start total : ℕ) where
         is = sym (append_assoc part options again) ∙ ap (λ l. l ++ again) text;
         block_is = λ outer plain. (
           plain,
-          record { link = h.link_size; reserved = h.reserved_size; snap = h.snap_size; choices = c.are; room = room },
+          record { link = h.first_size; reserved = h.second_size; snap = omega (arith, h.third_size, p.long); choices = c.are; room = room },
         );
         size_is = omega (arith, ap length text, length-append part options, p.long, c.long, least);
         closing = closing;
@@ -397,29 +396,6 @@ module _ (order : Endian) (now : Stands) (start total : ℕ) where
 
   -- an enhanced packet
 
-  record TimesRead (head : List ℕ) : Type 0 where
-    pub high : List ℕ
-    pub low : List ℕ
-    pub captured : List ℕ
-    pub is : head ≡ high ++ (low ++ captured)
-    pub high_size : length high ≡ 4
-    pub low_size : length low ≡ 4
-    pub captured_size : length captured ≡ 4
-
-  times_read : (head : List ℕ) → length head ≡ 12 → TimesRead head
-  times_read head long =
-      let a = cut_at 4 head (omega (arith, long)) in
-      let b = cut_at 4 a.rest (omega (arith, long, a.rest_size)) in
-      record {
-        high = a.front;
-        low = b.front;
-        captured = b.rest;
-        is = a.is ∙ ap (λ l. a.front ++ l) b.is;
-        high_size = a.front_size;
-        low_size = b.front_size;
-        captured_size = omega (arith, long, a.rest_size, b.rest_size);
-      }
-
   pub second_is : (high low captured : List ℕ) → length high ≡ 4 → length low ≡ 4 → number order 4 (drop 4 (high ++ (low ++ captured))) ≡ number order 4 low
   second_is high low captured h l = ap (number order 4) (drop_at high (low ++ captured) 4 h) ∙ number_first order 4 low captured l
 
@@ -445,18 +421,18 @@ module _ (order : Endian) (now : Stands) (start total : ℕ) where
       (Some (packet (timed_moment interface head) interface.link original found), behind_packet now (packet (timed_moment interface head) interface.link original found))
       (which_text ++ (head_text ++ (original_text ++ octets)))
   record_found which original which_text head head_text original_text found octets interface w known p n few room o =
-      let t = times_read head_text p.long in
-      let captured_is : number order 4 (drop 8 head) ≡ number order 4 t.captured =
-      ap (λ l. number order 4 (drop 8 l)) (p.is ∙ t.is) ∙ ap (number order 4) (third_is t.high t.low t.captured t.high_size t.low_size) in
-      let high : number order 4 head ≡ number order 4 t.high =
-      ap (number order 4) (p.is ∙ t.is) ∙ number_first order 4 t.high (t.low ++ t.captured) t.high_size in
-      let low : number order 4 (drop 4 head) ≡ number order 4 t.low =
-      ap (λ l. number order 4 (drop 4 l)) (p.is ∙ t.is) ∙ second_is t.high t.low t.captured t.high_size t.low_size in
+      let t = cut_twice 4 4 head_text (omega (arith, p.long)) in
+      let captured_is : number order 4 (drop 8 head) ≡ number order 4 t.third =
+      ap (λ l. number order 4 (drop 8 l)) (p.is ∙ t.is) ∙ ap (number order 4) (third_is t.first t.second t.third t.first_size t.second_size) in
+      let high : number order 4 head ≡ number order 4 t.first =
+      ap (number order 4) (p.is ∙ t.is) ∙ number_first order 4 t.first (t.second ++ t.third) t.first_size in
+      let low : number order 4 (drop 4 head) ≡ number order 4 t.second =
+      ap (λ l. number order 4 (drop 4 l)) (p.is ∙ t.is) ∙ second_is t.first t.second t.third t.first_size t.second_size in
       let r : Record = record {
         which = which_text;
-        high = t.high;
-        low = t.low;
-        captured = t.captured;
+        high = t.first;
+        low = t.second;
+        captured = t.third;
         original = original_text;
         octets = found;
         rest = o.rest;
@@ -474,9 +450,9 @@ module _ (order : Endian) (now : Stands) (start total : ℕ) where
           plain,
           record {
             which = w.long;
-            high = t.high_size;
-            low = t.low_size;
-            captured = t.captured_size;
+            high = t.first_size;
+            low = t.second_size;
+            captured = omega (arith, t.third_size, p.long);
             original = n.long;
             interface_is = ap (slice_get now.interfaces) (sym w.is) ∙ known;
             holds = record {
@@ -504,7 +480,7 @@ module _ (order : Endian) (now : Stands) (start total : ℕ) where
             );
         closing = o.closing;
         value_is =
-            let moment : timed_moment interface head ≡ max now.moment (time_of interface.unit (number order 4 t.high * 4294967296 + number order 4 t.low)) =
+            let moment : timed_moment interface head ≡ max now.moment (time_of interface.unit (number order 4 t.first * 4294967296 + number order 4 t.second)) =
             λ i. max now.moment (time_of interface.unit (high i * 4294967296 + low i)) in
             let same : packet (timed_moment interface head) interface.link original found ≡ packet_of order now.moment interface r =
             λ i. packet (moment i) interface.link (n.is i) found in
@@ -653,7 +629,7 @@ plain_spells start now (Some order) kind known long other =
     (λ total total_text n.
     needs_spells (λ value more. Given now value (kind ++ (total_text ++ more))) (allows (least_of which) total) Length (start + 4) (body_in (frame_of order start total) now which)
     (λ test.
-    let both = both_true (nat_le (least_of which) total) (total % 4 == 0) test in
+    let both = and_parts (nat_le (least_of which) total) (total % 4 == 0) test in
     let first = both.0 in
     let second = both.1 in
     let groups : total % 4 ≡ 0 = grind (arith, nat_tests, second) in
@@ -705,3 +681,11 @@ block_spells now place =
     (λ kind part p.
     subst (λ (l : List ℕ). Spells (λ value more. Given now value (part ++ more)) (kind_behind now place l)) (sym p.is) (kind_spells now place part p.long))
     place
+
+block_some : (now : Stands) (written : Written) → Fits now written → 0 < length (block_text written)
+block_some now written fits =
+    let outer = written.outer in
+    omega (arith, length-append outer.kind (outer.total ++ (body_text written.block ++ outer.again)), fits.framed_is.kind)
+
+pub block_takes : (now : Stands) → Takes 1 (block_in now)
+block_takes now = spelled_takes block_in block_text Fits block_gives block_some block_spells now

@@ -1,11 +1,11 @@
 -- What stands before an enhanced packet's octets, judged as a chain of its own.
 use Rattle.std.proofs.Common.{◌≡◌, ℕ, List, Bool, true, false, Option, Some, None, ◌≤◌, ◌+◌, ◌*◌, max, length, take, drop, refl, ap, sym, ◌∙◌, subst, arith}
 use Rattle.std.specs.Prelude.{IfErr, nat_le, slice_get}
-use Rattle.std.proofs.lemmas.Bool.Decides.{nat_tests}
 use Rattle.std.proofs.lemmas.List.{drop-drop}
 use Rattle.fs_pcap.specs.Order.{number}
 use Rattle.fs_base.specs.Filling.{Fills}
 use Rattle.fs_base.specs.Parts.{window}
+use Rattle.fs_base.proofs.NumberTests.{le_true}
 use Rattle.fs_input.specs.declared.fault.Fault.TheVariants.{Read}
 use Rattle.fs_input.specs.Judging.{scan_of, settled}
 use Rattle.fs_input.specs.Reads.{Scanned, whole}
@@ -13,28 +13,19 @@ use Rattle.fs_input.specs.Scan.{Scan, Scanner, and, and_then, behind, field, giv
 use Rattle.fs_input.specs.declared.judging.Judged.{Judged}
 use Rattle.fs_input.specs.declared.judging.Judged.TheVariants.{Whole, Wrong, Partial}
 use Rattle.fs_input.proofs.Fixed.{IsFixed, and_fixed, fails_fixed, field_fixed, gives_fixed, judged_reads, needs_fixed}
+use Rattle.fs_input.proofs.Stages.{behind_more, behind_none}
 use Rattle.fs_input.proofs.CutShort.{short_reads}
 use Rattle.fs_pcapng.specs.Block.{Packet, Stands, enhanced_in, fitting, octets_in, original_in, packet, timed_behind, timed_in}
 use Rattle.fs_pcapng.specs.Packets.{told_behind, told_by, told_in, told_of, told_timed}
 use Rattle.fs_pcapng.specs.Options.{padded}
 use Rattle.fs_pcapng.specs.Time.{time_of}
 use Rattle.fs_pcapng.specs.declared.fault.NgReason.{NgReason}
-use Rattle.fs_pcapng.specs.declared.fault.NgReason.TheVariants.{Cut, Interface as WrongInterface, Length, RecordTooLong}
+use Rattle.fs_pcapng.specs.declared.fault.NgReason.TheVariants.{Cut, Length, RecordTooLong, Interface as WrongInterface}
 use Rattle.fs_pcapng.specs.declared.fields.Frame.{Frame}
 use Rattle.fs_pcapng.specs.declared.packets.Told.{Told}
 use Rattle.fs_pcapng.specs.declared.section.Interface.{Interface}
 
 -- chains in chains
-
-behind_none : {A : Type 0} (scan : Scan A NgReason) → behind 0 scan ≡ scan
-behind_none (got value count) = let same : 0 + count ≡ count = omega arith in ap (λ n. got value n) same
-behind_none (wrong reason place) = refl
-behind_none partial = refl
-
-behind_more : {A : Type 0} (n m : ℕ) (scan : Scan A NgReason) → behind (n + m) scan ≡ behind n (behind m scan)
-behind_more n m (got value count) = let same : n + m + count ≡ n + (m + count) = omega arith in ap (λ k. got value k) same
-behind_more n m (wrong reason place) = refl
-behind_more n m partial = refl
 
 module _ {A B C : Type 0} (first : Scanner A NgReason) (next : A → Scanner B NgReason) (last : B → Scanner C NgReason) where
   join_next : (n place : ℕ) (octets : List ℕ) (scan : Scan B NgReason)
@@ -42,7 +33,7 @@ module _ {A B C : Type 0} (first : Scanner A NgReason) (next : A → Scanner B N
   join_next n place octets (got value m) =
       let spot : place + (n + m) ≡ place + n + m = omega arith in
       let left : drop (n + m) octets ≡ drop m (drop n octets) = sym (drop-drop m n octets) in
-      (λ i. behind (n + m) (last value (spot i) (left i))) ∙ behind_more n m (last value (place + n + m) (drop m (drop n octets)))
+      (λ i. behind (n + m) (last value (spot i) (left i))) ∙ sym (behind_more n m (last value (place + n + m) (drop m (drop n octets))))
   join_next n place octets (wrong reason spot) = refl
   join_next n place octets partial = refl
 
@@ -70,7 +61,7 @@ given : {A B : Type 0} (value : A) (last : A → Scanner B NgReason) (place : �
     → and (gives value) last place octets ≡ last value place octets
 given value last place octets =
     let same : place + 0 ≡ place = omega arith in
-    ap (λ p. behind 0 (last value p octets)) same ∙ behind_none (last value place octets)
+    ap (λ p. behind 0 (last value p octets)) same ∙ sym (behind_none (last value place octets))
 
 needed : {A B : Type 0} (test : Bool) (reason : NgReason) (spot : ℕ) (next : Scanner A NgReason) (last : A → Scanner B NgReason)
     (other : Scanner B NgReason) → ((place : ℕ) (octets : List ℕ) → and next last place octets ≡ other place octets)
@@ -152,13 +143,10 @@ module _ (frame : Frame) where
       (field_fixed 4 (number frame.order 4)) (λ which. by_fixed now.moment (slice_get now.interfaces which))
 
 -- what is said of the octets in hand
-yes_le : (a b : ℕ) → a ≤ b → nat_le a b ≡ true
-yes_le a b h = let s = h in grind (arith, nat_tests)
-
 pub field_said : {A B : Type 0} (size : ℕ) (read : List ℕ → A) (next : A → Scanner B NgReason) (place : ℕ) (octets : List ℕ) (scan : Scan B NgReason)
     → size ≤ length octets → scan ≡ next (read (take size octets)) (place + size) (drop size octets)
     → behind size scan ≡ and (field size read) next place octets
-field_said size read next place octets scan held h = rw (yes_le size (length octets) held) (ap (behind size) h)
+field_said size read next place octets scan held h = rw (le_true size (length octets) held) (ap (behind size) h)
 
 pub four_more : (judged : Judged Told NgReason) → scan_of 20 judged ≡ behind 4 (scan_of 16 judged)
 four_more (Whole told) = refl

@@ -28,7 +28,7 @@ use Rattle.fs_pcapng.specs.declared.fault.NgReason.TheVariants.{Cut, Length, Rec
 use Rattle.fs_pcapng.specs.declared.fields.Frame.{Frame}
 use Rattle.fs_pcapng.specs.declared.options.Cursor.{Cursor}
 use Rattle.fs_pcapng.specs.declared.section.Interface.{Interface}
-use Rattle.fs_pcapng.proofs.Takes.{block_takes}
+use Rattle.fs_pcapng.proofs.Spelled.{block_takes}
 use Rattle.fs_pcapng.proofs.Spelled.{Closing, block_spells, choice_size, is_one, joined, number_first, second_is, snap_is, third_is, timed_moment, value_reads}
 
 option_read : (order : Endian) (now : Cursor) (choice : Choice) → IsChoice order choice → length (choice_text choice) ≤ now.left

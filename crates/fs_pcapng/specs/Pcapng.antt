@@ -1,13 +1,13 @@
 -- A pcapng capture: blocks, the first of which is a section header. Those with packets give them (the pcapng draft's
 -- sections 'Block Types' and 'Logical Block Hierarchy').
-use Rattle.std.specs.Prelude.{ℕ, List, [], Option, Some, None, Result, Ok, Err, ◌≡◌, ◌≤◌, ◌<◌, ◌==◌, ◌&&◌, not, if◌then◌else◌, length, take, ⊤}
+use Rattle.std.specs.Prelude.{ℕ, List, [], Option, Some, None, Result, ◌≡◌, ◌≤◌, ◌==◌, ◌&&◌, not, if◌then◌else◌, length, take}
 use Rattle.fs_base.specs.Parts.{at_limit, window}
 use Rattle.fs_pcap.specs.Head.{longest_record}
 use Rattle.fs_base.specs.declared.link.Link.{Link}
-use Rattle.fs_input.specs.Records.{End, bad, limited}
+use Rattle.fs_input.specs.NextRecord.{Grows as GrowsBy}
+use Rattle.fs_input.specs.Records.{End, bad}
 use Rattle.fs_input.specs.declared.fault.Ended.{Ended}
 use Rattle.fs_input.specs.declared.fault.Fault.{Fault}
-use Rattle.fs_input.specs.declared.fault.Fault.TheVariants.{Read, Limit, Bad}
 use Rattle.fs_input.specs.Coming.{told_to_come}
 use Rattle.fs_pcapng.specs.Block.{Packet, Stands, block_in}
 use Rattle.fs_pcapng.specs.declared.caught.NgCaught.{NgCaught}
@@ -56,9 +56,7 @@ packet_from link caught into = record {
 
 -- A packet raises the place, up to the limit at most. It isn't too long.
 abbrev pub Grows : (old new limit : ℕ) → Result (Option NgCaught) (Fault NgReason) → Type 0
-Grows old new limit (Ok (Some caught)) = (old < new) × (new ≤ limit) × (caught.taken ≤ longest_record)
-Grows old new limit (Ok None) = ⊤
-Grows old new limit (Err fault) = ⊤
+Grows old new limit result = GrowsBy (λ (caught : NgCaught). caught.taken ≤ longest_record) old new limit result
 
 abbrev pub seen_from : List ℕ → Seen → Packet
 seen_from into seen = packet_from seen.link seen.caught into
@@ -68,10 +66,3 @@ abbrev pub Moves : (old new : Stands) → Option Seen → Type 0
 Moves old new None = old.moment ≤ new.moment
 Moves old new (Some seen) =
     (old.moment ≤ new.moment) × (seen.caught.moment ≡ new.moment) × (seen.caught.taken ≤ longest_record)
-
--- An opened capture is still to give all packets. A fault is what ends it before them.
-abbrev pub Begins : {T : Type 0} → List Packet × End NgReason → (T → List Packet × End NgReason) → Result T (Fault NgReason) → Type 0
-Begins all coming (Ok capture) = all ≡ coming capture
-Begins all coming (Err Read) = ⊤
-Begins all coming (Err Limit) = all ≡ ([], limited)
-Begins all coming (Err (Bad reason place)) = all ≡ ([], bad reason place)

@@ -1,10 +1,11 @@
 //! Blocks.
-ghost use Rattle.std.specs.Prelude.{◌≡◌, ◌≤◌, ◌<◌, ◌+◌, [], IfOk, IfSome, length};
+ghost use Rattle.std.specs.Prelude.{◌≡◌, ◌≤◌, ◌<◌, ◌+◌, [], IfOk, length};
 ghost use Rattle.std.specs.Option.{option_map};
 ghost use Rattle.fs_pcap.specs.Head.{longest_record};
+ghost use Rattle.fs_input.specs.Reading.{answer_told};
 ghost use Rattle.fs_input.specs.Reads.{Scans};
 ghost use Rattle.fs_pcapng.specs.Block.{body_in, kind_behind, kind_of, least_of, plain_in};
-ghost use Rattle.fs_pcapng.specs.Pcapng.{seen_from};
+ghost use Rattle.fs_pcapng.specs.Pcapng.{Moves, seen_from};
 ghost use Rattle.fs_pcapng.specs.declared.fault.NgReason.TheVariants.{Cut};
 
 use crate::caught::Seen;
@@ -74,9 +75,7 @@ pub(crate) fn take_block<F: Files>(
     ensures none { counted.new.back ≡ [] }
     ensures room { length into.new ≡ length into.old }
     ensures grows { IfOk result (λ _. start < counted.new.taken) }
-    ensures size { IfOk result (λ found. IfSome found (λ seen. seen.caught.taken ≤ longest_record)) }
-    ensures moment { IfOk result (λ found. IfSome found (λ seen. seen.caught.moment ≡ section.new.moment)) }
-    ensures rises { section.old.moment ≤ section.new.moment }
+    ensures moves { Moves section.old section.new (answer_told result) }
     ensures reads { Scans F.Files files.old files.new (kind_behind section.old start kind.now) Cut counted.old
         counted.new (λ found. (option_map (seen_from into.new) found, section.new)) result }
 {
@@ -108,9 +107,7 @@ fn take_plain<F: Files>(
     ensures none { counted.new.back ≡ [] }
     ensures room { length into.new ≡ length into.old }
     ensures grows { IfOk result (λ _. start < counted.new.taken) }
-    ensures size { IfOk result (λ found. IfSome found (λ seen. seen.caught.taken ≤ longest_record)) }
-    ensures moment { IfOk result (λ found. IfSome found (λ seen. seen.caught.moment ≡ section.new.moment)) }
-    ensures rises { section.old.moment ≤ section.new.moment }
+    ensures moves { Moves section.old section.new (answer_told result) }
     ensures reads { Scans F.Files files.old files.new (plain_in start section.old section.old.order kind.now) Cut
         counted.old counted.new (λ found. (option_map (seen_from into.new) found, section.new)) result }
 {
@@ -155,9 +152,7 @@ fn take_body<F: Files>(
     ensures none { counted.new.back ≡ [] }
     ensures room { length into.new ≡ length into.old }
     ensures grows { IfOk result (λ _. frame.start < counted.new.taken) }
-    ensures size { IfOk result (λ found. IfSome found (λ seen. seen.caught.taken ≤ longest_record)) }
-    ensures moment { IfOk result (λ found. IfSome found (λ seen. seen.caught.moment ≡ section.new.moment)) }
-    ensures rises { section.old.moment ≤ section.new.moment }
+    ensures moves { Moves section.old section.new (answer_told result) }
     ensures reads { Scans F.Files files.old files.new (body_in frame section.old kind) Cut counted.old counted.new
         (λ found. (option_map (seen_from into.new) found, section.new)) result }
 {

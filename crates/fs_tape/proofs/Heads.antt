@@ -3,7 +3,6 @@ use Rattle.std.proofs.Common.{◌≡◌, ℕ, List, [], ◌∷◌, ◌++◌, Opt
 use Rattle.std.specs.Prelude.{IsSome, is_none, nat_lt, if◌then◌else◌}
 use Rattle.std.proofs.lemmas.List.{length-drop}
 use Rattle.std.proofs.lemmas.Bool.Decides.{nat_tests}
-use Rattle.std.proofs.lemmas.Grind.{common_steps}
 use Rattle.byteorder.specs.Endian.{big_bytes, big_number}
 use Rattle.byteorder.specs.Numbers.{big_number-reads_back}
 use Rattle.fs_base.specs.Language.{IsOctets}
@@ -12,6 +11,7 @@ use Rattle.fs_base.specs.declared.config.Config.{Config}
 use Rattle.fs_base.proofs.Digits.{big_below, big_written}
 use Rattle.fs_base.proofs.Octets.{octets_drop, octets_tail}
 use Rattle.fs_input.specs.declared.head.Head.TheVariants.{Whole, Wrong, Partial}
+use Rattle.fs_input.proofs.Done.{nothing}
 use Rattle.fs_tape.specs.declared.fault.TapeReason.TheVariants.{Kind, Peer, Length, Moment}
 use Rattle.fs_tape.specs.declared.header.Said.{Said}
 use Rattle.fs_tape.specs.declared.item.Kind.{Kind as RecordKind}
@@ -74,19 +74,15 @@ number_written : (n : ℕ) (octets : List ℕ) → n ≤ length octets → IsOct
 number_written n octets held are =
     sym (take-append-drop n octets) ∙ ap (λ front. front ++ drop n octets) (big_written n octets held are)
 
-nothing : (octets : List ℕ) → length octets ≡ 0 → octets ≡ []
-nothing octets none = grind (arith, common_steps)
-
 -- the octets of a head's last fields, from the length on
 record IsSized (kind : RecordKind) (peer moment : ℕ) (octets : List ℕ) (told : Said) (size : ℕ) : Type 0 where
   pub is : told ≡ said kind peer moment
-  pub text : octets ≡ big_bytes 4 size
+  pub text : length octets ≡ 4 → IsOctets octets → octets ≡ big_bytes 4 size
   pub allowed : allows kind size ≡ true
 
 size_told : (place : ℕ) (kind : RecordKind) (peer moment : ℕ) (octets : List ℕ) (told : Said) (size : ℕ)
-    → size_field place kind peer moment octets ≡ Whole told size → length octets ≡ 4 → IsOctets octets
-    → IsSized kind peer moment octets told size
-size_told place kind peer moment octets told size h four are =
+    → size_field place kind peer moment octets ≡ Whole told size → IsSized kind peer moment octets told size
+size_told place kind peer moment octets told size h =
     by (nat_lt (length octets) 4) (allows kind (big_number 4 octets)) refl h
   where
     by : (short allowed : Bool) → allows kind (big_number 4 octets) ≡ allowed
@@ -97,40 +93,45 @@ size_told place kind peer moment octets told size h four are =
     by false false a e = cc
     by false true a e =
         let same : big_number 4 octets ≡ size = cc in
-        let none : drop 4 octets ≡ [] = nothing (drop 4 octets) (omega (arith, length-drop 4 octets)) in
         record {
           is = (cc);
-          text = number_written 4 octets (omega arith) are ∙ ap (λ rest. big_bytes 4 (big_number 4 octets) ++ rest) none ∙ ap (big_bytes 4) same;
+          text = λ four are.
+              let none : drop 4 octets ≡ [] = nothing (drop 4 octets) (omega (arith, four, length-drop 4 octets)) in
+              number_written 4 octets (omega (arith, four)) are ∙ ap (λ rest. big_bytes 4 (big_number 4 octets) ++ rest) none ∙ ap (big_bytes 4) same;
           allowed = ap (allows kind) (sym same) ∙ a;
         }
 
 -- those behind the peer's number
 record IsBehind (version : Version) (last : ℕ) (kind : RecordKind) (peer : ℕ) (octets : List ℕ) (told : Said) (size : ℕ) : Type 0 where
   pub is : told ≡ said kind peer told.moment
-  pub text : octets ≡ moment_text version told.moment ++ big_bytes 4 size
+  pub text : 3 + length octets ≡ head_size version → IsOctets octets → octets ≡ moment_text version told.moment ++ big_bytes 4 size
   pub allowed : allows kind size ≡ true
-  pub room : told.moment < 2 ^ 64
+  pub room : IsOctets octets → told.moment < 2 ^ 64
   pub timed : IsTimed version last told.moment
 
 with_moment : (version : Version) (last : ℕ) (kind : RecordKind) (peer moment : ℕ) (octets rest : List ℕ) (told : Said) (size : ℕ)
-    → IsSized kind peer moment rest told size → octets ≡ moment_text version moment ++ rest → moment < 2 ^ 64 → IsTimed version last moment
-    → IsBehind version last kind peer octets told size
-with_moment version last kind peer moment octets rest told size sized text room timed =
+    → IsSized kind peer moment rest told size
+    → (3 + length octets ≡ head_size version → IsOctets octets → octets ≡ moment_text version moment ++ rest)
+    → (3 + length octets ≡ head_size version → length rest ≡ 4) → (IsOctets octets → IsOctets rest) → (IsOctets octets → moment < 2 ^ 64)
+    → IsTimed version last moment → IsBehind version last kind peer octets told size
+with_moment version last kind peer moment octets rest told size sized text rest_size rest_are room timed =
     let same : moment ≡ told.moment = sym (ap (λ (s : Said). s.moment) sized.is) in
     record {
       is = sized.is ∙ ap (said kind peer) same;
-      text = text ∙ ap (λ more. moment_text version moment ++ more) sized.text ∙ ap (λ m. moment_text version m ++ big_bytes 4 size) same;
+      text = λ count are.
+          text count are ∙ ap (λ more. moment_text version moment ++ more) (sized.text (rest_size count) (rest_are are))
+          ∙ ap (λ m. moment_text version m ++ big_bytes 4 size) same;
       allowed = sized.allowed;
-      room = subst (λ m. m < 2 ^ 64) same room;
+      room = λ are. subst (λ m. m < 2 ^ 64) same (room are);
       timed = subst (IsTimed version last) same timed;
     }
 
 behind_told : (version : Version) (last : ℕ) (kind : RecordKind) (peer : ℕ) (octets : List ℕ) (told : Said) (size : ℕ)
-    → behind_peer version last kind peer octets ≡ Whole told size → 3 + length octets ≡ head_size version → IsOctets octets
-    → IsBehind version last kind peer octets told size
-behind_told One last kind peer octets told size h count are =
-    with_moment One last kind peer 0 octets octets told size (size_told 3 kind peer 0 octets told size h (omega arith) are) refl (omega arith) refl
-behind_told Two last kind peer octets told size h count are =
+    → behind_peer version last kind peer octets ≡ Whole told size → IsBehind version last kind peer octets told size
+behind_told One last kind peer octets told size h =
+    with_moment One last kind peer 0 octets octets told size (size_told 3 kind peer 0 octets told size h) (λ count are. refl)
+    (λ count. omega (arith, count)) (λ are. are) (λ are. omega arith) refl
+behind_told Two last kind peer octets told size h =
     by (nat_lt (length octets) 8) (nat_lt (big_number 8 octets) last) refl h
   where
     by : (short before : Bool) → nat_lt (big_number 8 octets) last ≡ before
@@ -140,44 +141,50 @@ behind_told Two last kind peer octets told size h count are =
     by true before b e = cc
     by false true b e = cc
     by false false b e =
-        let four : length (drop 8 octets) ≡ 4 = omega (arith, length-drop 8 octets) in
+        let timed : last ≤ big_number 8 octets = grind (arith, nat_tests) in
         with_moment Two last kind peer (big_number 8 octets) octets (drop 8 octets) told size
-        (size_told 11 kind peer (big_number 8 octets) (drop 8 octets) told size e four (octets_drop 8 octets are))
-        (number_written 8 octets (omega arith) are) (big_below 8 octets are) (grind (arith, nat_tests))
+        (size_told 11 kind peer (big_number 8 octets) (drop 8 octets) told size e)
+        (λ count are. number_written 8 octets (omega (arith, count)) are) (λ count. omega (arith, count, length-drop 8 octets))
+        (octets_drop 8 octets) (big_below 8 octets) timed
 
 some_of : {A : Type 0} (o : Option A) → is_none o ≡ false → IsSome o
 some_of None h = cc
 some_of (Some x) h = refl
 
--- all of a head's octets
+-- All of a head's octets, where they are octets and no more than a head's. Its moment may stand behind the last one.
 pub record IsHeadOf (config : Config) (version : Version) (last : ℕ) (octets : List ℕ) (told : Said) (size : ℕ) : Type 0 where
-  pub text : octets ≡ head_text version (octet_of told.kind) told.peer told.moment size
+  pub text : length octets ≡ head_size version → IsOctets octets → octets ≡ head_text version (octet_of told.kind) told.peer told.moment size
   pub allowed : allows told.kind size ≡ true
-  pub numbered : IsNumbered config told.peer
-  pub room : told.moment < 2 ^ 64
+  pub numbered : IsOctets octets → IsNumbered config told.peer
+  pub room : IsOctets octets → told.moment < 2 ^ 64
   pub timed : IsTimed version last told.moment
 
 with_peer : (config : Config) (version : Version) (last octet : ℕ) (kind : RecordKind) (peer : ℕ) (octets rest : List ℕ) (told : Said) (size : ℕ)
-    → octet ≡ octet_of kind → octets ≡ big_bytes 2 peer ++ rest → IsNumbered config peer → IsBehind version last kind peer rest told size
+    → octet ≡ octet_of kind → (1 + length octets ≡ head_size version → IsOctets octets → octets ≡ big_bytes 2 peer ++ rest)
+    → (1 + length octets ≡ head_size version → 3 + length rest ≡ head_size version) → (IsOctets octets → IsOctets rest)
+    → (IsOctets octets → IsNumbered config peer) → IsBehind version last kind peer rest told size
     → IsHeadOf config version last (octet ∷ octets) told size
-with_peer config version last octet kind peer octets rest told size first text numbered behind =
+with_peer config version last octet kind peer octets rest told size first text rest_size rest_are numbered behind =
     let kind_is : kind ≡ told.kind = sym (ap (λ (s : Said). s.kind) behind.is) in
     let peer_is : peer ≡ told.peer = sym (ap (λ (s : Said). s.peer) behind.is) in
     record {
-      text =
+      text = λ count are.
+          let long : 1 + length octets ≡ head_size version = omega (arith, count) in
+          let tail = octets_tail octet octets are in
           ap (λ o. o ∷ octets) (first ∙ ap octet_of kind_is)
-          ∙ ap (λ more. octet_of told.kind ∷ more) (text ∙ ap (λ more. big_bytes 2 peer ++ more) behind.text)
+          ∙ ap (λ more. octet_of told.kind ∷ more)
+          (text long tail ∙ ap (λ more. big_bytes 2 peer ++ more) (behind.text (rest_size long) (rest_are tail)))
           ∙ ap (λ p. head_text version (octet_of told.kind) p told.moment size) peer_is;
       allowed = subst (λ k. allows k size ≡ true) kind_is behind.allowed;
-      numbered = subst (IsNumbered config) peer_is numbered;
-      room = behind.room;
+      numbered = λ are. subst (IsNumbered config) peer_is (numbered (octets_tail octet octets are));
+      room = λ are. behind.room (rest_are (octets_tail octet octets are));
       timed = behind.timed;
     }
 
 peer_told : (config : Config) (version : Version) (last octet : ℕ) (kind : RecordKind) (octets : List ℕ) (told : Said) (size : ℕ)
-    → octet ≡ octet_of kind → peer_field config version last kind octets ≡ Whole told size → 1 + length octets ≡ head_size version
-    → IsOctets octets → IsHeadOf config version last (octet ∷ octets) told size
-peer_told config version last octet kind octets told size first h count are =
+    → octet ≡ octet_of kind → peer_field config version last kind octets ≡ Whole told size
+    → IsHeadOf config version last (octet ∷ octets) told size
+peer_told config version last octet kind octets told size first h =
     by (nat_lt (length octets) 2) (is_none (peer_of (big_number 2 octets) config.peers)) refl h
   where
     held : (v : Version) → 1 + length octets ≡ head_size v → 2 ≤ length octets
@@ -193,23 +200,22 @@ peer_told config version last octet kind octets told size first h count are =
     by true unknown u e = cc
     by false true u e = cc
     by false false u e =
-        let two : 2 ≤ length octets = held version count in
-        let behind = behind_told version last kind (big_number 2 octets) (drop 2 octets) told size e
-        (omega (arith, count, two, length-drop 2 octets)) (octets_drop 2 octets are) in
         with_peer config version last octet kind (big_number 2 octets) octets (drop 2 octets) told size first
-        (number_written 2 octets two are) (big_below 2 octets are, some_of (peer_of (big_number 2 octets) config.peers) u) behind
+        (λ count are. number_written 2 octets (held version count) are)
+        (λ count. let two : 2 ≤ length octets = held version count in omega (arith, count, two, length-drop 2 octets)) (octets_drop 2 octets)
+        (λ are. (big_below 2 octets are, some_of (peer_of (big_number 2 octets) config.peers) u))
+        (behind_told version last kind (big_number 2 octets) (drop 2 octets) told size e)
 
 by_kind : (config : Config) (version : Version) (last octet : ℕ) (octets : List ℕ) (kind : Option RecordKind) (told : Said) (size : ℕ)
-    → kind_of octet ≡ kind → head_from config version last (octet ∷ octets) ≡ Whole told size → 1 + length octets ≡ head_size version
-    → IsOctets octets → IsHeadOf config version last (octet ∷ octets) told size
-by_kind config version last octet octets None told size k h count are =
+    → kind_of octet ≡ kind → head_from config version last (octet ∷ octets) ≡ Whole told size
+    → IsHeadOf config version last (octet ∷ octets) told size
+by_kind config version last octet octets None told size k h =
     absurd (let no : Wrong Kind 0 ≡ Whole told size = rw (k, head_from) at h in cc)
-by_kind config version last octet octets (Some kind) told size k h count are =
-    peer_told config version last octet kind octets told size (kind_octet octet kind k) (rw (k, head_from) at h) count are
+by_kind config version last octet octets (Some kind) told size k h =
+    peer_told config version last octet kind octets told size (kind_octet octet kind k) (rw (k, head_from) at h)
 
 pub head_told : (config : Config) (version : Version) (last : ℕ) (octets : List ℕ) (told : Said) (size : ℕ)
-    → head_from config version last octets ≡ Whole told size → length octets ≡ head_size version → IsOctets octets
-    → IsHeadOf config version last octets told size
-head_told config version last [] told size h count are = cc
-head_told config version last (octet ∷ octets) told size h count are =
-    by_kind config version last octet octets (kind_of octet) told size refl h (omega (arith, count)) (octets_tail octet octets are)
+    → head_from config version last octets ≡ Whole told size → IsHeadOf config version last octets told size
+head_told config version last [] told size h = cc
+head_told config version last (octet ∷ octets) told size h =
+    by_kind config version last octet octets (kind_of octet) told size refl h

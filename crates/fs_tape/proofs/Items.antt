@@ -4,12 +4,12 @@ use Rattle.std.specs.Prelude.{nat_le, flat_map}
 use Rattle.std.proofs.Math.Seq.{take-append_seam, drop-append_seam}
 use Rattle.std.proofs.lemmas.List.{drop-drop, length-drop, length-take}
 use Rattle.std.proofs.lemmas.Bool.Decides.{nat_tests}
-use Rattle.std.proofs.lemmas.Grind.{common_steps}
 use Rattle.fs_base.specs.declared.config.Config.{Config}
 use Rattle.fs_base.proofs.Octets.{octets_take}
 use Rattle.fs_input.specs.Parts.{At, ReadsText, SpellsText, at, text_from}
 use Rattle.fs_input.specs.Records.{first_record}
 use Rattle.fs_input.specs.declared.head.Head.TheVariants.{Whole}
+use Rattle.fs_input.proofs.Done.{nothing}
 use Rattle.fs_input.proofs.Records.{HasHead, record_found}
 use Rattle.fs_tape.specs.declared.item.Kind.{Kind as RecordKind}
 use Rattle.fs_tape.specs.declared.item.Kind.TheVariants.{Up, Received, Lost}
@@ -87,9 +87,6 @@ item_read now part rest fits = by part.item fits.writable
 
 -- a record that is read was written so
 
-nothing : (octets : List ℕ) → length octets ≡ 0 → octets ≡ []
-nothing octets none = grind (arith, common_steps)
-
 no_payload : (size : ℕ) (payload : List ℕ) → (size == 0) ≡ true → length payload ≡ size → payload ≡ []
 no_payload size payload none same = nothing payload (same ∙ eqb-true size 0 none)
 
@@ -113,22 +110,24 @@ item_spelled now found are h =
     let behind = drop size now.octets in
     let payload = take one.size behind in
     let whole : length head ≡ size = omega (arith, one.held, length-take size now.octets) in
-    let told = head_told now.state.config now.state.version now.state.moment head one.said one.size one.head whole (octets_take size now.octets are) in
+    let told = head_told now.state.config now.state.version now.state.moment head one.said one.size one.head in
+    let front = octets_take size now.octets are in
+    let numbered = told.numbered front in
     let long : length payload ≡ one.size = omega (arith, one.held, length-take one.size behind, length-drop size now.octets) in
     let rest : drop one.size behind ≡ found.1.octets =
     drop-drop one.size size now.octets ∙ ap (λ (a : At Stands). a.octets) one.behind in
     let item : timed one.said.moment (item_of one.said payload) ≡ found.0 = one.item in
     let text : now.octets ≡ record_text now.state.version (octet_of one.said.kind) one.said.peer one.said.moment payload ++ found.1.octets =
     sym (take-append-drop size now.octets)
-    ∙ ap (λ front. front ++ behind) told.text
+    ∙ ap (λ octets. octets ++ behind) (told.text whole front)
     ∙ ap (λ n. head_text now.state.version (octet_of one.said.kind) one.said.peer one.said.moment n ++ behind) (sym long)
     ∙ ap (λ more. head_text now.state.version (octet_of one.said.kind) one.said.peer one.said.moment (length payload) ++ more)
     (sym (take-append-drop one.size behind) ∙ ap (λ more. payload ++ more) rest)
     ∙ sym (joined now.state.version (octet_of one.said.kind) one.said.peer one.said.moment payload found.1.octets) in
     let written = item_written now.state.version one.said.kind one.said.peer one.said.moment one.size payload told.allowed long in
     let fits : Fits now.state (timed one.said.moment (item_of one.said payload)) = record {
-      writable = item_writable now.state.config one.said.kind one.said.peer one.said.moment one.size payload told.allowed long told.numbered;
-      room = told.room;
+      writable = item_writable now.state.config one.said.kind one.said.peer one.said.moment one.size payload told.allowed long numbered;
+      room = told.room front;
       is_timed = told.timed;
     } in
     let moved : stands now.state.config now.state.version one.said.moment ≡ found.1.state = ap (λ (a : At Stands). a.state) one.behind in (

@@ -2,7 +2,6 @@
 use Rattle.std.proofs.Common.{◌≡◌, ℕ, List, [], ◌∷◌, ◌++◌, Option, Some, None, Result, Ok, Err, Bool, true, false, ◌<◌, ◌≤◌, ◌+◌, ◌==◌, length, take, drop, refl, ap, sym, subst, ◌∙◌, arith, take-append-drop, eqb-true}
 use Rattle.std.specs.Prelude.{flat_map, nat_le, nat_lt, if◌then◌else◌}
 use Rattle.std.proofs.lemmas.List.{length-drop, length-take, take-take}
-use Rattle.std.proofs.lemmas.Grind.{common_steps}
 use Rattle.fs_base.specs.Language.{IsOctets}
 use Rattle.fs_base.specs.declared.config.Config.{Config}
 use Rattle.fs_base.proofs.Octets.{octets_drop}
@@ -10,7 +9,8 @@ use Rattle.fs_input.specs.Opening.{opened_by}
 use Rattle.fs_input.specs.Records.{End, done}
 use Rattle.fs_input.specs.declared.head.Head.{Head}
 use Rattle.fs_input.specs.declared.head.Head.TheVariants.{Whole, Wrong, Partial}
-use Rattle.fs_input.proofs.Done.{done_text, text_done}
+use Rattle.fs_input.proofs.Fronts.{opened_whole}
+use Rattle.fs_input.proofs.Done.{all_taken, done_text, text_done}
 use Rattle.fs_tape.specs.declared.fault.TapeReason.{TapeReason}
 use Rattle.fs_tape.specs.declared.fault.TapeReason.TheVariants.{Cut}
 use Rattle.fs_tape.specs.declared.magic.Version.{Version}
@@ -20,9 +20,6 @@ use Rattle.fs_tape.specs.Laws.{Fits, IsTapeOf, ReadsBack, after, item_text}
 use Rattle.fs_tape.specs.Magic.{difference_from, first_difference, magic_field, magic_of, version_by}
 use Rattle.fs_tape.specs.Tape.{Timed, items_to_come, records, stands, tape_of, version_of}
 use Rattle.fs_tape.proofs.Items.{has_head, item_read, item_spelled, texts}
-
-all_taken : (n : ℕ) (octets : List ℕ) → length octets ≤ n → take n octets ≡ octets
-all_taken n octets within = grind (arith, common_steps)
 
 -- the magic of a version is that of no other
 
@@ -97,12 +94,6 @@ magic_told front version n h = by (nat_lt (length front) 8) h
     by false e =
         version_told front version n (first_difference (magic_of One) front) (first_difference (magic_of Two) front) refl refl e
 
-opened_whole : (limit : Bool) (size : ℕ) (head : Head Version TapeReason) (version : Version)
-    → opened_by Cut limit size head ≡ Ok version → (n : ℕ) × (head ≡ Whole version n)
-opened_whole limit size (Whole found n) version h = let same : found ≡ version = cc in (n, ap (λ v. Whole v n) same)
-opened_whole limit size (Wrong reason place) version h = absurd cc
-opened_whole limit size Partial version h = absurd cc
-
 never_done : (limit : Bool) (size : ℕ) (head : Head Version TapeReason) → opened_by Cut limit size head ≡ Err done → ⊥
 never_done limit size (Whole found n) h = cc
 never_done limit size (Wrong reason place) h = cc
@@ -113,7 +104,7 @@ magic_stands : (limit : ℕ) (content : List ℕ) (version : Version) → versio
     → (content ≡ magic_of version ++ drop 8 content) × (length content ≡ 8 + length (drop 8 content))
 magic_stands limit content version h =
     let front = take 8 (take limit content) in
-    let head = opened_whole (nat_le limit (length content)) (length front) (magic_field front) version h in
+    let head = opened_whole Cut (nat_le limit (length content)) (length front) (magic_field front) version h in
     let whole : take 8 front ≡ magic_of version = magic_told front version head.0 head.1 in
     let eight : length (take 8 front) ≡ 8 = ap length whole ∙ by version in
     let room : 8 ≤ limit = omega (arith, eight, length-take 8 front, length-take 8 (take limit content), length-take limit content) in

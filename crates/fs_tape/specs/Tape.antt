@@ -1,6 +1,6 @@
 -- A tape, in this project's own format: eight octets of magic, which tell the version, and then records. A record has a
 -- head and the payload whose length the head tells. In the second version each has a moment, and moments don't fall.
-use Rattle.std.specs.Prelude.{ℕ, List, [], Option, Some, None, IsSome, Result, Ok, Err, ◌≡◌, ◌≤◌, ◌<◌, take, drop, ⊤}
+use Rattle.std.specs.Prelude.{ℕ, List, [], Option, Some, None, IsSome, Result, Ok, Err, ◌≡◌, ◌≤◌, take, drop}
 use Rattle.fs_base.specs.Config.{peer_of}
 use Rattle.fs_base.specs.declared.config.Config.{Config}
 use Rattle.fs_input.specs.Opening.{opening}
@@ -100,12 +100,6 @@ item_from (LostItem peer) into = was_lost peer
 -- an item is what a head and the payload behind it say, whatever stands in the buffer
 abbrev pub Tells : Said → (size : ℕ) → TapeItem → Type 0
 Tells said size item = (into : List ℕ) → item_from item into ≡ item_of said (take size into)
-
--- an item raises the place, up to the limit at most
-abbrev pub Grows : (old new limit : ℕ) → Result (Option TapeItem) (Fault TapeReason) → Type 0
-Grows old new limit (Ok (Some item)) = (old < new) × (new ≤ limit)
-Grows old new limit (Ok None) = ⊤
-Grows old new limit (Err fault) = ⊤
 
 -- An item's moment may stand behind the one before it. Where no item is given the last one's stays.
 abbrev pub Times : Version → (old new : ℕ) → Result (Option TapeItem) (Fault TapeReason) → Type 0

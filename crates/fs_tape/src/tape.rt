@@ -7,10 +7,11 @@ ghost use Rattle.fs_base.specs.Outside.{Rose};
 ghost use Rattle.fs_base.specs.Parts.{with_part};
 ghost use Rattle.fs_base.specs.declared.config.Config.{Config};
 ghost use Rattle.fs_input.specs.Opening.{Opens};
-ghost use Rattle.fs_input.specs.NextRecord.{Advances, answer_of, ended_after};
+ghost use Rattle.fs_input.specs.NextRecord.{GivesNext};
+ghost use Rattle.fs_input.specs.Reading.{Grows};
 ghost use Rattle.fs_tape.specs.Header.{longest_payload};
 ghost use Rattle.fs_tape.specs.Magic.{version_number};
-ghost use Rattle.fs_tape.specs.Tape.{Grows, IsBegun, IsItem, Tells, Times, item_from, timed, version_of};
+ghost use Rattle.fs_tape.specs.Tape.{IsBegun, IsItem, Tells, Times, item_from, timed, version_of};
 
 use crate::fault::{TapeFault, TapeReason};
 use crate::header::{Context, Said};
@@ -129,29 +130,17 @@ impl Tape {
         into: &mut [u8],
     ) -> Result<Option<TapeItem>, TapeFault>
         requires { longest_payload ≤ length into.old }
-        ensures later { F.faults files.old ≤ F.faults files.new }
-        ensures read { self.old.end ≡ None → IsErrOf result Read → Rose (F.faults files.old) (F.faults files.new) }
-        ensures slot { self.new.slot ≡ self.old.slot }
-        ensures limit { self.new.limit ≡ self.old.limit }
-        ensures version { self.new.version ≡ self.old.version }
-        ensures again { IfSome self.old.end (λ ended. result ≡ answer_of ended) }
-        ensures stays { IsSome self.old.end → self.new ≡ self.old }
-        ensures unread { IsSome self.old.end → files.new ≡ files.old }
-        ensures ended { self.new.end ≡ ended_after result }
-        ensures grows { self.old.end ≡ None → Grows self.old.place self.new.place self.new.limit result }
-        ensures times { self.old.end ≡ None → Times self.old.version self.old.moment self.new.moment result }
-        ensures known { self.old.end ≡ None → IfOk result (λ found. IfSome found (IsItem config.now)) }
-
-        ensures advances { IsTrue F.tells
-            → self.old.end ≡ None
-            → Advances
+        ensures gives { GivesNext F.Files files.old files.new self.old.slot self.new.slot self.old.limit self.new.limit
+            self.old.end self.new.end (self.new ≡ self.old)
             (coming config.now self.old (F.left files.old self.old.slot))
             (λ item. with_part
             (timed self.new.moment (item_from item into.new))
             (coming config.now self.new (F.left files.new self.old.slot)))
             result }
-        ensures opened { F.opened files.new ≡ F.opened files.old }
-        ensures others { OnlySlot F.tells F.left F.holds self.old.slot files.old files.new }
+        ensures version { self.new.version ≡ self.old.version }
+        ensures grows { self.old.end ≡ None → Grows self.old.place self.new.place self.new.limit result }
+        ensures times { self.old.end ≡ None → Times self.old.version self.old.moment self.new.moment result }
+        ensures known { self.old.end ≡ None → IfOk result (λ found. IfSome found (IsItem config.now)) }
     {
         let context = Context {
             config,

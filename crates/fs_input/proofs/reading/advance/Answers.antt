@@ -1,13 +1,13 @@
 use Rattle.std.proofs.Common.{rules, ◌≡◌, ◌+◌, ◌++◌, [], List, ℕ, Option, Ok, Err, true, false, length, refl, ap, subst}
 use Rattle.std.specs.Option.{option_map}
 use Rattle.fs_base.specs.Parts.{with_part}
-use Rattle.fs_base.proofs.Drawing.{draws_more, straight_draws}
+use Rattle.fs_base.proofs.Drawing.{straight_draws}
 use Rattle.fs_input.specs.NextRecord.{Advances}
 use Rattle.fs_input.specs.Coming.{part_in, parts_to_come}
 use Rattle.fs_input.specs.Reads.{IsOver, ahead}
 use Rattle.fs_input.proofs.Advancing.{first_advances, later_advances, over_advances, part_advances, part_reads, some_taken}
 use Rattle.fs_input.proofs.Again.{ahead_here, reads_ahead}
-use Rattle.fs_input.proofs.Lifting.{starts_as}
+use Rattle.fs_input.proofs.Lifting.{passes_as, passes_in, starts_as}
 use Rattle.fs_input.proofs.reading.advance.Goals as goal
 
 pub returns-in-Ok-clause-advances : goal.returns-in-Ok-clause-advances
@@ -85,16 +85,12 @@ returns-in-Err-clause-advances g c = λ told.
     (behind now c.args.counted.now.taken) later now told
     (starts_as first c.cut.ensures size refl c.in-Err.ensures.starts) (λ octets. refl))
 
-pub returns-in-Ok-clause-took : goal.returns-in-Ok-clause-took
-returns-in-Ok-clause-took g c = λ told.
+pub returns-in-Ok-clause-passes : goal.returns-in-Ok-clause-passes
+returns-in-Ok-clause-passes g c =
     let none : c.take_first.new.counted.back ≡ [] = c.in-Ok-true.ensures.none (search rules) in
-    draws_more _ _ _ (g.F.Files.left c.args.files.now) (g.F.Files.left c.take_first.new.files) (g.F.Files.left c.take_behind.new.files)
-    c.in-Ok-true.ensures.starts.slot c.in-Ok-true.ensures.starts.limit (c.take_first.ensures.took told)
-    (straight_draws _ _ _ _ none c.take_behind.ensures.none (c.in-Ok.ensures.reads.took told))
+    passes_in c.take_first.ensures.passes (passes_as (straight_draws _ _ _ _ none c.take_behind.ensures.none) c.in-Ok.ensures.reads.passes)
 
-pub returns-in-Err-take_behind-clause-took : goal.returns-in-Err-take_behind-clause-took
-returns-in-Err-take_behind-clause-took g c = λ told.
+pub returns-in-Err-take_behind-clause-passes : goal.returns-in-Err-take_behind-clause-passes
+returns-in-Err-take_behind-clause-passes g c =
     let none : c.take_first.new.counted.back ≡ [] = c.in-Ok-true.ensures.none (search rules) in
-    draws_more _ _ _ (g.F.Files.left c.args.files.now) (g.F.Files.left c.take_first.new.files) (g.F.Files.left c.take_behind.new.files)
-    c.in-Ok-true.ensures.starts.slot c.in-Ok-true.ensures.starts.limit (c.take_first.ensures.took told)
-    (straight_draws _ _ _ _ none c.take_behind.ensures.none (c.in-Err-take_behind.ensures.reads.took told))
+    passes_in c.take_first.ensures.passes (passes_as (straight_draws _ _ _ _ none c.take_behind.ensures.none) c.in-Err-take_behind.ensures.reads.passes)

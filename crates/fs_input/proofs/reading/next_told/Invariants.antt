@@ -1,6 +1,6 @@
-use Rattle.std.proofs.Common.{◌≡◌, ◌≢◌, ◌≤◌, ◌++◌, ◌-◌, [], None, ℕ, length, IsTrue}
-use Rattle.fs_base.specs.Draws.{Draws}
+use Rattle.std.proofs.Common.{◌≡◌, ◌≤◌, ◌++◌, ◌-◌, [], None, length, IsTrue}
 use Rattle.fs_input.specs.Coming.{part_in, told_to_come}
+use Rattle.fs_input.specs.Reads.{PassesIn}
 use Rattle.fs_input.proofs.reading.next_told.Given as goal
 
 abbrev pub invariant-parts : goal.invariant-parts
@@ -9,17 +9,9 @@ invariant-parts g l =
     record {
       room : length l.into ≡ length l.fn.into;
       straight : l.fn.counted.back ≡ [] → l.counted.back ≡ [];
-      slot : l.counted.slot ≡ l.fn.counted.slot;
-      limit : l.counted.limit ≡ l.fn.counted.limit;
       place : l.fn.counted.taken ≤ l.counted.taken;
       moves : g.P.Parts.Moves l.fn.parts l.parts None;
-      later : g.F.Files.faults l.fn.files ≤ g.F.Files.faults l.files;
-      others : IsTrue g.F.Files.tells → (other : ℕ) → other ≢ l.fn.counted.slot → g.F.Files.left l.files other ≡ g.F.Files.left l.fn.files other;
-      same : IsTrue g.F.Files.tells → g.F.Files.holds l.files ≡ g.F.Files.holds l.fn.files;
-      took :
-          IsTrue g.F.Files.tells
-          → Draws l.fn.counted l.counted (g.F.Files.left l.fn.files l.fn.counted.slot) (g.F.Files.left l.files l.fn.counted.slot);
-      opened : g.F.Files.opened l.files ≡ g.F.Files.opened l.fn.files;
+      passes : PassesIn g.F.Files l.fn.files l.files l.fn.counted l.counted;
       coming :
           IsTrue g.F.Files.tells
           → told_to_come chain g.P.Parts.cut l.fn.counted.limit l.fn.counted.taken l.fn.parts (l.fn.counted.back ++ g.F.Files.left l.fn.files l.fn.counted.slot)

@@ -1,11 +1,12 @@
 use Rattle.std.proofs.Common.{rules, arith, ◌≡◌, ◌∙◌, refl, ◌+◌, ◌-◌, ◌<◌, ◌≤◌, ◌++◌, length, take, drop}
 use Rattle.std.proofs.lemmas.List.{take-append-le, length-take}
 use Rattle.fs_base.specs.Parts.{with_part}
-use Rattle.fs_base.proofs.Drawing.{draws_more}
 use Rattle.fs_base.proofs.Filled.{fills_straight, none_left}
+use Rattle.fs_input.specs.Reads.{PassesIn}
 use Rattle.fs_input.specs.Records.{records_to_come}
 use Rattle.fs_input.specs.declared.head.Found.{Found}
 use Rattle.fs_input.proofs.AdvancingRecords.{short_advances, cut_advances}
+use Rattle.fs_input.proofs.Lifting.{passes_in}
 use Rattle.fs_input.proofs.Records.{wrong_comes, short_comes, cut_comes, record_comes}
 use Rattle.fs_input.proofs.record.advance.Goals as goal
 
@@ -90,17 +91,20 @@ returns-else-count-size-clause-advances g c = λ told.
       octets,
     ) refl
 
-pub returns-then-count-size-clause-took : goal.returns-then-count-size-clause-took
-returns-then-count-size-clause-took g c = λ told.
-    draws_more _ _ _ (g.F.Files.left c.args.files.now) (g.F.Files.left c.fill.new.files) (g.F.Files.left c.fill-in-Whole.new.files)
-    c.in-Ok.ensures.kept_slot c.in-Ok.ensures.kept_limit (c.in-Ok.ensures.took told) (c.in-Ok-fill.ensures.took told)
+pub returns-then-count-size-clause-passes : goal.returns-then-count-size-clause-passes
+returns-then-count-size-clause-passes g c =
+    let one : PassesIn g.F.Files c.args.files.now c.fill.new.files c.args.counted.now c.fill.new.counted = search rules in
+    let more : PassesIn g.F.Files c.fill.new.files c.fill-in-Whole.new.files c.fill.new.counted c.fill-in-Whole.new.counted = search rules in
+    passes_in one more
 
-pub returns-else-count-size-clause-took : goal.returns-else-count-size-clause-took
-returns-else-count-size-clause-took g c = λ told.
-    draws_more _ _ _ (g.F.Files.left c.args.files.now) (g.F.Files.left c.fill.new.files) (g.F.Files.left c.fill-in-Whole.new.files)
-    c.in-Ok.ensures.kept_slot c.in-Ok.ensures.kept_limit (c.in-Ok.ensures.took told) (c.in-Ok-fill.ensures.took told)
+pub returns-else-count-size-clause-passes : goal.returns-else-count-size-clause-passes
+returns-else-count-size-clause-passes g c =
+    let one : PassesIn g.F.Files c.args.files.now c.fill.new.files c.args.counted.now c.fill.new.counted = search rules in
+    let more : PassesIn g.F.Files c.fill.new.files c.fill-in-Whole.new.files c.fill.new.counted c.fill-in-Whole.new.counted = search rules in
+    passes_in one more
 
-pub returns-in_default-fill-clause-took : goal.returns-in_default-fill-clause-took
-returns-in_default-fill-clause-took g c = λ told.
-    draws_more _ _ _ (g.F.Files.left c.args.files.now) (g.F.Files.left c.fill.new.files) (g.F.Files.left c.fill-in-Whole.new.files)
-    c.in-Ok.ensures.kept_slot c.in-Ok.ensures.kept_limit (c.in-Ok.ensures.took told) (c.in_default-fill.ensures.took told)
+pub returns-in_default-fill-clause-passes : goal.returns-in_default-fill-clause-passes
+returns-in_default-fill-clause-passes g c =
+    let one : PassesIn g.F.Files c.args.files.now c.fill.new.files c.args.counted.now c.fill.new.counted = search rules in
+    let more : PassesIn g.F.Files c.fill.new.files c.fill-in-Whole.new.files c.fill.new.counted c.fill-in-Whole.new.counted = search rules in
+    passes_in one more

@@ -15,4 +15,4 @@ returns-clause-reads g c =
     let some : 19 ≤ c.args.size = search rules in
     let says : big_number 2 (drop 16 c.take_part.new.into) ≡ c.args.size =
     ap (λ l. big_number 2 l) (sym (behind_first 16 c.take_part.new.into)) ∙ sym c.read_u16.ensures ∙ (search rules) in
-    message_reads c.args.size c.take_part.new.into c.take_part-2.new.into some says c.in_default-take_part.ensures.front c.in_default.ensures.reads c.in_default-take_part.ensures.reads
+    message_reads c.args.size c.take_part.new.into c.take_part-2.new.into some says c.in_default.ensures.reads c.in_default-take_part.ensures.front c.in_default-take_part.ensures.reads

@@ -4,7 +4,7 @@ use Rattle.fs_input.proofs.Lifting.{reads_as, reads_then}
 use Rattle.fs_pcapng.specs.Block.{allows, body_in, frame_of, kind_of, least_of, plain_in, total_behind}
 use Rattle.fs_pcapng.specs.declared.fault.NgReason.TheVariants.{Length}
 use Rattle.fs_pcapng.proofs.Bodies.{told_of}
-use Rattle.fs_pcapng.proofs.Parts.{needs_true}
+use Rattle.fs_input.proofs.Joining.{needs_true}
 use Rattle.fs_pcapng.proofs.block.take_plain.Goals as goal
 
 pub returns-clause-reads : goal.returns-clause-reads

@@ -6,7 +6,7 @@ use Rattle.fs_input.specs.Scan.{fails}
 use Rattle.fs_input.proofs.Lifting.{reads_as, reads_fails, reads_then}
 use Rattle.fs_pcapng.specs.Block.{allows, frame_of, magic_behind, order_of, ordered_in, version_in}
 use Rattle.fs_pcapng.specs.declared.fault.NgReason.TheVariants.{Length, Magic}
-use Rattle.fs_pcapng.proofs.Parts.{needs_false, needs_true}
+use Rattle.fs_input.proofs.Joining.{needs_false, needs_true}
 use Rattle.fs_pcapng.proofs.header.take_header.Goals as goal
 
 pub returns-clause-reads : goal.returns-clause-reads

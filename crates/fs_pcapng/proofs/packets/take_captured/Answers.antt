@@ -5,7 +5,7 @@ use Rattle.fs_input.specs.Scan.{gives, and}
 use Rattle.fs_pcapng.specs.Block.{octets_in, end_in}
 use Rattle.fs_pcapng.specs.declared.fault.NgReason.TheVariants.{Length}
 use Rattle.fs_pcapng.proofs.Merged.{closing, first_of, is_equal, is_other, last_four, merged}
-use Rattle.fs_pcapng.proofs.Parts.{needs_false, needs_true}
+use Rattle.fs_input.proofs.Joining.{needs_false, needs_true}
 use Rattle.fs_pcapng.proofs.packets.take_captured.Goals as goal
 
 pub returns-clause-reads : goal.returns-clause-reads

@@ -1,4 +1,4 @@
-use Rattle.fs_mrt.proofs.Takes.{record_takes}
+use Rattle.fs_mrt.proofs.Written.{record_takes}
 use Rattle.fs_mrt.proofs.records.RecordsParts.first_size.Goals as goal
 
 pub returns-clause-takes : goal.returns-clause-takes

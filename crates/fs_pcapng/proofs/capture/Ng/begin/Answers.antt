@@ -10,7 +10,7 @@ returns-in-Err-clause-begins g c = λ told.
     opens_not (g.F.Files.left c.args.files.now) (g.F.Files.left c.take_opening.new.files) (λ (capture : NgState). coming capture (g.F.Files.left c.take_opening.new.files c.args.counted.slot)) c.requires.start told c.in-Err.ensures.reads
 
 pub returns-in-Ok-clause-others : goal.returns-in-Ok-clause-others
-returns-in-Ok-clause-others g c = λ told. record { others = opens_others (g.F.Files.left c.args.files.now) (g.F.Files.left c.take_opening.new.files) told c.in-Ok.ensures.reads; names = c.in-Ok.ensures.reads.same told }
+returns-in-Ok-clause-others g c = λ told. record { others = opens_others (g.F.Files.left c.args.files.now) (g.F.Files.left c.take_opening.new.files) told c.in-Ok.ensures.reads; names = (c.in-Ok.ensures.reads.passes.others told).names }
 
 pub returns-in-Err-clause-others : goal.returns-in-Err-clause-others
-returns-in-Err-clause-others g c = λ told. record { others = opens_others (g.F.Files.left c.args.files.now) (g.F.Files.left c.take_opening.new.files) told c.in-Err.ensures.reads; names = c.in-Err.ensures.reads.same told }
+returns-in-Err-clause-others g c = λ told. record { others = opens_others (g.F.Files.left c.args.files.now) (g.F.Files.left c.take_opening.new.files) told c.in-Err.ensures.reads; names = (c.in-Err.ensures.reads.passes.others told).names }
