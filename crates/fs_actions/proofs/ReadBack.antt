@@ -11,6 +11,7 @@ use Rattle.fs_actions.specs.Community.{IsAction, normal_form}
 use Rattle.fs_actions.specs.Actions.{IsActions, actions_of, are_communities, communities, with_action, with_actions}
 use Rattle.fs_actions.proofs.Insertion.{by_octets, with_step, reversed}
 use Rattle.std.proofs.lemmas.List.{take_more}
+use Rattle.fs_base.proofs.Octets.{each_at}
 
 concat-push : (xs : List (List ℕ)) (y : List ℕ) → concat (xs ++ y ∷ []) ≡ concat xs ++ y
 concat-push [] y = append-nil y
@@ -47,14 +48,10 @@ with_last : (a : List ℕ) (done : List (List ℕ)) → AllByRecursion (λ y. by
 with_last a [] h = refl
 with_last a (x ∷ xs) h = with_step a x xs Greater (reversed x a Less h.0) ∙ ap (λ (l : List (List ℕ)). x ∷ l) (with_last a xs h.1)
 
-each_before : (P : List ℕ → Type 0) (done : List (List ℕ)) (x : List ℕ) (xs : List (List ℕ)) → AllByRecursion P (done ++ x ∷ xs) → P x
-each_before P [] x xs h = h.0
-each_before P (y ∷ ys) x xs h = each_before P ys x xs h.1
-
 all_before : (done : List (List ℕ)) (x : List ℕ) (xs : List (List ℕ)) → IsStrictlySortedBy by_octets (done ++ x ∷ xs) → AllByRecursion (λ y. by_octets y x ≡ Less) done
 unfolding IsStrictlySortedBy
 all_before [] x xs s = tt
-all_before (y ∷ ys) x xs s = (each_before (λ z. by_octets y z ≡ Less) ys x xs s.0, all_before ys x xs s.1)
+all_before (y ∷ ys) x xs s = (each_at (λ z. by_octets y z ≡ Less) ys x xs s.0, all_before ys x xs s.1)
 
 with_rising : (xs done : List (List ℕ)) → IsStrictlySortedBy by_octets (done ++ xs) → with_actions xs done ≡ done ++ xs
 with_rising [] done s = sym (append-nil done)

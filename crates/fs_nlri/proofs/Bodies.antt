@@ -6,7 +6,8 @@ use Rattle.fs_base.specs.declared.prefix.Family.TheVariants.{V4}
 use Rattle.fs_base.specs.Language.{IsOctets, Begins, NoFront, IsCut, IsFirstFault}
 use Rattle.fs_base.proofs.Octets.{append_same, octets_cons}
 use Rattle.fs_ops.specs.declared.kind.Kind.{Kind}
-use Rattle.fs_ops.proofs.Grammar.{same_list}
+use Rattle.fs_ops.specs.OperatorList.{text}
+use Rattle.fs_ops.proofs.Grammar.{no_list, same_list}
 use Rattle.fs_nlri.specs.Forms.{Form, V4Form, V6Form, ListForm, kept_bits}
 use Rattle.fs_nlri.specs.Parts.{Body, V4Body, V6Body, ListBody}
 use Rattle.fs_nlri.specs.Spelling.{SpellsV4, SpellsV6, SpellsList, SpellsBody, IsRange, octets_for, first_bits}
@@ -78,18 +79,53 @@ same_body V4Form a b s t p q one other same = same_v4 a b s t p q one other same
 same_body V6Form a b s t p q one other same = same_v6 a b s t p q one other same
 same_body (ListForm kind widths bits) a b s t p q one other same = same_lists kind widths bits a b s t p q one other same
 
--- IPv4
+-- A body is never empty, and has at its front what any body promises of the octets behind its length
 
-not_empty : (octet : ℕ) (octets : List ℕ) → [] ≡ octet ∷ octets → ⊥
-not_empty octet octets same = cc
+pub no_empty_body : (form : Form) → IsBody form [] → ⊥
+no_empty_body V4Form body = let none : [] ≡ body.spells.len ∷ body.spells.address = body.spells.split in cc
+no_empty_body V6Form body = let none : [] ≡ body.spells.len ∷ body.spells.offset ∷ body.spells.pattern = body.spells.split in cc
+no_empty_body (ListForm kind widths bits) body =
+    let list = body.spells.spells in
+    no_list widths list.written [] list.whole (append-nil (text list.written) ∙ list.spelled)
+
+empty_cut : (form : Form) → Begins (IsBody form) [] → NoFront (IsBody form) [] × IsCut (IsBody form) [] 0
+empty_cut form begins = (λ n whole. no_empty_body form (subst (IsBody form) (take_all n [] (omega arith)) whole), record { at_end = refl; begins = begins })
+
+abbrev Opens : Form → ℕ → (List ℕ → Type 0) → Type 0
+Opens form len Opening = (octets more tail : List ℕ) → IsBody form octets → octets ++ more ≡ len ∷ tail → Opening tail
+
+no_body : (form : Form) (len : ℕ) (tail : List ℕ) (Opening : List ℕ → Type 0) → Opens form len Opening → (Opening tail → ⊥) → NoFront (IsBody form) (len ∷ tail)
+no_body form len tail Opening opens none n whole = none (opens (take n (len ∷ tail)) (drop n (len ∷ tail)) tail whole (take-append-drop n (len ∷ tail)))
+
+bad_length : (form : Form) (len : ℕ) (tail : List ℕ) (Opening : List ℕ → Type 0) → Opens form len Opening → ((rest : List ℕ) → Opening rest → ⊥) → Begins (IsBody form) []
+    → NoFront (IsBody form) (len ∷ tail) × IsFirstFault (IsBody form) (len ∷ tail) 0 × ◌≡◌ {A = ℕ} 0 0
+bad_length form len tail Opening opens none begins = (
+  no_body form len tail Opening opens (none tail),
+  record { inside = omega arith; before = begins; at = λ b. none b.more (opens (len ∷ b.more) [] b.more b.whole (append-nil (len ∷ b.more))) },
+  refl,
+)
+
+zeros_are_octets : (n : ℕ) → IsOctets (replicate n 0)
+zeros_are_octets n = All-replicate (λ octet. octet < 256) n 0 (omega arith)
+
+-- octets that end within the size octets of a body
+cut_body : (form : Form) (octets tail : List ℕ) (size place : ℕ) → place ≡ length octets → length tail < size → NoFront (IsBody form) octets
+    → ((more : List ℕ) → length (tail ++ more) ≡ size → IsBody form (octets ++ more)) → NoFront (IsBody form) octets × IsCut (IsBody form) octets place
+cut_body form octets tail size place here few none whole =
+    let count = size - length tail in
+    let filled : length (tail ++ replicate count 0) ≡ size = length-append tail (replicate count 0) ∙ omega (arith, length-replicate {A = ℕ} count 0) in
+    (none, record { at_end = here; begins = record { more = replicate count 0; are_octets = zeros_are_octets count; whole = whole (replicate count 0) filled } })
+
+-- IPv4
 
 -- what a length at the front of a prefix's octets promises
 record V4Opening (len : ℕ) (tail : List ℕ) : Type 0 where
   short : len ≤ 32
   room : octets_for len ≤ length tail
 
-v4_opening : (octets more tail : List ℕ) (body : Body) (len : ℕ) → SpellsV4 octets body → octets ++ more ≡ len ∷ tail → V4Opening len tail
-v4_opening octets more tail body len spells same =
+v4_opening : (len : ℕ) → Opens V4Form len (V4Opening len)
+v4_opening len octets more tail body same =
+    let spells = body.spells in
     let joined : spells.len ∷ (spells.address ++ more) ≡ len ∷ tail = sym (opened octets (spells.len ∷ spells.address) more spells.split) ∙ same in
     let lens : spells.len ≡ len = cc in
     let tails : spells.address ++ more ≡ tail = cc in
@@ -106,45 +142,20 @@ v4_is : (len : ℕ) (address : List ℕ) → len ≤ 32 → length address ≡ o
 v4_is len address short size =
     record { body = V4Body V4 len (first_bits 32 len address); spells = record { len = len; address = address; split = refl; short = short; size = size; says = refl } }
 
-zeros_are_octets : (n : ℕ) → IsOctets (replicate n 0)
-zeros_are_octets n = All-replicate (λ octet. octet < 256) n 0 (omega arith)
-
 v4_begins_empty : Begins IsV4 []
 v4_begins_empty = record { more = 0 ∷ []; are_octets = zeros_are_octets 1; whole = v4_is 0 [] (omega arith) refl }
 
-no_v4_empty : NoFront IsV4 []
-no_v4_empty n whole =
-    not_empty whole.spells.len whole.spells.address (sym (take_all n [] (omega arith)) ∙ whole.spells.split)
-
-no_v4 : (len : ℕ) (tail : List ℕ) → (V4Opening len tail → ⊥) → NoFront IsV4 (len ∷ tail)
-no_v4 len tail none n whole =
-    none (v4_opening (take n (len ∷ tail)) (drop n (len ∷ tail)) tail whole.body len whole.spells (take-append-drop n (len ∷ tail)))
-
 pub v4_empty : NoFront IsV4 [] × IsCut IsV4 [] 0
-v4_empty = (no_v4_empty, record { at_end = refl; begins = v4_begins_empty })
+v4_empty = empty_cut V4Form v4_begins_empty
 
 pub v4_length : (len : ℕ) (tail : List ℕ) → 32 < len → NoFront IsV4 (len ∷ tail) × IsFirstFault IsV4 (len ∷ tail) 0 × ◌≡◌ {A = ℕ} 0 0
-v4_length len tail long =
-    let bad : (rest : List ℕ) → V4Opening len rest → ⊥ = λ rest given. absurd (let short : len ≤ 32 = given.short in omega arith) in (
-      no_v4 len tail (bad tail),
-      record {
-        inside = omega arith;
-        before = v4_begins_empty;
-        at = λ begins. bad begins.more (v4_opening (len ∷ begins.more) [] begins.more begins.whole.body len begins.whole.spells (append-nil (len ∷ begins.more)));
-      },
-      refl,
-    )
+v4_length len tail long = bad_length V4Form len tail (V4Opening len) (v4_opening len) (λ rest given. let short : len ≤ 32 = given.short in omega arith) v4_begins_empty
 
 pub v4_cut : (len : ℕ) (tail : List ℕ) → len ≤ 32 → length tail < octets_for len → NoFront IsV4 (len ∷ tail) × IsCut IsV4 (len ∷ tail) (1 + length tail)
 v4_cut len tail short few =
-    let count = octets_for len - length tail in
-    let size : length (tail ++ replicate count 0) ≡ octets_for len = length-append tail (replicate count 0) ∙ omega (arith, length-replicate {A = ℕ} count 0) in (
-      no_v4 len tail (λ given. let room : octets_for len ≤ length tail = given.room in omega arith),
-      record {
-        at_end = omega arith;
-        begins = record { more = replicate count 0; are_octets = zeros_are_octets count; whole = v4_is len (tail ++ replicate count 0) short size };
-      },
-    )
+    cut_body V4Form (len ∷ tail) tail (octets_for len) (1 + length tail) (omega arith) few
+    (no_body V4Form len tail (V4Opening len) (v4_opening len) (λ given. let room : octets_for len ≤ length tail = given.room in omega arith))
+    (λ more size. v4_is len (tail ++ more) short size)
 
 -- IPv6
 
@@ -156,8 +167,9 @@ record V6Opening (len : ℕ) (tail : List ℕ) : Type 0 where
   range : IsRange len offset
   room : octets_for (len - offset) ≤ length pattern
 
-v6_opening : (octets more tail : List ℕ) (body : Body) (len : ℕ) → SpellsV6 octets body → octets ++ more ≡ len ∷ tail → V6Opening len tail
-v6_opening octets more tail body len spells same =
+v6_opening : (len : ℕ) → Opens V6Form len (V6Opening len)
+v6_opening len octets more tail body same =
+    let spells = body.spells in
     let joined : spells.len ∷ spells.offset ∷ (spells.pattern ++ more) ≡ len ∷ tail =
     sym (opened octets (spells.len ∷ spells.offset ∷ spells.pattern) more spells.split) ∙ same in
     let lens : spells.len ≡ len = cc in
@@ -200,32 +212,15 @@ v6_begins_length len short =
 v6_begins_empty : Begins IsV6 []
 v6_begins_empty = record { more = 0 ∷ 0 ∷ []; are_octets = zeros_are_octets 2; whole = v6_is 0 0 [] (from_zero 0 (omega arith)) refl }
 
-no_v6 : (len : ℕ) (tail : List ℕ) → (V6Opening len tail → ⊥) → NoFront IsV6 (len ∷ tail)
-no_v6 len tail none n whole =
-    none (v6_opening (take n (len ∷ tail)) (drop n (len ∷ tail)) tail whole.body len whole.spells (take-append-drop n (len ∷ tail)))
-
-no_v6_empty : NoFront IsV6 []
-no_v6_empty n whole =
-    not_empty whole.spells.len (whole.spells.offset ∷ whole.spells.pattern) (sym (take_all n [] (omega arith)) ∙ whole.spells.split)
-
 pub v6_empty : NoFront IsV6 [] × IsCut IsV6 [] 0
-v6_empty = (no_v6_empty, record { at_end = refl; begins = v6_begins_empty })
+v6_empty = empty_cut V6Form v6_begins_empty
 
 pub v6_length : (len : ℕ) (tail : List ℕ) → 128 < len → NoFront IsV6 (len ∷ tail) × IsFirstFault IsV6 (len ∷ tail) 0 × ◌≡◌ {A = ℕ} 0 0
-v6_length len tail long =
-    let bad : (rest : List ℕ) → V6Opening len rest → ⊥ = λ rest given. absurd (let short : len ≤ 128 = given.short in omega arith) in (
-      no_v6 len tail (bad tail),
-      record {
-        inside = omega arith;
-        before = v6_begins_empty;
-        at = λ begins. bad begins.more (v6_opening (len ∷ begins.more) [] begins.more begins.whole.body len begins.whole.spells (append-nil (len ∷ begins.more)));
-      },
-      refl,
-    )
+v6_length len tail long = bad_length V6Form len tail (V6Opening len) (v6_opening len) (λ rest given. let short : len ≤ 128 = given.short in omega arith) v6_begins_empty
 
 pub v6_one : (len : ℕ) → len ≤ 128 → NoFront IsV6 (len ∷ []) × IsCut IsV6 (len ∷ []) 1
 v6_one len short = (
-  no_v6 len [] (λ given. let none : [] ≡ given.offset ∷ given.pattern = given.behind in cc),
+  no_body V6Form len [] (V6Opening len) (v6_opening len) (λ given. let none : [] ≡ given.offset ∷ given.pattern = given.behind in cc),
   record { at_end = refl; begins = v6_begins_length len short },
 )
 
@@ -241,23 +236,19 @@ at_offset len offset pattern given =
 
 pub v6_offset : (len offset : ℕ) (tail : List ℕ) → len ≤ 128 → (IsRange len offset → ⊥) → NoFront IsV6 (len ∷ offset ∷ tail) × IsFirstFault IsV6 (len ∷ offset ∷ tail) 1 × ◌≡◌ {A = ℕ} 1 1
 v6_offset len offset tail short bad = (
-  no_v6 len (offset ∷ tail) (λ given. bad (at_offset len offset tail given).0),
+  no_body V6Form len (offset ∷ tail) (V6Opening len) (v6_opening len) (λ given. bad (at_offset len offset tail given).0),
   record {
     inside = omega arith;
     before = v6_begins_length len short;
     at = λ begins. bad (at_offset len offset begins.more
-        (v6_opening (len ∷ offset ∷ begins.more) [] (offset ∷ begins.more) begins.whole.body len begins.whole.spells (append-nil (len ∷ offset ∷ begins.more)))).0;
+        (v6_opening len (len ∷ offset ∷ begins.more) [] (offset ∷ begins.more) begins.whole (append-nil (len ∷ offset ∷ begins.more)))).0;
   },
   refl,
 )
 
 pub v6_cut : (len offset : ℕ) (tail : List ℕ) → IsRange len offset → length tail < octets_for (len - offset) → NoFront IsV6 (len ∷ offset ∷ tail) × IsCut IsV6 (len ∷ offset ∷ tail) (2 + length tail)
 v6_cut len offset tail range few =
-    let count = octets_for (len - offset) - length tail in
-    let size : length (tail ++ replicate count 0) ≡ octets_for (len - offset) = length-append tail (replicate count 0) ∙ omega (arith, length-replicate {A = ℕ} count 0) in (
-      no_v6 len (offset ∷ tail) (λ given. let room : octets_for (len - offset) ≤ length tail = (at_offset len offset tail given).1 in omega arith),
-      record {
-        at_end = omega arith;
-        begins = record { more = replicate count 0; are_octets = zeros_are_octets count; whole = v6_is len offset (tail ++ replicate count 0) range size };
-      },
-    )
+    cut_body V6Form (len ∷ offset ∷ tail) tail (octets_for (len - offset)) (2 + length tail) (omega arith) few
+    (no_body V6Form len (offset ∷ tail) (V6Opening len) (v6_opening len)
+    (λ given. let room : octets_for (len - offset) ≤ length tail = (at_offset len offset tail given).1 in omega arith))
+    (λ more size. v6_is len offset (tail ++ more) range size)

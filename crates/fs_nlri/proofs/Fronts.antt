@@ -64,7 +64,7 @@ front_more family last end front body (part ∷ before) next (own, tail, split, 
   front_more family part.kind end tail body before next had rises spelled,
 )
 
-same_part : (a b : Part) → a.kind ≡ b.kind → a.body ≡ b.body → a ≡ b
+pub same_part : (a b : Part) → a.kind ≡ b.kind → a.body ≡ b.body → a ≡ b
 same_part a b kinds bodies = ap (λ (kind : ℕ). part kind a.body) kinds ∙ ap (λ (body : Body). part b.kind body) bodies
 
 same_at : (form : Option Form) (a b s t : List ℕ) (p q : Body) → SpellsAt form a p → SpellsAt form b q → a ++ s ≡ b ++ t → SameBody a b p q s t

@@ -15,7 +15,7 @@ either_true true b h = refl
 either_true false b (inl h) = cc
 either_true false b (inr h) = h
 
-range_is : (len offset : ℕ) → IsRange len offset → is_range len offset ≡ true
+pub range_is : (len offset : ℕ) → IsRange len offset → is_range len offset ≡ true
 range_is len offset range =
     and_from (nat_le len 128) (nat_lt offset len || ((len == 0) && (offset == 0))) (le-leb len 128 range.0)
     (either_true (nat_lt offset len) ((len == 0) && (offset == 0)) (elim range.1 [

@@ -1,5 +1,5 @@
 -- No octet list has two outcomes.
-use Rattle.std.proofs.Common.{◌≡◌, ℕ, suc, ◌+◌, ◌<◌, ◌≤◌, List, [], ◌∷◌, ◌++◌, Option, Some, None, IsSome, IsNone, Result, Ok, Err, length, take, drop, refl, ap, sym, subst, ◌∙◌, arith, ◌⊎◌, inl, inr, append_assoc, length-append, length-take, true, false}
+use Rattle.std.proofs.Common.{◌≡◌, ℕ, suc, ◌+◌, ◌<◌, ◌≤◌, List, [], ◌∷◌, ◌++◌, Option, Some, None, IsSome, IsNone, Result, Ok, Err, length, take, drop, refl, ap, sym, subst, ◌∙◌, arith, ◌⊎◌, inl, inr, append_assoc, length-append, length-take, true, false, ◌==◌, if◌then◌else◌}
 use Rattle.std.proofs.lemmas.List.{append-nil, take-append-drop, take_at, take_all, take-take, length-take-le}
 use Rattle.std.proofs.lemmas.Bool.{cases_order, both_ways}
 use Rattle.fs_base.specs.declared.prefix.Family.{Family}
@@ -18,19 +18,13 @@ use Rattle.fs_nlri.specs.Fault.{IsTypePlace, IsBodyPlace, IsRole, HasRole, IsVal
 use Rattle.fs_nlri.specs.Body.{IsBody}
 use Rattle.fs_nlri.specs.Feed.{Frames}
 use Rattle.fs_nlri.specs.Outcome.{IsFrameOutcome, IsFieldOutcome}
+use Rattle.fs_nlri.proofs.Bodies.{no_empty_body}
 use Rattle.fs_nlri.proofs.Fronts.{whole_front, front_behind}
 use Rattle.fs_nlri.proofs.ValueFaults.{opening}
 use Rattle.fs_nlri.proofs.Frames.{one_rule, same_frame, frame_no_fault}
 use Rattle.fs_nlri.proofs.Every.{frame_some}
 
 -- Before the octet of a role no body ends
-
-no_empty_body : (form : Form) → IsBody form [] → ⊥
-no_empty_body V4Form body = let none : [] ≡ body.spells.len ∷ body.spells.address = body.spells.split in cc
-no_empty_body V6Form body = let none : [] ≡ body.spells.len ∷ body.spells.offset ∷ body.spells.pattern = body.spells.split in cc
-no_empty_body (ListForm kind widths bits) body =
-    let list = body.spells.spells in
-    no_list widths list.written [] list.whole (append-nil (text list.written) ∙ list.spelled)
 
 none_at_zero : (form : Form) (tail : List ℕ) (offset : ℕ) → offset ≡ 0 → NoFront (IsBody form) (take offset tail)
 none_at_zero form tail offset is n body =
@@ -53,60 +47,26 @@ none_at_operator kind widths bits tail offset role n body =
     let found = behind widths role.before list.written [] (drop n (take offset tail)) role.middle list.whole joined in
     no_list widths found.written (drop n (take offset tail)) found.whole found.spelled
 
-role_none : (reason : Reason) (form : Form) (tail : List ℕ) (offset : ℕ) → IsRole reason form tail offset → NoFront (IsBody form) (take offset tail)
-role_none Cut form tail offset role = absurd role
-role_none NoType form tail offset role = absurd role
-role_none Order form tail offset role = absurd role
-role_none Length form tail offset role = absurd role
-role_none PrefixLength V4Form tail offset role = none_at_zero V4Form tail offset role
-role_none PrefixLength V6Form tail offset role = none_at_zero V6Form tail offset role
-role_none PrefixLength (ListForm kind widths bits) tail offset role = absurd role
-role_none Offset V4Form tail offset role = absurd role
-role_none Offset V6Form tail offset role = none_at_one tail offset role
-role_none Offset (ListForm kind widths bits) tail offset role = absurd role
-role_none Width V4Form tail offset role = absurd role
-role_none Width V6Form tail offset role = absurd role
-role_none Width (ListForm kind widths bits) tail offset role = none_at_operator kind widths bits tail offset role
+-- the one role that an octet can have in a body, by its offset
+abbrev role_at : Form → ℕ → Reason
+role_at V4Form offset = PrefixLength
+role_at V6Form offset = if offset == 0 then PrefixLength else Offset
+role_at (ListForm kind widths bits) offset = Width
 
--- one role at most has an octet in a body
-one_role : (one other : Reason) (form : Form) (tail : List ℕ) (offset : ℕ) → IsRole one form tail offset → IsRole other form tail offset → one ≡ other
-one_role Cut other form tail offset role also = absurd role
-one_role NoType other form tail offset role also = absurd role
-one_role Order other form tail offset role also = absurd role
-one_role PrefixLength Cut V4Form tail offset role also = absurd also
-one_role PrefixLength NoType V4Form tail offset role also = absurd also
-one_role PrefixLength Order V4Form tail offset role also = absurd also
-one_role PrefixLength PrefixLength V4Form tail offset role also = refl
-one_role PrefixLength Offset V4Form tail offset role also = absurd also
-one_role PrefixLength Width V4Form tail offset role also = absurd also
-one_role PrefixLength Length V4Form tail offset role also = absurd also
-one_role PrefixLength Cut V6Form tail offset role also = absurd also
-one_role PrefixLength NoType V6Form tail offset role also = absurd also
-one_role PrefixLength Order V6Form tail offset role also = absurd also
-one_role PrefixLength PrefixLength V6Form tail offset role also = refl
-one_role PrefixLength Offset V6Form tail offset role also = absurd (let here : offset ≡ 0 = role in let there : offset ≡ 1 = also in omega arith)
-one_role PrefixLength Width V6Form tail offset role also = absurd also
-one_role PrefixLength Length V6Form tail offset role also = absurd also
-one_role PrefixLength other (ListForm kind widths bits) tail offset role also = absurd role
-one_role Offset other V4Form tail offset role also = absurd role
-one_role Offset Cut V6Form tail offset role also = absurd also
-one_role Offset NoType V6Form tail offset role also = absurd also
-one_role Offset Order V6Form tail offset role also = absurd also
-one_role Offset PrefixLength V6Form tail offset role also = absurd (let here : offset ≡ 1 = role in let there : offset ≡ 0 = also in omega arith)
-one_role Offset Offset V6Form tail offset role also = refl
-one_role Offset Width V6Form tail offset role also = absurd also
-one_role Offset Length V6Form tail offset role also = absurd also
-one_role Offset other (ListForm kind widths bits) tail offset role also = absurd role
-one_role Width other V4Form tail offset role also = absurd role
-one_role Width other V6Form tail offset role also = absurd role
-one_role Width Cut (ListForm kind widths bits) tail offset role also = absurd also
-one_role Width NoType (ListForm kind widths bits) tail offset role also = absurd also
-one_role Width Order (ListForm kind widths bits) tail offset role also = absurd also
-one_role Width PrefixLength (ListForm kind widths bits) tail offset role also = absurd also
-one_role Width Offset (ListForm kind widths bits) tail offset role also = absurd also
-one_role Width Width (ListForm kind widths bits) tail offset role also = refl
-one_role Width Length (ListForm kind widths bits) tail offset role also = absurd also
-one_role Length other form tail offset role also = absurd role
+role_is : (reason : Reason) (form : Form) (tail : List ℕ) (offset : ℕ) → IsRole reason form tail offset → (reason ≡ role_at form offset) × NoFront (IsBody form) (take offset tail)
+role_is Cut form tail offset role = absurd role
+role_is NoType form tail offset role = absurd role
+role_is Order form tail offset role = absurd role
+role_is Length form tail offset role = absurd role
+role_is PrefixLength V4Form tail offset role = (refl, none_at_zero V4Form tail offset role)
+role_is PrefixLength V6Form tail offset role = (sym (ap (λ (n : ℕ). role_at V6Form n) role), none_at_zero V6Form tail offset role)
+role_is PrefixLength (ListForm kind widths bits) tail offset role = absurd role
+role_is Offset V4Form tail offset role = absurd role
+role_is Offset V6Form tail offset role = (sym (ap (λ (n : ℕ). role_at V6Form n) role), none_at_one tail offset role)
+role_is Offset (ListForm kind widths bits) tail offset role = absurd role
+role_is Width V4Form tail offset role = absurd role
+role_is Width V6Form tail offset role = absurd role
+role_is Width (ListForm kind widths bits) tail offset role = (refl, none_at_operator kind widths bits tail offset role)
 
 -- Whole components don't end between a type and the octet of a role behind it
 
@@ -165,7 +125,7 @@ type_or_body : (family : Family) (octets : List ℕ) (place kind : ℕ) (reason 
 type_or_body family octets place kind reason at body =
     let ends : place ≡ length at.front = at.here in
     let here : place ≡ body.start + 1 + body.offset = body.here in
-    no_later family octets body.start body.kind body.form body.offset body.component at.front body.form_is (role_none reason body.form body.component.tail body.offset body.role)
+    no_later family octets body.start body.kind body.form body.offset body.component at.front body.form_is (role_is reason body.form body.component.tail body.offset body.role).1
     (later_of family octets place kind at) (omega arith) (omega arith)
 
 -- two octets of a role in one place have one role
@@ -181,14 +141,14 @@ one_body family octets place one other a b =
           let forms : Some a.form ≡ Some b.form = sym a.form_is ∙ ap (form_of family) types.kind ∙ b.form_is in
           let form : a.form ≡ b.form = cc in
           let offsets : a.offset ≡ b.offset = omega arith in
-          one_role one other b.form b.component.tail b.offset
-          (subst (λ (offset : ℕ). IsRole one b.form b.component.tail offset) offsets
-          (subst (λ (tail : List ℕ). IsRole one b.form tail a.offset) types.tail (subst (λ (f : Form). IsRole one f a.component.tail a.offset) form a.role)))
-          b.role
+          let moved : IsRole one b.form b.component.tail b.offset =
+          subst (λ (offset : ℕ). IsRole one b.form b.component.tail offset) offsets
+          (subst (λ (tail : List ℕ). IsRole one b.form tail a.offset) types.tail (subst (λ (f : Form). IsRole one f a.component.tail a.offset) form a.role)) in
+          (role_is one b.form b.component.tail b.offset moved).0 ∙ sym (role_is other b.form b.component.tail b.offset b.role).0
       | inr apart ↦ elim apart [
-        | inl before ↦ absurd (no_later family octets a.start a.kind a.form a.offset a.component b.component.front a.form_is (role_none one a.form a.component.tail a.offset a.role)
+        | inl before ↦ absurd (no_later family octets a.start a.kind a.form a.offset a.component b.component.front a.form_is (role_is one a.form a.component.tail a.offset a.role).1
             (later_of family octets b.start b.kind b.component) (omega arith) (omega arith))
-        | inr after ↦ absurd (no_later family octets b.start b.kind b.form b.offset b.component a.component.front b.form_is (role_none other b.form b.component.tail b.offset b.role)
+        | inr after ↦ absurd (no_later family octets b.start b.kind b.form b.offset b.component a.component.front b.form_is (role_is other b.form b.component.tail b.offset b.role).1
             (later_of family octets a.start a.kind a.component) (omega arith) (omega arith))
       ]
     ]

@@ -2,7 +2,8 @@
 
 ghost use Rattle.std.specs.Prelude.{◌≡◌, ◌+◌, ◌-◌, ◌*◌, ◌/◌, ◌^◌, ◌<◌, ◌≤◌, ◌↔◌, length, take, IfOk, IfErr, IsTrue};
 ghost use Rattle.byteorder.specs.Endian.{big_number};
-ghost use Rattle.fs_nlri.specs.Forms.{V4Form, V6Form, prefix_form, number_form, tcp_flags_form, dscp_form, fragment_form, fragment_bits};
+ghost use Rattle.fs_ops.specs.Fault.{CanBeWide};
+ghost use Rattle.fs_nlri.specs.Forms.{V4Form, V6Form, ListForm, prefix_form, number_form, fragment_bits};
 ghost use Rattle.fs_nlri.specs.Parts.{ListBody};
 ghost use Rattle.fs_nlri.specs.Component.{body_of};
 ghost use Rattle.fs_nlri.specs.Spelling.{SpellsBody, octets_for};
@@ -10,11 +11,11 @@ ghost use Rattle.fs_nlri.specs.Body.{IsBodyFault};
 
 use crate::component::PrefixForm;
 use crate::fault::{NlriFault, Reason};
-use crate::given::has_range;
+use crate::given::{ALL_WIDTHS, has_range};
 use crate::size::octets_for_bits;
 use byteorder::{BigEndian, ByteOrder};
 use fs_base::{Family, Prefix};
-use fs_ops::{MaskList, NumList};
+use fs_ops::{NumList, OfKind, OperatorList};
 use std::alloc::Global;
 
 /// The octets as the highest of a number of `width` bits.
@@ -115,35 +116,6 @@ fn read_v6(octets: &[u8]) -> Result<(PrefixForm, usize), NlriFault>
     Ok((form, 2 + count))
 }
 
-/// Reads a list of numbers of 1, 2, 4 or 8 octets.
-pub(crate) fn read_numbers(alloc: Global, octets: &[u8]) -> Result<(NumList, usize), NlriFault>
-    ensures taken { IfOk result (λ read. read.1 ≤ length octets.now) }
-    ensures found { IfOk result (λ read. SpellsBody number_form (take read.1 octets.now) (ListBody read.0)) }
-    ensures fault { IfErr result (IsBodyFault number_form octets.now) }
-{
-    Ok(NumList::decode(alloc, octets)?)
-}
-
-/// Reads a list of DSCP values, and clears the two bits above them.
-pub(crate) fn read_dscp(alloc: Global, octets: &[u8]) -> Result<(NumList, usize), NlriFault>
-    ensures taken { IfOk result (λ read. read.1 ≤ length octets.now) }
-    ensures found { IfOk result (λ read. SpellsBody dscp_form (take read.1 octets.now) (ListBody read.0)) }
-    ensures fault { IfErr result (IsBodyFault dscp_form octets.now) }
-{
-    let (mut list, taken) = NumList::decode_within(alloc, octets, &[0])?;
-    list.keep_bits(0x3f);
-    Ok((list, taken))
-}
-
-/// Reads a list of TCP flags of 1 or 2 octets.
-pub(crate) fn read_tcp_flags(alloc: Global, octets: &[u8]) -> Result<(MaskList, usize), NlriFault>
-    ensures taken { IfOk result (λ read. read.1 ≤ length octets.now) }
-    ensures found { IfOk result (λ read. SpellsBody tcp_flags_form (take read.1 octets.now) (ListBody read.0)) }
-    ensures fault { IfErr result (IsBodyFault tcp_flags_form octets.now) }
-{
-    Ok(MaskList::decode(alloc, octets, &[0, 1])?)
-}
-
 /// The fragment bits that the family has.
 pub(crate) fn bits_of_fragment(family: Family) -> u64
     ensures { result ≡ fragment_bits family }
@@ -154,17 +126,31 @@ pub(crate) fn bits_of_fragment(family: Family) -> u64
     }
 }
 
-/// Reads a list of fragment bits, and clears those that the family doesn't have.
-pub(crate) fn read_fragment(
+/// Reads a list with values of these widths, and clears their bits that don't count.
+pub(crate) fn read_list<K: OfKind>(
     alloc: Global,
-    family: Family,
     octets: &[u8],
-) -> Result<(MaskList, usize), NlriFault>
+    widths: &[u8],
+    bits: Option<u64>,
+) -> Result<(OperatorList<K>, usize), NlriFault>
+    requires { CanBeWide widths.now }
     ensures taken { IfOk result (λ read. read.1 ≤ length octets.now) }
-    ensures found { IfOk result (λ r. SpellsBody (fragment_form family) (take r.1 octets.now) (ListBody r.0)) }
-    ensures fault { IfErr result (IsBodyFault (fragment_form family) octets.now) }
+    ensures found { IfOk result (λ read.
+        SpellsBody (ListForm K.KIND widths.now bits) (take read.1 octets.now) (ListBody read.0)) }
+    ensures fault { IfErr result (IsBodyFault (ListForm K.KIND widths.now bits) octets.now) }
 {
-    let (mut list, taken) = MaskList::decode(alloc, octets, &[0])?;
-    list.keep_bits(bits_of_fragment(family));
+    let (mut list, taken) = OperatorList::decode_within(alloc, octets, widths)?;
+    if let Some(bits) = bits {
+        list.keep_bits(bits);
+    }
     Ok((list, taken))
+}
+
+/// Reads a list of numbers of 1, 2, 4 or 8 octets.
+pub(crate) fn read_numbers(alloc: Global, octets: &[u8]) -> Result<(NumList, usize), NlriFault>
+    ensures taken { IfOk result (λ read. read.1 ≤ length octets.now) }
+    ensures found { IfOk result (λ read. SpellsBody number_form (take read.1 octets.now) (ListBody read.0)) }
+    ensures fault { IfErr result (IsBodyFault number_form octets.now) }
+{
+    read_list(alloc, octets, &ALL_WIDTHS, None)
 }

@@ -1,5 +1,10 @@
 //! Why octets spell no rule, and why components make none.
 
+ghost use Rattle.std.specs.Prelude.{◌≡◌};
+ghost use Rattle.fs_nlri.specs.declared.fault.NlriFault.TheVariants.{Memory as NoMemory};
+ghost use Rattle.fs_nlri.specs.declared.fault.RuleFault.TheVariants.{Memory as NoRuleMemory};
+ghost use Rattle.fs_nlri.specs.Fault.{list_fault};
+
 use fs_base::Memory;
 use fs_ops::OpsFault;
 use std::alloc::{AllocError, AllocFailed};
@@ -44,9 +49,6 @@ pub enum RuleFault {
 }
 
 impl From<Memory> for NlriFault {
-    ghost use Rattle.std.specs.Prelude.{◌≡◌};
-    ghost use Rattle.fs_nlri.specs.declared.fault.NlriFault.TheVariants.{Memory as NoMemory};
-
     ghost from_gives = { λ e r. r ≡ NoMemory };
 
     fn from(_error: Memory) -> NlriFault {
@@ -55,9 +57,6 @@ impl From<Memory> for NlriFault {
 }
 
 impl From<AllocError> for NlriFault {
-    ghost use Rattle.std.specs.Prelude.{◌≡◌};
-    ghost use Rattle.fs_nlri.specs.declared.fault.NlriFault.TheVariants.{Memory as NoMemory};
-
     ghost from_gives = { λ e r. r ≡ NoMemory };
 
     fn from(_error: AllocError) -> NlriFault {
@@ -66,9 +65,6 @@ impl From<AllocError> for NlriFault {
 }
 
 impl<T: Drop> From<AllocFailed<T>> for NlriFault {
-    ghost use Rattle.std.specs.Prelude.{◌≡◌};
-    ghost use Rattle.fs_nlri.specs.declared.fault.NlriFault.TheVariants.{Memory as NoMemory};
-
     ghost from_gives = { λ e r. r ≡ NoMemory };
 
     fn from(_error: AllocFailed<T>) -> NlriFault {
@@ -77,9 +73,6 @@ impl<T: Drop> From<AllocFailed<T>> for NlriFault {
 }
 
 impl From<OpsFault> for NlriFault {
-    ghost use Rattle.std.specs.Prelude.{◌≡◌};
-    ghost use Rattle.fs_nlri.specs.Fault.{list_fault};
-
     ghost from_gives = { λ e r. r ≡ list_fault e };
 
     fn from(fault: OpsFault) -> NlriFault {
@@ -98,10 +91,7 @@ impl From<OpsFault> for NlriFault {
 }
 
 impl From<Memory> for RuleFault {
-    ghost use Rattle.std.specs.Prelude.{◌≡◌};
-    ghost use Rattle.fs_nlri.specs.declared.fault.RuleFault.TheVariants.{Memory as NoMemory};
-
-    ghost from_gives = { λ e r. r ≡ NoMemory };
+    ghost from_gives = { λ e r. r ≡ NoRuleMemory };
 
     fn from(_error: Memory) -> RuleFault {
         RuleFault::Memory
@@ -109,10 +99,7 @@ impl From<Memory> for RuleFault {
 }
 
 impl From<AllocError> for RuleFault {
-    ghost use Rattle.std.specs.Prelude.{◌≡◌};
-    ghost use Rattle.fs_nlri.specs.declared.fault.RuleFault.TheVariants.{Memory as NoMemory};
-
-    ghost from_gives = { λ e r. r ≡ NoMemory };
+    ghost from_gives = { λ e r. r ≡ NoRuleMemory };
 
     fn from(_error: AllocError) -> RuleFault {
         RuleFault::Memory
@@ -120,10 +107,7 @@ impl From<AllocError> for RuleFault {
 }
 
 impl<T: Drop> From<AllocFailed<T>> for RuleFault {
-    ghost use Rattle.std.specs.Prelude.{◌≡◌};
-    ghost use Rattle.fs_nlri.specs.declared.fault.RuleFault.TheVariants.{Memory as NoMemory};
-
-    ghost from_gives = { λ e r. r ≡ NoMemory };
+    ghost from_gives = { λ e r. r ≡ NoRuleMemory };
 
     fn from(_error: AllocFailed<T>) -> RuleFault {
         RuleFault::Memory

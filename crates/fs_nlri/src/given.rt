@@ -3,7 +3,6 @@
 ghost use Rattle.std.specs.Prelude.{◌≡◌, ◌↔◌, IsTrue, IfNone};
 ghost use Rattle.std.specs.Bool.{OnTrue};
 ghost use Rattle.std.specs.List.{AllByRecursion};
-ghost use Rattle.fs_ops.specs.declared.kind.Kind.TheVariants.{Numeric, Bitmask};
 ghost use Rattle.fs_ops.specs.OperatorList.{IsNormal};
 ghost use Rattle.fs_nlri.specs.Forms.{all_allowed, prefix_form};
 ghost use Rattle.fs_nlri.specs.Component.{body_of, part_of, parts_of};
@@ -13,30 +12,23 @@ ghost use Rattle.fs_nlri.specs.Making.{is_range, body_given, part_given, all_giv
 use crate::component::{Component, PrefixForm};
 use crate::fault::RuleFault;
 use fs_base::Family;
-use fs_ops::{MaskList, NumList};
+use fs_ops::{OfKind, OperatorList, width_code_of};
 
 /// Whether each value has one of the widths, by their codes.
 fn are_allowed(widths: &[u8], pairs: &[(u8, u64)]) -> bool
     ensures { result ≡ all_allowed widths.now pairs.now }
 {
     for &(operator, _) in pairs {
-        if !widths.contains(&(operator >> 4 & 3)) {
+        if !widths.contains(&width_code_of(operator)) {
             return false;
         }
     }
     true
 }
 
-fn numbers_allowed(widths: &[u8], list: &NumList) -> bool
+fn list_allowed<K: OfKind>(widths: &[u8], list: &OperatorList<K>) -> bool
     ensures value { result ≡ all_allowed widths.now list.now }
-    ensures normal { IsNormal Numeric list.now }
-{
-    are_allowed(widths, list.pairs())
-}
-
-fn masks_allowed(widths: &[u8], list: &MaskList) -> bool
-    ensures value { result ≡ all_allowed widths.now list.now }
-    ensures normal { IsNormal Bitmask list.now }
+    ensures normal { IsNormal K.KIND list.now }
 {
     are_allowed(widths, list.pairs())
 }
@@ -61,7 +53,8 @@ fn form_given(family: Family, form: &PrefixForm) -> bool
     }
 }
 
-const ALL_WIDTHS: [u8; 4] = [0, 1, 2, 3];
+/// The codes of all widths.
+pub(crate) const ALL_WIDTHS: [u8; 4] = [0, 1, 2, 3];
 
 /// Whether the family gives the component's type, and the type its form and its widths.
 pub(crate) fn is_given(family: Family, component: &Component) -> bool
@@ -76,11 +69,11 @@ pub(crate) fn is_given(family: Family, component: &Component) -> bool
         | Component::SourcePort(list)
         | Component::IcmpType(list)
         | Component::IcmpCode(list)
-        | Component::PacketLength(list) => numbers_allowed(&ALL_WIDTHS, list),
-        Component::TcpFlags(list) => masks_allowed(&[0, 1], list),
-        Component::Dscp(list) => numbers_allowed(&[0], list),
-        Component::Fragment(list) => masks_allowed(&[0], list),
-        Component::FlowLabel(list) => family == Family::V6 && numbers_allowed(&ALL_WIDTHS, list),
+        | Component::PacketLength(list) => list_allowed(&ALL_WIDTHS, list),
+        Component::TcpFlags(list) => list_allowed(&[0, 1], list),
+        Component::Dscp(list) => list_allowed(&[0], list),
+        Component::Fragment(list) => list_allowed(&[0], list),
+        Component::FlowLabel(list) => family == Family::V6 && list_allowed(&ALL_WIDTHS, list),
     }
 }
 

@@ -7,7 +7,7 @@ ghost use Rattle.fs_nlri.specs.Spelling.{SpellsAt, Spells};
 ghost use Rattle.fs_nlri.specs.Fault.{IsValueFault, moved, place_of};
 ghost use Rattle.fs_nlri.specs.Body.{IsFaultAt};
 
-use crate::body::{read_dscp, read_fragment, read_numbers, read_prefix, read_tcp_flags};
+use crate::body::{bits_of_fragment, read_list, read_numbers, read_prefix};
 use crate::component::Component;
 use crate::counting::count_components;
 use crate::fault::{NlriFault, Reason};
@@ -86,7 +86,7 @@ fn read_component(
             Ok((Component::IcmpCode(list), taken))
         }
         9 => {
-            let (list, taken) = read_tcp_flags(alloc, octets)?;
+            let (list, taken) = read_list(alloc, octets, &[0, 1], None)?;
             Ok((Component::TcpFlags(list), taken))
         }
         10 => {
@@ -94,11 +94,11 @@ fn read_component(
             Ok((Component::PacketLength(list), taken))
         }
         11 => {
-            let (list, taken) = read_dscp(alloc, octets)?;
+            let (list, taken) = read_list(alloc, octets, &[0], Some(0x3f))?;
             Ok((Component::Dscp(list), taken))
         }
         12 => {
-            let (list, taken) = read_fragment(alloc, family, octets)?;
+            let (list, taken) = read_list(alloc, octets, &[0], Some(bits_of_fragment(family)))?;
             Ok((Component::Fragment(list), taken))
         }
         13 => {

@@ -8,7 +8,7 @@ use Rattle.byteorder.specs.Endian.{big_number, big_bytes}
 use Rattle.byteorder.specs.Numbers.{length-bytes_high_first, big_number-reads_back}
 use Rattle.fs_ops.specs.Operator.{Kind, Numeric, Bitmask, meant_bits, first_bits, width_code, width_of, joins}
 use Rattle.fs_ops.specs.OperatorList.{Written, octets_of, text, IsPair, IsList, said, all_said, Spells, pair_octets, canonical, IsNormalPair, AreNormal, IsNormal, first_joins}
-use Rattle.fs_ops.proofs.Normal.{IsMask, meant_mask, first_mask, masked_width, masked_code}
+use Rattle.fs_ops.proofs.Normal.{first_normal, IsMask, meant_mask, first_mask, masked_width, masked_code}
 
 -- each value has one of these widths
 abbrev pub AreAllowed : List ℕ → List (ℕ × ℕ) → Type 0
@@ -36,24 +36,24 @@ number_back bits pair normal =
     ∙ ap (λ (l : List ℕ). big_number (width_of pair.0) l) (sym (append-nil (big_bytes (width_of pair.0) pair.1)))
     ∙ big_number-reads_back (width_of pair.0) pair.1 [] normal.fits
 
-said_back : (bits : ℕ) (pair : ℕ × ℕ) → IsNormalPair bits pair → said bits (written_of pair) ≡ pair
-said_back bits pair normal =
-    ap (λ (n : ℕ). let p : ℕ × ℕ = (n, big_number (length (big_bytes (width_of pair.0) pair.1)) (big_bytes (width_of pair.0) pair.1)) in p) normal.clear
+said_back : (bits mask : ℕ) (pair : ℕ × ℕ) → IsNormalPair bits pair → bit_and pair.0 mask ≡ pair.0 → said mask (written_of pair) ≡ pair
+said_back bits mask pair normal clear =
+    ap (λ (n : ℕ). let p : ℕ × ℕ = (n, big_number (length (big_bytes (width_of pair.0) pair.1)) (big_bytes (width_of pair.0) pair.1)) in p) clear
     ∙ ap (λ (n : ℕ). let p : ℕ × ℕ = (pair.0, n) in p) (number_back bits pair normal)
 
-all_back : (bits : ℕ) (pairs : List (ℕ × ℕ)) → AreNormal bits pairs → map (said bits) (map written_of pairs) ≡ pairs
-all_back bits [] normal = absurd normal
-all_back bits (pair ∷ []) normal = ap (λ (p : ℕ × ℕ). p ∷ []) (said_back bits pair normal.0)
-all_back bits (pair ∷ next ∷ pairs) normal =
-    ap (λ (p : ℕ × ℕ). p ∷ map (said bits) (map written_of (next ∷ pairs))) (said_back bits pair normal.0)
-    ∙ ap (λ (l : List (ℕ × ℕ)). pair ∷ l) (all_back bits (next ∷ pairs) normal.2)
+all_back : (bits mask : ℕ) (pair : ℕ × ℕ) (pairs : List (ℕ × ℕ)) → AreNormal bits (pair ∷ pairs) → bit_and pair.0 mask ≡ pair.0
+    → said mask (written_of pair) ∷ map (said bits) (map written_of pairs) ≡ pair ∷ pairs
+all_back bits mask pair [] normal clear = ap (λ (p : ℕ × ℕ). p ∷ []) (said_back bits mask pair normal.0 clear)
+all_back bits mask pair (next ∷ pairs) normal clear =
+    ap (λ (p : ℕ × ℕ). p ∷ map (said bits) (map written_of (next ∷ pairs))) (said_back bits mask pair normal.0 clear)
+    ∙ ap (λ (l : List (ℕ × ℕ)). pair ∷ l) (all_back bits bits next pairs normal.2 (first_normal bits next pairs normal.2).clear)
 
 -- without its AND bit the first operator loses nothing more
 first_is : (kind : Kind) → first_bits kind ≡ bit_and (meant_bits kind) 191
 first_is Numeric = refl
 first_is Bitmask = refl
 
-small_bits : (kind : Kind) → meant_bits kind < 256
+pub small_bits : (kind : Kind) → meant_bits kind < 256
 small_bits Numeric = omega arith
 small_bits Bitmask = omega arith
 
@@ -65,17 +65,10 @@ first_back kind operator clear first =
     let without : bit_and operator 191 ≡ operator = let left : bit_and 64 operator ≡ 0 = and_comm 64 operator ∙ none in let e : bit_and operator 191 ≡ bit_and 191 operator = and_comm operator 191 in omega arith in
     ap (λ (n : ℕ). bit_and operator n) (first_is kind) ∙ sym (and_assoc 191 operator (meant_bits kind)) ∙ ap (λ (n : ℕ). bit_and n 191) clear ∙ without
 
-first_said : (kind : Kind) (pair : ℕ × ℕ) → IsNormalPair (meant_bits kind) pair → joins pair.0 ≡ false → said (first_bits kind) (written_of pair) ≡ pair
-first_said kind pair normal first =
-    ap (λ (n : ℕ). let p : ℕ × ℕ = (n, big_number (length (big_bytes (width_of pair.0) pair.1)) (big_bytes (width_of pair.0) pair.1)) in p) (first_back kind pair.0 normal.clear first)
-    ∙ ap (λ (n : ℕ). let p : ℕ × ℕ = (pair.0, n) in p) (number_back (meant_bits kind) pair normal)
-
 means_back : (kind : Kind) (pairs : List (ℕ × ℕ)) → AreNormal (meant_bits kind) pairs → first_joins pairs ≡ false → all_said kind (map written_of pairs) ≡ pairs
 means_back kind [] normal first = absurd normal
-means_back kind (pair ∷ []) normal first = ap (λ (p : ℕ × ℕ). p ∷ []) (first_said kind pair normal.0 first)
-means_back kind (pair ∷ next ∷ pairs) normal first =
-    ap (λ (p : ℕ × ℕ). p ∷ map (said (meant_bits kind)) (map written_of (next ∷ pairs))) (first_said kind pair normal.0 first)
-    ∙ ap (λ (l : List (ℕ × ℕ)). pair ∷ l) (all_back (meant_bits kind) (next ∷ pairs) normal.2)
+means_back kind (pair ∷ pairs) normal first =
+    all_back (meant_bits kind) (first_bits kind) pair pairs normal (first_back kind pair.0 (first_normal (meant_bits kind) pair pairs normal).clear first)
 
 -- the octets that are written for a list in normal form say it
 pub canonical_spells : (kind : Kind) (widths : List ℕ) (pairs : List (ℕ × ℕ)) → IsNormal kind pairs → AreAllowed widths pairs → Spells kind widths (canonical pairs) pairs
@@ -87,20 +80,15 @@ canonical_spells kind widths pairs normal allowed = record {
 }
 
 -- a list that octets say has the widths that are allowed
-allowed_later : (widths : List ℕ) (bits : ℕ) (written : List Written) → IsMask bits bits → IsList widths written → AreAllowed widths (map (said bits) written)
-allowed_later widths bits [] is whole = absurd whole
-allowed_later widths bits (pair ∷ []) is whole = (subst (Contains widths) (sym (masked_code bits bits pair.operator is)) whole.0.allowed, tt)
-allowed_later widths bits (pair ∷ next ∷ pairs) is whole =
-    (subst (Contains widths) (sym (masked_code bits bits pair.operator is)) whole.0.allowed, allowed_later widths bits (next ∷ pairs) is whole.2)
+allowed_later : (widths : List ℕ) (bits mask : ℕ) (pair : Written) (pairs : List Written) → IsMask bits bits → IsMask bits mask → IsList widths (pair ∷ pairs)
+    → AreAllowed widths (said mask pair ∷ map (said bits) pairs)
+allowed_later widths bits mask pair [] meant is whole = (subst (Contains widths) (sym (masked_code bits mask pair.operator is)) whole.0.allowed, tt)
+allowed_later widths bits mask pair (next ∷ pairs) meant is whole =
+    (subst (Contains widths) (sym (masked_code bits mask pair.operator is)) whole.0.allowed, allowed_later widths bits bits next pairs meant meant whole.2)
 
 all_allowed : (kind : Kind) (widths : List ℕ) (written : List Written) → IsList widths written → AreAllowed widths (all_said kind written)
 all_allowed kind widths [] whole = absurd whole
-all_allowed kind widths (pair ∷ []) whole =
-    (subst (Contains widths) (sym (masked_code (meant_bits kind) (first_bits kind) pair.operator (first_mask kind))) whole.0.allowed, tt)
-all_allowed kind widths (pair ∷ next ∷ pairs) whole = (
-  subst (Contains widths) (sym (masked_code (meant_bits kind) (first_bits kind) pair.operator (first_mask kind))) whole.0.allowed,
-  allowed_later widths (meant_bits kind) (next ∷ pairs) (meant_mask kind) whole.2,
-)
+all_allowed kind widths (pair ∷ pairs) whole = allowed_later widths (meant_bits kind) (first_bits kind) pair pairs (meant_mask kind) (first_mask kind) whole
 
 pub spelled_allowed : (kind : Kind) (widths octets : List ℕ) (pairs : List (ℕ × ℕ)) → Spells kind widths octets pairs → AreAllowed widths pairs
 spelled_allowed kind widths octets pairs spells = subst (AreAllowed widths) (sym spells.means) (all_allowed kind widths spells.written spells.whole)
@@ -117,19 +105,16 @@ said_size widths bits mask pair is whole =
 joined_size : (a b c d : List ℕ) → length a ≡ length b → length c ≡ length d → length (a ++ c) ≡ length (b ++ d)
 joined_size a b c d heads tails = omega (arith, length-append a c, length-append b d)
 
-later_size : (widths : List ℕ) (bits : ℕ) (written : List Written) → IsMask bits bits → IsList widths written → length (canonical (map (said bits) written)) ≡ length (text written)
-later_size widths bits [] is whole = absurd whole
-later_size widths bits (pair ∷ []) is whole = joined_size (pair_octets (said bits pair)) (octets_of pair) [] [] (said_size widths bits bits pair is whole.0) refl
-later_size widths bits (pair ∷ next ∷ pairs) is whole =
-    joined_size (pair_octets (said bits pair)) (octets_of pair) (canonical (map (said bits) (next ∷ pairs))) (text (next ∷ pairs)) (said_size widths bits bits pair is whole.0) (later_size widths bits (next ∷ pairs) is whole.2)
+later_size : (widths : List ℕ) (bits mask : ℕ) (pair : Written) (pairs : List Written) → IsMask bits bits → IsMask bits mask → IsList widths (pair ∷ pairs)
+    → length (canonical (said mask pair ∷ map (said bits) pairs)) ≡ length (text (pair ∷ pairs))
+later_size widths bits mask pair [] meant is whole = joined_size (pair_octets (said mask pair)) (octets_of pair) [] [] (said_size widths bits mask pair is whole.0) refl
+later_size widths bits mask pair (next ∷ pairs) meant is whole =
+    joined_size (pair_octets (said mask pair)) (octets_of pair) (canonical (map (said bits) (next ∷ pairs))) (text (next ∷ pairs))
+    (said_size widths bits mask pair is whole.0) (later_size widths bits bits next pairs meant meant whole.2)
 
 all_size : (kind : Kind) (widths : List ℕ) (written : List Written) → IsList widths written → length (canonical (all_said kind written)) ≡ length (text written)
 all_size kind widths [] whole = absurd whole
-all_size kind widths (pair ∷ []) whole =
-    joined_size (pair_octets (said (first_bits kind) pair)) (octets_of pair) [] [] (said_size widths (meant_bits kind) (first_bits kind) pair (first_mask kind) whole.0) refl
-all_size kind widths (pair ∷ next ∷ pairs) whole =
-    joined_size (pair_octets (said (first_bits kind) pair)) (octets_of pair) (canonical (map (said (meant_bits kind)) (next ∷ pairs))) (text (next ∷ pairs))
-    (said_size widths (meant_bits kind) (first_bits kind) pair (first_mask kind) whole.0) (later_size widths (meant_bits kind) (next ∷ pairs) (meant_mask kind) whole.2)
+all_size kind widths (pair ∷ pairs) whole = later_size widths (meant_bits kind) (first_bits kind) pair pairs (meant_mask kind) (first_mask kind) whole
 
 pub canonical_size : (kind : Kind) (widths octets : List ℕ) (pairs : List (ℕ × ℕ)) → Spells kind widths octets pairs → length (canonical pairs) ≡ length octets
 canonical_size kind widths octets pairs spells =

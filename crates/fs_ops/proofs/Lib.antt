@@ -4,4 +4,3 @@ pub mod Found
 pub mod Grammar
 pub mod Groups
 pub mod Normal
-pub mod NormalPairs

@@ -77,25 +77,20 @@ value_octets pair pairs are = octets_tail pair.operator pair.value (octets_left 
 later_octets : (pair : Written) (pairs : List Written) → IsOctets (text (pair ∷ pairs)) → IsOctets (text pairs)
 later_octets pair pairs are = octets_right (octets_of pair) (text pairs) are
 
-later_normal : (widths : List ℕ) (bits : ℕ) (written : List Written) → IsMask bits bits → IsList widths written → IsOctets (text written) → AreNormal bits (map (said bits) written)
-later_normal widths bits [] is whole are = absurd whole
-later_normal widths bits (pair ∷ []) is whole are =
-    (said_normal widths bits bits pair is whole.0 (value_octets pair [] are), masked_last bits bits pair.operator is ∙ whole.1)
-later_normal widths bits (pair ∷ next ∷ pairs) is whole are = (
-  said_normal widths bits bits pair is whole.0 (value_octets pair (next ∷ pairs) are),
-  masked_last bits bits pair.operator is ∙ whole.1,
-  later_normal widths bits (next ∷ pairs) is whole.2 (later_octets pair (next ∷ pairs) are),
+-- the first pair under a mask of its own
+later_normal : (widths : List ℕ) (bits mask : ℕ) (pair : Written) (pairs : List Written) → IsMask bits bits → IsMask bits mask → IsList widths (pair ∷ pairs) → IsOctets (text (pair ∷ pairs))
+    → AreNormal bits (said mask pair ∷ map (said bits) pairs)
+later_normal widths bits mask pair [] meant is whole are =
+    (said_normal widths bits mask pair is whole.0 (value_octets pair [] are), masked_last bits mask pair.operator is ∙ whole.1)
+later_normal widths bits mask pair (next ∷ pairs) meant is whole are = (
+  said_normal widths bits mask pair is whole.0 (value_octets pair (next ∷ pairs) are),
+  masked_last bits mask pair.operator is ∙ whole.1,
+  later_normal widths bits bits next pairs meant meant whole.2 (later_octets pair (next ∷ pairs) are),
 )
 
 all_normal : (kind : Kind) (widths : List ℕ) (written : List Written) → IsList widths written → IsOctets (text written) → AreNormal (meant_bits kind) (all_said kind written)
 all_normal kind widths [] whole are = absurd whole
-all_normal kind widths (pair ∷ []) whole are =
-    (said_normal widths (meant_bits kind) (first_bits kind) pair (first_mask kind) whole.0 (value_octets pair [] are), masked_last (meant_bits kind) (first_bits kind) pair.operator (first_mask kind) ∙ whole.1)
-all_normal kind widths (pair ∷ next ∷ pairs) whole are = (
-  said_normal widths (meant_bits kind) (first_bits kind) pair (first_mask kind) whole.0 (value_octets pair (next ∷ pairs) are),
-  masked_last (meant_bits kind) (first_bits kind) pair.operator (first_mask kind) ∙ whole.1,
-  later_normal widths (meant_bits kind) (next ∷ pairs) (meant_mask kind) whole.2 (later_octets pair (next ∷ pairs) are),
-)
+all_normal kind widths (pair ∷ pairs) whole are = later_normal widths (meant_bits kind) (first_bits kind) pair pairs (meant_mask kind) (first_mask kind) whole are
 
 joins_none : (kind : Kind) (written : List Written) → first_joins (all_said kind written) ≡ false
 joins_none kind [] = refl
@@ -109,6 +104,10 @@ spelled_normal kind widths octets pairs are spells =
       normal = all_normal kind widths spells.written spells.whole (subst IsOctets (sym spells.spelled) are);
       first = joins_none kind spells.written;
     })
+
+pub first_normal : (bits : ℕ) (pair : ℕ × ℕ) (others : List (ℕ × ℕ)) → AreNormal bits (pair ∷ others) → IsNormalPair bits pair
+first_normal bits pair [] normal = normal.0
+first_normal bits pair (next ∷ others) normal = normal.0
 
 -- each value of such a list fits its width
 pub values_fit : (bits : ℕ) (pairs : List (ℕ × ℕ)) → AreNormal bits pairs → All (λ (pair : ℕ × ℕ). pair.1 < 256 ^ width_of pair.0) pairs

@@ -2,22 +2,23 @@
 //! reading with exact faults, writing, and evaluation.
 #![tactic(auto)]
 
+mod bitmask;
 mod evaluation;
 mod fault;
 mod kind;
 mod laws;
+mod list;
 mod making;
-mod mask_list;
-mod num_list;
+mod numeric;
 mod operator;
 mod pairs;
 mod reading;
-mod size;
-mod values;
 mod writing;
 
+pub use bitmask::MaskList;
 pub use fault::OpsFault;
-pub use kind::Kind;
+pub use kind::{Kind, Masks, Numbers, OfKind};
 pub use laws::equal_where_same;
-pub use mask_list::MaskList;
-pub use num_list::NumList;
+pub use list::OperatorList;
+pub use numeric::NumList;
+pub use operator::{value_len, width_code_of};

@@ -2,7 +2,6 @@
 
 ghost use Rattle.std.specs.Prelude.{◌≡◌, ◌∷◌, [], map, bit_and, IfOk};
 
-use crate::values;
 use fs_base::Memory;
 use std::marker::Model;
 use std::slice;
@@ -66,7 +65,7 @@ impl PairList {
     {
         match &mut self.kept {
             Stored::One((_, value)) => *value &= bits,
-            Stored::Many(pairs) => values::keep_bits(pairs, bits),
+            Stored::Many(pairs) => keep_bits(pairs, bits),
         }
     }
 
@@ -79,5 +78,14 @@ impl PairList {
             Stored::Many(pairs) => Stored::Many(pairs.clone()?),
         };
         Ok(PairList { kept })
+    }
+}
+
+/// Clears the other bits of each value.
+fn keep_bits(pairs: &mut [(u8, u64)], bits: u64)
+    ensures { pairs.new ≡ map (λ pair. (pair.0, bit_and pair.1 bits)) pairs.old }
+{
+    for (_, value) in pairs.iter_mut() {
+        *value &= bits;
     }
 }

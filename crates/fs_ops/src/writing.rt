@@ -1,6 +1,6 @@
 //! The writer of a list (RFC 8955 section 4.2.1).
 
-ghost use Rattle.std.specs.Prelude.{◌≡◌, ◌<◌, ◌^◌, ◌++◌, take, All, OnOk, OnErr};
+ghost use Rattle.std.specs.Prelude.{◌≡◌, ◌<◌, ◌^◌, ◌++◌, length, take, All, OnOk, OnErr};
 ghost use Rattle.std.specs.Vec.{vec_len};
 ghost use Rattle.fs_ops.specs.Operator.{width_of};
 ghost use Rattle.fs_ops.specs.OperatorList.{pair_octets, canonical};
@@ -46,4 +46,16 @@ pub fn write(pairs: &[(u8, u64)], out: &mut Vec<u8>) -> Result<(), Memory>
         out.truncate(start);
     }
     written
+}
+
+/// How many octets are written for the pairs.
+pub fn encoded_len(pairs: &[(u8, u64)]) -> usize
+    ensures value { result ≡ length (canonical pairs.now) }
+    ensures small { result < 2 ^ 63 }
+{
+    let mut len = 0;
+    for &(operator, _) in pairs {
+        len += 1 + value_len(operator);
+    }
+    len
 }

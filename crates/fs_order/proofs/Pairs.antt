@@ -5,9 +5,10 @@ use Rattle.std.specs.Ordering.{nat_cmp, ordering_then}
 use Rattle.std.specs.Cmp.Lexicographic.{slice_cmp}
 use Rattle.std.proofs.lemmas.Cmp.{ranked}
 use Rattle.std.specs.Int.{byte_at, bytes_high_first}
-use Rattle.std.proofs.Math.Nat.{mod-one, div-one, mod-eq_of_lt, pow-succ', one-le-pow, add-mul, mul-le-mul_right, mod-lt}
+use Rattle.std.proofs.Math.Nat.{mod-one, div-one, mod-eq_of_lt, pow-succ', one-le-pow, mod-lt}
 use Rattle.std.proofs.Math.Arith.{mod-mul}
 use Rattle.std.proofs.lemmas.Bool.Decides.{nat_tests}
+use Rattle.fs_base.proofs.NumberTests.{next_row}
 use Rattle.fs_ops.specs.declared.kind.Kind.{Kind}
 use Rattle.fs_ops.specs.Operator.{ends, meant_bits, width_of}
 use Rattle.fs_ops.specs.OperatorList.{AreNormal, IsNormal, canonical, pair_octets}
@@ -25,12 +26,6 @@ pair_cmp x y = ordering_then (nat_cmp x.0 y.0) (nat_cmp x.1 y.1)
 two_digits : (a b c d x y size : ℕ) (o : Ordering) → c < size → d < size → (a < b → x + size ≤ y) → (b < a → y + size ≤ x) → (a ≡ b → x ≡ y)
     → ordering_then (nat_cmp a b) (ordering_then (nat_cmp c d) o) ≡ ordering_then (nat_cmp (x + c) (y + d)) o
 two_digits a b c d x y size o lc ld below above same = grind (arith, nat_tests)
-
-next_row : (a b size : ℕ) → a < b → a * size + size ≤ b * size
-next_row a b size h =
-    let row : (a + 1) * size ≡ a * size + 1 * size = add-mul a 1 size in
-    let more : (a + 1) * size ≤ b * size = mul-le-mul_right size (omega arith) in
-    omega arith
 
 byte_is : (k n : ℕ) → byte_at k n ≡ n / 256 ^ k % 256
 byte_is zero n = ap (λ (m : ℕ). m % 256) (sym (div-one n))

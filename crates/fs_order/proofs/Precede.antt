@@ -10,6 +10,8 @@ use Rattle.fs_base.specs.declared.prefix.Family.{Family}
 use Rattle.fs_base.specs.declared.prefix.Family.TheVariants.{V4, V6}
 use Rattle.fs_base.specs.Bits.{afi_of, cleared}
 use Rattle.fs_base.proofs.Blocks.{IsBlock, block_again, block_inside, block_meeting, block_of}
+use Rattle.fs_base.proofs.Covers.{same_family}
+use Rattle.fs_base.proofs.Orderings.{less_of_is_lt}
 use Rattle.fs_ops.specs.OperatorList.{canonical}
 use Rattle.fs_nlri.specs.Forms.{Form, V4Form, V6Form, ListForm, form_of}
 use Rattle.fs_nlri.specs.Parts.{Body, V4Body, V6Body, ListBody, Part, Ruled}
@@ -19,7 +21,7 @@ use Rattle.fs_order.specs.Comparison.{parts_cmp, rule_cmp, Before, BodyBefore, I
 use Rattle.fs_order.specs.Ranked.{body_total}
 use Rattle.fs_nlri.proofs.Sound.{sound_part}
 use Rattle.fs_order.proofs.Pairs.{equal_numbers, octets_cmp}
-use Rattle.fs_order.proofs.Same.{first_equal, same_body, same_family, second_equal}
+use Rattle.fs_order.proofs.Same.{first_equal, same_body, second_equal}
 
 lower : (a b : ℕ) → a < b → nat_cmp a b ≡ Less
 lower a b h = grind (arith, nat_tests)
@@ -272,12 +274,7 @@ before_law a b h k = (λ e. there (then_less (nat_cmp (afi_of a.family) (afi_of 
         first_less (nat_cmp (afi_of a.family) (afi_of b.family)) (parts_cmp a.parts b.parts) (lower (afi_of a.family) (afi_of b.family) (omega arith))
     back (inr e) = second_less (nat_cmp (afi_of a.family) (afi_of b.family)) (parts_cmp a.parts b.parts) (level (afi_of a.family) (afi_of b.family) (ap afi_of e.0)) ((ways e.0).1 e.1)
 
-lesser : (o : Ordering) → is_lt o ≡ true → o ≡ Less
-lesser Less h = refl
-lesser Equal h = cc
-lesser Greater h = cc
-
 pub before_test : (a b : Ruled) (answer : Bool) → IsRule a × IsRule b → answer ≡ is_lt (rule_cmp a b) → (answer ≡ true → Before a b) × (Before a b → answer ≡ true)
 before_test a b answer rules e =
     let law = before_law a b rules.0 rules.1 in
-    (λ h. law.0 (lesser (rule_cmp a b) (sym e ∙ h)), λ h. e ∙ ap is_lt (law.1 h))
+    (λ h. law.0 (less_of_is_lt (rule_cmp a b) (sym e ∙ h)), λ h. e ∙ ap is_lt (law.1 h))

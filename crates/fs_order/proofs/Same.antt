@@ -5,9 +5,8 @@ use Rattle.std.specs.Ordering.{nat_cmp, ordering_then}
 use Rattle.std.specs.Cmp.Lexicographic.{slice_cmp}
 use Rattle.std.proofs.lemmas.Cmp.{tied_itself}
 use Rattle.std.proofs.lemmas.Nat.{pow_pos}
-use Rattle.fs_base.specs.declared.prefix.Family.{Family}
-use Rattle.fs_base.specs.declared.prefix.Family.TheVariants.{V4, V6}
 use Rattle.fs_base.specs.Bits.{afi_of}
+use Rattle.fs_base.proofs.Covers.{same_family}
 use Rattle.fs_nlri.specs.Parts.{Body, V4Body, V6Body, ListBody, Part, Ruled}
 use Rattle.fs_nlri.specs.Rule.{IsRule}
 use Rattle.fs_nlri.specs.Spelling.{IsRange}
@@ -16,6 +15,7 @@ use Rattle.fs_order.specs.Comparison.{parts_cmp, rule_cmp}
 use Rattle.fs_nlri.specs.Sound.{AreSound, IsSoundBody}
 use Rattle.fs_order.specs.Ranked.{rule_total}
 use Rattle.fs_nlri.proofs.Sound.{rule_sound}
+use Rattle.fs_nlri.proofs.Fronts.{same_part}
 use Rattle.fs_order.proofs.Pairs.{equal_numbers, pair_cmp, pairs_compared}
 
 pub first_equal : (o p : Ordering) → ordering_then o p ≡ Equal → o ≡ Equal
@@ -87,9 +87,6 @@ same_body (V6Body m o a) (ListBody ys) h k e = cc
 same_body (ListBody xs) (V4Body g n b) h k e = cc
 same_body (ListBody xs) (V6Body n p b) h k e = cc
 
-same_part : (x y : Part) → x.kind ≡ y.kind → x.body ≡ y.body → x ≡ y
-same_part x y e f = λ i. record { kind = e i; body = f i }
-
 same_parts : (xs ys : List Part) → AreSound xs → AreSound ys → parts_cmp xs ys ≡ Equal → xs ≡ ys
 same_parts [] [] h k e = refl
 same_parts [] (y ∷ ys) h k e = cc
@@ -100,12 +97,6 @@ same_parts (x ∷ xs) (y ∷ ys) h k e =
     let body = same_body x.body y.body h.0 k.0 (second_equal (nat_cmp x.kind y.kind) (body_cmp x.body y.body) part) in
     let rest = same_parts xs ys h.1 k.1 (second_equal (part_cmp x y) (parts_cmp xs ys) e) in
     λ i. same_part x y kind body i ∷ rest i
-
-pub same_family : (f g : Family) → afi_of f ≡ afi_of g → f ≡ g
-same_family V4 V4 e = refl
-same_family V6 V6 e = refl
-same_family V4 V6 e = absurd (omega arith)
-same_family V6 V4 e = absurd (omega arith)
 
 pub same_rules : (a b : Ruled) → IsRule a → IsRule b → rule_cmp a b ≡ Equal → a ≡ b
 same_rules a b h k e =

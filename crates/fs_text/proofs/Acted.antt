@@ -1,12 +1,15 @@
 -- The words of a text up to its actions and among them, and what goes on from there.
-use Rattle.std.proofs.Common.{append_assoc, append-nil, ◌≡◌, ℕ, ◌+◌, ◌==◌, Bool, true, false, if◌then◌else◌, List, [], ◌∷◌, ◌++◌, drop, length, length-append, Some, None, refl, sym, ap, subst, ◌∙◌, arith}
-use Rattle.std.specs.Prelude.{codes, slice_index}
-use Rattle.std.specs.List.{AllByRecursion, last_or}
+use Rattle.std.proofs.Common.{append_assoc, append-nil, ◌≡◌, ℕ, ◌+◌, ◌==◌, false, List, [], ◌∷◌, ◌++◌, drop, length, length-append, Some, None, refl, sym, ap, subst, ◌∙◌, arith}
+use Rattle.std.specs.Prelude.{codes}
+use Rattle.std.specs.Str.{bytes_eq}
+use Rattle.std.specs.List.{last_or}
 use Rattle.std.specs.List.Sorted.{IsStrictlySortedBy}
 use Rattle.std.specs.Cmp.Lexicographic.{slice_cmp}
 use Rattle.std.specs.Ordering.{nat_cmp}
 use Rattle.fs_base.specs.declared.prefix.Family.{Family}
 use Rattle.fs_base.specs.Language.{IsOctets}
+use Rattle.fs_base.proofs.Lists.{each_append}
+use Rattle.fs_base.proofs.Octets.{each_at}
 use Rattle.fs_nlri.specs.Parts.{Part}
 use Rattle.fs_nlri.specs.Rule.{AreNormal}
 use Rattle.fs_actions.specs.Community.{IsAction}
@@ -19,7 +22,8 @@ use Rattle.fs_text.specs.Text.{AreActions, AreWords, Begin, IsBadWord, IsWhole}
 use Rattle.fs_text.specs.Progress.{Acts, Continues, Led, Rests, RestsOf, ahead, front}
 use Rattle.fs_text.specs.Steps.{FitsAbove, IsBadName, IsBadValue, IsNext}
 use Rattle.fs_text.proofs.Greatest.{octets_eight}
-use Rattle.fs_text.proofs.Led.{bad_at, bad_end, head_is, no_actions, no_words, tail_is}
+use Rattle.fs_text.proofs.Pairs.{chosen}
+use Rattle.fs_text.proofs.Led.{bad_at, bad_end, bad_value, head_is, no_actions, no_words, tail_is}
 
 above_last : (x : List ℕ) (xs : List (List ℕ)) (a : List ℕ) (rest : List (List ℕ)) → IsStrictlySortedBy (slice_cmp nat_cmp) (x ∷ (xs ++ a ∷ rest)) → IsAbove (last_or (Some x) xs) a
 unfolding IsStrictlySortedBy
@@ -31,18 +35,10 @@ above : (xs : List (List ℕ)) (a : List ℕ) (rest : List (List ℕ)) → IsStr
 above [] a rest s = tt
 above (x ∷ xs) a rest s = above_last x xs a rest s
 
-each_at : (P : List ℕ → Type 0) (xs : List (List ℕ)) (a : List ℕ) (rest : List (List ℕ)) → AllByRecursion P (xs ++ a ∷ rest) → P a
-each_at P [] a rest all = all.0
-each_at P (x ∷ xs) a rest all = each_at P xs a rest all.1
-
-each_more : (P : List ℕ → Type 0) (xs : List (List ℕ)) (a : List ℕ) → AllByRecursion P xs → P a → AllByRecursion P (xs ++ a ∷ [])
-each_more P [] a all p = (p, tt)
-each_more P (x ∷ xs) a all p = (all.0, each_more P xs a all.1 p)
-
 are_more : (xs : List (List ℕ)) (a : List ℕ) → AreActions xs → FitsAbove xs a → AreActions (xs ++ a ∷ [])
 are_more xs a are fits = record {
   rising = actions_more xs a are.rising fits.normal fits.above;
-  octets = each_more IsOctets xs a are.octets fits.octets;
+  octets = each_append IsOctets xs (a ∷ []) are.octets (fits.octets, tt);
 }
 
 fits_at : (xs : List (List ℕ)) (a : List ℕ) (rest : List (List ℕ)) → AreActions (xs ++ a ∷ rest) → FitsAbove xs a
@@ -52,35 +48,18 @@ fits_at xs a rest are = record {
   above = above xs a rest are.rising.rising;
 }
 
-chosen : (P : List ℕ → Type 0) (b : Bool) (x y : List ℕ) → P x → P y → P (if b then x else y)
-chosen P true x y p q = p
-chosen P false x y p q = q
-
-abbrev NoThen : List ℕ → Type 0
-NoThen word = word ≡ codes "then" → ⊥
-
-abbrev first_of : List ℕ → ℕ
-first_of word = slice_index word 0
-
-abbrev second_of : List ℕ → ℕ
-second_of word = slice_index word 1
+abbrev IsOther : List ℕ → Type 0
+IsOther word = bytes_eq word (codes "then") ≡ false
 
 -- no component is named so
 pub no_then : (kind : ℕ) → component_name kind ≡ codes "then" → ⊥
-no_then kind =
-    chosen NoThen (kind == 1) _ _ (λ e. let same : 100 ≡ 116 = ap first_of e in absurd (omega (arith, same)))
-    (chosen NoThen (kind == 2) _ _ (λ e. let same : 115 ≡ 116 = ap first_of e in absurd (omega (arith, same)))
-    (chosen NoThen (kind == 3) _ _ (λ e. let same : 112 ≡ 116 = ap first_of e in absurd (omega (arith, same)))
-    (chosen NoThen (kind == 4) _ _ (λ e. let same : 112 ≡ 116 = ap first_of e in absurd (omega (arith, same)))
-    (chosen NoThen (kind == 5) _ _ (λ e. let same : 100 ≡ 116 = ap first_of e in absurd (omega (arith, same)))
-    (chosen NoThen (kind == 6) _ _ (λ e. let same : 115 ≡ 116 = ap first_of e in absurd (omega (arith, same)))
-    (chosen NoThen (kind == 7) _ _ (λ e. let same : 105 ≡ 116 = ap first_of e in absurd (omega (arith, same)))
-    (chosen NoThen (kind == 8) _ _ (λ e. let same : 105 ≡ 116 = ap first_of e in absurd (omega (arith, same)))
-    (chosen NoThen (kind == 9) _ _ (λ e. let same : 99 ≡ 104 = ap second_of e in absurd (omega (arith, same)))
-    (chosen NoThen (kind == 10) _ _ (λ e. let same : 108 ≡ 116 = ap first_of e in absurd (omega (arith, same)))
-    (chosen NoThen (kind == 11) _ _ (λ e. let same : 100 ≡ 116 = ap first_of e in absurd (omega (arith, same)))
-    (chosen NoThen (kind == 12) _ _ (λ e. let same : 102 ≡ 116 = ap first_of e in absurd (omega (arith, same)))
-    (λ e. let same : 108 ≡ 116 = ap first_of e in absurd (omega (arith, same))))))))))))))
+no_then kind e = absurd (let same : bytes_eq (codes "then") (codes "then") ≡ false = subst IsOther e other in cc)
+  where
+    other : IsOther (component_name kind)
+    other =
+        chosen IsOther (kind == 1) _ _ refl (chosen IsOther (kind == 2) _ _ refl (chosen IsOther (kind == 3) _ _ refl (chosen IsOther (kind == 4) _ _ refl
+        (chosen IsOther (kind == 5) _ _ refl (chosen IsOther (kind == 6) _ _ refl (chosen IsOther (kind == 7) _ _ refl (chosen IsOther (kind == 8) _ _ refl
+        (chosen IsOther (kind == 9) _ _ refl (chosen IsOther (kind == 10) _ _ refl (chosen IsOther (kind == 11) _ _ refl (chosen IsOther (kind == 12) _ _ refl refl)))))))))))
 
 ahead_first : (family : Family) (parts : List Part) (tail : List (List ℕ)) → ahead family parts [] ++ tail ≡ front family parts ++ codes "then" ∷ tail
 ahead_first family parts tail = append_assoc (front family parts) (codes "then" ∷ []) tail
@@ -253,17 +232,10 @@ begin_named family parts actions a normal are fits = record {
 
 pub bad_action_value : (words : List (List ℕ)) (family : Family) (parts : List Part) (actions : List (List ℕ)) (place : ℕ) → Acts words family parts actions place
     → IsBadValue (FitsAbove actions) action_name action_text (drop place words) → IsBadWord words (place + 1)
-bad_action_value words family parts actions place acts bad = by bad.tail refl
+bad_action_value words family parts actions place acts bad =
+    bad_value (FitsAbove actions) action_name action_text words (ahead family parts actions) place acts.split acts.here bad
+    (begin_named family parts actions bad.item acts.normal acts.actions_are bad.fits) valued
   where
-    split : words ≡ (ahead family parts actions ++ action_name bad.item ∷ []) ++ bad.tail
-    split = acts.split ∙ ap (λ (l : List (List ℕ)). ahead family parts actions ++ l) bad.split ∙ sym (append_assoc (ahead family parts actions) (action_name bad.item ∷ []) bad.tail)
-
-    here : place + 1 ≡ length (ahead family parts actions ++ action_name bad.item ∷ [])
-    here = omega (arith, acts.here, length-append (ahead family parts actions) (action_name bad.item ∷ []))
-
-    begin : Begin (ahead family parts actions ++ action_name bad.item ∷ [])
-    begin = begin_named family parts actions bad.item acts.normal acts.actions_are bad.fits
-
     valued : (more : List (List ℕ)) (w : AreWords (ahead family parts actions ++ action_name bad.item ∷ more))
         → (a : List ℕ) × (rest : List (List ℕ)) × FitsAbove actions a × (action_name a ≡ action_name bad.item) × (more ≡ action_text a ∷ rest)
     valued more w =
@@ -272,23 +244,6 @@ bad_action_value words family parts actions place acts bad = by bad.tail refl
         let n : Named actions (action_name bad.item) more r.others =
         next_named actions (action_name bad.item) more r.others w.actions w.actions_are r.split r.behind in
         (n.0, action_words n.1, n.3, sym n.4, n.5)
-
-    assoc : (word : List ℕ) (more : List (List ℕ))
-        → ((ahead family parts actions ++ action_name bad.item ∷ []) ++ word ∷ []) ++ more ≡ ahead family parts actions ++ action_name bad.item ∷ word ∷ more
-    assoc word more =
-        append_assoc (ahead family parts actions ++ action_name bad.item ∷ []) (word ∷ []) more ∙ append_assoc (ahead family parts actions) (action_name bad.item ∷ []) (word ∷ more)
-
-    by : (tail : List (List ℕ)) → bad.tail ≡ tail → IsBadWord words (place + 1)
-    by [] e =
-        bad_end words (ahead family parts actions ++ action_name bad.item ∷ []) (place + 1)
-        (split ∙ ap (λ (l : List (List ℕ)). (ahead family parts actions ++ action_name bad.item ∷ []) ++ l) e) here begin (λ w. no_words (sym (valued [] w).4))
-    by (word ∷ tail) e =
-        bad_at words (ahead family parts actions ++ action_name bad.item ∷ []) word tail (place + 1)
-        (split ∙ ap (λ (l : List (List ℕ)). (ahead family parts actions ++ action_name bad.item ∷ []) ++ l) e) here begin (
-        λ b.
-        let v = valued (word ∷ b.more) (subst AreWords (assoc word b.more) b.whole) in
-        bad.none word tail e v.0 v.2 v.3 (head_is v.4)
-        )
 
 -- where nothing stands behind the actions, they are all
 pub whole_actions : (words : List (List ℕ)) (family : Family) (parts : List Part) (actions : List (List ℕ)) (a : List ℕ) (place : ℕ)

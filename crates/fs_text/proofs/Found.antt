@@ -6,6 +6,7 @@ use Rattle.std.specs.List.{AllByRecursion}
 use Rattle.std.proofs.lemmas.List.{length-drop}
 use Rattle.std.proofs.Math.Seq.{take-length}
 use Rattle.std.proofs.lemmas.Bool.{eqb-true}
+use Rattle.std.proofs.lemmas.Option.{none-some, same_Some}
 use Rattle.byteorder.specs.Endian.{big_bytes, big_number}
 use Rattle.hex.specs.Hex.{encode_lower}
 use Rattle.fs_base.specs.Language.{IsOctets}
@@ -83,13 +84,10 @@ long_whole a len octets =
     subst (λ (l : List ℕ). long_octets (kind_of l) (big_number 4 (drop 2 l)) (big_number 2 (drop 6 l)) ≡ l) (sym e.is)
     (long_cells e.a0 e.a1 e.a2 e.a3 e.a4 e.a5 e.a6 e.a7 (subst IsOctets e.is octets))
 
-none_some : {A : Type 0} {x : List ℕ} → None ≡ Some x → A
-none_some e = absurd cc
-
 -- what holds of each type in a list holds of one that is found there
 pub each : {S : Type 0} (f : S → List ℕ) (x : List ℕ) (rows : List (ℕ × S)) (k : ℕ) (P : ℕ → Type 0) → AllByRecursion (λ row. P row.0) rows
     → option_map f (option_map (λ r. r.1) (find (λ r. r.0 == k) rows)) ≡ Some x → P k
-each f x [] k P all e = none_some e
+each f x [] k P all e = absurd (none-some x e)
 each {S} f x (row ∷ rows) k P all e = by (each f x rows k P all.1) (row.0 == k) refl e
   where
     by : (option_map f (option_map (λ r. r.1) (find (λ r. r.0 == k) rows)) ≡ Some x → P k)
@@ -202,9 +200,6 @@ pub record Readings (name : List ℕ) (parts : List Part) (result : Option (List
   pub ip4 : name ≡ codes "redirect" → (rest : List Part) → parts ≡ form_parts (codes "ip4") rest → Gives (2 ^ 32) (2 ^ 16) ip4_parts (long_octets 0x8108) rest result
   pub as4 : name ≡ codes "redirect" → (rest : List Part) → parts ≡ form_parts (codes "as4") rest → Gives (2 ^ 32) (2 ^ 16) pair_parts (long_octets 0x8208) rest result
 
-pub some_is : {x y : List ℕ} → Some x ≡ Some y → x ≡ y
-some_is e = cc
-
 pub found : (name a : List ℕ) (parts : List Part) (result : Option (List ℕ)) → IsNamed name a → parts ≡ parts_of (action_text a) → Readings name parts result → result ≡ Some a
 found name a parts result is p r =
     each (λ bits. cleared bits a) a listed (kind_of a) P (
@@ -212,14 +207,14 @@ found name a parts result is p r =
       (
         λ k. rate_found 0x800c a parts result len is.octets k (text k) (r.packets (named k)),
         (
-          λ k. plain_found 0x8007 0x03 a parts result len is.octets k (some_is (normal k)) (text k) (r.control (named k)),
+          λ k. plain_found 0x8007 0x03 a parts result len is.octets k (same_Some _ _ (normal k)) (text k) (r.control (named k)),
           (
             λ k. as2_found a result len is.octets k (r.as2 (named k) _ (text k)),
             (
               λ k. ip4_found a result len is.octets k (r.ip4 (named k) _ (text k)),
               (
                 λ k. as4_found a result len is.octets k (r.as4 (named k) _ (text k)),
-                (λ k. plain_found 0x8009 0x3f a parts result len is.octets k (some_is (normal k)) (text k) (r.mark (named k)), tt),
+                (λ k. plain_found 0x8009 0x3f a parts result len is.octets k (same_Some _ _ (normal k)) (text k) (r.mark (named k)), tt),
               ),
             ),
           ),
@@ -247,7 +242,7 @@ pub reads_of : {E : Type 0} (name word octets : List ℕ) (r : Result (Option (L
     → IfOk r (Compared name word octets) → IfOk r (Reads (IsNamed name) action_text word)
 reads_of name word octets (Err error) only h = tt
 reads_of name word octets (Ok None) only h = λ action is told.
-    let same : action ≡ octets = sym (some_is (only action is told)) in
+    let same : action ≡ octets = sym (same_Some _ _ (only action is told)) in
     h (subst (IsNamed name) same is) (told ∙ ap action_text same)
 reads_of name word octets (Ok (Some action)) only h =
-    (h.0, h.1, λ other is told. sym (some_is (only other is told)) ∙ some_is (only action h.0 h.1))
+    (h.0, h.1, λ other is told. sym (same_Some _ _ (only other is told)) ∙ same_Some _ _ (only action h.0 h.1))

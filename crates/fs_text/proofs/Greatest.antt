@@ -1,6 +1,7 @@
 -- The action of a name whose octets are the highest.
 use Rattle.std.proofs.Common.{◌≡◌, ℕ, ◌+◌, ◌*◌, ◌<◌, ◌≤◌, ◌==◌, List, [], ◌∷◌, Bool, true, false, if◌then◌else◌, Option, Some, None, length, get_or, bit_and, refl, sym, ap, subst, ◌∙◌, arith}
 use Rattle.std.specs.Prelude.{codes, slice_index, nat_lt}
+use Rattle.std.specs.Str.{bytes_eq}
 use Rattle.std.specs.Cmp.Lexicographic.{slice_cmp}
 use Rattle.std.specs.Ordering.{nat_cmp, ordering_then}
 use Rattle.std.specs.declared.cmp.Ordering.{Ordering}
@@ -8,16 +9,18 @@ use Rattle.std.specs.declared.cmp.Ordering.TheVariants.{Less, Equal, Greater}
 use Rattle.std.proofs.lemmas.Cmp.{nat_list_cmp_total}
 use Rattle.std.proofs.lemmas.Map.Lookups.{exact_bytes}
 use Rattle.std.proofs.lemmas.Nat.{and_le_r}
+use Rattle.std.proofs.lemmas.Option.{same_Some}
 use Rattle.std.proofs.lemmas.Bool.{lt-ltb}
 use Rattle.std.proofs.lemmas.Bool.Decides.{nat_tests}
 use Rattle.byteorder.specs.Endian.{big_number}
 use Rattle.fs_base.specs.Language.{IsOctets}
 use Rattle.fs_base.proofs.Octets.{octets_at, octets_cons, octets_nil}
-use Rattle.fs_actions.specs.Community.{cleared, kind_of, listed}
+use Rattle.fs_actions.specs.Community.{IsAction, cleared, kind_of, listed}
 use Rattle.fs_actions.specs.Actions.{IsAbove}
+use Rattle.fs_words.specs.Actions.{action_name}
 use Rattle.fs_text.specs.ActionWord.{IsNamed}
 use Rattle.fs_text.specs.Steps.{HasGreatest}
-use Rattle.fs_text.proofs.Found.{IsEight, each, eight, masked, name_at, normal_at, some_is}
+use Rattle.fs_text.proofs.Found.{IsEight, each, eight, masked, name_at, normal_at}
 
 abbrev NotAbove : List ℕ → List ℕ → Type 0
 NotAbove xs ys = slice_cmp nat_cmp xs ys ≡ Greater → ⊥
@@ -131,25 +134,30 @@ plain_above second bits k action len octets kind same small clear =
     subst (λ (l : List ℕ). NotAbove l (plain second bits)) (sym e.is)
     (plain_cells second bits k e.a0 e.a1 e.a2 e.a3 e.a4 e.a5 e.a6 e.a7 (subst IsOctets e.is octets) (sym (ap kind_of e.is) ∙ kind) same small (subst (λ (l : List ℕ). masked bits l ≡ l) e.is clear))
 
--- what holds of each name of actions holds of one of an action
-by_name : (name action : List ℕ) (P : List ℕ → Type 0) → IsNamed name action
-    → (name ≡ codes "bytes" → NotAbove action (full 0x80 0x06) → P (full 0x80 0x06)) → (name ≡ codes "packets" → NotAbove action (full 0x80 0x0c) → P (full 0x80 0x0c))
-    → (name ≡ codes "control" → NotAbove action (plain 0x07 0x03) → P (plain 0x07 0x03)) → (name ≡ codes "mark" → NotAbove action (plain 0x09 0x3f) → P (plain 0x09 0x3f))
-    → (name ≡ codes "redirect" → NotAbove action (full 0x82 0x08) → P (full 0x82 0x08)) → (top : List ℕ) × P top
-by_name name action P is bytes packets control mark redirect =
+-- the highest octets of an action of the name
+abbrev pub highest_of : List ℕ → List ℕ
+highest_of name =
+    if bytes_eq name (codes "bytes") then full 0x80 0x06
+    else if bytes_eq name (codes "packets") then full 0x80 0x0c
+    else if bytes_eq name (codes "control") then plain 0x07 0x03
+    else if bytes_eq name (codes "mark") then plain 0x09 0x3f
+    else full 0x82 0x08
+
+not_above : (name action : List ℕ) → IsNamed name action → NotAbove action (highest_of name)
+not_above name action is =
     each (λ bits. cleared bits action) action listed (kind_of action) At (
-      λ k. (full 0x80 0x06, bytes (name_is k) (full_above 0x80 0x06 0x8006 action len is.octets k (omega arith) (omega arith))),
+      λ k. at k (full_above 0x80 0x06 0x8006 action len is.octets k (omega arith) (omega arith)),
       (
-        λ k. (full 0x80 0x0c, packets (name_is k) (full_above 0x80 0x0c 0x800c action len is.octets k (omega arith) (omega arith))),
+        λ k. at k (full_above 0x80 0x0c 0x800c action len is.octets k (omega arith) (omega arith)),
         (
-          λ k. (plain 0x07 0x03, control (name_is k) (plain_above 0x07 0x03 0x8007 action len is.octets k (omega arith) (omega arith) (some_is (normal k)))),
+          λ k. at k (plain_above 0x07 0x03 0x8007 action len is.octets k (omega arith) (omega arith) (same_Some _ _ (normal k))),
           (
-            λ k. (full 0x82 0x08, redirect (name_is k) (full_above 0x82 0x08 0x8008 action len is.octets k (omega arith) (omega arith))),
+            λ k. at k (full_above 0x82 0x08 0x8008 action len is.octets k (omega arith) (omega arith)),
             (
-              λ k. (full 0x82 0x08, redirect (name_is k) (full_above 0x82 0x08 0x8108 action len is.octets k (omega arith) (omega arith))),
+              λ k. at k (full_above 0x82 0x08 0x8108 action len is.octets k (omega arith) (omega arith)),
               (
-                λ k. (full 0x82 0x08, redirect (name_is k) (full_above 0x82 0x08 0x8208 action len is.octets k (omega arith) (omega arith))),
-                (λ k. (plain 0x09 0x3f, mark (name_is k) (plain_above 0x09 0x3f 0x8009 action len is.octets k (omega arith) (omega arith) (some_is (normal k)))), tt),
+                λ k. at k (full_above 0x82 0x08 0x8208 action len is.octets k (omega arith) (omega arith)),
+                (λ k. at k (plain_above 0x09 0x3f 0x8009 action len is.octets k (omega arith) (omega arith) (same_Some _ _ (normal k))), tt),
               ),
             ),
           ),
@@ -158,13 +166,13 @@ by_name name action P is bytes packets control mark redirect =
     ) is.normal.normal refl
   where
     At : ℕ → Type 0
-    At k = kind_of action ≡ k → (top : List ℕ) × P top
+    At k = kind_of action ≡ k → NotAbove action (highest_of name)
 
     len : length action ≡ 8
     len = is.normal.eight
 
-    name_is : {k : ℕ} → kind_of action ≡ k → name ≡ name_at k
-    name_is kind = sym is.named ∙ ap name_at kind
+    at : {k : ℕ} → kind_of action ≡ k → NotAbove action (highest_of (name_at k)) → NotAbove action (highest_of name)
+    at kind low = subst (λ (n : List ℕ). NotAbove action (highest_of n)) (sym (sym is.named ∙ ap name_at kind)) low
 
     normal : {k : ℕ} → kind_of action ≡ k → normal_at action k ≡ Some action
     normal kind = sym (ap (normal_at action) kind) ∙ is.normal.normal
@@ -178,47 +186,12 @@ octets_eight a b c d e f g i ka kb kc kd ke kf kg ki =
 full_named : (first second : ℕ) → first < 256 → second < 256 → IsOctets (full first second)
 full_named first second a b = octets_eight first second 255 255 255 255 255 255 a b (omega arith) (omega arith) (omega arith) (omega arith) (omega arith) (omega arith)
 
-is_top : (name greatest : List ℕ) (r : Option (List ℕ)) → r ≡ Some greatest → IsNamed name greatest → ((action : List ℕ) → IsNamed name action → NotAbove action greatest) → HasGreatest name r
-is_top name greatest r found named highest = subst (HasGreatest name) (sym found) (record { named = named; highest = highest })
-
-abbrev first_of : List ℕ → ℕ
-first_of name = slice_index name 0
-
-pub top_bytes : (name : List ℕ) (r : Option (List ℕ)) → name ≡ codes "bytes" → r ≡ Some (full 0x80 0x06) → HasGreatest name r
-top_bytes name r is found =
-    is_top name (full 0x80 0x06) r found (record { normal = record { eight = refl; normal = refl }; octets = full_named 0x80 0x06 (omega arith) (omega arith); named = sym is }) (
-    λ action named.
-    (by_name name action (λ _. NotAbove action (full 0x80 0x06)) named
-    (λ n h. h)
-    (λ n h. let first : 98 ≡ 112 = ap first_of (sym is ∙ n) in absurd (omega (arith, first)))
-    (λ n h. let first : 98 ≡ 99 = ap first_of (sym is ∙ n) in absurd (omega (arith, first)))
-    (λ n h. let first : 98 ≡ 109 = ap first_of (sym is ∙ n) in absurd (omega (arith, first)))
-    (λ n h. let first : 98 ≡ 114 = ap first_of (sym is ∙ n) in absurd (omega (arith, first)))).1
-    )
-
-pub top_packets : (name : List ℕ) (r : Option (List ℕ)) → name ≡ codes "packets" → r ≡ Some (full 0x80 0x0c) → HasGreatest name r
-top_packets name r is found =
-    is_top name (full 0x80 0x0c) r found (record { normal = record { eight = refl; normal = refl }; octets = full_named 0x80 0x0c (omega arith) (omega arith); named = sym is }) (
-    λ action named.
-    (by_name name action (λ _. NotAbove action (full 0x80 0x0c)) named
-    (λ n h. let first : 112 ≡ 98 = ap first_of (sym is ∙ n) in absurd (omega (arith, first)))
-    (λ n h. h)
-    (λ n h. let first : 112 ≡ 99 = ap first_of (sym is ∙ n) in absurd (omega (arith, first)))
-    (λ n h. let first : 112 ≡ 109 = ap first_of (sym is ∙ n) in absurd (omega (arith, first)))
-    (λ n h. let first : 112 ≡ 114 = ap first_of (sym is ∙ n) in absurd (omega (arith, first)))).1
-    )
-
-pub top_redirect : (name : List ℕ) (r : Option (List ℕ)) → name ≡ codes "redirect" → r ≡ Some (full 0x82 0x08) → HasGreatest name r
-top_redirect name r is found =
-    is_top name (full 0x82 0x08) r found (record { normal = record { eight = refl; normal = refl }; octets = full_named 0x82 0x08 (omega arith) (omega arith); named = sym is }) (
-    λ action named.
-    (by_name name action (λ _. NotAbove action (full 0x82 0x08)) named
-    (λ n h. let first : 114 ≡ 98 = ap first_of (sym is ∙ n) in absurd (omega (arith, first)))
-    (λ n h. let first : 114 ≡ 112 = ap first_of (sym is ∙ n) in absurd (omega (arith, first)))
-    (λ n h. let first : 114 ≡ 99 = ap first_of (sym is ∙ n) in absurd (omega (arith, first)))
-    (λ n h. let first : 114 ≡ 109 = ap first_of (sym is ∙ n) in absurd (omega (arith, first)))
-    (λ n h. h)).1
-    )
+pub is_top : (first second : ℕ) (name : List ℕ) (r : Option (List ℕ)) → r ≡ Some (full first second) → first < 256 → second < 256 → IsAction (full first second)
+    → action_name (full first second) ≡ name → highest_of name ≡ full first second → HasGreatest name r
+is_top first second name r found a b normal named top = subst (HasGreatest name) (sym found) (record {
+  named = record { normal = normal; octets = full_named first second a b; named = named };
+  highest = λ action is. subst (NotAbove action) top (not_above name action is);
+})
 
 -- what is above a lower one is above a higher one
 pub above_too : (last : Option (List ℕ)) (action greatest : List ℕ) → IsAbove last action → NotAbove action greatest → IsAbove last greatest

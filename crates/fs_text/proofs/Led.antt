@@ -57,6 +57,34 @@ bad_end words front place split here begin none = record {
     first : take place words ≡ front
     first = ap (λ (k : ℕ). take k words) here ∙ ap (take (length front)) split ∙ take-append_seam front []
 
+-- a name, and a value that none has: what stands behind the name is a value of one that fits
+pub bad_value : {A : Type 0} (Fits : A → Type 0) (name value : A → List ℕ) (words ahead : List (List ℕ)) (place : ℕ) → words ≡ ahead ++ drop place words → place ≡ length ahead
+    → (bad : IsBadValue Fits name value (drop place words)) → Begin (ahead ++ name bad.item ∷ [])
+    → ((more : List (List ℕ)) → AreWords (ahead ++ name bad.item ∷ more) → (a : A) × (rest : List (List ℕ)) × Fits a × (name a ≡ name bad.item) × (more ≡ value a ∷ rest))
+    → IsBadWord words (place + 1)
+bad_value Fits name value words ahead place at here bad begin valued = by bad.tail refl
+  where
+    named : List (List ℕ)
+    named = ahead ++ name bad.item ∷ []
+
+    split : words ≡ named ++ bad.tail
+    split = at ∙ ap (λ (l : List (List ℕ)). ahead ++ l) bad.split ∙ sym (append_assoc ahead (name bad.item ∷ []) bad.tail)
+
+    there : place + 1 ≡ length named
+    there = omega (arith, here, length-append ahead (name bad.item ∷ []))
+
+    assoc : (word : List ℕ) (more : List (List ℕ)) → (named ++ word ∷ []) ++ more ≡ ahead ++ name bad.item ∷ word ∷ more
+    assoc word more = append_assoc named (word ∷ []) more ∙ append_assoc ahead (name bad.item ∷ []) (word ∷ more)
+
+    by : (tail : List (List ℕ)) → bad.tail ≡ tail → IsBadWord words (place + 1)
+    by [] e = bad_end words named (place + 1) (split ∙ ap (λ (l : List (List ℕ)). named ++ l) e) there begin (λ w. no_words (sym (valued [] w).4))
+    by (word ∷ tail) e =
+        bad_at words named word tail (place + 1) (split ∙ ap (λ (l : List (List ℕ)). named ++ l) e) there begin (
+        λ b.
+        let v = valued (word ∷ b.more) (subst AreWords (assoc word b.more) b.whole) in
+        bad.none word tail e v.0 v.2 v.3 (head_is v.4)
+        )
+
 -- a text has no bad word
 pub never_bad : (words : List (List ℕ)) (place : ℕ) → IsBadWord words place → AreWords words → ⊥
 never_bad words place bad whole =
@@ -186,22 +214,12 @@ begin_named family parts part normal fits = record {
 -- a name, and a value that none has
 pub bad_part_value : (words : List (List ℕ)) (family : Family) (parts : List Part) (last place : ℕ) → Led words family parts last place
     → IsBadValue (FitsBehind family last) part_name value_text (drop place words) → IsNoEnd (drop place words) → IsBadWord words (place + 1)
-bad_part_value words family parts last place led bad no_end = by bad.tail refl
+bad_part_value words family parts last place led bad no_end =
+    bad_value (FitsBehind family last) part_name value_text words (front family parts) place led.split led.here bad
+    (begin_named family parts bad.item led.normal (subst (λ (k : ℕ). FitsBehind family k bad.item) led.last_is bad.fits)) valued
   where
-    name : List ℕ
-    name = part_name bad.item
-
     not_then : part_name bad.item ≡ codes "then" → ⊥
     not_then e = no_end.1 bad.tail (bad.split ∙ ap (λ (l : List ℕ). l ∷ bad.tail) e)
-
-    split : words ≡ (front family parts ++ part_name bad.item ∷ []) ++ bad.tail
-    split = led.split ∙ ap (λ (l : List (List ℕ)). front family parts ++ l) bad.split ∙ sym (append_assoc (front family parts) (part_name bad.item ∷ []) bad.tail)
-
-    here : place + 1 ≡ length (front family parts ++ part_name bad.item ∷ [])
-    here = omega (arith, led.here, length-append (front family parts) (part_name bad.item ∷ []))
-
-    begin : Begin (front family parts ++ part_name bad.item ∷ [])
-    begin = begin_named family parts bad.item led.normal (subst (λ (k : ℕ). FitsBehind family k bad.item) led.last_is bad.fits)
 
     -- the words behind the name are a value of a component that has it
     valued : (more : List (List ℕ)) (w : AreWords (front family parts ++ part_name bad.item ∷ more))
@@ -216,22 +234,6 @@ bad_part_value words family parts last place led bad no_end = by bad.tail refl
           subst (λ (k : ℕ). FitsBehind family k n.0) (sym led.last_is) n.3,
           sym n.4,
           tail_is (c.behind ∙ ap (λ (l : List Part). component_words l ++ then_words w.actions) n.2),
-        )
-
-    assoc : (word : List ℕ) (more : List (List ℕ)) → ((front family parts ++ part_name bad.item ∷ []) ++ word ∷ []) ++ more ≡ front family parts ++ part_name bad.item ∷ word ∷ more
-    assoc word more =
-        append_assoc (front family parts ++ part_name bad.item ∷ []) (word ∷ []) more ∙ append_assoc (front family parts) (part_name bad.item ∷ []) (word ∷ more)
-
-    by : (tail : List (List ℕ)) → bad.tail ≡ tail → IsBadWord words (place + 1)
-    by [] e =
-        bad_end words (front family parts ++ part_name bad.item ∷ []) (place + 1) (split ∙ ap (λ (l : List (List ℕ)). (front family parts ++ part_name bad.item ∷ []) ++ l) e) here begin
-        (λ w. no_words (sym (valued [] w).4))
-    by (word ∷ tail) e =
-        bad_at words (front family parts ++ part_name bad.item ∷ []) word tail (place + 1)
-        (split ∙ ap (λ (l : List (List ℕ)). (front family parts ++ part_name bad.item ∷ []) ++ l) e) here begin (
-        λ b.
-        let v = valued (word ∷ b.more) (subst AreWords (assoc word b.more) b.whole) in
-        bad.none word tail e v.0 v.2 v.3 (head_is v.4)
         )
 
 -- where nothing stands behind the components, they are all

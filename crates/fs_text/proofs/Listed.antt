@@ -3,6 +3,7 @@ use Rattle.std.proofs.Common.{◌≡◌, ℕ, ◌<◌, ◌≤◌, ◌==◌, zero
 use Rattle.std.specs.Prelude.{option_map}
 use Rattle.std.specs.Result.{IfOk}
 use Rattle.std.proofs.lemmas.Bool.{eqb-true}
+use Rattle.std.proofs.lemmas.Option.{none-some, same_Some}
 use Rattle.std.proofs.lemmas.Bool.Decides.{nat_tests}
 use Rattle.fs_base.specs.declared.prefix.Family.{Family}
 use Rattle.fs_base.specs.declared.prefix.Family.TheVariants.{V4, V6}
@@ -12,31 +13,14 @@ use Rattle.fs_ops.specs.OperatorList.{IsNormal}
 use Rattle.fs_nlri.specs.declared.component.Component.{Component}
 use Rattle.fs_nlri.specs.declared.component.PrefixForm.{PrefixForm}
 use Rattle.fs_nlri.specs.Component.{body_of, part_of}
-use Rattle.fs_nlri.specs.Forms.{Form, V4Form, V6Form, ListForm, form_of, fragment_bits, prefix_form}
+use Rattle.fs_nlri.specs.Forms.{ListForm, form_of, fragment_bits, prefix_form}
 use Rattle.fs_ops.specs.Fault.{all_widths}
 use Rattle.fs_nlri.specs.Parts.{Body, V4Body, V6Body, ListBody, Part, part}
 use Rattle.fs_nlri.specs.Rule.{IsNormalAt, IsNormalBody}
-use Rattle.fs_nlri.specs.Sound.{IsSoundBody}
 use Rattle.fs_words.specs.Operators.{list_text}
 use Rattle.fs_words.specs.Values.{body_text, component_name, list_kind, value_text}
 use Rattle.fs_text.specs.Components.{Compared, HasType, IsPart, Loosely, Matched, last_type}
 use Rattle.fs_text.specs.Reading.{Reads}
-
--- what is in normal form for a form is so for some form
-sound_form : (form : Form) (body : Body) → IsNormalBody form body → IsSoundBody body
-sound_form V4Form (V4Body family len bits) is = is
-sound_form V4Form (V6Body len offset pattern) is = absurd is
-sound_form V4Form (ListBody pairs) is = absurd is
-sound_form V6Form (V4Body family len bits) is = absurd is
-sound_form V6Form (V6Body len offset pattern) is = is
-sound_form V6Form (ListBody pairs) is = absurd is
-sound_form (ListForm kind widths kept) (V4Body family len bits) is = absurd is
-sound_form (ListForm kind widths kept) (V6Body len offset pattern) is = absurd is
-sound_form (ListForm kind widths kept) (ListBody pairs) is = (kind, is.0)
-
-pub sound : (form : Option Form) (body : Body) → IsNormalAt form body → IsSoundBody body
-sound None body is = absurd is
-sound (Some form) body is = sound_form form body is
 
 -- a list of a type
 pub record IsListed (kind : ℕ) (body : Body) : Type 0 where
@@ -93,12 +77,6 @@ compared_of family name word given own (Ok (Some component)) normal same h = (
   h.2 ∙ ap value_text (sym h.0),
 )
 
-some_part : {x y : Part} → Some x ≡ Some y → x ≡ y
-some_part e = cc
-
-none_part : {A : Type 0} {x : Part} → None ≡ Some x → A
-none_part e = absurd cc
-
 -- a list that is read loosely
 pub listed_loosely : (family : Family) (kind : ℕ) (word : List ℕ) (read : Option Component) → 2 < kind
     → ((pairs : List (ℕ × ℕ)) → 2 < kind → kind ≤ 13 → IsNormal (list_kind kind) pairs → word ≡ list_text (list_kind kind) pairs
@@ -146,9 +124,6 @@ prefixed_loosely family kind word form read high loose made own same normal told
     let is : IsNormalBody (prefix_form family) own.body = prefix_normal family own.kind own.body (omega (arith, high, same)) normal in
     made own.body (loose own.body is (told ∙ prefix_text family own.kind own.body is))
     ∙ ap (λ (k : ℕ). let whole : Option Part = Some (part k own.body) in whole) (sym same)
-
-pub some_body : {x y : Body} → Some x ≡ Some y → x ≡ y
-some_body e = cc
 
 -- the types of the family
 pub low_type : (family : Family) (kind : ℕ) (body : Body) → IsNormalAt (form_of family kind) body → 1 ≤ kind
@@ -236,7 +211,7 @@ pub none_read : (family : Family) (name word : List ℕ) (kind : ℕ) (read : Op
 none_read family name word kind read none kinds loose own is word_is =
     let e : option_map part_of read ≡ Some own = told family name word kind read kinds loose own is word_is in
     let n : option_map part_of read ≡ None = ap (option_map part_of) none in
-    none_part (sym n ∙ e)
+    none-some own (sym n ∙ e)
 
 pub some_read : {E : Type 0} (family : Family) (name word : List ℕ) (kind : ℕ) (read : Option Component) (given : Component) (r : Result (Option Component) E)
     → read ≡ Some given → ((k : ℕ) → 1 ≤ k → k ≤ 13 → component_name k ≡ name → kind ≡ k) → Loosely family kind word read
@@ -246,10 +221,10 @@ some_read family name word kind read given (Ok (Some own)) some kinds loose h = 
   h.0,
   h.1,
   λ other is word_is.
-      some_part (sym (told family name word kind read kinds loose other is word_is) ∙ told family name word kind read kinds loose (part_of own) h.0 h.1),
+      same_Some _ _ (sym (told family name word kind read kinds loose other is word_is) ∙ told family name word kind read kinds loose (part_of own) h.0 h.1),
 )
 some_read family name word kind read given (Ok None) some kinds loose h = λ own is word_is.
     let e : option_map part_of read ≡ Some own = told family name word kind read kinds loose own is word_is in
     let g : option_map part_of read ≡ Some (part_of given) = ap (option_map part_of) some in
-    let same : part_of given ≡ own = some_part (sym g ∙ e) in
+    let same : part_of given ≡ own = same_Some _ _ (sym g ∙ e) in
     h (subst (IsPart family name) (sym same) is) (word_is ∙ ap value_text (sym same))

@@ -17,11 +17,12 @@ is_sum kind operator =
     then operator == plain_of kind operator + joined_bit operator + ended_bit operator
     else true
 
-abbrev all_below : (ℕ → Bool) → ℕ → Bool
+-- what a test shows of each number below n
+abbrev pub all_below : (ℕ → Bool) → ℕ → Bool
 all_below p zero = true
 all_below p (suc n) = if p n then all_below p n else false
 
-below : (p : ℕ → Bool) (n k : ℕ) → all_below p n ≡ true → k < n → p k ≡ true
+pub below : (p : ℕ → Bool) (n k : ℕ) → all_below p n ≡ true → k < n → p k ≡ true
 below p zero k all h = absurd (omega arith)
 below p (suc n) k all h = by (below p n k) (p n) refl all (k == n) refl
   where

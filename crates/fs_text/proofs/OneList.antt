@@ -1,5 +1,5 @@
 -- The text of a list is that of no other list.
-use Rattle.std.proofs.Common.{◌≡◌, ℕ, ◌+◌, ◌*◌, ◌^◌, ◌<◌, ◌≤◌, ◌==◌, zero, suc, List, [], ◌∷◌, ◌++◌, Bool, true, false, not, if◌then◌else◌, length, bit_and, Result, Ok, Err, refl, sym, ap, subst, ◌∙◌, arith}
+use Rattle.std.proofs.Common.{◌≡◌, ℕ, ◌+◌, ◌*◌, ◌^◌, ◌<◌, ◌≤◌, ◌==◌, List, [], ◌∷◌, ◌++◌, Bool, true, false, not, if◌then◌else◌, length, bit_and, Result, Ok, Err, refl, sym, ap, subst, ◌∙◌, arith}
 use Rattle.std.specs.Prelude.{codes, decimal, flat_map}
 use Rattle.std.specs.List.{AllByRecursion}
 use Rattle.std.specs.Str.{bytes_eq}
@@ -22,8 +22,9 @@ use Rattle.fs_words.specs.Operators.{joined_text, least_code, list_text, mask_si
 use Rattle.fs_text.specs.ListWord.{code_at, is_sign, is_within, joined_bit, plain_of, relation_of}
 use Rattle.fs_text.specs.Pieces.{Ends, is_plain}
 use Rattle.fs_text.proofs.Led.{head_is, no_words, tail_is}
-use Rattle.fs_text.proofs.Made.{made}
-use Rattle.fs_text.proofs.Pairs.{are_signs, code_small, first_normal, octets_run, others_end, pair_within, value_small, width_ends}
+use Rattle.fs_text.proofs.Made.{below, made}
+use Rattle.fs_ops.proofs.Normal.{first_normal}
+use Rattle.fs_text.proofs.Pairs.{are_signs, bit_if, code_small, joiner_by, octets_run, others_end, pair_within, value_small, width_ends}
 use Rattle.fs_text.proofs.Wide.{code_back, octets_decoded, octets_len}
 use Rattle.fs_text.proofs.Words.{IsRun, run_decimal}
 
@@ -70,26 +71,14 @@ comparison_of text =
     else 7
 
 comparison_back : (n : ℕ) → n < 8 → comparison_of (number_sign n) ≡ n
-comparison_back zero small = refl
-comparison_back (suc zero) small = refl
-comparison_back (suc (suc zero)) small = refl
-comparison_back (suc (suc (suc zero))) small = refl
-comparison_back (suc (suc (suc (suc zero)))) small = refl
-comparison_back (suc (suc (suc (suc (suc zero))))) small = refl
-comparison_back (suc (suc (suc (suc (suc (suc zero)))))) small = refl
-comparison_back (suc (suc (suc (suc (suc (suc (suc zero))))))) small = refl
-comparison_back (suc (suc (suc (suc (suc (suc (suc (suc n)))))))) small = absurd (omega arith)
+comparison_back n small = eqb-true (comparison_of (number_sign n)) n (below (λ k. comparison_of (number_sign k) == k) 8 n refl small)
 
 abbrev test_of : List ℕ → ℕ
 test_of text =
     if bytes_eq text (codes "~") then 0 else if bytes_eq text (codes "=") then 1 else if bytes_eq text (codes "!~") then 2 else 3
 
 test_back : (n : ℕ) → n < 4 → test_of (mask_sign n) ≡ n
-test_back zero small = refl
-test_back (suc zero) small = refl
-test_back (suc (suc zero)) small = refl
-test_back (suc (suc (suc zero))) small = refl
-test_back (suc (suc (suc (suc n)))) small = absurd (omega arith)
+test_back n small = eqb-true (test_of (mask_sign n)) n (below (λ k. test_of (mask_sign k) == k) 4 n refl small)
 
 one_sign : (kind : Kind) (a b : ℕ) → sign kind a ≡ sign kind b → relation_of kind a ≡ relation_of kind b
 one_sign Numeric a b e =
@@ -112,11 +101,7 @@ width_read value text =
     else 3
 
 written_back : (value code : ℕ) → code < 4 → width_read value (width_text code) ≡ code
-written_back value zero small = refl
-written_back value (suc zero) small = refl
-written_back value (suc (suc zero)) small = refl
-written_back value (suc (suc (suc zero))) small = refl
-written_back value (suc (suc (suc (suc code)))) small = absurd (omega arith)
+written_back value code small = eqb-true (width_read value (width_text code)) code (below (λ k. width_read value (width_text k) == k) 4 code refl small)
 
 width_back : (value code : ℕ) → code < 4 → width_read value (width_word value code) ≡ code
 width_back value code small = by (code == least_code value) refl
@@ -139,7 +124,7 @@ one_number a b small low e =
     split.1 ∙ ap (λ (v : ℕ). width_word v (width_code b.0)) (sym value) in
     (sym (width_back a.1 (width_code a.0) (code_small a.0)) ∙ ap (width_read a.1) width ∙ width_back a.1 (width_code b.0) (code_small b.0), value)
 
-abbrev octets_in : Result (List ℕ) FromHexError → List ℕ
+abbrev pub octets_in : Result (List ℕ) FromHexError → List ℕ
 octets_in (Ok octets) = octets
 octets_in (Err error) = []
 
@@ -190,12 +175,6 @@ one_pair kind a b small low e =
     (ap (λ (k : ℕ). 16 * k + relation_of kind a.0) code ∙ ap (λ (r : ℕ). 16 * width_code b.0 + r) relation, same.1)
 
 -- lists
-
-abbrev bit_if : Bool → ℕ
-bit_if b = if b then 64 else 0
-
-abbrev joiner_by : Bool → List ℕ
-joiner_by b = if b then codes "&" else codes ","
 
 abbrev ended : Bool → ℕ
 ended b = if b then 128 else 0

@@ -1,11 +1,12 @@
 -- A text is that of no two rules with actions.
-use Rattle.std.proofs.Common.{◌≡◌, inl, inr, ℕ, ◌+◌, ◌-◌, ◌*◌, ◌/◌, ◌%◌, ◌^◌, ◌<◌, ◌≤◌, ◌==◌, zero, suc, List, [], ◌∷◌, ◌++◌, drop, get_or, Bool, true, false, if◌then◌else◌, Option, Some, Result, Ok, Err, refl, sym, ap, subst, ◌∙◌, arith}
+use Rattle.std.proofs.Common.{◌≡◌, inl, inr, ℕ, ◌+◌, ◌-◌, ◌*◌, ◌/◌, ◌%◌, ◌^◌, ◌<◌, ◌≤◌, ◌==◌, zero, suc, List, [], ◌∷◌, ◌++◌, drop, get_or, Bool, true, false, if◌then◌else◌, Option, Some, Result, refl, sym, ap, subst, ◌∙◌, arith}
 use Rattle.std.specs.Prelude.{codes, decimal}
 use Rattle.std.specs.List.{AllByRecursion}
 use Rattle.std.specs.Str.{bytes_eq}
 use Rattle.std.specs.Str.Parse.{digits_value}
 use Rattle.std.proofs.Math.Nat.{div-le_self, mod-lt}
 use Rattle.std.proofs.lemmas.Bool.{cases_lt, eqb-true}
+use Rattle.std.proofs.lemmas.Option.{same_Some}
 use Rattle.byteorder.specs.Endian.{big_bytes, big_number}
 use Rattle.hex.specs.Hex.{decode_sized, encode_lower}
 use Rattle.hex.specs.declared.error.FromHexError.{FromHexError}
@@ -26,11 +27,12 @@ use Rattle.fs_text.specs.Pieces.{Part, Run, Delimiter, parts_of}
 use Rattle.fs_text.specs.PrefixParts.{GivesV4, GivesV6, range_parts, wide_parts}
 use Rattle.fs_text.specs.Text.{AreActions, words_in}
 use Rattle.fs_text.proofs.Acted.{no_then}
-use Rattle.fs_text.proofs.Found.{Readings, found, some_is}
+use Rattle.fs_text.proofs.Found.{Readings, found}
 use Rattle.fs_text.proofs.Led.{head_is, no_words, one_family, tail_is}
-use Rattle.fs_text.proofs.Listed.{IsListed, at_most, listed, low_type, prefix_normal, prefix_text, some_body}
+use Rattle.fs_text.proofs.Listed.{IsListed, at_most, listed, low_type, prefix_normal, prefix_text}
+use Rattle.fs_text.proofs.Made.{below}
 use Rattle.fs_text.proofs.Numerals.{figure_decoded, figure_read}
-use Rattle.fs_text.proofs.OneList.{decimal_back, hexadecimal_back, one_list}
+use Rattle.fs_text.proofs.OneList.{decimal_back, hexadecimal_back, octets_in, one_list}
 use Rattle.fs_text.proofs.Prefixed.{pattern_back, pattern_small, range_offset, v4_found, v6_found}
 use Rattle.fs_text.proofs.Spaceless.{words_back}
 
@@ -48,10 +50,6 @@ number_at parts place = digits_value 10 (text_at parts place)
 
 abbrev group_at : List Part → ℕ → ℕ
 group_at parts place = digits_value 16 (text_at parts place)
-
-abbrev octets_in : Result (List ℕ) FromHexError → List ℕ
-octets_in (Ok octets) = octets
-octets_in (Err error) = []
 
 abbrev figure_of : List ℕ → ℕ
 figure_of text = big_number 4 (octets_in (decode_sized text 4))
@@ -160,10 +158,10 @@ v6_gives parts len offset pattern range clear is =
 
 one_prefix : (family : Family) (x y : Body) → IsNormalBody (prefix_form family) x → IsNormalBody (prefix_form family) y → body_text 1 x ≡ body_text 1 y → x ≡ y
 one_prefix V4 x y is are e =
-    some_body (sym (v4_found x (parts_of (body_text 1 x)) (v4_at (parts_of (body_text 1 x))) is refl (v4_gives (parts_of (body_text 1 x))))
+    same_Some _ _ (sym (v4_found x (parts_of (body_text 1 x)) (v4_at (parts_of (body_text 1 x))) is refl (v4_gives (parts_of (body_text 1 x))))
     ∙ v4_found y (parts_of (body_text 1 x)) (v4_at (parts_of (body_text 1 x))) are (ap parts_of e) (v4_gives (parts_of (body_text 1 x))))
 one_prefix V6 x y is are e =
-    some_body (sym (v6_found x (parts_of (body_text 1 x)) (v6_at (parts_of (body_text 1 x))) is refl (v6_gives (parts_of (body_text 1 x))))
+    same_Some _ _ (sym (v6_found x (parts_of (body_text 1 x)) (v6_at (parts_of (body_text 1 x))) is refl (v6_gives (parts_of (body_text 1 x))))
     ∙ v6_found y (parts_of (body_text 1 x)) (v6_at (parts_of (body_text 1 x))) are (ap parts_of e) (v6_gives (parts_of (body_text 1 x))))
 
 -- components
@@ -203,20 +201,7 @@ kind_named name =
 
 kind_back : (kind : ℕ) → 1 ≤ kind → kind ≤ 13 → kind_named (component_name kind) ≡ kind
 kind_back zero low high = absurd (omega arith)
-kind_back (suc zero) low high = refl
-kind_back (suc (suc zero)) low high = refl
-kind_back (suc (suc (suc zero))) low high = refl
-kind_back (suc (suc (suc (suc zero)))) low high = refl
-kind_back (suc (suc (suc (suc (suc zero))))) low high = refl
-kind_back (suc (suc (suc (suc (suc (suc zero)))))) low high = refl
-kind_back (suc (suc (suc (suc (suc (suc (suc zero))))))) low high = refl
-kind_back (suc (suc (suc (suc (suc (suc (suc (suc zero)))))))) low high = refl
-kind_back (suc (suc (suc (suc (suc (suc (suc (suc (suc zero))))))))) low high = refl
-kind_back (suc (suc (suc (suc (suc (suc (suc (suc (suc (suc zero)))))))))) low high = refl
-kind_back (suc (suc (suc (suc (suc (suc (suc (suc (suc (suc (suc zero))))))))))) low high = refl
-kind_back (suc (suc (suc (suc (suc (suc (suc (suc (suc (suc (suc (suc zero)))))))))))) low high = refl
-kind_back (suc (suc (suc (suc (suc (suc (suc (suc (suc (suc (suc (suc (suc zero))))))))))))) low high = refl
-kind_back (suc (suc (suc (suc (suc (suc (suc (suc (suc (suc (suc (suc (suc (suc kind)))))))))))))) low high = absurd (omega arith)
+kind_back (suc k) low high = eqb-true (kind_named (component_name (suc k))) (suc k) (below (λ n. kind_named (component_name (suc n)) == suc n) 13 k refl (omega arith))
 
 one_part : (family : Family) (p q : AnyPart) → IsNormalAt (form_of family p.kind) p.body → IsNormalAt (form_of family q.kind) q.body
     → component_name p.kind ≡ component_name q.kind → value_text p ≡ value_text q → p ≡ q
@@ -304,7 +289,7 @@ one_action a b is small are low names texts =
     let parts : List Part = parts_of (action_text a) in
     let first : IsNamed (action_name b) a = record { normal = is; octets = small; named = names } in
     let second : IsNamed (action_name b) b = record { normal = are; octets = low; named = refl } in
-    some_is (sym (found (action_name b) a (parts_of (action_text a)) (action_at (action_name b) (parts_of (action_text a))) first refl (readings (action_name b) (parts_of (action_text a))))
+    same_Some _ _ (sym (found (action_name b) a (parts_of (action_text a)) (action_at (action_name b) (parts_of (action_text a))) first refl (readings (action_name b) (parts_of (action_text a))))
     ∙ found (action_name b) b (parts_of (action_text a)) (action_at (action_name b) (parts_of (action_text a))) second (ap parts_of texts) (readings (action_name b) (parts_of (action_text a))))
 
 one_actions : (said told : List (List ℕ)) → AllByRecursion IsAction said → AllByRecursion IsOctets said → AllByRecursion IsAction told → AllByRecursion IsOctets told

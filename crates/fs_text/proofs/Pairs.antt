@@ -1,15 +1,18 @@
 -- The texts of pairs, cut and read.
-use Rattle.std.proofs.Common.{append_assoc, ◌≡◌, ℕ, ◌+◌, ◌*◌, ◌/◌, ◌^◌, ◌<◌, ◌≤◌, ◌==◌, zero, suc, List, [], ◌∷◌, ◌++◌, Option, Some, None, Bool, true, false, not, ◌||◌, if◌then◌else◌, length, bit_and, refl, sym, ap, subst, ◌∙◌, arith}
+use Rattle.std.proofs.Common.{append_assoc, ◌≡◌, ℕ, ◌+◌, ◌*◌, ◌/◌, ◌^◌, ◌<◌, ◌≤◌, ◌==◌, zero, suc, List, [], ◌∷◌, ◌++◌, Option, Some, Bool, true, false, not, ◌||◌, if◌then◌else◌, length, bit_and, refl, sym, ap, subst, ◌∙◌, arith}
 use Rattle.std.specs.Prelude.{codes, decimal, flat_map}
 use Rattle.std.specs.List.{AllByRecursion}
 use Rattle.std.proofs.lemmas.Nat.{and_le_r}
 use Rattle.std.proofs.lemmas.Bool.Decides.{nat_tests}
 use Rattle.std.proofs.lemmas.List.{append-nil}
+use Rattle.std.proofs.lemmas.Option.{same_Some, some_pair_parts}
 use Rattle.fs_base.proofs.Digits.{big_octets}
+use Rattle.fs_base.proofs.Lists.{each_append, each_weaker}
 use Rattle.fs_ops.specs.declared.kind.Kind.{Kind}
 use Rattle.fs_ops.specs.declared.kind.Kind.TheVariants.{Numeric, Bitmask}
 use Rattle.fs_ops.specs.Operator.{joins, ends, meant_bits, width_code, width_of}
-use Rattle.fs_ops.specs.OperatorList.{AreNormal, IsNormal, IsNormalPair}
+use Rattle.fs_ops.specs.OperatorList.{AreNormal, IsNormal}
+use Rattle.fs_ops.proofs.Normal.{first_normal}
 use Rattle.fs_words.specs.Figures.{octets_text}
 use Rattle.fs_words.specs.Operators.{joined_text, least_code, list_text, mask_sign, number_sign, operand_text, pair_text, sign, width_word}
 use Rattle.fs_text.specs.ListWord.{is_sign, is_within, joined_bit, plain_of, relation_of}
@@ -18,67 +21,53 @@ use Rattle.fs_text.proofs.Words.{IsRun, run_decimal, run_octets}
 use Rattle.fs_text.proofs.Made.{made}
 
 -- a choice keeps what both have
-chosen : (P : List ℕ → Type 0) (b : Bool) (x y : List ℕ) → P x → P y → P (if b then x else y)
+pub chosen : {A : Type 0} (P : A → Type 0) (b : Bool) (x y : A) → P x → P y → P (if b then x else y)
 chosen P true x y p q = p
 chosen P false x y p q = q
 
-abbrev AreSigns : List ℕ → Type 0
-AreSigns text = AllByRecursion (λ o. is_sign o ≡ true) text
+-- what holds of the marks of signs
+pub record OfSigns (P : ℕ → Type 0) : Type 0 where
+  pub bang : P 33
+  pub star : P 42
+  pub less : P 60
+  pub equal : P 61
+  pub greater : P 62
+  pub tilde : P 126
 
-abbrev AreWithin : List ℕ → Type 0
-AreWithin text = AllByRecursion (λ o. is_within o ≡ true) text
-
-abbrev IsSigns : List ℕ → Type 0
-IsSigns text = AreSigns text × AreWithin text
-
-number_signs : (n : ℕ) → IsSigns (number_sign n)
-number_signs n =
-    chosen IsSigns (n == 0) _ _ ((refl, tt), (refl, tt))
-    (chosen IsSigns (n == 1) _ _ ((refl, tt), (refl, tt))
-    (chosen IsSigns (n == 2) _ _ ((refl, tt), (refl, tt))
-    (chosen IsSigns (n == 3) _ _ ((refl, (refl, tt)), (refl, (refl, tt)))
-    (chosen IsSigns (n == 4) _ _ ((refl, tt), (refl, tt))
-    (chosen IsSigns (n == 5) _ _ ((refl, (refl, tt)), (refl, (refl, tt)))
-    (chosen IsSigns (n == 6) _ _ ((refl, (refl, tt)), (refl, (refl, tt))) ((refl, tt), (refl, tt))))))))
-
-mask_signs : (n : ℕ) → IsSigns (mask_sign n)
-mask_signs n =
-    chosen IsSigns (n == 0) _ _ ((refl, tt), (refl, tt))
-    (chosen IsSigns (n == 1) _ _ ((refl, tt), (refl, tt))
-    (chosen IsSigns (n == 2) _ _ ((refl, (refl, tt)), (refl, (refl, tt))) ((refl, (refl, tt)), (refl, (refl, tt)))))
-
-signs : (kind : Kind) (operator : ℕ) → IsSigns (sign kind operator)
-signs Numeric operator = number_signs (bit_and operator 7)
-signs Bitmask operator = mask_signs (bit_and operator 3)
+signs : (P : ℕ → Type 0) → OfSigns P → (kind : Kind) (operator : ℕ) → AllByRecursion P (sign kind operator)
+signs P m Numeric operator = by (bit_and operator 7) where
+  by : (n : ℕ) → AllByRecursion P (number_sign n)
+  by n =
+      chosen (AllByRecursion P) (n == 0) _ _ (m.bang, tt) (chosen (AllByRecursion P) (n == 1) _ _ (m.equal, tt)
+      (chosen (AllByRecursion P) (n == 2) _ _ (m.greater, tt) (chosen (AllByRecursion P) (n == 3) _ _ (m.greater, (m.equal, tt))
+      (chosen (AllByRecursion P) (n == 4) _ _ (m.less, tt) (chosen (AllByRecursion P) (n == 5) _ _ (m.less, (m.equal, tt))
+      (chosen (AllByRecursion P) (n == 6) _ _ (m.bang, (m.equal, tt)) (m.star, tt)))))))
+signs P m Bitmask operator = by (bit_and operator 3) where
+  by : (n : ℕ) → AllByRecursion P (mask_sign n)
+  by n =
+      chosen (AllByRecursion P) (n == 0) _ _ (m.tilde, tt) (chosen (AllByRecursion P) (n == 1) _ _ (m.equal, tt)
+      (chosen (AllByRecursion P) (n == 2) _ _ (m.bang, (m.tilde, tt)) (m.bang, (m.equal, tt))))
 
 pub are_signs : (kind : Kind) (operator : ℕ) → AllByRecursion (λ o. is_sign o ≡ true) (sign kind operator)
-are_signs kind operator = (signs kind operator).0
+are_signs kind operator =
+    signs (λ o. is_sign o ≡ true) (record { bang = refl; star = refl; less = refl; equal = refl; greater = refl; tilde = refl }) kind operator
 
 pub width_ends : (value code : ℕ) → Ends is_plain (width_word value code)
 width_ends value code =
     chosen (Ends is_plain) (code == least_code value) _ _ tt
     (chosen (Ends is_plain) (code == 0) _ _ refl (chosen (Ends is_plain) (code == 1) _ _ refl (chosen (Ends is_plain) (code == 2) _ _ refl refl)))
 
-width_within : (value code : ℕ) → AreWithin (width_word value code)
-width_within value code =
-    chosen AreWithin (code == least_code value) _ _ tt
-    (chosen AreWithin (code == 0) _ _ (refl, (refl, tt)) (chosen AreWithin (code == 1) _ _ (refl, (refl, tt)) (chosen AreWithin (code == 2) _ _ (refl, (refl, tt)) (refl, (refl, tt)))))
+abbrev pub OfPlain : (ℕ → Type 0) → Type 0
+OfPlain P = (o : ℕ) → is_plain o ≡ true → P o
 
-within_append : (a b : List ℕ) → AreWithin a → AreWithin b → AreWithin (a ++ b)
-within_append [] b p q = q
-within_append (x ∷ a) b p q = (p.0, within_append a b p.1 q)
+pub run_all : (P : ℕ → Type 0) → OfPlain P → (run : List ℕ) → AllByRecursion (λ o. is_plain o ≡ true) run → AllByRecursion P run
+run_all P plain = each_weaker (λ o. is_plain o ≡ true) P plain
 
-plain_within : (o : ℕ) → is_plain o ≡ true → is_within o ≡ true
-plain_within o h = by (o == 38) refl (o == 44) refl
-  where
-    by : (b : Bool) → (o == 38) ≡ b → (c : Bool) → (o == 44) ≡ c → not (b || c) ≡ true
-    by false p false q = refl
-    by true p c q = absurd (let e : o ≡ 38 = grind (arith, nat_tests, p) in let k : is_plain 38 ≡ true = subst (λ (x : ℕ). is_plain x ≡ true) e h in cc)
-    by false p true q = absurd (let e : o ≡ 44 = grind (arith, nat_tests, q) in let k : is_plain 44 ≡ true = subst (λ (x : ℕ). is_plain x ≡ true) e h in cc)
-
-run_within : (run : List ℕ) → AllByRecursion (λ o. is_plain o ≡ true) run → AreWithin run
-run_within [] all = tt
-run_within (x ∷ run) all = (plain_within x all.0, run_within run all.1)
+widths : (P : ℕ → Type 0) → OfPlain P → P 58 → (value code : ℕ) → AllByRecursion P (width_word value code)
+widths P plain colon value code =
+    chosen (AllByRecursion P) (code == least_code value) _ _ tt
+    (chosen (AllByRecursion P) (code == 0) _ _ (colon, (plain 49 refl, tt)) (chosen (AllByRecursion P) (code == 1) _ _ (colon, (plain 50 refl, tt))
+    (chosen (AllByRecursion P) (code == 2) _ _ (colon, (plain 52 refl, tt)) (colon, (plain 56 refl, tt)))))
 
 pub code_small : (operator : ℕ) → width_code operator < 4
 code_small operator = let le : bit_and (operator / 2 ^ 4) 3 ≤ 3 = and_le_r (operator / 2 ^ 4) 3 in omega arith
@@ -103,17 +92,30 @@ coded_run (suc (suc (suc (suc code)))) value small = absurd (omega arith)
 pub octets_run : (operator value : ℕ) → IsRun (octets_text (width_of operator) value)
 octets_run operator value = coded_run (width_code operator) value (code_small operator)
 
-operand_within : (kind : Kind) (operator value : ℕ) → value < 256 ^ width_of operator → AreWithin (operand_text kind operator value)
-operand_within Numeric operator value h =
-    within_append (decimal value) (width_word value (width_code operator)) (run_within (decimal value) (run_decimal value (value_small operator value h)).1)
-    (width_within value (width_code operator))
-operand_within Bitmask operator value h = run_within (octets_text (width_of operator) value) (octets_run operator value).1
+operands : (P : ℕ → Type 0) → OfPlain P → P 58 → (kind : Kind) (operator value : ℕ) → value < 256 ^ width_of operator → AllByRecursion P (operand_text kind operator value)
+operands P plain colon Numeric operator value h =
+    each_append P (decimal value) (width_word value (width_code operator)) (run_all P plain (decimal value) (run_decimal value (value_small operator value h)).1)
+    (widths P plain colon value (width_code operator))
+operands P plain colon Bitmask operator value h = run_all P plain (octets_text (width_of operator) value) (octets_run operator value).1
+
+-- what holds of letters, digits and these marks holds of the text of a pair
+pub pair_all : (P : ℕ → Type 0) → OfSigns P → OfPlain P → P 58 → (kind : Kind) (pair : ℕ × ℕ) → pair.1 < 256 ^ width_of pair.0 → AllByRecursion P (pair_text kind pair)
+pair_all P m plain colon kind pair h =
+    each_append P (sign kind pair.0) (operand_text kind pair.0 pair.1) (signs P m kind pair.0) (operands P plain colon kind pair.0 pair.1 h)
+
+plain_within : (o : ℕ) → is_plain o ≡ true → is_within o ≡ true
+plain_within o h = by (o == 38) refl (o == 44) refl
+  where
+    by : (b : Bool) → (o == 38) ≡ b → (c : Bool) → (o == 44) ≡ c → not (b || c) ≡ true
+    by false p false q = refl
+    by true p c q = absurd (let e : o ≡ 38 = grind (arith, nat_tests, p) in let k : is_plain 38 ≡ true = subst (λ (x : ℕ). is_plain x ≡ true) e h in cc)
+    by false p true q = absurd (let e : o ≡ 44 = grind (arith, nat_tests, q) in let k : is_plain 44 ≡ true = subst (λ (x : ℕ). is_plain x ≡ true) e h in cc)
 
 pub pair_within : (kind : Kind) (pair : ℕ × ℕ) → pair.1 < 256 ^ width_of pair.0 → AllByRecursion (λ o. is_within o ≡ true) (pair_text kind pair)
 pair_within kind pair h =
-    within_append (sign kind pair.0) (operand_text kind pair.0 pair.1) (signs kind pair.0).1 (operand_within kind pair.0 pair.1 h)
+    pair_all (λ o. is_within o ≡ true) (record { bang = refl; star = refl; less = refl; equal = refl; greater = refl; tilde = refl }) plain_within refl kind pair h
 
-abbrev joiner_by : Bool → List ℕ
+abbrev pub joiner_by : Bool → List ℕ
 joiner_by b = if b then codes "&" else codes ","
 
 pub others_end : (kind : Kind) (others : List (ℕ × ℕ)) → Ends is_within (flat_map (joined_text kind) others)
@@ -133,16 +135,12 @@ pub record IsLeft (kind : Kind) (pairs list : List (ℕ × ℕ)) (joined : ℕ) 
   pub joins : joined ≡ joined_bit pair.0
   pub spelled : rest ≡ pair_text kind pair ++ flat_map (joined_text kind) others
 
-abbrev bit_if : Bool → ℕ
+abbrev pub bit_if : Bool → ℕ
 bit_if b = if b then 64 else 0
 
 abbrev pub Left : Kind → List ℕ → List (ℕ × ℕ) → ℕ → List ℕ → Type 0
 Left kind word list joined rest =
     (pairs : List (ℕ × ℕ)) → IsNormal kind pairs → word ≡ list_text kind pairs → IsLeft kind pairs list joined rest
-
-pub first_normal : (bits : ℕ) (pair : ℕ × ℕ) (others : List (ℕ × ℕ)) → AreNormal bits (pair ∷ others) → IsNormalPair bits pair
-first_normal bits pair [] is = is.0
-first_normal bits pair (next ∷ others) is = is.0
 
 made_by : (kind : Kind) (operator : ℕ) (b : Bool) → bit_and operator (meant_bits kind) ≡ operator → ends operator ≡ b
     → plain_of kind operator + joined_bit operator + (if b then 128 else 0) ≡ operator
@@ -230,25 +228,14 @@ pair_read Bitmask text a b c s r cuts signed numbers bits operator value small i
 abbrev made_pair : (a b : ℕ) → Option (ℕ × ℕ)
 made_pair a b = Some (a, b)
 
-abbrev first_in : Option (ℕ × ℕ) → ℕ
-first_in None = 0
-first_in (Some pair) = pair.0
-
-abbrev second_in : Option (ℕ × ℕ) → ℕ
-second_in None = 0
-second_in (Some pair) = pair.1
-
-some_one : {a b : ℕ} → Some a ≡ Some b → a ≡ b
-some_one e = cc
-
 pub pair_made : (s : Option ℕ) (r : Option (ℕ × ℕ)) (x code value relation width number : ℕ) → s ≡ Some x → r ≡ Some (code, value)
     → (s ≡ Some relation) × (r ≡ Some (width, number)) → made_pair (16 * code + x) value ≡ made_pair (16 * width + relation) number
 pair_made s r x code value relation width number p q is =
-    let same : x ≡ relation = some_one (sym p ∙ is.0) in
-    let both : made_pair code value ≡ made_pair width number = sym q ∙ is.1 in
-    let codes_are : code ≡ width = ap first_in both in
+    let same : x ≡ relation = same_Some _ _ (sym p ∙ is.0) in
+    let both = some_pair_parts code width value number (sym q ∙ is.1) in
+    let codes_are : code ≡ width = both.0 in
     ap (λ (n : ℕ). made_pair n value) {x = 16 * code + x} {y = 16 * width + relation} (omega (arith, same, codes_are))
-    ∙ ap (λ (v : ℕ). made_pair (16 * width + relation) v) (ap second_in both)
+    ∙ ap (λ (v : ℕ). made_pair (16 * width + relation) v) both.1
 
 abbrev FirstPair : (text a b : List ℕ) → Type 0
 FirstPair text a b =
@@ -268,11 +255,3 @@ taken kind pairs list joined rest a b r left split loose =
     let t : (a ≡ pair_text kind left.pair) × (b ≡ flat_map (joined_text kind) left.others) =
     split (pair_text kind left.pair) (flat_map (joined_text kind) left.others) (pair_within kind left.pair fits) (others_end kind left.others) left.spelled in
     (t.1, loose left.pair.0 left.pair.1 fits t.0)
-
-pub said_first : (r : Option (ℕ × ℕ)) (plain value x y : ℕ) → r ≡ Some (plain, value) → r ≡ Some (x, y) → (plain ≡ x) × (value ≡ y)
-said_first r plain value x y p q =
-    let both : made_pair plain value ≡ made_pair x y = sym p ∙ q in (ap first_in both, ap second_in both)
-
-pub nil_of : (l : List ℕ) → length l ≡ 0 → l ≡ []
-nil_of [] e = refl
-nil_of (x ∷ l) e = absurd (omega arith)

@@ -8,6 +8,7 @@ use Rattle.std.proofs.lemmas.List.{append-nil}
 use Rattle.std.proofs.lemmas.Nat.{pow_pos, pow-add}
 use Rattle.std.proofs.Math.Nat.{div-div-eq-div-mul, div-le_self, mod-eq_of_lt, mod-lt, mul-div_cancel, mul_assoc}
 use Rattle.std.proofs.lemmas.Bool.{eqb-true}
+use Rattle.std.proofs.lemmas.Option.{none-some, some_pair_parts}
 use Rattle.fs_base.specs.declared.prefix.Family.{Family}
 use Rattle.fs_base.specs.Bits.{IsBlock, block_below, block_of, cleared}
 use Rattle.fs_nlri.specs.Forms.{V4Form, V6Form}
@@ -131,10 +132,6 @@ pattern_back len offset pattern address range clear is =
 pub range_offset : (len offset : ℕ) → IsRange len offset → offset < 128
 range_offset len offset is = ⊎_elim (λ below. omega (arith, below, is.0)) (λ zeros. omega (arith, zeros.1)) is.1
 
-abbrev wide_in : Option (ℕ × (ℕ × ℕ)) → ℕ × (ℕ × ℕ)
-wide_in None = (0, (0, 0))
-wide_in (Some wide) = wide
-
 -- the address of a word, moved back by its offset
 pub v6_made : (address length at : ℕ) (parts : List Part) (r : Option (ℕ × (ℕ × ℕ))) (result : Option Body) → r ≡ Some (address, (length, at))
     → ((n len offset : ℕ) → n < 2 ^ 128 → len < 256 → offset < 256 → parts ≡ wide_parts n (range_parts len offset) → r ≡ Some (n, (len, offset)))
@@ -147,16 +144,13 @@ v6_made address length at parts r result is told made len offset pattern range c
     let less : pattern / 2 ^ offset ≤ pattern = div-le_self pattern (2 ^ offset) in
     let e : r ≡ Some (pattern / 2 ^ offset, (len, offset)) =
     told (pattern / 2 ^ offset) len offset (omega (arith, small, less)) (omega (arith, short)) (omega (arith, low)) parts_are in
-    let same : length ≡ len = ap (λ (w : Option (ℕ × (ℕ × ℕ))). (wide_in w).1.0) (sym is ∙ e) in
-    let also : at ≡ offset = ap (λ (w : Option (ℕ × (ℕ × ℕ))). (wide_in w).1.1) (sym is ∙ e) in
-    let whole : address ≡ pattern / 2 ^ offset = ap (λ (w : Option (ℕ × (ℕ × ℕ))). (wide_in w).0) (sym is ∙ e) in
-    subst (λ (k : ℕ). Made k offset) same (subst (λ (j : ℕ). Made length j) also made) pattern range clear whole
+    let both = some_pair_parts {A = ℕ} {B = ℕ × ℕ} address (pattern / 2 ^ offset) (length, at) (len, offset) (sym is ∙ e) in
+    let same : length ≡ len = ap (λ (r : ℕ × ℕ). r.0) both.1 in
+    let also : at ≡ offset = ap (λ (r : ℕ × ℕ). r.1) both.1 in
+    subst (λ (k : ℕ). Made k offset) same (subst (λ (j : ℕ). Made length j) also made) pattern range clear both.0
   where
     Made : ℕ → ℕ → Type 0
     Made k j = (pattern : ℕ) → IsRange k j → pattern ≡ cleared 128 (k - j) pattern → address ≡ pattern / 2 ^ j → result ≡ Some (V6Body k j pattern)
-
-pub no_wide : {A : Type 0} {w : ℕ × (ℕ × ℕ)} → None ≡ Some w → A
-no_wide e = absurd cc
 
 pub v6_none : (parts : List Part) (r : Option (ℕ × (ℕ × ℕ))) (result : Option Body) → r ≡ None
     → ((n len offset : ℕ) → n < 2 ^ 128 → len < 256 → offset < 256 → parts ≡ wide_parts n (range_parts len offset) → r ≡ Some (n, (len, offset)))
@@ -166,10 +160,7 @@ v6_none parts r result none told len offset pattern range clear parts_are =
     let low : offset < 128 = range_offset len offset range in
     let small : pattern < 2 ^ 128 = pattern_small (len - offset) pattern (omega (arith, short)) clear in
     let less : pattern / 2 ^ offset ≤ pattern = div-le_self pattern (2 ^ offset) in
-    no_wide (sym none ∙ told (pattern / 2 ^ offset) len offset (omega (arith, small, less)) (omega (arith, short)) (omega (arith, low)) parts_are)
-
-pub low_said : (r : Option (ℕ × (ℕ × ℕ))) (low m : ℕ) (range also : ℕ × ℕ) → r ≡ Some (low, range) → r ≡ Some (m, also) → (low ≡ m) × (range ≡ also)
-low_said r low m range also p q = (ap (λ (w : Option (ℕ × (ℕ × ℕ))). (wide_in w).0) (sym p ∙ q), ap (λ (w : Option (ℕ × (ℕ × ℕ))). (wide_in w).1) (sym p ∙ q))
+    absurd (none-some _ (sym none ∙ told (pattern / 2 ^ offset) len offset (omega (arith, small, less)) (omega (arith, short)) (omega (arith, low)) parts_are))
 
 pub wide_made : (whole n : ℕ) (range also : ℕ × ℕ) → whole ≡ n → range ≡ also → (let made : Option (ℕ × (ℕ × ℕ)) = Some (whole, range) in made) ≡ Some (n, also)
 wide_made whole n range also p q =

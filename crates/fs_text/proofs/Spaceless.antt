@@ -1,8 +1,9 @@
 -- No word of a text has a space, so that a text is cut into its words.
-use Rattle.std.proofs.Common.{◌≡◌, ℕ, zero, suc, ◌/◌, ◌%◌, ◌^◌, ◌<◌, ◌≤◌, ◌==◌, List, [], ◌∷◌, ◌++◌, Bool, true, false, Option, ◌||◌, if◌then◌else◌, drop, bit_and, refl, sym, ap, subst, ◌∙◌, arith}
-use Rattle.std.specs.Prelude.{All, decimal, flat_map, slice_index}
+use Rattle.std.proofs.Common.{◌≡◌, ℕ, ◌/◌, ◌%◌, ◌^◌, ◌<◌, ◌≤◌, ◌==◌, List, [], ◌∷◌, ◌++◌, Bool, true, false, Option, ◌||◌, drop, refl, sym, ap, subst, ◌∙◌, arith}
+use Rattle.std.specs.Prelude.{decimal, flat_map, slice_index}
 use Rattle.std.specs.List.{AllByRecursion, join_with_byte}
 use Rattle.std.specs.Option.{option_map_or}
+use Rattle.std.proofs.lemmas.List.Elements.{All-from_recursion}
 use Rattle.std.proofs.lemmas.List.Splits.{slice_split_at, slice_split_none}
 use Rattle.std.proofs.lemmas.Bool.{eqb-true}
 use Rattle.std.proofs.Math.Nat.{mod-lt}
@@ -12,40 +13,35 @@ use Rattle.fs_base.specs.declared.prefix.Family.{Family}
 use Rattle.fs_base.specs.declared.prefix.Family.TheVariants.{V4, V6}
 use Rattle.fs_base.specs.Language.{IsOctets}
 use Rattle.fs_base.proofs.Digits.{big_below}
+use Rattle.fs_base.proofs.Lists.{each_append}
 use Rattle.fs_base.proofs.Octets.{octets_at, octets_drop}
 use Rattle.fs_ops.specs.declared.kind.Kind.{Kind}
-use Rattle.fs_ops.specs.declared.kind.Kind.TheVariants.{Numeric, Bitmask}
-use Rattle.fs_ops.specs.Operator.{joins, width_code, width_of}
+use Rattle.fs_ops.specs.Operator.{joins, width_of}
 use Rattle.fs_ops.specs.OperatorList.{AreNormal as AreNormalPairs}
 use Rattle.fs_nlri.specs.Forms.{form_of}
 use Rattle.fs_nlri.specs.Parts.{Body, V4Body, V6Body, ListBody, Part, ruled}
 use Rattle.fs_nlri.specs.Rule.{AreNormal}
 use Rattle.fs_nlri.specs.Sound.{IsSoundBody}
+use Rattle.fs_nlri.proofs.Sound.{sound_part}
 use Rattle.fs_actions.specs.Community.{kind_of}
 use Rattle.fs_actions.specs.declared.community.Redirect.{Redirect}
 use Rattle.fs_words.specs.Actions.{action_name, action_text, plain_text, target_text}
-use Rattle.fs_words.specs.Figures.{octets_text}
-use Rattle.fs_words.specs.Operators.{joined_text, joiner, least_code, list_text, mask_sign, number_sign, operand_text, pair_text, sign, width_word}
+use Rattle.fs_words.specs.Operators.{joined_text, joiner, list_text, pair_text}
 use Rattle.fs_words.specs.Prefixes.{address_text, groups_text, offset_text, wide_address_text}
 use Rattle.fs_words.specs.Values.{body_text, component_name, list_kind}
 use Rattle.fs_words.specs.Printed.{action_words, component_words, family_word, text_of, then_words, words_of}
 use Rattle.fs_text.specs.Pieces.{is_plain}
 use Rattle.fs_text.specs.Text.{AreActions, words_in}
-use Rattle.fs_text.proofs.Listed.{sound}
-use Rattle.fs_text.proofs.Pairs.{first_normal, octets_run, value_small}
+use Rattle.fs_ops.proofs.Normal.{first_normal}
+use Rattle.fs_text.proofs.Pairs.{chosen, pair_all, run_all}
 use Rattle.fs_text.proofs.Prefixed.{eight_groups, range_offset, run_hexadecimal, small_group}
 use Rattle.fs_text.proofs.Words.{plain_octets, run_decimal}
 
 abbrev Free : List ℕ → Type 0
 Free text = AllByRecursion (λ o. (o == 32) ≡ false) text
 
-chosen : {A : Type 0} (P : A → Type 0) (b : Bool) (x y : A) → P x → P y → P (if b then x else y)
-chosen P true x y p q = p
-chosen P false x y p q = q
-
 free_append : (a b : List ℕ) → Free a → Free b → Free (a ++ b)
-free_append [] b p q = q
-free_append (x ∷ a) b p q = (p.0, free_append a b p.1 q)
+free_append = each_append (λ o. (o == 32) ≡ false)
 
 plain_free : (o : ℕ) → is_plain o ≡ true → (o == 32) ≡ false
 plain_free o h = by (o == 32) refl
@@ -55,37 +51,16 @@ plain_free o h = by (o == 32) refl
     by true e = absurd (let s : o ≡ 32 = eqb-true o 32 e in let k : is_plain 32 ≡ true = subst (λ (x : ℕ). is_plain x ≡ true) s h in cc)
 
 run_free : (run : List ℕ) → AllByRecursion (λ o. is_plain o ≡ true) run → Free run
-run_free [] all = tt
-run_free (x ∷ run) all = (plain_free x all.0, run_free run all.1)
+run_free = run_all (λ o. (o == 32) ≡ false) plain_free
 
 decimal_free : (n : ℕ) → n < 2 ^ 64 → Free (decimal n)
 decimal_free n small = run_free (decimal n) (run_decimal n small).1
 
 -- lists
 
-number_sign_free : (n : ℕ) → Free (number_sign n)
-number_sign_free n =
-    chosen Free (n == 0) _ _ (refl, tt) (chosen Free (n == 1) _ _ (refl, tt) (chosen Free (n == 2) _ _ (refl, tt) (chosen Free (n == 3) _ _ (refl, (refl, tt)) (chosen Free (n == 4) _ _ (refl, tt) (chosen Free (n == 5) _ _ (refl, (refl, tt)) (chosen Free (n == 6) _ _ (refl, (refl, tt)) (refl, tt)))))))
-
-mask_sign_free : (n : ℕ) → Free (mask_sign n)
-mask_sign_free n = chosen Free (n == 0) _ _ (refl, tt) (chosen Free (n == 1) _ _ (refl, tt) (chosen Free (n == 2) _ _ (refl, (refl, tt)) (refl, (refl, tt))))
-
-sign_free : (kind : Kind) (operator : ℕ) → Free (sign kind operator)
-sign_free Numeric operator = number_sign_free (bit_and operator 7)
-sign_free Bitmask operator = mask_sign_free (bit_and operator 3)
-
-width_free : (value code : ℕ) → Free (width_word value code)
-width_free value code =
-    chosen Free (code == least_code value) _ _ tt
-    (chosen Free (code == 0) _ _ (refl, (refl, tt)) (chosen Free (code == 1) _ _ (refl, (refl, tt)) (chosen Free (code == 2) _ _ (refl, (refl, tt)) (refl, (refl, tt)))))
-
-operand_free : (kind : Kind) (operator value : ℕ) → value < 256 ^ width_of operator → Free (operand_text kind operator value)
-operand_free Numeric operator value h =
-    free_append (decimal value) (width_word value (width_code operator)) (decimal_free value (value_small operator value h)) (width_free value (width_code operator))
-operand_free Bitmask operator value h = run_free (octets_text (width_of operator) value) (octets_run operator value).1
-
 pair_free : (kind : Kind) (pair : ℕ × ℕ) → pair.1 < 256 ^ width_of pair.0 → Free (pair_text kind pair)
-pair_free kind pair h = free_append (sign kind pair.0) (operand_text kind pair.0 pair.1) (sign_free kind pair.0) (operand_free kind pair.0 pair.1 h)
+pair_free kind pair h =
+    pair_all (λ o. (o == 32) ≡ false) (record { bang = refl; star = refl; less = refl; equal = refl; greater = refl; tilde = refl }) plain_free refl kind pair h
 
 joiner_free : (operator : ℕ) → Free (joiner operator)
 joiner_free operator = chosen Free (joins operator) _ _ (refl, tt) (refl, tt)
@@ -191,14 +166,10 @@ action_free action octets =
 
 -- texts
 
-free_words : (one other : List (List ℕ)) → AllByRecursion Free one → AllByRecursion Free other → AllByRecursion Free (one ++ other)
-free_words [] other p q = q
-free_words (x ∷ one) other p q = (p.0, free_words one other p.1 q)
-
 components_free : (family : Family) (last : ℕ) (parts : List Part) → AreNormal family last parts → AllByRecursion Free (component_words parts)
 components_free family last [] normal = tt
 components_free family last (part ∷ parts) normal =
-    (name_free part.kind, (body_free part.kind part.body (sound (form_of family part.kind) part.body normal.1), components_free family part.kind parts normal.2))
+    (name_free part.kind, (body_free part.kind part.body (sound_part (form_of family part.kind) part.body normal.1), components_free family part.kind parts normal.2))
 
 actions_free : (actions : List (List ℕ)) → AllByRecursion IsOctets actions → AllByRecursion Free (action_words actions)
 actions_free [] all = tt
@@ -212,15 +183,10 @@ family_free : (family : Family) → Free (family_word family)
 family_free V4 = (refl, (refl, tt))
 family_free V6 = (refl, (refl, tt))
 
-each_all : (P : ℕ → Type 0) (xs : List ℕ) → AllByRecursion P xs → All P xs
-each_all P [] h k d l = absurd (omega (arith, l))
-each_all P (x ∷ xs) h zero d l = h.0
-each_all P (x ∷ xs) h (suc k) d l = each_all P xs h.1 k d (omega (arith, l))
-
 split_join : (word : List ℕ) (words : List (List ℕ)) → AllByRecursion Free (word ∷ words) → words_in (join_with_byte 32 (word ∷ words)) ≡ word ∷ words
-split_join word [] all = slice_split_none (λ o. o == 32) word (each_all (λ o. (o == 32) ≡ false) word all.0)
+split_join word [] all = slice_split_none (λ o. o == 32) word (All-from_recursion (λ o. (o == 32) ≡ false) word all.0)
 split_join word (next ∷ words) all =
-    slice_split_at (λ o. o == 32) word 32 (join_with_byte 32 (next ∷ words)) (each_all (λ o. (o == 32) ≡ false) word all.0) refl
+    slice_split_at (λ o. o == 32) word 32 (join_with_byte 32 (next ∷ words)) (All-from_recursion (λ o. (o == 32) ≡ false) word all.0) refl
     ∙ ap (λ (l : List (List ℕ)). word ∷ l) (split_join next words all.1)
 
 -- a text is cut into the words of its rule and its actions
@@ -228,4 +194,4 @@ pub words_back : (family : Family) (parts : List Part) (actions : List (List ℕ
     → words_in (text_of (ruled family parts) actions) ≡ words_of (ruled family parts) actions
 words_back family parts actions normal are =
     split_join (family_word family) (component_words parts ++ then_words actions)
-    (family_free family, free_words (component_words parts) (then_words actions) (components_free family 0 parts normal) (then_free actions are.octets))
+    (family_free family, each_append Free (component_words parts) (then_words actions) (components_free family 0 parts normal) (then_free actions are.octets))

@@ -17,7 +17,7 @@ use Rattle.fs_text.specs.Text.{AreActions, IsBadWord, IsWhole, IsWordFault, Make
 use Rattle.fs_text.specs.declared.fault.TextFault.{TextFault}
 use Rattle.fs_text.specs.declared.fault.TextFault.TheVariants.{Bad, TooLong, Memory}
 use Rattle.fs_text.proofs.Acted.{acts_first, bad_action_name, bad_action_value, no_action}
-use Rattle.fs_text.proofs.Led.{bad_part_name, bad_part_value, led_next, never_bad, whole_parts}
+use Rattle.fs_text.proofs.Led.{bad_part_name, bad_part_value, led_next, never_bad, no_words, whole_parts}
 use Rattle.fs_text.proofs.Spaceless.{words_back}
 
 -- what the exit of a `?` hands on
@@ -31,12 +31,9 @@ drop_end f [] (suc n) e = refl
 drop_end f (x ∷ words) zero e = absurd (omega (arith, e))
 drop_end f (x ∷ words) (suc n) e = drop_end f words n (omega (arith, e))
 
-some_words : {A : Type 0} {w : List ℕ} {l : List (List ℕ)} → w ∷ l ≡ [] → A
-some_words e = absurd cc
-
 pub drop_some : {X : Type 0} (f : X → List ℕ) (words : List X) (n : ℕ) → n < length words → drop n (map f words) ≡ [] → ⊥
 drop_some f [] n h e = absurd (omega (arith, h))
-drop_some f (x ∷ words) zero h e = some_words e
+drop_some f (x ∷ words) zero h e = no_words e
 drop_some f (x ∷ words) (suc n) h e = drop_some f words n (omega (arith, h)) e
 
 pub led_pushed : (words : List (List ℕ)) (family : Family) (components : List Component) (last place : ℕ) (component : Component) (new : List Component) (kind : ℕ)
@@ -77,9 +74,6 @@ action_fault words family parts actions place Memory acts some is = tt
 -- behind the components nothing stands, or the word before actions
 pub all_parts : (words : List (List ℕ)) (family : Family) (parts : List Part) (place : ℕ) → AreAll words family parts place → drop place words ≡ [] → IsWhole words family parts []
 all_parts words family parts place all none = whole_parts words family parts all.last place all.led none
-
-no_then : {A : Type 0} {w : List ℕ} {l : List (List ℕ)} → [] ≡ w ∷ l → A
-no_then e = absurd cc
 
 pub then_acts : (words : List (List ℕ)) (family : Family) (parts : List Part) (place : ℕ) → AreAll words family parts place → (drop place words ≡ [] → ⊥)
     → drop 1 (drop place words) ≡ drop (place + 1) words → Acts words family parts [] (place + 1)

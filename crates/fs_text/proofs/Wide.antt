@@ -1,6 +1,7 @@
 -- Octets in hexadecimal are read back.
 use Rattle.std.proofs.Common.{◌≡◌, ℕ, ◌*◌, ◌%◌, ◌^◌, ◌<◌, ◌≤◌, ◌++◌, zero, suc, List, Option, Some, Result, Ok, Err, length, take, refl, sym, ap, subst, ◌∙◌, arith}
-use Rattle.std.specs.Prelude.{MatchResult}
+use Rattle.std.specs.Prelude.{MatchResult, ◌==◌}
+use Rattle.std.proofs.lemmas.Bool.{eqb-true}
 use Rattle.byteorder.specs.Endian.{big_bytes, big_number}
 use Rattle.byteorder.specs.Numbers.{big_from-take, big_number-reads_back, length-bytes_high_first}
 use Rattle.hex.specs.Hex.{decode_sized}
@@ -11,6 +12,7 @@ use Rattle.fs_base.proofs.Digits.{big_octets}
 use Rattle.fs_base.proofs.Octets.{octets_at}
 use Rattle.fs_words.specs.Figures.{octets_text}
 use Rattle.fs_text.specs.ListWord.{code_at}
+use Rattle.fs_text.proofs.Made.{below}
 
 pub octets_decoded : (width n : ℕ) → decode_sized (octets_text width n) width ≡ Ok (big_bytes width n)
 octets_decoded width n = decode_sized-encode_lower (big_bytes width n) width (length-bytes_high_first width n) (octets_at (big_bytes width n) (big_octets width n))
@@ -32,11 +34,7 @@ pub octets_len : (width n : ℕ) → length (octets_text width n) ≡ 2 * width
 octets_len width n = length-encode_with lower_digits (big_bytes width n) ∙ ap (λ (k : ℕ). 2 * k) (length-bytes_high_first width n)
 
 pub code_back : (code : ℕ) → code < 4 → code_at (2 * 2 ^ code) ≡ code
-code_back zero small = refl
-code_back (suc zero) small = refl
-code_back (suc (suc zero)) small = refl
-code_back (suc (suc (suc zero))) small = refl
-code_back (suc (suc (suc (suc code)))) small = absurd (omega arith)
+code_back code small = eqb-true (code_at (2 * 2 ^ code)) code (below (λ k. code_at (2 * 2 ^ k) == k) 4 code refl small)
 
 pub width_high : (code : ℕ) → code < 4 → 1 * 2 ^ code % 18446744073709551616 ≤ 8
 width_high zero small = omega arith

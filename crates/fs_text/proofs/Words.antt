@@ -1,6 +1,7 @@
 -- The parts of the words of actions.
-use Rattle.std.proofs.Common.{append_assoc, ◌≡◌, ℕ, ◌<◌, ◌/◌, ◌%◌, ◌^◌, List, [], ◌∷◌, ◌++◌, Bool, true, false, length, refl, sym, ap, ◌∙◌, arith, if◌then◌else◌, zero, suc}
+use Rattle.std.proofs.Common.{append_assoc, ◌≡◌, ℕ, ◌<◌, ◌/◌, ◌%◌, ◌^◌, List, [], ◌∷◌, ◌++◌, Bool, true, false, length, refl, sym, ap, ◌∙◌, arith, if◌then◌else◌}
 use Rattle.std.proofs.lemmas.List.{append-nil}
+use Rattle.std.proofs.lemmas.List.Elements.{All-from_recursion}
 use Rattle.std.proofs.Math.Nat.{mod-lt}
 use Rattle.std.specs.List.{AllByRecursion}
 use Rattle.std.specs.Prelude.{codes, decimal, slice_index}
@@ -9,7 +10,7 @@ use Rattle.fs_base.specs.Language.{IsOctets}
 use Rattle.fs_base.proofs.Octets.{octets_head, octets_tail}
 use Rattle.fs_text.specs.Pieces.{Part, Run, Delimiter, is_plain, parts_of, with_octet}
 use Rattle.fs_text.specs.ActionParts.{ip4_parts}
-use Rattle.fs_text.specs.PrefixParts.{v4_parts}
+use Rattle.fs_text.specs.PrefixParts.{address_parts, v4_parts}
 use Rattle.fs_words.specs.Prefixes.{address_text, v4_text}
 use Rattle.fs_text.proofs.Runs.{run_first}
 use Rattle.fs_text.proofs.Numerals.{plain_digits}
@@ -21,23 +22,9 @@ pub run_decimal : (n : ℕ) → n < 2 ^ 64 → IsRun (decimal n)
 run_decimal n small = plain_digits 10 n (omega arith) (omega arith) (omega arith)
 
 digit_plain : (d : ℕ) → d < 16 → is_plain (slice_index lower_digits d) ≡ true
-digit_plain zero h = refl
-digit_plain (suc zero) h = refl
-digit_plain (suc (suc zero)) h = refl
-digit_plain (suc (suc (suc zero))) h = refl
-digit_plain (suc (suc (suc (suc zero)))) h = refl
-digit_plain (suc (suc (suc (suc (suc zero))))) h = refl
-digit_plain (suc (suc (suc (suc (suc (suc zero)))))) h = refl
-digit_plain (suc (suc (suc (suc (suc (suc (suc zero))))))) h = refl
-digit_plain (suc (suc (suc (suc (suc (suc (suc (suc zero)))))))) h = refl
-digit_plain (suc (suc (suc (suc (suc (suc (suc (suc (suc zero))))))))) h = refl
-digit_plain (suc (suc (suc (suc (suc (suc (suc (suc (suc (suc zero)))))))))) h = refl
-digit_plain (suc (suc (suc (suc (suc (suc (suc (suc (suc (suc (suc zero))))))))))) h = refl
-digit_plain (suc (suc (suc (suc (suc (suc (suc (suc (suc (suc (suc (suc zero)))))))))))) h = refl
-digit_plain (suc (suc (suc (suc (suc (suc (suc (suc (suc (suc (suc (suc (suc zero))))))))))))) h = refl
-digit_plain (suc (suc (suc (suc (suc (suc (suc (suc (suc (suc (suc (suc (suc (suc zero)))))))))))))) h = refl
-digit_plain (suc (suc (suc (suc (suc (suc (suc (suc (suc (suc (suc (suc (suc (suc (suc zero))))))))))))))) h = refl
-digit_plain (suc (suc (suc (suc (suc (suc (suc (suc (suc (suc (suc (suc (suc (suc (suc (suc n)))))))))))))))) h = absurd (omega arith)
+digit_plain d small =
+    All-from_recursion (λ o. is_plain o ≡ true) lower_digits
+    (refl, (refl, (refl, (refl, (refl, (refl, (refl, (refl, (refl, (refl, (refl, (refl, (refl, (refl, (refl, (refl, tt)))))))))))))))) d 0 small
 
 pub plain_octets : (xs : List ℕ) → IsOctets xs → AllByRecursion (λ o. is_plain o ≡ true) (encode_lower xs)
 unfolding encode_with
@@ -81,9 +68,7 @@ dotted a b c d n mark is p q r s t =
 
 -- an address, a mark and a number
 address_runs : (address number mark : ℕ) → is_plain mark ≡ false → number < 2 ^ 64
-    → parts_of (address_text address ++ mark ∷ decimal number)
-    ≡ Run (decimal (address / 2 ^ 24 % 256)) ∷ Delimiter 46 ∷ Run (decimal (address / 2 ^ 16 % 256)) ∷ Delimiter 46
-    ∷ Run (decimal (address / 2 ^ 8 % 256)) ∷ Delimiter 46 ∷ Run (decimal (address % 256)) ∷ Delimiter mark ∷ Run (decimal number) ∷ []
+    → parts_of (address_text address ++ mark ∷ decimal number) ≡ address_parts mark address number
 address_runs address number mark is small =
     dotted (decimal (address / 16777216 % 256)) (decimal (address / 65536 % 256)) (decimal (address / 256 % 256)) (decimal (address % 256)) (decimal number) mark is
     (run_decimal (address / 16777216 % 256) (small_octet address 16777216)) (run_decimal (address / 65536 % 256) (small_octet address 65536))

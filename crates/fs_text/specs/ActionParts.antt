@@ -1,8 +1,9 @@
 -- The parts of the words of actions, and the octets of these actions.
-use Rattle.std.specs.Prelude.{◌≡◌, ◌<◌, ◌/◌, ◌%◌, ◌^◌, ℕ, List, [], ◌∷◌, ◌++◌, Some, Option, decimal}
+use Rattle.std.specs.Prelude.{◌≡◌, ◌<◌, ℕ, List, [], ◌∷◌, ◌++◌, Some, Option, decimal}
 use Rattle.byteorder.specs.Endian.{big_bytes}
 use Rattle.hex.specs.Hex.{encode_lower}
 use Rattle.fs_text.specs.Pieces.{Part, Delimiter, Run}
+use Rattle.fs_text.specs.PrefixParts.{address_parts}
 
 abbrev pub rate_parts : (id figure : ℕ) → List Part
 rate_parts id figure = Run (decimal id) ∷ Delimiter 58 ∷ Run (encode_lower (big_bytes 4 figure)) ∷ []
@@ -13,11 +14,8 @@ plain_parts last = Run (decimal last) ∷ []
 abbrev pub pair_parts : (first last : ℕ) → List Part
 pair_parts first last = Run (decimal first) ∷ Delimiter 58 ∷ Run (decimal last) ∷ []
 
--- an address and a number
 abbrev pub ip4_parts : (address number : ℕ) → List Part
-ip4_parts address number =
-    Run (decimal (address / 2 ^ 24 % 256)) ∷ Delimiter 46 ∷ Run (decimal (address / 2 ^ 16 % 256)) ∷ Delimiter 46
-    ∷ Run (decimal (address / 2 ^ 8 % 256)) ∷ Delimiter 46 ∷ Run (decimal (address % 256)) ∷ Delimiter 58 ∷ Run (decimal number) ∷ []
+ip4_parts = address_parts 58
 
 -- behind a word
 abbrev pub form_parts : List ℕ → List Part → List Part

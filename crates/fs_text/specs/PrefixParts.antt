@@ -7,11 +7,14 @@ use Rattle.fs_nlri.specs.Spelling.{IsRange}
 use Rattle.fs_words.specs.Figures.{hexadecimal}
 use Rattle.fs_text.specs.Pieces.{Part, Delimiter, Run}
 
--- an address and a length
+-- an address, a mark and a number
+abbrev pub address_parts : (mark address number : ℕ) → List Part
+address_parts mark address number =
+    Run (decimal (address / 2 ^ 24 % 256)) ∷ Delimiter 46 ∷ Run (decimal (address / 2 ^ 16 % 256)) ∷ Delimiter 46
+    ∷ Run (decimal (address / 2 ^ 8 % 256)) ∷ Delimiter 46 ∷ Run (decimal (address % 256)) ∷ Delimiter mark ∷ Run (decimal number) ∷ []
+
 abbrev pub v4_parts : (len bits : ℕ) → List Part
-v4_parts len bits =
-    Run (decimal (bits / 2 ^ 24 % 256)) ∷ Delimiter 46 ∷ Run (decimal (bits / 2 ^ 16 % 256)) ∷ Delimiter 46
-    ∷ Run (decimal (bits / 2 ^ 8 % 256)) ∷ Delimiter 46 ∷ Run (decimal (bits % 256)) ∷ Delimiter 47 ∷ Run (decimal len) ∷ []
+v4_parts len bits = address_parts 47 bits len
 
 -- the last four groups of an IPv6 address, and what stands behind them
 abbrev pub half_parts : ℕ → List Part → List Part

@@ -1,5 +1,8 @@
 //! Why a text is none of a rule and its actions.
 
+ghost use Rattle.std.specs.Prelude.{◌≡◌};
+ghost use Rattle.fs_text.specs.declared.fault.TextFault.TheVariants.{Memory as NoMemory};
+
 use fs_base::Memory;
 use std::alloc::{AllocError, AllocFailed};
 
@@ -16,9 +19,6 @@ pub enum TextFault {
 }
 
 impl From<Memory> for TextFault {
-    ghost use Rattle.std.specs.Prelude.{◌≡◌};
-    ghost use Rattle.fs_text.specs.declared.fault.TextFault.TheVariants.{Memory as NoMemory};
-
     ghost from_gives = { λ e r. r ≡ NoMemory };
 
     fn from(_error: Memory) -> TextFault {
@@ -27,9 +27,6 @@ impl From<Memory> for TextFault {
 }
 
 impl From<AllocError> for TextFault {
-    ghost use Rattle.std.specs.Prelude.{◌≡◌};
-    ghost use Rattle.fs_text.specs.declared.fault.TextFault.TheVariants.{Memory as NoMemory};
-
     ghost from_gives = { λ e r. r ≡ NoMemory };
 
     fn from(_error: AllocError) -> TextFault {
@@ -38,9 +35,6 @@ impl From<AllocError> for TextFault {
 }
 
 impl<T: Drop> From<AllocFailed<T>> for TextFault {
-    ghost use Rattle.std.specs.Prelude.{◌≡◌};
-    ghost use Rattle.fs_text.specs.declared.fault.TextFault.TheVariants.{Memory as NoMemory};
-
     ghost from_gives = { λ e r. r ≡ NoMemory };
 
     fn from(_error: AllocFailed<T>) -> TextFault {

@@ -7,7 +7,7 @@ ghost use Rattle.fs_ops.specs.Operator.{width_code, width_of};
 ghost use Rattle.fs_ops.specs.OperatorList.{IsNormal};
 ghost use Rattle.fs_ops.specs.declared.kind.Kind.TheVariants.{Numeric, Bitmask};
 ghost use Rattle.fs_words.specs.Figures.{octets_text};
-ghost use Rattle.fs_words.specs.Operators.{least_code, list_text, mask_sign, number_sign, operand_text, pair_text, sign, width_text, width_word};
+ghost use Rattle.fs_words.specs.Operators.{list_text, mask_sign, number_sign, operand_text, pair_text, sign, width_text, width_word};
 ghost use Rattle.fs_text.specs.ListWord.{code_at, is_sign, is_within, plain_of, relation_of};
 ghost use Rattle.fs_text.specs.Pieces.{Ends, is_plain};
 
@@ -16,6 +16,7 @@ use crate::parts::{is_plain, run_len};
 use byteorder::{BigEndian, ByteOrder};
 use fs_base::Memory;
 use fs_ops::Kind;
+use fs_words::least_code;
 use std::alloc::Global;
 
 /// How many octets stand before the first & or comma.
@@ -82,22 +83,6 @@ fn loose_sign(kind: Kind, text: &[u8]) -> Option<u8>
     match kind {
         Kind::Numeric => loose_comparison(text),
         Kind::Bitmask => loose_test(text),
-    }
-}
-
-/// The code of the least width that holds the value.
-fn least_code(value: u64) -> u8
-    ensures value { result ≡ least_code value }
-    ensures small { result < 4 }
-{
-    if value < 1 << 8 {
-        0
-    } else if value < 1 << 16 {
-        1
-    } else if value < 1 << 32 {
-        2
-    } else {
-        3
     }
 }
 

@@ -2,7 +2,6 @@
 
 ghost use Rattle.std.specs.Prelude.{◌≡◌, ◌<◌, ◌≤◌, ℕ, List, Some, IfOk};
 ghost use Rattle.std.specs.Option.{option_map};
-ghost use Rattle.fs_ops.specs.declared.kind.Kind.TheVariants.{Numeric, Bitmask};
 ghost use Rattle.fs_ops.specs.OperatorList.{IsNormal};
 ghost use Rattle.fs_nlri.specs.Component.{body_of, part_of};
 ghost use Rattle.fs_nlri.specs.Parts.{ListBody, part};
@@ -93,48 +92,24 @@ fn of_numbers(kind: u8, list: NumList) -> Component
     }
 }
 
-/// The component of this type with a list that tests bits.
-fn of_masks(kind: u8, list: MaskList) -> Component
-    ensures flags { kind ≡ 9 → part_of result ≡ part kind (ListBody list) }
-    ensures fragment { kind ≡ 12 → part_of result ≡ part kind (ListBody list) }
-{
-    match kind {
-        9 => Component::TcpFlags(list),
-        _ => Component::Fragment(list),
-    }
-}
-
-fn loose_numbers(kind: u8, pairs: Vec<(u8, u64)>) -> Option<Component>
-    ensures { 2 < kind → kind ≤ 13 → (kind ≡ 9 → ⊥) → (kind ≡ 12 → ⊥) → IsNormal Numeric pairs.items
-        → option_map part_of result ≡ Some (part kind (ListBody pairs.items)) }
-{
-    match NumList::from_pairs(pairs) {
-        Some(list) => Some(of_numbers(kind, list)),
-        None => None,
-    }
-}
-
-fn loose_masks(kind: u8, pairs: Vec<(u8, u64)>) -> Option<Component>
-    ensures flags { kind ≡ 9 → IsNormal Bitmask pairs.items
-        → option_map part_of result ≡ Some (part kind (ListBody pairs.items)) }
-    ensures fragment { kind ≡ 12 → IsNormal Bitmask pairs.items
-        → option_map part_of result ≡ Some (part kind (ListBody pairs.items)) }
-{
-    match MaskList::from_pairs(pairs) {
-        Some(list) => Some(of_masks(kind, list)),
-        None => None,
-    }
-}
-
 /// The component of this type with these pairs.
 fn loose_component(kind: u8, pairs: Vec<(u8, u64)>) -> Option<Component>
     ensures { 2 < kind → kind ≤ 13 → IsNormal (list_kind kind) pairs.items
         → option_map part_of result ≡ Some (part kind (ListBody pairs.items)) }
 {
     match kind {
-        9 => loose_masks(kind, pairs),
-        12 => loose_masks(kind, pairs),
-        _ => loose_numbers(kind, pairs),
+        9 => match MaskList::from_pairs(pairs) {
+            Some(list) => Some(Component::TcpFlags(list)),
+            None => None,
+        },
+        12 => match MaskList::from_pairs(pairs) {
+            Some(list) => Some(Component::Fragment(list)),
+            None => None,
+        },
+        _ => match NumList::from_pairs(pairs) {
+            Some(list) => Some(of_numbers(kind, list)),
+            None => None,
+        },
     }
 }
 

@@ -10,5 +10,6 @@ mod printing;
 mod values;
 
 pub use actions::{action_name, print_action};
+pub use operators::least_code;
 pub use printing::print;
 pub use values::{component_name, print_value};

@@ -2,13 +2,13 @@
 
 ghost use Rattle.std.specs.Prelude.{◌≡◌, ◌++◌, ◌<◌, ◌≤◌, ◌^◌, All, OnOk, decimal, flat_map};
 ghost use Rattle.std.specs.String.{string_bytes};
-ghost use Rattle.fs_ops.specs.declared.kind.Kind.TheVariants.{Numeric, Bitmask};
+ghost use Rattle.fs_ops.specs.declared.kind.Kind.TheVariants.{Numeric};
 ghost use Rattle.fs_ops.specs.Operator.{joins, width_code, width_of};
 ghost use Rattle.fs_words.specs.Operators.{joined_text, joiner, least_code, list_text, mask_sign, number_sign, operand_text, pair_text, sign, width_text, width_word};
 
 use crate::pieces::{print_decimal, print_wide};
 use fs_base::Memory;
-use fs_ops::{Kind, MaskList, NumList};
+use fs_ops::{Kind, OfKind, OperatorList, value_len, width_code_of};
 
 /// The sign of the bits less, greater, equal.
 fn number_sign(relation: u8) -> &'static str
@@ -56,8 +56,9 @@ fn joiner(operator: u8) -> &'static str
 }
 
 /// The code of the least width that holds the value.
-fn least_code(value: u64) -> u8
-    ensures { result ≡ least_code value }
+pub fn least_code(value: u64) -> u8
+    ensures value { result ≡ least_code value }
+    ensures small { result < 4 }
 {
     if value < 1 << 8 {
         0
@@ -93,29 +94,12 @@ fn width_word(value: u64, code: u8) -> &'static str
     }
 }
 
-/// The code of an operator's width.
-fn width_code(operator: u8) -> u8
-    ensures value { result ≡ width_code operator }
-    ensures small { result < 4 }
-{
-    (operator >> 4) & 3
-}
-
-/// The width of an operator's value in octets.
-fn width_of(operator: u8) -> usize
-    ensures value { result ≡ width_of operator }
-    ensures low { 1 ≤ result }
-    ensures high { result ≤ 8 }
-{
-    1 << width_code(operator)
-}
-
 /// Appends a number and its width.
 fn print_number(operator: u8, value: u64, out: &mut String) -> Result<(), Memory>
     ensures { OnOk result (string_bytes out.new ≡ string_bytes out.old ++ operand_text Numeric operator value) }
 {
     print_decimal(value, out)?;
-    out.push_str(width_word(value, width_code(operator)))?;
+    out.push_str(width_word(value, width_code_of(operator)))?;
     Ok(())
 }
 
@@ -126,7 +110,7 @@ fn print_operand(kind: Kind, operator: u8, value: u64, out: &mut String) -> Resu
 {
     match kind {
         Kind::Numeric => print_number(operator, value, out),
-        Kind::Bitmask => print_wide(width_of(operator), value, out),
+        Kind::Bitmask => print_wide(value_len(operator), value, out),
     }
 }
 
@@ -165,16 +149,12 @@ fn print_list(kind: Kind, pairs: &[(u8, u64)], out: &mut String) -> Result<(), M
     }
 }
 
-/// Appends a list that compares numbers.
-pub(crate) fn print_numbers(list: &NumList, out: &mut String) -> Result<(), Memory>
-    ensures { OnOk result (string_bytes out.new ≡ string_bytes out.old ++ list_text Numeric list.now) }
+/// Appends a list.
+pub(crate) fn print_operators<K: OfKind>(
+    list: &OperatorList<K>,
+    out: &mut String,
+) -> Result<(), Memory>
+    ensures { OnOk result (string_bytes out.new ≡ string_bytes out.old ++ list_text K.KIND list.now) }
 {
-    print_list(Kind::Numeric, list.pairs(), out)
-}
-
-/// Appends a list that tests bits.
-pub(crate) fn print_masks(list: &MaskList, out: &mut String) -> Result<(), Memory>
-    ensures { OnOk result (string_bytes out.new ≡ string_bytes out.old ++ list_text Bitmask list.now) }
-{
-    print_list(Kind::Bitmask, list.pairs(), out)
+    print_list(K::KIND, list.pairs(), out)
 }

@@ -7,7 +7,7 @@ ghost use Rattle.fs_nlri.specs.Component.{part_of};
 ghost use Rattle.fs_nlri.specs.Sound.{IsSoundBody};
 ghost use Rattle.fs_words.specs.Values.{component_name, value_text};
 
-use crate::operators::{print_masks, print_numbers};
+use crate::operators::print_operators;
 use crate::prefixes::print_prefix;
 use fs_base::Memory;
 use fs_nlri::Component;
@@ -42,7 +42,7 @@ pub fn print_value(component: &Component, out: &mut String) -> Result<(), Memory
 {
     match component {
         Component::Destination(form) | Component::Source(form) => print_prefix(form, out),
-        Component::TcpFlags(list) | Component::Fragment(list) => print_masks(list, out),
+        Component::TcpFlags(list) | Component::Fragment(list) => print_operators(list, out),
         Component::Protocol(list)
         | Component::Port(list)
         | Component::DestinationPort(list)
@@ -51,6 +51,6 @@ pub fn print_value(component: &Component, out: &mut String) -> Result<(), Memory
         | Component::IcmpCode(list)
         | Component::PacketLength(list)
         | Component::Dscp(list)
-        | Component::FlowLabel(list) => print_numbers(list, out),
+        | Component::FlowLabel(list) => print_operators(list, out),
     }
 }

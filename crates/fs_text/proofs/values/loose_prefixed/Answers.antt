@@ -1,14 +1,15 @@
+use Rattle.std.proofs.lemmas.Option.{same_Some}
 use Rattle.std.proofs.Common.{◌∙◌, Some, ap, map, sym}
 use Rattle.std.specs.Prelude.{option_map}
 use Rattle.fs_nlri.specs.Component.{body_of}
 use Rattle.fs_nlri.specs.Parts.{part}
 use Rattle.fs_text.specs.Parts.{as_part}
 use Rattle.fs_text.specs.Pieces.{parts_of}
-use Rattle.fs_text.proofs.Listed.{prefixed_loosely, some_body}
+use Rattle.fs_text.proofs.Listed.{prefixed_loosely}
 use Rattle.fs_text.proofs.values.loose_prefixed.Goals as goal
 
 pub returns-in-Some : goal.returns-in-Some
 returns-in-Some c =
     prefixed_loosely c.args.family c.args.kind c.args.word.now c.loose_prefix.result (Some c.of_prefix.result) c.requires.high
     (λ body is told. c.loose_prefix.ensures body is (ap (map as_part) c.deref.ensures.value ∙ c.in_ok-parts.ensures ∙ ap parts_of (c.as_bytes.ensures.value ∙ told)))
-    (λ body e. ap Some (c.of_prefix.ensures ∙ ap (part c.args.kind) (some_body (sym (ap (option_map body_of) c.in-Some.is) ∙ e))))
+    (λ body e. ap Some (c.of_prefix.ensures ∙ ap (part c.args.kind) (same_Some _ _ (sym (ap (option_map body_of) c.in-Some.is) ∙ e))))

@@ -1,39 +1,37 @@
-//! Lists of bitmask operators (RFC 8955 section 4.2.1.2).
+//! Lists of operators and values (RFC 8955 section 4.2.1), of either kind.
 
-ghost use Rattle.std.specs.Prelude.{◌≡◌, ◌≤◌, ◌<◌, ◌^◌, ◌++◌, List, length, take, map, bit_and, Err, IfOk, IfErr, IfSome, IfNone, OnOk, OnErr};
-ghost use Rattle.fs_ops.specs.Operator.{Kind, Bitmask};
-ghost use Rattle.fs_ops.specs.OperatorList.{Spells, IsNormal, canonical, first_joins};
-ghost use Rattle.fs_ops.specs.Fault.{CanBeWide, IsFault, all_widths, barred_at};
-ghost use Rattle.fs_ops.specs.Evaluation.{holds, masks};
+ghost use Rattle.std.specs.Prelude.{◌≡◌, ◌≤◌, ◌<◌, ◌^◌, ◌++◌, length, take, map, bit_and, Err, IfOk, IfErr, IfSome, IfNone, OnOk, OnErr};
+ghost use Rattle.fs_ops.specs.OperatorList.{Spells, IsNormal, canonical};
+ghost use Rattle.fs_ops.specs.Fault.{CanBeWide, IsFault, barred_at};
 
 use crate::fault::OpsFault;
-use crate::kind::Kind;
+use crate::kind::OfKind;
 use crate::pairs::PairList;
-use crate::{evaluation, making, reading, size, writing};
+use crate::{making, reading, writing};
 use fs_base::Memory;
 use std::alloc::Global;
-use std::marker::Model;
+use std::marker::{Model, PhantomData};
 
-/// A list of bitmask operators and values in normal form: reserved bits and the first operator's AND bit
+/// A list of operators of one kind and values in normal form: reserved bits and the first operator's AND bit
 /// are clear. It is never empty.
 #[derive(Debug, Drop)]
-pub struct MaskList {
+pub struct OperatorList<K: OfKind> {
     list: PairList,
+    kind: PhantomData<K>,
 }
 
-impl Model for MaskList {
+impl<K: OfKind> Model for OperatorList<K> {
     ghost use Rattle.std.specs.Prelude.{ℕ, List};
-    ghost use Rattle.fs_ops.specs.Operator.{Bitmask};
     ghost use Rattle.fs_ops.specs.OperatorList.{IsNormal};
 
     ghost Value = { List (ℕ × ℕ) };
 
     ghost view = { λ a. a.list };
 
-    ghost invariant = { λ a. IsNormal Bitmask a.list };
+    ghost invariant = { λ a. IsNormal K.KIND a.list };
 }
 
-impl PartialEq for MaskList {
+impl<K: OfKind> PartialEq for OperatorList<K> {
     ghost use Rattle.fs_ops.specs.Same.{same_pairs, same_pairs_law};
     ghost use Rattle.std.specs.Cmp.{partial_equiv_from_equiv};
 
@@ -41,52 +39,60 @@ impl PartialEq for MaskList {
 
     ghost laws = { partial_equiv_from_equiv same_pairs_law };
 
-    fn eq(&self, other: &MaskList) -> bool {
+    fn eq(&self, other: &OperatorList<K>) -> bool {
         self.pairs() == other.pairs()
     }
 }
 
-impl Eq for MaskList {
+impl<K: OfKind> Eq for OperatorList<K> {
     ghost use Rattle.fs_ops.specs.Same.{same_pairs_law};
 
     ghost laws = { same_pairs_law };
 }
 
-impl MaskList {
+impl<K: OfKind> OperatorList<K> {
+    fn new(list: PairList) -> OperatorList<K>
+        requires { IsNormal K.KIND list }
+        ensures { result ≡ list }
+    {
+        OperatorList {
+            list,
+            kind: PhantomData,
+        }
+    }
+
     /// Reads the list that stands at the front of the octets, and answers how many octets it takes. The
     /// width codes allowed are those of `widths`: code 0 is one octet, 1 two, 2 four, 3 eight. Where none of
     /// these is among them, the answer is `Width` at the first octet, or `Cut` where there are no octets.
-    pub fn decode(
+    pub fn decode_within(
         alloc: Global,
         octets: &[u8],
         widths: &[u8],
-    ) -> Result<(MaskList, usize), OpsFault>
+    ) -> Result<(OperatorList<K>, usize), OpsFault>
         ensures taken { IfOk result (λ read. read.1 ≤ length octets.now) }
-        ensures found { IfOk result (λ read. Spells Bitmask widths.now (take read.1 octets.now) read.0) }
+        ensures found { IfOk result (λ read. Spells K.KIND widths.now (take read.1 octets.now) read.0) }
         ensures fault { CanBeWide widths.now → IfErr result (IsFault widths.now octets.now) }
         ensures barred { (CanBeWide widths.now → ⊥) → result ≡ Err (barred_at octets.now) }
     {
-        let (list, taken) = reading::read(alloc, Kind::Bitmask, octets, widths)?;
-        Ok((MaskList { list }, taken))
+        let (list, taken) = reading::read(alloc, K::KIND, octets, widths)?;
+        Ok((OperatorList::new(list), taken))
     }
 
     /// The list of these pairs. None exactly where they aren't in normal form.
-    pub fn from_pairs(pairs: Vec<(u8, u64)>) -> Option<MaskList>
+    pub fn from_pairs(pairs: Vec<(u8, u64)>) -> Option<OperatorList<K>>
         ensures some { IfSome result (λ list. list ≡ pairs.items) }
-        ensures none { IfNone result (IsNormal Bitmask pairs.items → ⊥) }
+        ensures none { IfNone result (IsNormal K.KIND pairs.items → ⊥) }
     {
-        if !making::is_normal(Kind::Bitmask, &pairs) {
+        if !making::is_normal(K::KIND, &pairs) {
             return None;
         }
-        Some(MaskList {
-            list: PairList::new(pairs),
-        })
+        Some(OperatorList::new(PairList::new(pairs)))
     }
 
     /// The operator octets, each with its value.
     pub fn pairs(&self) -> &[(u8, u64)]
         ensures value { result.now ≡ self.now }
-        ensures normal { IsNormal Bitmask self.now }
+        ensures normal { IsNormal K.KIND self.now }
     {
         self.list.as_slice()
     }
@@ -96,7 +102,7 @@ impl MaskList {
         ensures value { result ≡ length (canonical self.now) }
         ensures small { result < 2 ^ 63 }
     {
-        size::encoded_len(self.list.as_slice())
+        writing::encoded_len(self.list.as_slice())
     }
 
     /// Appends the list's octets; after want of memory `out` is as it was.
@@ -107,13 +113,6 @@ impl MaskList {
         writing::write(self.list.as_slice(), out)
     }
 
-    /// Whether the list holds of the number: it is an OR of groups, each an AND of its pairs.
-    pub fn eval(&self, datum: u64) -> bool
-        ensures { result ≡ holds (masks datum) self.now }
-    {
-        evaluation::eval(self.list.as_slice(), Kind::Bitmask, datum)
-    }
-
     /// Clears the other bits of each value.
     pub fn keep_bits(&mut self, bits: u64)
         ensures { self.new ≡ map (λ pair. (pair.0, bit_and pair.1 bits)) self.old }
@@ -122,11 +121,9 @@ impl MaskList {
     }
 
     /// An equal list.
-    pub fn copy(&self) -> Result<MaskList, Memory>
+    pub fn copy(&self) -> Result<OperatorList<K>, Memory>
         ensures { IfOk result (λ list. list ≡ self.now) }
     {
-        Ok(MaskList {
-            list: self.list.copy()?,
-        })
+        Ok(OperatorList::new(self.list.copy()?))
     }
 }

@@ -3,7 +3,7 @@ use Rattle.std.proofs.lemmas.List.{take_more}
 use Rattle.byteorder.specs.Numbers.{length-bytes_high_first}
 use Rattle.fs_ops.specs.Operator.{width_of}
 use Rattle.fs_ops.specs.OperatorList.{canonical, pair_octets}
-use Rattle.fs_ops.proofs.size.encoded_len.Goals as goal
+use Rattle.fs_ops.proofs.writing.encoded_len.Goals as goal
 
 one_pair : (pair : ℕ × ℕ) → length (pair_octets pair) ≡ 1 + width_of pair.0
 one_pair pair = omega (arith, length-bytes_high_first (width_of pair.0) pair.1)

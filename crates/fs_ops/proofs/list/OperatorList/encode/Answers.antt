@@ -1,9 +1,9 @@
 use Rattle.std.proofs.Common.{◌<◌, ◌^◌, List, ℕ, All, sym, subst}
-use Rattle.fs_ops.specs.Operator.{Numeric, meant_bits, width_of}
+use Rattle.fs_ops.specs.Operator.{meant_bits, width_of}
 use Rattle.fs_ops.proofs.Normal.{values_fit}
-use Rattle.fs_ops.proofs.num_list.NumList.encode.Goals as goal
+use Rattle.fs_ops.proofs.list.OperatorList.encode.Goals as goal
 
 pub write-requires : goal.write-requires
-write-requires c =
+write-requires g c =
     let fit = λ (pairs : List (ℕ × ℕ)). All (λ (pair : ℕ × ℕ). pair.1 < 256 ^ width_of pair.0) pairs in
-    subst fit (sym c.as_slice.ensures) (values_fit (meant_bits Numeric) c.self.inside.list c.self.invariant.normal)
+    subst fit (sym c.as_slice.ensures) (values_fit (meant_bits g.K.OfKind.KIND) c.self.inside.list c.self.invariant.normal)

@@ -1,6 +1,6 @@
 use Rattle.std.proofs.Common.{◌≡◌, ◌*◌, ◌≤◌, length, take}
 use Rattle.fs_ops.specs.OperatorList.{canonical}
-use Rattle.fs_ops.proofs.size.encoded_len.Given as goal
+use Rattle.fs_ops.proofs.writing.encoded_len.Given as goal
 
 abbrev pub invariant-loop-operator : goal.invariant-loop-operator
 invariant-loop-operator l = record {

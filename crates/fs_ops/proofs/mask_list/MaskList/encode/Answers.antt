@@ -1,9 +1,0 @@
-use Rattle.std.proofs.Common.{◌<◌, ◌^◌, List, ℕ, All, sym, subst}
-use Rattle.fs_ops.specs.Operator.{Bitmask, meant_bits, width_of}
-use Rattle.fs_ops.proofs.Normal.{values_fit}
-use Rattle.fs_ops.proofs.mask_list.MaskList.encode.Goals as goal
-
-pub write-requires : goal.write-requires
-write-requires c =
-    let fit = λ (pairs : List (ℕ × ℕ)). All (λ (pair : ℕ × ℕ). pair.1 < 256 ^ width_of pair.0) pairs in
-    subst fit (sym c.as_slice.ensures) (values_fit (meant_bits Bitmask) c.self.inside.list c.self.invariant.normal)

@@ -1,9 +1,0 @@
-use Rattle.std.proofs.Common.{sym, subst}
-use Rattle.fs_ops.specs.Operator.{Numeric}
-use Rattle.fs_ops.specs.OperatorList.{IsNormal}
-use Rattle.fs_ops.proofs.Normal.{kept_is_normal}
-use Rattle.fs_ops.proofs.num_list.NumList.keep_bits.Goals as goal
-
-pub invariant_of-self : goal.invariant_of-self
-invariant_of-self c =
-    subst (IsNormal Numeric) (sym c.keep_bits.ensures) (kept_is_normal Numeric c.args.bits c.self.inside.list c.self.invariant)
