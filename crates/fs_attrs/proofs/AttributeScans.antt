@@ -1,10 +1,11 @@
 -- Loops that gather the values of attributes, or look for a wrong segment.
-use Rattle.std.proofs.Common.{◌≡◌, ℕ, suc, ◌==◌, Bool, true, false, not, cond, ◌&&◌, ◌||◌, nat_lt, List, [], ◌∷◌, length, Option, Some, None, refl, sym, ap, ◌∙◌, arith, if◌then◌else◌}
+use Rattle.std.proofs.Common.{◌≡◌, ℕ, suc, ◌==◌, Bool, true, false, not, cond, ◌&&◌, ◌||◌, nat_lt, List, [], ◌∷◌, length, Option, Some, None, refl, sym, ap, subst, ◌∙◌, arith, if◌then◌else◌}
 use Rattle.std.specs.Prelude.{option_map, find, filter}
 use Rattle.std.specs.List.{list_any}
 use Rattle.std.specs.Option.{option_or, is_some, is_none}
 use Rattle.std.proofs.lemmas.Bool.Decides.{nat_tests}
 use Rattle.fs_base.specs.declared.path.Segment.{Segment}
+use Rattle.fs_base.proofs.Bools.{or_false, or_weaker}
 use Rattle.fs_base.specs.Parts.{parts_of}
 use Rattle.fs_base.proofs.Parts.{parts_step, parts_end}
 use Rattle.fs_attrs.specs.declared.update.Terms.{Terms}
@@ -119,14 +120,17 @@ behind_more true first None (Some other) value quiet = refl
 behind_more true first (Some other) unreach value quiet = refl
 behind_more false first reach unreach value quiet = quiet
 
-neither : (a b : Bool) → (a || b) ≡ false → (a ≡ false) × (b ≡ false)
-neither true b h = cc
-neither false b h = (refl, h)
+-- the first attribute of the octets, and those behind it
+first_of : (kept : Valued) (octets : List ℕ) (found : Attribute × List ℕ) (all : List Attribute) → first_attribute octets ≡ Some found → SoFar kept (attributes_of octets) all
+    → SoFar kept (found.0 ∷ attributes_of found.1) all
+first_of kept octets found all h so = subst (λ (z : List Attribute). SoFar kept z all) (attributes_more octets found h) so
 
-pub kept_next : (kept : Valued) (next : Attribute) (rest all : List Attribute) → has_kept kept next.kind ≡ false → SoFar kept (next ∷ rest) all
-    → SoFar (values_with kept next) rest all
-kept_next kept next rest all once so =
-    let parts = neither ((next.kind == 14) && is_some kept.reach) ((next.kind == 15) && is_some kept.unreach) once in
+pub kept_next : (kept : Valued) (octets : List ℕ) (found : Attribute × List ℕ) (all : List Attribute) → first_attribute octets ≡ Some found → has_kept kept found.0.kind ≡ false
+    → SoFar kept (attributes_of octets) all → SoFar (values_with kept found.0) (attributes_of found.1) all
+kept_next kept octets (next, behind) all h once before =
+    let rest : List Attribute = attributes_of behind in
+    let so = first_of kept octets (next, behind) all h before in
+    let parts = or_false ((next.kind == 14) && is_some kept.reach) ((next.kind == 15) && is_some kept.unreach) once in
     let later : ℕ → Option Attribute = λ (kind : ℕ). find (λ attribute. attribute.kind == kind) rest in
     record {
       origin = kept_more (next.kind == 1) kept.origin next (later 1) ∙ so.origin;
@@ -151,16 +155,14 @@ twice_here kind true (Some value) next rest e twice = ap (λ (b : Bool). is_some
 twice_here kind true None next rest e twice = cc
 twice_here kind false kept next rest e twice = cc
 
-either : (a b c d : Bool) → (a ≡ true → c ≡ true) → (b ≡ true → d ≡ true) → (a || b) ≡ true → (c || d) ≡ true
-either true b c d f g h = ap (λ (x : Bool). x || d) (f refl)
-either false b true d f g h = refl
-either false b false d f g h = g h
-
-pub kept_twice : (kept : Valued) (next : Attribute) (rest all : List Attribute) → has_kept kept next.kind ≡ true → SoFar kept (next ∷ rest) all → routes_doubled all ≡ true
-kept_twice kept next rest all twice so =
-    either ((next.kind == 14) && is_some kept.reach) ((next.kind == 15) && is_some kept.unreach) (is_doubled 14 all) (is_doubled 15 all)
-    (λ (h : ((next.kind == 14) && is_some kept.reach) ≡ true). sym so.reach_twice ∙ twice_here 14 (next.kind == 14) kept.reach next rest refl h)
-    (λ (h : ((next.kind == 15) && is_some kept.unreach) ≡ true). sym so.unreach_twice ∙ twice_here 15 (next.kind == 15) kept.unreach next rest refl h)
+pub kept_twice : (kept : Valued) (octets : List ℕ) (found : Attribute × List ℕ) (all : List Attribute) → first_attribute octets ≡ Some found → has_kept kept found.0.kind ≡ true
+    → SoFar kept (attributes_of octets) all → routes_doubled all ≡ true
+kept_twice kept octets (next, behind) all h twice before =
+    let rest : List Attribute = attributes_of behind in
+    let so = first_of kept octets (next, behind) all h before in
+    or_weaker ((next.kind == 14) && is_some kept.reach) ((next.kind == 15) && is_some kept.unreach) (is_doubled 14 all) (is_doubled 15 all)
+    (λ (e : ((next.kind == 14) && is_some kept.reach) ≡ true). sym so.reach_twice ∙ twice_here 14 (next.kind == 14) kept.reach next rest refl e)
+    (λ (e : ((next.kind == 15) && is_some kept.unreach) ≡ true). sym so.unreach_twice ∙ twice_here 15 (next.kind == 15) kept.unreach next rest refl e)
     twice
 
 -- behind the last attribute

@@ -2,6 +2,7 @@
 use Rattle.std.proofs.Common.{◌≡◌, ℕ, ◌*◌, ◌<◌, ◌≤◌, ◌==◌, Bool, true, false, ◌&&◌, bit_and, nat_le, nat_lt, List, [], ◌∷◌, length, take, drop, Option, Some, None, refl, sym, ap, arith, if◌then◌else◌}
 use Rattle.std.specs.Prelude.{option_map}
 use Rattle.std.proofs.lemmas.List.{length-drop}
+use Rattle.std.proofs.lemmas.Option.{cond_some}
 use Rattle.std.proofs.lemmas.Bool.Decides.{nat_tests}
 use Rattle.byteorder.specs.Endian.{big_number}
 use Rattle.fs_base.specs.Parts.{Shrinks}
@@ -13,17 +14,13 @@ use Rattle.fs_attrs.specs.Attributes.{Attribute, attribute, sized, short_field, 
 use Rattle.fs_attrs.specs.Prefixes.{Shown, shown_as, first_prefix}
 use Rattle.fs_attrs.specs.Segments.{as_width, first_as, numbers_of, segment, first_segment}
 
-chosen : {A : Type 0} (test : Bool) (a b : A) → (if test then Some a else None) ≡ Some b → (test ≡ true) × (a ≡ b)
-chosen true a b h = (refl, cc)
-chosen false a b h = cc
-
 not_chosen : {A : Type 0} (test : Bool) (a b : A) → (if test then None else Some a) ≡ Some b → (test ≡ false) × (a ≡ b)
 not_chosen true a b h = cc
 not_chosen false a b h = (refl, cc)
 
 sized_within : (size : ℕ) (octets : List ℕ) (found : List ℕ × List ℕ) → sized size octets ≡ Some found → length found.1 ≤ length octets
 sized_within size octets found h =
-    let c = chosen (nat_le size (length octets)) (take size octets, drop size octets) found h in
+    let c = cond_some (nat_le size (length octets)) (take size octets, drop size octets) found h in
     omega (arith, sym (ap (λ (z : List ℕ × List ℕ). length z.1) c.1), length-drop size octets)
 
 short_within : (octets : List ℕ) (found : List ℕ × List ℕ) → short_field octets ≡ Some found → length found.1 ≤ length octets
@@ -63,7 +60,7 @@ attribute_shrinks (flags ∷ kind ∷ rest) found h =
 pub prefix_shrinks : (family : Family) → Shrinks (first_prefix family)
 prefix_shrinks family [] found h = cc
 prefix_shrinks family (len ∷ rest) found h =
-    let c = chosen (nat_le len (width_of family) && nat_le (octets_for len) (length rest))
+    let c = cond_some (nat_le len (width_of family) && nat_le (octets_for len) (length rest))
     (shown_as family (first_bits (width_of family) len (take (octets_for len) rest)) len, drop (octets_for len) rest) found h in
     omega (arith, sym (ap (λ (z : Shown × List ℕ). length z.1) c.1), length-drop (octets_for len) rest)
 
@@ -82,6 +79,6 @@ pub segment_shrinks : (four : Bool) → Shrinks (first_segment four)
 segment_shrinks four [] found h = cc
 segment_shrinks four (form ∷ []) found h = cc
 segment_shrinks four (form ∷ count ∷ rest) found h =
-    let c = chosen (((nat_le 1 form && nat_le form 4) && nat_lt 0 count) && nat_le (count * as_width four) (length rest))
+    let c = cond_some (((nat_le 1 form && nat_le form 4) && nat_lt 0 count) && nat_le (count * as_width four) (length rest))
     (segment form (numbers_of four (take (count * as_width four) rest)), drop (count * as_width four) rest) found h in
     omega (arith, sym (ap (λ (z : Segment × List ℕ). length z.1) c.1), length-drop (count * as_width four) rest)

@@ -131,22 +131,17 @@ actions_read terms update path there is =
 
 -- the whole path
 
-session_pref : (terms : Terms) (path : Path) → is_path_of_session terms path ≡ true → terms.external ≡ true → path.local_pref ≡ 100
-session_pref terms path h external =
-    let both : ((path.external && (path.local_pref == 100)) && is_none path.originator) ≡ true =
-    subst (λ (b : Bool). (if b then (path.external && (path.local_pref == 100)) && is_none path.originator else not path.external) ≡ true) external h in
-    let first = and_parts (path.external && (path.local_pref == 100)) (is_none path.originator) both in
-    eqb-true path.local_pref 100 (and_parts path.external (path.local_pref == 100) first.0).1
-
 none_is : (id : Option ℕ) → is_none id ≡ true → id ≡ None
 none_is None h = refl
 none_is (Some id) h = cc
 
-session_originator : (terms : Terms) (path : Path) → is_path_of_session terms path ≡ true → terms.external ≡ true → path.originator ≡ None
-session_originator terms path h external =
+-- an external session's path has no preference and no originator of its own
+session_own : (terms : Terms) (path : Path) → is_path_of_session terms path ≡ true → terms.external ≡ true → (path.local_pref ≡ 100) × (path.originator ≡ None)
+session_own terms path h external =
     let both : ((path.external && (path.local_pref == 100)) && is_none path.originator) ≡ true =
     subst (λ (b : Bool). (if b then (path.external && (path.local_pref == 100)) && is_none path.originator else not path.external) ≡ true) external h in
-    none_is path.originator (and_parts (path.external && (path.local_pref == 100)) (is_none path.originator) both).1
+    let parts = and_parts (path.external && (path.local_pref == 100)) (is_none path.originator) both in
+    (eqb-true path.local_pref 100 (and_parts path.external (path.local_pref == 100) parts.0).1, none_is path.originator parts.1)
 
 same_kind : (external own : Bool) (pref none : Bool) → (if external then (own && pref) && none else not own) ≡ true → external ≡ own
 same_kind true true pref none h = refl
@@ -161,8 +156,9 @@ pub record IsGiven (terms : Terms) (actions : List (List ℕ)) (path : Path) : T
   pub sound : IsPath actions path
   pub kept : (terms.four || list_all are_low path.segments) ≡ true
 
-pub path_read : (terms : Terms) (update : Update) (path : Path) → update.path ≡ Some path → IsGiven terms update.actions path → path_of terms (values_of (written_attributes terms update)) ≡ path
-path_read terms update path there given =
+pub path_back : (terms : Terms) (update : Update) (path : Path) → update.path ≡ Some path → IsGiven terms update.actions path
+    → (path_of terms (values_of (written_attributes terms update)) ≡ path) × (withdraws terms (values_of (written_attributes terms update)) true ≡ false)
+path_back terms update path there given =
     let fits = fit_segments terms.four terms.external path.segments given.written (recursion_from_All AreNumbers path.segments given.sound.segments) given.kept in
     rw (
       origin_value terms update path there,
@@ -170,28 +166,22 @@ path_read terms update path there given =
       pref_value terms update path there,
       originator_value terms update path there,
       segments_read terms.four path.segments fits,
-      pref_back terms.external path.local_pref given.sound.local_pref (session_pref terms path given.session),
-      originator_back terms.external path.originator given.sound.originator (session_originator terms path given.session),
-      same_kind terms.external path.external (path.local_pref == 100) (is_none path.originator) given.session,
-    ) refl
-
-pub path_given : (terms : Terms) (update : Update) (path : Path) → update.path ≡ Some path → IsGiven terms update.actions path → withdraws terms (values_of (written_attributes terms update)) true ≡ false
-path_given terms update path there given =
-    let fits = fit_segments terms.four terms.external path.segments given.written (recursion_from_All AreNumbers path.segments given.sound.segments) given.kept in
-    rw (
-      origin_value terms update path there,
-      segments_value terms update path there,
-      pref_value terms update path there,
-      originator_value terms update path there,
-      actions_value terms update path there,
-      given.origin,
-      segments_whole terms.four path.segments fits,
-      segments_read terms.four path.segments fits,
-      none_barred terms.external path.segments given.written,
-      pref_right terms.external path.local_pref,
-      originator_right terms.external path.originator,
-      communities_at (length update.actions == 0) update.actions refl given.sound.actions,
-    ) refl
+    ) (
+      rw (
+        pref_back terms.external path.local_pref given.sound.local_pref (λ e. (session_own terms path given.session e).0),
+        originator_back terms.external path.originator given.sound.originator (λ e. (session_own terms path given.session e).1),
+        same_kind terms.external path.external (path.local_pref == 100) (is_none path.originator) given.session,
+      ) refl,
+      rw (
+        actions_value terms update path there,
+        given.origin,
+        segments_whole terms.four path.segments fits,
+        none_barred terms.external path.segments given.written,
+        pref_right terms.external path.local_pref,
+        originator_right terms.external path.originator,
+        communities_at (length update.actions == 0) update.actions refl given.sound.actions,
+      ) refl,
+    )
 
 pub none_given : (terms : Terms) (update : Update) → update.path ≡ None → withdraws terms (values_of (written_attributes terms update)) false ≡ false
 none_given terms update none =

@@ -10,20 +10,15 @@ use Rattle.fs_base.specs.declared.prefix.Family.TheVariants.{V4, V6}
 use Rattle.fs_base.specs.Language.{IsOctets}
 use Rattle.fs_base.proofs.Digits.{big_octets}
 use Rattle.fs_base.proofs.Octets.{octets_append, octets_cons, octets_nil}
-use Rattle.fs_ops.specs.declared.kind.Kind.{Kind}
-use Rattle.fs_ops.specs.declared.kind.Kind.TheVariants.{Bitmask, Numeric}
 use Rattle.fs_ops.specs.Operator.{meant_bits, width_of}
-use Rattle.fs_ops.specs.OperatorList.{AreNormal as AreNormalPairs, IsNormalPair, canonical as canonical_pairs, pair_octets}
+use Rattle.fs_ops.specs.OperatorList.{IsNormalPair, pair_octets, AreNormal as AreNormalPairs, canonical as canonical_pairs}
+use Rattle.fs_ops.proofs.Canonical.{small_bits}
 use Rattle.fs_nlri.specs.Forms.{Form, V4Form, V6Form, ListForm, form_of, forms}
 use Rattle.fs_nlri.specs.Parts.{Body, V4Body, V6Body, ListBody, Part, Ruled}
 use Rattle.fs_nlri.specs.Spelling.{IsRange, octets_for}
 use Rattle.fs_nlri.specs.Rule.{AreNormal, IsNormalAt, IsNormalBody, IsRule, canonical_body, canonical_frame, canonical_length, canonical_part, canonical_value, first_octets}
 
 -- operators and values
-
-meant_small : (kind : Kind) → meant_bits kind < 256
-meant_small Numeric = omega arith
-meant_small Bitmask = omega arith
 
 pair_are : (bits : ℕ) (pair : ℕ × ℕ) → bits < 256 → IsNormalPair bits pair → IsOctets (pair_octets pair)
 pair_are bits pair small normal =
@@ -53,7 +48,7 @@ body_are V6Form (V6Body len offset pattern) normal =
     octets_cons len (offset ∷ first_octets 128 (len - offset) pattern) (omega arith)
     (octets_cons offset (first_octets 128 (len - offset) pattern) (offset_small len offset normal.0)
     (big_octets (octets_for (len - offset)) (pattern / 2 ^ (128 - 8 * octets_for (len - offset)))))
-body_are (ListForm kind widths bits) (ListBody pairs) normal = pairs_are (meant_bits kind) pairs (meant_small kind) normal.0.normal
+body_are (ListForm kind widths bits) (ListBody pairs) normal = pairs_are (meant_bits kind) pairs (small_bits kind) normal.0.normal
 body_are V4Form (V6Body len offset pattern) normal = absurd normal
 body_are V4Form (ListBody pairs) normal = absurd normal
 body_are V6Form (V4Body family len bits) normal = absurd normal

@@ -13,7 +13,7 @@ use Rattle.fs_ops.specs.declared.fault.OpsFault.TheVariants.{Cut as ListCut, Wid
 use Rattle.fs_ops.specs.Operator.{counted_bits, ends, width_code, width_of}
 use Rattle.fs_ops.specs.OperatorList.{text, Spells as SpellsPairs}
 use Rattle.fs_ops.specs.Fault.{IsFault}
-use Rattle.fs_ops.proofs.Found.{HasRead as HasPairs, cut_between, cut_within, bad_width, next_found, goes_on, ends_here}
+use Rattle.fs_ops.proofs.Found.{cut_between, cut_within, bad_width, next_found, goes_on, ends_here, HasRead as HasPairs}
 use Rattle.fs_nlri.specs.declared.fault.Reason.{Reason}
 use Rattle.fs_nlri.specs.declared.fault.Reason.TheVariants.{Cut, NoType, Order, PrefixLength, Offset, Width, Length}
 use Rattle.fs_nlri.specs.declared.fault.NlriFault.TheVariants.{Bad}
@@ -28,6 +28,7 @@ use Rattle.fs_nlri.proofs.BodyReaders.{list_bad}
 use Rattle.fs_nlri.proofs.ValueSteps.{HasRead, start, finished, no_type, not_above, bad_at}
 use Rattle.fs_nlri.proofs.Frames.{frame_found, frame_bad}
 use Rattle.fs_nlri.proofs.Every.{IsBodyOutcome, IsValueOutcome, AllowsSome, allows_at, all_allow, v4_whole, v6_whole, range_or_not, more_part, none_is_not_some, some_is, open_empty, open_one, passes_end, frame_before_bad, frame_some}
+use Rattle.fs_nlri.proofs.InNormalForm.{range_is}
 use Rattle.fs_attrs.specs.Rules.{v4_at, v6_at, with_pair, pairs_at, list_body, body_at, behind_type, typed_at, with_component, components_of, components_in, length_at, framed, sized_at, frame_at, with_rule, frames_of, rules_of}
 
 -- Prefixes
@@ -41,13 +42,6 @@ v4_is (len ∷ tail) = elim (cases_lt 32 len) [
     | inr room ↦ rw (le-ltb 32 len short, le-ltb (length tail) (octets_for len) room) (omega arith, v4_whole len tail short room)
   ]
 ]
-
-range_is : (len offset : ℕ) → IsRange len offset → is_range len offset ≡ true
-range_is len offset range = by range.1
-  where
-    by : ((offset < len) ⊎ ((len ≡ 0) × (offset ≡ 0))) → is_range len offset ≡ true
-    by (inl below) = rw (le-leb len 128 range.0, lt-ltb offset len below) refl
-    by (inr zeros) = rw (zeros.0, zeros.1) refl
 
 no_range : (len offset : ℕ) → len ≤ 128 → (IsRange len offset → ⊥) → is_range len offset ≡ false
 no_range len offset short none = elim (cases_lt offset len) [

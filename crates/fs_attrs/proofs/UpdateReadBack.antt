@@ -16,6 +16,7 @@ use Rattle.fs_base.specs.declared.path.Path.{Path}
 use Rattle.fs_base.specs.Bits.{width_of, afi_of, cleared}
 use Rattle.fs_base.specs.Language.{IsOctets}
 use Rattle.fs_base.proofs.Octets.{octets_left, octets_right, octets_tail}
+use Rattle.fs_base.proofs.Covers.{same_family_of}
 use Rattle.fs_nlri.specs.Parts.{Ruled}
 use Rattle.fs_nlri.specs.Rule.{IsRule, canonical_frame}
 use Rattle.fs_nlri.specs.Feed.{Frames}
@@ -37,7 +38,7 @@ use Rattle.fs_attrs.specs.Writable.{are_prefixes_of, are_rules_of, are_attribute
 use Rattle.fs_attrs.specs.Segments.{is_written_segment, are_low}
 use Rattle.fs_attrs.specs.Lists.{IsPrefix}
 use Rattle.fs_attrs.proofs.FieldOutcome.{flow_found}
-use Rattle.fs_attrs.proofs.PathReadBack.{IsGiven, path_read, path_given, none_given, actions_read}
+use Rattle.fs_attrs.proofs.PathReadBack.{IsGiven, path_back, none_given, actions_read}
 use Rattle.fs_attrs.proofs.TextsReadBack.{attribute_at, long_read, attributes_read, IsShown, prefixes_whole, prefixes_read}
 use Rattle.fs_attrs.proofs.WrittenAttributes.{reach_value, unreach_value, reach_once, unreach_once}
 
@@ -55,17 +56,11 @@ fields_read out announced list a b once =
 
 -- families
 
-same_family : (one other : Family) → (afi_of one == afi_of other) ≡ true → one ≡ other
-same_family V4 V4 h = refl
-same_family V6 V6 h = refl
-same_family V4 V6 h = cc
-same_family V6 V4 h = cc
-
 shown_in : (family : Family) (prefixes : List Shown) → are_prefixes_of family prefixes ≡ true → AllByRecursion IsPrefix prefixes → AllByRecursion (IsShown family) prefixes
 shown_in family [] h all = tt
 shown_in family (prefix ∷ prefixes) h all =
     let parts = and_parts (afi_of prefix.0 == afi_of family) (are_prefixes_of family prefixes) h in
-    let same : prefix.0 ≡ family = same_family prefix.0 family parts.0 in (
+    let same : prefix.0 ≡ family = same_family_of prefix.0 family parts.0 in (
       record {
         same = same;
         short = subst (λ (f : Family). prefix.2 ≤ width_of f) same all.0.short;
@@ -78,7 +73,7 @@ frames_of : (family : Family) (rules : List Ruled) → are_rules_of family rules
 frames_of family [] h all = refl
 frames_of family (rule ∷ rules) h all =
     let parts = and_parts (afi_of rule.family == afi_of family) (are_rules_of family rules) h in
-    (canonical_frame rule, rules_text rules, refl, same_family rule.family family parts.0, canonical_is_frame rule all.0, frames_of family rules parts.1 all.1)
+    (canonical_frame rule, rules_text rules, refl, same_family_of rule.family family parts.0, canonical_is_frame rule all.0, frames_of family rules parts.1 all.1)
 
 -- the routes of attributes
 
@@ -127,25 +122,27 @@ reach_at afi safi hop routes small read =
     let behind : drop (5 + length hop) value ≡ routes = ap (λ (z : List ℕ). drop (5 + length hop) z) joined ∙ drop_at front routes (5 + length hop) size in
     rw (three, number, read, four, hops, behind) refl
 
-reach_back : (address : Address) (routes : Routes) → are_attribute_routes routes ≡ true → AreRoutes routes → IsOctets (routes_text routes) → reach_of (reach_text address routes) ≡ Ok (Some routes)
-reach_back address (Unicast V4 prefixes) h all small = cc
-reach_back address (Unicast V6 prefixes) h all small = reach_at 2 1 (hop_of address (Unicast V6 prefixes)) (prefixes_text prefixes) (omega arith) refl ∙ routes_back (Unicast V6 prefixes) h all small
-reach_back address (Flow V4 rules) h all small = reach_at 1 133 [] (rules_text rules) (omega arith) refl ∙ routes_back (Flow V4 rules) h all small
-reach_back address (Flow V6 rules) h all small = reach_at 2 133 [] (rules_text rules) (omega arith) refl ∙ routes_back (Flow V6 rules) h all small
-
-unreach_back : (routes : Routes) → are_attribute_routes routes ≡ true → AreRoutes routes → IsOctets (routes_text routes) → unreach_of (unreach_text routes) ≡ Ok (Some routes)
-unreach_back (Unicast V4 prefixes) h all small = cc
-unreach_back (Unicast V6 prefixes) h all small = unreach_at 2 1 (prefixes_text prefixes) (omega arith) ∙ routes_back (Unicast V6 prefixes) h all small
-unreach_back (Flow V4 rules) h all small = unreach_at 1 133 (rules_text rules) (omega arith) ∙ routes_back (Flow V4 rules) h all small
-unreach_back (Flow V6 rules) h all small = unreach_at 2 133 (rules_text rules) (omega arith) ∙ routes_back (Flow V6 rules) h all small
+-- what is written of them is read by its family and its hop
+routes_text_back : (address : Address) (routes : Routes) → are_attribute_routes routes ≡ true → AreRoutes routes → IsOctets (routes_text routes)
+    → (reach_of (reach_text address routes) ≡ Ok (Some routes)) × (unreach_of (unreach_text routes) ≡ Ok (Some routes))
+routes_text_back address (Unicast V4 prefixes) h all small = cc
+routes_text_back address (Unicast V6 prefixes) h all small =
+    let back = routes_back (Unicast V6 prefixes) h all small in
+    (reach_at 2 1 (hop_of address (Unicast V6 prefixes)) (prefixes_text prefixes) (omega arith) refl ∙ back, unreach_at 2 1 (prefixes_text prefixes) (omega arith) ∙ back)
+routes_text_back address (Flow V4 rules) h all small =
+    let back = routes_back (Flow V4 rules) h all small in
+    (reach_at 1 133 [] (rules_text rules) (omega arith) refl ∙ back, unreach_at 1 133 (rules_text rules) (omega arith) ∙ back)
+routes_text_back address (Flow V6 rules) h all small =
+    let back = routes_back (Flow V6 rules) h all small in
+    (reach_at 2 133 [] (rules_text rules) (omega arith) refl ∙ back, unreach_at 2 133 (rules_text rules) (omega arith) ∙ back)
 
 reach_there : (address : Address) (reach : Option Routes) → if_routes reach ≡ true → IfRoutes reach → IfSome reach (λ (routes : Routes). IsOctets (routes_text routes)) → if_there reach_of (option_map (reach_text address) reach) ≡ Ok reach
 reach_there address None h all small = refl
-reach_there address (Some routes) h all small = reach_back address routes h all small
+reach_there address (Some routes) h all small = (routes_text_back address routes h all small).0
 
-unreach_there : (unreach : Option Routes) → if_routes unreach ≡ true → IfRoutes unreach → IfSome unreach (λ (routes : Routes). IsOctets (routes_text routes)) → if_there unreach_of (option_map unreach_text unreach) ≡ Ok unreach
-unreach_there None h all small = refl
-unreach_there (Some routes) h all small = unreach_back routes h all small
+unreach_there : (address : Address) (unreach : Option Routes) → if_routes unreach ≡ true → IfRoutes unreach → IfSome unreach (λ (routes : Routes). IsOctets (routes_text routes)) → if_there unreach_of (option_map unreach_text unreach) ≡ Ok unreach
+unreach_there address None h all small = refl
+unreach_there address (Some routes) h all small = (routes_text_back address routes h all small).1
 
 both_ok : (reach unreach : Option Routes) (first : Bool) → both_of (Ok reach) (Ok unreach) first ≡ Ok (reach, unreach)
 both_ok reach unreach true = refl
@@ -204,7 +201,7 @@ optional_read terms update r u sound small =
     let reach : if_there reach_of (value_of 14 attributes) ≡ Ok update.reach =
     ap (λ (z : Option (List ℕ)). if_there reach_of z) (reach_value terms update) ∙ reach_there terms.address update.reach r sound.reach (reach_octets terms update small) in
     let unreach : if_there unreach_of (value_of 15 attributes) ≡ Ok update.unreach =
-    ap (λ (z : Option (List ℕ)). if_there unreach_of z) (unreach_value terms update) ∙ unreach_there update.unreach u sound.unreach (unreach_octets terms update small) in
+    ap (λ (z : Option (List ℕ)). if_there unreach_of z) (unreach_value terms update) ∙ unreach_there terms.address update.unreach u sound.unreach (unreach_octets terms update small) in
     ap (λ (z : Result (Option Routes) Wrong). both_of z (if_there unreach_of (value_of 15 attributes)) first) reach
     ∙ ap (λ (z : Result (Option Routes) Wrong). both_of (Ok update.reach) z first) unreach
     ∙ both_ok update.reach update.unreach first
@@ -286,10 +283,11 @@ with_path terms update path there is sound kept =
     let parts = and_parts (announces update) (is_written_path terms path) (subst (λ (z : Option Path). has_its_path terms update z ≡ true) there is.path) in
     let given = given_of terms update.actions path parts.1 (subst (λ (z : Option Path). IfSome z (IsPath update.actions)) there sound.path)
     (subst (λ (z : Option Path). (terms.four || path_kept z) ≡ true) there kept) in
+    let back = path_back terms update path there given in
     ap (λ (g : Bool). updated_at terms update g (withdraws terms (values_of (written_attributes terms update)) g)) parts.0
-    ∙ ap (λ (w : Bool). updated_at terms update true w) (path_given terms update path there given)
+    ∙ ap (λ (w : Bool). updated_at terms update true w) back.1
     ∙ same_update update _ _ update.unreach update.reach _ _ false (out_read terms update is sound) refl refl (announced_read terms update is sound)
-    (ap (λ (p : Path). Some p) (path_read terms update path there given) ∙ sym there) (actions_read terms update path there given.sound.actions) (sym is.plain)
+    (ap (λ (p : Path). Some p) back.0 ∙ sym there) (actions_read terms update path there given.sound.actions) (sym is.plain)
 
 without_path : (terms : Terms) (update : Update) → update.path ≡ None → IsWritten terms update → IsSound update
     → updated_at terms update (announces update) (withdraws terms (values_of (written_attributes terms update)) (announces update)) ≡ update

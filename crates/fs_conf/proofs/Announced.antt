@@ -31,7 +31,8 @@ use Rattle.fs_conf.specs.Laws.{AcceptsRules, HasRules}
 use Rattle.fs_conf.specs.Rules.{are_single, as_path_in, file_keys, number_of, rules_in, sendable, sending_of_document, sending_of_members}
 use Rattle.fs_conf.specs.Sent.{actions_in, actions_written, family_of, if_ok, listed_actions, octets_of, rule_keys, rule_of, rule_written, sent_of_data, sent_of_members, sent_of_table, sent_of_text, text_keys}
 use Rattle.fs_conf.proofs.Accepted.{as_within, written_reads, written_small}
-use Rattle.fs_conf.proofs.Found.{cond_within, each_passes}
+use Rattle.fs_base.proofs.Lists.{all_each}
+use Rattle.fs_conf.proofs.Found.{cond_within}
 use Rattle.fs_conf.proofs.ListedActions.{listed_are}
 use Rattle.fs_conf.proofs.TextSought.{rule_is, text_found}
 
@@ -160,7 +161,7 @@ members_rules config members sending is =
       short = λ other is_other.
           let one : peer ≡ other = same_Some peer other (sym sends.0 ∙ is_other) in
           subst (λ (p : Peer). AllByRecursion (λ (sent : Sent). is_short (terms_of config p true) numbers sent ≡ true) rules) one
-          (each_passes (is_short (terms_of config peer true) numbers) rules both.1);
+          (all_each (is_short (terms_of config peer true) numbers) rules both.1);
     })
 
 pub accepts_rules : AcceptsRules

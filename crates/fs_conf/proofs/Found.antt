@@ -1,9 +1,8 @@
 -- What was found passes, and what holds of each holds of it.
-use Rattle.std.proofs.Common.{◌≡◌, Bool, true, false, List, [], ◌∷◌, Option, Some, None, refl, subst}
+use Rattle.std.proofs.Common.{◌≡◌, Bool, true, false, cond, List, [], ◌∷◌, Option, Some, None, refl, subst}
 use Rattle.std.specs.Prelude.{find, if◌then◌else◌}
-use Rattle.std.specs.List.{AllByRecursion, list_all}
-use Rattle.std.proofs.lemmas.Bool.{and_parts}
-use Rattle.std.proofs.lemmas.Option.{none-some, same_Some}
+use Rattle.std.specs.List.{AllByRecursion}
+use Rattle.std.proofs.lemmas.Option.{none-some}
 
 -- where a test passes
 pub cond_within : {A : Type 0} (test : Bool) (found : Option A) (value : A) → (if test then found else None) ≡ Some value → (test ≡ true) × (found ≡ Some value)
@@ -11,14 +10,13 @@ cond_within true found value e = (refl, e)
 cond_within false found value e = absurd (none-some value e)
 
 -- the first of a list that passes
-pub found_each : {A : Type 0} (P : A → Type 0) (test : A → Bool) (all : List A) (found : A) → AllByRecursion P all → find test all ≡ Some found → P found
-found_each P test [] found each is = absurd (none-some found is)
-found_each P test (a ∷ all) found each is = by (test a) (found_each P test all found each.1) is where
-  by : (passes : Bool) → (find test all ≡ Some found → P found) → (if passes then Some a else find test all) ≡ Some found → P found
-  by true later is = subst P (same_Some a found is) each.0
-  by false later is = later is
+pub found_in : {A : Type 0} (P : A → Type 0) (p : A → Bool) (xs : List A) (x : A) → AllByRecursion P xs → find p xs ≡ Some x → P x × (p x ≡ true)
+found_in P p [] x all is = absurd cc
+found_in {A} P p (y ∷ xs) x all is = by (p y) refl is (found_in P p xs x all.1)
+  where
+    by : (b : Bool) → p y ≡ b → cond b (Some y) (find p xs) ≡ Some x → (find p xs ≡ Some x → P x × (p x ≡ true)) → P x × (p x ≡ true)
+    by true passes is more = let same : y ≡ x = cc in (subst P same all.0, subst (λ (z : A). p z ≡ true) same passes)
+    by false passes is more = more is
 
--- each of a list that passes
-pub each_passes : {A : Type 0} (test : A → Bool) (all : List A) → list_all test all ≡ true → AllByRecursion (λ (a : A). test a ≡ true) all
-each_passes test [] is = tt
-each_passes test (a ∷ all) is = let parts = and_parts (test a) (list_all test all) is in (parts.0, each_passes test all parts.1)
+pub found_each : {A : Type 0} (P : A → Type 0) (test : A → Bool) (all : List A) (found : A) → AllByRecursion P all → find test all ≡ Some found → P found
+found_each P test all found each is = (found_in P test all found each is).0

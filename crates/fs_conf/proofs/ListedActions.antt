@@ -1,5 +1,5 @@
 -- Actions as communities: the octets of actions are read as these, and what is read are actions.
-use Rattle.std.proofs.Common.{◌≡◌, ℕ, zero, suc, ◌*◌, ◌/◌, ◌<◌, ◌≤◌, Bool, true, false, cond, ◌&&◌, List, [], ◌∷◌, ◌++◌, length, drop, bit_and, Option, Some, None, refl, sym, ap, ◌∙◌, subst, arith, filter_map}
+use Rattle.std.proofs.Common.{◌≡◌, ℕ, zero, suc, ◌*◌, ◌/◌, ◌<◌, ◌≤◌, Bool, true, false, cond, ◌&&◌, List, [], ◌∷◌, length, drop, bit_and, Option, Some, None, refl, sym, ap, ◌∙◌, subst, arith, filter_map}
 use Rattle.std.specs.Prelude.{is_some}
 use Rattle.std.specs.List.{AllByRecursion, concat, list_all}
 use Rattle.std.specs.Simd.{first_chunks}

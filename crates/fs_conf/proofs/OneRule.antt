@@ -8,7 +8,6 @@ use Rattle.fs_nlri.specs.declared.fault.Reason.{Reason}
 use Rattle.fs_nlri.specs.Parts.{Ruled}
 use Rattle.fs_nlri.specs.Spelling.{IsFrame}
 use Rattle.fs_nlri.specs.Fault.{IsFrameBad}
-use Rattle.fs_nlri.specs.Feed.{Frames}
 use Rattle.fs_nlri.specs.Laws.{NoFrameGoesOn}
 use Rattle.fs_nlri.specs.Outcome.{IsFieldOutcome}
 use Rattle.fs_nlri.proofs.OneOutcome.{one_field_outcome}

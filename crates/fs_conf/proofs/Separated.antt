@@ -1,8 +1,9 @@
 -- The fields of a text, and the text that they make.
-use Rattle.std.proofs.Common.{◌≡◌, ℕ, ◌<◌, ◌≤◌, ◌==◌, Bool, true, false, if◌then◌else◌, ◌||◌, List, [], ◌∷◌, ◌++◌, length, refl, sym, ap, ◌∙◌, arith, eqb-true, ne_eqb, eq-eqb, true≢false}
+use Rattle.std.proofs.Common.{◌≡◌, ℕ, ◌<◌, ◌≤◌, ◌==◌, Bool, true, false, if◌then◌else◌, List, [], ◌∷◌, ◌++◌, length, refl, sym, ap, ◌∙◌, arith, eqb-true, ne_eqb, eq-eqb, true≢false}
 use Rattle.std.specs.Char.{digit_value}
 use Rattle.std.specs.List.{list_any}
 use Rattle.std.specs.Str.Parse.{AllDigits}
+use Rattle.fs_base.proofs.Bools.{or_false}
 use Rattle.fs_conf.specs.Address.{begin_field, fields_of}
 
 -- fields that each follow a separator
@@ -80,12 +81,8 @@ pub Lacks-front : (separator : ℕ) (front rest : List ℕ) → Lacks separator 
 Lacks-front separator [] rest h = tt
 Lacks-front separator (octet ∷ front) rest h = (h.0, Lacks-front separator front rest h.1)
 
-neither : (a b : Bool) → (a || b) ≡ false → (a ≡ false) × (b ≡ false)
-neither true b e = absurd (true≢false e)
-neither false b e = (refl, e)
-
 pub Lacks-from_list_any : (separator : ℕ) (text : List ℕ) → list_any (λ octet. octet == separator) text ≡ false → Lacks separator text
 Lacks-from_list_any separator [] h = tt
 Lacks-from_list_any separator (octet ∷ text) h =
-    let (here, later) = neither (octet == separator) (list_any (λ o. o == separator) text) h in
+    let (here, later) = or_false (octet == separator) (list_any (λ o. o == separator) text) h in
     (here, Lacks-from_list_any separator text later)

@@ -3,6 +3,7 @@ use Rattle.std.proofs.Common.{◌≡◌, ◌⊎◌, inl, inr, ℕ, zero, suc, �
 use Rattle.std.specs.Prelude.{filter_map, find}
 use Rattle.std.specs.List.{AllByRecursion, cons_option, flat_map, range_with_len}
 use Rattle.std.proofs.lemmas.List.Elements.{All-append}
+use Rattle.fs_base.proofs.Lists.{each_append, each_mapped, each_weaker}
 use Rattle.fs_conf.specs.Worded.{lists_below}
 
 abbrev pub IsIn : {A : Type 0} → A → List A → Type 0
@@ -41,22 +42,10 @@ in_filter f x y (z ∷ xs) (inr later) gives = in_option y (f z) (filter_map f x
 
 -- what holds of each
 
-pub all_append : {A : Type 0} (P : A → Type 0) (xs ys : List A) → AllByRecursion P xs → AllByRecursion P ys → AllByRecursion P (xs ++ ys)
-all_append P [] ys p q = q
-all_append P (x ∷ xs) ys p q = (p.0, all_append P xs ys p.1 q)
-
-pub all_map : {A B : Type 0} (P : B → Type 0) (f : A → B) (xs : List A) → AllByRecursion (λ x. P (f x)) xs → AllByRecursion P (map f xs)
-all_map P f [] p = tt
-all_map P f (x ∷ xs) p = (p.0, all_map P f xs p.1)
-
-pub all_each : {A : Type 0} (P Q : A → Type 0) (xs : List A) → ((x : A) → P x → Q x) → AllByRecursion P xs → AllByRecursion Q xs
-all_each P Q [] more p = tt
-all_each P Q (x ∷ xs) more p = (more x p.0, all_each P Q xs more p.1)
-
 pub all_flat : {A B : Type 0} (P : A → Type 0) (Q : B → Type 0) (f : A → List B) (xs : List A) → ((x : A) → P x → AllByRecursion Q (f x)) → AllByRecursion P xs
     → AllByRecursion Q (flat_map f xs)
 all_flat P Q f [] more p = tt
-all_flat P Q f (x ∷ xs) more p = all_append Q (f x) (flat_map f xs) (more x p.0) (all_flat P Q f xs more p.1)
+all_flat P Q f (x ∷ xs) more p = each_append Q (f x) (flat_map f xs) (more x p.0) (all_flat P Q f xs more p.1)
 
 all_option : {B : Type 0} (Q : B → Type 0) (o : Option B) (ys : List B) → ((y : B) → o ≡ Some y → Q y) → AllByRecursion Q ys → AllByRecursion Q (cons_option o ys)
 all_option Q None ys first p = p
@@ -68,14 +57,6 @@ all_filter P Q f [] more p = tt
 all_filter P Q f (x ∷ xs) more p = all_option Q (f x) (filter_map f xs) (λ y is. more x y p.0 is) (all_filter P Q f xs more p.1)
 
 -- what is found
-
-pub found_in : {A : Type 0} (P : A → Type 0) (p : A → Bool) (xs : List A) (x : A) → AllByRecursion P xs → find p xs ≡ Some x → P x × (p x ≡ true)
-found_in P p [] x all is = absurd cc
-found_in {A} P p (y ∷ xs) x all is = by (p y) refl is (found_in P p xs x all.1)
-  where
-    by : (b : Bool) → p y ≡ b → cond b (Some y) (find p xs) ≡ Some x → (find p xs ≡ Some x → P x × (p x ≡ true)) → P x × (p x ≡ true)
-    by true passes is more = let same : y ≡ x = cc in (subst P same all.0, subst (λ (z : A). p z ≡ true) same passes)
-    by false passes is more = more is
 
 pub none_in : {A : Type 0} (p : A → Bool) (xs : List A) (x : A) → find p xs ≡ None → IsIn x xs → p x ≡ false
 none_in p [] x is h = absurd h
@@ -136,7 +117,7 @@ all_lists bound (suc most) = (
   below_nil bound,
   all_flat (AreBelow bound) (AreBelow bound) (λ (list : List ℕ). map (λ first. first ∷ list) (range_with_len 0 bound)) (lists_below bound most)
       (λ list are.
-      all_map (AreBelow bound) (λ (first : ℕ). first ∷ list) (range_with_len 0 bound)
-      (all_each (λ (n : ℕ). n < bound) (λ (n : ℕ). AreBelow bound (n ∷ list)) (range_with_len 0 bound) (λ n small. below_cons bound n list small are) (all_range 0 bound bound (omega arith))))
+      each_mapped (λ (first : ℕ). first ∷ list) (AreBelow bound) (range_with_len 0 bound)
+      (each_weaker (λ (n : ℕ). n < bound) (λ (n : ℕ). AreBelow bound (n ∷ list)) (λ n small. below_cons bound n list small are) (range_with_len 0 bound) (all_range 0 bound bound (omega arith))))
       (all_lists bound most),
 )

@@ -5,7 +5,8 @@ use Rattle.std.specs.List.{AllByRecursion, concat}
 use Rattle.std.specs.Str.{bytes_eq}
 use Rattle.std.proofs.lemmas.List.{length-append, take_all}
 use Rattle.std.proofs.lemmas.Slice.Eq.{bytes_eq-Decides}
-use Rattle.fs_base.proofs.Octets.{octets_append, octets_nil}
+use Rattle.fs_base.proofs.Lists.{each_append, each_mapped, each_weaker}
+use Rattle.fs_base.proofs.Octets.{octets_of_each}
 use Rattle.fs_base.specs.Language.{IsOctets}
 use Rattle.fs_base.specs.declared.prefix.Family.{Family}
 use Rattle.fs_base.specs.declared.prefix.Family.TheVariants.{V4, V6}
@@ -27,11 +28,13 @@ use Rattle.fs_text.proofs.Spaces.{join_spaced}
 use Rattle.fs_conf.specs.Sent.{actions_among, if_ok, listed_actions, only, rule_of, rules_among, sent_of_text, sents_among}
 use Rattle.fs_conf.specs.Worded.{has_text, octet_lists, sent}
 use Rattle.fs_conf.specs.WordedLaw.{IsTextOf, SaysItsOwn}
-use Rattle.fs_conf.proofs.CanonicalFrame.{frame_octets, frame_short}
+use Rattle.fs_attrs.proofs.RuleOctets.{frame_are}
+use Rattle.fs_conf.proofs.CanonicalFrame.{frame_short}
 use Rattle.fs_actions.proofs.ReadBack.{each_length}
+use Rattle.fs_conf.proofs.Found.{found_in}
 use Rattle.fs_conf.proofs.ListedActions.{listed_are, listed_back}
 use Rattle.fs_conf.proofs.OneRule.{one_frame}
-use Rattle.fs_conf.proofs.Sought.{AreBelow, IsIn, all_append, all_each, all_filter, all_flat, all_lists, all_map, found_in, in_filter, in_flat, in_left, in_lists, in_map, in_right, none_in}
+use Rattle.fs_conf.proofs.Sought.{AreBelow, IsIn, all_filter, all_flat, all_lists, in_filter, in_flat, in_left, in_lists, in_map, in_right, none_in}
 
 -- the octets of a frame say a rule, and those of each rule say it
 
@@ -51,7 +54,7 @@ rule_is law family octets rule small is = single_rule family octets rule (rules_
 rule_back : IsTheOutcome → (rule : Ruled) → IsRule rule → rule_of rule.family (canonical_frame rule) ≡ Some rule
 rule_back law rule is =
     let frame : List ℕ = canonical_frame rule in
-    one_frame law rule.family frame (frame_octets rule is) rule (length frame) refl refl
+    one_frame law rule.family frame (frame_are rule is) rule (length frame) refl refl
     (subst (λ (z : List ℕ). IsFrame z rule) (sym (take_all (length frame) frame (omega arith))) (canonical_is_frame rule is))
 
 -- a text has at least as many octets as actions
@@ -80,21 +83,17 @@ text_long rule actions =
 
 family_in : IsTheOutcome → (rule : Ruled) → IsRule rule → IsIn rule (rules_among rule.family)
 family_in law rule is =
-    in_filter (rule_of rule.family) (canonical_frame rule) rule (octet_lists 4097) (in_lists 256 4097 (canonical_frame rule) (frame_short rule is) (frame_octets rule is))
+    in_filter (rule_of rule.family) (canonical_frame rule) rule (octet_lists 4097) (in_lists 256 4097 (canonical_frame rule) (frame_short rule is) (frame_are rule is))
     (rule_back law rule is)
 
 rule_in : (rule : Ruled) (family : Family) → rule.family ≡ family → IsIn rule (rules_among rule.family) → IsIn rule (rules_among V4 ++ rules_among V6)
 rule_in rule V4 is there = in_left rule (rules_among V4) (rules_among V6) (subst (λ (family : Family). IsIn rule (rules_among family)) is there)
 rule_in rule V6 is there = in_right rule (rules_among V4) (rules_among V6) (subst (λ (family : Family). IsIn rule (rules_among family)) is there)
 
-concat_octets : (actions : List (List ℕ)) → AllByRecursion IsOctets actions → IsOctets (concat actions)
-concat_octets [] each = octets_nil
-concat_octets (action ∷ actions) each = octets_append action (concat actions) each.0 (concat_octets actions each.1)
-
 actions_in : (most : ℕ) (actions : List (List ℕ)) → AreActions actions → 8 * length actions ≤ most → IsIn actions (actions_among most)
 actions_in most actions are within =
     let size : length (concat actions) ≡ 8 * length actions = each_length actions are.rising.each in
-    in_filter listed_actions (concat actions) actions (octet_lists most) (in_lists 256 most (concat actions) (omega (arith, size, within)) (concat_octets actions are.octets))
+    in_filter listed_actions (concat actions) actions (octet_lists most) (in_lists 256 most (concat actions) (omega (arith, size, within)) (octets_of_each actions are.octets))
     (listed_back actions are)
 
 sent_in : IsTheOutcome → (text : List ℕ) (given : Sent) → IsTextOf text given → IsIn given (sents_among (8 * length text))
@@ -122,9 +121,9 @@ pairs_are : IsTheOutcome → (most : ℕ) → AllByRecursion IsPair (sents_among
 pairs_are law most =
     all_flat IsRule IsPair (λ (rule : Ruled). map (sent rule) (actions_among most)) (rules_among V4 ++ rules_among V6)
     (λ rule is.
-    all_map IsPair (sent rule) (actions_among most)
-    (all_each AreActions (λ (actions : List (List ℕ)). IsPair (sent rule actions)) (actions_among most) (λ actions are. record { rule = is; actions = are }) (actions_are most)))
-    (all_append IsRule (rules_among V4) (rules_among V6) (rules_are law V4) (rules_are law V6))
+    each_mapped (sent rule) IsPair (actions_among most)
+    (each_weaker AreActions (λ (actions : List (List ℕ)). IsPair (sent rule actions)) (λ actions are. record { rule = is; actions = are }) (actions_among most) (actions_are most)))
+    (each_append IsRule (rules_among V4) (rules_among V6) (rules_are law V4) (rules_are law V6))
 
 -- what is found
 

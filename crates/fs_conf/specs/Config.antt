@@ -1,11 +1,11 @@
 -- The configuration file: a TOML document with these keys and no others.
 use Rattle.std.specs.Prelude.{ℕ, ◌==◌, nat_le, Bool, true, false, not, ◌&&◌, ◌||◌, if◌then◌else◌, List, [], ◌∷◌, length, codes, Option, Some, None, option_map, option_and_then}
 use Rattle.std.specs.List.{list_any}
-use Rattle.toml.specs.Data.{Data, as_str, as_array, as_table, Items, no_items, item, Members, get_member}
+use Rattle.toml.specs.Data.{Data, as_str, as_array, as_table, Items, Members, get_member}
 use Rattle.fs_base.specs.declared.config.Config.{Config}
 use Rattle.fs_base.specs.declared.config.Peer.{Peer}
 use Rattle.fs_conf.specs.Address.{ipv4_of, address_of}
-use Rattle.fs_conf.specs.Document.{document_of}
+use Rattle.fs_conf.specs.Document.{document_of, each_item}
 use Rattle.fs_conf.specs.Fields.{flag_or, keys_among, number_in, number_or}
 
 infixl 10 ◌>>=◌
@@ -57,10 +57,7 @@ peer_of_data value = as_table value >>= peer_of_table
 
 -- a peer for each item
 abbrev pub peers_of_items : Items → Option (List Peer)
-peers_of_items no_items = Some []
-peers_of_items (item value rest) = do
-  peer ← peer_of_data value
-  option_map (λ peers. peer ∷ peers) (peers_of_items rest)
+peers_of_items items = each_item peer_of_data items
 
 -- no two peers have one number
 abbrev pub are_distinct : List Peer → Bool

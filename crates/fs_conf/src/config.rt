@@ -8,9 +8,9 @@ ghost use Rattle.fs_conf.specs.Config.{hold_time_in, limit_in, peer_of_data, pee
 
 use crate::address::{read_address, read_ipv4};
 use crate::document::read_document;
-use crate::fields::{array_at, flag_at, has_only, number_at, number_or, text_at, value_at};
-use fs_base::{Config, Peer, Peers};
-use std::alloc::{AllocFailed, Global};
+use crate::fields::{array_at, flag_at, has_only, keep, number_at, number_or, text_at, value_at};
+use fs_base::{Config, Memory, Peer, Peers};
+use std::alloc::Global;
 use toml::{Table, Value};
 
 /// Why a configuration file wasn't taken.
@@ -22,13 +22,13 @@ pub enum ConfFault {
     Memory,
 }
 
-impl From<AllocFailed<Peer>> for ConfFault {
+impl From<Memory> for ConfFault {
     ghost use Rattle.std.specs.Prelude.{◌≡◌};
-    ghost use Rattle.fs_conf.specs.declared.config.ConfFault.TheVariants.{Memory};
+    ghost use Rattle.fs_conf.specs.declared.config.ConfFault.TheVariants.{Memory as NoMemory};
 
-    ghost from_gives = { λ e r. r ≡ Memory };
+    ghost from_gives = { λ e r. r ≡ NoMemory };
 
-    fn from(_error: AllocFailed<Peer>) -> ConfFault {
+    fn from(_error: Memory) -> ConfFault {
         ConfFault::Memory
     }
 }
@@ -74,7 +74,7 @@ fn read_peers(alloc: Global, items: &[Value]) -> Result<Vec<Peer>, ConfFault>
         let Some(peer) = read_peer(item) else {
             return Err(ConfFault::Refused);
         };
-        peers.push(peer)?;
+        keep(&mut peers, peer)?;
     }
     Ok(peers)
 }

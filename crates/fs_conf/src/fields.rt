@@ -1,6 +1,6 @@
 //! What stands at the keys of a TOML table.
 
-ghost use Rattle.std.specs.Prelude.{◌≡◌, ◌≤◌, map, string_bytes, option_map, option_and_then, IfSome};
+ghost use Rattle.std.specs.Prelude.{◌≡◌, ◌≤◌, map, string_bytes, option_map, option_and_then, IfSome, OnOk, ◌++◌, ◌∷◌, []};
 ghost use Rattle.std.specs.BTreeMap.{keys};
 ghost use Rattle.std.specs.List.{list_all};
 ghost use Rattle.std.specs.Option.{option_copied};
@@ -8,6 +8,7 @@ ghost use Rattle.toml.specs.Data.{get_member, as_str, as_array};
 ghost use Rattle.toml.specs.View.{view, array_view, table_view};
 ghost use Rattle.fs_conf.specs.Fields.{flag_or, is_named, keys_among, number_in, number_or};
 
+use fs_base::Memory;
 use toml::value::Array;
 use toml::{Table, Value};
 
@@ -81,4 +82,12 @@ pub(crate) fn has_only(table: &Table, names: &[&str]) -> bool
     ensures { result ≡ keys_among (map (λ name. name.now) names.now) (table_view table.now) }
 {
     each_key_among(table, names)
+}
+
+/// Appends an item.
+pub(crate) fn keep<T: Drop>(list: &mut Vec<T>, item: T) -> Result<(), Memory>
+    ensures { OnOk result (list.new.items ≡ list.old.items ++ item ∷ []) }
+{
+    list.push(item)?;
+    Ok(())
 }

@@ -1,6 +1,6 @@
 //! The rules file.
 
-ghost use Rattle.std.specs.Prelude.{◌≡◌, Some, None, IfOk, IsErrOf, OnOk, ◌++◌, ◌∷◌, []};
+ghost use Rattle.std.specs.Prelude.{◌≡◌, Some, None, IfOk, IsErrOf};
 ghost use Rattle.toml.specs.Data.{get_member};
 ghost use Rattle.toml.specs.View.{view, items_view, table_view};
 ghost use Rattle.fs_conf.specs.Address.{ipv4_of};
@@ -12,7 +12,7 @@ ghost use Rattle.fs_conf.specs.Sent.{sent_of_data};
 use crate::address::read_ipv4;
 use crate::config::ConfFault;
 use crate::document::read_document;
-use crate::fields::{array_at, has_only, text_at, value_at};
+use crate::fields::{array_at, has_only, keep, text_at, value_at};
 use crate::sent::read_sent;
 use fs_base::{Config, Memory, Numbers};
 use fs_order::Ranked;
@@ -20,17 +20,6 @@ use fs_speaker::{Sending, Sent, SentList, sender};
 use std::alloc::Global;
 use std::collections::BTreeSet;
 use toml::{Table, Value};
-
-impl From<Memory> for ConfFault {
-    ghost use Rattle.std.specs.Prelude.{◌≡◌};
-    ghost use Rattle.fs_conf.specs.declared.config.ConfFault.TheVariants.{Memory as NoMemory};
-
-    ghost from_gives = { λ e r. r ≡ NoMemory };
-
-    fn from(_error: Memory) -> ConfFault {
-        ConfFault::Memory
-    }
-}
 
 fn number_of(value: &Value) -> Option<u32>
     ensures { result ≡ number_of (view value.now) }
@@ -54,16 +43,9 @@ fn numbers_of(alloc: Global, items: &[Value]) -> Result<Vec<u32>, ConfFault>
         let Some(number) = number_of(item) else {
             return Err(ConfFault::Refused);
         };
-        keep_number(&mut numbers, number)?;
+        keep(&mut numbers, number)?;
     }
     Ok(numbers)
-}
-
-fn keep_number(numbers: &mut Vec<u32>, number: u32) -> Result<(), Memory>
-    ensures { OnOk result (numbers.new.items ≡ numbers.old.items ++ number ∷ []) }
-{
-    numbers.push(number)?;
-    Ok(())
 }
 
 fn as_path_at(alloc: Global, table: &Table, key: &str) -> Result<Numbers, ConfFault>
@@ -85,16 +67,9 @@ fn sents_of(alloc: Global, items: &[Value]) -> Result<Vec<Sent>, ConfFault>
     let mut rules = Vec::new(alloc);
     for item in items {
         let sent = read_sent(alloc, item)?;
-        keep_sent(&mut rules, sent)?;
+        keep(&mut rules, sent)?;
     }
     Ok(rules)
-}
-
-fn keep_sent(rules: &mut Vec<Sent>, sent: Sent) -> Result<(), Memory>
-    ensures { OnOk result (rules.new.items ≡ rules.old.items ++ sent ∷ []) }
-{
-    rules.push(sent)?;
-    Ok(())
 }
 
 /// Whether no two are one rule.

@@ -5,12 +5,13 @@ use Rattle.std.specs.List.{list_any, list_all}
 use Rattle.std.proofs.lemmas.Bool.Decides.{nat_tests}
 use Rattle.std.proofs.lemmas.Grind.{common_steps}
 use Rattle.byteorder.specs.Endian.{big_number}
-use Rattle.std.proofs.Math.Bool.{or_assoc, or-false}
+use Rattle.std.proofs.Math.Bool.{or_assoc, or-false, and-true}
 use Rattle.std.proofs.lemmas.List.Folds.{list_any-append}
+use Rattle.fs_base.proofs.Bools.{and_false}
 use Rattle.fs_base.specs.Parts.{Shrinks, parts_of}
 use Rattle.fs_base.proofs.Parts.{parts_step, parts_end}
 use Rattle.fs_message.specs.declared.capabilities.Found.{Found}
-use Rattle.fs_message.specs.Capabilities.{Field, first_field, fields_of, are_fields, is_capability, is_parameter, are_parameters, capabilities_of, four_octet_as, names_family, found_in, first_of_two, with_later, gathered, all_gathered}
+use Rattle.fs_message.specs.Capabilities.{Field, first_field, fields_of, are_fields, is_capability, is_parameter, are_parameters, capabilities_of, four_octet_as, names_family, found_in, first_of_two, with_later, added, gathered, all_gathered}
 use Rattle.fs_message.specs.Open.{fields_fault, opened, open_of}
 use Rattle.fs_message.specs.declared.fault.MessageFault.{MessageFault}
 use Rattle.fs_message.specs.declared.open_.Open.{Open}
@@ -53,127 +54,98 @@ same_found n n' a a' b b' c c' d d' e f g h i =
     ap (λ (z : Option ℕ). found_with z a b c d) e ∙ ap (λ (z : Bool). found_with n' z b c d) f ∙ ap (λ (z : Bool). found_with n' a' z c d) g
     ∙ ap (λ (z : Bool). found_with n' a' b' z d) h ∙ ap (λ (z : Bool). found_with n' a' b' c' z) i
 
-pub later_append : (found : Found) (xs ys : List Field) → with_later found (found_in (xs ++ ys)) ≡ with_later (with_later found (found_in xs)) (found_in ys)
+later_append : (found : Found) (xs ys : List Field) → with_later found (found_in (xs ++ ys)) ≡ with_later (with_later found (found_in xs)) (found_in ys)
 later_append found xs ys = same_found _ _ _ _ _ _ _ _ _ _ (asn_later found.asn xs ys)
     (any_later found.v4_unicast (names_family 1 1) xs ys) (any_later found.v4_flow (names_family 1 133) xs ys)
     (any_later found.v6_unicast (names_family 2 1) xs ys) (any_later found.v6_flow (names_family 2 133) xs ys)
 
-pub later_none : (found : Found) → with_later found (found_in []) ≡ found
+later_none : (found : Found) → with_later found (found_in []) ≡ found
 later_none found = same_found _ _ _ _ _ _ _ _ _ _ (first_none found.asn) (or-false found.v4_unicast) (or-false found.v4_flow) (or-false found.v6_unicast) (or-false found.v6_flow)
 
--- `gathered` and `all_gathered` over the parts
-abbrev from_parts : Found → List Field × List ℕ → Option Found
-from_parts found parts = if (length parts.1 == 0) && list_all is_capability parts.0 then Some (with_later found (found_in parts.0)) else None
-
-abbrev all_from : Found → List Field × List ℕ → Option Found
-all_from found parts =
-    if (length parts.1 == 0) && list_all is_parameter parts.0
-    then Some (with_later found (found_in (flat_map (λ parameter. fields_of parameter.value) parts.0))) else None
-
-and_here : {A : Type 0} (whole here rest : Bool) (a : A) → here ≡ true → (if whole && (here && rest) then Some a else None) ≡ (if whole && rest then Some a else None)
-and_here whole true rest a h = refl
-and_here whole false rest a h = cc
-
-and_not : {A : Type 0} (whole here rest : Bool) (a : A) → here ≡ false → (if whole && (here && rest) then Some a else None) ≡ None
-and_not true true rest a h = cc
-and_not true false rest a h = refl
-and_not false here rest a h = refl
-
-and_end : {A : Type 0} (whole : Bool) (a b : A) → a ≡ b → (if whole && true then Some a else None) ≡ (if whole then Some b else None)
-and_end true a b h = ap (λ z. Some z) h
-and_end false a b h = refl
-
-pub gathered_more : (found : Found) (octets : List ℕ) (next : Field × List ℕ) → first_field octets ≡ Some next → is_capability next.0 ≡ true
-    → gathered found octets ≡ gathered (with_later found (found_in (next.0 ∷ []))) next.1
-gathered_more found octets next h right =
-    let rest : List Field × List ℕ = parts_of first_field next.1 in
-    ap (from_parts found) (parts_step first_field field_shrinks octets next h)
-    ∙ and_here (length rest.1 == 0) (is_capability next.0) (list_all is_capability rest.0) (with_later found (found_in (next.0 ∷ rest.0))) right
-    ∙ ap (λ (z : Found). if (length rest.1 == 0) && list_all is_capability rest.0 then Some z else None) (later_append found (next.0 ∷ []) rest.0)
-
-pub gathered_not : (found : Found) (octets : List ℕ) (next : Field × List ℕ) → first_field octets ≡ Some next → is_capability next.0 ≡ false → gathered found octets ≡ None
-gathered_not found octets next h wrong =
-    let rest : List Field × List ℕ = parts_of first_field next.1 in
-    ap (from_parts found) (parts_step first_field field_shrinks octets next h)
-    ∙ and_not (length rest.1 == 0) (is_capability next.0) (list_all is_capability rest.0) (with_later found (found_in (next.0 ∷ rest.0))) wrong
-
-pub gathered_end : (found : Found) (octets : List ℕ) → first_field octets ≡ None → gathered found octets ≡ (if length octets == 0 then Some found else None)
-gathered_end found octets h =
-    ap (from_parts found) (parts_end first_field octets h) ∙ and_end (length octets == 0) (with_later found (found_in [])) found (later_none found)
-
-pub all_end : (found : Found) (octets : List ℕ) → first_field octets ≡ None → all_gathered found octets ≡ (if length octets == 0 then Some found else None)
-all_end found octets h =
-    ap (all_from found) (parts_end first_field octets h) ∙ and_end (length octets == 0) (with_later found (found_in [])) found (later_none found)
-
--- the tests of one parameter
-gathered_some : (known right : Bool) (a b : Found) → known ≡ true → (if right then Some a else None) ≡ Some b → ((known && right) ≡ true) × (b ≡ a)
-gathered_some true true a b k h = (refl, cc)
-gathered_some true false a b k h = cc
-gathered_some false right a b k h = cc
-
-gathered_none : (known right : Bool) (a : Found) → (if right then Some a else None) ≡ None → (known && right) ≡ false
-gathered_none true true a h = cc
-gathered_none true false a h = refl
-gathered_none false right a h = refl
-
-pub all_more : (found : Found) (octets : List ℕ) (next : Field × List ℕ) (later : Found) → first_field octets ≡ Some next → next.0.kind ≡ 2
-    → gathered found next.0.value ≡ Some later → all_gathered found octets ≡ all_gathered later next.1
-all_more found octets next later h known some =
-    let rest : List Field × List ℕ = parts_of first_field next.1 in
-    let here : List Field = fields_of next.0.value in
-    let behind : List Field = flat_map (λ (parameter : Field). fields_of parameter.value) rest.0 in
-    let kind : (next.0.kind == 2) ≡ true = grind (arith, nat_tests) in
-    let g = gathered_some (next.0.kind == 2) (are_fields next.0.value && list_all is_capability here) (with_later found (found_in here)) later kind some in
-    ap (all_from found) (parts_step first_field field_shrinks octets next h)
-    ∙ and_here (length rest.1 == 0) (is_parameter next.0) (list_all is_parameter rest.0) (with_later found (found_in (here ++ behind))) g.0
-    ∙ ap (λ (z : Found). if (length rest.1 == 0) && list_all is_parameter rest.0 then Some z else None)
-    (later_append found here behind ∙ ap (λ (z : Found). with_later z (found_in behind)) (sym g.1))
-
-pub all_unknown : (found : Found) (octets : List ℕ) (next : Field × List ℕ) → first_field octets ≡ Some next → (next.0.kind == 2) ≡ false → all_gathered found octets ≡ None
-all_unknown found octets next h unknown =
-    let rest : List Field × List ℕ = parts_of first_field next.1 in
-    let here : List Field = fields_of next.0.value in
-    let right : Bool = are_fields next.0.value && list_all is_capability here in
-    let wrong : is_parameter next.0 ≡ false = ap (λ (b : Bool). b && right) unknown in
-    ap (all_from found) (parts_step first_field field_shrinks octets next h)
-    ∙ and_not (length rest.1 == 0) (is_parameter next.0) (list_all is_parameter rest.0)
-    (with_later found (found_in (here ++ flat_map (λ (parameter : Field). fields_of parameter.value) rest.0))) wrong
-
-pub all_malformed : (found : Found) (octets : List ℕ) (next : Field × List ℕ) → first_field octets ≡ Some next → gathered found next.0.value ≡ None → all_gathered found octets ≡ None
-all_malformed found octets next h none =
-    let rest : List Field × List ℕ = parts_of first_field next.1 in
-    let here : List Field = fields_of next.0.value in
-    let wrong : is_parameter next.0 ≡ false =
-    gathered_none (next.0.kind == 2) (are_fields next.0.value && list_all is_capability here) (with_later found (found_in here)) none in
-    ap (all_from found) (parts_step first_field field_shrinks octets next h)
-    ∙ and_not (length rest.1 == 0) (is_parameter next.0) (list_all is_parameter rest.0)
-    (with_later found (found_in (here ++ flat_map (λ (parameter : Field). fields_of parameter.value) rest.0))) wrong
-
-chosen : (right : Bool) (a b : Found) → Some b ≡ (if right then Some a else None) → (right ≡ true) × (b ≡ a)
+chosen : {A : Type 0} (right : Bool) (a b : A) → Some b ≡ (if right then Some a else None) → (right ≡ true) × (b ≡ a)
 chosen true a b h = (refl, cc)
 chosen false a b h = cc
 
--- what is found of all parameters
-pub all_found : (octets : List ℕ) (found : Found) → Some found ≡ all_gathered (found_in []) octets
-    → (are_parameters octets ≡ true) × (found ≡ found_in (capabilities_of octets))
-all_found octets found h = chosen (are_parameters octets) (found_in (capabilities_of octets)) found h
-
-not_chosen : (right : Bool) (a : Found) → None ≡ (if right then Some a else None) → right ≡ false
+not_chosen : {A : Type 0} (right : Bool) (a : A) → None ≡ (if right then Some a else None) → right ≡ false
 not_chosen true a h = cc
 not_chosen false a h = refl
 
-pub none_found : (octets : List ℕ) → None ≡ all_gathered (found_in []) octets → are_parameters octets ≡ false
-none_found octets h = not_chosen (are_parameters octets) (found_in (capabilities_of octets)) h
+and_here : (whole here rest : Bool) (a : Found) → here ≡ true → (if whole && (here && rest) then Some a else None) ≡ (if whole && rest then Some a else None)
+and_here whole here rest a h = rw h refl
 
--- what one capability did
-pub capability_added : (found : Found) (capability : Field) (next : Found)
-    → Some next ≡ (if is_capability capability then Some (with_later found (found_in (capability ∷ []))) else None)
-    → (is_capability capability ≡ true) × (next ≡ with_later found (found_in (capability ∷ [])))
-capability_added found capability next h = chosen (is_capability capability) (with_later found (found_in (capability ∷ []))) next h
+and_not : (whole here rest : Bool) (a : Found) → here ≡ false → (if whole && (here && rest) then Some a else None) ≡ None
+and_not true here rest a h = rw h refl
+and_not false here rest a h = refl
 
-pub capability_refused : (found : Found) (capability : Field)
-    → None ≡ (if is_capability capability then Some (with_later found (found_in (capability ∷ []))) else None) → is_capability capability ≡ false
-capability_refused found capability h = not_chosen (is_capability capability) (with_later found (found_in (capability ∷ []))) h
+and_end : (whole : Bool) (a b : Found) → a ≡ b → (if whole && true then Some a else None) ≡ (if whole then Some b else None)
+and_end whole a b h = ap (λ (t : Bool). if t then Some a else None) (and-true whole) ∙ ap (λ (z : Found). if whole then Some z else None) h
+
+-- `gathered` and `all_gathered` over the parts: each field passes a test, and holds capabilities
+module _ (test : Field → Bool) (held : List Field → List Field) (here : Field → List Field) (none : held [] ≡ [])
+    (more : (field : Field) (fields : List Field) → held (field ∷ fields) ≡ here field ++ held fields) where
+  abbrev from_parts : Found → List Field × List ℕ → Option Found
+  from_parts found parts = if (length parts.1 == 0) && list_all test parts.0 then Some (with_later found (found_in (held parts.0))) else None
+
+  step_right : (found : Found) (octets : List ℕ) (next : Field × List ℕ) → first_field octets ≡ Some next → test next.0 ≡ true
+      → from_parts found (parts_of first_field octets) ≡ from_parts (with_later found (found_in (here next.0))) (parts_of first_field next.1)
+  step_right found octets next h right =
+      let rest : List Field × List ℕ = parts_of first_field next.1 in
+      ap (from_parts found) (parts_step first_field field_shrinks octets next h)
+      ∙ and_here (length rest.1 == 0) (test next.0) (list_all test rest.0) (with_later found (found_in (held (next.0 ∷ rest.0)))) right
+      ∙ ap (λ (z : Found). if (length rest.1 == 0) && list_all test rest.0 then Some z else None)
+      (ap (λ (z : List Field). with_later found (found_in z)) (more next.0 rest.0) ∙ later_append found (here next.0) (held rest.0))
+
+  step_wrong : (found : Found) (octets : List ℕ) (next : Field × List ℕ) → first_field octets ≡ Some next → test next.0 ≡ false
+      → from_parts found (parts_of first_field octets) ≡ None
+  step_wrong found octets next h wrong =
+      let rest : List Field × List ℕ = parts_of first_field next.1 in
+      ap (from_parts found) (parts_step first_field field_shrinks octets next h)
+      ∙ and_not (length rest.1 == 0) (test next.0) (list_all test rest.0) (with_later found (found_in (held (next.0 ∷ rest.0)))) wrong
+
+  step_end : (found : Found) (octets : List ℕ) → first_field octets ≡ None
+      → from_parts found (parts_of first_field octets) ≡ (if length octets == 0 then Some found else None)
+  step_end found octets h =
+      ap (from_parts found) (parts_end first_field octets h)
+      ∙ and_end (length octets == 0) (with_later found (found_in (held []))) found (ap (λ (z : List Field). with_later found (found_in z)) none ∙ later_none found)
+
+-- one capability after the other
+pub gathered_more : (found later : Found) (octets : List ℕ) (next : Field × List ℕ) → first_field octets ≡ Some next → Some later ≡ added found next.0
+    → gathered found octets ≡ gathered later next.1
+gathered_more found later octets next h some =
+    let c = chosen (is_capability next.0) (with_later found (found_in (next.0 ∷ []))) later some in
+    step_right is_capability (λ fields. fields) (λ field. field ∷ []) refl (λ field fields. refl) found octets next h c.0
+    ∙ ap (λ (z : Found). gathered z next.1) (sym c.1)
+
+pub gathered_not : (found : Found) (octets : List ℕ) (next : Field × List ℕ) → first_field octets ≡ Some next → None ≡ added found next.0 → gathered found octets ≡ None
+gathered_not found octets next h none =
+    step_wrong is_capability (λ fields. fields) (λ field. field ∷ []) refl (λ field fields. refl) found octets next h
+    (not_chosen (is_capability next.0) (with_later found (found_in (next.0 ∷ []))) none)
+
+pub gathered_end : (found : Found) (octets : List ℕ) → first_field octets ≡ None → gathered found octets ≡ (if length octets == 0 then Some found else None)
+gathered_end = step_end is_capability (λ fields. fields) (λ field. field ∷ []) refl (λ field fields. refl)
+
+-- one parameter after the other
+abbrev values : Field → List Field
+values parameter = fields_of parameter.value
+
+pub all_more : (found later : Found) (octets : List ℕ) (next : Field × List ℕ) → first_field octets ≡ Some next → next.0.kind ≡ 2
+    → Some later ≡ gathered found next.0.value → all_gathered found octets ≡ all_gathered later next.1
+all_more found later octets next h known some =
+    let kind : (next.0.kind == 2) ≡ true = grind (arith, nat_tests) in
+    let c = chosen (are_fields next.0.value && list_all is_capability (values next.0)) (with_later found (found_in (values next.0))) later some in
+    step_right is_parameter (flat_map values) values refl (λ field fields. refl) found octets next h (rw (kind, c.0) refl)
+    ∙ ap (λ (z : Found). all_gathered z next.1) (sym c.1)
+
+pub all_not : (found : Found) (octets : List ℕ) (next : Field × List ℕ) → first_field octets ≡ Some next → is_parameter next.0 ≡ false → all_gathered found octets ≡ None
+all_not = step_wrong is_parameter (flat_map values) values refl (λ field fields. refl)
+
+pub none_gathered : (found : Found) (parameter : Field) → None ≡ gathered found parameter.value → is_parameter parameter ≡ false
+none_gathered found parameter none =
+    and_false (parameter.kind == 2) (are_fields parameter.value && list_all is_capability (values parameter))
+    (λ _. not_chosen (are_fields parameter.value && list_all is_capability (values parameter)) (with_later found (found_in (values parameter))) none)
+
+pub all_end : (found : Found) (octets : List ℕ) → first_field octets ≡ None → all_gathered found octets ≡ (if length octets == 0 then Some found else None)
+all_end = step_end is_parameter (flat_map values) values refl (λ field fields. refl)
 
 -- the tests of the fields, over Bools
 abbrev pub fields_chain : Bool → Bool → Bool → Bool → Bool → Option MessageFault
@@ -182,23 +154,19 @@ fields_chain version asn hold id size =
     else if not size then Some (fault 2 4) else None
 
 pub fields_right : (version asn hold id size : Bool) → version ≡ true → asn ≡ false → hold ≡ false → id ≡ false → size ≡ true → fields_chain version asn hold id size ≡ None
-fields_right version asn hold id size a b c d e =
-    ap (λ (z : Bool). fields_chain z asn hold id size) a ∙ ap (λ (z : Bool). fields_chain true z hold id size) b ∙ ap (λ (z : Bool). fields_chain true false z id size) c
-    ∙ ap (λ (z : Bool). fields_chain true false false z size) d ∙ ap (λ (z : Bool). fields_chain true false false false z) e
+fields_right version asn hold id size a b c d e = rw (a, b, c, d, e) refl
 
 pub fields_sized : (version asn hold id size : Bool) → version ≡ true → asn ≡ false → hold ≡ false → id ≡ false → size ≡ false
     → fields_chain version asn hold id size ≡ Some (fault 2 4)
-fields_sized version asn hold id size a b c d e =
-    ap (λ (z : Bool). fields_chain z asn hold id size) a ∙ ap (λ (z : Bool). fields_chain true z hold id size) b ∙ ap (λ (z : Bool). fields_chain true false z id size) c
-    ∙ ap (λ (z : Bool). fields_chain true false false z size) d ∙ ap (λ (z : Bool). fields_chain true false false false z) e
+fields_sized version asn hold id size a b c d e = rw (a, b, c, d, e) refl
 
-abbrev tail : Option MessageFault → Bool → Result Open MessageFault → Result Open MessageFault
+abbrev pub tail : Option MessageFault → Bool → Result Open MessageFault → Result Open MessageFault
 tail wrong right result = elim wrong [ Some f ↦ Err f | None ↦ if right then result else Err (fault 2 4) ]
 
 -- behind fields without a fault
 pub open_found : (expected : ℕ) (body : List ℕ) (found : Found) → None ≡ fields_fault body → Some found ≡ all_gathered (found_in []) (drop 10 body)
     → (found ≡ found_in (capabilities_of (drop 10 body))) × (open_of expected body ≡ opened expected body (capabilities_of (drop 10 body)))
 open_found expected body found right some =
-    let all = all_found (drop 10 body) found some in
+    let all = chosen (are_parameters (drop 10 body)) (found_in (capabilities_of (drop 10 body))) found some in
     let result : Result Open MessageFault = opened expected body (capabilities_of (drop 10 body)) in
     (all.1, ap (λ (z : Option MessageFault). tail z (are_parameters (drop 10 body)) result) (sym right) ∙ ap (λ (z : Bool). tail None z result) all.0)

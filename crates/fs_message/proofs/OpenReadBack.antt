@@ -8,6 +8,7 @@ use Rattle.byteorder.specs.Endian.{big_number, big_bytes}
 use Rattle.byteorder.specs.Numbers.{big_number-reads_back}
 use Rattle.fs_base.specs.Parts.{with_part, parts_of}
 use Rattle.fs_base.proofs.Parts.{parts_step, parts_end}
+use Rattle.fs_base.proofs.NumberTests.{eq_itself, not_zero}
 use Rattle.fs_message.specs.declared.fault.MessageFault.{MessageFault}
 use Rattle.fs_message.specs.declared.open_.Open.{Open}
 use Rattle.fs_message.specs.Header.{fault}
@@ -15,7 +16,7 @@ use Rattle.fs_message.specs.Capabilities.{Field, field, first_field, fields_of, 
 use Rattle.fs_message.specs.Open.{fields_fault, opened, open_of}
 use Rattle.fs_message.specs.Write.{as_field, family_text, open_body}
 use Rattle.fs_message.specs.Laws.{own_open}
-use Rattle.fs_message.proofs.CapabilityLists.{field_shrinks, fields_chain, fields_right}
+use Rattle.fs_message.proofs.CapabilityLists.{field_shrinks, fields_chain, fields_right, tail}
 
 -- the capabilities of our OPEN, with the octets of the AS
 abbrev caps : ℕ → ℕ → ℕ → ℕ → List ℕ
@@ -69,20 +70,11 @@ as_some asn some = at (nat_lt 65535 asn)
     at true = refl
     at false = grind (arith, nat_tests)
 
-some_is : (n : ℕ) → 0 < n → (n == 0) ≡ false
-some_is n some = grind (arith, nat_tests)
-
-same : (n : ℕ) → (n == n) ≡ true
-same n = grind (arith, nat_tests)
-
 small_is : (n : ℕ) → n ≢ 1 → n ≢ 2 → ((n == 1) || (n == 2)) ≡ false
 small_is n one two = grind (arith, nat_tests)
 
 unnamed_chain : (version asn hold id size : Bool) → version ≡ true → asn ≡ false → hold ≡ false → id ≡ true → fields_chain version asn hold id size ≡ Some (fault 2 3)
 unnamed_chain version asn hold id size a b c d = rw (a, b, c, d) refl
-
-abbrev tail : Option MessageFault → Bool → Result Open MessageFault → Result Open MessageFault
-tail wrong right result = elim wrong [ Some f ↦ Err f | None ↦ if right then result else Err (fault 2 4) ]
 
 module _ (asn hold_time id : ℕ) (small : asn < 2 ^ 32) (timed : hold_time < 2 ^ 16) (named : id < 2 ^ 32) where
   as_read : big_number 2 (drop 1 (open_body asn hold_time id)) ≡ as_field asn
@@ -119,7 +111,7 @@ module _ (asn hold_time id : ℕ) (small : asn < 2 ^ 32) (timed : hold_time < 2 
       fields_right (get_or body 0 0 == 4) (big_number 2 (drop 1 body) == 0) ((big_number 2 (drop 3 body) == 1) || (big_number 2 (drop 3 body) == 2))
       (big_number 4 (drop 5 body) == 0) (get_or body 9 0 == length body - 10)
       refl (ap (λ (n : ℕ). n == 0) as_read ∙ as_some asn own) (ap (λ (n : ℕ). (n == 1) || (n == 2)) hold_read ∙ small_is hold_time one two)
-      (ap (λ (n : ℕ). n == 0) id_read ∙ some_is id some) refl in
+      (ap (λ (n : ℕ). n == 0) id_read ∙ not_zero id some) refl in
       let a : ℕ = byte_at 3 asn in
       let b : ℕ = byte_at 2 asn in
       let c : ℕ = byte_at 1 asn in
@@ -130,7 +122,7 @@ module _ (asn hold_time id : ℕ) (small : asn < 2 ^ 32) (timed : hold_time < 2 
       ∙ ap (λ (n : ℕ). answer n (big_number 2 (drop 3 body)) (big_number 4 (drop 5 body))) asn_read
       ∙ ap (λ (n : ℕ). answer asn n (big_number 4 (drop 5 body))) hold_read
       ∙ ap (λ (n : ℕ). answer asn hold_time n) id_read
-      ∙ ap (λ (z : Bool). if not z then Err (fault 2 2) else Ok (own_open asn hold_time id)) (same asn)
+      ∙ ap (λ (z : Bool). if not z then Err (fault 2 2) else Ok (own_open asn hold_time id)) (eq_itself asn)
 
   pub open_unnamed : 0 < asn → hold_time ≢ 1 → hold_time ≢ 2 → id ≡ 0
       → open_of asn (open_body asn hold_time id) ≡ Err (fault 2 3)

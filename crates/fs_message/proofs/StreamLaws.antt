@@ -1,10 +1,12 @@
 -- A message and a fault at the front of a stream stay what they are, whatever follows. So a stream that
 -- comes in pieces has the messages, and the fault, of the whole.
-use Rattle.std.proofs.Common.{◌≡◌, ℕ, ◌+◌, ◌-◌, ◌<◌, ◌≤◌, Bool, true, false, not, ◌||◌, ◌==◌, nat_lt, List, [], ◌∷◌, ◌++◌, length, take, drop, Option, Some, None, refl, sym, ap, ◌∙◌, subst, inl, inr, arith, if◌then◌else◌}
+use Rattle.std.proofs.Common.{◌≡◌, ℕ, ◌+◌, ◌-◌, ◌<◌, ◌≤◌, Bool, true, false, not, ◌||◌, ◌==◌, nat_lt, List, ◌++◌, length, take, drop, Option, Some, None, refl, sym, ap, ◌∙◌, subst, inl, inr, arith, if◌then◌else◌}
 use Rattle.std.specs.List.{list_any}
-use Rattle.std.proofs.lemmas.List.{length-take, length-drop, length-append, take-append-le, drop-append-le, take_all}
-use Rattle.std.proofs.lemmas.Bool.{cases_lt}
+use Rattle.std.proofs.lemmas.List.{length-drop, length-append, take-append-le, drop-append-le, take_all}
+use Rattle.std.proofs.lemmas.Bool.{cases_lt, lt-ltb, le-ltb}
+use Rattle.std.proofs.lemmas.Option.{cond_some}
 use Rattle.std.proofs.lemmas.Bool.Decides.{nat_tests}
+use Rattle.std.proofs.lemmas.List.Folds.{list_any-append}
 use Rattle.std.proofs.Math.Seq.{take-append-add}
 use Rattle.byteorder.specs.Endian.{big_number}
 use Rattle.byteorder.specs.Numbers.{big_from-append}
@@ -12,34 +14,11 @@ use Rattle.fs_base.specs.Parts.{Shrinks, Stable}
 use Rattle.fs_message.specs.declared.fault.MessageFault.{MessageFault}
 use Rattle.fs_message.specs.Stream.{Message, message_of, wrong_at, size_of, has_message, first_message}
 use Rattle.fs_message.specs.Header.{fault, marker_wrong, size_wrong, kind_wrong, kind_at, allows, header_fault, size_at}
-use Rattle.fs_message.proofs.BegunMessages.{chain, has}
-
-chain_sized : (marks size kind allowed : Bool) → chain marks false size false kind allowed ≡ None → size ≡ false
-chain_sized true size kind allowed h = cc
-chain_sized false true kind allowed h = cc
-chain_sized false false kind allowed h = refl
-
--- a size that is no fault has a header's octets
-low_size : (size : ℕ) → size_wrong size ≡ false → 19 ≤ size
-low_size size h = grind (arith, nat_tests)
-
--- a message's length is at least its header's
-pub size_low : (octets : List ℕ) → wrong_at octets ≡ None → 19 ≤ length octets → 19 ≤ size_of octets
-size_low octets sound long =
-    let header : List ℕ = take 19 octets in
-    let size : length header ≡ 19 = omega (arith, length-take 19 octets) in
-    let at : chain (marker_wrong header) false (size_wrong (size_at header)) false (kind_wrong (kind_at header)) (allows (kind_at header) (size_at header)) ≡ None =
-    subst (λ (n : ℕ). chain (marker_wrong header) (nat_lt n 18) (size_wrong (size_at header)) (nat_lt n 19)
-    (kind_wrong (kind_at header)) (allows (kind_at header) (size_at header)) ≡ None) size sound in
-    low_size (size_at header) (chain_sized (marker_wrong header) (size_wrong (size_at header)) (kind_wrong (kind_at header)) (allows (kind_at header) (size_at header)) at)
+use Rattle.fs_message.proofs.BegunMessages.{chain, has, has_all, header_sound}
 
 pub has_tells : (wrong : Option MessageFault) (count size : ℕ) → has wrong count size ≡ true → (wrong ≡ None) × (19 ≤ count) × (size ≤ count)
 has_tells (Some f) count size h = cc
 has_tells None count size h = (refl, grind (arith, nat_tests), grind (arith, nat_tests))
-
-chosen : {A : Type 0} (test : Bool) (a b : A) → (if test then Some a else None) ≡ Some b → (test ≡ true) × (a ≡ b)
-chosen true a b h = (refl, cc)
-chosen false a b h = cc
 
 -- The message at the front, with what its header says.
 pub record IsFirst (octets : List ℕ) (found : Message × List ℕ) : Type 0 where
@@ -52,13 +31,13 @@ pub record IsFirst (octets : List ℕ) (found : Message × List ℕ) : Type 0 wh
 
 pub is_first : (octets : List ℕ) (found : Message × List ℕ) → first_message octets ≡ Some found → IsFirst octets found
 is_first octets found h =
-    let c = chosen (has_message octets) (message_of (take (size_of octets) octets), drop (size_of octets) octets) found h in
+    let c = cond_some (has_message octets) (message_of (take (size_of octets) octets), drop (size_of octets) octets) found h in
     let t = has_tells (wrong_at octets) (length octets) (size_of octets) c.0 in
     record {
       sound = t.0;
       headed = t.1;
       sized = t.2;
-      low = size_low octets t.0 t.1;
+      low = (header_sound octets t.0 t.1).0;
       message = sym (ap (λ (z : Message × List ℕ). z.0) c.1);
       behind = sym (ap (λ (z : Message × List ℕ). z.1) c.1);
     }
@@ -68,10 +47,6 @@ message_shrinks octets found h =
     let f = is_first octets found h in
     omega (arith, f.low, f.headed, ap (λ (z : List ℕ). length z) f.behind, length-drop (size_of octets) octets)
 
-has_message_all : (wrong : Option MessageFault) (count size : ℕ) → wrong ≡ None → 19 ≤ count → size ≤ count → has wrong count size ≡ true
-has_message_all (Some f) count size e l h = cc
-has_message_all None count size e l h = grind (arith, nat_tests)
-
 pub message_stable : Stable first_message
 message_stable octets more found h =
     let f = is_first octets found h in
@@ -79,7 +54,7 @@ message_stable octets more found h =
     let size : size_of (octets ++ more) ≡ size_of octets = ap (λ (z : List ℕ). size_at z) same in
     let long : length (octets ++ more) ≡ length octets + length more = length-append octets more in
     let all : has_message (octets ++ more) ≡ true =
-    has_message_all (wrong_at (octets ++ more)) (length (octets ++ more)) (size_of (octets ++ more)) (ap (λ (z : List ℕ). header_fault z) same ∙ f.sound)
+    has_all (wrong_at (octets ++ more)) (length (octets ++ more)) (size_of (octets ++ more)) (ap (λ (z : List ℕ). header_fault z) same ∙ f.sound)
     (omega (arith, long, f.headed)) (omega (arith, long, size, f.sized)) in
     let front : take (size_of (octets ++ more)) (octets ++ more) ≡ take (size_of octets) octets =
     ap (λ (n : ℕ). take n (octets ++ more)) size ∙ take-append-le (size_of octets) octets more f.sized in
@@ -92,14 +67,6 @@ message_stable octets more found h =
     ∙ ap (λ (z : List ℕ). Some (pair (message_of (take (size_of octets) octets)) z)) behind
     ∙ ap (λ (z : Message). Some (pair z (found.1 ++ more))) (sym f.message)
 
-any_here : (here a b : Bool) → (a ≡ true → b ≡ true) → (here || a) ≡ true → (here || b) ≡ true
-any_here true a b f h = refl
-any_here false a b f h = f h
-
-any_append : (test : ℕ → Bool) (xs ys : List ℕ) → list_any test xs ≡ true → list_any test (xs ++ ys) ≡ true
-any_append test [] ys h = cc
-any_append test (x ∷ xs) ys h = any_here (test x) (list_any test xs) (list_any test (xs ++ ys)) (any_append test xs ys) h
-
 marks_stay : (xs ys : List ℕ) → marker_wrong xs ≡ true → marker_wrong (xs ++ ys) ≡ true
 marks_stay xs ys h = elim (cases_lt (length xs) 16) [
   | inr long ↦ ap (λ (z : List ℕ). list_any (λ octet. not (octet == 255)) z) (take-append-le 16 xs ys long) ∙ h
@@ -109,7 +76,8 @@ marks_stay xs ys h = elim (cases_lt (length xs) 16) [
       let joined : take 16 (xs ++ ys) ≡ xs ++ take (16 - length xs) ys =
       subst (λ (n : ℕ). take n (xs ++ ys) ≡ xs ++ take (16 - length xs) ys) at (take-append-add xs ys (16 - length xs)) in
       let here : list_any (λ octet. not (octet == 255)) xs ≡ true = subst (λ (z : List ℕ). list_any (λ octet. not (octet == 255)) z ≡ true) all h in
-      ap (λ (z : List ℕ). list_any (λ octet. not (octet == 255)) z) joined ∙ any_append (λ octet. not (octet == 255)) xs (take (16 - length xs) ys) here
+      ap (λ (z : List ℕ). list_any (λ octet. not (octet == 255)) z) joined ∙ list_any-append (λ octet. not (octet == 255)) xs (take (16 - length xs) ys)
+      ∙ ap (λ (b : Bool). b || list_any (λ octet. not (octet == 255)) (take (16 - length xs) ys)) here
 ]
 
 -- the only fault of less than 18 octets
@@ -132,12 +100,6 @@ sized_fault false false true short' kind allowed f e h short₂ kind₂ allowed�
 sized_fault false false false true kind allowed f e h short₂ kind₂ allowed₂ = cc
 sized_fault false false false false kind allowed f e h short₂ kind₂ allowed₂ = cc
 
-below : (n m : ℕ) → n < m → nat_lt n m ≡ true
-below n m h = grind (arith, nat_tests)
-
-above : (n m : ℕ) → m ≤ n → nat_lt n m ≡ false
-above n m h = grind (arith, nat_tests)
-
 abbrev chain_of : List ℕ → Bool → Bool → Bool → Option MessageFault
 chain_of header marks short size =
     chain marks short size (nat_lt (length header) 19) (kind_wrong (kind_at header)) (allows (kind_at header) (size_at header))
@@ -147,19 +109,19 @@ header_stays : (xs ys : List ℕ) (f : MessageFault) → length xs < 19 → head
 header_stays xs ys f short h = elim (cases_lt (length xs) 18) [
   | inl less ↦
       let marked = short_marked (marker_wrong xs) (nat_lt (length xs) 18) (size_wrong (size_at xs)) (nat_lt (length xs) 19)
-      (kind_wrong (kind_at xs)) (allows (kind_at xs) (size_at xs)) f (below (length xs) 18 less) h in
+      (kind_wrong (kind_at xs)) (allows (kind_at xs) (size_at xs)) f (lt-ltb (length xs) 18 less) h in
       still_marked (marker_wrong (xs ++ ys)) (nat_lt (length (xs ++ ys)) 18) (size_wrong (size_at (xs ++ ys))) (nat_lt (length (xs ++ ys)) 19)
       (kind_wrong (kind_at (xs ++ ys))) (allows (kind_at (xs ++ ys)) (size_at (xs ++ ys))) f (marks_stay xs ys marked.0) marked.1
   | inr sized ↦
       let found = sized_fault (marker_wrong xs) (nat_lt (length xs) 18) (size_wrong (size_at xs)) (nat_lt (length xs) 19)
-      (kind_wrong (kind_at xs)) (allows (kind_at xs) (size_at xs)) f (below (length xs) 19 short) h
+      (kind_wrong (kind_at xs)) (allows (kind_at xs) (size_at xs)) f (lt-ltb (length xs) 19 short) h
       (nat_lt (length (xs ++ ys)) 19) (kind_wrong (kind_at (xs ++ ys))) (allows (kind_at (xs ++ ys)) (size_at (xs ++ ys))) in
       let marks : marker_wrong (xs ++ ys) ≡ marker_wrong xs =
       ap (λ (z : List ℕ). list_any (λ octet. not (octet == 255)) z) (take-append-le 16 xs ys (omega arith)) in
       let part : drop 16 (xs ++ ys) ≡ drop 16 xs ++ ys = drop-append-le 16 xs ys (omega arith) in
       let read : big_number 2 (drop 16 xs ++ ys) ≡ big_number 2 (drop 16 xs) = big_from-append 2 (drop 16 xs) ys (omega (arith, length-drop 16 xs)) in
       let size : size_at (xs ++ ys) ≡ size_at xs = ap (λ (z : List ℕ). big_number 2 z) part ∙ read in
-      let long : nat_lt (length (xs ++ ys)) 18 ≡ false = above (length (xs ++ ys)) 18 (omega (arith, length-append xs ys)) in
+      let long : nat_lt (length (xs ++ ys)) 18 ≡ false = le-ltb (length (xs ++ ys)) 18 (omega (arith, length-append xs ys)) in
       ap (λ (m : Bool). chain_of (xs ++ ys) m (nat_lt (length (xs ++ ys)) 18) (size_wrong (size_at (xs ++ ys)))) marks
       ∙ ap (λ (m : Bool). chain_of (xs ++ ys) (marker_wrong xs) m (size_wrong (size_at (xs ++ ys)))) long
       ∙ ap (λ (n : ℕ). chain_of (xs ++ ys) (marker_wrong xs) false (size_wrong n)) size

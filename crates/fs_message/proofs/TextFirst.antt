@@ -6,11 +6,10 @@ use Rattle.std.proofs.lemmas.List.{take_at, drop_at}
 use Rattle.std.proofs.lemmas.Bool.Decides.{nat_tests}
 use Rattle.byteorder.specs.Endian.{big_number}
 use Rattle.byteorder.specs.Numbers.{big_number-reads_back}
-use Rattle.fs_message.specs.declared.fault.MessageFault.{MessageFault}
-use Rattle.fs_message.specs.Header.{size_wrong, kind_wrong, allows, header_fault}
+use Rattle.fs_message.specs.Header.{size_wrong, kind_wrong, allows}
 use Rattle.fs_message.specs.Stream.{Message, message_of, wrong_at, size_of, has_message, first_message}
 use Rattle.fs_message.specs.Write.{message_text}
-use Rattle.fs_message.proofs.BegunMessages.{chain, has}
+use Rattle.fs_message.proofs.BegunMessages.{chain, has_all}
 
 -- a message with its length in two octets
 abbrev headed : ℕ → ℕ → ℕ → List ℕ → List ℕ
@@ -19,21 +18,11 @@ headed high low kind rest = replicate 16 255 ++ (high ∷ low ∷ kind ∷ rest)
 sound_chain : (a b c d e f : Bool) → a ≡ false → b ≡ false → c ≡ false → d ≡ false → e ≡ false → f ≡ true → chain a b c d e f ≡ None
 sound_chain a b c d e f p q r s t u = rw (p, q, r, s, t, u) refl
 
-header_sound : (high low kind size : ℕ) → big_number 2 (high ∷ low ∷ kind ∷ []) ≡ size → size_wrong size ≡ false → kind_wrong kind ≡ false → allows kind size ≡ true
-    → header_fault (headed high low kind []) ≡ None
-header_sound high low kind size e sized known right =
-    sound_chain false false (size_wrong (big_number 2 (high ∷ low ∷ kind ∷ []))) false (kind_wrong kind) (allows kind (big_number 2 (high ∷ low ∷ kind ∷ [])))
-    refl refl (ap size_wrong e ∙ sized) refl known (ap (λ (n : ℕ). allows kind n) e ∙ right)
-
 size_fits : (size : ℕ) → 19 ≤ size → size ≤ 4096 → size_wrong size ≡ false
 size_fits size low high = grind (arith, nat_tests)
 
 kind_fits : (kind : ℕ) → 1 ≤ kind → kind ≤ 5 → kind_wrong kind ≡ false
 kind_fits kind low high = grind (arith, nat_tests)
-
-has_all : (wrong : Option MessageFault) (count size : ℕ) → wrong ≡ None → 19 ≤ count → size ≤ count → has wrong count size ≡ true
-has_all (Some f) count size e l h = cc
-has_all None count size e l h = grind (arith, nat_tests)
 
 found : (test : Bool) (answer : Option (Message × List ℕ)) → test ≡ true → (if test then answer else None) ≡ answer
 found test answer h = rw h refl
@@ -45,7 +34,8 @@ first_of high low kind body more size_is one five right long =
     let octets : List ℕ = headed high low kind (body ++ more) in
     let size : size_of octets ≡ 19 + length body = size_is in
     let sound : wrong_at octets ≡ None =
-    header_sound high low kind (19 + length body) size_is (size_fits (19 + length body) (omega arith) long) (kind_fits kind one five) right in
+    sound_chain false false (size_wrong (size_of octets)) false (kind_wrong kind) (allows kind (size_of octets)) refl refl
+    (ap size_wrong size ∙ size_fits (19 + length body) (omega arith) long) refl (kind_fits kind one five) (ap (λ (n : ℕ). allows kind n) size ∙ right) in
     let both : length (body ++ more) ≡ length body + length more = length-append body more in
     let count : length octets ≡ 19 + length (body ++ more) = omega arith in
     let whole : has_message octets ≡ true = has_all (wrong_at octets) (length octets) (size_of octets) sound (omega (arith, count)) (omega (arith, count, both, size)) in

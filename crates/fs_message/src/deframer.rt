@@ -133,7 +133,7 @@ fn take_piece(
     }
     let fed = go_on(held, count, piece);
     *stands = ends_message(&fed);
-    *fault = fault_in(&fed);
+    *fault = fed.err();
     fed
 }
 
@@ -146,30 +146,8 @@ fn ends_message(fed: &Result<(usize, bool), MessageFault>) -> bool
     }
 }
 
-fn fault_in(fed: &Result<(usize, bool), MessageFault>) -> Option<MessageFault>
-    ensures { result ≡ fault_after fed.now }
-{
-    match fed {
-        Ok(_) => None,
-        Err(fault) => Some(*fault),
-    }
-}
-
 /// Goes on with the message whose first `count` octets are `held`. The header is judged anew at each piece.
-fn go_on(held: &mut Vec<u8>, count: &mut usize, piece: &[u8]) -> Result<(usize, bool), MessageFault>
-    requires room { length held.old.items ≡ 4096 }
-    requires within { count.old ≤ 4096 }
-    requires begun { IsBegun (take count.old held.old.items) }
-    ensures room { length held.new.items ≡ 4096 }
-    ensures within { count.new ≤ 4096 }
-    ensures kept { IsFraming (take count.new held.new.items) (stands_after result) (fault_after result) }
-    ensures some { IfOk result (λ fed. (fed.0 ≤ length piece.now) × (0 < length piece.now → 0 < fed.0)) }
-    ensures exact { Feeds (take count.old held.old.items) piece.now (take count.new held.new.items) result }
-{
-    go_on_in(held, count, piece)
-}
-
-fn go_on_in(held: &mut [u8], count: &mut usize, piece: &[u8]) -> Result<(usize, bool), MessageFault>
+fn go_on(held: &mut [u8], count: &mut usize, piece: &[u8]) -> Result<(usize, bool), MessageFault>
     requires room { length held.old ≡ 4096 }
     requires within { count.old ≤ 4096 }
     requires begun { IsBegun (take count.old held.old) }
@@ -187,10 +165,7 @@ fn go_on_in(held: &mut [u8], count: &mut usize, piece: &[u8]) -> Result<(usize, 
     }
     let size = BigEndian::read_u16(&held[16..]) as usize;
     let bodied = append(held, count, &piece[headed..], size);
-    if *count < size {
-        return Ok((headed + bodied, false));
-    }
-    Ok((headed + bodied, true))
+    Ok((headed + bodied, size <= *count))
 }
 
 /// Copies octets of the piece behind the first `count`, up to `goal` of them in all, and answers how many.

@@ -5,6 +5,7 @@ ghost use Rattle.std.specs.List.{list_any};
 ghost use Rattle.fs_message.specs.Header.{marker_wrong, size_wrong, kind_wrong, allows, header_fault, size_at};
 
 use crate::MessageFault;
+use crate::fault::{BAD_LENGTH, BAD_TYPE, NOT_SYNCHRONIZED};
 use byteorder::{BigEndian, ByteOrder};
 
 /// The octets of a header.
@@ -35,24 +36,24 @@ pub(crate) fn fault_of(octets: &[u8]) -> Option<MessageFault>
     ensures sized { IfNone result (19 ≤ length octets.now → (19 ≤ size_at octets.now) × (size_at octets.now ≤ 4096)) }
 {
     if has_wrong_marker(octets) {
-        return Some(MessageFault::NOT_SYNCHRONIZED);
+        return Some(MessageFault::of(NOT_SYNCHRONIZED));
     }
     if octets.len() < 18 {
         return None;
     }
     let size = BigEndian::read_u16(&octets[16..]);
     if is_wrong_size(size) {
-        return Some(MessageFault::BAD_LENGTH);
+        return Some(MessageFault::of(BAD_LENGTH));
     }
     if octets.len() < HEADER {
         return None;
     }
     let kind = octets[18];
     if is_wrong_kind(kind) {
-        return Some(MessageFault::BAD_TYPE);
+        return Some(MessageFault::of(BAD_TYPE));
     }
     if !is_allowed(kind, size) {
-        return Some(MessageFault::BAD_LENGTH);
+        return Some(MessageFault::of(BAD_LENGTH));
     }
     None
 }

@@ -5,6 +5,7 @@ ghost use Rattle.fs_message.specs.Open.{fields_fault, open_of, OpensAs};
 
 use crate::MessageFault;
 use crate::capabilities::{Found, read_parameters};
+use crate::fault::{BAD_HOLD_TIME, BAD_IDENTIFIER, BAD_PARAMETERS, BAD_PEER_AS, BAD_VERSION};
 use byteorder::{BigEndian, ByteOrder};
 
 /// What an OPEN says: the sender's AS, its hold time in seconds and identifier, whether it has a four-octet
@@ -33,7 +34,7 @@ impl Open {
             return Err(fault);
         }
         let Some(found) = read_parameters(&body[10..]) else {
-            return Err(MessageFault::BAD_PARAMETERS);
+            return Err(MessageFault::of(BAD_PARAMETERS));
         };
         opened(found, body, expected_as)
     }
@@ -45,20 +46,20 @@ fn fault_of_fields(body: &[u8]) -> Option<MessageFault>
     ensures { result ≡ fields_fault body.now }
 {
     if body[0] != 4 {
-        return Some(MessageFault::BAD_VERSION);
+        return Some(MessageFault::of(BAD_VERSION));
     }
     if BigEndian::read_u16(&body[1..]) == 0 {
-        return Some(MessageFault::BAD_PEER_AS);
+        return Some(MessageFault::of(BAD_PEER_AS));
     }
     let hold_time = BigEndian::read_u16(&body[3..]);
     if hold_time == 1 || hold_time == 2 {
-        return Some(MessageFault::BAD_HOLD_TIME);
+        return Some(MessageFault::of(BAD_HOLD_TIME));
     }
     if BigEndian::read_u32(&body[5..]) == 0 {
-        return Some(MessageFault::BAD_IDENTIFIER);
+        return Some(MessageFault::of(BAD_IDENTIFIER));
     }
     if body[9] as usize != body.len() - 10 {
-        return Some(MessageFault::BAD_PARAMETERS);
+        return Some(MessageFault::of(BAD_PARAMETERS));
     }
     None
 }
@@ -70,7 +71,7 @@ fn opened(found: Found, body: &[u8], expected_as: u32) -> Result<Open, MessageFa
 {
     let asn = found.asn.unwrap_or(BigEndian::read_u16(&body[1..]) as u32);
     if asn != expected_as {
-        return Err(MessageFault::BAD_PEER_AS);
+        return Err(MessageFault::of(BAD_PEER_AS));
     }
     Ok(Open {
         asn,

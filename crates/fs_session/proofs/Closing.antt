@@ -1,14 +1,14 @@
 -- A message that closes the session.
-use Rattle.std.proofs.Common.{◌≡◌, ℕ, Bool, true, false, List, ◌++◌, drop, Option, Some, None, Result, Ok, Err, ap, sym, ◌∙◌, subst, if◌then◌else◌}
+use Rattle.std.proofs.Common.{◌≡◌, ℕ, Bool, true, false, List, ◌++◌, drop, Option, Some, None, Ok, Err, ap, sym, ◌∙◌, subst, if◌then◌else◌}
 use Rattle.std.proofs.lemmas.List.{append-nil}
-use Rattle.fs_message.specs.Stream.{Message, message_of, first_message, wrong_at}
+use Rattle.fs_message.specs.Stream.{Message, message_of, first_message}
 use Rattle.fs_message.specs.Deframer.{Framing, Feeds, standing_message}
-use Rattle.fs_attrs.specs.declared.update.Update.{Update}
 use Rattle.fs_session.specs.declared.state.Closed.{Closed}
 use Rattle.fs_session.specs.declared.state.Closed.TheVariants.{Fault, Notified, NoFamily, Memory}
 use Rattle.fs_session.specs.Transition.{Machine, Phase, transition_by, IsTransition}
-use Rattle.fs_session.specs.Line.{stops, step_at, rest_step, step_by, CloseIs}
+use Rattle.fs_session.specs.Line.{step_by, CloseIs}
 use Rattle.fs_session.specs.Side.{at_fault, ClosesAs}
+use Rattle.fs_session.proofs.SessionSteps.{step_found}
 
 -- A message stands, and it is the first of the octets in hand.
 pub record StandsIn (begun piece : List ℕ) (count : ℕ) (stands : Bool) (framing : Framing) (message : Message) : Type 0 where
@@ -28,22 +28,16 @@ first_is begun piece count false framing message s =
     let at : Some message ≡ None = s.message_is ∙ ap (λ (b : Bool). if b then Some (message_of framing.begun) else None) s.stands_is in
     absurd cc
 
-refused : (machine : Machine) (now : Phase) (octets behind : List ℕ) (message : Message) (why : Closed) → first_message octets ≡ Some (message, behind)
-    → transition_by machine now message ≡ Err why → step_by machine now octets ≡ stops why
-refused machine now octets behind message why first going =
-    ap (λ (o : Option (Message × List ℕ)). elim o [ Some f ↦ step_at (transition_by machine now f.0) f.1 | None ↦ rest_step (wrong_at octets) ]) first
-    ∙ ap (λ (t : Result (Phase × Option Update) Closed). step_at t behind) going
-
 pub closes : (machine : Machine) (now : Phase) (begun piece : List ℕ) (count : ℕ) (stands : Bool) (framing : Framing) (message : Message)
     (why closed : Closed) (replies replies' : List ℕ) → StandsIn begun piece count stands framing message → IsTransition (Err why) (transition_by machine now message)
     → ClosesAs machine why replies replies' closed → CloseIs (step_by machine now (begun ++ piece)) closed × (replies' ≡ replies ++ at_fault machine.farewell closed)
 closes machine now begun piece count stands framing message why Memory replies replies' s going ends = (tt, ends ∙ sym (append-nil replies))
 closes machine now begun piece count stands framing message why (Fault code subcode) replies replies' s going ends =
     let t : transition_by machine now message ≡ Err (Fault code subcode) = subst (λ (w : Closed). IsTransition (Err w) (transition_by machine now message)) (sym ends.0) going in
-    (refused machine now (begun ++ piece) (drop count piece) message (Fault code subcode) (first_is begun piece count stands framing message s) t, ends.1)
+    (step_found machine now (begun ++ piece) (message, drop count piece) (Err (Fault code subcode)) (first_is begun piece count stands framing message s) t, ends.1)
 closes machine now begun piece count stands framing message why (Notified code subcode) replies replies' s going ends =
     let t : transition_by machine now message ≡ Err (Notified code subcode) = subst (λ (w : Closed). IsTransition (Err w) (transition_by machine now message)) (sym ends.0) going in
-    (refused machine now (begun ++ piece) (drop count piece) message (Notified code subcode) (first_is begun piece count stands framing message s) t, ends.1)
+    (step_found machine now (begun ++ piece) (message, drop count piece) (Err (Notified code subcode)) (first_is begun piece count stands framing message s) t, ends.1)
 closes machine now begun piece count stands framing message why NoFamily replies replies' s going ends =
     let t : transition_by machine now message ≡ Err NoFamily = subst (λ (w : Closed). IsTransition (Err w) (transition_by machine now message)) (sym ends.0) going in
-    (refused machine now (begun ++ piece) (drop count piece) message NoFamily (first_is begun piece count stands framing message s) t, ends.1)
+    (step_found machine now (begun ++ piece) (message, drop count piece) (Err NoFamily) (first_is begun piece count stands framing message s) t, ends.1)

@@ -3,26 +3,14 @@ use Rattle.std.proofs.Common.{◌≡◌, ℕ, Bool, List, Option, Result, sym, s
 use Rattle.fs_base.specs.declared.config.Config.{Config}
 use Rattle.fs_base.specs.declared.config.Peer.{Peer}
 use Rattle.fs_attrs.specs.declared.update.Update.{Update}
-use Rattle.fs_session.specs.declared.state.State.{State}
 use Rattle.fs_session.specs.declared.state.Closed.{Closed}
 use Rattle.fs_session.specs.declared.sending.Sending.{Sending}
 use Rattle.fs_session.specs.declared.side.Needs.{Needs}
 use Rattle.fs_session.specs.Announcer.{Announcing, announcing, counted, without_update, FeedsEnd}
-use Rattle.fs_session.specs.Line.{Lined, state_in, FeedsAt, FeedsOpen}
+use Rattle.fs_session.specs.Line.{Lined, FeedsAt, FeedsOpen}
 use Rattle.fs_session.specs.Sending.{needs_of}
-use Rattle.fs_session.specs.Session.{Live, live, state_of, GoesOnAt}
-use Rattle.fs_session.specs.Side.{receiver, announcer}
+use Rattle.fs_session.specs.Side.{announcer}
 use Rattle.fs_session.proofs.Quiet.{fed_counted}
-
-pub state_is : (config : Config) (peer : Peer) (line : Lined) (session : Live) (state : State) → live config peer line ≡ session → state ≡ state_in line
-    → state ≡ state_of session
-state_is config peer line session state e h = subst (λ (o : Live). state ≡ state_of o) e h
-
-pub session_goes : (config : Config) (peer : Peer) (moment : ℕ) (line line' : Lined) (old : Live) (piece out out' : List ℕ) (result : Result (ℕ × Option Update) Closed)
-    → live config peer line ≡ old → FeedsOpen (receiver config peer) moment line line' piece out out' result
-    → GoesOnAt moment old (live config peer line') piece out out' result
-session_goes config peer moment line line' old piece out out' result e f =
-    subst (λ (o : Live). GoesOnAt moment o (live config peer line') piece out out' result) e (λ h. f h)
 
 pub announcer_goes : (config : Config) (peer : Peer) (sending : Sending) (needs : Needs) (line line' : Lined) (started : Bool) (appended moment : ℕ) (old : Announcing)
     (piece out out' : List ℕ) (fed : Result (ℕ × Option Update) Closed) (result : Result ℕ Closed) → announcing config peer sending line started appended ≡ old

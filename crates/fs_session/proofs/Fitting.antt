@@ -3,7 +3,9 @@ use Rattle.std.proofs.Common.{◌≡◌, ℕ, ◌+◌, ◌≤◌, ◌==◌, Bool
 use Rattle.std.specs.Prelude.{bit_or, flat_map}
 use Rattle.std.specs.List.{list_all}
 use Rattle.std.proofs.lemmas.Bool.Decides.{nat_tests}
+use Rattle.std.proofs.lemmas.Bool.{leb-true}
 use Rattle.byteorder.specs.Endian.{big_bytes}
+use Rattle.fs_base.proofs.Bools.{and_both, and_parts}
 use Rattle.fs_base.specs.declared.config.Config.{Config}
 use Rattle.fs_base.specs.declared.config.Peer.{Peer}
 use Rattle.fs_attrs.specs.declared.update.Terms.{Terms}
@@ -98,28 +100,15 @@ body_shorter config peer numbers sent =
 below : (m n k : ℕ) → m ≤ n → nat_le (19 + n) k ≡ true → nat_le (19 + m) k ≡ true
 below m n k less h = grind (arith, nat_tests)
 
-both_true : (a b : Bool) → (a && b) ≡ true → (a ≡ true) × (b ≡ true)
-both_true true b h = (refl, h)
-both_true false b h = cc
-
-and_true : (a b : Bool) → a ≡ true → b ≡ true → (a && b) ≡ true
-and_true a b p q = rw (p, q) refl
-
 short_by : (config : Config) (peer : Peer) (numbers : List ℕ) (four : Bool) (rules : List Sent) → list_all (is_short (terms_of config peer true) numbers) rules ≡ true
     → list_all (is_short (terms_of config peer four) numbers) rules ≡ true
 short_by config peer numbers true rules h = h
 short_by config peer numbers false [] h = refl
 short_by config peer numbers false (sent ∷ rules) h =
-    let t = both_true (is_short (terms_of config peer true) numbers sent) (list_all (is_short (terms_of config peer true) numbers) rules) h in
-    and_true (is_short (terms_of config peer false) numbers sent) (list_all (is_short (terms_of config peer false) numbers) rules)
+    let t = and_parts (is_short (terms_of config peer true) numbers sent) (list_all (is_short (terms_of config peer true) numbers) rules) h in
+    and_both (is_short (terms_of config peer false) numbers sent) (list_all (is_short (terms_of config peer false) numbers) rules)
     (below (length (body_by (terms_of config peer false) numbers sent)) (length (body_by (terms_of config peer true) numbers sent)) 4096 (body_shorter config peer numbers sent) t.0)
     (short_by config peer numbers false rules t.1)
-
-is_few : (n : ℕ) → nat_le n 255 ≡ true → n ≤ 255
-is_few n h = grind (arith, nat_tests)
-
-true_is : (b : Bool) → IsTrue b → b ≡ true
-true_is b h = h
 
 -- each rule's UPDATE fits, however many octets an AS number has
 pub all_short : (config : Config) (peer : Peer) (sending : Sending) (four : Bool) → IsTrue (is_sending config peer sending)
@@ -128,8 +117,8 @@ all_short config peer sending four h =
     let few : Bool = nat_le (length sending.as_path) 255 in
     let some : Bool = list_all (λ asn. nat_lt 0 asn) sending.as_path in
     let fit : Bool = list_all (is_short (terms_of config peer true) sending.as_path) sending.rules in
-    let t = both_true (few && some) fit (true_is ((few && some) && fit) h) in
-    (is_few (length sending.as_path) (both_true few some t.0).0, short_by config peer sending.as_path four sending.rules t.1)
+    let t = and_parts (few && some) fit h in
+    (leb-true (length sending.as_path) 255 (and_parts few some t.0).0, short_by config peer sending.as_path four sending.rules t.1)
 
 -- what is written of an update that is a rule's
 pub body_written : (result : Result (Unit {0}) WriteFault) (terms : Terms) (numbers : List ℕ) (sent : Sent) (update : Update) (out out' : List ℕ)

@@ -1,5 +1,5 @@
 -- One step, and all that an end comes to: what a call does with the octets in hand is what comes first of them all.
-use Rattle.std.proofs.Common.{◌≡◌, inl, inr, ℕ, List, [], ◌∷◌, ◌++◌, Option, Some, None, Ok, Err, refl, ap, sym, ◌∙◌, subst}
+use Rattle.std.proofs.Common.{◌≡◌, ◌⊎◌, inl, inr, ℕ, List, [], ◌∷◌, ◌++◌, Option, Some, None, Result, Ok, Err, refl, ap, sym, ◌∙◌, subst}
 use Rattle.fs_base.specs.Parts.{parts_of}
 use Rattle.fs_base.proofs.Parts.{parts_end, parts_step}
 use Rattle.fs_message.specs.declared.fault.MessageFault.{MessageFault}
@@ -8,14 +8,39 @@ use Rattle.fs_message.proofs.StreamLaws.{message_shrinks, message_stable, fault_
 use Rattle.fs_attrs.specs.declared.update.Update.{Update}
 use Rattle.fs_session.specs.declared.state.Closed.{Closed}
 use Rattle.fs_session.specs.declared.times.Times.{Times}
-use Rattle.fs_session.specs.Times.{taken_in}
-use Rattle.fs_session.specs.Transition.{Machine, Phase, transition_by}
-use Rattle.fs_session.specs.Line.{Step, waits, takes, stops, step_by}
-use Rattle.fs_session.specs.Session.{Last, with_update, plays, session_by}
-use Rattle.fs_session.specs.Replies.{replies, replies_by}
-use Rattle.fs_session.specs.Handed.{Handed, point, handed, shuts, rests, updates_with, with_taken, runs, runs_by}
-use Rattle.fs_session.proofs.SessionSteps.{Transition, going, plays_step, plays_none}
-use Rattle.fs_session.proofs.ReplySteps.{Shows, told, wrong_first, answered, replies_step, replies_none}
+use Rattle.fs_session.specs.Times.{at_moment, taken_in}
+use Rattle.fs_session.specs.Transition.{Machine, Phase, faulted, transition_by}
+use Rattle.fs_session.specs.Line.{Step, waits, takes, stops, step_at, rest_step, step_by}
+use Rattle.fs_session.specs.Handed.{Handed, Point, point, handed, shuts, rests, with_taken, runs, runs_by, hand}
+
+abbrev pub Transition : Type 0
+Transition = Result (Phase × Option Update) Closed
+
+-- What a step says of the octets.
+abbrev pub Shows : Machine → Phase → List ℕ → Step → Type 0
+Shows machine now octets waits = (first_message octets ≡ None) × (wrong_at octets ≡ None)
+Shows machine now octets (takes next update behind) =
+    (message : Message) × (first_message octets ≡ Some (message, behind)) × (transition_by machine now message ≡ Ok (next, update))
+Shows machine now octets (stops why) =
+    ((fault : MessageFault) × (wrong_at octets ≡ Some fault) × (why ≡ faulted fault))
+    ⊎ ((found : Message × List ℕ) × (first_message octets ≡ Some found) × (transition_by machine now found.0 ≡ Err why))
+
+pub told : (machine : Machine) (now : Phase) (octets : List ℕ) → Shows machine now octets (step_by machine now octets)
+told machine now octets = by (first_message octets) (wrong_at octets) refl refl
+  where
+    going : (found : Message × List ℕ) (made : Transition) → first_message octets ≡ Some found → transition_by machine now found.0 ≡ made
+        → Shows machine now octets (step_at made found.1)
+    going found (Ok next) f t = (found.0, f, t)
+    going found (Err why) f t = inr (found, f, t)
+
+    by : (first : Option (Message × List ℕ)) (wrong : Option MessageFault) → first_message octets ≡ first → wrong_at octets ≡ wrong
+        → Shows machine now octets (elim first [ Some found ↦ step_at (transition_by machine now found.0) found.1 | None ↦ rest_step wrong ])
+    by None None f w = (f, w)
+    by None (Some fault) f w = inl (fault, w, refl)
+    by (Some found) wrong f w = going found (transition_by machine now found.0) f refl
+
+pub wrong_first : (octets : List ℕ) (fault : MessageFault) → wrong_at octets ≡ Some fault → first_message octets ≡ None
+wrong_first octets fault h = rw h refl
 
 abbrev pub ran : Machine → Phase → Times → Transition → (Phase → Handed) → Handed
 ran machine now times (Ok next) rest = with_taken (machine.answer now.state) next.1 (rest next.0)
@@ -38,6 +63,24 @@ pub runs_none : (machine : Machine) (now : Phase) (times : Times) (waiting : Lis
 unfolding runs
 runs_none machine now times waiting wrong = refl
 
+-- What holds of an end at rest, of one that a message closes, and of one that takes a message where it holds of the rest,
+-- holds of all that the messages come to.
+pub runs_each : (machine : Machine) (waiting : List ℕ) (wrong : Option MessageFault) (P : Phase → List Message → Handed → Type 0)
+    → ((now : Phase) (times : Times) → P now [] (rests machine now times waiting wrong))
+    → ((now : Phase) (times : Times) (message : Message) (messages : List Message) (why : Closed) → transition_by machine now message ≡ Err why
+    → P now (message ∷ messages) (shuts machine now times why))
+    → ((now next : Phase) (update : Option Update) (message : Message) (messages : List Message) (later : Handed) → transition_by machine now message ≡ Ok (next, update)
+    → P next messages later → P now (message ∷ messages) (with_taken (machine.answer now.state) update later))
+    → (messages : List Message) (now : Phase) (times : Times) → P now messages (runs machine now times messages waiting wrong)
+runs_each machine waiting wrong P none shut more [] now times = subst (P now []) (sym (runs_none machine now times waiting wrong)) (none now times)
+runs_each machine waiting wrong P none shut more (message ∷ messages) now times =
+    subst (P now (message ∷ messages)) (sym (runs_step machine now times message messages waiting wrong)) (by (λ next. runs_each machine waiting wrong P none shut more messages next (taken_in now.state times)) (transition_by machine now message) refl)
+  where
+    by : ((next : Phase) → P next messages (runs machine next (taken_in now.state times) messages waiting wrong)) → (made : Transition) → transition_by machine now message ≡ made
+        → P now (message ∷ messages) (ran machine now times made (λ next. runs machine next (taken_in now.state times) messages waiting wrong))
+    by rest (Ok next) t = more now next.0 next.1 message messages (runs machine next.0 (taken_in now.state times) messages waiting wrong) t (rest next.0)
+    by rest (Err why) t = shut now times message messages why t
+
 runs_first : (machine : Machine) (now : Phase) (times : Times) (octets : List ℕ) (found : Message × List ℕ) → first_message octets ≡ Some found
     → runs_by machine now times octets ≡ ran machine now times (transition_by machine now found.0) (λ next. runs_by machine next (taken_in now.state times) found.1)
 runs_first machine now times octets found h =
@@ -49,6 +92,27 @@ runs_rest : (machine : Machine) (now : Phase) (times : Times) (octets : List ℕ
 runs_rest machine now times octets h =
     ap (λ (parts : List Message × List ℕ). runs machine now times parts.0 parts.1 (wrong_at parts.1)) (parts_end first_message octets h)
     ∙ runs_none machine now times octets (wrong_at octets)
+
+-- What the first message decides: the octets wait for more, close the end, or a message is taken and what stands behind it is run.
+pub runs_begun : (machine : Machine) (now : Phase) (times : Times) (octets : List ℕ) (P : Handed → Type 0) → P (handed (point octets now times None) [] [])
+    → ((why : Closed) → P (shuts machine now times why))
+    → ((message : Message) (behind : List ℕ) (next : Phase) (update : Option Update) → first_message octets ≡ Some (message, behind)
+    → transition_by machine now message ≡ Ok (next, update) → P (with_taken (machine.answer now.state) update (runs_by machine next (taken_in now.state times) behind)))
+    → P (runs_by machine now times octets)
+runs_begun machine now times octets P still shut more = by (first_message octets) refl
+  where
+    resting : (wrong : Option MessageFault) → P (rests machine now times octets wrong)
+    resting None = still
+    resting (Some fault) = shut (faulted fault)
+
+    going : (found : Message × List ℕ) → first_message octets ≡ Some found → (made : Transition) → transition_by machine now found.0 ≡ made
+        → P (ran machine now times made (λ next. runs_by machine next (taken_in now.state times) found.1))
+    going found f (Ok next) t = more found.0 found.1 next.0 next.1 f t
+    going found f (Err why) t = shut why
+
+    by : (first : Option (Message × List ℕ)) → first_message octets ≡ first → P (runs_by machine now times octets)
+    by None f = subst P (sym (runs_rest machine now times octets f)) (resting (wrong_at octets))
+    by (Some found) f = subst P (sym (runs_first machine now times octets found f)) (going found f (transition_by machine now found.0) refl)
 
 -- A message is taken at the front: it is answered, and then what stands behind it is run.
 pub runs_takes : (machine : Machine) (now next : Phase) (times : Times) (update : Option Update) (octets behind more : List ℕ)
@@ -80,49 +144,25 @@ runs_waits machine now times octets h =
     let s : Shows machine now octets waits = subst (λ (step : Step). Shows machine now octets step) h (told machine now octets) in
     runs_rest machine now times octets s.0 ∙ ap (rests machine now times octets) s.1
 
--- Without the moments it takes the session's updates, and answers its replies.
-updates_first : (update : Option Update) (updates : List Update) (rest : List Update × Last) → updates ≡ rest.0 → updates_with update updates ≡ (with_update update rest).0
-updates_first None updates rest h = h
-updates_first (Some update) updates rest h = ap (λ (z : List Update). update ∷ z) h
+abbrev hand_by : Machine → ℕ → Point → List ℕ → Option Closed → Handed
+hand_by machine moment now piece how = elim how [
+  | Some why ↦ handed now [] []
+  | None ↦ runs_by machine now.phase (at_moment moment now.times) (now.waiting ++ piece)
+]
 
-updates_of : (machine : Machine) (now : Phase) (times : Times) (messages : List Message) (waiting : List ℕ) (wrong : Option MessageFault)
-    → (runs machine now times messages waiting wrong).updates ≡ (plays machine now messages wrong).0
-updates_of machine now times [] waiting None =
-    ap (λ (z : Handed). z.updates) (runs_none machine now times waiting None) ∙ sym (ap (λ (z : List Update × Last). z.0) (plays_none machine now None))
-updates_of machine now times [] waiting (Some fault) =
-    ap (λ (z : Handed). z.updates) (runs_none machine now times waiting (Some fault)) ∙ sym (ap (λ (z : List Update × Last). z.0) (plays_none machine now (Some fault)))
-updates_of machine now times (message ∷ messages) waiting wrong =
-    ap (λ (z : Handed). z.updates) (runs_step machine now times message messages waiting wrong)
-    ∙ by (λ next. updates_of machine next (taken_in now.state times) messages waiting wrong) (transition_by machine now message)
-    ∙ sym (ap (λ (z : List Update × Last). z.0) (plays_step machine now message messages wrong))
+-- An open end takes a piece, and a closed one nothing.
+pub hand_each : (machine : Machine) (moment : ℕ) (now : Point) (piece : List ℕ) (P : Handed → Type 0)
+    → (now.closed ≡ None → P (runs_by machine now.phase (at_moment moment now.times) (now.waiting ++ piece)))
+    → ((why : Closed) → now.closed ≡ Some why → P (handed now [] [])) → P (hand machine moment now piece)
+hand_each machine moment now piece P opened shut = by now.closed refl
   where
-    by : ((next : Phase) → (runs machine next (taken_in now.state times) messages waiting wrong).updates ≡ (plays machine next messages wrong).0) → (made : Transition)
-        → (ran machine now times made (λ next. runs machine next (taken_in now.state times) messages waiting wrong)).updates
-        ≡ (going made (λ next. plays machine next messages wrong)).0
-    by rest (Ok next) = updates_first next.1 (runs machine next.0 (taken_in now.state times) messages waiting wrong).updates (plays machine next.0 messages wrong) (rest next.0)
-    by rest (Err why) = refl
+    by : (how : Option Closed) → now.closed ≡ how → P (hand_by machine moment now piece how)
+    by None e = opened e
+    by (Some why) e = shut why e
 
-text_of : (machine : Machine) (now : Phase) (times : Times) (messages : List Message) (waiting : List ℕ) (wrong : Option MessageFault)
-    → (runs machine now times messages waiting wrong).text ≡ replies machine now messages wrong
-text_of machine now times [] waiting None =
-    ap (λ (z : Handed). z.text) (runs_none machine now times waiting None) ∙ sym (replies_none machine now None)
-text_of machine now times [] waiting (Some fault) =
-    ap (λ (z : Handed). z.text) (runs_none machine now times waiting (Some fault)) ∙ sym (replies_none machine now (Some fault))
-text_of machine now times (message ∷ messages) waiting wrong =
-    ap (λ (z : Handed). z.text) (runs_step machine now times message messages waiting wrong)
-    ∙ by (λ next. text_of machine next (taken_in now.state times) messages waiting wrong) (transition_by machine now message)
-    ∙ sym (replies_step machine now message messages wrong)
-  where
-    by : ((next : Phase) → (runs machine next (taken_in now.state times) messages waiting wrong).text ≡ replies machine next messages wrong) → (made : Transition)
-        → (ran machine now times made (λ next. runs machine next (taken_in now.state times) messages waiting wrong)).text
-        ≡ answered machine now made (λ next. replies machine next messages wrong)
-    by rest (Ok next) = ap (λ (z : List ℕ). machine.answer now.state ++ z) (rest next.0)
-    by rest (Err why) = refl
+pub open_hand : (machine : Machine) (moment : ℕ) (now : Point) (piece : List ℕ) → now.closed ≡ None
+    → hand machine moment now piece ≡ runs_by machine now.phase (at_moment moment now.times) (now.waiting ++ piece)
+open_hand machine moment now piece e = ap (hand_by machine moment now piece) e
 
-pub runs_updates : (machine : Machine) (now : Phase) (times : Times) (octets : List ℕ) → (runs_by machine now times octets).updates ≡ (session_by machine now octets).0
-runs_updates machine now times octets =
-    updates_of machine now times (parts_of first_message octets).0 (parts_of first_message octets).1 (wrong_at (parts_of first_message octets).1)
-
-pub runs_text : (machine : Machine) (now : Phase) (times : Times) (octets : List ℕ) → (runs_by machine now times octets).text ≡ replies_by machine now octets
-runs_text machine now times octets =
-    text_of machine now times (parts_of first_message octets).0 (parts_of first_message octets).1 (wrong_at (parts_of first_message octets).1)
+pub closed_hand : (machine : Machine) (moment : ℕ) (now : Point) (piece : List ℕ) (why : Closed) → now.closed ≡ Some why → hand machine moment now piece ≡ handed now [] []
+closed_hand machine moment now piece why e = ap (hand_by machine moment now piece) e

@@ -1,10 +1,11 @@
+pub mod Handing
 pub mod SessionSteps
-mod Closing
 pub mod ReplySteps
+pub mod Transitions
+mod Closing
 mod Quiet
 mod Ends
 mod Fitting
 pub mod Arriving
-pub mod Handing
 pub mod Joining
 pub mod Returning

@@ -6,13 +6,12 @@ use Rattle.std.proofs.lemmas.Bool.{leb-true}
 use Rattle.std.proofs.lemmas.Bool.Decides.{nat_tests}
 use Rattle.std.proofs.lemmas.List.Elements.{All-cons, All-from_recursion, All-nil}
 use Rattle.byteorder.specs.Endian.{big_bytes}
-use Rattle.fs_base.specs.declared.prefix.Family.{Family}
-use Rattle.fs_base.specs.declared.prefix.Family.TheVariants.{V4, V6}
 use Rattle.fs_base.specs.Bits.{afi_of}
 use Rattle.fs_base.specs.Language.{IsOctets}
 use Rattle.fs_base.proofs.Digits.{big_octets}
 use Rattle.fs_base.proofs.Lists.{each_append}
-use Rattle.fs_base.proofs.Octets.{octets_append, octets_cons, octets_nil}
+use Rattle.fs_base.proofs.Octets.{octets_append, octets_cons, octets_nil, octets_of_each}
+use Rattle.fs_base.proofs.Covers.{family_itself}
 use Rattle.fs_nlri.specs.Parts.{Ruled}
 use Rattle.fs_nlri.specs.Rule.{IsRule, canonical_frame}
 use Rattle.fs_attrs.specs.declared.update.Terms.{Terms}
@@ -78,10 +77,6 @@ segments_are numbers few = by (length numbers == 0) where
       octets_append (2 ∷ length numbers ∷ text) []
       (octets_cons 2 (length numbers ∷ text) (omega arith) (octets_cons (length numbers) text (omega arith) (numbers_are numbers))) octets_nil
 
-actions_are : (actions : List (List ℕ)) → AllByRecursion IsOctets actions → IsOctets (concat actions)
-actions_are [] are = octets_nil
-actions_are (action ∷ actions) are = octets_append action (concat actions) are.0 (actions_are actions are.1)
-
 reach_are : (terms : Terms) (rule : Ruled) → IsRule rule → IsOctets (reach_text terms.address (Flow rule.family (rule ∷ [])))
 reach_are terms rule is =
     octets_append (family_of (Flow rule.family (rule ∷ []))) (0 ∷ 0 ∷ rules_text (rule ∷ []))
@@ -99,7 +94,7 @@ actions_texts : (actions : List (List ℕ)) → AllByRecursion IsOctets actions 
 actions_texts actions are = by (length actions == 0) where
   by : (none : Bool) → AllByRecursion IsText (if none then [] else attribute 16 (concat actions) ∷ [])
   by true = tt
-  by false = ((omega arith, actions_are actions are), tt)
+  by false = ((omega arith, octets_of_each actions are), tt)
 
 texts : (terms : Terms) (numbers : List ℕ) (sent : Sent) → terms.four ≡ true → AreSendable numbers → IsSent sent → AllByRecursion IsText (written_attributes terms (update_by terms numbers sent))
 texts terms numbers sent four numbered is =
@@ -122,10 +117,6 @@ body_are terms numbers sent four numbered is =
 
 -- it can be written
 
-same_afi : (family : Family) → (afi_of family == afi_of family) ≡ true
-same_afi V4 = refl
-same_afi V6 = refl
-
 own_path : (terms : Terms) (numbers : List ℕ) → is_path_of_session terms (path_by terms numbers) ≡ true
 own_path terms numbers = by terms.external where
   by : (external : Bool) → (if external then (external && true) && true else not external) ≡ true
@@ -147,7 +138,7 @@ segments_written external numbers few = by (length numbers == 0) refl where
 
 writable : (terms : Terms) (numbers : List ℕ) (sent : Sent) → length numbers ≤ 255 → is_writable terms (update_by terms numbers sent) ≡ true
 writable terms numbers sent few =
-    rw (same_afi sent.rule.family, own_path terms numbers, segments_written terms.external numbers few) refl
+    rw (family_itself sent.rule.family, own_path terms numbers, segments_written terms.external numbers few) refl
 
 -- and is sound
 

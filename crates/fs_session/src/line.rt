@@ -93,7 +93,7 @@ impl Line {
         }
         self.times = self.times.at(moment);
         let ticked = tick_in(self.phase.hold, &mut self.times, out);
-        self.closed = ending(&ticked);
+        self.closed = closing(&ticked);
         ticked
     }
 
@@ -159,20 +159,12 @@ ghost use Rattle.std.specs.Prelude.{◌≡◌, ◌<◌, ◌≤◌, None, length,
 ghost use Rattle.fs_session.specs.Line.{lined, closed_after, Advances, TimesTick};
 ghost use Rattle.fs_session.specs.Side.{machine_of};
 
-fn closing(fed: &Result<(usize, Option<Update>), Closed>) -> Option<Closed>
-    ensures { result ≡ closed_after fed.now }
+/// How a call closed this end, if it did.
+fn closing<T>(done: &Result<T, Closed>) -> Option<Closed>
+    ensures { result ≡ closed_after done.now }
 {
-    match fed {
+    match done {
         Ok(_) => None,
-        Err(why) => Some(*why),
-    }
-}
-
-fn ending(ticked: &Result<(), Closed>) -> Option<Closed>
-    ensures { result ≡ closed_after ticked.now }
-{
-    match ticked {
-        Ok(()) => None,
         Err(why) => Some(*why),
     }
 }

@@ -1,5 +1,5 @@
 -- How both ends close, whatever happens between them.
-use Rattle.std.proofs.Common.{◌≡◌, inl, inr, ℕ, ◌==◌, Bool, true, false, if◌then◌else◌, List, [], ◌∷◌, ◌++◌, take, drop, Option, Some, None, refl, ap, sym, ◌∙◌, subst, append_assoc, append-nil}
+use Rattle.std.proofs.Common.{◌≡◌, inl, inr, ℕ, ◌==◌, Bool, true, false, if◌then◌else◌, List, [], ◌∷◌, ◌++◌, take, Option, Some, None, refl, ap, sym, ◌∙◌, subst, append_assoc, append-nil}
 use Rattle.fs_base.specs.declared.config.Config.{Config}
 use Rattle.fs_base.specs.declared.config.Peer.{Peer}
 use Rattle.fs_session.specs.Handed.{Point, Handed, hand}
@@ -15,29 +15,14 @@ use Rattle.fs_speaker.specs.declared.event.Event.{Event}
 use Rattle.fs_speaker.specs.declared.event.Event.TheVariants.{Send, Deliver, Tick as TickEvent, Cut}
 use Rattle.fs_speaker.specs.End.{ticks, ticked}
 use Rattle.fs_speaker.specs.JointLaws.{CanArrive, ClosesSo, IsDue, handed_over, point_of, taken_in}
-use Rattle.fs_speaker.specs.World.{World, sent, taker_of, teller_of, taker_comes, teller_comes, says, next_said, happens, at_first, runs_on, run}
-use Rattle.fs_speaker.proofs.Fronting.{Holds, Lines, holds_first, holds_on, lines_cut, lines_delivered, lines_said, lines_same, open_not}
-use Rattle.fs_speaker.proofs.Handover.{closed_hand}
-use Rattle.fs_speaker.proofs.Lasting.{Follows, closes_for, follows_first, follows_none, follows_piece, follows_tick}
+use Rattle.fs_speaker.specs.World.{World, sent, taker_of, teller_of, taker_comes, teller_comes, happens, at_first, runs_on, run}
+use Rattle.fs_speaker.proofs.Events.{each_event, told_over}
+use Rattle.fs_speaker.proofs.Fronting.{Holds, Lines, holds_first, holds_on, lines_cut, lines_delivered, lines_same, lines_spoken}
+use Rattle.fs_speaker.proofs.Lasting.{Follows, closes_by, follows_first, follows_none, follows_piece, follows_tick}
 use Rattle.fs_speaker.proofs.Reading.{IsCalm}
 use Rattle.fs_speaker.proofs.Running.{run_more}
 use Rattle.fs_speaker.proofs.Telling.{Says, says_first, says_piece, says_tick}
-use Rattle.fs_speaker.proofs.Waking.{ticked_by}
-
--- an end that was closed stays as it is
-pub hand_opens : (machine : Machine) (moment : ℕ) (now : Point) (piece : List ℕ) → (hand machine moment now piece).point.closed ≡ None → now.closed ≡ None
-hand_opens machine moment now piece o = by now.closed refl
-  where
-    by : (how : Option Closed) → now.closed ≡ how → now.closed ≡ None
-    by None e = e
-    by (Some why) e = absurd (open_not why (sym e ∙ sym (ap (λ (m : Handed). m.point.closed) (closed_hand machine moment now piece why e)) ∙ o))
-
-pub tick_opens : (moment : ℕ) (now : Point) → (ticked moment now).point.closed ≡ None → now.closed ≡ None
-tick_opens moment now o = by now.closed refl o
-  where
-    by : (how : Option Closed) → now.closed ≡ how → (ticked_by moment now how).point.closed ≡ None → now.closed ≡ None
-    by None e f = e
-    by (Some why) e f = f
+use Rattle.fs_speaker.proofs.Waking.{hand_opens, hand_stays, tick_each, tick_opens, tick_stays, ticked_by}
 
 module _ (config : Config) (peer : Peer) (sending : Sending) where
   abbrev taker : Machine
@@ -48,45 +33,14 @@ module _ (config : Config) (peer : Peer) (sending : Sending) where
 
   -- AN END WITH A TICK THAT WAS DUE
   -- what closed an end stays, whatever happens then
-  pub hand_stays : (machine : Machine) (moment : ℕ) (now : Point) (piece : List ℕ) (why : Closed) → now.closed ≡ Some why
-      → (hand machine moment now piece).point.closed ≡ Some why
-  hand_stays machine moment now piece why e = ap (λ (m : Handed). m.point.closed) (closed_hand machine moment now piece why e) ∙ e
-
-  pub tick_stays : (moment : ℕ) (now : Point) (why : Closed) → now.closed ≡ Some why → (ticked moment now).point.closed ≡ Some why
-  tick_stays moment now why e = by now.closed e
-    where
-      by : (how : Option Closed) → how ≡ Some why → (ticked_by moment now how).point.closed ≡ Some why
-      by None f = absurd cc
-      by (Some other) f = e
-
-  said_stays : (first : Bool) (text : Option (List ℕ)) (w : World) → (point_of first (says text w)).closed ≡ (point_of first w).closed
-  said_stays true None w = refl
-  said_stays true (Some text) w = refl
-  said_stays false None w = refl
-  said_stays false (Some text) w = refl
-
   happened_stays : (first : Bool) (event : Event) (w : World) (why : Closed) → (point_of first w).closed ≡ Some why
       → (point_of first (happens config peer sending event w)).closed ≡ Some why
-  happened_stays first Send w why e = said_stays first (next_said config peer sending w.teller w.appended) w ∙ e
-  happened_stays first (Deliver to count moment) w why e = by first (to == 0) e
-    where
-      by : (first zeroth : Bool) → (point_of first w).closed ≡ Some why
-          → (point_of first (if zeroth then taker_comes (hand taker moment w.taker (take count w.to_taker)) (drop count w.to_taker) w
-          else teller_comes (hand teller moment w.teller (take count w.to_teller)) (drop count w.to_teller) w)).closed ≡ Some why
-      by true true e = hand_stays taker moment w.taker (take count w.to_taker) why e
-      by true false e = e
-      by false true e = e
-      by false false e = hand_stays teller moment w.teller (take count w.to_teller) why e
-  happened_stays first (TickEvent end moment) w why e = by first (end == 0) e
-    where
-      by : (first zeroth : Bool) → (point_of first w).closed ≡ Some why
-          → (point_of first (if zeroth then taker_comes (ticked moment w.taker) w.to_taker w else teller_comes (ticked moment w.teller) w.to_teller w)).closed ≡ Some why
-      by true true e = tick_stays moment w.taker why e
-      by true false e = e
-      by false true e = e
-      by false false e = tick_stays moment w.teller why e
-  happened_stays true Cut w why e = e
-  happened_stays false Cut w why e = e
+  happened_stays true event w why e =
+      each_event config peer sending w (λ _ _ _ next. next.taker.closed ≡ Some why) e (λ _ _. e) (λ to count moment. hand_stays taker moment w.taker (take count w.to_taker) why e)
+      (λ _ _ _. e) (λ end moment _. tick_stays moment w.taker why e) (λ _ _ _. e) e event
+  happened_stays false event w why e =
+      each_event config peer sending w (λ _ _ _ next. next.teller.closed ≡ Some why) e (λ _ _. e) (λ _ _ _. e)
+      (λ to count moment. hand_stays teller moment w.teller (take count w.to_teller) why e) (λ _ _ _. e) (λ end moment _. tick_stays moment w.teller why e) e event
 
   all_stay : (first : Bool) (events : List Event) (w : World) (why : Closed) → (point_of first w).closed ≡ Some why
       → (point_of first (runs_on config peer sending w events)).closed ≡ Some why
@@ -144,34 +98,22 @@ module _ (config : Config) (peer : Peer) (sending : Sending) where
   so_piece : (first : Bool) (events : List Event) (event : Event) (machine : Machine) (octets behind all : List ℕ) (now : Point) (moment : ℕ) (piece : List ℕ)
       → So first events now.closed → Follows machine octets now → (octets ++ taken_in now.closed piece) ++ behind ≡ all → IsCalm (session_by machine at_start all).1
       → So first (events ++ event ∷ []) (hand machine moment now piece).point.closed
-  so_piece first events event machine octets behind all now moment piece so f front calm = by now.closed refl
+  so_piece first events event machine octets behind all now moment piece so f front calm =
+      closes_by machine (So first (events ++ event ∷ [])) octets piece behind all now moment (so_later first events event now.closed so) (inl refl)
+      (λ why e. calm_closes why (subst (λ (l : Last). IsCalm l) e calm)) f front
     where
-      calm_closes : (why : Closed) (made : Option Closed) → made ≡ Some why → IsCalm (closed why) → So first (events ++ event ∷ []) made
-      calm_closes (Notified code subcode) made e c = inr (inr (code, subcode, e))
-      calm_closes (Fault code subcode) made e c = absurd c
-      calm_closes NoFamily made e c = absurd c
-      calm_closes Memory made e c = absurd c
-
-      made_by : now.closed ≡ None → (made : Option Closed) → (hand machine moment now piece).point.closed ≡ made
-          → So first (events ++ event ∷ []) (hand machine moment now piece).point.closed
-      made_by o None e = inl e
-      made_by o (Some why) e =
-          calm_closes why (hand machine moment now piece).point.closed e
-          (subst (λ (l : Last). IsCalm l)
-          (ap (λ (z : List ℕ). (session_by machine at_start z).1) (sym front ∙ ap (λ (how : Option Closed). (octets ++ taken_in how piece) ++ behind) o)
-          ∙ closes_for machine octets piece behind now moment why o f e)
-          calm)
-
-      by : (how : Option Closed) → now.closed ≡ how → So first (events ++ event ∷ []) (hand machine moment now piece).point.closed
-      by None o = made_by o (hand machine moment now piece).point.closed refl
-      by (Some why) e =
-          subst (λ (how : Option Closed). So first (events ++ event ∷ []) how) (e ∙ sym (hand_stays machine moment now piece why e))
-          (so_later first events event now.closed so)
+      calm_closes : (why : Closed) → IsCalm (closed why) → So first (events ++ event ∷ []) (Some why)
+      calm_closes (Notified code subcode) c = inr (inr (code, subcode, refl))
+      calm_closes (Fault code subcode) c = absurd c
+      calm_closes NoFamily c = absurd c
+      calm_closes Memory c = absurd c
 
   -- of the clock
   pub so_tick : (first : Bool) (events : List Event) (end moment : ℕ) → (end == 0) ≡ first → (now : Point) → now ≡ point_of first (run config peer sending events)
       → So first events now.closed → So first (events ++ TickEvent end moment ∷ []) (ticked moment now).point.closed
-  so_tick first events end moment whose now is so = by now.closed refl
+  so_tick first events end moment whose now is so =
+      tick_each moment now (λ made. So first (events ++ TickEvent end moment ∷ []) made.point.closed) (λ o. due o (tick_at now.phase.hold (at_moment moment now.times)) refl)
+      (λ why e. so_later first events (TickEvent end moment) now.closed so)
     where
       due : now.closed ≡ None → (tick : Tick) → tick_at now.phase.hold (at_moment moment now.times) ≡ tick
           → So first (events ++ TickEvent end moment ∷ []) (ticks tick now.waiting now.phase (at_moment moment now.times)).point.closed
@@ -191,38 +133,17 @@ module _ (config : Config) (peer : Peer) (sending : Sending) where
         },
       ))
 
-      by : (how : Option Closed) → now.closed ≡ how → So first (events ++ TickEvent end moment ∷ []) (ticked_by moment now how).point.closed
-      by None o = due o (tick_at now.phase.hold (at_moment moment now.times)) refl
-      by (Some why) e = so_later first events (TickEvent end moment) now.closed so
-
   -- BOTH ENDS
-  -- the octets that an event hands to the announcing end while it is open
-  abbrev told_over : Event → World → List ℕ
-  told_over (Deliver to count moment) w = if to == 0 then [] else taken_in w.teller.closed (take count w.to_teller)
-  told_over _ w = []
-
   -- the receiving end follows what was delivered
   pub takes_on : (octets : List ℕ) (w : World) (event : Event) → Follows (taker_of config peer sending) octets w.taker
       → Follows (taker_of config peer sending) (octets ++ handed_over event w) (happens config peer sending event w).taker
-  takes_on octets w Send f = by (next_said config peer sending w.teller w.appended)
+  takes_on octets w event f =
+      each_event config peer sending w (λ _ over _ next. Follows taker (octets ++ over) next.taker) same (λ _ _. same)
+      (λ to count moment. follows_piece taker octets (take count w.to_taker) w.taker moment w.taker.closed refl f) (λ _ _ _. same)
+      (λ end moment _. follows_tick taker octets w.taker moment f) (λ _ _ _. same) same event
     where
-      by : (text : Option (List ℕ)) → Follows taker (octets ++ []) (says text w).taker
-      by None = follows_none taker octets w.taker f
-      by (Some text) = follows_none taker octets w.taker f
-  takes_on octets w (Deliver to count moment) f = by (to == 0)
-    where
-      by : (zeroth : Bool) → Follows taker (octets ++ (if zeroth then taken_in w.taker.closed (take count w.to_taker) else []))
-          (if zeroth then taker_comes (hand taker moment w.taker (take count w.to_taker)) (drop count w.to_taker) w
-          else teller_comes (hand teller moment w.teller (take count w.to_teller)) (drop count w.to_teller) w).taker
-      by true = follows_piece taker octets (take count w.to_taker) w.taker moment w.taker.closed refl f
-      by false = follows_none taker octets w.taker f
-  takes_on octets w (TickEvent end moment) f = by (end == 0)
-    where
-      by : (zeroth : Bool) → Follows taker (octets ++ [])
-          (if zeroth then taker_comes (ticked moment w.taker) w.to_taker w else teller_comes (ticked moment w.teller) w.to_teller w).taker
-      by true = follows_tick taker octets w.taker moment f
-      by false = follows_none taker octets w.taker f
-  takes_on octets w Cut f = follows_none taker octets w.taker f
+      same : Follows taker (octets ++ []) w.taker
+      same = follows_none taker octets w.taker f
 
   module _ (can : CanArrive config peer sending) where
     -- what the announcing end was handed, of all that the receiving end said
@@ -242,63 +163,33 @@ module _ (config : Config) (peer : Peer) (sending : Sending) where
     abbrev ToldAll : List ℕ → World → Type 0
     ToldAll heard w = (all : List ℕ) × Told heard all w
 
-    kept : (heard all flying : List ℕ) (cut : Bool) (how : Option Closed) → Lines heard all flying cut how → Lines (heard ++ []) all flying cut how
-    kept heard all flying cut how l = lines_same heard all flying cut how how (λ o. o) l
-
     told_on : (heard all : List ℕ) (w : World) (event : Event) → Told heard all w → ToldAll (heard ++ told_over event w) (happens config peer sending event w)
-    told_on heard all w Send t = by (next_said config peer sending w.teller w.appended)
+    told_on heard all w event t =
+        each_event config peer sending w (λ _ _ told next. ToldAll (heard ++ told) next) (all, record { lines = same; says = t.says; first = none })
+        (λ text e. (all, record { lines = same; says = t.says; first = none }))
+        (λ to count moment.
+        let made : Handed = hand taker moment w.taker (take count w.to_taker) in
+        (all ++ made.text, record { lines = spoken made.text; says = says_piece config peer sending can all w.taker moment (take count w.to_taker) t.says; first = none }))
+        (λ to count moment.
+        let piece : List ℕ = take count w.to_teller in
+        let lines = lines_delivered heard all w.to_teller w.cut w.teller.closed (hand teller moment w.teller piece).point.closed count (hand_opens teller moment w.teller piece) t.lines in
+        (all, record { lines = lines; says = t.says; first = follows_piece teller heard piece w.teller moment w.teller.closed refl t.first }))
+        (λ end moment e.
+        let made : Handed = ticked moment w.taker in
+        (all ++ made.text, record { lines = spoken made.text; says = says_tick config peer sending can all w.taker moment t.says; first = none }))
+        (λ end moment e.
+        let lines = lines_same heard all w.to_teller w.cut w.teller.closed (ticked moment w.teller).point.closed (tick_opens moment w.teller) t.lines in
+        (all, record { lines = lines; says = t.says; first = follows_tick teller heard w.teller moment t.first }))
+        (all, record { lines = lines_cut heard all w.to_teller w.cut w.teller.closed t.lines; says = t.says; first = none }) event
       where
-        by : (text : Option (List ℕ)) → ToldAll (heard ++ []) (says text w)
-        by None = (all, record { lines = kept heard all w.to_teller w.cut w.teller.closed t.lines; says = t.says; first = follows_none teller heard w.teller t.first })
-        by (Some text) = (all, record { lines = kept heard all w.to_teller w.cut w.teller.closed t.lines; says = t.says; first = follows_none teller heard w.teller t.first })
-    told_on heard all w (Deliver to count moment) t = by (to == 0)
-      where
-        by : (zeroth : Bool) → ToldAll (heard ++ (if zeroth then [] else taken_in w.teller.closed (take count w.to_teller)))
-            (if zeroth then taker_comes (hand taker moment w.taker (take count w.to_taker)) (drop count w.to_taker) w
-            else teller_comes (hand teller moment w.teller (take count w.to_teller)) (drop count w.to_teller) w)
-        by true =
-            let text : List ℕ = (hand taker moment w.taker (take count w.to_taker)).text in (
-              all ++ text,
-              record {
-                lines = kept heard (all ++ text) (sent w.cut w.to_teller text) w.cut w.teller.closed (lines_said heard all w.to_teller w.cut w.teller.closed text t.lines);
-                says = says_piece config peer sending can all w.taker moment (take count w.to_taker) t.says;
-                first = follows_none teller heard w.teller t.first;
-              },
-            )
-        by false = (
-          all,
-          record {
-            lines = lines_delivered heard all w.to_teller w.cut w.teller.closed (hand teller moment w.teller (take count w.to_teller)).point.closed count
-                (hand_opens teller moment w.teller (take count w.to_teller)) t.lines;
-            says = t.says;
-            first = follows_piece teller heard (take count w.to_teller) w.teller moment w.teller.closed refl t.first;
-          },
-        )
-    told_on heard all w (TickEvent end moment) t = by (end == 0)
-      where
-        by : (zeroth : Bool) → ToldAll (heard ++ [])
-            (if zeroth then taker_comes (ticked moment w.taker) w.to_taker w else teller_comes (ticked moment w.teller) w.to_teller w)
-        by true =
-            let text : List ℕ = (ticked moment w.taker).text in (
-              all ++ text,
-              record {
-                lines = kept heard (all ++ text) (sent w.cut w.to_teller text) w.cut w.teller.closed (lines_said heard all w.to_teller w.cut w.teller.closed text t.lines);
-                says = says_tick config peer sending can all w.taker moment t.says;
-                first = follows_none teller heard w.teller t.first;
-              },
-            )
-        by false = (
-          all,
-          record {
-            lines = lines_same heard all w.to_teller w.cut w.teller.closed (ticked moment w.teller).point.closed (tick_opens moment w.teller) t.lines;
-            says = t.says;
-            first = follows_tick teller heard w.teller moment t.first;
-          },
-        )
-    told_on heard all w Cut t = (
-      all,
-      record { lines = lines_cut heard all w.to_teller w.cut w.teller.closed t.lines; says = t.says; first = follows_none teller heard w.teller t.first },
-    )
+        same : Lines (heard ++ []) all w.to_teller w.cut w.teller.closed
+        same = lines_same heard all w.to_teller w.cut w.teller.closed w.teller.closed (λ o. o) t.lines
+
+        none : Follows teller (heard ++ []) w.teller
+        none = follows_none teller heard w.teller t.first
+
+        spoken : (text : List ℕ) → Lines (heard ++ []) (all ++ text) (sent w.cut w.to_teller text) w.cut w.teller.closed
+        spoken text = lines_spoken heard all w.to_teller w.cut w.teller.closed text t.lines
 
     knows_on : (octets heard all : List ℕ) (w : World) (event : Event) → Knows octets heard all w
         → KnowsAll (octets ++ handed_over event w) (heard ++ told_over event w) (happens config peer sending event w)
@@ -313,41 +204,26 @@ module _ (config : Config) (peer : Peer) (sending : Sending) where
     both_on : (events : List Event) (octets heard all all' : List ℕ) (w : World) (event : Event) → w ≡ run config peer sending events → Knows octets heard all w
         → Knows (octets ++ handed_over event w) (heard ++ told_over event w) all' (happens config peer sending event w)
         → Both events w → Both (events ++ event ∷ []) (happens config peer sending event w)
-    both_on events octets heard all all' w Send is k next b = by (next_said config peer sending w.teller w.appended)
+    both_on events octets heard all all' w event is k next b =
+        each_event config peer sending w (λ event over told next. Knows (octets ++ over) (heard ++ told) all' next → Both (events ++ event ∷ []) next)
+        (λ n. (first Send, second Send)) (λ text e n. (first Send, second Send))
+        (λ to count moment n. (
+          so_piece true events (Deliver to count moment) taker octets n.holds.lines.behind n.holds.all w.taker moment (take count w.to_taker) b.0 k.takes n.holds.lines.front n.holds.tells.gives.1,
+          second (Deliver to count moment),
+        ))
+        (λ to count moment n. (
+          first (Deliver to count moment),
+          so_piece false events (Deliver to count moment) teller heard n.told.lines.behind all' w.teller moment (take count w.to_teller) b.1 k.told.first n.told.lines.front n.told.says.calm.1,
+        ))
+        (λ end moment e n. (so_tick true events end moment e w.taker (ap (λ (v : World). v.taker) is) b.0, second (TickEvent end moment)))
+        (λ end moment e n. (first (TickEvent end moment), so_tick false events end moment e w.teller (ap (λ (v : World). v.teller) is) b.1))
+        (λ n. (first Cut, second Cut)) event next
       where
-        by : (text : Option (List ℕ)) → Both (events ++ Send ∷ []) (says text w)
-        by None = (so_later true events Send w.taker.closed b.0, so_later false events Send w.teller.closed b.1)
-        by (Some text) = (so_later true events Send w.taker.closed b.0, so_later false events Send w.teller.closed b.1)
-    both_on events octets heard all all' w (Deliver to count moment) is k next b = by (to == 0) next
-      where
-        event : Event
-        event = Deliver to count moment
+        first : (event : Event) → So true (events ++ event ∷ []) w.taker.closed
+        first event = so_later true events event w.taker.closed b.0
 
-        by : (zeroth : Bool) → Knows (octets ++ (if zeroth then taken_in w.taker.closed (take count w.to_taker) else []))
-            (heard ++ (if zeroth then [] else taken_in w.teller.closed (take count w.to_teller))) all'
-            (if zeroth then taker_comes (hand taker moment w.taker (take count w.to_taker)) (drop count w.to_taker) w
-            else teller_comes (hand teller moment w.teller (take count w.to_teller)) (drop count w.to_teller) w)
-            → Both (events ++ event ∷ [])
-            (if zeroth then taker_comes (hand taker moment w.taker (take count w.to_taker)) (drop count w.to_taker) w
-            else teller_comes (hand teller moment w.teller (take count w.to_teller)) (drop count w.to_teller) w)
-        by true n = (
-          so_piece true events event taker octets n.holds.lines.behind n.holds.all w.taker moment (take count w.to_taker) b.0 k.takes n.holds.lines.front n.holds.tells.gives.1,
-          so_later false events event w.teller.closed b.1,
-        )
-        by false n = (
-          so_later true events event w.taker.closed b.0,
-          so_piece false events event teller heard n.told.lines.behind all' w.teller moment (take count w.to_teller) b.1 k.told.first n.told.lines.front n.told.says.calm,
-        )
-    both_on events octets heard all all' w (TickEvent end moment) is k next b = by (end == 0) refl
-      where
-        event : Event
-        event = TickEvent end moment
-
-        by : (zeroth : Bool) → (end == 0) ≡ zeroth → Both (events ++ event ∷ [])
-            (if zeroth then taker_comes (ticked moment w.taker) w.to_taker w else teller_comes (ticked moment w.teller) w.to_teller w)
-        by true e = (so_tick true events end moment e w.taker (ap (λ (v : World). v.taker) is) b.0, so_later false events event w.teller.closed b.1)
-        by false e = (so_later true events event w.taker.closed b.0, so_tick false events end moment e w.teller (ap (λ (v : World). v.teller) is) b.1)
-    both_on events octets heard all all' w Cut is k next b = (so_later true events Cut w.taker.closed b.0, so_later false events Cut w.teller.closed b.1)
+        second : (event : Event) → So false (events ++ event ∷ []) w.teller.closed
+        second event = so_later false events event w.teller.closed b.1
 
     all_close : (events before : List Event) (octets heard all : List ℕ) (w : World) → w ≡ run config peer sending before → Knows octets heard all w → Both before w
         → Both (before ++ events) (runs_on config peer sending w events)

@@ -1,9 +1,10 @@
 -- Whatever happens between two joined ends, what was delivered is a front of what the announcing end said, and what it
 -- said is its OPEN, KEEPALIVEs and the UPDATEs of its rules, in their order.
-use Rattle.std.proofs.Common.{◌≡◌, ◌⊎◌, inl, inr, ℕ, zero, suc, ◌+◌, ◌==◌, Bool, true, false, if◌then◌else◌, List, [], ◌∷◌, ◌++◌, length, take, drop, map, Option, Some, None, refl, ap, sym, ◌∙◌, subst, append_assoc, append-nil}
+use Rattle.std.proofs.Common.{◌≡◌, ◌⊎◌, inl, inr, ℕ, zero, suc, ◌+◌, Bool, true, false, if◌then◌else◌, List, [], ◌∷◌, ◌++◌, length, take, drop, map, Option, Some, None, refl, ap, sym, ◌∙◌, subst, append_assoc, append-nil}
 use Rattle.std.proofs.lemmas.List.{take-append-drop}
 use Rattle.fs_base.specs.declared.config.Config.{Config}
 use Rattle.fs_base.specs.declared.config.Peer.{Peer}
+use Rattle.fs_base.proofs.Octets.{take_of_none}
 use Rattle.fs_attrs.specs.declared.update.Update.{Update}
 use Rattle.fs_message.specs.Write.{message_text}
 use Rattle.fs_session.specs.declared.state.Closed.{Closed}
@@ -20,17 +21,18 @@ use Rattle.fs_session.specs.Sending.{needs_of, text_sent, update_sent}
 use Rattle.fs_session.specs.Session.{at_start, session_by}
 use Rattle.fs_session.specs.Times.{at_moment, tick_at}
 use Rattle.fs_session.specs.Transition.{Machine}
+use Rattle.fs_session.proofs.Handing.{hand_each}
 use Rattle.fs_session.proofs.Joining.{front_first}
 use Rattle.fs_speaker.specs.declared.event.Event.{Event}
-use Rattle.fs_speaker.specs.declared.event.Event.TheVariants.{Send, Deliver, Tick as TickEvent, Cut}
+use Rattle.fs_speaker.specs.declared.event.Event.TheVariants.{Cut}
 use Rattle.fs_speaker.specs.End.{ticks, ticked}
-use Rattle.fs_speaker.specs.JointLaws.{CanArrive, taken_in, handed_over, delivered_on, delivered}
-use Rattle.fs_speaker.specs.World.{World, sent, taker_of, teller_of, taker_comes, teller_comes, says, next_said, happens, at_first, runs_on, run}
-use Rattle.fs_speaker.proofs.Handover.{open_hand, closed_hand}
+use Rattle.fs_speaker.specs.JointLaws.{CanArrive, taken_in, handed_over, delivered}
+use Rattle.fs_speaker.specs.World.{World, sent, taker_of, teller_of, teller_comes, says, next_said, happens, at_first, run}
+use Rattle.fs_speaker.proofs.Events.{each_event, each_run}
 use Rattle.fs_speaker.proofs.Opening.{Begins, Comes, Heads, IsSafe, IsSilent, Quietly, awaits, heads_more, heads_safe, none_safe, quiet_by, safe_front, taker_begins, teller_begins}
-use Rattle.fs_speaker.proofs.Reading.{Gives, Reads, front_of, gives_none, gives_notice, met, reads_alive, reads_first_alive, reads_gives, reads_none, reads_open, reads_rule, up}
+use Rattle.fs_speaker.proofs.Reading.{Gives, Reads, calmly_none, front_of, hears_calmly, hears_none, hears_notice, met, reads_alive, reads_first_alive, reads_open, reads_rule, up}
 use Rattle.fs_speaker.proofs.Taking.{takes_delivered}
-use Rattle.fs_speaker.proofs.Waking.{ticked_by}
+use Rattle.fs_speaker.proofs.Waking.{hand_opens, open_not, tick_each, tick_opens}
 
 -- What was delivered is a front of all that was said; and while the receiving end is open and the wire isn't cut, the
 -- rest of it is in flight.
@@ -60,14 +62,6 @@ nothing_left zero flying e = e
 nothing_left (suc n) [] e = refl
 nothing_left (suc n) (octet ∷ flying) e = absurd cc
 
-nothing_taken : (n : ℕ) (flying : List ℕ) → flying ≡ [] → take n flying ≡ []
-nothing_taken zero flying e = refl
-nothing_taken (suc n) [] e = refl
-nothing_taken (suc n) (octet ∷ flying) e = absurd cc
-
-pub open_not : (why : Closed) → Some why ≡ None → ⊥
-open_not why e = cc
-
 pub lines_delivered : (octets all flying : List ℕ) (cut : Bool) (how how' : Option Closed) (n : ℕ) → (how' ≡ None → how ≡ None) → Lines octets all flying cut how
     → Lines (octets ++ taken_in how (take n flying)) all (drop n flying) cut how'
 lines_delivered octets all flying cut None how' n kept l = by cut refl
@@ -78,7 +72,7 @@ lines_delivered octets all flying cut None how' n kept l = by cut refl
     by : (c : Bool) → cut ≡ c → Lines (octets ++ take n flying) all (drop n flying) cut how'
     by true c = record {
       behind = l.behind;
-      front = ap (λ (z : List ℕ). z ++ l.behind) (ap (λ (z : List ℕ). octets ++ z) (nothing_taken n flying (l.gone c)) ∙ append-nil octets) ∙ l.front;
+      front = ap (λ (z : List ℕ). z ++ l.behind) (ap (λ (z : List ℕ). octets ++ z) (take_of_none n flying (l.gone c)) ∙ append-nil octets) ∙ l.front;
       flows = λ o f. absurd cc;
       gone = λ g. nothing_left n flying (l.gone g);
     }
@@ -104,6 +98,11 @@ lines_same octets all flying cut how how' kept l = record {
   flows = λ o f. ap (λ (z : List ℕ). z ++ flying) (append-nil octets) ∙ l.flows (kept o) f;
   gone = l.gone;
 }
+
+-- nothing is delivered, and more is said
+pub lines_spoken : (octets all flying : List ℕ) (cut : Bool) (how : Option Closed) (text : List ℕ) → Lines octets all flying cut how
+    → Lines (octets ++ []) (all ++ text) (sent cut flying text) cut how
+lines_spoken octets all flying cut how text l = lines_same octets (all ++ text) (sent cut flying text) cut how how (λ o. o) (lines_said octets all flying cut how text l)
 
 pub lines_cut : (octets all flying : List ℕ) (cut : Bool) (how : Option Closed) → Lines octets all flying cut how → Lines (octets ++ []) all [] true how
 lines_cut octets all flying cut how l = record {
@@ -187,36 +186,28 @@ module _ (config : Config) (peer : Peer) (sending : Sending) (can : CanArrive co
 
   -- it is handed a piece
   taker_speaks : (moment : ℕ) (now : Point) (piece : List ℕ) → Speaks now (hand taker moment now piece)
-  taker_speaks moment now piece silent = by now.closed refl
-    where
-      by : (how : Option Closed) → now.closed ≡ how → Begins config peer sending can (hand taker moment now piece)
-      by None e =
-          subst (λ (m : Handed). Begins config peer sending can m)
-          (sym (open_hand taker moment now piece e ∙ ap (λ (p : Phase). runs_by taker p (at_moment moment now.times) (now.waiting ++ piece)) (silent e)))
-          (taker_begins config peer sending can (at_moment moment now.times) (now.waiting ++ piece))
-      by (Some why) e =
-          subst (λ (m : Handed). Begins config peer sending can m) (sym (closed_hand taker moment now piece why e)) (inl (refl, silent))
+  taker_speaks moment now piece silent =
+      hand_each taker moment now piece (Begins config peer sending can)
+      (λ e. subst (λ (p : Phase). Begins config peer sending can (runs_by taker p (at_moment moment now.times) (now.waiting ++ piece))) (sym (silent e))
+      (taker_begins config peer sending can (at_moment moment now.times) (now.waiting ++ piece)))
+      (λ why e. inl (refl, silent))
 
   -- the clock
   taker_wakes : (moment : ℕ) (now : Point) → Speaks now (ticked moment now)
-  taker_wakes moment now silent = by now.closed refl
-    where
-      quiet : now.closed ≡ None → (p : Phase) → now.phase ≡ p → p ≡ at_start
-          → Begins config peer sending can (ticks (tick_at p.hold (at_moment moment now.times)) now.waiting p (at_moment moment now.times))
-      quiet e p q r =
-          subst (λ (p : Phase). Begins config peer sending can (ticks (tick_at p.hold (at_moment moment now.times)) now.waiting p (at_moment moment now.times)))
-          (sym r) (inl (refl, λ o. refl))
-
-      by : (how : Option Closed) → now.closed ≡ how → Begins config peer sending can (ticked_by moment now how)
-      by None e = quiet e now.phase refl (silent e)
-      by (Some why) e = inl (refl, silent)
+  taker_wakes moment now silent =
+      tick_each moment now (Begins config peer sending can)
+      (λ e. subst (λ (p : Phase). Begins config peer sending can (ticks (tick_at p.hold (at_moment moment now.times)) now.waiting p (at_moment moment now.times)))
+      (sym (silent e)) (inl (refl, λ o. refl)))
+      (λ why e. inl (refl, silent))
 
   -- THE ANNOUNCING END SPEAKS
   -- it says nothing, or what it says is read
   tells_piece : (all : List ℕ) (appended : ℕ) (now : Point) (flying : List ℕ) (other : Point) (cut : Bool) (moment n : ℕ)
       → Tells all appended now flying other cut
       → Tells (all ++ (hand teller moment now (take n flying)).text) appended (hand teller moment now (take n flying)).point (drop n flying) other cut
-  tells_piece all appended now flying other cut moment n t = by now.closed refl
+  tells_piece all appended now flying other cut moment n t =
+      hand_each teller moment now (take n flying) (λ made. Tells (all ++ made.text) appended made.point (drop n flying) other cut) (λ e. opened_by (t.stands e))
+      (λ why e. record { gives = calmly_none taker all _ t.gives; stands = λ o. absurd (open_not why (sym e ∙ o)) })
     where
       piece : List ℕ
       piece = take n flying
@@ -231,7 +222,7 @@ module _ (config : Config) (peer : Peer) (sending : Sending) (can : CanArrive co
       split = append_assoc now.waiting piece rest ∙ ap (λ (z : List ℕ). now.waiting ++ z) (take-append-drop n flying)
 
       silent_now : (made : Handed) → made.text ≡ [] → Gives config peer sending (all ++ made.text) appended
-      silent_now made e = subst (λ (z : List ℕ). Gives config peer sending (all ++ z) appended) (sym e) (gives_none config peer sending all appended t.gives)
+      silent_now made e = subst (λ (z : List ℕ). Gives config peer sending (all ++ z) appended) (sym e) (calmly_none taker all _ t.gives)
 
       began : (made : Handed) → Reads config peer sending all appended (met config peer sending) → Coming (now.waiting ++ flying) other cut
           → Comes config (needs_of sending.rules) (now.waiting ++ piece) made → Tells (all ++ made.text) appended made.point rest other cut
@@ -241,7 +232,7 @@ module _ (config : Config) (peer : Peer) (sending : Sending) (can : CanArrive co
           waits.1.1.0,
           (
             subst (λ (z : List ℕ). Reads config peer sending (all ++ z) appended (met config peer sending)) (sym waits.0)
-                (reads_none config peer sending all appended (met config peer sending) r),
+                (hears_none taker all _ (met config peer sending) r),
             subst (λ (z : List ℕ). Coming z other cut) (sym (ap (λ (z : List ℕ). z ++ rest) waits.1.1.1 ∙ split)) c,
           ),
         );
@@ -252,7 +243,7 @@ module _ (config : Config) (peer : Peer) (sending : Sending) (can : CanArrive co
           subst (λ (z : List ℕ). Reads config peer sending (all ++ z) appended (up config peer sending)) (sym opens.0)
           (reads_first_alive config peer sending all appended r) in
           record {
-            gives = reads_gives config peer sending (all ++ made.text) appended (up config peer sending) reads;
+            gives = hears_calmly taker (all ++ made.text) _ (up config peer sending) reads;
             stands = λ o. inr ((opens.1 o).0, ((opens.1 o).1, reads));
           }
 
@@ -265,7 +256,7 @@ module _ (config : Config) (peer : Peer) (sending : Sending) (can : CanArrive co
           (
             (q.1 o).1 ∙ four,
             subst (λ (z : List ℕ). Reads config peer sending (all ++ z) appended (up config peer sending)) (sym q.0)
-                (reads_none config peer sending all appended (up config peer sending) r),
+                (hears_none taker all _ (up config peer sending) r),
           ),
         );
       }
@@ -280,18 +271,12 @@ module _ (config : Config) (peer : Peer) (sending : Sending) (can : CanArrive co
       opened_by (inr b) =
           went_on was_made b.1.0 b.1.1 (quiet_by config (needs_of sending.rules) now.phase (at_moment moment now.times) (now.waiting ++ piece) b.0)
 
-      by : (how : Option Closed) → now.closed ≡ how
-          → Tells (all ++ (hand teller moment now piece).text) appended (hand teller moment now piece).point rest other cut
-      by None e =
-          subst (λ (m : Handed). Tells (all ++ m.text) appended m.point rest other cut) (sym (open_hand teller moment now piece e)) (opened_by (t.stands e))
-      by (Some why) e =
-          subst (λ (m : Handed). Tells (all ++ m.text) appended m.point rest other cut) (sym (closed_hand teller moment now piece why e))
-          (record { gives = gives_none config peer sending all appended t.gives; stands = λ o. absurd (open_not why (sym e ∙ o)) })
-
   tells_tick : (all : List ℕ) (appended : ℕ) (now : Point) (flying : List ℕ) (other : Point) (cut : Bool) (moment : ℕ)
       → Tells all appended now flying other cut
       → Tells (all ++ (ticked moment now).text) appended (ticked moment now).point flying other cut
-  tells_tick all appended now flying other cut moment t = by now.closed refl
+  tells_tick all appended now flying other cut moment t =
+      tick_each moment now (λ made. Tells (all ++ made.text) appended made.point flying other cut) (λ e. opened_by (t.stands e))
+      (λ why e. record { gives = calmly_none taker all _ t.gives; stands = λ o. absurd (open_not why (sym e ∙ o)) })
     where
       times : Times
       times = at_moment moment now.times
@@ -299,17 +284,17 @@ module _ (config : Config) (peer : Peer) (sending : Sending) (can : CanArrive co
       beyond : (tick : Tick) → (awaits now.phase.state ≡ false) → now.phase.four ≡ true → Reads config peer sending all appended (up config peer sending)
           → Tells (all ++ (ticks tick now.waiting now.phase times).text) appended (ticks tick now.waiting now.phase times).point flying other cut
       beyond Quiet a f r = record {
-        gives = gives_none config peer sending all appended t.gives;
-        stands = λ o. inr (a, (f, reads_none config peer sending all appended (up config peer sending) r));
+        gives = calmly_none taker all _ t.gives;
+        stands = λ o. inr (a, (f, hears_none taker all _ (up config peer sending) r));
       }
       beyond Keeps a f r =
           let more = reads_alive config peer sending all appended r in
           record {
-            gives = reads_gives config peer sending (all ++ message_text 4 []) appended (up config peer sending) more;
+            gives = hears_calmly taker (all ++ message_text 4 []) _ (up config peer sending) more;
             stands = λ o. inr (a, (f, more));
           }
       beyond Expires a f r = record {
-        gives = gives_notice config peer sending all appended 4 0 (up config peer sending) r;
+        gives = hears_notice taker all _ (up config peer sending) 4 0 r;
         stands = λ o. absurd (open_not (Fault 4 0) o);
       }
 
@@ -319,8 +304,8 @@ module _ (config : Config) (peer : Peer) (sending : Sending) (can : CanArrive co
           subst (λ (p : Phase). Tells (all ++ (ticks (tick_at p.hold times) now.waiting p times).text) appended (ticks (tick_at p.hold times) now.waiting p times).point flying other cut)
           (sym e)
           (record {
-            gives = gives_none config peer sending all appended t.gives;
-            stands = λ o. inl (refl, (reads_none config peer sending all appended (met config peer sending) r, c));
+            gives = calmly_none taker all _ t.gives;
+            stands = λ o. inl (refl, (hears_none taker all _ (met config peer sending) r, c));
           })
 
       opened_by : Awaiting all appended now flying other cut ⊎ Beyond all appended now
@@ -329,22 +314,13 @@ module _ (config : Config) (peer : Peer) (sending : Sending) (can : CanArrive co
       opened_by (inl a) = waits_on now.phase a.0 a.1.0 a.1.1
       opened_by (inr b) = beyond (tick_at now.phase.hold times) b.0 b.1.0 b.1.1
 
-      by : (how : Option Closed) → now.closed ≡ how → Tells (all ++ (ticked_by moment now how).text) appended (ticked_by moment now how).point flying other cut
-      by None e = opened_by (t.stands e)
-      by (Some why) e = record { gives = gives_none config peer sending all appended t.gives; stands = λ o. absurd (open_not why (sym e ∙ o)) }
-
   -- A RULE IS SAID
   abbrev text_of : Point → Sent → List ℕ
   text_of now sent = text_sent config peer now.phase.four sending sent
 
-  holds_said : (octets : List ℕ) (w : World) (text : Option (List ℕ)) → next_said config peer sending w.teller w.appended ≡ text → Holds octets w
-      → Holds (octets ++ []) (says text w)
-  holds_said octets w None e h = record {
-    all = h.all;
-    lines = lines_same octets h.all w.to_taker w.cut w.taker.closed w.taker.closed (λ o. o) h.lines;
-    tells = h.tells;
-  }
-  holds_said octets w (Some text) e h = by w.teller.closed refl
+  holds_said : (octets : List ℕ) (w : World) (text : List ℕ) → next_said config peer sending w.teller w.appended ≡ Some text → Holds octets w
+      → Holds (octets ++ []) (says (Some text) w)
+  holds_said octets w text e h = by w.teller.closed refl
     where
       says_by : Option Closed → Option (List ℕ)
       says_by how = elim how [
@@ -387,10 +363,9 @@ module _ (config : Config) (peer : Peer) (sending : Sending) (can : CanArrive co
           let more = said (drop w.appended sending.rules) refl f.1 b in
           record {
             all = h.all ++ text;
-            lines = lines_same octets (h.all ++ text) (sent w.cut w.to_taker text) w.cut w.taker.closed w.taker.closed (λ o. o)
-                (lines_said octets h.all w.to_taker w.cut w.taker.closed text h.lines);
+            lines = lines_spoken octets h.all w.to_taker w.cut w.taker.closed text h.lines;
             tells = record {
-              gives = reads_gives config peer sending (h.all ++ text) (w.appended + 1) (up config peer sending) more;
+              gives = hears_calmly taker (h.all ++ text) _ (up config peer sending) more;
               stands = λ o. inr (b.0, (b.1.0, more));
             };
           }
@@ -402,56 +377,6 @@ module _ (config : Config) (peer : Peer) (sending : Sending) (can : CanArrive co
       by (Some why) o = absurd (none_some text (sym (ap says_by o) ∙ e))
 
   -- EVENTS
-  pub stays_open : (moment : ℕ) (now : Point) (piece : List ℕ) → (hand taker moment now piece).point.closed ≡ None → now.closed ≡ None
-  stays_open moment now piece o = by now.closed refl
-    where
-      by : (how : Option Closed) → now.closed ≡ how → now.closed ≡ None
-      by None e = e
-      by (Some why) e = absurd (open_not why (sym e ∙ sym (ap (λ (m : Handed). m.point.closed) (closed_hand taker moment now piece why e)) ∙ o))
-
-  pub woke_open : (moment : ℕ) (now : Point) → (ticked moment now).point.closed ≡ None → now.closed ≡ None
-  woke_open moment now o = by now.closed refl o
-    where
-      by : (how : Option Closed) → now.closed ≡ how → (ticked_by moment now how).point.closed ≡ None → now.closed ≡ None
-      by None e f = e
-      by (Some why) e f = f
-
-  holds_delivered : (octets : List ℕ) (w : World) (to count moment : ℕ) (first : Bool) → Holds octets w
-      → Holds (octets ++ (if first then taken_in w.taker.closed (take count w.to_taker) else []))
-      (if first then taker_comes (hand taker moment w.taker (take count w.to_taker)) (drop count w.to_taker) w
-      else teller_comes (hand teller moment w.teller (take count w.to_teller)) (drop count w.to_teller) w)
-  holds_delivered octets w to count moment true h = record {
-    all = h.all;
-    lines = lines_delivered octets h.all w.to_taker w.cut w.taker.closed (hand taker moment w.taker (take count w.to_taker)).point.closed count
-        (stays_open moment w.taker (take count w.to_taker)) h.lines;
-    tells = tells_heard h.all w.appended w.teller w.to_teller w.taker w.cut (hand taker moment w.taker (take count w.to_taker))
-        (taker_speaks moment w.taker (take count w.to_taker)) h.tells;
-  }
-  holds_delivered octets w to count moment false h =
-      let text : List ℕ = (hand teller moment w.teller (take count w.to_teller)).text in
-      record {
-        all = h.all ++ text;
-        lines = lines_same octets (h.all ++ text) (sent w.cut w.to_taker text) w.cut w.taker.closed w.taker.closed (λ o. o)
-            (lines_said octets h.all w.to_taker w.cut w.taker.closed text h.lines);
-        tells = tells_piece h.all w.appended w.teller w.to_teller w.taker w.cut moment count h.tells;
-      }
-
-  holds_woke : (octets : List ℕ) (w : World) (moment : ℕ) (first : Bool) → Holds octets w
-      → Holds (octets ++ []) (if first then taker_comes (ticked moment w.taker) w.to_taker w else teller_comes (ticked moment w.teller) w.to_teller w)
-  holds_woke octets w moment true h = record {
-    all = h.all;
-    lines = lines_same octets h.all w.to_taker w.cut w.taker.closed (ticked moment w.taker).point.closed (woke_open moment w.taker) h.lines;
-    tells = tells_heard h.all w.appended w.teller w.to_teller w.taker w.cut (ticked moment w.taker) (taker_wakes moment w.taker) h.tells;
-  }
-  holds_woke octets w moment false h =
-      let text : List ℕ = (ticked moment w.teller).text in
-      record {
-        all = h.all ++ text;
-        lines = lines_same octets (h.all ++ text) (sent w.cut w.to_taker text) w.cut w.taker.closed w.taker.closed (λ o. o)
-            (lines_said octets h.all w.to_taker w.cut w.taker.closed text h.lines);
-        tells = tells_tick h.all w.appended w.teller w.to_teller w.taker w.cut moment h.tells;
-      }
-
   holds_cut : (octets : List ℕ) (w : World) → Holds octets w → Holds (octets ++ []) (happens config peer sending Cut w)
   holds_cut octets w h = record {
     all = h.all;
@@ -474,19 +399,36 @@ module _ (config : Config) (peer : Peer) (sending : Sending) (can : CanArrive co
       )
       by (inr b) = inr b
 
-  pub holds_on : (octets : List ℕ) (w : World) (event : Event) → Holds octets w → Holds (octets ++ handed_over event w) (happens config peer sending event w)
-  holds_on octets w Send h = holds_said octets w (next_said config peer sending w.teller w.appended) refl h
-  holds_on octets w (Deliver to count moment) h = holds_delivered octets w to count moment (to == 0) h
-  holds_on octets w (TickEvent end moment) h = holds_woke octets w moment (end == 0) h
-  holds_on octets w Cut h = holds_cut octets w h
+  holds_spoken : (octets : List ℕ) (w : World) (h : Holds octets w) (made : Handed) (flying : List ℕ)
+      → Tells (h.all ++ made.text) w.appended made.point flying w.taker w.cut → Holds (octets ++ []) (teller_comes made flying w)
+  holds_spoken octets w h made flying tells = record {
+    all = h.all ++ made.text;
+    lines = lines_spoken octets h.all w.to_taker w.cut w.taker.closed made.text h.lines;
+    tells = tells;
+  }
 
-  holds_all : (events : List Event) (octets : List ℕ) (w : World) → Holds octets w
-      → Holds (octets ++ delivered_on config peer sending w events) (runs_on config peer sending w events)
-  holds_all [] octets w h = rw (append-nil octets) h
-  holds_all (event ∷ events) octets w h =
-      let next : World = happens config peer sending event w in
-      rw (← append_assoc octets (handed_over event w) (delivered_on config peer sending next events))
-      (holds_all events (octets ++ handed_over event w) next (holds_on octets w event h))
+  pub holds_on : (octets : List ℕ) (w : World) (event : Event) → Holds octets w → Holds (octets ++ handed_over event w) (happens config peer sending event w)
+  holds_on octets w event h =
+      each_event config peer sending w (λ _ over _ next. Holds (octets ++ over) next)
+      (record { all = h.all; lines = lines_same octets h.all w.to_taker w.cut w.taker.closed w.taker.closed (λ o. o) h.lines; tells = h.tells })
+      (λ text e. holds_said octets w text e h)
+      (λ to count moment.
+      let piece : List ℕ = take count w.to_taker in
+      let made : Handed = hand taker moment w.taker piece in
+      record {
+        all = h.all;
+        lines = lines_delivered octets h.all w.to_taker w.cut w.taker.closed made.point.closed count (hand_opens taker moment w.taker piece) h.lines;
+        tells = tells_heard h.all w.appended w.teller w.to_teller w.taker w.cut made (taker_speaks moment w.taker piece) h.tells;
+      })
+      (λ to count moment. holds_spoken octets w h (hand teller moment w.teller (take count w.to_teller)) (drop count w.to_teller)
+      (tells_piece h.all w.appended w.teller w.to_teller w.taker w.cut moment count h.tells))
+      (λ end moment e. record {
+        all = h.all;
+        lines = lines_same octets h.all w.to_taker w.cut w.taker.closed (ticked moment w.taker).point.closed (tick_opens moment w.taker) h.lines;
+        tells = tells_heard h.all w.appended w.teller w.to_teller w.taker w.cut (ticked moment w.taker) (taker_wakes moment w.taker) h.tells;
+      })
+      (λ end moment e. holds_spoken octets w h (ticked moment w.teller) w.to_teller (tells_tick h.all w.appended w.teller w.to_teller w.taker w.cut moment h.tells))
+      (holds_cut octets w h) event
 
   pub holds_first : Holds [] (at_first config peer sending)
   holds_first =
@@ -496,7 +438,7 @@ module _ (config : Config) (peer : Peer) (sending : Sending) (can : CanArrive co
         all = all;
         lines = record { behind = all; front = refl; flows = λ o c. refl; gone = λ c. absurd cc };
         tells = record {
-          gives = reads_gives config peer sending all 0 (met config peer sending) reads;
+          gives = hears_calmly taker all _ (met config peer sending) reads;
           stands = λ o. inl (
             refl,
             (
@@ -511,7 +453,7 @@ module _ (config : Config) (peer : Peer) (sending : Sending) (can : CanArrive co
       → (n : ℕ) × ((run config peer sending events).taken ≡ take n (map (update_sent config peer sending) sending.rules))
   takes_front events =
       let octets : List ℕ = delivered config peer sending events in
-      let h : Holds octets (run config peer sending events) = holds_all events [] (at_first config peer sending) holds_first in
+      let h : Holds octets (run config peer sending events) = each_run config peer sending Holds holds_on events [] (at_first config peer sending) holds_first in
       let taken : List Update = (run config peer sending events).taken in
       let first = front_first taker at_start octets h.lines.behind in
       let all : map (update_sent config peer sending) (take (run config peer sending events).appended sending.rules) ≡ taken ++ first.0 =

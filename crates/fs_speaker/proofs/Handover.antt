@@ -15,6 +15,7 @@ use Rattle.fs_session.specs.Times.{times, at_moment, taken_in}
 use Rattle.fs_session.specs.declared.transition.Phase.{Phase}
 use Rattle.fs_session.specs.Transition.{Machine}
 use Rattle.fs_session.proofs.Handing.{runs_takes, runs_stops, runs_waits}
+pub use Rattle.fs_session.proofs.Handing.{open_hand, closed_hand}
 use Rattle.fs_speaker.specs.End.{StandsAt, HandsOver}
 
 -- what was taken and answered before, and what is to come
@@ -225,15 +226,6 @@ going_more machine moment old line new piece rest taken taken' out out' out2 cou
     let w = went machine moment old line new piece rest taken taken' out out' out2 count update result now e stands stays feeds now.closed refl (g now stands) in
     subst (λ (how : Option Closed). GoesFrom machine moment old new piece (drop count rest) taken (taken' ++ updates_with update []) out out2 now how) (sym w.0)
     (closed ∙ ap closed_after e, w.1.comes)
-
-pub open_hand : (machine : Machine) (moment : ℕ) (now : Point) (piece : List ℕ) → now.closed ≡ None
-    → hand machine moment now piece ≡ runs_by machine now.phase (at_moment moment now.times) (now.waiting ++ piece)
-open_hand machine moment now piece e =
-    ap (λ (o : Option Closed). elim o [ Some why ↦ handed now [] [] | None ↦ runs_by machine now.phase (at_moment moment now.times) (now.waiting ++ piece) ]) e
-
-pub closed_hand : (machine : Machine) (moment : ℕ) (now : Point) (piece : List ℕ) (why : Closed) → now.closed ≡ Some why → hand machine moment now piece ≡ handed now [] []
-closed_hand machine moment now piece why e =
-    ap (λ (o : Option Closed). elim o [ Some why ↦ handed now [] [] | None ↦ runs_by machine now.phase (at_moment moment now.times) (now.waiting ++ piece) ]) e
 
 -- what the piece made of the end, by whatever it is called
 by_whole : (machine : Machine) (new : Lined) (taken taken' : List Update) (out out' : List ℕ) (whole whole' : Handed) → whole' ≡ whole

@@ -22,7 +22,7 @@ use Rattle.fs_speaker.specs.End.{Own, own_of_taker, own_of_teller, ticks, ticked
 use Rattle.fs_speaker.specs.Ends.{Both, both, IsTaker, IsTeller, AreIn}
 use Rattle.fs_speaker.specs.Flight.{Flying, flying}
 use Rattle.fs_speaker.specs.World.{World, sent, taker_of, teller_of, next_said, delivers, wakes}
-use Rattle.fs_speaker.proofs.Waking.{ticked_by}
+use Rattle.fs_speaker.proofs.Waking.{tick_each}
 
 -- no update comes of the clock
 no_update : (tick : Tick) (waiting : List ℕ) (phase : Phase) (times : Times) → (ticks tick waiting phase times).updates ≡ []
@@ -31,11 +31,9 @@ no_update Keeps waiting phase times = refl
 no_update Expires waiting phase times = refl
 
 nothing_taken : (moment : ℕ) (now : Point) → (ticked moment now).updates ≡ []
-nothing_taken moment now = by now.closed
-  where
-    by : (how : Option Closed) → (ticked_by moment now how).updates ≡ []
-    by (Some why) = refl
-    by None = no_update (tick_at now.phase.hold (at_moment moment now.times)) now.waiting now.phase (at_moment moment now.times)
+nothing_taken moment now =
+    tick_each moment now (λ made. made.updates ≡ []) (λ e. no_update (tick_at now.phase.hold (at_moment moment now.times)) now.waiting now.phase (at_moment moment now.times))
+    (λ why e. refl)
 
 -- updates that are handed over into a list of their own are taken behind others
 pub handed_behind : (machine : Machine) (moment : ℕ) (old new : Lined) (piece : List ℕ) (taken got all : List Update) (said : List ℕ)

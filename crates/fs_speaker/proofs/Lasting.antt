@@ -1,27 +1,21 @@
 -- What a session comes to that is handed on, in pieces, and that a front of the octets closed.
-use Rattle.std.proofs.Common.{◌≡◌, ℕ, List, [], ◌∷◌, ◌++◌, Option, Some, None, Ok, Err, refl, ap, sym, ◌∙◌, append_assoc}
-use Rattle.fs_base.specs.Parts.{parts_of}
-use Rattle.fs_base.proofs.Parts.{parts_append}
-use Rattle.fs_message.specs.Stream.{Message, first_message, wrong_at}
-use Rattle.fs_message.specs.declared.fault.MessageFault.{MessageFault}
-use Rattle.fs_message.proofs.StreamLaws.{fault_stays, message_shrinks, message_stable}
+use Rattle.std.proofs.Common.{◌≡◌, ℕ, List, [], ◌++◌, Option, Some, None, refl, ap, sym, ◌∙◌, subst, append_assoc}
 use Rattle.fs_attrs.specs.declared.update.Update.{Update}
-use Rattle.fs_session.specs.Handed.{Handed, Point, hand, rests, runs, runs_by}
-use Rattle.fs_session.specs.Session.{Last, at_start, closed, plays, rest_closes, session_by, with_update}
-use Rattle.fs_session.specs.Times.{at_moment, taken_in, tick_at}
-use Rattle.fs_session.specs.Transition.{Machine, transition_by}
+use Rattle.fs_session.specs.Handed.{Handed, Point, hand, runs_by}
+use Rattle.fs_session.specs.Session.{Last, at_start, closed, still, session_by, with_update}
+use Rattle.fs_session.specs.Times.{at_moment, tick_at}
+use Rattle.fs_session.specs.Transition.{Machine}
 use Rattle.fs_session.specs.declared.state.Closed.{Closed}
 use Rattle.fs_session.specs.declared.times.Tick.{Tick}
 use Rattle.fs_session.specs.declared.times.Tick.TheVariants.{Quiet, Keeps, Expires}
 use Rattle.fs_session.specs.declared.times.Times.{Times}
 use Rattle.fs_session.specs.declared.transition.Phase.{Phase}
-use Rattle.fs_session.proofs.Handing.{ran, runs_none, runs_step}
-use Rattle.fs_session.proofs.ReplySteps.{wrong_first}
-use Rattle.fs_session.proofs.SessionSteps.{Transition, going, plays_step, session_rest}
+use Rattle.fs_session.proofs.Handing.{hand_each, open_hand}
+use Rattle.fs_session.proofs.Joining.{both_by}
+use Rattle.fs_session.proofs.SessionSteps.{last_of, session_seen}
 use Rattle.fs_speaker.specs.End.{ticked, ticks}
 use Rattle.fs_speaker.specs.JointLaws.{taken_in as octets_in}
-use Rattle.fs_speaker.proofs.Handover.{closed_hand, open_hand}
-use Rattle.fs_speaker.proofs.Waking.{ticked_by}
+use Rattle.fs_speaker.proofs.Waking.{open_not, hand_stays, tick_each}
 
 -- an update more changes nothing of what the session comes to
 pub last_update : (update : Option Update) (played : List Update × Last) → (with_update update played).1 ≡ played.1
@@ -40,41 +34,14 @@ module _ (machine : Machine) where
   goes_on more made = goes_at more made.point made.point.closed
 
   module _ (more : List ℕ) where
-    abbrev next_messages : List ℕ → List Message
-    next_messages rest = (parts_of first_message (rest ++ more)).0
-
-    abbrev next_wrong : List ℕ → Option MessageFault
-    next_wrong rest = wrong_at (parts_of first_message (rest ++ more)).1
-
-    last_rest : (now : Phase) (times : Times) (rest : List ℕ) (wrong : Option MessageFault) → wrong_at rest ≡ wrong
-        → last_by now (rest ++ more) ≡ goes_on more (rests machine now times rest wrong)
-    last_rest now times rest None h = refl
-    last_rest now times rest (Some fault) h =
-        let stays = fault_stays rest more fault h in
-        ap (λ (z : List Update × Last). z.1) (session_rest machine now (rest ++ more) (wrong_first (rest ++ more) fault stays))
-        ∙ ap (rest_closes now) stays
-
-    last_join : (now : Phase) (times : Times) (messages : List Message) (rest : List ℕ)
-        → (plays machine now (messages ++ next_messages rest) (next_wrong rest)).1 ≡ goes_on more (runs machine now times messages rest (wrong_at rest))
-    last_join now times [] rest =
-        last_rest now times rest (wrong_at rest) refl ∙ sym (ap (goes_on more) (runs_none machine now times rest (wrong_at rest)))
-    last_join now times (message ∷ messages) rest =
-        ap (λ (z : List Update × Last). z.1) (plays_step machine now message (messages ++ next_messages rest) (next_wrong rest))
-        ∙ by (λ next. last_join next (taken_in now.state times) messages rest) (transition_by machine now message)
-        ∙ sym (ap (goes_on more) (runs_step machine now times message messages rest (wrong_at rest)))
-      where
-        by : ((next : Phase) → (plays machine next (messages ++ next_messages rest) (next_wrong rest)).1
-            ≡ goes_on more (runs machine next (taken_in now.state times) messages rest (wrong_at rest)))
-            → (made : Transition)
-            → (going made (λ next. plays machine next (messages ++ next_messages rest) (next_wrong rest))).1
-            ≡ goes_on more (ran machine now times made (λ next. runs machine next (taken_in now.state times) messages rest (wrong_at rest)))
-        by goes (Ok next) = last_update next.1 (plays machine next.0 (messages ++ next_messages rest) (next_wrong rest)) ∙ goes next.0
-        by goes (Err why) = refl
+    last_goes : (now : Point) → last_of (hand machine 0 now more).point ≡ goes_at more now now.closed
+    last_goes now =
+        hand_each machine 0 now more (λ made. last_of made.point ≡ goes_at more now now.closed)
+        (λ e. sym (ap (λ (z : List Update × Last). z.1) (session_seen machine now.phase (at_moment 0 now.times) (now.waiting ++ more))) ∙ sym (ap (goes_at more now) e))
+        (λ why e. ap (λ (o : Option Closed). elim o [ Some w ↦ closed w | None ↦ still now.phase ]) e ∙ sym (ap (goes_at more now) e))
 
     pub goes_by : (now : Phase) (times : Times) (octets : List ℕ) → last_by now (octets ++ more) ≡ goes_on more (runs_by machine now times octets)
-    goes_by now times octets =
-        ap (λ (parts : List Message × List ℕ). (plays machine now parts.0 (wrong_at parts.1)).1) (parts_append first_message message_shrinks message_stable octets more)
-        ∙ last_join now times (parts_of first_message octets).0 (parts_of first_message octets).1
+    goes_by now times octets = ap (λ (z : List Update × Last). z.1) (both_by machine more 0 now times octets).0 ∙ last_goes (runs_by machine now times octets).point
 
   -- An end that is open goes on from where it stands.
   pub record Follows (octets : List ℕ) (now : Point) : Type 0 where
@@ -95,22 +62,36 @@ module _ (machine : Machine) where
     goes = λ o more.
         follows_hand octets piece more now moment e f ∙ ap (goes_at more (hand machine moment now piece).point) o;
   }
-  follows_piece octets piece now moment (Some why) e f = record { goes = λ o. absurd (shut (sym e ∙ sym (ap (λ (m : Handed). m.point.closed) (closed_hand machine moment now piece why e)) ∙ o)) }
-    where
-      shut : Some why ≡ None → ⊥
-      shut h = cc
+  follows_piece octets piece now moment (Some why) e f = record { goes = λ o. absurd (open_not why (sym (hand_stays machine moment now piece why e) ∙ o)) }
 
   -- a piece that closes it closes the session, whatever follows
-  pub closes_for : (octets piece more : List ℕ) (now : Point) (moment : ℕ) (why : Closed) → now.closed ≡ None → Follows octets now
+  closes_for : (octets piece more : List ℕ) (now : Point) (moment : ℕ) (why : Closed) → now.closed ≡ None → Follows octets now
       → (hand machine moment now piece).point.closed ≡ Some why → (session_by machine at_start ((octets ++ piece) ++ more)).1 ≡ closed why
   closes_for octets piece more now moment why e f h = follows_hand octets piece more now moment e f ∙ ap (goes_at more (hand machine moment now piece).point) h
+
+  -- how it has then closed: as it had, not at all, or as the session of all octets does
+  pub closes_by : (P : Option Closed → Type 0) (octets piece more all : List ℕ) (now : Point) (moment : ℕ) → P now.closed → P None
+      → ((why : Closed) → (session_by machine at_start all).1 ≡ closed why → P (Some why)) → Follows octets now → (octets ++ octets_in now.closed piece) ++ more ≡ all
+      → P (hand machine moment now piece).point.closed
+  closes_by P octets piece more all now moment kept opened shut f front = by now.closed refl
+    where
+      made_by : now.closed ≡ None → (made : Option Closed) → (hand machine moment now piece).point.closed ≡ made → P made
+      made_by o None e = opened
+      made_by o (Some why) e =
+          shut why (ap (λ (z : List ℕ). (session_by machine at_start z).1) (sym front ∙ ap (λ (how : Option Closed). (octets ++ octets_in how piece) ++ more) o)
+          ∙ closes_for octets piece more now moment why o f e)
+
+      by : (how : Option Closed) → now.closed ≡ how → P (hand machine moment now piece).point.closed
+      by None o = made_by o (hand machine moment now piece).point.closed refl
+      by (Some why) e = subst P (e ∙ sym (hand_stays machine moment now piece why e)) kept
 
   pub follows_none : (octets : List ℕ) (now : Point) → Follows octets now → Follows (octets ++ []) now
   follows_none octets now f = record { goes = λ o more. ap (λ (z : List ℕ). last_by at_start z) (append_assoc octets [] more) ∙ f.goes o more }
 
   -- the clock
   pub follows_tick : (octets : List ℕ) (now : Point) (moment : ℕ) → Follows octets now → Follows (octets ++ []) (ticked moment now).point
-  follows_tick octets now moment f = by now.closed refl
+  follows_tick octets now moment f =
+      tick_each moment now (λ made. Follows (octets ++ []) made.point) (due (tick_at now.phase.hold (at_moment moment now.times))) (λ why e. same)
     where
       same : Follows (octets ++ []) now
       same = follows_none octets now f
@@ -119,10 +100,6 @@ module _ (machine : Machine) where
       due Quiet e = record { goes = λ o more. same.goes e more }
       due Keeps e = record { goes = λ o more. same.goes e more }
       due Expires e = record { goes = λ o more. absurd cc }
-
-      by : (how : Option Closed) → now.closed ≡ how → Follows (octets ++ []) (ticked_by moment now how).point
-      by None e = due (tick_at now.phase.hold (at_moment moment now.times)) e
-      by (Some why) e = same
 
   pub follows_first : (now : Point) → now.phase ≡ at_start → now.waiting ≡ [] → Follows [] now
   follows_first now p w = record {

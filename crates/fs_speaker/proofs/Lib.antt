@@ -1,3 +1,4 @@
+pub use Rattle.fs_session.proofs.Transitions
 pub use Rattle.fs_session.proofs.SessionSteps
 pub use Rattle.fs_session.proofs.ReplySteps
 pub use Rattle.fs_session.proofs.Arriving
@@ -6,6 +7,7 @@ pub use Rattle.fs_session.proofs.Joining
 pub use Rattle.fs_session.proofs.Returning
 pub mod Handover
 pub mod Waking
+mod Events
 mod Happening
 pub mod Lowest
 mod Running

@@ -63,6 +63,53 @@ IsCalm (still now) = Unit {0}
 IsCalm (closed (Notified code subcode)) = Unit {0}
 IsCalm (closed other) = ⊥
 
+abbrev behind : List Update → List Update × Last → List Update × Last
+behind taken later = (taken ++ later.0, later.1)
+
+-- Of all that it hears an end takes these updates, and is then in this phase.
+pub record Hears (machine : Machine) (all : List ℕ) (taken : List Update) (now : Phase) : Type 0 where
+  pub goes : (more : List ℕ) → session_by machine at_start (all ++ more) ≡ behind taken (session_by machine now more)
+
+-- And it closes by nothing but a NOTIFICATION.
+abbrev pub Calmly : Machine → List ℕ → List Update → Type 0
+Calmly machine all taken = ((session_by machine at_start all).0 ≡ taken) × IsCalm (session_by machine at_start all).1
+
+module _ (machine : Machine) where
+  calmly : (all : List ℕ) (taken : List Update) (last : Last) → session_by machine at_start all ≡ (taken ++ [], last) → IsCalm last → Calmly machine all taken
+  calmly all taken last e c =
+      (ap (λ (s : List Update × Last). s.0) e ∙ append-nil taken, subst (λ (l : Last). IsCalm l) (sym (ap (λ (s : List Update × Last). s.1) e)) c)
+
+  pub hears_calmly : (all : List ℕ) (taken : List Update) (now : Phase) → Hears machine all taken now → Calmly machine all taken
+  hears_calmly all taken now h =
+      calmly all taken (still now) (ap (session_by machine at_start) (sym (append-nil all)) ∙ h.goes [] ∙ ap (behind taken) (machine_waits machine now [] refl)) tt
+
+  -- nothing more is said
+  pub hears_none : (all : List ℕ) (taken : List Update) (now : Phase) → Hears machine all taken now → Hears machine (all ++ []) taken now
+  hears_none all taken now h = rw (append-nil all) h
+
+  pub calmly_none : (all : List ℕ) (taken : List Update) → Calmly machine all taken → Calmly machine (all ++ []) taken
+  calmly_none all taken c = rw (append-nil all) c
+
+  pub hears_more : (all text : List ℕ) (taken : List Update) (now next : Phase) → Hears machine all taken now
+      → ((more : List ℕ) → session_by machine now (text ++ more) ≡ session_by machine next more) → Hears machine (all ++ text) taken next
+  hears_more all text taken now next h e = record {
+    goes = λ more. ap (session_by machine at_start) (append_assoc all text more) ∙ h.goes (text ++ more) ∙ ap (behind taken) (e more);
+  }
+
+  -- a NOTIFICATION
+  pub hears_notice : (all : List ℕ) (taken : List Update) (now : Phase) (code subcode : ℕ) → Hears machine all taken now → Calmly machine (all ++ notice_text code subcode) taken
+  hears_notice all taken now code subcode h =
+      let body : List ℕ = code ∷ subcode ∷ [] in
+      let text : List ℕ = notice_text code subcode in
+      let why : Closed = notified (notice_of body) in
+      let shut : session_by machine now text ≡ ([], closed why) =
+      ap (session_by machine now) (sym (append-nil text))
+      ∙ machine_stops machine now why text []
+      (ap (step_by machine now) (sym (append-nil text))
+      ∙ step_found machine now (text ++ []) (record { kind = 3; body = body }, []) (Err why)
+      (text_first 3 body [] (omega arith) (omega arith) refl (omega arith)) refl) in
+      calmly (all ++ text) taken (closed why) (h.goes text ∙ ap (behind taken) shut) tt
+
 module _ (config : Config) (peer : Peer) (sending : Sending) where
   abbrev machine : Machine
   machine = receiver config peer
@@ -73,46 +120,15 @@ module _ (config : Config) (peer : Peer) (sending : Sending) where
   abbrev pub met : Phase
   met = phase WaitKeep true config.hold_time
 
-  -- Of all that was said it takes the updates of so many rules, and is then in this phase.
-  pub record Reads (all : List ℕ) (appended : ℕ) (now : Phase) : Type 0 where
-    pub goes : (more : List ℕ) → (session_by (receiver config peer) at_start (all ++ more)).0
-        ≡ map (update_sent config peer sending) (take appended sending.rules) ++ (session_by (receiver config peer) now more).0
-    pub ends : (more : List ℕ) → (session_by (receiver config peer) at_start (all ++ more)).1 ≡ (session_by (receiver config peer) now more).1
+  -- the updates of so many rules
+  abbrev firsts : ℕ → List Update
+  firsts appended = map (update_sent config peer sending) (take appended sending.rules)
 
-  -- And it closes by nothing but a NOTIFICATION.
+  abbrev pub Reads : List ℕ → ℕ → Phase → Type 0
+  Reads all appended now = Hears (receiver config peer) all (firsts appended) now
+
   abbrev pub Gives : List ℕ → ℕ → Type 0
-  Gives all appended =
-      ((session_by (receiver config peer) at_start all).0 ≡ map (update_sent config peer sending) (take appended sending.rules))
-      × IsCalm (session_by (receiver config peer) at_start all).1
-
-  pub reads_gives : (all : List ℕ) (appended : ℕ) (now : Phase) → Reads all appended now → Gives all appended
-  reads_gives all appended now r =
-      let taken : List Update = map (update_sent config peer sending) (take appended sending.rules) in
-      let rests = machine_waits machine now [] refl in (
-        ap (λ (z : List ℕ). (session_by machine at_start z).0) (sym (append-nil all)) ∙ r.goes []
-            ∙ ap (λ (s : List Update × Last). taken ++ s.0) rests ∙ append-nil taken,
-        subst (λ (l : Last). IsCalm l)
-            (sym (ap (λ (z : List ℕ). (session_by machine at_start z).1) (sym (append-nil all)) ∙ r.ends [] ∙ ap (λ (s : List Update × Last). s.1) rests))
-            tt,
-      )
-
-  -- nothing more is said
-  pub reads_none : (all : List ℕ) (appended : ℕ) (now : Phase) → Reads all appended now → Reads (all ++ []) appended now
-  reads_none all appended now r = rw (append-nil all) r
-
-  pub gives_none : (all : List ℕ) (appended : ℕ) → Gives all appended → Gives (all ++ []) appended
-  gives_none all appended r = rw (append-nil all) r
-
-  reads_more : (all text : List ℕ) (appended : ℕ) (now next : Phase) → Reads all appended now
-      → ((more : List ℕ) → session_by machine now (text ++ more) ≡ session_by machine next more) → Reads (all ++ text) appended next
-  reads_more all text appended now next r h = record {
-    goes = λ more.
-        ap (λ (z : List ℕ). (session_by machine at_start z).0) (append_assoc all text more) ∙ r.goes (text ++ more)
-        ∙ ap (λ (s : List Update × Last). map (update_sent config peer sending) (take appended sending.rules) ++ s.0) (h more);
-    ends = λ more.
-        ap (λ (z : List ℕ). (session_by machine at_start z).1) (append_assoc all text more) ∙ r.ends (text ++ more)
-        ∙ ap (λ (s : List Update × Last). s.1) (h more);
-  }
+  Gives all appended = Calmly (receiver config peer) all (firsts appended)
 
   -- the OPEN
   pub reads_open : CanArrive config peer sending → Reads (open_sent config peer sending) 0 met
@@ -123,23 +139,16 @@ module _ (config : Config) (peer : Peer) (sending : Sending) where
       ap (λ (r : Result Open MessageFault). opened machine r)
       (open_read peer.asn config.hold_time sending.id can.peer_as can.hold_time can.id can.some_peer can.not_one can.not_two can.named)
       ∙ ap (λ (n : ℕ). Ok (phase WaitKeep true n, None)) (least config.hold_time) in
-      record {
-        goes = λ more.
-            ap (λ (s : List Update × Last). s.0)
-            (one_message machine at_start met None 1 body more (omega arith) (omega arith) fits.0 fits.1 opening);
-        ends = λ more.
-            ap (λ (s : List Update × Last). s.1)
-            (one_message machine at_start met None 1 body more (omega arith) (omega arith) fits.0 fits.1 opening);
-      }
+      record { goes = λ more. one_message machine at_start met None 1 body more (omega arith) (omega arith) fits.0 fits.1 opening }
 
   -- a KEEPALIVE
   pub reads_first_alive : (all : List ℕ) (appended : ℕ) → Reads all appended met → Reads (all ++ message_text 4 []) appended up
   reads_first_alive all appended r =
-      reads_more all (message_text 4 []) appended met up r (λ more. one_message machine met up None 4 [] more (omega arith) (omega arith) refl (omega arith) refl)
+      hears_more machine all (message_text 4 []) (firsts appended) met up r (λ more. one_message machine met up None 4 [] more (omega arith) (omega arith) refl (omega arith) refl)
 
   pub reads_alive : (all : List ℕ) (appended : ℕ) → Reads all appended up → Reads (all ++ message_text 4 []) appended up
   reads_alive all appended r =
-      reads_more all (message_text 4 []) appended up up r (λ more. one_message machine up up None 4 [] more (omega arith) (omega arith) refl (omega arith) refl)
+      hears_more machine all (message_text 4 []) (firsts appended) up up r (λ more. one_message machine up up None 4 [] more (omega arith) (omega arith) refl (omega arith) refl)
 
   -- the UPDATE of the next rule
   pub reads_rule : CanArrive config peer sending → (all : List ℕ) (appended : ℕ) (sent : Sent) (rest : List Sent) → drop appended sending.rules ≡ sent ∷ rest
@@ -149,37 +158,16 @@ module _ (config : Config) (peer : Peer) (sending : Sending) where
       let body : List ℕ = body_by (terms_of config peer true) sending.as_path sent in
       let text : List ℕ = text_sent config peer true sending sent in
       let update : Update = update_sent config peer sending sent in
-      let before : List Update = map (update_sent config peer sending) (take appended sending.rules) in
       let one : appended + 1 ≡ suc appended = omega arith in
-      let all_now : map (update_sent config peer sending) (take (appended + 1) sending.rules) ≡ before ++ update ∷ [] =
-      ap (λ (n : ℕ). map (update_sent config peer sending) (take n sending.rules)) one ∙ ap (map (update_sent config peer sending)) next.0 ∙ map_joined (update_sent config peer sending) (take appended sending.rules) (sent ∷ []) in
-      let is_taken : (more : List ℕ) → session_by machine up (text ++ more) ≡ with_update (Some update) (session_by machine up more) = λ more.
-      one_message machine up up (Some update) 2 body more (omega arith) (omega arith) (update_fits (length body) (body_long config peer sending sent))
-      (at_most (length body) next.1.short) (ap (λ (q : Result Update UpdateFault). updates up (as_update q)) next.1.read) in
+      let all_now : firsts (appended + 1) ≡ firsts appended ++ update ∷ [] =
+      ap firsts one ∙ ap (map (update_sent config peer sending)) next.0 ∙ map_joined (update_sent config peer sending) (take appended sending.rules) (sent ∷ []) in
       record {
-        ends = λ more.
-            ap (λ (z : List ℕ). (session_by machine at_start z).1) (append_assoc all text more) ∙ r.ends (text ++ more)
-            ∙ ap (λ (s : List Update × Last). s.1) (is_taken more);
         goes = λ more.
-            ap (λ (z : List ℕ). (session_by machine at_start z).0) (append_assoc all text more) ∙ r.goes (text ++ more)
-            ∙ ap (λ (s : List Update × Last). before ++ s.0) (is_taken more)
-            ∙ sym (append_assoc before (update ∷ []) (session_by machine up more).0)
-            ∙ ap (λ (u : List Update). u ++ (session_by machine up more).0) (sym all_now);
+            let later : List Update × Last = session_by machine up more in
+            let is_taken : session_by machine up (text ++ more) ≡ with_update (Some update) later =
+            one_message machine up up (Some update) 2 body more (omega arith) (omega arith) (update_fits (length body) (body_long config peer sending sent))
+            (at_most (length body) next.1.short) (ap (λ (q : Result Update UpdateFault). updates up (as_update q)) next.1.read) in
+            ap (session_by machine at_start) (append_assoc all text more) ∙ r.goes (text ++ more) ∙ ap (behind (firsts appended)) is_taken
+            ∙ ap (λ (u : List Update). (u, later.1)) (sym (append_assoc (firsts appended) (update ∷ []) later.0))
+            ∙ ap (λ (u : List Update). behind u later) (sym all_now);
       }
-
-  -- a NOTIFICATION
-  pub gives_notice : (all : List ℕ) (appended code subcode : ℕ) (now : Phase) → Reads all appended now → Gives (all ++ notice_text code subcode) appended
-  gives_notice all appended code subcode now r =
-      let body : List ℕ = code ∷ subcode ∷ [] in
-      let text : List ℕ = notice_text code subcode in
-      let taken : List Update = map (update_sent config peer sending) (take appended sending.rules) in
-      let why : Closed = notified (notice_of body) in
-      let shut : session_by machine now text ≡ ([], closed why) =
-      ap (λ (z : List ℕ). session_by machine now z) (sym (append-nil text))
-      ∙ machine_stops machine now why text []
-      (ap (λ (z : List ℕ). step_by machine now z) (sym (append-nil text))
-      ∙ step_found machine now (text ++ []) (record { kind = 3; body = body }, []) (Err why)
-      (text_first 3 body [] (omega arith) (omega arith) refl (omega arith)) refl) in (
-        r.goes text ∙ ap (λ (s : List Update × Last). taken ++ s.0) shut ∙ append-nil taken,
-        subst (λ (l : Last). IsCalm l) (sym (r.ends text ∙ ap (λ (s : List Update × Last). s.1) shut)) tt,
-      )

@@ -1,5 +1,5 @@
 -- An announcing end whose identifier is 0.0.0.0: its OPEN is refused, and nothing of what it says is taken.
-use Rattle.std.proofs.Common.{◌≡◌, ◌⊎◌, inl, inr, ℕ, ◌==◌, ◌^◌, ◌<◌, Bool, true, false, if◌then◌else◌, List, [], ◌∷◌, ◌++◌, length, take, drop, Option, Some, None, Result, Err, refl, ap, sym, ◌∙◌, subst, append_assoc, append-nil, arith}
+use Rattle.std.proofs.Common.{◌≡◌, ◌⊎◌, inl, inr, ℕ, ◌==◌, ◌^◌, ◌<◌, true, List, [], ◌∷◌, ◌++◌, length, take, Option, Some, None, Result, Err, refl, ap, sym, ◌∙◌, subst, append_assoc, append-nil, arith}
 use Rattle.fs_base.specs.declared.config.Config.{Config}
 use Rattle.fs_base.specs.declared.config.Peer.{Peer}
 use Rattle.fs_attrs.specs.declared.update.Update.{Update}
@@ -22,13 +22,15 @@ use Rattle.fs_speaker.specs.declared.event.Event.{Event}
 use Rattle.fs_speaker.specs.declared.event.Event.TheVariants.{Send, Deliver, Tick as TickEvent, Cut}
 use Rattle.fs_speaker.specs.End.{ticked}
 use Rattle.fs_speaker.specs.JointLaws.{ClosesSo, IsUnnamed, delivered, delivered_on, handed_over, taken_in}
-use Rattle.fs_speaker.specs.World.{World, sent, taker_of, teller_of, taker_comes, teller_comes, says, next_said, happens, at_first, runs_on, run}
-use Rattle.fs_speaker.proofs.Closing.{hand_opens, hand_stays, so_later, so_tick, takes_on, tick_opens, tick_stays}
-use Rattle.fs_speaker.proofs.Fronting.{Lines, lines_cut, lines_delivered, lines_said, lines_same}
-use Rattle.fs_speaker.proofs.Lasting.{Follows, closes_for, follows_first}
+use Rattle.fs_speaker.specs.World.{World, sent, taker_of, teller_of, happens, at_first, runs_on, run}
+use Rattle.fs_speaker.proofs.Closing.{so_later, so_tick, takes_on}
+use Rattle.fs_speaker.proofs.Events.{each_event}
+use Rattle.fs_speaker.proofs.Fronting.{Lines, lines_cut, lines_delivered, lines_same, lines_spoken}
+use Rattle.fs_speaker.proofs.Lasting.{Follows, closes_by, follows_first}
 use Rattle.fs_session.proofs.Arriving.{open_fits}
 use Rattle.fs_speaker.proofs.Running.{run_more}
 use Rattle.fs_speaker.proofs.Taking.{takes_delivered}
+use Rattle.fs_speaker.proofs.Waking.{hand_opens, hand_stays, tick_opens, tick_stays}
 
 zero_small : (n : ℕ) → n ≡ 0 → n < 2 ^ 32
 zero_small n e = rw e (omega arith)
@@ -49,65 +51,33 @@ module _ (config : Config) (peer : Peer) (sending : Sending) where
 
   -- All that was said begins with the OPEN.
   record Begun (octets : List ℕ) (w : World) : Type 0 where
-    all : List ℕ
     more : List ℕ
-    all_is : all ≡ open_sent config peer sending ++ more
-    lines : Lines octets all w.to_taker w.cut w.taker.closed
-
-  said_more : (all more text : List ℕ) → all ≡ open_sent config peer sending ++ more → all ++ text ≡ open_sent config peer sending ++ (more ++ text)
-  said_more all more text e = ap (λ (z : List ℕ). z ++ text) e ∙ append_assoc (open_sent config peer sending) more text
-
-  spoken : (octets : List ℕ) (w : World) (text : List ℕ) (b : Begun octets w)
-      → Lines (octets ++ []) (b.all ++ text) (sent w.cut w.to_taker text) w.cut w.taker.closed
-  spoken octets w text b =
-      lines_same octets (b.all ++ text) (sent w.cut w.to_taker text) w.cut w.taker.closed w.taker.closed (λ o. o)
-      (lines_said octets b.all w.to_taker w.cut w.taker.closed text b.lines)
+    lines : Lines octets (open_sent config peer sending ++ more) w.to_taker w.cut w.taker.closed
 
   begun_on : (octets : List ℕ) (w : World) (event : Event) → Begun octets w → Begun (octets ++ handed_over event w) (happens config peer sending event w)
-  begun_on octets w Send b = by (next_said config peer sending w.teller w.appended)
+  begun_on octets w event b =
+      each_event config peer sending w (λ _ over _ next. Begun (octets ++ over) next)
+      (record { more = b.more; lines = lines_same octets all w.to_taker w.cut w.taker.closed w.taker.closed (λ o. o) b.lines }) (λ text e. record { more = b.more ++ text; lines = spoken text })
+      (λ to count moment.
+      let piece : List ℕ = take count w.to_taker in
+      let lines = lines_delivered octets all w.to_taker w.cut w.taker.closed (hand taker moment w.taker piece).point.closed count (hand_opens taker moment w.taker piece) b.lines in
+      record { more = b.more; lines = lines })
+      (λ to count moment.
+      let text : List ℕ = (hand teller moment w.teller (take count w.to_teller)).text in
+      record { more = b.more ++ text; lines = spoken text })
+      (λ end moment e.
+      let lines = lines_same octets all w.to_taker w.cut w.taker.closed (ticked moment w.taker).point.closed (tick_opens moment w.taker) b.lines in
+      record { more = b.more; lines = lines })
+      (λ end moment e. record { more = b.more ++ (ticked moment w.teller).text; lines = spoken (ticked moment w.teller).text })
+      (record { more = b.more; lines = lines_cut octets all w.to_taker w.cut w.taker.closed b.lines }) event
     where
-      by : (text : Option (List ℕ)) → Begun (octets ++ []) (says text w)
-      by None = record {
-        all = b.all;
-        more = b.more;
-        all_is = b.all_is;
-        lines = lines_same octets b.all w.to_taker w.cut w.taker.closed w.taker.closed (λ o. o) b.lines;
-      }
-      by (Some text) = record { all = b.all ++ text; more = b.more ++ text; all_is = said_more b.all b.more text b.all_is; lines = spoken octets w text b }
-  begun_on octets w (Deliver to count moment) b = by (to == 0)
-    where
-      by : (zeroth : Bool) → Begun (octets ++ (if zeroth then taken_in w.taker.closed (take count w.to_taker) else []))
-          (if zeroth then taker_comes (hand taker moment w.taker (take count w.to_taker)) (drop count w.to_taker) w
-          else teller_comes (hand teller moment w.teller (take count w.to_teller)) (drop count w.to_teller) w)
-      by true = record {
-        all = b.all;
-        more = b.more;
-        all_is = b.all_is;
-        lines = lines_delivered octets b.all w.to_taker w.cut w.taker.closed (hand taker moment w.taker (take count w.to_taker)).point.closed count
-            (hand_opens taker moment w.taker (take count w.to_taker)) b.lines;
-      }
-      by false =
-          let text : List ℕ = (hand teller moment w.teller (take count w.to_teller)).text in
-          record { all = b.all ++ text; more = b.more ++ text; all_is = said_more b.all b.more text b.all_is; lines = spoken octets w text b }
-  begun_on octets w (TickEvent end moment) b = by (end == 0)
-    where
-      by : (zeroth : Bool) → Begun (octets ++ [])
-          (if zeroth then taker_comes (ticked moment w.taker) w.to_taker w else teller_comes (ticked moment w.teller) w.to_teller w)
-      by true = record {
-        all = b.all;
-        more = b.more;
-        all_is = b.all_is;
-        lines = lines_same octets b.all w.to_taker w.cut w.taker.closed (ticked moment w.taker).point.closed (tick_opens moment w.taker) b.lines;
-      }
-      by false =
-          let text : List ℕ = (ticked moment w.teller).text in
-          record { all = b.all ++ text; more = b.more ++ text; all_is = said_more b.all b.more text b.all_is; lines = spoken octets w text b }
-  begun_on octets w Cut b = record {
-    all = b.all;
-    more = b.more;
-    all_is = b.all_is;
-    lines = lines_cut octets b.all w.to_taker w.cut w.taker.closed b.lines;
-  }
+      all : List ℕ
+      all = open_sent config peer sending ++ b.more
+
+      spoken : (text : List ℕ) → Lines (octets ++ []) (open_sent config peer sending ++ (b.more ++ text)) (sent w.cut w.to_taker text) w.cut w.taker.closed
+      spoken text =
+          subst (λ (z : List ℕ). Lines (octets ++ []) z (sent w.cut w.to_taker text) w.cut w.taker.closed) (append_assoc (open_sent config peer sending) b.more text)
+          (lines_spoken octets all w.to_taker w.cut w.taker.closed text b.lines)
 
   module _ (un : IsUnnamed config peer sending) where
     -- the OPEN closes the session, whatever follows
@@ -127,7 +97,7 @@ module _ (config : Config) (peer : Peer) (sending : Sending) where
     none_taken octets w b =
         let first = front_first taker at_start octets b.lines.behind in
         none_front (session_by taker at_start octets).0 first.0
-        (sym first.1 ∙ ap (λ (s : List Update × Last). s.0) (ap (λ (z : List ℕ). session_by taker at_start z) (b.lines.front ∙ b.all_is) ∙ refused b.more))
+        (sym first.1 ∙ ap (λ (s : List Update × Last). s.0) (ap (λ (z : List ℕ). session_by taker at_start z) b.lines.front ∙ refused b.more))
 
     abbrev So : List Event → Option Closed → Type 0
     So events how = ClosesSo config peer sending true events how ⊎ (how ≡ Some (Fault 2 3))
@@ -136,59 +106,31 @@ module _ (config : Config) (peer : Peer) (sending : Sending) where
     later events event how (inl s) = inl (so_later config peer sending true events event how s)
     later events event how (inr e) = inr e
 
-    piece_so : (events : List Event) (event : Event) (octets behind all more : List ℕ) (now : Point) (moment : ℕ) (piece : List ℕ) → So events now.closed
-        → Follows taker octets now → all ≡ open_sent config peer sending ++ more → (octets ++ taken_in now.closed piece) ++ behind ≡ all
+    piece_so : (events : List Event) (event : Event) (octets behind more : List ℕ) (now : Point) (moment : ℕ) (piece : List ℕ) → So events now.closed
+        → Follows taker octets now → (octets ++ taken_in now.closed piece) ++ behind ≡ open_sent config peer sending ++ more
         → So (events ++ event ∷ []) (hand taker moment now piece).point.closed
-    piece_so events event octets behind all more now moment piece so f all_is front = by now.closed refl
-      where
-        made_by : now.closed ≡ None → (made : Option Closed) → (hand taker moment now piece).point.closed ≡ made
-            → So (events ++ event ∷ []) (hand taker moment now piece).point.closed
-        made_by o None e = inl (inl e)
-        made_by o (Some why) e =
-            let same : closed why ≡ closed (Fault 2 3) =
-            sym (closes_for taker octets piece behind now moment why o f e)
-            ∙ ap (λ (z : List ℕ). (session_by taker at_start z).1)
-            (sym (ap (λ (how : Option Closed). (octets ++ taken_in how piece) ++ behind) o) ∙ front ∙ all_is)
-            ∙ ap (λ (s : List Update × Last). s.1) (refused more) in
-            inr (e ∙ ap (λ (c : Closed). Some c) (same_why why (Fault 2 3) same))
-
-        by : (how : Option Closed) → now.closed ≡ how → So (events ++ event ∷ []) (hand taker moment now piece).point.closed
-        by None o = made_by o (hand taker moment now piece).point.closed refl
-        by (Some why) e =
-            subst (λ (how : Option Closed). So (events ++ event ∷ []) how) (e ∙ sym (hand_stays config peer sending taker moment now piece why e))
-            (later events event now.closed so)
+    piece_so events event octets behind more now moment piece so f front =
+        closes_by taker (So (events ++ event ∷ [])) octets piece behind (open_sent config peer sending ++ more) now moment (later events event now.closed so) (inl (inl refl))
+        (λ why e. inr (ap (λ (c : Closed). Some c) (same_why why (Fault 2 3) (sym e ∙ ap (λ (s : List Update × Last). s.1) (refused more))))) f front
 
     tick_so : (events : List Event) (end moment : ℕ) → (end == 0) ≡ true → (now : Point) → now ≡ (run config peer sending events).taker → So events now.closed
         → So (events ++ TickEvent end moment ∷ []) (ticked moment now).point.closed
     tick_so events end moment whose now is (inl s) = inl (so_tick config peer sending true events end moment whose now is s)
     tick_so events end moment whose now is (inr e) =
-        inr (tick_stays config peer sending moment now (Fault 2 3) e)
+        inr (tick_stays moment now (Fault 2 3) e)
 
     so_on : (events : List Event) (octets : List ℕ) (w : World) (event : Event) → w ≡ run config peer sending events → Follows taker octets w.taker
         → Begun (octets ++ handed_over event w) (happens config peer sending event w) → So events w.taker.closed
         → So (events ++ event ∷ []) (happens config peer sending event w).taker.closed
-    so_on events octets w Send is f b so = by (next_said config peer sending w.teller w.appended)
+    so_on events octets w event is f b so =
+        each_event config peer sending w (λ event over _ next. Begun (octets ++ over) next → So (events ++ event ∷ []) next.taker.closed)
+        (λ n. same Send) (λ text e n. same Send)
+        (λ to count moment n. piece_so events (Deliver to count moment) octets n.lines.behind n.more w.taker moment (take count w.to_taker) so f n.lines.front)
+        (λ to count moment n. same (Deliver to count moment)) (λ end moment e n. tick_so events end moment e w.taker (ap (λ (v : World). v.taker) is) so)
+        (λ end moment e n. same (TickEvent end moment)) (λ n. same Cut) event b
       where
-        by : (text : Option (List ℕ)) → So (events ++ Send ∷ []) (says text w).taker.closed
-        by None = later events Send w.taker.closed so
-        by (Some text) = later events Send w.taker.closed so
-    so_on events octets w (Deliver to count moment) is f b so = by (to == 0) b
-      where
-        by : (zeroth : Bool) → Begun (octets ++ (if zeroth then taken_in w.taker.closed (take count w.to_taker) else []))
-            (if zeroth then taker_comes (hand taker moment w.taker (take count w.to_taker)) (drop count w.to_taker) w
-            else teller_comes (hand teller moment w.teller (take count w.to_teller)) (drop count w.to_teller) w)
-            → So (events ++ Deliver to count moment ∷ [])
-            (if zeroth then taker_comes (hand taker moment w.taker (take count w.to_taker)) (drop count w.to_taker) w
-            else teller_comes (hand teller moment w.teller (take count w.to_teller)) (drop count w.to_teller) w).taker.closed
-        by true n = piece_so events (Deliver to count moment) octets n.lines.behind n.all n.more w.taker moment (take count w.to_taker) so f n.all_is n.lines.front
-        by false n = later events (Deliver to count moment) w.taker.closed so
-    so_on events octets w (TickEvent end moment) is f b so = by (end == 0) refl
-      where
-        by : (zeroth : Bool) → (end == 0) ≡ zeroth → So (events ++ TickEvent end moment ∷ [])
-            (if zeroth then taker_comes (ticked moment w.taker) w.to_taker w else teller_comes (ticked moment w.teller) w.to_teller w).taker.closed
-        by true e = tick_so events end moment e w.taker (ap (λ (v : World). v.taker) is) so
-        by false e = later events (TickEvent end moment) w.taker.closed so
-    so_on events octets w Cut is f b so = later events Cut w.taker.closed so
+        same : (event : Event) → So (events ++ event ∷ []) w.taker.closed
+        same event = later events event w.taker.closed so
 
     all_so : (events before : List Event) (octets : List ℕ) (w : World) → w ≡ run config peer sending before → Follows taker octets w.taker → Begun octets w
         → So before w.taker.closed
@@ -205,12 +147,9 @@ module _ (config : Config) (peer : Peer) (sending : Sending) where
         (so_on before octets w event is f next so))
 
     begun_first : Begun [] (at_first config peer sending)
-    begun_first = record {
-      all = open_sent config peer sending;
-      more = [];
-      all_is = sym (append-nil (open_sent config peer sending));
-      lines = record { behind = open_sent config peer sending; front = refl; flows = λ o c. refl; gone = λ c. absurd cc };
-    }
+    begun_first =
+        let all : open_sent config peer sending ≡ open_sent config peer sending ++ [] = sym (append-nil (open_sent config peer sending)) in
+        record { more = []; lines = record { behind = open_sent config peer sending; front = all; flows = λ o c. all; gone = λ c. absurd cc } }
 
     pub takes_none : (events : List Event)
         → ((run config peer sending events).taken ≡ [])

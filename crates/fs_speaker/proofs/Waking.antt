@@ -7,18 +7,19 @@ use Rattle.fs_session.specs.declared.times.Tick.{Tick}
 use Rattle.fs_session.specs.declared.times.Tick.TheVariants.{Quiet, Keeps, Expires}
 use Rattle.fs_session.specs.declared.times.Times.{Times}
 use Rattle.fs_session.specs.declared.transition.Phase.{Phase}
-use Rattle.fs_session.specs.Handed.{Point, Handed, handed}
+use Rattle.fs_session.specs.Handed.{Point, Handed, handed, hand}
 use Rattle.fs_session.specs.Line.{Lined, Refuses, TickDoes, TickCloses, Ticks, TicksOpen, StaysOver, closed_after}
 use Rattle.fs_session.specs.Side.{notice_text}
 use Rattle.fs_session.specs.Times.{at_moment, written_now, tick_at}
 use Rattle.fs_session.specs.Transition.{Machine}
-use Rattle.fs_speaker.specs.End.{ticks, IsAt, StandsAt, TicksOver}
+use Rattle.fs_session.proofs.Handing.{closed_hand, hand_each}
+use Rattle.fs_speaker.specs.End.{ticks, ticked, IsAt, StandsAt, TicksOver}
 
 abbrev Came : Machine → Lined → (out out' : List ℕ) → Handed → Type 0
 Came machine new out out' made = StandsAt machine new made.point × (out' ≡ out ++ made.text)
 
-never : (what : Closed) → Some what ≡ None → ⊥
-never what h = absurd cc
+pub open_not : (why : Closed) → Some why ≡ None → ⊥
+open_not why e = cc
 
 module _ (machine : Machine) (moment : ℕ) (old new : Lined) (out out' : List ℕ) (now : Point) (at : IsAt machine old now) where
   abbrev then_at : Times
@@ -58,7 +59,7 @@ module _ (machine : Machine) (moment : ℕ) (old new : Lined) (out out' : List �
       → Came machine new out out' (ticks tick now.waiting now.phase then_at)
   closes why other shut Expires did =
       let r = refused why other did in
-      (record { closed_is = shut ∙ ap (λ (c : Closed). Some c) r.0; open_is = λ e. absurd (never (Fault 4 0) e) }, r.1)
+      (record { closed_is = shut ∙ ap (λ (c : Closed). Some c) r.0; open_is = λ e. absurd (open_not (Fault 4 0) e) }, r.1)
   closes why other shut Keeps did = absurd (other did.0)
   closes why other shut Quiet did = absurd did
 
@@ -68,6 +69,31 @@ ticked_by moment now how = elim how [
   | Some why ↦ handed now [] []
   | None ↦ ticks (tick_at now.phase.hold (at_moment moment now.times)) now.waiting now.phase (at_moment moment now.times)
 ]
+
+-- An open end does what its clock asks for, and a closed one nothing.
+pub tick_each : (moment : ℕ) (now : Point) (P : Handed → Type 0)
+    → (now.closed ≡ None → P (ticks (tick_at now.phase.hold (at_moment moment now.times)) now.waiting now.phase (at_moment moment now.times)))
+    → ((why : Closed) → now.closed ≡ Some why → P (handed now [] [])) → P (ticked moment now)
+tick_each moment now P opened shut = by now.closed refl
+  where
+    by : (how : Option Closed) → now.closed ≡ how → P (ticked_by moment now how)
+    by None e = opened e
+    by (Some why) e = shut why e
+
+-- what closed an end stays
+pub hand_opens : (machine : Machine) (moment : ℕ) (now : Point) (piece : List ℕ) → (hand machine moment now piece).point.closed ≡ None → now.closed ≡ None
+hand_opens machine moment now piece = hand_each machine moment now piece (λ made. made.point.closed ≡ None → now.closed ≡ None) (λ e o. e) (λ why e o. o)
+
+pub hand_stays : (machine : Machine) (moment : ℕ) (now : Point) (piece : List ℕ) (why : Closed) → now.closed ≡ Some why
+    → (hand machine moment now piece).point.closed ≡ Some why
+hand_stays machine moment now piece why e = ap (λ (m : Handed). m.point.closed) (closed_hand machine moment now piece why e) ∙ e
+
+pub tick_opens : (moment : ℕ) (now : Point) → (ticked moment now).point.closed ≡ None → now.closed ≡ None
+tick_opens moment now = tick_each moment now (λ made. made.point.closed ≡ None → now.closed ≡ None) (λ e o. e) (λ why e o. o)
+
+pub tick_stays : (moment : ℕ) (now : Point) (why : Closed) → now.closed ≡ Some why → (ticked moment now).point.closed ≡ Some why
+tick_stays moment now why e =
+    tick_each moment now (λ made. made.point.closed ≡ Some why) (λ o. absurd (open_not why (sym e ∙ o))) (λ other f. e)
 
 pub ticks_on : (machine : Machine) (moment : ℕ) (old new : Lined) (out out' : List ℕ) (result : Result (Unit {0}) Closed) → result ≡ Ok tt
     → StaysOver old new result out out' → new.closed ≡ closed_after result → TicksOpen moment old new out out' result → TicksOver machine moment old new out out'
@@ -97,6 +123,6 @@ ticks_shut machine moment old new out out' why result e other stays shut did now
     by (Some what) closed =
         let was : old.closed ≡ Some what = stands.closed_is ∙ closed in
         let kept = subst (λ (o : Option Closed). IfSome o (λ (w : Closed). (result ≡ Err w) × (new ≡ old) × (out' ≡ out))) was stays in (
-          record { closed_is = ap (λ (l : Lined). l.closed) kept.1 ∙ was ∙ sym closed; open_is = λ h. absurd (never what (sym closed ∙ h)) },
+          record { closed_is = ap (λ (l : Lined). l.closed) kept.1 ∙ was ∙ sym closed; open_is = λ h. absurd (open_not what (sym closed ∙ h)) },
           kept.2 ∙ sym (append-nil out),
         )

@@ -1,5 +1,6 @@
-use Rattle.fs_session.proofs.Ends.{state_is}
+use Rattle.std.proofs.Common.{◌≡◌, subst}
+use Rattle.fs_session.specs.Session.{Live, state_of}
 use Rattle.fs_session.proofs.session.Session.state.Goals as goal
 
 pub returns : goal.returns
-returns c = state_is c.self.inside.config.now c.self.inside.peer c.self.inside.line c.args.self.now c.state.result c.self.view_is c.state.ensures
+returns c = subst (λ (o : Live). c.state.result ≡ state_of o) c.self.view_is c.state.ensures
