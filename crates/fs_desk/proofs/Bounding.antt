@@ -1,43 +1,27 @@
 -- The first update behind which a peer holds more than it may, and the session that it cuts.
-use Rattle.std.proofs.Common.{◌≡◌, ℕ, List, [], ◌∷◌, ◌++◌, map, find, Bool, true, false, cond, Option, Some, None, if◌then◌else◌, refl, ap, sym, ◌∙◌}
+use Rattle.std.proofs.Common.{◌≡◌, ℕ, List, [], ◌∷◌, ◌++◌, map, map-id, find, Bool, true, false, Option, Some, None, if◌then◌else◌, refl, ap, sym, ◌∙◌}
 use Rattle.std.proofs.lemmas.List.{map-append}
+use Rattle.std.proofs.lemmas.List.Folds.{find-append}
+use Rattle.std.specs.Option.{option_or}
 use Rattle.fs_attrs.specs.declared.update.Update.{Update}
 use Rattle.fs_speaker.specs.Session.{Last, closed}
+use Rattle.fs_rules.proofs.Chosen.{map-map}
 use Rattle.fs_desk.specs.Limit.{routes_left, is_over, fronts, first_over, too_many, bounded}
 
-map_id : {A : Type 0} (xs : List A) → map (λ x. x) xs ≡ xs
-map_id [] = refl
-map_id (x ∷ xs) = ap (λ ys. x ∷ ys) (map_id xs)
-
-map_map : {A B C : Type 0} (f : A → B) (g : B → C) (xs : List A) → map g (map f xs) ≡ map (λ x. g (f x)) xs
-map_map f g [] = refl
-map_map f g (x ∷ xs) = ap (λ ys. g (f x) ∷ ys) (map_map f g xs)
-
 fronts-append : {A : Type 0} (xs ys : List A) → fronts (xs ++ ys) ≡ fronts xs ++ map (λ front. xs ++ front) (fronts ys)
-fronts-append [] ys = sym (map_id (fronts ys))
+fronts-append [] ys = sym (map-id (fronts ys))
 fronts-append (x ∷ xs) ys =
     ap (λ fs. (x ∷ []) ∷ map (λ front. x ∷ front) fs) (fronts-append xs ys)
     ∙ ap (λ fs. (x ∷ []) ∷ fs) (map-append (λ front. x ∷ front) (fronts xs) (map (λ front. xs ++ front) (fronts ys)))
-    ∙ ap (λ fs. (x ∷ []) ∷ (map (λ front. x ∷ front) (fronts xs) ++ fs)) (map_map (λ front. xs ++ front) (λ front. x ∷ front) (fronts ys))
+    ∙ ap (λ fs. (x ∷ []) ∷ (map (λ front. x ∷ front) (fronts xs) ++ fs)) (sym (map-map (λ front. xs ++ front) (λ front. x ∷ front) (fronts ys)))
 
 find_first : {A : Type 0} (p : A → Bool) (xs ys : List A) (found : A) → find p xs ≡ Some found → find p (xs ++ ys) ≡ Some found
-find_first p [] ys found h = absurd cc
-find_first p (x ∷ xs) ys found h = at (p x) h (find_first p xs ys found) where
-  at : (b : Bool) → cond b (Some x) (find p xs) ≡ Some found → (find p xs ≡ Some found → find p (xs ++ ys) ≡ Some found) → cond b (Some x) (find p (xs ++ ys)) ≡ Some found
-  at true k ih = k
-  at false k ih = ih k
+find_first p xs ys found h = find-append p xs ys ∙ ap (λ o. option_or o (find p ys)) h
 
 find_later : {A : Type 0} (p : A → Bool) (xs ys : List A) → find p xs ≡ None → find p (xs ++ ys) ≡ find p ys
-find_later p [] ys h = refl
-find_later p (x ∷ xs) ys h = at (p x) h (find_later p xs ys) where
-  at : (b : Bool) → cond b (Some x) (find p xs) ≡ None → (find p xs ≡ None → find p (xs ++ ys) ≡ find p ys) → cond b (Some x) (find p (xs ++ ys)) ≡ find p ys
-  at true k ih = absurd cc
-  at false k ih = ih k
+find_later p xs ys h = find-append p xs ys ∙ ap (λ o. option_or o (find p ys)) h
 
 module _ (most : Option ℕ) where
-  passes : List Update → Bool
-  passes front = is_over most (routes_left front)
-
   -- behind updates that don't pass the limit the next one decides
   next_over : (updates : List Update) (update : Update) → first_over most updates ≡ None
       → first_over most (updates ++ update ∷ []) ≡ (if is_over most (routes_left (updates ++ update ∷ [])) then Some (updates ++ update ∷ []) else None)

@@ -4,6 +4,7 @@ use Rattle.std.specs.List.{list_any}
 use Rattle.std.specs.Option.{option_to_list}
 use Rattle.std.proofs.lemmas.List.{take_more, map-append}
 use Rattle.std.proofs.lemmas.List.Folds.{list_any-append}
+use Rattle.std.proofs.lemmas.Option.{none-some}
 use Rattle.fs_base.proofs.Bools.{or_none}
 use Rattle.fs_base.specs.declared.path.Path.{Path}
 use Rattle.fs_base.specs.declared.prefix.Prefix.{Prefix}
@@ -85,28 +86,20 @@ both_chosen true false value before = refl
 both_chosen false true value before = refl
 both_chosen false false value before = refl
 
--- one more prefix taken
-pub taken_more : (peer : ℕ) (prefixes : List Shown) (prefix : Shown) (old mid new : Held)
-    → Changes peer (taken_of prefixes) same old mid → Changes peer (taken_of (prefix ∷ [])) same mid new
-    → Changes peer (taken_of (prefixes ++ prefix ∷ [])) same old new
-taken_more peer prefixes prefix old mid new t u =
-    changes_as peer (λ p o. taken_of (prefix ∷ []) p (taken_of prefixes p o)) (taken_of (prefixes ++ prefix ∷ [])) (λ r o. o) same old new
-    (λ p o.
-    both_chosen (list_any (is_prefix p) prefixes) (is_prefix p prefix) None o
-    ∙ ap (λ (b : Bool). if b then None else o) (sym (any-more (is_prefix p) prefixes prefix)))
-    (λ r o. refl)
-    (changes_then peer (taken_of prefixes) (taken_of (prefix ∷ [])) same same old mid new t u)
+-- one more prefix taken, or given
+abbrev set_at : Option Path → List Shown → Prefix → Option Path → Option Path
+set_at value prefixes p o = if list_any (is_prefix p) prefixes then value else o
 
-pub given_more : (peer : ℕ) (path : Path) (prefixes : List Shown) (prefix : Shown) (old mid new : Held)
-    → Changes peer (given_at prefixes path) same old mid → Changes peer (given_at (prefix ∷ []) path) same mid new
-    → Changes peer (given_at (prefixes ++ prefix ∷ []) path) same old new
-given_more peer path prefixes prefix old mid new t u =
-    changes_as peer (λ p o. given_at (prefix ∷ []) path p (given_at prefixes path p o)) (given_at (prefixes ++ prefix ∷ []) path) (λ r o. o) same old new
+pub prefixes_more : (peer : ℕ) (value : Option Path) (prefixes : List Shown) (prefix : Shown) (old mid new : Held)
+    → Changes peer (set_at value prefixes) same old mid → Changes peer (set_at value (prefix ∷ [])) same mid new
+    → Changes peer (set_at value (prefixes ++ prefix ∷ [])) same old new
+prefixes_more peer value prefixes prefix old mid new t u =
+    changes_as peer (λ p o. set_at value (prefix ∷ []) p (set_at value prefixes p o)) (set_at value (prefixes ++ prefix ∷ [])) (λ r o. o) same old new
     (λ p o.
-    both_chosen (list_any (is_prefix p) prefixes) (is_prefix p prefix) (Some path) o
-    ∙ ap (λ (b : Bool). if b then Some path else o) (sym (any-more (is_prefix p) prefixes prefix)))
+    both_chosen (list_any (is_prefix p) prefixes) (is_prefix p prefix) value o
+    ∙ ap (λ (b : Bool). if b then value else o) (sym (any-more (is_prefix p) prefixes prefix)))
     (λ r o. refl)
-    (changes_then peer (given_at prefixes path) (given_at (prefix ∷ []) path) same same old mid new t u)
+    (changes_then peer (set_at value prefixes) (set_at value (prefix ∷ [])) same same old mid new t u)
 
 pub rules_taken_more : (peer : ℕ) (rules : List Ruled) (rule : Ruled) (old mid new : Held)
     → Changes peer same (rules_taken rules) old mid → Changes peer same (rules_taken (rule ∷ [])) mid new
@@ -177,16 +170,10 @@ all_any p u rest =
     ap (list_any (is_prefix p)) (sym (append_assoc u.classic_out (unicast_in u.unreach) rest))
     ∙ list_any-append (is_prefix p) (u.classic_out ++ unicast_in u.unreach) rest
 
-taken_both : (a b : Bool) (o : Option Path) → (if b then None else (if a then None else o)) ≡ (if (a || b) then None else o)
-taken_both true true o = refl
-taken_both true false o = refl
-taken_both false true o = refl
-taken_both false false o = refl
-
 back_prefix : (u : Update) → u.as_withdraw ≡ true → (p : Prefix) (o : Option Path)
     → taken_of (u.classic_in ++ unicast_in u.reach) p (taken_of (u.classic_out ++ unicast_in u.unreach) p o) ≡ told u p o
 back_prefix u h p o =
-    taken_both (list_any (is_prefix p) (u.classic_out ++ unicast_in u.unreach)) (list_any (is_prefix p) (given_prefixes u)) o
+    joined_choice (list_any (is_prefix p) (u.classic_out ++ unicast_in u.unreach)) (list_any (is_prefix p) (given_prefixes u)) None o
     ∙ ap (λ (b : Bool). if b then None else o) (sym (all_any p u (given_prefixes u)))
     ∙ ap (λ (w : Bool). if list_any (is_prefix p) (if w then [] else given_prefixes u) then u.path
     else if list_any (is_prefix p) (u.classic_out ++ (unicast_in u.unreach ++ (if w then given_prefixes u else []))) then None else o) (sym h)
@@ -212,12 +199,6 @@ some_prefix u path h n p o =
     else if list_any (is_prefix p) (u.classic_out ++ (unicast_in u.unreach ++ (if w then given_prefixes u else []))) then None else o) (sym h)
 
 -- likewise of rules
-taken_rules_both : (a b : Bool) (o : Option Given) → (if b then None else (if a then None else o)) ≡ (if (a || b) then None else o)
-taken_rules_both true true o = refl
-taken_rules_both true false o = refl
-taken_rules_both false true o = refl
-taken_rules_both false false o = refl
-
 told_rule_with : Bool → Update → Ruled → Option Given → Option Given
 told_rule_with w update rule before = elim (last_such (is_rule rule) (if w then [] else flows_in update.reach)) [
   | Some given ↦ given_with update given
@@ -228,7 +209,7 @@ back_rule : (u : Update) → u.as_withdraw ≡ true → (r : Ruled) (o : Option 
     → rules_taken (flows_in u.reach) r (rules_taken (flows_in u.unreach) r o) ≡ told_of u r o
 unfolding told_rule_with
 back_rule u h r o =
-    taken_rules_both (list_any (is_rule r) (flows_in u.unreach)) (list_any (is_rule r) (flows_in u.reach)) o
+    joined_choice (list_any (is_rule r) (flows_in u.unreach)) (list_any (is_rule r) (flows_in u.reach)) None o
     ∙ ap (λ (b : Bool). if b then None else o) (sym (list_any-append (is_rule r) (flows_in u.unreach) (flows_in u.reach)))
     ∙ ap (λ (w : Bool). told_rule_with w u r o) (sym h)
 
@@ -277,10 +258,7 @@ path_back true path given e n = inl refl
 path_back false path given e n = inr (refl, sym e ∙ n)
 
 pub path_there : (w : Bool) (path given : Option Path) (found : Path) → given ≡ (if w then None else path) → given ≡ Some found → (w ≡ false) × (path ≡ Some found)
-path_there true path given found e n = absurd (none_there found (sym e ∙ n))
-  where
-    none_there : (found : Path) → None ≡ Some found → ⊥
-    none_there found h = absurd cc
+path_there true path given found e n = absurd (none-some found (sym e ∙ n))
 path_there false path given found e n = (refl, sym e ∙ n)
 
 -- an update that only takes

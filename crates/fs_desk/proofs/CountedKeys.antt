@@ -9,7 +9,7 @@ use Rattle.std.specs.List.{list_any, AllByRecursion, IsDistinct}
 use Rattle.std.specs.List.Sorted.{IsStrictlySortedBy}
 use Rattle.std.specs.Set.{distinct_count}
 use Rattle.fs_base.proofs.Bools.{and_both, and_first, and_second, or_either, or_first, or_second, same_tests}
-use Rattle.fs_base.proofs.Lists.{each_weaker}
+use Rattle.fs_base.proofs.Lists.{any_filter, each_weaker}
 
 -- whether some element passes, in other words
 pub any_on : {A : Type 0} (p q : A → Bool) (xs : List A) → ((x : A) → p x ≡ q x) → list_any p xs ≡ list_any q xs
@@ -31,13 +31,6 @@ any_found Q p (x ∷ xs) all h = elim (or_either (p x) (list_any p xs) h) [
   | inr e ↦ any_found Q p xs all.1 e
 ]
 
-pub any_filter : {A : Type 0} (p kept : A → Bool) (xs : List A) → list_any p (filter kept xs) ≡ list_any (λ x. kept x && p x) xs
-any_filter p kept [] = refl
-any_filter p kept (x ∷ xs) = at (kept x) (any_filter p kept xs) where
-  at : (b : Bool) → list_any p (filter kept xs) ≡ list_any (λ x. kept x && p x) xs → list_any p (cond b (x ∷ filter kept xs) (filter kept xs)) ≡ ((b && p x) || list_any (λ x. kept x && p x) xs)
-  at true ih = ap (λ b. p x || b) ih
-  at false ih = ih
-
 pub any_map : {A B : Type 0} (p : B → Bool) (f : A → B) (xs : List A) → list_any p (map f xs) ≡ list_any (λ x. p (f x)) xs
 any_map p f [] = refl
 any_map p f (x ∷ xs) = ap (λ b. p (f x) || b) (any_map p f xs)
@@ -52,7 +45,7 @@ module _ {K E : Type 0} (same : K → K → Bool) (laws : IsEquivalence same) (k
   keys entries = map key (filter mine entries)
 
   pub any_own : (q : K) (entries : List E) → list_any (same q) (keys entries) ≡ list_any (λ e. mine e && same q (key e)) entries
-  any_own q entries = any_map (same q) key (filter mine entries) ∙ any_filter (λ e. same q (key e)) mine entries
+  any_own q entries = any_map (same q) key (filter mine entries) ∙ any_filter mine (λ e. same q (key e)) entries
 
   -- entries in the order of another key, by which the peer's keys are apart
   module _ {C : Type 0} (R : C → C → Ordering) (code : E → C) (apart : (r s : E) → mine r ≡ true → mine s ≡ true → R (code r) (code s) ≡ Less → same (key r) (key s) ≡ false) where
@@ -85,7 +78,7 @@ module _ {K E : Type 0} (same : K → K → Bool) (laws : IsEquivalence same) (k
           let n = any_found Q (same q) (keys entries) own h in
           let held : list_any (same n.0) (keys entries) ≡ true = sym (any_on (same q) (same n.0) (keys entries) (λ z. laws.congr q n.0 z n.1)) ∙ h in
           let there : list_any (same n.0) mentioned ≡ true = given n.0 (tells n.0 n.2 ∙ held) in
-          any_filter (same q) left mentioned
+          any_filter left (same q) mentioned
           ∙ any_weaker (same n.0) (λ x. left x && same q x) mentioned
           (each_weaker Q (λ x. same n.0 x ≡ true → (left x && same q x) ≡ true)
           (λ x c k. and_both (left x) (same q x)
@@ -94,7 +87,7 @@ module _ {K E : Type 0} (same : K → K → Bool) (laws : IsEquivalence same) (k
 
       down : list_any (same q) (filter left mentioned) ≡ true → list_any (same q) (keys entries) ≡ true
       down h =
-          let x = any_found Q (λ x. left x && same q x) mentioned all (sym (any_filter (same q) left mentioned) ∙ h) in
+          let x = any_found Q (λ x. left x && same q x) mentioned all (sym (any_filter left (same q) mentioned) ∙ h) in
           any_on (same q) (same x.0) (keys entries) (λ z. laws.congr q x.0 z (and_second (left x.0) (same q x.0) x.1))
           ∙ sym (tells x.0 x.2) ∙ and_first (left x.0) (same q x.0) x.1
 

@@ -6,6 +6,8 @@ use Rattle.std.specs.BTreeMap.{is_at}
 use Rattle.fs_base.specs.Config.{peer_of}
 use Rattle.fs_base.specs.declared.config.Config.{Config}
 use Rattle.fs_base.specs.declared.config.Peer.{Peer}
+use Rattle.fs_base.proofs.NumberTests.{eq_itself}
+use Rattle.fs_base.proofs.Bools.{if_true}
 use Rattle.fs_message.specs.Deframer.{pending}
 use Rattle.fs_rules.specs.Changes.{Noted}
 use Rattle.fs_rules.specs.Table.{Held}
@@ -23,7 +25,6 @@ use Rattle.fs_desk.specs.Life.{life}
 use Rattle.fs_desk.specs.Receive.{Comes, IsFed, PieceComes, TakesPiece, comes_to, point_of}
 use Rattle.fs_desk.proofs.Coming.{at_greatest}
 use Rattle.fs_desk.proofs.Played.{desk_fed, desk_of, session_value}
-use Rattle.fs_desk.proofs.Updates.{chosen, itself}
 
 -- in the octets that wait of an open session no message stands whole
 abbrev Waits : Live → Type 0
@@ -79,7 +80,7 @@ pub desk_handed : (noted noted' : Noted) (n : ℕ) (piece replies replies' : Lis
     → sessions' ≡ set_value (is_at (nat_cmp n)) sessions session' → HandsPeer n old (desk_of own table' noted' sessions') piece replies replies'
 desk_handed noted noted' n piece replies replies' session session' own table table' sessions sessions' old e there takes comes s config items found found' p here here' alive =
     let first : found ≡ session = one_session found session (session_at n sessions) (ap (λ (d : Desked). session_at n d.sessions) (sym e) ∙ here) there in
-    let now_there : session_at n sessions' ≡ Some session' = session_value n n session session' sessions sessions' there s ∙ chosen (n == n) _ _ (itself n) in
+    let now_there : session_at n sessions' ≡ Some session' = session_value n n session session' sessions sessions' there s ∙ if_true (n == n) _ _ (eq_itself n) in
     let last : found' ≡ session' = one_session found' session' (session_at n sessions') here' now_there in
     let after : session'.closed ≡ None = ap (λ (l : Live). l.closed) (sym last) ∙ alive in
     let both = comes after in

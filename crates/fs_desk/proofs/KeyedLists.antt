@@ -1,12 +1,13 @@
 -- Lists that are kept in the order of a key, one element a key: what putting, taking away and looking up do.
-use Rattle.std.proofs.Common.{◌≡◌, List, [], ◌∷◌, Bool, true, false, not, cond, Option, Some, None, if◌then◌else◌, refl, ap, sym, ◌∙◌, map, filter, find, true≢false, unwrap_or}
+use Rattle.std.proofs.Common.{◌≡◌, List, [], ◌∷◌, Bool, true, false, not, cond, Option, Some, None, if◌then◌else◌, refl, ap, sym, ◌∙◌, map, filter, find, true≢false}
 use Rattle.std.specs.declared.cmp.Ordering.{Ordering}
 use Rattle.std.specs.declared.cmp.Ordering.TheVariants.{Less, Equal, Greater}
 use Rattle.std.specs.Ordering.{is_eq, match_ordering, ordering_reverse}
-use Rattle.std.specs.Cmp.{IsTotalOrder, alike_right, tied_back, tied_itself}
+use Rattle.std.specs.Cmp.{IsTotalOrder, alike_right}
 use Rattle.std.specs.List.{AllByRecursion}
-use Rattle.std.proofs.lemmas.Map.Keys.{sorted_head, sorted_tail}
+use Rattle.fs_base.proofs.Lists.{each_mapped, each_of_map, each_weaker, each_filtered}
 use Rattle.std.specs.List.Sorted.{IsStrictlySortedBy}
+use Rattle.fs_base.proofs.Orderings.{equal_of_is_eq}
 
 module _ {X K : Type 0} (key : X → K) (R : K → K → Ordering) where
   -- the element of that key
@@ -31,14 +32,7 @@ module _ {X K : Type 0} (key : X → K) (R : K → K → Ordering) where
     twice false x y rest = refl
 
     apart : (k : K) (x y : X) → R (key x) (key y) ≡ Greater → is_eq (R k (key x)) ≡ true → is_eq (R k (key y)) ≡ false
-    apart k x y g e = of (R k (key x)) (R k (key y)) refl refl e
-      where
-        of : (r s : Ordering) → R k (key x) ≡ r → R k (key y) ≡ s → is_eq r ≡ true → is_eq s ≡ false
-        of Equal Less p q h = refl
-        of Equal Greater p q h = refl
-        of Equal Equal p q h = absurd (true≢false (sym (ap is_eq (sym g ∙ sym (IsTotalOrder.congr o k (key x) (key y) p) ∙ q))))
-        of Less s p q h = absurd (true≢false (sym h))
-        of Greater s p q h = absurd (true≢false (sym h))
+    apart k x y g e = ap is_eq (IsTotalOrder.congr o k (key x) (key y) (equal_of_is_eq (R k (key x)) e) ∙ g)
 
     swapped : (b c : Bool) (x y : X) (rest : Option X) → (b ≡ true → c ≡ false)
         → cond c (Some y) (cond b (Some x) rest) ≡ cond b (Some x) (cond c (Some y) rest)
@@ -56,90 +50,6 @@ module _ {X K : Type 0} (key : X → K) (R : K → K → Ordering) where
         by Less h later = refl
         by Equal h later = twice (is_eq (R k (key x))) x y (at_key k ys) ∙ ap (λ b. cond (is_eq (R k (key x))) (Some x) (cond b (Some y) (at_key k ys))) (same_side k x y h)
         by Greater h later = ap (λ rest. cond (is_eq (R k (key y))) (Some y) rest) later ∙ swapped (is_eq (R k (key x))) (is_eq (R k (key y))) x y (at_key k ys) (apart k x y h)
-
-    gone : (b c d : Bool) (x : X) (rest old : Option X) → (b ≡ true → c ≡ d) → (b ≡ false → c ≡ true → d ≡ true → ⊥) → rest ≡ (if b then None else old)
-        → cond (not d) (cond c (Some x) rest) rest ≡ (if b then None else cond c (Some x) old)
-    gone true true true x rest old f g h = h
-    gone true true false x rest old f g h = absurd (true≢false (f refl))
-    gone true false true x rest old f g h = absurd (true≢false (sym (f refl)))
-    gone true false false x rest old f g h = h
-    gone false true true x rest old f g h = absurd (g refl refl refl)
-    gone false true false x rest old f g h = refl
-    gone false false true x rest old f g h = h
-    gone false false false x rest old f g h = h
-
-    is_equal : (r : Ordering) → is_eq r ≡ true → r ≡ Equal
-    is_equal Less h = absurd (true≢false (sym h))
-    is_equal Equal h = refl
-    is_equal Greater h = absurd (true≢false (sym h))
-
-    left_out : (k : K) (x : X) (b : Bool) (xs : List X) → at_key k (cond b (x ∷ xs) xs) ≡ cond b (cond (is_eq (R k (key x))) (Some x) (at_key k xs)) (at_key k xs)
-    left_out k x true xs = refl
-    left_out k x false xs = refl
-
-    nothing : (b : Bool) → None ≡ (if b then None else (let o : Option X = None in o))
-    nothing true = refl
-    nothing false = refl
-
-    pub at_key-without : (k q : K) (xs : List X) → at_key k (without_key q xs) ≡ (if is_eq (R k q) then None else at_key k xs)
-    at_key-without k q [] = nothing (is_eq (R k q))
-    at_key-without k q (x ∷ xs) =
-        left_out k x (not (is_eq (R q (key x)))) (without_key q xs)
-        ∙ gone (is_eq (R k q)) (is_eq (R k (key x))) (is_eq (R q (key x))) x (at_key k (without_key q xs)) (at_key k xs)
-        (λ h. ap is_eq (IsTotalOrder.congr o k q (key x) (is_equal (R k q) h)))
-        (λ h e f. true≢false (sym e ∙ ap is_eq (alike_right o (key x) q k (tied_back o q (key x) (is_equal (R q (key x)) f))) ∙ h))
-        (at_key-without k q xs)
-
-    -- the keys rise strictly
-    abbrev pub IsListed : List X → Type 0
-    IsListed xs = IsStrictlySortedBy R (map key xs)
-
-    above_put : (k : K) (x : X) (xs : List X) → R k (key x) ≡ Less → AllByRecursion (λ q. R k q ≡ Less) (map key xs) → AllByRecursion (λ q. R k q ≡ Less) (map key (put_by x xs))
-    above_put k x [] h a = (h, tt)
-    above_put k x (y ∷ ys) h a = by (R (key x) (key y)) (above_put k x ys h a.1)
-      where
-        by : (r : Ordering) → AllByRecursion (λ q. R k q ≡ Less) (map key (put_by x ys)) → AllByRecursion (λ q. R k q ≡ Less) (map key (match_ordering r (x ∷ y ∷ ys) (x ∷ ys) (y ∷ put_by x ys)))
-        by Less later = (h, a)
-        by Equal later = (h, a.1)
-        by Greater later = (a.0, later)
-
-    above_less : (k q : K) (xs : List X) → R k q ≡ Less → AllByRecursion (λ p. R q p ≡ Less) (map key xs) → AllByRecursion (λ p. R k p ≡ Less) (map key xs)
-    above_less k q [] h a = tt
-    above_less k q (x ∷ xs) h a = (IsTotalOrder.trans o k q (key x) h a.0, above_less k q xs h a.1)
-
-    above_same : (k q : K) (xs : List X) → R k q ≡ Equal → AllByRecursion (λ p. R q p ≡ Less) (map key xs) → AllByRecursion (λ p. R k p ≡ Less) (map key xs)
-    above_same k q [] h a = tt
-    above_same k q (x ∷ xs) h a = (IsTotalOrder.congr o k q (key x) h ∙ a.0, above_same k q xs h a.1)
-
-    less_back : (k q : K) → R k q ≡ Greater → R q k ≡ Less
-    less_back k q h = IsTotalOrder.antisymm o q k ∙ ap ordering_reverse h
-
-    pub listed-put_by : (x : X) (xs : List X) → IsListed xs → IsListed (put_by x xs)
-    unfolding IsStrictlySortedBy
-    listed-put_by x [] s = (tt, tt)
-    listed-put_by x (y ∷ ys) s = by (R (key x) (key y)) refl (listed-put_by x ys s.1)
-      where
-        by : (r : Ordering) → R (key x) (key y) ≡ r → IsListed (put_by x ys) → IsListed (match_ordering r (x ∷ y ∷ ys) (x ∷ ys) (y ∷ put_by x ys))
-        by Less h later = ((h, above_less (key x) (key y) ys h s.0), s)
-        by Equal h later = (above_same (key x) (key y) ys h s.0, s.1)
-        by Greater h later = (above_put (key y) x ys (less_back (key x) (key y) h) s.0, later)
-
-    above_filter : (p : X → Bool) (k : K) (xs : List X) → AllByRecursion (λ q. R k q ≡ Less) (map key xs) → AllByRecursion (λ q. R k q ≡ Less) (map key (filter p xs))
-    above_filter p k [] a = tt
-    above_filter p k (x ∷ xs) a = by (p x) (above_filter p k xs a.1)
-      where
-        by : (b : Bool) → AllByRecursion (λ q. R k q ≡ Less) (map key (filter p xs)) → AllByRecursion (λ q. R k q ≡ Less) (map key (cond b (x ∷ filter p xs) (filter p xs)))
-        by true later = (a.0, later)
-        by false later = later
-
-    pub listed-filter : (p : X → Bool) (xs : List X) → IsListed xs → IsListed (filter p xs)
-    unfolding IsStrictlySortedBy
-    listed-filter p [] s = tt
-    listed-filter p (x ∷ xs) s = by (p x) (listed-filter p xs s.1)
-      where
-        by : (b : Bool) → IsListed (filter p xs) → IsListed (cond b (x ∷ filter p xs) (filter p xs))
-        by true later = (above_filter p (key x) xs s.0, later)
-        by false later = later
 
     kept_out : (b c d : Bool) (x : X) (rest old : Option X) → (c ≡ true → b ≡ d) → rest ≡ (if b then old else None)
         → cond d (cond c (Some x) rest) rest ≡ (if b then cond c (Some x) old else None)
@@ -167,5 +77,59 @@ module _ {X K : Type 0} (key : X → K) (R : K → K → Ordering) where
     at_key-filter left same k (x ∷ xs) =
         at_kept k x (left (key x)) (filter (λ y. left (key y)) xs)
         ∙ kept_out (left k) (is_eq (R k (key x))) (left (key x)) x (at_key k (filter (λ y. left (key y)) xs)) (at_key k xs)
-        (λ c. same k (key x) (is_equal (R k (key x)) c))
+        (λ c. same k (key x) (equal_of_is_eq (R k (key x)) c))
         (at_key-filter left same k xs)
+
+    turned : (b : Bool) (r : Ordering) (old : Option X) → b ≡ is_eq (ordering_reverse r) → (if not b then old else None) ≡ (if is_eq r then None else old)
+    turned b Less old h = ap (λ (c : Bool). if not c then old else None) h
+    turned b Equal old h = ap (λ (c : Bool). if not c then old else None) h
+    turned b Greater old h = ap (λ (c : Bool). if not c then old else None) h
+
+    pub at_key-without : (k q : K) (xs : List X) → at_key k (without_key q xs) ≡ (if is_eq (R k q) then None else at_key k xs)
+    at_key-without k q xs =
+        at_key-filter (λ p. not (is_eq (R q p))) (λ p r h. ap (λ (s : Ordering). not (is_eq s)) (alike_right o p r q h)) k xs
+        ∙ turned (is_eq (R q k)) (R k q) (at_key k xs) (ap is_eq (IsTotalOrder.antisymm o q k))
+
+    -- the keys rise strictly
+    abbrev pub IsListed : List X → Type 0
+    IsListed xs = IsStrictlySortedBy R (map key xs)
+
+    above_put : (k : K) (x : X) (xs : List X) → R k (key x) ≡ Less → AllByRecursion (λ q. R k q ≡ Less) (map key xs) → AllByRecursion (λ q. R k q ≡ Less) (map key (put_by x xs))
+    above_put k x [] h a = (h, tt)
+    above_put k x (y ∷ ys) h a = by (R (key x) (key y)) (above_put k x ys h a.1)
+      where
+        by : (r : Ordering) → AllByRecursion (λ q. R k q ≡ Less) (map key (put_by x ys)) → AllByRecursion (λ q. R k q ≡ Less) (map key (match_ordering r (x ∷ y ∷ ys) (x ∷ ys) (y ∷ put_by x ys)))
+        by Less later = (h, a)
+        by Equal later = (h, a.1)
+        by Greater later = (a.0, later)
+
+    above_less : (k q : K) (xs : List X) → R k q ≡ Less → AllByRecursion (λ p. R q p ≡ Less) (map key xs) → AllByRecursion (λ p. R k p ≡ Less) (map key xs)
+    above_less k q xs h a = each_weaker (λ p. R q p ≡ Less) (λ p. R k p ≡ Less) (λ p g. IsTotalOrder.trans o k q p h g) (map key xs) a
+
+    above_same : (k q : K) (xs : List X) → R k q ≡ Equal → AllByRecursion (λ p. R q p ≡ Less) (map key xs) → AllByRecursion (λ p. R k p ≡ Less) (map key xs)
+    above_same k q xs h a = each_weaker (λ p. R q p ≡ Less) (λ p. R k p ≡ Less) (λ p g. IsTotalOrder.congr o k q p h ∙ g) (map key xs) a
+
+    less_back : (k q : K) → R k q ≡ Greater → R q k ≡ Less
+    less_back k q h = IsTotalOrder.antisymm o q k ∙ ap ordering_reverse h
+
+    pub listed-put_by : (x : X) (xs : List X) → IsListed xs → IsListed (put_by x xs)
+    unfolding IsStrictlySortedBy
+    listed-put_by x [] s = (tt, tt)
+    listed-put_by x (y ∷ ys) s = by (R (key x) (key y)) refl (listed-put_by x ys s.1)
+      where
+        by : (r : Ordering) → R (key x) (key y) ≡ r → IsListed (put_by x ys) → IsListed (match_ordering r (x ∷ y ∷ ys) (x ∷ ys) (y ∷ put_by x ys))
+        by Less h later = ((h, above_less (key x) (key y) ys h s.0), s)
+        by Equal h later = (above_same (key x) (key y) ys h s.0, s.1)
+        by Greater h later = (above_put (key y) x ys (less_back (key x) (key y) h) s.0, later)
+
+    above_filter : (p : X → Bool) (k : K) (xs : List X) → AllByRecursion (λ q. R k q ≡ Less) (map key xs) → AllByRecursion (λ q. R k q ≡ Less) (map key (filter p xs))
+    above_filter p k xs a = each_mapped key (λ q. R k q ≡ Less) (filter p xs) (each_filtered (λ x. R k (key x) ≡ Less) p xs (each_of_map key (λ q. R k q ≡ Less) xs a))
+
+    pub listed-filter : (p : X → Bool) (xs : List X) → IsListed xs → IsListed (filter p xs)
+    unfolding IsStrictlySortedBy
+    listed-filter p [] s = tt
+    listed-filter p (x ∷ xs) s = by (p x) (listed-filter p xs s.1)
+      where
+        by : (b : Bool) → IsListed (filter p xs) → IsListed (cond b (x ∷ filter p xs) (filter p xs))
+        by true later = (above_filter p (key x) xs s.0, later)
+        by false later = later

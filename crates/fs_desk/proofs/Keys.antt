@@ -1,10 +1,9 @@
 -- The keys of unicast and flow routes as tests.
-use Rattle.std.proofs.Common.{◌≡◌, ◌==◌, ℕ, Bool, true, false, ◌&&◌, refl, ap, ap₂, sym, ◌∙◌, arith}
-use Rattle.std.proofs.lemmas.Bool.Decides.{nat_tests}
+use Rattle.std.proofs.Common.{◌≡◌, ◌==◌, ℕ, Bool, true, false, ◌&&◌, refl, ap, ap₂, sym, ◌∙◌}
 use Rattle.std.specs.Ordering.{nat_cmp, is_eq}
 use Rattle.std.specs.Cmp.{IsTotalOrder, then_total, on_total, nat_cmp_total, tied_then}
 use Rattle.fs_base.specs.Bits.{afi_of}
-use Rattle.fs_base.specs.Prefix.{prefix_cmp, prefix_total, prefix_matches_eq}
+use Rattle.fs_base.specs.Prefix.{prefix_cmp, prefix_matches_eq}
 use Rattle.fs_base.specs.declared.prefix.Family.{Family}
 use Rattle.fs_base.specs.declared.prefix.Family.TheVariants.{V4, V6}
 use Rattle.fs_base.specs.declared.prefix.Prefix.{Prefix}
@@ -18,15 +17,10 @@ use Rattle.fs_desk.specs.Leaves.{flow_key_cmp, FlowKey}
 use Rattle.fs_desk.specs.Updates.{is_prefix}
 use denote.Enum.Bare.{sameb}
 use Rattle.fs_base.specs.contracts.prefix.Family.{the_type}
-
-pub place_total : IsTotalOrder place_cmp
-place_total = then_total (on_total (λ (p : Place). p.prefix) prefix_total) (on_total (λ (p : Place). p.peer) nat_cmp_total)
+use Rattle.fs_base.proofs.Orderings.{is_eq_of_nats}
 
 pub flow_key_total : IsTotalOrder flow_key_cmp
 flow_key_total = then_total (on_total (λ (k : FlowKey). k.0) rule_total) (on_total (λ (k : FlowKey). k.1) nat_cmp_total)
-
-nat_same : (m n : ℕ) → is_eq (nat_cmp m n) ≡ (m == n)
-nat_same m n = grind (arith, nat_tests)
 
 family_same : (f g : Family) → sameb the_type f g ≡ (afi_of f == afi_of g)
 family_same V4 V4 = refl
@@ -34,7 +28,7 @@ family_same V4 V6 = refl
 family_same V6 V4 = refl
 family_same V6 V6 = refl
 
-and_swapped : (a b : Bool) → (a && b) ≡ (b && a)
+pub and_swapped : (a b : Bool) → (a && b) ≡ (b && a)
 and_swapped false false = refl
 and_swapped false true = refl
 and_swapped true false = refl
@@ -51,9 +45,9 @@ pub place_same : (a b : Place) → is_eq (place_cmp a b) ≡ (is_prefix a.prefix
 place_same a b =
     sym (tied_then (prefix_cmp a.prefix b.prefix) (nat_cmp a.peer b.peer))
     ∙ ap (λ (x : Bool). x && is_eq (nat_cmp a.peer b.peer)) (prefix_same a.prefix b.prefix)
-    ∙ ap (λ (x : Bool). is_prefix a.prefix (shown b.prefix) && x) (nat_same a.peer b.peer)
+    ∙ ap (λ (x : Bool). is_prefix a.prefix (shown b.prefix) && x) (is_eq_of_nats a.peer b.peer)
 
 pub key_same : (rule other : Ruled) (peer from : ℕ) → is_eq (flow_key_cmp (rule, peer) (other, from)) ≡ (is_eq (rule_cmp rule other) && (peer == from))
 key_same rule other peer from =
     sym (tied_then (rule_cmp rule other) (nat_cmp peer from))
-    ∙ ap (λ (x : Bool). is_eq (rule_cmp rule other) && x) (nat_same peer from)
+    ∙ ap (λ (x : Bool). is_eq (rule_cmp rule other) && x) (is_eq_of_nats peer from)

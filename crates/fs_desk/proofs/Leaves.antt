@@ -3,6 +3,7 @@ use Rattle.std.proofs.Common.{◌≡◌, ◌∙◌, ℕ, List, [], Option, Some,
 use Rattle.fs_base.specs.Config.{peer_of}
 use Rattle.fs_base.specs.declared.config.Config.{Config}
 use Rattle.fs_base.specs.declared.config.Peer.{Peer}
+use Rattle.fs_base.proofs.NumberTests.{eq_itself}
 use Rattle.fs_attrs.specs.declared.update.Update.{Update}
 use Rattle.fs_rules.specs.Table.{Held}
 use Rattle.fs_speaker.specs.Session.{still, at_start, Live}
@@ -14,7 +15,6 @@ use Rattle.fs_desk.specs.Receive.{IsFed, IsLeft}
 use Rattle.fs_desk.specs.Leaves.{Leaves, counted, updates_of}
 use Rattle.fs_desk.specs.Life.{life}
 use Rattle.fs_desk.proofs.Follows.{follows_session, over_session}
-use Rattle.fs_desk.proofs.Updates.{itself}
 
 -- the updates that a session counts are those of all octets that it was fed with
 fed_updates : (config : Config) (peer : Peer) (octets : List ℕ) (session : Live) (why : Option Closed) (updates : List Update)
@@ -44,6 +44,6 @@ played_leaves config items desk p =
     record {
       config_is = p.held_is;
       listed = p.listed;
-      unicast = λ place. (left place.peer).unicast place (itself place.peer);
+      unicast = λ place. (left place.peer).unicast place (eq_itself place.peer);
       flows = λ rule peer. (left peer).flows rule;
     }

@@ -8,6 +8,7 @@ use Rattle.fs_attrs.specs.declared.update.Update.{Update}
 use Rattle.fs_attrs.specs.Update.{gives_prefixes}
 use Rattle.fs_base.proofs.Bools.{false_of_not, true_of_not}
 use Rattle.fs_base.proofs.Lists.{each_append}
+use Rattle.fs_base.proofs.Options.{some_there}
 use Rattle.fs_rules.proofs.Apart.{each_front, each_back}
 use Rattle.fs_rules.specs.Table.{Held, held_count}
 use Rattle.fs_speaker.specs.declared.Closed.{Closed}
@@ -183,14 +184,6 @@ up_over config whose peer octets piece session table why h l s =
       },
       spares_none peer table l,
     )
-
-pub some_there : {A : Type 0} (o : Option A) → is_some o ≡ true → (a : A) × (o ≡ Some a)
-some_there (Some a) h = (a, refl)
-some_there None h = absurd (true≢false (sym h))
-
-pub none_there : {A : Type 0} (o : Option A) → is_some o ≡ false → o ≡ None
-none_there (Some a) h = absurd (true≢false h)
-none_there None h = refl
 
 pub up_ended : (config : Config) (whose : Peer) (peer : ℕ) (octets piece : List ℕ) (session : Live) (table : Held)
     → is_some session.closed ≡ true → IsListed table → IsUp config whose peer octets session table

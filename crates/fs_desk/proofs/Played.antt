@@ -1,5 +1,5 @@
 -- The desk behind one more item of the tape.
-use Rattle.std.proofs.Common.{◌≡◌, ◌==◌, ℕ, List, [], ◌∷◌, ◌++◌, Bool, true, false, cond, Option, Some, None, if◌then◌else◌, option_map, refl, ap, sym, ◌∙◌, subst, append-nil, arith, ◌⊎◌, inl, inr, unwrap_or, IsSome}
+use Rattle.std.proofs.Common.{◌≡◌, ◌==◌, ℕ, List, [], ◌∷◌, ◌++◌, Bool, true, false, cond, Option, Some, None, if◌then◌else◌, option_map, refl, ap, sym, ◌∙◌, subst, append-nil, arith, unwrap_or, IsSome}
 use Rattle.std.proofs.lemmas.Bool.Decides.{nat_tests}
 use Rattle.std.specs.Ordering.{nat_cmp, is_eq}
 use Rattle.std.specs.Cmp.{IsTotalOrder, nat_cmp_total, eq_by_cmp_equiv}
@@ -11,6 +11,9 @@ use Rattle.std.proofs.lemmas.Map.Keys.{IsDistinct-from_sorted}
 use Rattle.fs_base.specs.Config.{peer_of}
 use Rattle.fs_base.specs.declared.config.Config.{Config}
 use Rattle.fs_base.specs.declared.config.Peer.{Peer}
+use Rattle.fs_base.proofs.NumberTests.{eq_itself, equal_of_eq}
+use Rattle.fs_base.proofs.Orderings.{equal_of_is_eq, is_eq_of_nats}
+use Rattle.fs_base.proofs.Bools.{if_true, if_false}
 use Rattle.fs_rules.specs.Changes.{Noted}
 use Rattle.fs_rules.specs.Table.{Held}
 use Rattle.fs_speaker.specs.Line.{fresh}
@@ -22,33 +25,27 @@ use Rattle.fs_desk.specs.Leaves.{IsListed}
 use Rattle.fs_desk.specs.Limit.{bounded_replies_from}
 use Rattle.fs_desk.specs.Receive.{IsLeft, Spares, IsUp, TakesPiece, RepliesPiece}
 use Rattle.fs_desk.specs.Desk.{Desked, session_at, PeerIs, Played, Replied}
-use Rattle.fs_rules.proofs.Entries.{lookup-insert_entry, sorted-insert_entry, sorted-remove_entry, is_equal}
+use Rattle.fs_rules.proofs.Entries.{lookup-insert_entry, sorted-insert_entry, sorted-remove_entry}
 use Rattle.fs_desk.proofs.Life.{life-bound, life-more}
 use Rattle.fs_desk.proofs.Follows.{follows_none, within_none}
 use Rattle.fs_desk.proofs.Replying.{replied_none}
-use Rattle.fs_desk.proofs.Updates.{chosen, not_chosen, itself, left_nothing, left_spared, spares_others}
-
-nat_same : (m n : ℕ) → is_eq (nat_cmp m n) ≡ (m == n)
-nat_same m n = grind (arith, nat_tests)
+use Rattle.fs_desk.proofs.Updates.{left_nothing, left_spared, spares_others}
 
 same_swapped : (m n : ℕ) (b : Bool) → (m == n) ≡ b → (n == m) ≡ b
 same_swapped m n b h = grind (arith, nat_tests, h)
-
-pub one_number : (m n : ℕ) → (m == n) ≡ true → m ≡ n
-one_number m n h = grind (arith, nat_tests, h)
 
 -- of the peer's session, with another put in its place or taken away
 session_put : (m n : ℕ) (session : Live) (sessions : List (ℕ × Live)) → session_at m (insert_entry nat_cmp sessions n session) ≡ (if m == n then Some session else session_at m sessions)
 session_put m n session sessions =
     lookup-insert_entry nat_cmp nat_cmp_total m n session sessions
-    ∙ ap (λ (b : Bool). if b then Some session else session_at m sessions) (nat_same m n)
+    ∙ ap (λ (b : Bool). if b then Some session else session_at m sessions) (is_eq_of_nats m n)
 
 session_gone : (m n : ℕ) (sessions : List (ℕ × Live)) → IsStrictlySortedBy nat_cmp (keys_of sessions)
     → session_at m (remove_entry (is_at (nat_cmp n)) sessions) ≡ (if m == n then None else session_at m sessions)
 session_gone m n sessions s =
-    lookup-remove_entry (eq_by_cmp_equiv nat_cmp_total) (is_at (nat_cmp n)) (λ x y h. ap is_eq (IsTotalOrder.congr nat_cmp_total n x y (is_equal (nat_cmp n x) h))) m sessions
+    lookup-remove_entry (eq_by_cmp_equiv nat_cmp_total) (is_at (nat_cmp n)) (λ x y h. ap is_eq (IsTotalOrder.congr nat_cmp_total n x y (equal_of_is_eq (nat_cmp n x) h))) m sessions
     (IsDistinct-from_sorted nat_cmp (keys_of sessions) s)
-    ∙ ap (λ (b : Bool). cond b None (session_at m sessions)) (nat_same n m ∙ same_swapped m n (m == n) refl)
+    ∙ ap (λ (b : Bool). cond b None (session_at m sessions)) (is_eq_of_nats n m ∙ same_swapped m n (m == n) refl)
 
 -- a peer whose life and session are the same, where the table spares it
 peer_spared : (config : Config) (peer : Option Peer) (l l' : Option (List ℕ)) (s s' : Option Live) (n m : ℕ) (old new : Held)
@@ -77,16 +74,18 @@ life_other m items item t u s =
     at None = refl
     at (Some octets) = ap Some (append-nil octets)
 
--- whether two numbers are one
-pub cases_of : (b : Bool) → (b ≡ true) ⊎ (b ≡ false)
-cases_of true = inl refl
-cases_of false = inr refl
+-- what holds of a peer and of all others
+pub each_peer : (P : ℕ → Type 0) (n : ℕ) → P n → ((m : ℕ) → (m == n) ≡ false → P m) → (m : ℕ) → P m
+each_peer P n own others m = at (m == n) refl where
+  at : (b : Bool) → (m == n) ≡ b → P m
+  at true e = subst P (sym (equal_of_eq m n e)) own
+  at false e = others m e
 
 lost_life : (n : ℕ) (items : List Item) → life n (items ++ was_lost n ∷ []) ≡ None
-lost_life n items = life-bound n items (was_lost n) (itself n)
+lost_life n items = life-bound n items (was_lost n) (eq_itself n)
 
 up_life : (n : ℕ) (items : List Item) → life n (items ++ came_up n ∷ []) ≡ Some []
-up_life n items = life-bound n items (came_up n) (itself n) ∙ ap (λ (b : Bool). if b then Some [] else None) (itself n)
+up_life n items = life-bound n items (came_up n) (eq_itself n) ∙ ap (λ (b : Bool). if b then Some [] else None) (eq_itself n)
 
 -- the peer was lost
 pub played_lost : (config : Config) (items : List Item) (n : ℕ) (old new : Desked)
@@ -97,24 +96,16 @@ played_lost config items n old new t c s p = record {
   held_is = t.config_is ∙ p.held_is;
   listed = t.listed p.listed;
   sessions = subst (λ (z : List (ℕ × Live)). IsStrictlySortedBy nat_cmp (keys_of z)) (sym s) (sorted-remove_entry nat_cmp nat_cmp_total (is_at (nat_cmp n)) old.sessions p.sessions);
-  each = λ m. elim (cases_of (m == n)) [
-    | inl e ↦ own m e
-    | inr e ↦
-        peer_spared config (peer_of m config.peers) (life m items) (life m (items ++ was_lost n ∷ [])) (session_at m old.sessions) (session_at m new.sessions) n m old.held new.held
-        (life_other m items (was_lost n) (same_swapped m n false e) refl refl)
-        (ap (session_at m) s ∙ session_gone m n old.sessions p.sessions ∙ not_chosen (m == n) _ _ e)
-        (spares_others n nothing nothing old.held new.held t p.listed) e (p.each m)
-  ];
+  each = each_peer (λ m. PeerIs config (peer_of m config.peers) (life m (items ++ was_lost n ∷ [])) (session_at m new.sessions) m new.held) n
+      (subst (λ (x : Option (List ℕ)). PeerIs config (peer_of n config.peers) x (session_at n new.sessions) n new.held) (sym (lost_life n items))
+      (subst (λ (x : Option Live). PeerIs config (peer_of n config.peers) None x n new.held)
+      (sym (ap (session_at n) s ∙ session_gone n n old.sessions p.sessions ∙ if_true (n == n) _ _ (eq_itself n)))
+      (left_nothing n old.held new.held t p.listed)))
+      (λ m e. peer_spared config (peer_of m config.peers) (life m items) (life m (items ++ was_lost n ∷ [])) (session_at m old.sessions) (session_at m new.sessions) n m old.held new.held
+      (life_other m items (was_lost n) (same_swapped m n false e) refl refl)
+      (ap (session_at m) s ∙ session_gone m n old.sessions p.sessions ∙ if_false (m == n) _ _ e)
+      (spares_others n nothing nothing old.held new.held t p.listed) e (p.each m));
 }
-  where
-    own : (m : ℕ) → (m == n) ≡ true → PeerIs config (peer_of m config.peers) (life m (items ++ was_lost n ∷ [])) (session_at m new.sessions) m new.held
-    own m e =
-        let at : PeerIs config (peer_of n config.peers) (life n (items ++ was_lost n ∷ [])) (session_at n new.sessions) n new.held =
-        subst (λ (x : Option (List ℕ)). PeerIs config (peer_of n config.peers) x (session_at n new.sessions) n new.held) (sym (lost_life n items))
-        (subst (λ (x : Option Live). PeerIs config (peer_of n config.peers) None x n new.held)
-        (sym (ap (session_at n) s ∙ session_gone n n old.sessions p.sessions ∙ chosen (n == n) _ _ (itself n)))
-        (left_nothing n old.held new.held t p.listed)) in
-        subst (λ (k : ℕ). PeerIs config (peer_of k config.peers) (life k (items ++ was_lost n ∷ [])) (session_at k new.sessions) k new.held) (sym (one_number m n e)) at
 
 -- a lost peer came up
 left_down : (config : Config) (peer : Option Peer) (s : Option Live) (n : ℕ) (held : Held) → PeerIs config peer None s n held → IsLeft n [] held
@@ -131,16 +122,13 @@ played_up config items n peer session mid new q v c h s p = record {
   held_is = ap (λ (z : Held). z.config) h ∙ p.held_is;
   listed = subst (λ (z : Held). IsListed z) (sym h) p.listed;
   sessions = subst (λ (z : List (ℕ × Live)). IsStrictlySortedBy nat_cmp (keys_of z)) (sym s) (sorted-insert_entry nat_cmp nat_cmp_total n session mid.sessions p.sessions);
-  each = λ m. elim (cases_of (m == n)) [
-    | inl e ↦ own m e
-    | inr e ↦
-        subst (λ (z : Held). PeerIs config (peer_of m config.peers) (life m (items ++ came_up n ∷ [])) (session_at m new.sessions) m z) (sym h)
-        (subst (λ (x : Option Live). PeerIs config (peer_of m config.peers) (life m (items ++ came_up n ∷ [])) x m mid.held)
-        (sym (ap (session_at m) s ∙ session_put m n session mid.sessions ∙ not_chosen (m == n) _ _ e))
-        (subst (λ (x : Option (List ℕ)). PeerIs config (peer_of m config.peers) x (session_at m mid.sessions) m mid.held)
-        (life_other m items (was_lost n) (same_swapped m n false e) refl refl ∙ sym (life_other m items (came_up n) (same_swapped m n false e) (same_swapped m n false e) refl))
-        (p.each m)))
-  ];
+  each = each_peer (λ m. PeerIs config (peer_of m config.peers) (life m (items ++ came_up n ∷ [])) (session_at m new.sessions) m new.held) n at
+      (λ m e. subst (λ (z : Held). PeerIs config (peer_of m config.peers) (life m (items ++ came_up n ∷ [])) (session_at m new.sessions) m z) (sym h)
+      (subst (λ (x : Option Live). PeerIs config (peer_of m config.peers) (life m (items ++ came_up n ∷ [])) x m mid.held)
+      (sym (ap (session_at m) s ∙ session_put m n session mid.sessions ∙ if_false (m == n) _ _ e))
+      (subst (λ (x : Option (List ℕ)). PeerIs config (peer_of m config.peers) x (session_at m mid.sessions) m mid.held)
+      (life_other m items (was_lost n) (same_swapped m n false e) refl refl ∙ sym (life_other m items (came_up n) (same_swapped m n false e) (same_swapped m n false e) refl))
+      (p.each m))));
 }
   where
     down : IsLeft n [] mid.held
@@ -154,17 +142,14 @@ played_up config items n peer session mid new q v c h s p = record {
     at =
         subst (λ (z : Held). PeerIs config (peer_of n config.peers) (life n (items ++ came_up n ∷ [])) (session_at n new.sessions) n z) (sym h)
         (subst (λ (x : Option Live). PeerIs config (peer_of n config.peers) (life n (items ++ came_up n ∷ [])) x n mid.held)
-        (sym (ap (session_at n) s ∙ session_put n n session mid.sessions ∙ chosen (n == n) _ _ (itself n)))
+        (sym (ap (session_at n) s ∙ session_put n n session mid.sessions ∙ if_true (n == n) _ _ (eq_itself n)))
         (subst (λ (x : Option (List ℕ)). PeerIs config (peer_of n config.peers) x (Some session) n mid.held) (sym (up_life n items))
         (subst (λ (x : Option Peer). PeerIs config x (Some []) (Some session) n mid.held) (sym q) first)))
-
-    own : (m : ℕ) → (m == n) ≡ true → PeerIs config (peer_of m config.peers) (life m (items ++ came_up n ∷ [])) (session_at m new.sessions) m new.held
-    own m e = subst (λ (k : ℕ). PeerIs config (peer_of k config.peers) (life k (items ++ came_up n ∷ [])) (session_at k new.sessions) k new.held) (sym (one_number m n e)) at
 
 received_life : (n : ℕ) (items : List Item) (piece : List ℕ) → life n (items ++ received n piece ∷ []) ≡ option_map (λ octets. octets ++ piece) (life n items)
 received_life n items piece =
     life-more n items (received n piece) refl refl
-    ∙ ap (λ (z : List ℕ). option_map (λ octets. octets ++ z) (life n items)) (chosen (n == n) piece [] (itself n))
+    ∙ ap (λ (z : List ℕ). option_map (λ octets. octets ++ z) (life n items)) (if_true (n == n) piece [] (eq_itself n))
 
 -- the session of a peer that is up took a piece
 pub played_octets : (config : Config) (items : List Item) (n : ℕ) (piece : List ℕ) (session session' : Live) (old new : Desked)
@@ -184,7 +169,7 @@ played_octets config items n piece session session' old new there takes c s sort
         let took = takes config peer octets p.listed k in
         let at : PeerIs config (peer_of n config.peers) (life n (items ++ received n piece ∷ [])) (session_at n new.sessions) n new.held =
         subst (λ (x : Option Live). PeerIs config (peer_of n config.peers) (life n (items ++ received n piece ∷ [])) x n new.held)
-        (sym (s n ∙ chosen (n == n) _ _ (itself n)))
+        (sym (s n ∙ if_true (n == n) _ _ (eq_itself n)))
         (subst (λ (x : Option (List ℕ)). PeerIs config (peer_of n config.peers) x (Some session') n new.held)
         (sym (received_life n items piece ∙ ap (option_map (λ z. z ++ piece)) g))
         (subst (λ (x : Option Peer). PeerIs config x (Some (octets ++ piece)) (Some session') n new.held) (sym f) took.0)) in
@@ -193,13 +178,10 @@ played_octets config items n piece session session' old new there takes c s sort
           held_is = took.1.config_is ∙ p.held_is;
           listed = took.1.listed;
           sessions = sorted;
-          each = λ m. elim (cases_of (m == n)) [
-            | inl e ↦ subst (λ (z : ℕ). PeerIs config (peer_of z config.peers) (life z (items ++ received n piece ∷ [])) (session_at z new.sessions) z new.held) (sym (one_number m n e)) at
-            | inr e ↦
-                peer_spared config (peer_of m config.peers) (life m items) (life m (items ++ received n piece ∷ [])) (session_at m old.sessions) (session_at m new.sessions) n m old.held new.held
-                (life_other m items (received n piece) refl refl (not_chosen (n == m) piece [] (same_swapped m n false e)))
-                (s m ∙ not_chosen (m == n) _ _ e) took.1 e (p.each m)
-          ];
+          each = each_peer (λ m. PeerIs config (peer_of m config.peers) (life m (items ++ received n piece ∷ [])) (session_at m new.sessions) m new.held) n at
+              (λ m e. peer_spared config (peer_of m config.peers) (life m items) (life m (items ++ received n piece ∷ [])) (session_at m old.sessions) (session_at m new.sessions) n m old.held new.held
+              (life_other m items (received n piece) refl refl (if_false (n == m) piece [] (same_swapped m n false e)))
+              (s m ∙ if_false (m == n) _ _ e) took.1 e (p.each m));
         }
 
 -- the session of a peer that is up replied to a piece
@@ -244,10 +226,7 @@ played_skipped config items n piece desk none p = record {
     own = received_life n items piece ∙ ap (option_map (λ z. z ++ piece)) down ∙ sym down
 
     skipped : (m : ℕ) → life m (items ++ received n piece ∷ []) ≡ life m items
-    skipped m = elim (cases_of (m == n)) [
-      | inl e ↦ subst (λ (z : ℕ). life z (items ++ received n piece ∷ []) ≡ life z items) (sym (one_number m n e)) own
-      | inr e ↦ life_other m items (received n piece) refl refl (not_chosen (n == m) piece [] (same_swapped m n false e))
-    ]
+    skipped = each_peer (λ m. life m (items ++ received n piece ∷ []) ≡ life m items) n own (λ m e. life_other m items (received n piece) refl refl (if_false (n == m) piece [] (same_swapped m n false e)))
 
 -- and not answered
 pub played_silent : (config : Config) (items : List Item) (n : ℕ) (piece before : List ℕ) (desk : Desked)
@@ -325,14 +304,14 @@ desk_up {noted} config items n session own table sessions sessions' mid e b s p 
 pub desk_begun : (n : ℕ) (session : Live) (own own' : Config) (sessions sessions' : List (ℕ × Live)) → own ≡ own' → begins own n ≡ Some session → sessions' ≡ insert_entry nat_cmp sessions n session
     → session_at n sessions' ≡ begins own' n
 desk_begun n session own own' sessions sessions' e b s =
-    ap (session_at n) s ∙ session_put n n session sessions ∙ chosen (n == n) (Some session) (session_at n sessions) (itself n) ∙ sym b ∙ ap (λ (c : Config). begins c n) e
+    ap (session_at n) s ∙ session_put n n session sessions ∙ if_true (n == n) (Some session) (session_at n sessions) (eq_itself n) ∙ sym b ∙ ap (λ (c : Config). begins c n) e
 
 -- a session's value is written back in its place
 session_set : (m n : ℕ) (session : Live) (sessions : List (ℕ × Live)) → IsSome (session_at n sessions)
     → session_at m (set_value (is_at (nat_cmp n)) sessions session) ≡ (if m == n then Some session else session_at m sessions)
 session_set m n session sessions there =
-    lookup-set_value (eq_by_cmp_equiv nat_cmp_total) (is_at (nat_cmp n)) (λ x y h. ap is_eq (IsTotalOrder.congr nat_cmp_total n x y (is_equal (nat_cmp n x) h))) m session sessions there
-    ∙ ap (λ (b : Bool). cond b (Some session) (session_at m sessions)) (nat_same n m ∙ same_swapped m n (m == n) refl)
+    lookup-set_value (eq_by_cmp_equiv nat_cmp_total) (is_at (nat_cmp n)) (λ x y h. ap is_eq (IsTotalOrder.congr nat_cmp_total n x y (equal_of_is_eq (nat_cmp n x) h))) m session sessions there
+    ∙ ap (λ (b : Bool). cond b (Some session) (session_at m sessions)) (is_eq_of_nats n m ∙ same_swapped m n (m == n) refl)
 
 is_there : (o : Option Live) (session : Live) → o ≡ Some session → IsSome o
 is_there o session h = subst (λ (x : Option Live). IsSome x) (sym h) refl
@@ -382,7 +361,3 @@ pub desk_stays : {noted : Noted} (config : Config) (items : List Item) (own : Co
     → Played config items old → Played config items (record { config = own; held = table; changes = noted; sessions = sessions' })
 desk_stays {noted} config items own table sessions sessions' old e s p =
     subst (λ (d : Desked). Played config items d) (e ∙ ap (λ (z : List (ℕ × Live)). desk_of own table noted z) (sym s)) p
-
--- whatever is noted
-pub played_noted : (config : Config) (items : List Item) (desk new : Desked) (noted : Noted) → new ≡ record desk { changes = noted } → Played config items desk → Played config items new
-played_noted config items desk new noted e p = subst (λ (d : Desked). Played config items d) (sym e) (record { config_is = p.config_is; held_is = p.held_is; listed = p.listed; sessions = p.sessions; each = p.each })

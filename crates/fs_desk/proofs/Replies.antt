@@ -12,11 +12,12 @@ use Rattle.fs_speaker.specs.Line.{CloseIs}
 use Rattle.fs_speaker.specs.Side.{reply_at}
 use Rattle.fs_speaker.specs.Session.{Live, Does, reply_of, step_with}
 use Rattle.fs_base.proofs.Bools.{true_of_not}
+use Rattle.fs_base.proofs.Options.{some_there}
 use Rattle.fs_desk.specs.Leaves.{IsListed}
 use Rattle.fs_desk.specs.Limit.{is_over, routes_left, too_many, bounded_replies_from}
 use Rattle.fs_desk.specs.Receive.{Follows, AreWithin, TakesUpdate, IsLeft, IsFed, IsReplying, HasReplied, IsUp, RepliesTo, Extends, IsReplyingMore, HasRepliedMore, RepliesMessage}
 use Rattle.fs_desk.proofs.Follows.{follows_fed}
-use Rattle.fs_desk.proofs.Pieces.{close_is, some_there, held_left}
+use Rattle.fs_desk.proofs.Pieces.{close_is, held_left}
 use Rattle.fs_desk.proofs.Replying.{replying_piece, replying_fed, fed_established, replying_closed, replying_ceased, replied_all}
 
 -- one message of a piece was taken

@@ -4,13 +4,13 @@ use Rattle.std.proofs.lemmas.Bool.Decides.{nat_tests}
 use Rattle.std.specs.BTreeMap.{is_at}
 use Rattle.std.specs.Cmp.{IsEquivalence, eq_by_cmp_equiv}
 use Rattle.std.specs.List.{list_any, AllByRecursion}
-use Rattle.std.specs.Map.{lookup}
+use Rattle.std.proofs.lemmas.Map.Made.{is_some-lookup}
 use Rattle.fs_base.proofs.Bools.{and_first, and_second, and_both, or_first, or_second, same_tests}
 use Rattle.fs_base.proofs.Lists.{each}
 use Rattle.fs_base.specs.Bits.{afi_of}
 use Rattle.fs_base.specs.declared.path.Path.{Path}
-use Rattle.fs_base.specs.declared.prefix.Family.{Family}
-use Rattle.fs_base.specs.declared.prefix.Family.TheVariants.{V4, V6}
+use Rattle.fs_base.proofs.Covers.{same_family}
+use Rattle.fs_base.proofs.NumberTests.{eq_itself, equal_of_eq}
 use Rattle.fs_nlri.specs.Parts.{Ruled}
 use Rattle.fs_nlri.specs.Rule.{shown}
 use Rattle.fs_order.specs.Ranked.{rule_total}
@@ -27,8 +27,8 @@ use Rattle.fs_desk.specs.Limit.{routes_left}
 use Rattle.fs_desk.specs.Receive.{IsLeft}
 use Rattle.fs_desk.specs.Updates.{last_such, same_prefix, gives_at, tells_of, path_left, is_rule, rule_given, tells_of_rule, given_with, flow_left, Given}
 use Rattle.fs_desk.proofs.ChangesJoined.{last_there}
-use Rattle.fs_desk.proofs.CountedKeys.{any_on, any_flat, any_own, distinct_own, counted_own}
-use Rattle.fs_desk.proofs.Keys.{place_same, key_same}
+use Rattle.fs_desk.proofs.CountedKeys.{any_on, any_flat, any_map, any_own, distinct_own, counted_own}
+use Rattle.fs_desk.proofs.Keys.{and_swapped, place_same, key_same}
 
 -- What is left was given by some update.
 last_in : {A : Type 0} (test f : A → Bool) (xs : List A) → (elim (last_such test xs) as (λ _. Bool) [ None ↦ false | Some x ↦ f x ]) ≡ true → list_any f xs ≡ true
@@ -65,28 +65,16 @@ rule_left q updates h =
     at (Some u) k = last_there q (gives_rules u) ∙ gives (rule_given q u) (given_with u) k
 
 -- Prefixes as they are listed are one by these tests exactly where they are equal.
-same_family : (f g : Family) → (afi_of f == afi_of g) ≡ true → f ≡ g
-same_family V4 V4 h = refl
-same_family V4 V6 h = absurd (true≢false (sym h))
-same_family V6 V4 h = absurd (true≢false (sym h))
-same_family V6 V6 h = refl
-
-same_number : (m n : ℕ) → (m == n) ≡ true → m ≡ n
-same_number m n h = grind (arith, nat_tests, h)
-
-itself : (n : ℕ) → (n == n) ≡ true
-itself n = grind (arith, nat_tests)
-
 same_one : (a b : Shown) → same_prefix a b ≡ true → a ≡ b
 same_one a b h =
     let rest : ((a.1 == b.1) && (a.2 == b.2)) ≡ true = and_second (afi_of a.0 == afi_of b.0) ((a.1 == b.1) && (a.2 == b.2)) h in
-    let f : a.0 ≡ b.0 = same_family a.0 b.0 (and_first (afi_of a.0 == afi_of b.0) ((a.1 == b.1) && (a.2 == b.2)) h) in
-    let n : a.1 ≡ b.1 = same_number a.1 b.1 (and_first (a.1 == b.1) (a.2 == b.2) rest) in
-    let m : a.2 ≡ b.2 = same_number a.2 b.2 (and_second (a.1 == b.1) (a.2 == b.2) rest) in
+    let f : a.0 ≡ b.0 = same_family a.0 b.0 (equal_of_eq (afi_of a.0) (afi_of b.0) (and_first (afi_of a.0 == afi_of b.0) ((a.1 == b.1) && (a.2 == b.2)) h)) in
+    let n : a.1 ≡ b.1 = equal_of_eq a.1 b.1 (and_first (a.1 == b.1) (a.2 == b.2) rest) in
+    let m : a.2 ≡ b.2 = equal_of_eq a.2 b.2 (and_second (a.1 == b.1) (a.2 == b.2) rest) in
     λ i. (f i, n i, m i)
 
 same_itself : (a : Shown) → same_prefix a a ≡ true
-same_itself a = and_both (afi_of a.0 == afi_of a.0) ((a.1 == a.1) && (a.2 == a.2)) (itself (afi_of a.0)) (and_both (a.1 == a.1) (a.2 == a.2) (itself a.1) (itself a.2))
+same_itself a = and_both (afi_of a.0 == afi_of a.0) ((a.1 == a.1) && (a.2 == a.2)) (eq_itself (afi_of a.0)) (and_both (a.1 == a.1) (a.2 == a.2) (eq_itself a.1) (eq_itself a.2))
 
 turn : (a b : Shown) → same_prefix a b ≡ true → same_prefix b a ≡ true
 turn a b h = subst (λ c. same_prefix c a ≡ true) (same_one a b h) (same_itself a)
@@ -99,25 +87,12 @@ prefix_laws = record {
 }
 
 -- What a lookup finds.
-looked_up : {K X : Type 0} (test : K → Bool) (es : List (K × X)) → is_some (lookup test es) ≡ list_any (λ e. test e.0) es
-looked_up test [] = refl
-looked_up test (e ∷ es) = at (test e.0) (looked_up test es) where
-  at : (b : Bool) → is_some (lookup test es) ≡ list_any (λ e. test e.0) es → is_some (cond b (Some e.1) (lookup test es)) ≡ (b || list_any (λ e. test e.0) es)
-  at true ih = refl
-  at false ih = ih
-
 found : {A B : Type 0} (f : A → B) (p : A → Bool) (xs : List A) → is_some (option_map f (find p xs)) ≡ list_any p xs
 found f p [] = refl
 found f p (x ∷ xs) = at (p x) (found f p xs) where
   at : (b : Bool) → is_some (option_map f (find p xs)) ≡ list_any p xs → is_some (option_map f (cond b (Some x) (find p xs))) ≡ (b || list_any p xs)
   at true ih = refl
   at false ih = ih
-
-swapped : (a b : Bool) → (a && b) ≡ (b && a)
-swapped true true = refl
-swapped true false = refl
-swapped false true = refl
-swapped false false = refl
 
 number_swapped : (m n : ℕ) → (m == n) ≡ (n == m)
 number_swapped m n = grind (arith, nat_tests)
@@ -137,10 +112,11 @@ module _ (peer : ℕ) (updates : List Update) (held : Held) (listed : IsListed h
   -- at a prefix something is left exactly where the peer has a route
   path_tells : (q : Shown) → IsPrefix q → is_some (path_left q updates) ≡ list_any (same_prefix q) (map prefix_of (filter is_own held.unicast))
   path_tells q is =
-      sym (ap is_some (left.unicast place (itself peer)))
-      ∙ looked_up (is_at (place_cmp place)) held.unicast
+      sym (ap is_some (left.unicast place (eq_itself peer)))
+      ∙ is_some-lookup (is_at (place_cmp place)) held.unicast
+      ∙ any_map (is_at (place_cmp place)) (λ (r : Route). r.0) held.unicast
       ∙ any_on (λ r. is_at (place_cmp place) r.0) (λ r. is_own r && same_prefix q (prefix_of r)) held.unicast
-      (λ r. place_same place r.0 ∙ ap (λ b. same_prefix q (prefix_of r) && b) (number_swapped peer r.0.peer) ∙ swapped (same_prefix q (prefix_of r)) (is_own r))
+      (λ r. place_same place r.0 ∙ ap (λ b. same_prefix q (prefix_of r) && b) (number_swapped peer r.0.peer) ∙ and_swapped (same_prefix q (prefix_of r)) (is_own r))
       ∙ sym (any_own same_prefix prefix_laws prefix_of is_own q held.unicast)
     where
       place : Place
@@ -151,16 +127,16 @@ module _ (peer : ℕ) (updates : List Update) (held : Held) (listed : IsListed h
       sym (ap is_some (left.flows q))
       ∙ found given_of (is_key q peer) held.flows
       ∙ any_on (is_key q peer) (λ r. (r.peer == peer) && is_rule q r.rule) held.flows
-      (λ r. key_same q r.rule peer r.peer ∙ ap (λ b. is_rule q r.rule && b) (number_swapped peer r.peer) ∙ swapped (is_rule q r.rule) (r.peer == peer))
+      (λ r. key_same q r.rule peer r.peer ∙ ap (λ b. is_rule q r.rule && b) (number_swapped peer r.peer) ∙ and_swapped (is_rule q r.rule) (r.peer == peer))
       ∙ sym (any_own is_rule (eq_by_cmp_equiv rule_total) (λ (r : FlowRoute). r.rule) (λ r. r.peer == peer) q held.flows)
 
   places_apart : (r s : Route) → is_own r ≡ true → is_own s ≡ true → place_cmp r.0 s.0 ≡ Less → same_prefix (prefix_of r) (prefix_of s) ≡ false
   places_apart r s h k less =
-      none_less (r.0.peer == s.0.peer) (ap (λ n. n == s.0.peer) (same_number r.0.peer peer h) ∙ number_swapped peer s.0.peer ∙ k) (same_prefix (prefix_of r) (prefix_of s)) (sym (place_same r.0 s.0) ∙ ap is_eq less)
+      none_less (r.0.peer == s.0.peer) (ap (λ n. n == s.0.peer) (equal_of_eq r.0.peer peer h) ∙ number_swapped peer s.0.peer ∙ k) (same_prefix (prefix_of r) (prefix_of s)) (sym (place_same r.0 s.0) ∙ ap is_eq less)
 
   rules_apart : (r s : FlowRoute) → (r.peer == peer) ≡ true → (s.peer == peer) ≡ true → flow_key_cmp (flow_key r) (flow_key s) ≡ Less → is_rule r.rule s.rule ≡ false
   rules_apart r s h k less =
-      none_less (r.peer == s.peer) (ap (λ n. n == s.peer) (same_number r.peer peer h) ∙ number_swapped peer s.peer ∙ k) (is_rule r.rule s.rule) (sym (key_same r.rule s.rule r.peer s.peer) ∙ ap is_eq less)
+      none_less (r.peer == s.peer) (ap (λ n. n == s.peer) (equal_of_eq r.peer peer h) ∙ number_swapped peer s.peer ∙ k) (is_rule r.rule s.rule) (sym (key_same r.rule s.rule r.peer s.peer) ∙ ap is_eq less)
 
   each_prefix : (routes : List Route) → AllByRecursion IsPrefix (map prefix_of (filter is_own routes))
   each_prefix [] = tt

@@ -15,6 +15,7 @@ use Rattle.fs_order.proofs.Same.{first_equal, second_equal}
 use Rattle.fs_order.proofs.Pairs.{equal_numbers}
 use Rattle.fs_unicast.specs.Unicast.{place_cmp, Route}
 use Rattle.fs_unicast.specs.declared.unicast.Place.{Place}
+use Rattle.fs_unicast.proofs.PlaceOrder.{place_total}
 use Rattle.fs_validate.specs.declared.route.FlowRoute.{FlowRoute}
 use Rattle.fs_rules.specs.Table.{Held}
 use Rattle.fs_tape.specs.Tape.{Item}
@@ -22,7 +23,7 @@ use Rattle.fs_desk.specs.Laws.{LeaveSame}
 use Rattle.fs_desk.specs.Leaves.{Leaves, flow_key, flow_key_cmp, given_of, unicast_at, flow_at}
 use Rattle.fs_desk.specs.Updates.{Given}
 use Rattle.fs_desk.proofs.KeyedSame.{value_at, one_list}
-use Rattle.fs_desk.proofs.Keys.{place_total, flow_key_total}
+use Rattle.fs_desk.proofs.Keys.{flow_key_total}
 
 abbrev placed : Prefix → ℕ → Place
 placed prefix peer = record { prefix = prefix; peer = peer }

@@ -12,19 +12,21 @@ use Rattle.std.proofs.lemmas.Map.{lookup-remove_entry}
 use Rattle.std.proofs.lemmas.Map.Keys.{IsDistinct-from_sorted}
 use Rattle.fs_base.specs.declared.path.Path.{Path}
 use Rattle.fs_base.specs.declared.prefix.Prefix.{Prefix}
+use Rattle.fs_base.proofs.Orderings.{equal_of_is_eq}
 use Rattle.fs_nlri.specs.Parts.{Ruled}
 use Rattle.fs_nlri.specs.Rule.{shown}
 use Rattle.fs_order.specs.Comparison.{rule_cmp}
 use Rattle.fs_unicast.specs.Unicast.{place_cmp, Route}
 use Rattle.fs_unicast.specs.declared.unicast.Place.{Place}
+use Rattle.fs_unicast.proofs.PlaceOrder.{place_total}
 use Rattle.fs_validate.specs.declared.route.FlowRoute.{FlowRoute}
 use Rattle.fs_rules.specs.Table.{Held, put_route, without_route, without_peer, without_peer_unicast, without_peer_flows}
 use Rattle.fs_desk.specs.Leaves.{unicast_at, flow_at, flow_key, flow_key_cmp, FlowKey, given_of}
 use Rattle.fs_desk.specs.Updates.{is_prefix, is_rule}
 use Rattle.fs_desk.specs.Apply.{Changes, same, nothing, taken_of, given_at, rules_taken, rules_given, given_or}
-use Rattle.fs_rules.proofs.Entries.{lookup-insert_entry, sorted-insert_entry, sorted-remove_entry, is_equal}
+use Rattle.fs_rules.proofs.Entries.{lookup-insert_entry, sorted-insert_entry, sorted-remove_entry}
 use Rattle.fs_desk.proofs.KeyedLists.{at_key, put_by, at_key-put_by, at_key-without, at_key-filter, listed-put_by, listed-filter}
-use Rattle.fs_desk.proofs.Keys.{place_total, flow_key_total, place_same, key_same}
+use Rattle.fs_desk.proofs.Keys.{flow_key_total, place_same, key_same}
 
 reverse_eq : (r : Ordering) → is_eq (ordering_reverse r) ≡ is_eq r
 reverse_eq Less = refl
@@ -51,7 +53,7 @@ changes_taken peer prefix held place e = record {
   config_is = refl;
   listed = λ l. record { unicast = sorted-remove_entry place_cmp place_total (is_at (place_cmp place)) held.unicast l.unicast; flows = l.flows };
   unicast = λ l q.
-      lookup-remove_entry (eq_by_cmp_equiv place_total) (is_at (place_cmp place)) (λ x y h. ap is_eq (IsTotalOrder.congr place_total place x y (is_equal (place_cmp place x) h))) q held.unicast
+      lookup-remove_entry (eq_by_cmp_equiv place_total) (is_at (place_cmp place)) (λ x y h. ap is_eq (IsTotalOrder.congr place_total place x y (equal_of_is_eq (place_cmp place x) h))) q held.unicast
       (IsDistinct-from_sorted place_cmp (keys_of held.unicast) l.unicast)
       ∙ ap (λ (b : Bool). cond b None (unicast_at q held.unicast)) (place_swapped place q ∙ place_same q place)
       ∙ ap (λ (p : Place). cond (is_prefix q.prefix (shown p.prefix) && (q.peer == p.peer)) None (unicast_at q held.unicast)) e

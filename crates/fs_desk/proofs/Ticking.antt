@@ -1,17 +1,19 @@
 -- The clock at a peer: what was played still stands, unless its session closes by it.
-use Rattle.std.proofs.Common.{◌≡◌, ◌≢◌, ℕ, ◌==◌, List, [], Option, Some, None, if◌then◌else◌, refl, ap, sym, ◌∙◌, subst, inl, inr}
+use Rattle.std.proofs.Common.{◌≡◌, ◌≢◌, ℕ, ◌==◌, List, [], Option, Some, None, if◌then◌else◌, refl, ap, sym, ◌∙◌, subst}
 use Rattle.std.specs.Ordering.{nat_cmp}
 use Rattle.std.specs.Map.{set_value}
 use Rattle.std.specs.BTreeMap.{is_at}
 use Rattle.fs_base.specs.Config.{peer_of}
 use Rattle.fs_base.specs.declared.config.Config.{Config}
 use Rattle.fs_base.specs.declared.config.Peer.{Peer}
+use Rattle.fs_base.proofs.NumberTests.{eq_itself}
+use Rattle.fs_base.proofs.Bools.{if_true, if_false}
 use Rattle.fs_attrs.specs.declared.update.Update.{Update}
 use Rattle.fs_rules.specs.Changes.{Noted}
 use Rattle.fs_rules.specs.Table.{Held}
 use Rattle.fs_speaker.specs.declared.Closed.{Closed}
 use Rattle.fs_speaker.specs.declared.Closed.TheVariants.{Fault}
-use Rattle.fs_speaker.specs.declared.Standing.TheVariants.{Live as LiveIn, Ended}
+use Rattle.fs_speaker.specs.declared.Standing.TheVariants.{Ended, Live as LiveIn}
 use Rattle.fs_session.specs.declared.times.Tick.{Tick}
 use Rattle.fs_session.specs.declared.times.Tick.TheVariants.{Quiet, Keeps, Expires}
 use Rattle.fs_session.specs.declared.times.Times.{Times}
@@ -25,8 +27,7 @@ use Rattle.fs_desk.specs.Life.{life}
 use Rattle.fs_desk.specs.Limit.{bounded_from, bounded_replies_from}
 use Rattle.fs_desk.specs.Receive.{HasReplied, IsFed, IsUp}
 use Rattle.fs_desk.proofs.Follows.{follows_session}
-use Rattle.fs_desk.proofs.Played.{desk_of, session_value, sorted_value, cases_of, one_number}
-use Rattle.fs_desk.proofs.Updates.{chosen, not_chosen, itself}
+use Rattle.fs_desk.proofs.Played.{desk_of, session_value, sorted_value, each_peer}
 
 -- moments say nothing of what a session was fed with
 fed_timed : (config : Config) (peer : Peer) (octets : List ℕ) (session : Live) (times : Times) (why : Option Closed) (updates : List Update)
@@ -62,12 +63,9 @@ module _ (config : Config) (items : List Item) (n : ℕ) (session session' : Liv
     held_is = p.held_is;
     listed = p.listed;
     sessions = sorted_value n session' sessions sessions' s p.sessions;
-    each = λ m. elim (cases_of (m == n)) [
-      | inl e ↦ subst (λ (z : ℕ). PeerIs config (peer_of z config.peers) (life z items) (session_at z sessions') z table) (sym (one_number m n e)) own_is
-      | inr e ↦
-          subst (λ (x : Option Live). PeerIs config (peer_of m config.peers) (life m items) x m table)
-          (sym (session_value m n session session' sessions sessions' there s ∙ not_chosen (m == n) _ _ e)) (p.each m)
-    ];
+    each = each_peer (λ m. PeerIs config (peer_of m config.peers) (life m items) (session_at m sessions') m table) n own_is
+        (λ m e. subst (λ (x : Option Live). PeerIs config (peer_of m config.peers) (life m items) x m table)
+        (sym (session_value m n session session' sessions sessions' there s ∙ if_false (m == n) _ _ e)) (p.each m));
   }
     where
       by : (q : Option Peer) (l : Option (List ℕ)) → PeerIs config q l (Some session) n table → PeerIs config q l (Some session') n table
@@ -79,14 +77,9 @@ module _ (config : Config) (items : List Item) (n : ℕ) (session session' : Liv
       own_is : PeerIs config (peer_of n config.peers) (life n items) (session_at n sessions') n table
       own_is =
           subst (λ (x : Option Live). PeerIs config (peer_of n config.peers) (life n items) x n table)
-          (sym (session_value n n session session' sessions sessions' there s ∙ chosen (n == n) _ _ (itself n)))
+          (sym (session_value n n session session' sessions sessions' there s ∙ if_true (n == n) _ _ (eq_itself n)))
           (by (peer_of n config.peers) (life n items)
           (subst (λ (x : Option Live). PeerIs config (peer_of n config.peers) (life n items) x n table) there (p.each n)))
-
--- how it stood and how it stands, by the sessions
-stood : (noted : Noted) (n : ℕ) (session : Live) (sessions : List (ℕ × Live)) (own : Config) (table : Held) → session_at n sessions ≡ Some session
-    → standing_at_desk (desk_of own table noted sessions) n ≡ standing_by (Some session)
-stood noted n session sessions own table there = ap standing_by there
 
 never_ended : (session session' : Live) (why : Closed) → session.closed ≡ None → session'.closed ≡ Some why → standing_by (Some session') ≡ standing_by (Some session) → ⊥
 never_ended session session' why alive shut e = ended_not (sym by ∙ e ∙ was)
@@ -123,7 +116,7 @@ desk_ticked {noted} {noted'} config items n moment session session' own table ta
     untouched h config peer octets u = subst (λ (l : Live). IsUp config peer n octets l table) (sym h) u
 
     now_stands : standing_at_desk (desk_of own table' noted' sessions') n ≡ standing_by (Some session')
-    now_stands = ap standing_by (session_value n n session session' sessions sessions' there s ∙ chosen (n == n) _ _ (itself n))
+    now_stands = ap standing_by (session_value n n session session' sessions sessions' there s ∙ if_true (n == n) _ _ (eq_itself n))
 
     did_stand : standing_at_desk old n ≡ standing_by (Some session)
     did_stand = ap (λ (d : Desked). standing_at_desk d n) e ∙ ap standing_by there
@@ -210,7 +203,7 @@ pub desk_expires : (noted noted' : Noted) (n moment : ℕ) (session session' : L
 desk_expires noted noted' n moment session session' own table table' sessions sessions' old replies replies' e there ticks s other = by session.closed refl ticks
   where
     now_stands : standing_at_desk (desk_of own table' noted' sessions') n ≡ standing_by (Some session')
-    now_stands = ap standing_by (session_value n n session session' sessions sessions' there s ∙ chosen (n == n) _ _ (itself n))
+    now_stands = ap standing_by (session_value n n session session' sessions sessions' there s ∙ if_true (n == n) _ _ (eq_itself n))
 
     did_stand : standing_at_desk old n ≡ standing_by (Some session)
     did_stand = ap (λ (d : Desked). standing_at_desk d n) e ∙ ap standing_by there

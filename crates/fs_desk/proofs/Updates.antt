@@ -1,9 +1,11 @@
 -- What one more update leaves a peer holding, and what a change of the table leaves.
-use Rattle.std.proofs.Common.{◌≡◌, ◌==◌, ℕ, List, [], ◌∷◌, ◌++◌, Bool, true, false, ◌||◌, Option, Some, None, if◌then◌else◌, option_and_then, is_some, refl, ap, sym, ◌∙◌, true≢false, arith}
+use Rattle.std.proofs.Common.{◌≡◌, ◌==◌, ℕ, List, [], ◌∷◌, ◌++◌, Bool, true, false, ◌||◌, Option, Some, None, if◌then◌else◌, option_and_then, is_some, refl, ap, sym, ◌∙◌, arith}
 use Rattle.std.proofs.lemmas.Bool.Decides.{nat_tests}
 use Rattle.std.specs.List.{list_any}
 use Rattle.fs_base.specs.declared.path.Path.{Path}
 use Rattle.fs_base.specs.declared.prefix.Prefix.{Prefix}
+use Rattle.fs_base.proofs.NumberTests.{eq_itself}
+use Rattle.fs_base.proofs.Bools.{if_true, if_false}
 use Rattle.fs_nlri.specs.Parts.{Ruled}
 use Rattle.fs_nlri.specs.Rule.{shown}
 use Rattle.fs_attrs.specs.declared.update.Update.{Update}
@@ -85,29 +87,18 @@ flow_left-more rule updates update =
     ∙ told_rule (list_any (is_rule rule) (takes_rules update)) (rule_given rule update) update (last_such (tells_of_rule rule) updates)
     (λ u. option_and_then (given_with u) (rule_given rule u)) refl
 
-pub chosen : {A : Type 0} (b : Bool) (x y : A) → b ≡ true → (if b then x else y) ≡ x
-chosen true x y h = refl
-chosen false x y h = absurd (true≢false (sym h))
-
-pub not_chosen : {A : Type 0} (b : Bool) (x y : A) → b ≡ false → (if b then x else y) ≡ y
-not_chosen true x y h = absurd (true≢false h)
-not_chosen false x y h = refl
-
-pub itself : (n : ℕ) → (n == n) ≡ true
-itself n = grind (arith, nat_tests)
-
 -- the peer's next update
 pub left_more : (peer : ℕ) (updates : List Update) (update : Update) (old new : Held)
     → IsLeft peer updates old → Changes peer (told update) (told_of update) old new → IsListed old → IsLeft peer (updates ++ update ∷ []) new
 left_more peer updates update old new k t l = record {
   unicast = λ place h.
       t.unicast l place
-      ∙ chosen (place.peer == peer) _ _ h
+      ∙ if_true (place.peer == peer) _ _ h
       ∙ ap (told update place.prefix) (k.unicast place h)
       ∙ sym (unicast_left-more place.prefix updates update);
   flows = λ rule.
       t.flows l rule peer
-      ∙ chosen (peer == peer) _ _ (itself peer)
+      ∙ if_true (peer == peer) _ _ (eq_itself peer)
       ∙ ap (told_of update rule) (k.flows rule)
       ∙ sym (flow_left-more rule updates update);
 }
@@ -115,8 +106,8 @@ left_more peer updates update old new k t l = record {
 -- a peer of which nothing is held any more
 pub left_nothing : (peer : ℕ) (old new : Held) → Changes peer nothing nothing old new → IsListed old → IsLeft peer [] new
 left_nothing peer old new t l = record {
-  unicast = λ place h. t.unicast l place ∙ chosen (place.peer == peer) _ _ h;
-  flows = λ rule. t.flows l rule peer ∙ chosen (peer == peer) _ _ (itself peer);
+  unicast = λ place h. t.unicast l place ∙ if_true (place.peer == peer) _ _ h;
+  flows = λ rule. t.flows l rule peer ∙ if_true (peer == peer) _ _ (eq_itself peer);
 }
 
 -- a change at one peer leaves the others alone
@@ -125,8 +116,8 @@ pub spares_others : (peer : ℕ) (f : Prefix → Option Path → Option Path) (g
 spares_others peer f g old new t l = record {
   config_is = t.config_is;
   listed = t.listed l;
-  unicast = λ place h. t.unicast l place ∙ not_chosen (place.peer == peer) _ _ h;
-  flows = λ rule other h. t.flows l rule other ∙ not_chosen (other == peer) _ _ h;
+  unicast = λ place h. t.unicast l place ∙ if_false (place.peer == peer) _ _ h;
+  flows = λ rule other h. t.flows l rule other ∙ if_false (other == peer) _ _ h;
 }
 
 pub spares_none : (peer : ℕ) (held : Held) → IsListed held → Spares peer held held

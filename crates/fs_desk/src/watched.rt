@@ -91,8 +91,7 @@ impl<'a> WatchedTable<'a> {
     {
         let changes = &mut self.changes;
         self.table
-            .put_unicast_telling(peer, prefix, path, changes, steps)?;
-        Ok(())
+            .put_unicast_telling(peer, prefix, path, changes, steps)
     }
 
     /// Takes the peer's unicast route at the prefix away.
@@ -149,8 +148,7 @@ impl<'a> WatchedTable<'a> {
         ensures told { Tells self.old self.new }
         ensures idle { held_count peer self.old.held ≡ 0 → self.new.changes ≡ self.old.changes }
     {
-        if self.table.lose_telling(peer, steps) {
-            self.changes.note_all();
-        }
+        let changes = &mut self.changes;
+        self.table.lose_telling(peer, changes, steps);
     }
 }

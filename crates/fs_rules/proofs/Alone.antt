@@ -5,7 +5,8 @@ use Rattle.std.specs.Ordering.{ordering_then, is_gt}
 use Rattle.std.specs.Cmp.{tied_itself}
 use Rattle.std.proofs.lemmas.Bool.Decides.{nat_tests}
 use Rattle.std.proofs.lemmas.Option.{get_or_from_slice_get}
-use Rattle.fs_base.proofs.Lists.{each_weaker}
+use Rattle.fs_base.proofs.Bools.{false_of_not}
+use Rattle.fs_base.proofs.Lists.{each_of_map, each_weaker}
 use Rattle.fs_order.specs.Ranked.{rule_total}
 use Rattle.fs_unicast.specs.Preference.{preferred}
 use Rattle.fs_unicast.proofs.Best.{preference_total}
@@ -13,7 +14,7 @@ use Rattle.fs_rules.specs.Kept.{Kept}
 use Rattle.fs_rules.specs.Table.{key_cmp, is_valid, same_rule, beats}
 use Rattle.fs_rules.specs.Group.{routes_of, AreSorted, place_in, is_apart, is_beaten, is_before_rule}
 use Rattle.fs_rules.proofs.Stepping.{rest_is}
-use Rattle.fs_rules.proofs.Runs.{NotBefore, not_after_later, each_of_routes, run_ends, beaten_from, sorted-drop, starts_at, starts_first}
+use Rattle.fs_rules.proofs.Runs.{NotBefore, not_after_later, run_ends, beaten_from, sorted-drop, starts_at, starts_first}
 
 -- no route is preferred to itself
 itself : (k : Kept) (rest : Bool) → ((is_valid k.validity && beats k.route k.route) || rest) ≡ rest
@@ -34,13 +35,9 @@ not_before_itself k = ap (λ o. is_gt (ordering_then o (nat_cmp 0 k.route.peer))
 
 behind : (k : Kept) (rest : List Kept) → AreSorted (routes_of (k ∷ rest)) → is_apart k (slice_get rest 0) ≡ true → is_beaten rest k ≡ false
 behind k [] sorted h = refl
-behind k (s ∷ rest) sorted h = run_ends k s rest after sorted.1 (other (same_rule s.route k.route) h) where
-  other : (b : Bool) → not b ≡ true → b ≡ false
-  other true e = absurd (true≢false (sym e))
-  other false e = refl
-
+behind k (s ∷ rest) sorted h = run_ends k s rest after sorted.1 (false_of_not (same_rule s.route k.route) h) where
   after : AllByRecursion (NotBefore k) (s ∷ rest)
-  after = each_weaker (λ t. key_cmp k.route.rule k.route.peer t.route ≡ Less) (NotBefore k) (λ t less. not_after_later k k t (not_before_itself k) less) (s ∷ rest) (each_of_routes (λ t. key_cmp k.route.rule k.route.peer t ≡ Less) (s ∷ rest) sorted.0)
+  after = each_weaker (λ t. key_cmp k.route.rule k.route.peer t.route ≡ Less) (NotBefore k) (λ t less. not_after_later k k t (not_before_itself k) less) (s ∷ rest) (each_of_map (λ k. k.route) (λ t. key_cmp k.route.rule k.route.peer t ≡ Less) (s ∷ rest) sorted.0)
 
 first_left : (xs : List Kept) (n : ℕ) → slice_get (drop n xs) 0 ≡ slice_get xs n
 first_left [] zero = refl

@@ -8,7 +8,8 @@ use Rattle.std.proofs.lemmas.Map.Keys.{sorted_head, sorted_tail}
 use Rattle.fs_base.specs.declared.config.Config.{Config}
 use Rattle.fs_base.specs.declared.prefix.Prefix.{Prefix}
 use Rattle.fs_base.specs.Prefix.{prefix_cmp}
-use Rattle.fs_base.proofs.Lists.{each_weaker, each_both, filter-append, filter_all}
+use Rattle.fs_base.proofs.Bools.{true_of_not}
+use Rattle.fs_base.proofs.Lists.{each, each_weaker, each_both, filter-append, filter_all, each_filtered}
 use Rattle.fs_nlri.specs.Rule.{destination_prefix}
 use Rattle.fs_unicast.specs.Unicast.{Route}
 use Rattle.fs_rules.specs.Kept.{Kept}
@@ -16,19 +17,12 @@ use Rattle.fs_rules.specs.Group.{mended, retested, is_related_kept}
 use Rattle.fs_rules.specs.Groups.{Entry, kept_in, IsTo, ArePlaced, AreInOrder, IsGrouped, with_group, keep_at}
 use Rattle.fs_rules.specs.Listed.{Listed, lists, is_among, StaysListed, IsAmong, IsListed, keep_along}
 use Rattle.fs_rules.proofs.Apart.{each_front, each_back}
-use Rattle.fs_rules.proofs.Changed.{each-filter}
+use Rattle.fs_rules.proofs.Changed.{each-filtered}
 use Rattle.fs_rules.proofs.Takes.{kept_with, placed_at, each_at, sorted_at, other_keys, length-filter}
 
 module _ (keeps : Kept → Bool) where
   abbrev passes : Kept → Type 0
   passes k = keeps k ≡ true
-
-  passing : (ks : List Kept) → AllByRecursion passes (filter keeps ks)
-  passing [] = tt
-  passing (k ∷ ks) = at (keeps k) refl (passing ks) where
-    at : (b : Bool) → keeps k ≡ b → AllByRecursion passes (filter keeps ks) → AllByRecursion passes (cond b (k ∷ filter keeps ks) (filter keeps ks))
-    at true e ih = (e, ih)
-    at false e ih = ih
 
   along_sorted : (ds : List Prefix) (es : List Entry) → AreInOrder es → AreInOrder (keep_along ds keeps es)
   along_sorted [] es h = h
@@ -49,7 +43,7 @@ module _ (keeps : Kept → Bool) where
     at : (b : Bool) → filter keeps (kept_in (keep_at d keeps es) rest) ≡ filter keeps (kept_in es rest)
         → filter keeps (kept_in (cond b (with_group e.0 (filter keeps e.1) es) (e ∷ keep_at d keeps es)) rest) ≡ filter keeps (e.1 ++ kept_in es rest)
     at true ih = ap (filter keeps) (kept_with e.0 (filter keeps e.1) es rest) ∙ filter-append keeps (filter keeps e.1) (kept_in es rest)
-        ∙ ap (λ ks. ks ++ filter keeps (kept_in es rest)) (filter_all keeps (filter keeps e.1) (passing e.1)) ∙ sym (filter-append keeps e.1 (kept_in es rest))
+        ∙ ap (λ ks. ks ++ filter keeps (kept_in es rest)) (filter_all keeps (filter keeps e.1) (each-filtered (λ k. Unit {0}) passes keeps (λ k _ e. e) e.1 (each (λ k. Unit {0}) (λ k. tt) e.1))) ∙ sym (filter-append keeps e.1 (kept_in es rest))
     at false ih = filter-append keeps e.1 (kept_in (keep_at d keeps es) rest) ∙ ap (λ ks. filter keeps e.1 ++ ks) ih ∙ sym (filter-append keeps e.1 (kept_in es rest))
 
   left_along : (ds : List Prefix) (es : List Entry) (rest : List Kept) → filter keeps (kept_in (keep_along ds keeps es) rest) ≡ filter keeps (kept_in es rest)
@@ -78,7 +72,7 @@ module _ (keeps : Kept → Bool) where
   in_at d ds [] ordered h = tt
   in_at d ds (e ∷ es) ordered h = at (is_eq (prefix_cmp d e.0)) refl (in_at d ds es (sorted_tail prefix_cmp e.0 (keys_of es) ordered) h.1) where
     at : (b : Bool) → is_eq (prefix_cmp d e.0) ≡ b → AreIn ds (keep_at d keeps es) → AreIn ds (cond b (with_group e.0 (filter keeps e.1) es) (e ∷ keep_at d keeps es))
-    at true t ih = in_with ds e.0 (filter keeps e.1) es (each_weaker passes (IsIn ds e.0) (λ k y n. absurd (true≢false (sym y ∙ n))) (filter keeps e.1) (passing e.1))
+    at true t ih = in_with ds e.0 (filter keeps e.1) es (each_weaker passes (IsIn ds e.0) (λ k y n. absurd (true≢false (sym y ∙ n))) (filter keeps e.1) (each-filtered (λ k. Unit {0}) passes keeps (λ k _ e. e) e.1 (each (λ k. Unit {0}) (λ k. tt) e.1)))
         (fewer_each d ds es (other_keys d e.0 (keys_of es) t (sorted_head prefix_cmp e.0 (keys_of es) ordered)) h.1)
     at false t ih = (fewer d ds e.0 e.1 t h.0, ih)
 
@@ -115,7 +109,7 @@ module _ (keeps : Kept → Bool) where
   grouped_along ds es new rest left bound g h e f = record {
     ordered = subst AreInOrder (sym e) (along_sorted ds es g.ordered);
     placed = subst ArePlaced (sym e) (along_placed ds es g.placed);
-    bare = subst (AllByRecursion (IsTo None)) (sym f) (each-filter (IsTo None) keeps rest g.bare);
+    bare = subst (AllByRecursion (IsTo None)) (sym f) (each_filtered (IsTo None) keeps rest g.bare);
     most = let a : length (kept_in new left) ≡ length (filter keeps (kept_in es rest)) = ap length (kept_along ds es new rest left bound g h e f) in
         let b : length (filter keeps (kept_in es rest)) ≤ length (kept_in es rest) = length-filter keeps (kept_in es rest) in let c : length (kept_in es rest) ≤ bound = g.most in omega arith;
     small = g.small;
@@ -129,7 +123,7 @@ listed_still old new stays ks h = each_weaker (IsListed old) (IsListed new) (λ 
   at peer (Some p) l = stays peer p l
 
 pub listed_left : (listed : Listed) (keeps : Kept → Bool) (old new : List Kept) → new ≡ filter keeps old → AllByRecursion (IsListed listed) old → AllByRecursion (IsListed listed) new
-listed_left listed keeps old new e h = subst (AllByRecursion (IsListed listed)) (sym e) (each-filter (IsListed listed) keeps old h)
+listed_left listed keeps old new e h = subst (AllByRecursion (IsListed listed)) (sym e) (each_filtered (IsListed listed) keeps old h)
 
 mended_each : (listed : Listed) (p : Prefix) (unicast : List Route) (config : Config) (ks : List Kept) → AllByRecursion (IsListed listed) ks → AllByRecursion (IsListed listed) (map (mended p unicast config) ks)
 mended_each listed p unicast config [] h = tt
@@ -163,11 +157,7 @@ listed_others old now peer kept new stays e h = subst (AllByRecursion (IsListed 
 -- the destinations of the peer's routes are those that are handed out
 pub among_taken : (old : Listed) (peer : ℕ) (keys : List Prefix) (ks : List Kept) → ((d : Prefix) → lists old peer d ≡ true → is_among keys d ≡ true) → AllByRecursion (IsListed old) ks
     → AllByRecursion (λ k. not (k.route.peer == peer) ≡ false → IsAmong keys k) ks
-among_taken old peer keys ks taken h = each_weaker (IsListed old) (λ k. not (k.route.peer == peer) ≡ false → IsAmong keys k) (λ k l n. at k.route.peer (eqb-true k.route.peer peer (own (k.route.peer == peer) n)) (destination_prefix k.route.rule) l) ks h where
-  own : (b : Bool) → not b ≡ false → b ≡ true
-  own true n = refl
-  own false n = absurd (true≢false n)
-
+among_taken old peer keys ks taken h = each_weaker (IsListed old) (λ k. not (k.route.peer == peer) ≡ false → IsAmong keys k) (λ k l n. at k.route.peer (eqb-true k.route.peer peer (true_of_not (k.route.peer == peer) n)) (destination_prefix k.route.rule) l) ks h where
   at : (other : ℕ) → other ≡ peer → (d : Option Prefix) → MatchOption d (Unit {0}) (λ p. lists old other p ≡ true) → MatchOption d (Unit {0}) (λ p. is_among keys p ≡ true)
   at other e None l = tt
   at other e (Some p) l = taken p (subst (λ (n : ℕ). lists old n p ≡ true) e l)

@@ -1,5 +1,5 @@
 -- Rules of different destinations are in the order of these.
-use Rattle.std.proofs.Common.{ℕ, ◌≡◌, refl, sym, ap, ap₂, ◌∙◌, true, false, true≢false, List, [], ◌∷◌, ◌++◌, Option, Some, None, option_map, Ordering, Less, Equal, Greater, is_eq, nat_cmp, Result, Ok, Err, OnOk, OnErr}
+use Rattle.std.proofs.Common.{ℕ, zero, suc, drop, take, ◌≡◌, refl, sym, ap, ap₂, ◌∙◌, true, false, true≢false, List, [], ◌∷◌, ◌++◌, Option, Some, None, option_map, Ordering, Less, Equal, Greater, is_eq, nat_cmp, Result, Ok, Err, OnOk, OnErr}
 use Rattle.std.specs.List.{AllByRecursion}
 use Rattle.std.specs.Map.{keys_of}
 use Rattle.std.specs.Ordering.{ordering_then, ordering_reverse}
@@ -67,6 +67,16 @@ each_front P (x ∷ xs) ys h = (h.0, each_front P xs ys h.1)
 pub each_back : {X : Type 0} (P : X → Type 0) (xs ys : List X) → AllByRecursion P (xs ++ ys) → AllByRecursion P ys
 each_back P [] ys h = h
 each_back P (x ∷ xs) ys h = each_back P xs ys h.1
+
+pub take_each : {X : Type 0} (P : X → Type 0) (n : ℕ) (ks : List X) → AllByRecursion P ks → AllByRecursion P (take n ks)
+take_each P zero ks h = tt
+take_each P (suc n) [] h = tt
+take_each P (suc n) (k ∷ ks) h = (h.0, take_each P n ks h.1)
+
+pub drop_each : {X : Type 0} (P : X → Type 0) (n : ℕ) (ks : List X) → AllByRecursion P ks → AllByRecursion P (drop n ks)
+drop_each P zero ks h = h
+drop_each P (suc n) [] h = tt
+drop_each P (suc n) (k ∷ ks) h = drop_each P n ks h.1
 
 -- the routes of groups behind a destination, and those without one
 abbrev pub IsBehind : Option Prefix → Kept → Type 0

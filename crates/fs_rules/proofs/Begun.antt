@@ -5,6 +5,7 @@ use Rattle.std.specs.List.Sorted.{IsPartitionedBy}
 use Rattle.std.specs.Cmp.{tied_itself}
 use Rattle.std.specs.Ordering.{is_lt, is_gt, match_ordering, ordering_then, ordering_reverse}
 use Rattle.fs_base.proofs.Lists.{each_weaker}
+use Rattle.fs_base.proofs.Bools.{false_of_not}
 use Rattle.fs_nlri.specs.Parts.{Ruled}
 use Rattle.fs_order.specs.Comparison.{rule_cmp}
 use Rattle.fs_order.specs.Ranked.{rule_total}
@@ -25,14 +26,10 @@ each_in P (b ∷ bs) (suc n) d h all = each_in P bs n d (omega arith) (each_back
 not_lt : (rule : Ruled) (x : Kept) → rule_cmp x.route.rule rule ≡ Less → is_lt (rule_cmp rule x.route.rule) ≡ false
 not_lt rule x h = ap is_lt (rule_total.antisymm rule x.route.rule ∙ ap ordering_reverse h)
 
-not_true : (b : Bool) → not b ≡ true → b ≡ false
-not_true true h = absurd (true≢false (sym h))
-not_true false h = refl
-
 begins_earlier : (rule : Ruled) (b c : List Kept) → is_filled b ≡ true → AllByRecursion (λ x. AllByRecursion (RuleBefore x) c) b → begins_by rule c ≡ true → begins_by rule b ≡ true
 begins_earlier rule [] c f before h = absurd (true≢false (sym f))
 begins_earlier rule (x ∷ xs) [] f before h = absurd (true≢false (sym h))
-begins_earlier rule (x ∷ xs) (k ∷ ks) f before h = ap not (not_lt rule x (ahead_of rule x k before.0.0 (not_true (is_lt (rule_cmp rule k.route.rule)) h)))
+begins_earlier rule (x ∷ xs) (k ∷ ks) f before h = ap not (not_lt rule x (ahead_of rule x k before.0.0 (false_of_not (is_lt (rule_cmp rule k.route.rule)) h)))
 
 pub begun_parts : (rule : Ruled) (bs : List (List Kept)) → AreCut bs → AllByRecursion (λ b. is_filled b ≡ true) bs → IsPartitionedBy (begins_by rule) bs
 begun_parts rule [] cut f i j d h k = absurd (omega arith)

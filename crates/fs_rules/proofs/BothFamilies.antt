@@ -1,5 +1,6 @@
 -- The routes of IPv4 stand before those of IPv6.
-use Rattle.std.proofs.Common.{ℕ, ◌≡◌, ◌+◌, ◌≤◌, refl, sym, ap, ap₂, subst, ◌∙◌, Bool, true, false, true≢false, not, ◌&&◌, ◌||◌, ◌==◌, cond, List, [], ◌∷◌, ◌++◌, filter, map, nat_cmp, is_eq, Result, Ok, Err, OnOk, OnErr, arith}
+use Rattle.std.proofs.Common.{ℕ, ◌≡◌, ◌+◌, sym, ap, ap₂, subst, ◌∙◌, Bool, true, false, not, ◌&&◌, ◌==◌, cond, List, [], ◌∷◌, ◌++◌, filter, map, nat_cmp, is_eq, Result, Ok, Err, OnOk, OnErr, arith}
+use Rattle.std.proofs.lemmas.List.{append-nil, map-append}
 use Rattle.std.specs.List.{list_any, AllByRecursion}
 use Rattle.std.specs.Ordering.{ordering_then}
 use Rattle.fs_base.specs.Bits.{afi_of}
@@ -8,23 +9,27 @@ use Rattle.fs_base.specs.declared.prefix.Family.{Family}
 use Rattle.fs_base.specs.declared.prefix.Family.TheVariants.{V4, V6}
 use Rattle.fs_base.specs.declared.prefix.Prefix.{Prefix}
 use Rattle.fs_base.proofs.Bools.{and_first}
-use Rattle.fs_base.proofs.Lists.{each_weaker, each_append, filter-append, filter_all, filter_none, each_none}
+use Rattle.fs_base.proofs.Lists.{each_weaker, each_append, filter-append, filter_all, filter_none, each_filtered}
+use Rattle.fs_base.proofs.Covers.{same_family_of}
 use Rattle.fs_nlri.specs.Parts.{Ruled}
 use Rattle.fs_nlri.specs.Rule.{IsRule}
 use Rattle.fs_order.specs.Comparison.{parts_cmp}
 use Rattle.fs_unicast.specs.Unicast.{Route}
 use Rattle.fs_rules.specs.Kept.{Kept}
 use Rattle.fs_rules.specs.Table.{is_key, is_of_family, is_valid, related_count}
-use Rattle.fs_rules.specs.Group.{AreSorted, routes_of, put_kept, mended, retested, is_related_kept, related_kept, is_beaten, is_chosen, chosen}
-use Rattle.fs_rules.specs.Groups.{IsSound}
+use Rattle.fs_rules.specs.Changes.{Noted}
+use Rattle.fs_rules.specs.Group.{AreSorted, routes_of, put_kept, mended, retested, is_related_kept, is_beaten, is_chosen, chosen, of_family}
+use Rattle.fs_rules.specs.Groups.{Entry, IsSound}
+use Rattle.fs_rules.specs.Reading.{AreLent}
+use Rattle.fs_rules.specs.Search.{MendsKept}
 use Rattle.fs_rules.specs.Flows.{AreOfFamilies}
 use Rattle.fs_rules.specs.Blocks.{AllBefore, RuleBefore}
 use Rattle.fs_rules.proofs.Apart.{families_before}
 use Rattle.fs_rules.proofs.InParts.{chosen-append}
-use Rattle.fs_rules.proofs.Changed.{each-filter, each-put, related_is_count}
+use Rattle.fs_rules.proofs.Changed.{any_back, any_front, each-filtered, each-put, left_back, left_front}
+use Rattle.fs_rules.proofs.Mending.{marked_families}
 use Rattle.fs_rules.proofs.Placing.{related-append}
 use Rattle.fs_rules.proofs.Puts.{put_left, put_right, sorted_front, sorted_back}
-use Rattle.fs_rules.proofs.Takes.{any-append, all_pass}
 
 before_each : (xs ys : List Kept) → AreOfFamilies xs ys → AllBefore xs ys
 before_each xs ys h = each_weaker (IsSound V4) (λ x. AllByRecursion (RuleBefore x) ys) (λ x s. each_weaker (IsSound V6) (RuleBefore x) (λ y t. families_before x y s t) ys h.second) xs h.first
@@ -53,24 +58,20 @@ none_second rule peer ys h g = each_weaker (IsSound V6) (λ k. is_key rule peer 
 none_first : (rule : Ruled) (peer : ℕ) (xs : List Kept) → rule.family ≡ V6 → AllByRecursion (IsSound V4) xs → AllByRecursion (λ k. is_key rule peer k.route ≡ false) xs
 none_first rule peer xs h g = each_weaker (IsSound V4) (λ k. is_key rule peer k.route ≡ false) (λ k s. ap₂ (test_at rule peer k) h s.family) xs g
 
-pub take_first : (rule : Ruled) (peer : ℕ) (xs ys : List Kept) → IsRule rule → rule.family ≡ V4 → AreOfFamilies xs ys → filter (λ k. not (is_key rule peer k.route)) xs ++ ys ≡ filter (λ k. not (is_key rule peer k.route)) (xs ++ ys)
-take_first rule peer xs ys normal h g = ap (λ zs. filter (λ k. not (is_key rule peer k.route)) xs ++ zs) (sym (all_pass rule peer normal ys (none_second rule peer ys h g.second))) ∙ sym (filter-append (λ k. not (is_key rule peer k.route)) xs ys)
+pub take_first : (rule : Ruled) (peer : ℕ) (xs ys : List Kept) → rule.family ≡ V4 → AreOfFamilies xs ys → filter (λ k. not (is_key rule peer k.route)) xs ++ ys ≡ filter (λ k. not (is_key rule peer k.route)) (xs ++ ys)
+take_first rule peer xs ys h g = left_front (λ k. is_key rule peer k.route) xs ys (none_second rule peer ys h g.second)
 
-pub take_second : (rule : Ruled) (peer : ℕ) (xs ys : List Kept) → IsRule rule → rule.family ≡ V6 → AreOfFamilies xs ys → xs ++ filter (λ k. not (is_key rule peer k.route)) ys ≡ filter (λ k. not (is_key rule peer k.route)) (xs ++ ys)
-take_second rule peer xs ys normal h g = ap (λ zs. zs ++ filter (λ k. not (is_key rule peer k.route)) ys) (sym (all_pass rule peer normal xs (none_first rule peer xs h g.first))) ∙ sym (filter-append (λ k. not (is_key rule peer k.route)) xs ys)
+pub take_second : (rule : Ruled) (peer : ℕ) (xs ys : List Kept) → rule.family ≡ V6 → AreOfFamilies xs ys → xs ++ filter (λ k. not (is_key rule peer k.route)) ys ≡ filter (λ k. not (is_key rule peer k.route)) (xs ++ ys)
+take_second rule peer xs ys h g = left_back (λ k. is_key rule peer k.route) xs ys (none_first rule peer xs h g.first)
 
-or_none : (a b : Bool) → b ≡ false → a ≡ (a || b)
-or_none true b h = refl
-or_none false b h = sym h
+pub held_first : (rule : Ruled) (peer : ℕ) (xs ys : List Kept) → rule.family ≡ V4 → AreOfFamilies xs ys → list_any (λ k. is_key rule peer k.route) xs ≡ list_any (λ k. is_key rule peer k.route) (xs ++ ys)
+held_first rule peer xs ys h g = any_front (λ k. is_key rule peer k.route) xs ys (none_second rule peer ys h g.second)
 
-pub held_first : (rule : Ruled) (peer : ℕ) (xs ys : List Kept) → IsRule rule → rule.family ≡ V4 → AreOfFamilies xs ys → list_any (λ k. is_key rule peer k.route) xs ≡ list_any (λ k. is_key rule peer k.route) (xs ++ ys)
-held_first rule peer xs ys normal h g = or_none (list_any (λ k. is_key rule peer k.route) xs) (list_any (λ k. is_key rule peer k.route) ys) (each_none (λ k. is_key rule peer k.route) ys (none_second rule peer ys h g.second)) ∙ sym (any-append rule peer normal xs ys)
-
-pub held_second : (rule : Ruled) (peer : ℕ) (xs ys : List Kept) → IsRule rule → rule.family ≡ V6 → AreOfFamilies xs ys → list_any (λ k. is_key rule peer k.route) ys ≡ list_any (λ k. is_key rule peer k.route) (xs ++ ys)
-held_second rule peer xs ys normal h g = ap (λ b. b || list_any (λ k. is_key rule peer k.route) ys) (sym (each_none (λ k. is_key rule peer k.route) xs (none_first rule peer xs h g.first))) ∙ sym (any-append rule peer normal xs ys)
+pub held_second : (rule : Ruled) (peer : ℕ) (xs ys : List Kept) → rule.family ≡ V6 → AreOfFamilies xs ys → list_any (λ k. is_key rule peer k.route) ys ≡ list_any (λ k. is_key rule peer k.route) (xs ++ ys)
+held_second rule peer xs ys h g = any_back (λ k. is_key rule peer k.route) xs ys (none_first rule peer xs h g.first)
 
 pub filtered : (keeps : Kept → Bool) (f : Family) (old new : List Kept) → new ≡ filter keeps old → AllByRecursion (IsSound f) old → AllByRecursion (IsSound f) new
-filtered keeps f old new e h = subst (AllByRecursion (IsSound f)) (sym e) (each-filter (IsSound f) keeps old h)
+filtered keeps f old new e h = subst (AllByRecursion (IsSound f)) (sym e) (each_filtered (IsSound f) keeps old h)
 
 mended_sound : (f : Family) (p : Prefix) (unicast : List Route) (config : Config) (ks : List Kept) → AllByRecursion (IsSound f) ks → AllByRecursion (IsSound f) (map (mended p unicast config) ks)
 mended_sound f p unicast config [] h = tt
@@ -82,16 +83,18 @@ mended_sound f p unicast config (k ∷ ks) h = (at (is_related_kept p k), mended
 pub mended_now : (f : Family) (p : Prefix) (unicast : List Route) (config : Config) (old new : List Kept) → new ≡ map (mended p unicast config) old → AllByRecursion (IsSound f) old → AllByRecursion (IsSound f) new
 mended_now f p unicast config old new e h = subst (AllByRecursion (IsSound f)) (sym e) (mended_sound f p unicast config old h)
 
-pub steps_both : (p : Prefix) (xs ys now : List Kept) (before between after : ℕ) → xs ++ ys ≡ now → between ≤ before + related_kept p xs → after ≤ between + related_kept p ys → after ≤ before + related_count p (routes_of now)
-steps_both p xs ys now before between after v h k = subst (λ n. after ≤ before + n) (related_is_count p (xs ++ ys) ∙ ap (λ ks. related_count p (routes_of ks)) v) sums where
-  sums : after ≤ before + related_kept p (xs ++ ys)
-  sums = let e : related_kept p (xs ++ ys) ≡ related_kept p xs + related_kept p ys = related-append p xs ys in omega arith
+-- one family behind the other
+pub mends_families : (p : Prefix) (unicast : List Route) (config : Config) (xs ys xs' ys' : List Kept) (noted between more : Noted) (before amid after : ℕ) → MendsKept p unicast config xs xs' noted between before amid → MendsKept p unicast config ys ys' between more amid after
+    → MendsKept p unicast config (xs ++ ys) (xs' ++ ys') noted more before after
+mends_families p unicast config xs ys xs' ys' noted between more before amid after h k = record {
+  kept = ap₂ (λ a b. a ++ b) h.kept k.kept ∙ sym (map-append (mended p unicast config) xs ys);
+  stays = λ rule n. k.stays rule (h.stays rule n);
+  marked = marked_families unicast config p xs ys between more k.stays h.marked k.marked;
+  later = omega (arith, h.later, k.later);
+  steps = let e : related_count p (routes_of (xs ++ ys)) ≡ related_count p (routes_of xs) + related_count p (routes_of ys) = related-append p xs ys in omega (arith, h.steps, k.steps);
+}
 
 -- What is read of a family.
-append_nothing : {X : Type 0} (xs : List X) → xs ++ [] ≡ xs
-append_nothing [] = refl
-append_nothing (x ∷ xs) = ap (λ ys. x ∷ ys) (append_nothing xs)
-
 of_other : (family f g : Family) (k : Kept) → family ≡ f → IsSound g k → is_of_family family k.route ≡ (afi_of g == afi_of f)
 of_other family f g k h s = ap₂ (λ a b. afi_of a == afi_of b) s.family h
 
@@ -100,32 +103,18 @@ not_chosen family ks k h = ap (λ b. b && (is_valid k.validity && not (is_beaten
 
 pub chosen_first : (family : Family) (xs ys : List Kept) → family ≡ V4 → AreOfFamilies xs ys → chosen family xs ≡ chosen family (xs ++ ys)
 chosen_first family xs ys h g = sym (chosen-append family xs ys (before_each xs ys g)
-    ∙ ap (λ zs. chosen family xs ++ zs) (filter_none (is_chosen family ys) ys (each_weaker (IsSound V6) (λ k. is_chosen family ys k ≡ false) (λ k s. not_chosen family ys k (of_other family V4 V6 k h s)) ys g.second)) ∙ append_nothing (chosen family xs))
+    ∙ ap (λ zs. chosen family xs ++ zs) (filter_none (is_chosen family ys) ys (each_weaker (IsSound V6) (λ k. is_chosen family ys k ≡ false) (λ k s. not_chosen family ys k (of_other family V4 V6 k h s)) ys g.second)) ∙ append-nil (chosen family xs))
 
 pub chosen_second : (family : Family) (xs ys : List Kept) → family ≡ V6 → AreOfFamilies xs ys → chosen family ys ≡ chosen family (xs ++ ys)
 chosen_second family xs ys h g = sym (chosen-append family xs ys (before_each xs ys g)
     ∙ ap (λ zs. zs ++ chosen family ys) (filter_none (is_chosen family xs) xs (each_weaker (IsSound V4) (λ k. is_chosen family xs k ≡ false) (λ k s. not_chosen family xs k (of_other family V6 V4 k h s)) xs g.first)))
 
-same_family : (f g : Family) → (afi_of f == afi_of g) ≡ true → f ≡ g
-same_family V4 V4 h = refl
-same_family V4 V6 h = absurd (true≢false (sym h))
-same_family V6 V4 h = absurd (true≢false (sym h))
-same_family V6 V6 h = refl
-
 sound_where : (family g : Family) (k : Kept) → IsSound g k → is_of_family family k.route ≡ true → IsSound family k
-sound_where family g k s h = record { family = s.family ∙ same_family g family (sym (ap (λ f. afi_of f == afi_of family) s.family) ∙ h); rule = s.rule }
+sound_where family g k s h = record { family = s.family ∙ same_family_of g family (sym (ap (λ f. afi_of f == afi_of family) s.family) ∙ h); rule = s.rule }
 
 -- what is chosen of a family has rules of it
-chosen_sound : (family : Family) (all ks : List Kept) → AllByRecursion (λ k. is_of_family family k.route ≡ true → IsSound family k) ks → AllByRecursion (IsSound family) (filter (is_chosen family all) ks)
-chosen_sound family all [] h = tt
-chosen_sound family all (k ∷ ks) h = at (is_chosen family all k) refl (chosen_sound family all ks h.1) where
-  at : (b : Bool) → is_chosen family all k ≡ b → AllByRecursion (IsSound family) (filter (is_chosen family all) ks)
-      → AllByRecursion (IsSound family) (cond b (k ∷ filter (is_chosen family all) ks) (filter (is_chosen family all) ks))
-  at true e ih = (h.0 (and_first (is_of_family family k.route) (is_valid k.validity && not (is_beaten all k)) e), ih)
-  at false e ih = ih
-
 pub chosen_each : (family : Family) (xs ys now : List Kept) → xs ++ ys ≡ now → AreOfFamilies xs ys → AllByRecursion (IsSound family) (chosen family now)
-chosen_each family xs ys now e h = subst (λ ks. AllByRecursion (IsSound family) (chosen family ks)) e (chosen_sound family (xs ++ ys) (xs ++ ys)
+chosen_each family xs ys now e h = subst (λ ks. AllByRecursion (IsSound family) (chosen family ks)) e (each-filtered (λ k. is_of_family family k.route ≡ true → IsSound family k) (IsSound family) (is_chosen family (xs ++ ys)) (λ k h e. h (and_first (is_of_family family k.route) (is_valid k.validity && not (is_beaten (xs ++ ys) k)) e)) (xs ++ ys)
     (each_append (λ k. is_of_family family k.route ≡ true → IsSound family k) xs ys
     (each_weaker (IsSound V4) (λ k. is_of_family family k.route ≡ true → IsSound family k) (λ k s. sound_where family V4 k s) xs h.first)
     (each_weaker (IsSound V6) (λ k. is_of_family family k.route ≡ true → IsSound family k) (λ k s. sound_where family V6 k s) ys h.second)))
@@ -133,12 +122,19 @@ chosen_each family xs ys now e h = subst (λ ks. AllByRecursion (IsSound family)
 pub family_first : (family : Family) (xs ys : List Kept) → family ≡ V4 → AreOfFamilies xs ys → xs ≡ filter (λ k. is_of_family family k.route) (xs ++ ys)
 family_first family xs ys h g = sym (filter-append (λ k. is_of_family family k.route) xs ys
     ∙ ap₂ (λ a b. a ++ b) (filter_all (λ k. is_of_family family k.route) xs (each_weaker (IsSound V4) (λ k. is_of_family family k.route ≡ true) (λ k s. of_other family V4 V4 k h s) xs g.first))
-    (filter_none (λ k. is_of_family family k.route) ys (each_weaker (IsSound V6) (λ k. is_of_family family k.route ≡ false) (λ k s. of_other family V4 V6 k h s) ys g.second)) ∙ append_nothing xs)
+    (filter_none (λ k. is_of_family family k.route) ys (each_weaker (IsSound V6) (λ k. is_of_family family k.route ≡ false) (λ k s. of_other family V4 V6 k h s) ys g.second)) ∙ append-nil xs)
 
 pub family_second : (family : Family) (xs ys : List Kept) → family ≡ V6 → AreOfFamilies xs ys → ys ≡ filter (λ k. is_of_family family k.route) (xs ++ ys)
 family_second family xs ys h g = sym (filter-append (λ k. is_of_family family k.route) xs ys
     ∙ ap₂ (λ a b. a ++ b) (filter_none (λ k. is_of_family family k.route) xs (each_weaker (IsSound V4) (λ k. is_of_family family k.route ≡ false) (λ k s. of_other family V6 V4 k h s) xs g.first))
     (filter_all (λ k. is_of_family family k.route) ys (each_weaker (IsSound V6) (λ k. is_of_family family k.route ≡ true) (λ k s. of_other family V6 V6 k h s) ys g.second)))
+
+pub sound_at : (family f : Family) → family ≡ f → (ks : List Kept) → AllByRecursion (IsSound f) ks → AllByRecursion (IsSound family) ks
+sound_at family f e ks h = subst (λ g. AllByRecursion (IsSound g) ks) (sym e) h
+
+-- what is lent of one family's routes tells of all
+pub lent_family : (family : Family) (ks now : List Kept) (es : List Entry) (rest : List Kept) → chosen family ks ≡ chosen family now → ks ≡ of_family family now → AreLent family (chosen family ks) ks es rest → AreLent family (chosen family now) (of_family family now) es rest
+lent_family family ks now es rest e f lent = subst (λ held. AreLent family (chosen family now) held es rest) f (subst (λ admits. AreLent family admits ks es rest) e lent)
 
 pub sorted_first : (xs ys now : List Kept) → xs ++ ys ≡ now → AreSorted (routes_of now) → AreSorted (routes_of xs)
 sorted_first xs ys now e h = sorted_front xs ys (subst (λ ks. AreSorted (routes_of ks)) (sym e) h)

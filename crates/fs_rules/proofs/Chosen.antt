@@ -10,7 +10,7 @@ use Rattle.fs_validate.specs.declared.route.FlowRoute.{FlowRoute}
 use Rattle.fs_rules.specs.Kept.{Kept}
 use Rattle.fs_rules.specs.Table.{Held, is_of_family, is_valid, beats, is_most_preferred, admitted}
 use Rattle.fs_rules.specs.Lent.{Judged, judged, listed, held_flows}
-use Rattle.fs_rules.specs.Lists.{judgement}
+use Rattle.fs_rules.specs.Lists.{judgement, listing}
 use Rattle.fs_rules.specs.Group.{routes_of, AreRight, Keeps, is_chosen, chosen, mended}
 use Rattle.fs_rules.proofs.Changed.{routes-filter, AgreeOff, keeps-mended, agree_insert, agree_remove}
 use Rattle.std.specs.BTreeMap.{insert_entry, is_at}
@@ -55,14 +55,10 @@ pub map-map : {X Y Z : Type 0} (f : X → Y) (g : Y → Z) (xs : List X) → map
 map-map f g [] = refl
 map-map f g (x ∷ xs) = ap (λ ys. g (f x) ∷ ys) (map-map f g xs)
 
-pub length-routes : (ks : List Kept) → length ks ≡ length (routes_of ks)
-length-routes [] = refl
-length-routes (k ∷ ks) = ap suc (length-routes ks)
-
-pub get-map : {X Y : Type 0} (f : X → Y) (xs : List X) (n : ℕ) → option_map f (slice_get xs n) ≡ slice_get (map f xs) n
-get-map f [] n = refl
-get-map f (x ∷ xs) zero = refl
-get-map f (x ∷ xs) (suc n) = get-map f xs n
+pub get-routes : (ks : List Kept) (n : ℕ) → option_map listing (slice_get ks n) ≡ option_map listed (slice_get (routes_of ks) n)
+get-routes [] n = refl
+get-routes (k ∷ ks) zero = refl
+get-routes (k ∷ ks) (suc n) = get-routes ks n
 
 -- the validities of the held routes of a family
 marked_is : (family : Family) (config : Config) (unicast : List Route) (flows : List FlowRoute) (ks : List Kept) → AreRight unicast config ks
@@ -94,7 +90,3 @@ agree_taken place old new e = subst (AgreeOff place.prefix old) (sym e) (agree_r
 pub ok_along : {T E A : Type 0} (f : T → A) (a b : A) (r : Result T E) → a ≡ b → IfOk r (λ t. f t ≡ a) → IfOk r (λ t. f t ≡ b)
 ok_along f a b (Ok t) e h = h ∙ e
 ok_along f a b (Err x) e h = tt
-
-pub listed_is : (family : Family) (config : Config) (unicast : List Route) (ks : List Kept) (now : Held) → Keeps config unicast ks → held_of config unicast (routes_of ks) ≡ now
-    → map (λ k. listed k.route) (chosen family ks) ≡ map listed (admitted family now)
-listed_is family config unicast ks now keeps v = map-map (λ k. k.route) listed (chosen family ks) ∙ ap (map listed) (admitted_is family config unicast ks now keeps v)

@@ -1,7 +1,6 @@
 -- Each rule that has a valid route has a most preferred one.
-use Rattle.std.proofs.Common.{ℕ, ◌≡◌, refl, sym, ap, subst, ◌∙◌, Bool, true, false, true≢false, not, ◌&&◌, ◌||◌, ◌==◌, filter, map, List, [], ◌∷◌, Ordering, Less, Equal, Greater, is_eq, is_lt, nat_cmp, arith}
+use Rattle.std.proofs.Common.{ℕ, ◌≡◌, refl, sym, ap, ◌∙◌, Bool, true, false, true≢false, not, ◌&&◌, ◌||◌, ◌==◌, filter, map, List, [], ◌∷◌, Less, Equal, is_eq, is_lt, nat_cmp, arith}
 use Rattle.std.specs.List.{list_any, AllByRecursion}
-use Rattle.std.specs.Ordering.{ordering_then}
 use Rattle.std.specs.Cmp.{tied_itself, tied_back}
 use Rattle.std.proofs.lemmas.Bool.Decides.{nat_tests}
 use Rattle.fs_base.specs.declared.prefix.Family.{Family}
@@ -9,6 +8,7 @@ use Rattle.fs_base.specs.Bits.{afi_of}
 use Rattle.fs_base.specs.declared.path.Path.{Path}
 use Rattle.fs_base.proofs.Bools.{or_first, or_second, and_both, and_first, and_second, false_from}
 use Rattle.fs_base.proofs.Lists.{each_weaker, each_mapped, none_each, each_none, any_filter}
+use Rattle.fs_base.proofs.Orderings.{equal_of_is_eq, less_of_is_lt}
 use Rattle.fs_order.specs.Comparison.{rule_cmp}
 use Rattle.fs_order.specs.Ranked.{rule_total}
 use Rattle.fs_unicast.specs.Preference.{preference_cmp, preferred}
@@ -17,6 +17,7 @@ use Rattle.fs_rules.specs.Table.{Held, is_of_family, stands, same_rule, beats, i
 use Rattle.fs_rules.specs.Group.{AreSorted}
 use Rattle.fs_rules.specs.Lent.{judged, judged_cmp, AreRising, held_flows}
 use Rattle.fs_rules.proofs.Changed.{sorted-filter}
+use Rattle.fs_order.proofs.Same.{first_equal}
 use Rattle.fs_unicast.proofs.Best.{preference_total}
 use Rattle.fs_rules.proofs.Orders.{admitted_ordered}
 
@@ -28,16 +29,11 @@ record IsBest (q : FlowRoute → Bool) (xs : List FlowRoute) (m : FlowRoute) : T
   pub passes : q m ≡ true
   pub best : AllByRecursion (λ t. q t ≡ true → preferred (seen t) (seen m) ≡ false) xs
 
-less_is : (o : Ordering) → is_lt o ≡ true → o ≡ Less
-less_is Less h = refl
-less_is Equal h = absurd (true≢false (sym h))
-less_is Greater h = absurd (true≢false (sym h))
-
 not_itself : (m : FlowRoute) → preferred (seen m) (seen m) ≡ false
 not_itself m = ap is_lt (tied_itself preference_total (seen m))
 
 preferred_trans : (t x m : FlowRoute) → preferred (seen t) (seen x) ≡ true → preferred (seen x) (seen m) ≡ true → preferred (seen t) (seen m) ≡ true
-preferred_trans t x m h k = ap is_lt (preference_total.trans (seen t) (seen x) (seen m) (less_is (preference_cmp (seen t) (seen x)) h) (less_is (preference_cmp (seen x) (seen m)) k))
+preferred_trans t x m h k = ap is_lt (preference_total.trans (seen t) (seen x) (seen m) (less_of_is_lt (preference_cmp (seen t) (seen x)) h) (less_of_is_lt (preference_cmp (seen x) (seen m)) k))
 
 -- a best one is among those that pass
 abbrev Found : (FlowRoute → Bool) → List FlowRoute → Type 0
@@ -65,22 +61,12 @@ best_of_list q (x ∷ xs) h = at (list_any q xs) refl (q x) refl h (best_of_list
   at false e true f k ih = alone e f
   at false e false f k ih = absurd (true≢false (sym k))
 
-equal_is : (o : Ordering) → is_eq o ≡ true → o ≡ Equal
-equal_is Less h = absurd (true≢false (sym h))
-equal_is Equal h = refl
-equal_is Greater h = absurd (true≢false (sym h))
-
 -- the same rule is of the same family
-first_part : (o p : Ordering) → ordering_then o p ≡ Equal → o ≡ Equal
-first_part Less p h = h
-first_part Equal p h = refl
-first_part Greater p h = h
-
 same_number : (m n k : ℕ) → nat_cmp m n ≡ Equal → (m == k) ≡ true → (n == k) ≡ true
 same_number m n k h e = grind (arith, nat_tests)
 
 same_family : (family : Family) (r s : FlowRoute) → same_rule r s ≡ true → is_of_family family r ≡ true → is_of_family family s ≡ true
-same_family family r s h e = same_number (afi_of r.rule.family) (afi_of s.rule.family) (afi_of family) (first_part (nat_cmp (afi_of r.rule.family) (afi_of s.rule.family)) _ (equal_is (rule_cmp r.rule s.rule) h)) e
+same_family family r s h e = same_number (afi_of r.rule.family) (afi_of s.rule.family) (afi_of family) (first_equal (nat_cmp (afi_of r.rule.family) (afi_of s.rule.family)) _ (equal_of_is_eq (rule_cmp r.rule s.rule) h)) e
 
 module _ (family : Family) (held : Held) where
   has_entry : (r : FlowRoute) → (is_of_family family r && stands held r) ≡ true → list_any (λ t. stands held t && same_rule r t) held.flows ≡ true → list_any (same_rule r) (admitted family held) ≡ true
@@ -99,7 +85,7 @@ module _ (family : Family) (held : Held) where
       unbeaten : AllByRecursion (λ t. (stands held t && beats t m) ≡ false) held.flows
       unbeaten = each_weaker (λ t. (stands held t && same_rule r t) ≡ true → preferred (seen t) (seen m) ≡ false) (λ t. (stands held t && beats t m) ≡ false) (λ t k. false_from (stands held t && beats t m) (λ b. true≢false (sym (and_second (same_rule t m) (preferred (seen t) (seen m)) (and_second (stands held t) (beats t m) b)) ∙ k (and_both (stands held t) (same_rule r t) (and_first (stands held t) (beats t m) b) (through t (and_first (same_rule t m) (preferred (seen t) (seen m)) (and_second (stands held t) (beats t m) b))))))) held.flows found.1.best where
         through : (t : FlowRoute) → same_rule t m ≡ true → same_rule r t ≡ true
-        through t k = ap is_eq (rule_total.congr r.rule m.rule t.rule (equal_is (rule_cmp r.rule m.rule) same) ∙ tied_back rule_total t.rule m.rule (equal_is (rule_cmp t.rule m.rule) k))
+        through t k = ap is_eq (rule_total.congr r.rule m.rule t.rule (equal_of_is_eq (rule_cmp r.rule m.rule) same) ∙ tied_back rule_total t.rule m.rule (equal_of_is_eq (rule_cmp t.rule m.rule) k))
 
       most : is_most_preferred held m ≡ true
       most = and_both (stands held m) (not (list_any (λ t. stands held t && beats t m) held.flows)) (and_first (stands held m) (same_rule r m) found.1.passes) (ap not (each_none (λ t. stands held t && beats t m) held.flows unbeaten))
@@ -118,9 +104,6 @@ is_admitted_list family held sorted = record {
   each_rule = each_there (λ r. (is_of_family family r && stands held r) ≡ true → list_any (same_rule r) (admitted family held) ≡ true) held.flows (λ r there e. has_entry family held r e (there (λ t. stands held t && same_rule r t) (itself family held r e)));
   ordered = admitted_ordered family held sorted;
 }
-
-pub sorted_now : (flows : List FlowRoute) (held : Held) → AreSorted flows → flows ≡ held.flows → AreSorted held.flows
-sorted_now flows held h e = subst AreSorted e h
 
 -- the held flow routes of a family stand in order
 judged_rising : (held : Held) (rs : List FlowRoute) → AreSorted rs → AreRising (map (judged held) rs)

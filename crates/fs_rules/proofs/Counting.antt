@@ -13,6 +13,8 @@ use Rattle.fs_base.specs.declared.path.Path.{Path}
 use Rattle.fs_base.specs.declared.prefix.Prefix.{Prefix}
 use Rattle.fs_base.specs.Prefix.{prefix_cmp}
 use Rattle.fs_base.proofs.Lists.{each, each_weaker, each_none, filter_all}
+use Rattle.fs_base.proofs.NumberTests.{eq_itself}
+use Rattle.fs_base.proofs.Orderings.{equal_of_is_eq, is_eq_of_nats}
 use Rattle.fs_nlri.specs.Parts.{Ruled}
 use Rattle.fs_unicast.proofs.PlaceOrder.{place_total}
 use Rattle.fs_unicast.specs.Unicast.{Route, place_cmp, put_path, take_path, has_path}
@@ -22,13 +24,6 @@ use Rattle.fs_rules.specs.Group.{AreSorted}
 use Rattle.fs_rules.specs.Counts.{Counts, count_of}
 use Rattle.fs_rules.proofs.Changed.{flow_total}
 use Rattle.fs_rules.proofs.Chosen.{held_of, with_flows}
-use Rattle.fs_rules.proofs.Entries.{is_equal}
-
-nat_same : (m n : ℕ) → is_eq (nat_cmp m n) ≡ (m == n)
-nat_same m n = grind (arith, nat_tests)
-
-itself : (n : ℕ) → (n == n) ≡ true
-itself n = grind (arith, nat_tests)
 
 above : {K : Type 0} {cmp : K → K → Ordering} (total : IsTotalOrder cmp) (k p : K) (qs : List K) → cmp k p ≡ Less → AllByRecursion (λ q. cmp p q ≡ Less) qs → AllByRecursion (λ q. cmp k q ≡ Less) qs
 above {K} {cmp} total k p qs h all = each_weaker (λ q. cmp p q ≡ Less) (λ q. cmp k q ≡ Less) (λ q less. IsTotalOrder.trans total k p q h less) qs all
@@ -98,7 +93,7 @@ many_more other r rs = at (r.peer == other) where
 
 peers_equal : (o : Ordering) (m n : ℕ) → ordering_then o (nat_cmp m n) ≡ Equal → m ≡ n
 peers_equal Less m n h = absurd cc
-peers_equal Equal m n h = grind (arith, nat_tests, ap is_eq h, nat_same m n)
+peers_equal Equal m n h = grind (arith, nat_tests, ap is_eq h, is_eq_of_nats m n)
 peers_equal Greater m n h = absurd cc
 
 none_later : (rule : Ruled) (peer : ℕ) (rs : List FlowRoute) → AllByRecursion (λ s. key_cmp rule peer s ≡ Less) rs → has_route rule peer rs ≡ false
@@ -265,7 +260,7 @@ counted_taken peer prefix unicast unicast' flows new before after c lowered held
     ap (λ es. size (λ q. q.peer == other) es + (if true && (peer == other) then 1 else 0)) e
     ∙ ap (λ b. size (λ q. q.peer == other) (take_path peer prefix unicast) + (if b && (peer == other) then 1 else 0)) (sym held)
     ∙ size_remove (λ q. q.peer == other) (is_at (place_cmp (record { prefix = prefix; peer = peer }))) (peer == other)
-    (λ q h. ap (λ n. n == other) (sym (peers_equal (prefix_cmp prefix q.prefix) peer q.peer (is_equal _ h)))) unicast in
+    (λ q h. ap (λ n. n == other) (sym (peers_equal (prefix_cmp prefix q.prefix) peer q.peer (equal_of_is_eq _ h)))) unicast in
     let three : count_of other before ≡ count_in other unicast flows = c other in
     let four : many other new ≡ many other flows = ap (many other) f in
     omega (arith, one, two, three, four)
@@ -290,7 +285,7 @@ counted_lost peer unicast flows new before after none c cleared e = λ other.
 pub gone_twice : (peer : ℕ) (unicast : List Route) → without_peer_unicast peer (without_peer_unicast peer unicast) ≡ without_peer_unicast peer unicast
 gone_twice peer unicast =
     none_own (λ (r : Route). r.0.peer) peer (without_peer_unicast peer unicast)
-    (own_gone (λ (r : Route). r.0.peer) peer peer unicast ∙ ap (λ (b : Bool). if b then 0 else length (filter (λ (r : Route). r.0.peer == peer) unicast)) (itself peer))
+    (own_gone (λ (r : Route). r.0.peer) peer peer unicast ∙ ap (λ (b : Bool). if b then 0 else length (filter (λ (r : Route). r.0.peer == peer) unicast)) (eq_itself peer))
 
 -- a peer whose count is 0 holds nothing
 pub idle_unicast : (peer : ℕ) (unicast : List Route) (flows : List FlowRoute) → count_in peer unicast flows ≡ 0 → without_peer_unicast peer unicast ≡ unicast

@@ -1,10 +1,13 @@
 -- Routes in blocks that are cut between rules: where a rule has its place, and what changes of one block do to all.
-use Rattle.std.proofs.Common.{ℕ, zero, suc, ◌≡◌, ◌+◌, ◌<◌, ◌≤◌, refl, sym, ap, ap₂, subst, ◌∙◌, Bool, true, false, true≢false, not, ◌||◌, ◌==◌, cond, List, [], ◌∷◌, ◌++◌, map, filter, length, get_or, set, insert, remove, take, drop, Ordering, Less, Equal, Greater, is_eq, nat_cmp, Result, Ok, Err, OnOk, OnErr, arith}
+use Rattle.std.proofs.Common.{ℕ, zero, suc, ◌≡◌, ◌+◌, ◌<◌, ◌≤◌, refl, sym, ap, ap₂, subst, ◌∙◌, Bool, true, false, true≢false, not, ◌==◌, cond, List, [], ◌∷◌, ◌++◌, map, filter, length, get_or, set, insert, remove, take, drop, Ordering, Less, Equal, Greater, is_eq, nat_cmp, Result, Ok, Err, OnOk, OnErr, arith}
 use Rattle.std.specs.List.{list_any, AllByRecursion}
+use Rattle.std.proofs.lemmas.List.{append_assoc, map-append, take-append-drop}
 use Rattle.std.specs.List.Retain.{RetainsInTurn}
 use Rattle.std.specs.Ordering.{is_lt, match_ordering, ordering_then, ordering_reverse}
 use Rattle.fs_base.specs.declared.prefix.Family.{Family}
-use Rattle.fs_base.proofs.Lists.{each_weaker, each_both, each_append, filter-append, filter_all, each_none}
+use Rattle.fs_base.proofs.Bools.{false_of_not, true_of_not}
+use Rattle.fs_base.proofs.Lists.{each_weaker, each_both, each_append, filter-append, each_filtered}
+use Rattle.fs_base.proofs.Orderings.{less_of_is_lt}
 use Rattle.fs_nlri.specs.Parts.{Ruled}
 use Rattle.fs_order.specs.Comparison.{rule_cmp}
 use Rattle.fs_order.specs.Ranked.{rule_total}
@@ -12,10 +15,10 @@ use Rattle.fs_rules.specs.Kept.{Kept}
 use Rattle.fs_rules.specs.Table.{key_cmp, is_key}
 use Rattle.fs_rules.specs.Group.{put_kept, AreSorted, routes_of, chosen}
 use Rattle.fs_rules.specs.Blocks.{flat, RuleBefore, AllBefore, AreCut, is_filled, AreFilled, IsCut, AreEachSorted, begins_by, begun, block_of, with_block, keep_blocks, chosen_flat, cut_list, CanCut}
-use Rattle.fs_rules.proofs.Apart.{each_front, each_back}
-use Rattle.fs_rules.proofs.Changed.{each-filter, each-put, routes-put, sorted-put}
+use Rattle.fs_rules.proofs.Apart.{each_front, each_back, take_each, drop_each}
+use Rattle.fs_rules.proofs.Changed.{any_back, any_front, each-put, left_back, left_front, routes-put, sorted-put}
 use Rattle.fs_rules.proofs.Puts.{put_left, put_right, sorted_front, sorted_back}
-use Rattle.fs_rules.proofs.InParts.{chosen-append, map-append}
+use Rattle.fs_rules.proofs.InParts.{chosen-append}
 use Rattle.fs_rules.proofs.Takes.{empty, not_empty}
 
 -- Of a rule, the routes of earlier rules and those of later ones.
@@ -52,11 +55,6 @@ ahead_of rule x c h k = at (rule_cmp rule c.route.rule) refl k where
   at Equal e g = rule_total.antisymm x.route.rule rule ∙ ap ordering_reverse (rule_total.congr rule c.route.rule x.route.rule e ∙ rule_total.antisymm c.route.rule x.route.rule ∙ ap ordering_reverse h)
   at Greater e g = rule_total.trans x.route.rule c.route.rule rule h (swapped rule c.route.rule e)
 
-lt_less : (o : Ordering) → is_lt o ≡ true → o ≡ Less
-lt_less Less h = refl
-lt_less Equal h = absurd (true≢false (sym h))
-lt_less Greater h = absurd (true≢false (sym h))
-
 -- what stands behind a route of a later rule is of a later rule
 after_key : (rule : Ruled) (c y : Kept) → IsAfter rule c → key_cmp c.route.rule c.route.peer y.route ≡ Less → IsAfter rule y
 after_key rule c y h less = at (rule_cmp c.route.rule y.route.rule) refl less where
@@ -69,26 +67,18 @@ later_each : (rule : Ruled) (c : Kept) (cs : List Kept) → IsAfter rule c → A
 later_each rule c [] h k = tt
 later_each rule c (y ∷ ys) h k = (after_key rule c y h k.0, later_each rule c ys h k.1)
 
-not_true : (b : Bool) → not b ≡ true → b ≡ false
-not_true true h = absurd (true≢false (sym h))
-not_true false h = refl
-
-not_false : (b : Bool) → not b ≡ false → b ≡ true
-not_false true h = refl
-not_false false h = absurd (true≢false h)
-
 -- a block that begins with a later rule, and all behind it
 all_after : (rule : Ruled) (c : List Kept) (bs : List (List Kept)) → begins_by rule c ≡ false → is_filled c ≡ true → AreSorted (routes_of c) → AllBefore c (flat bs) → AllByRecursion (IsAfter rule) (c ++ flat bs)
 all_after rule [] bs h f sorted before = absurd (true≢false (sym f))
 all_after rule (k ∷ ks) bs h f sorted before = each_append (IsAfter rule) (k ∷ ks) (flat bs) (less, later_each rule k ks less sorted.0)
     (each_weaker (RuleBefore k) (IsAfter rule) (λ y g. rule_total.trans rule k.route.rule y.route.rule less g) (flat bs) before.0) where
       less : IsAfter rule k
-      less = lt_less (rule_cmp rule k.route.rule) (not_false (is_lt (rule_cmp rule k.route.rule)) h)
+      less = less_of_is_lt (rule_cmp rule k.route.rule) (true_of_not (is_lt (rule_cmp rule k.route.rule)) h)
 
 -- the routes before a block that begins with the rule or with an earlier one
 all_ahead : (rule : Ruled) (b c : List Kept) (bs : List (List Kept)) → begins_by rule c ≡ true → AllBefore b (c ++ flat bs) → AllByRecursion (IsAhead rule) b
 all_ahead rule b [] bs h before = absurd (true≢false (sym h))
-all_ahead rule b (k ∷ ks) bs h before = each_weaker (λ x. AllByRecursion (RuleBefore x) (k ∷ (ks ++ flat bs))) (IsAhead rule) (λ x g. ahead_of rule x k g.0 (not_true (is_lt (rule_cmp rule k.route.rule)) h)) b before
+all_ahead rule b (k ∷ ks) bs h before = each_weaker (λ x. AllByRecursion (RuleBefore x) (k ∷ (ks ++ flat bs))) (IsAhead rule) (λ x g. ahead_of rule x k g.0 (false_of_not (is_lt (rule_cmp rule k.route.rule)) h)) b before
 
 around_begun : (rule : Ruled) (b : List Kept) (bs : List (List Kept)) → AreCut (b ∷ bs) → AreFilled (b ∷ bs) → AreEachSorted (b ∷ bs) → Around rule (begun rule bs) (b ∷ bs)
 around_begun rule b [] cut filled sorted = tt
@@ -149,48 +139,31 @@ module _ (rule : Ruled) (peer : ℕ) where
   abbrev hits : Kept → Bool
   hits k = is_key rule peer k.route
 
-  abbrev passes : Kept → Bool
-  passes k = not (is_key rule peer k.route)
-
   misses_ahead : (x : Kept) → IsAhead rule x → hits x ≡ false
   misses_ahead x h = ap (λ o. is_eq (ordering_then o (nat_cmp peer x.route.peer))) (rule_total.antisymm rule x.route.rule ∙ ap ordering_reverse h)
 
   misses_after : (y : Kept) → IsAfter rule y → hits y ≡ false
   misses_after y h = ap (λ o. is_eq (ordering_then o (nat_cmp peer y.route.peer))) h
 
-  all_stay : (ks : List Kept) → AllByRecursion (λ k. hits k ≡ false) ks → filter passes ks ≡ ks
-  all_stay ks h = filter_all passes ks (each_weaker (λ k. hits k ≡ false) (λ k. passes k ≡ true) (λ k e. ap not e) ks h)
-
-  any-append : (xs ys : List Kept) → list_any hits (xs ++ ys) ≡ (list_any hits xs || list_any hits ys)
-  any-append [] ys = refl
-  any-append (x ∷ xs) ys = at (hits x) (any-append xs ys) where
-    at : (b : Bool) → list_any hits (xs ++ ys) ≡ (list_any hits xs || list_any hits ys) → (b || list_any hits (xs ++ ys)) ≡ ((b || list_any hits xs) || list_any hits ys)
-    at true ih = refl
-    at false ih = ih
-
-  or_none : (a b : Bool) → b ≡ false → (a || b) ≡ a
-  or_none true b h = refl
-  or_none false b h = h
-
   pub any_block : (bs : List (List Kept)) (n : ℕ) (b : List Kept) → b ≡ get_or bs n b → Around rule n bs → list_any (λ k. is_key rule peer k.route) b ≡ list_any (λ k. is_key rule peer k.route) (flat bs)
   any_block [] n b e h = absurd h
-  any_block (x ∷ xs) zero b e h = ap (list_any hits) e ∙ sym (any-append x (flat xs) ∙ or_none (list_any hits x) (list_any hits (flat xs)) (each_none hits (flat xs) (each_weaker (IsAfter rule) (λ k. hits k ≡ false) misses_after (flat xs) h)))
-  any_block (x ∷ xs) (suc n) b e h = any_block xs n b e h.1 ∙ ap (λ c. c || list_any hits (flat xs)) (sym (each_none hits x (each_weaker (IsAhead rule) (λ k. hits k ≡ false) misses_ahead x h.0))) ∙ sym (any-append x (flat xs))
+  any_block (x ∷ xs) zero b e h = ap (list_any hits) e ∙ any_front hits x (flat xs) (each_weaker (IsAfter rule) (λ k. hits k ≡ false) misses_after (flat xs) h)
+  any_block (x ∷ xs) (suc n) b e h = any_block xs n b e h.1 ∙ any_back hits x (flat xs) (each_weaker (IsAhead rule) (λ k. hits k ≡ false) misses_ahead x h.0)
 
   pub flat_take : (bs : List (List Kept)) (n : ℕ) (b : List Kept) → b ≡ get_or bs n b → Around rule n bs → flat (set bs n (filter (λ k. not (is_key rule peer k.route)) b)) ≡ filter (λ k. not (is_key rule peer k.route)) (flat bs)
   flat_take [] n b e h = absurd h
-  flat_take (x ∷ xs) zero b e h = ap₂ (λ ks ls. ks ++ ls) (ap (filter passes) e) (sym (all_stay (flat xs) (each_weaker (IsAfter rule) (λ k. hits k ≡ false) misses_after (flat xs) h))) ∙ sym (filter-append passes x (flat xs))
-  flat_take (x ∷ xs) (suc n) b e h = ap₂ (λ ks ls. ks ++ ls) (sym (all_stay x (each_weaker (IsAhead rule) (λ k. hits k ≡ false) misses_ahead x h.0))) (flat_take xs n b e h.1) ∙ sym (filter-append passes x (flat xs))
+  flat_take (x ∷ xs) zero b e h = ap (λ ks. filter (λ k. not (hits k)) ks ++ flat xs) e ∙ left_front hits x (flat xs) (each_weaker (IsAfter rule) (λ k. hits k ≡ false) misses_after (flat xs) h)
+  flat_take (x ∷ xs) (suc n) b e h = ap (λ ks. x ++ ks) (flat_take xs n b e h.1) ∙ left_back hits x (flat xs) (each_weaker (IsAhead rule) (λ k. hits k ≡ false) misses_ahead x h.0)
 
 -- What is left of blocks.
 each_left : (P : Kept → Type 0) (p : Kept → Bool) (bs : List (List Kept)) (n : ℕ) (b : List Kept) → b ≡ get_or bs n b → AllByRecursion P (flat bs) → AllByRecursion P (flat (set bs n (filter p b)))
 each_left P p [] n b e all = all
-each_left P p (x ∷ xs) zero b e all = each_append P (filter p b) (flat xs) (each-filter P p b (subst (AllByRecursion P) (sym e) (each_front P x (flat xs) all))) (each_back P x (flat xs) all)
+each_left P p (x ∷ xs) zero b e all = each_append P (filter p b) (flat xs) (each_filtered P p b (subst (AllByRecursion P) (sym e) (each_front P x (flat xs) all))) (each_back P x (flat xs) all)
 each_left P p (x ∷ xs) (suc n) b e all = each_append P x (flat (set xs n (filter p b))) (each_front P x (flat xs) all) (each_left P p xs n b e (each_back P x (flat xs) all))
 
 apart_left : (p : Kept → Bool) (bs : List (List Kept)) (n : ℕ) (b : List Kept) → b ≡ get_or bs n b → AreCut bs → AreCut (set bs n (filter p b))
 apart_left p [] n b e cut = cut
-apart_left p (x ∷ xs) zero b e cut = (each-filter (λ y. AllByRecursion (RuleBefore y) (flat xs)) p b (subst (λ ks. AllBefore ks (flat xs)) (sym e) cut.0), cut.1)
+apart_left p (x ∷ xs) zero b e cut = (each_filtered (λ y. AllByRecursion (RuleBefore y) (flat xs)) p b (subst (λ ks. AllBefore ks (flat xs)) (sym e) cut.0), cut.1)
 apart_left p (x ∷ xs) (suc n) b e cut = (each_weaker (λ y. AllByRecursion (RuleBefore y) (flat xs)) (λ y. AllByRecursion (RuleBefore y) (flat (set xs n (filter p b)))) (λ y all. each_left (RuleBefore y) p xs n b e all) x cut.0, apart_left p xs n b e cut.1)
 
 is_some_block : (ks : List Kept) → (length ks == 0) ≡ false → is_filled ks ≡ true
@@ -241,8 +214,8 @@ apart_with (k ∷ ks) bs h cut = (h, cut)
 
 apart_kept : (p : Kept → Bool) (bs : List (List Kept)) → AreCut bs → AreCut (keep_blocks p bs)
 apart_kept p [] cut = tt
-apart_kept p (b ∷ bs) cut = apart_with (filter p b) (keep_blocks p bs) (subst (AllBefore (filter p b)) (sym (flat_kept p bs)) (each-filter (λ x. AllByRecursion (RuleBefore x) (filter p (flat bs))) p b
-    (each_weaker (λ x. AllByRecursion (RuleBefore x) (flat bs)) (λ x. AllByRecursion (RuleBefore x) (filter p (flat bs))) (λ x all. each-filter (RuleBefore x) p (flat bs) all) b cut.0))) (apart_kept p bs cut.1)
+apart_kept p (b ∷ bs) cut = apart_with (filter p b) (keep_blocks p bs) (subst (AllBefore (filter p b)) (sym (flat_kept p bs)) (each_filtered (λ x. AllByRecursion (RuleBefore x) (filter p (flat bs))) p b
+    (each_weaker (λ x. AllByRecursion (RuleBefore x) (flat bs)) (λ x. AllByRecursion (RuleBefore x) (filter p (flat bs))) (λ x all. each_filtered (RuleBefore x) p (flat bs) all) b cut.0))) (apart_kept p bs cut.1)
 
 each_kept : (p : Kept → Bool) (bs : List (List Kept)) → AllByRecursion (λ b. is_filled b ≡ true) (keep_blocks p bs)
 each_kept p [] = tt
@@ -311,18 +284,9 @@ flat_each P [] h = tt
 flat_each P (b ∷ bs) h = (each_front P b (flat bs) h, flat_each P bs (each_back P b (flat bs) h))
 
 -- One block cut in two.
-take_drop : (place : ℕ) (ks : List Kept) → take place ks ++ drop place ks ≡ ks
-take_drop zero ks = refl
-take_drop (suc n) [] = refl
-take_drop (suc n) (k ∷ ks) = ap (λ ls. k ∷ ls) (take_drop n ks)
-
-appended : (xs ys zs : List Kept) → (xs ++ ys) ++ zs ≡ xs ++ (ys ++ zs)
-appended [] ys zs = refl
-appended (x ∷ xs) ys zs = ap (λ ls. x ∷ ls) (appended xs ys zs)
-
 pub flat_cut : (bs : List (List Kept)) (n place : ℕ) → flat (cut_list n place bs) ≡ flat bs
 flat_cut [] n place = refl
-flat_cut (b ∷ bs) zero place = sym (appended (take place b) (drop place b) (flat bs)) ∙ ap (λ ks. ks ++ flat bs) (take_drop place b)
+flat_cut (b ∷ bs) zero place = sym (append_assoc (take place b) (drop place b) (flat bs)) ∙ ap (λ ks. ks ++ flat bs) (take-append-drop place b)
 flat_cut (b ∷ bs) (suc n) place = ap (λ ks. b ++ ks) (flat_cut bs n place)
 
 -- the block has a border at the place
@@ -340,16 +304,6 @@ pub can_cut : (bs : List (List Kept)) (n place : ℕ) (b : List Kept) → n < le
 can_cut [] n place b h e l = absurd (omega arith)
 can_cut (x ∷ xs) zero place b h e l = subst (λ ks. place ≤ length ks) e l
 can_cut (x ∷ xs) (suc n) place b h e l = can_cut xs n place b (omega arith) e l
-
-take_each : (P : Kept → Type 0) (n : ℕ) (ks : List Kept) → AllByRecursion P ks → AllByRecursion P (take n ks)
-take_each P zero ks h = tt
-take_each P (suc n) [] h = tt
-take_each P (suc n) (k ∷ ks) h = (h.0, take_each P n ks h.1)
-
-drop_each : (P : Kept → Type 0) (n : ℕ) (ks : List Kept) → AllByRecursion P ks → AllByRecursion P (drop n ks)
-drop_each P zero ks h = h
-drop_each P (suc n) [] h = tt
-drop_each P (suc n) (k ∷ ks) h = drop_each P n ks h.1
 
 apart_cut : (bs : List (List Kept)) (n place : ℕ) → HasBorder n place bs → AreCut bs → AreCut (cut_list n place bs)
 apart_cut [] n place h cut = cut

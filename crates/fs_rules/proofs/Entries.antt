@@ -8,15 +8,11 @@ use Rattle.std.specs.List.{AllByRecursion}
 use Rattle.std.specs.List.Sorted.{IsStrictlySortedBy}
 use Rattle.std.specs.Map.{lookup, remove_entry, keys_of}
 use Rattle.std.specs.BTreeMap.{insert_entry, is_at}
-
-pub is_equal : (r : Ordering) → is_eq r ≡ true → r ≡ Equal
-is_equal Less h = absurd (true≢false (sym h))
-is_equal Equal h = refl
-is_equal Greater h = absurd (true≢false (sym h))
+use Rattle.fs_base.proofs.Orderings.{equal_of_is_eq}
 
 module _ {K : Type 0} (R : K → K → Ordering) (o : IsTotalOrder R) where
   apart : (q k p : K) → R k p ≡ Greater → is_eq (R q k) ≡ true → is_eq (R q p) ≡ false
-  apart q k p g e = ap is_eq (IsTotalOrder.congr o q k p (is_equal (R q k) e) ∙ g)
+  apart q k p g e = ap is_eq (IsTotalOrder.congr o q k p (equal_of_is_eq (R q k) e) ∙ g)
 
   less_back : (k q : K) → R k q ≡ Greater → R q k ≡ Less
   less_back k q h = IsTotalOrder.antisymm o q k ∙ ap ordering_reverse h

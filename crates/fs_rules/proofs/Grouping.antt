@@ -1,6 +1,7 @@
 -- That routes stay grouped.
 use Rattle.std.proofs.Common.{ℕ, ◌≡◌, ◌+◌, ◌≤◌, ◌<◌, ◌^◌, refl, sym, ap, subst, ◌∙◌, Bool, not, List, [], ◌∷◌, filter, map, length, Some, None, Ordering, Less, Equal, Greater, arith}
 use Rattle.std.specs.List.{AllByRecursion}
+use Rattle.std.proofs.lemmas.List.{length-map}
 use Rattle.std.specs.Map.{keys_of}
 use Rattle.std.specs.Ordering.{match_ordering, ordering_reverse}
 use Rattle.std.proofs.lemmas.Map.Keys.{sorted_head, sorted_tail}
@@ -8,22 +9,23 @@ use Rattle.fs_base.specs.declared.config.Config.{Config}
 use Rattle.fs_base.specs.declared.prefix.Family.{Family}
 use Rattle.fs_base.specs.declared.prefix.Prefix.{Prefix}
 use Rattle.fs_base.specs.Prefix.{prefix_cmp, prefix_total}
-use Rattle.fs_base.proofs.Lists.{each_weaker}
+use Rattle.fs_base.proofs.Lists.{each_weaker, each_filtered}
 use Rattle.fs_unicast.specs.Unicast.{Route}
 use Rattle.fs_nlri.specs.Parts.{Ruled}
 use Rattle.fs_nlri.specs.Rule.{IsRule, destination_prefix}
 use Rattle.fs_validate.specs.Laws.{is_related}
 use Rattle.fs_rules.specs.Kept.{Kept}
 use Rattle.fs_rules.specs.Table.{is_key}
-use Rattle.fs_rules.specs.Group.{put_kept, mended, related_kept, chosen}
+use Rattle.fs_rules.specs.Changes.{Noted}
+use Rattle.fs_rules.specs.Group.{put_kept, mended, chosen}
 use Rattle.fs_rules.specs.Groups.{Entry, kept_in, IsTo, ArePlaced, AreInOrder, IsSound, IsGrouped, put_entry, keep_at, keep_each}
-use Rattle.fs_rules.specs.Search.{Mends}
+use Rattle.fs_rules.specs.Search.{Mends, MendsKept}
 use Rattle.fs_rules.specs.Reading.{chosen_in}
 use Rattle.fs_rules.proofs.Puts.{put_entries, put_rest, put_placed, each_entry, length-put}
 use Rattle.fs_rules.proofs.Takes.{kept_each, placed_each, placed_at, sorted_at, parts_sorted, taken_kept, taken_rest, length-filter}
-use Rattle.fs_rules.proofs.Mending.{mended_in, mends_placed, mends_ordered, size_related}
-use Rattle.fs_rules.proofs.InParts.{chosen_groups, length-chosen}
-use Rattle.fs_rules.proofs.Changed.{each-filter, each-put}
+use Rattle.fs_rules.proofs.Mending.{mended_in, marks_kept, mends_placed, mends_ordered, size_related}
+use Rattle.fs_rules.proofs.InParts.{chosen_groups}
+use Rattle.fs_rules.proofs.Changed.{each-put}
 
 sorted_entry : (p : Prefix) (k : Kept) (es : List Entry) → AreInOrder es → AreInOrder (put_entry p k es)
 sorted_entry p k [] h = parts_sorted p [] tt h
@@ -47,15 +49,12 @@ grouped_put family p k es new rest bound most h d sound g e m small = record {
   small = small;
 }
 
-each-put_kept : (P : Kept → Type 0) (k : Kept) → P k → (ks : List Kept) → AllByRecursion P ks → AllByRecursion P (put_kept k ks)
-each-put_kept P k h ks all = each-put P k h ks all
-
 pub grouped_rest : (family : Family) (k : Kept) (es : List Entry) (rest new : List Kept) (bound most : ℕ) → IsSound family k → IsTo None k → AllByRecursion (IsSound family) (kept_in es rest) → IsGrouped es rest bound
     → new ≡ put_kept k rest → most ≡ bound + 1 → most < 2 ^ 64 → IsGrouped es new most
 grouped_rest family k es rest new bound most h d sound g e m small = record {
   ordered = g.ordered;
   placed = g.placed;
-  bare = subst (AllByRecursion (IsTo None)) (sym e) (each-put_kept (IsTo None) k d rest g.bare);
+  bare = subst (AllByRecursion (IsTo None)) (sym e) (each-put (IsTo None) k d rest g.bare);
   most = let a : length (kept_in es new) ≡ length (put_kept k (kept_in es rest)) = ap length (ap (kept_in es) e ∙ put_rest family k es rest h d g.placed sound) in
       let b : length (put_kept k (kept_in es rest)) ≤ length (kept_in es rest) + 1 = length-put k (kept_in es rest) in let c : length (kept_in es rest) ≤ bound = g.most in omega arith;
   small = small;
@@ -77,7 +76,7 @@ pub grouped_taken_rest : (rule : Ruled) (peer : ℕ) (es : List Entry) (rest new
 grouped_taken_rest rule peer es rest new bound h d sound g e = record {
   ordered = g.ordered;
   placed = g.placed;
-  bare = subst (AllByRecursion (IsTo None)) (sym e) (each-filter (IsTo None) (λ k. not (is_key rule peer k.route)) rest g.bare);
+  bare = subst (AllByRecursion (IsTo None)) (sym e) (each_filtered (IsTo None) (λ k. not (is_key rule peer k.route)) rest g.bare);
   most = let a : length (kept_in es new) ≡ length (filter (λ k. not (is_key rule peer k.route)) (kept_in es rest)) = ap length (ap (kept_in es) e ∙ taken_rest rule peer h es rest d g.placed sound) in
       let b : length (filter (λ k. not (is_key rule peer k.route)) (kept_in es rest)) ≤ length (kept_in es rest) = length-filter (λ k. not (is_key rule peer k.route)) (kept_in es rest) in let c : length (kept_in es rest) ≤ bound = g.most in omega arith;
   small = g.small;
@@ -90,36 +89,31 @@ pub grouped_kept : (keeps : Kept → Bool) (es new : List Entry) (rest left : Li
 grouped_kept keeps es new rest left bound g ordered e f = record {
   ordered = ordered;
   placed = subst ArePlaced (sym e) (placed_each keeps es g.placed);
-  bare = subst (AllByRecursion (IsTo None)) (sym f) (each-filter (IsTo None) keeps rest g.bare);
+  bare = subst (AllByRecursion (IsTo None)) (sym f) (each_filtered (IsTo None) keeps rest g.bare);
   most = let a : length (kept_in new left) ≡ length (filter keeps (kept_in es rest)) = ap length (kept_left keeps es new rest left e f) in
       let b : length (filter keeps (kept_in es rest)) ≤ length (kept_in es rest) = length-filter keeps (kept_in es rest) in let c : length (kept_in es rest) ≤ bound = g.most in omega arith;
   small = g.small;
 }
 
-length-mended : (f : Kept → Kept) (ks : List Kept) → length (map f ks) ≡ length ks
-length-mended f [] = refl
-length-mended f (k ∷ ks) = let e : length (map f ks) ≡ length ks = length-mended f ks in omega arith
+pub mends_kept : (unicast : List Route) (config : Config) (p : Prefix) (es new : List Entry) (rest : List Kept) (bound : ℕ) (noted more : Noted) (before after : ℕ) → IsGrouped es rest bound → Mends unicast config (is_related p) es new noted more before after
+    → MendsKept p unicast config (kept_in es rest) (kept_in new rest) noted more before after
+mends_kept unicast config p es new rest bound noted more before after g m = record {
+  kept = ap (λ fs. kept_in fs rest) m.entries ∙ mended_in unicast config p es rest g.placed g.bare;
+  stays = m.stays;
+  marked = marks_kept unicast config p es rest more g.placed g.bare m.marks;
+  later = m.later;
+  steps = omega (arith, m.steps, size_related unicast config p es rest g.placed);
+}
 
-pub kept_mended : (unicast : List Route) (config : Config) (p : Prefix) (es new : List Entry) (rest : List Kept) (bound before after : ℕ) → IsGrouped es rest bound → Mends unicast config (is_related p) es new before after
-    → kept_in new rest ≡ map (mended p unicast config) (kept_in es rest)
-kept_mended unicast config p es new rest bound before after g m = ap (λ fs. kept_in fs rest) m.entries ∙ mended_in unicast config p es rest g.placed g.bare
-
-pub grouped_mended : (unicast : List Route) (config : Config) (p : Prefix) (es new : List Entry) (rest : List Kept) (bound before after : ℕ) → IsGrouped es rest bound → Mends unicast config (is_related p) es new before after → IsGrouped new rest bound
-grouped_mended unicast config p es new rest bound before after g m = record {
-  ordered = mends_ordered unicast config (is_related p) es new before after m g.ordered;
-  placed = mends_placed unicast config (is_related p) es new before after m g.placed;
+pub grouped_mended : (unicast : List Route) (config : Config) (p : Prefix) (es new : List Entry) (rest : List Kept) (bound : ℕ) (noted more : Noted) (before after : ℕ) → IsGrouped es rest bound → Mends unicast config (is_related p) es new noted more before after → IsGrouped new rest bound
+grouped_mended unicast config p es new rest bound noted more before after g m = record {
+  ordered = mends_ordered unicast config (is_related p) es new noted more before after m g.ordered;
+  placed = mends_placed unicast config (is_related p) es new noted more before after m g.placed;
   bare = g.bare;
-  most = let a : length (kept_in new rest) ≡ length (map (mended p unicast config) (kept_in es rest)) = ap length (kept_mended unicast config p es new rest bound before after g m) in
-      let b : length (map (mended p unicast config) (kept_in es rest)) ≡ length (kept_in es rest) = length-mended (mended p unicast config) (kept_in es rest) in let c : length (kept_in es rest) ≤ bound = g.most in omega arith;
+  most = let a : length (kept_in new rest) ≡ length (map (mended p unicast config) (kept_in es rest)) = ap length (mends_kept unicast config p es new rest bound noted more before after g m).kept in
+      let b : length (map (mended p unicast config) (kept_in es rest)) ≡ length (kept_in es rest) = length-map (kept_in es rest) (mended p unicast config) in let c : length (kept_in es rest) ≤ bound = g.most in omega arith;
   small = g.small;
 }
 
-pub steps_mended : (unicast : List Route) (config : Config) (p : Prefix) (es new : List Entry) (rest : List Kept) (bound before after : ℕ) → IsGrouped es rest bound → Mends unicast config (is_related p) es new before after → after ≤ before + related_kept p (kept_in es rest)
-steps_mended unicast config p es new rest bound before after g m = omega (arith, m.steps, size_related unicast config p es rest g.placed)
-
 pub chosen_now : (family f : Family) (es : List Entry) (rest now : List Kept) (bound : ℕ) → IsGrouped es rest bound → kept_in es rest ≡ now → AllByRecursion (IsSound f) now → chosen_in family es rest ≡ chosen family now
 chosen_now family f es rest now bound g v sound = chosen_groups family f es rest g.ordered g.placed g.bare (subst (AllByRecursion (IsSound f)) (sym v) sound) ∙ ap (chosen family) v
-
-pub few_chosen : (family f : Family) (es : List Entry) (rest now : List Kept) (bound : ℕ) → IsGrouped es rest bound → kept_in es rest ≡ now → AllByRecursion (IsSound f) now → length (chosen_in family es rest) < 2 ^ 64
-few_chosen family f es rest now bound g v sound = let a : length (chosen_in family es rest) ≡ length (chosen family now) = ap length (chosen_now family f es rest now bound g v sound) in
-    let b : length (chosen family now) ≤ length now = length-chosen family now in let c : length (kept_in es rest) ≡ length now = ap length v in let d : length (kept_in es rest) ≤ bound = g.most in let e : bound < 2 ^ 64 = g.small in omega arith

@@ -1,6 +1,7 @@
 -- What the kept validities tell, read one group after the other.
 use Rattle.std.proofs.Common.{ℕ, suc, ◌≡◌, ◌+◌, ◌≤◌, refl, sym, ap, ap₂, ◌∙◌, Bool, true, false, true≢false, not, ◌&&◌, ◌||◌, cond, List, [], ◌∷◌, ◌++◌, map, length, find, nat_le, is_some, Option, Some, None, option_map, slice_get, zero, ◌-◌, arith}
 use Rattle.std.specs.List.{AllByRecursion}
+use Rattle.std.proofs.lemmas.List.{length-map, map-append}
 use Rattle.std.specs.Map.{keys_of}
 use Rattle.std.proofs.lemmas.Map.Keys.{sorted_tail}
 use Rattle.fs_base.specs.declared.prefix.Family.{Family}
@@ -15,19 +16,9 @@ use Rattle.fs_rules.specs.Group.{routes_of, is_beaten, is_chosen, chosen}
 use Rattle.fs_rules.specs.Groups.{Entry, kept_in, IsTo, ArePlaced, AreInOrder, IsSound}
 use Rattle.fs_rules.specs.Reading.{chosen_in}
 use Rattle.fs_rules.specs.Walk.{matching_from}
-use Rattle.fs_unicast.specs.Preference.{preferred}
-use Rattle.fs_rules.proofs.Takes.{length-filter}
+use Rattle.fs_rules.proofs.Runs.{no_rival}
 use Rattle.fs_rules.specs.Blocks.{RuleBefore, AllBefore}
 use Rattle.fs_rules.proofs.Apart.{not_same, not_same_back, group_before, each_back}
-
--- no route of another rule beats
-no_rival : (k x : Kept) (rest : Bool) → same_rule x.route k.route ≡ false → ((is_valid x.validity && beats x.route k.route) || rest) ≡ rest
-no_rival k x rest h = at (is_valid x.validity) (same_rule x.route k.route) h where
-  at : (a b : Bool) → b ≡ false → ((a && (b && preferred (x.route.peer, x.route.path) (k.route.peer, k.route.path))) || rest) ≡ rest
-  at true true e = absurd (true≢false e)
-  at false true e = refl
-  at true false e = refl
-  at false false e = refl
 
 beaten_front : (k : Kept) (xs ys : List Kept) → AllByRecursion (λ y. same_rule y.route k.route ≡ false) ys → is_beaten (xs ++ ys) k ≡ is_beaten xs k
 beaten_front k [] [] h = refl
@@ -62,19 +53,7 @@ chosen_groups family f [] rest ordered placed bare sound = refl
 chosen_groups family f (e ∷ es) rest ordered placed bare sound = ap (λ ks. chosen family e.1 ++ ks) (chosen_groups family f es rest (sorted_tail prefix_cmp e.0 (keys_of es) ordered) placed.1 bare (each_back (IsSound f) e.1 (kept_in es rest) sound))
     ∙ sym (chosen-append family e.1 (kept_in es rest) (group_before f e es rest ordered placed bare sound))
 
-pub length-chosen : (family : Family) (ks : List Kept) → length (chosen family ks) ≤ length ks
-length-chosen family ks = length-filter (is_chosen family ks) ks
-
--- Lists one behind the other.
-pub map-append : {X Y : Type 0} (f : X → Y) (xs ys : List X) → map f (xs ++ ys) ≡ map f xs ++ map f ys
-map-append f [] ys = refl
-map-append f (x ∷ xs) ys = ap (λ zs. f x ∷ zs) (map-append f xs ys)
-
-pub length-append : {X : Type 0} (xs ys : List X) → length (xs ++ ys) ≡ length xs + length ys
-length-append [] ys = omega arith
-length-append (x ∷ xs) ys = let e : length (xs ++ ys) ≡ length xs + length ys = length-append xs ys in omega arith
-
-pub routes-append : (xs ys : List Kept) → routes_of (xs ++ ys) ≡ routes_of xs ++ routes_of ys
+routes-append : (xs ys : List Kept) → routes_of (xs ++ ys) ≡ routes_of xs ++ routes_of ys
 routes-append xs ys = map-append (λ k. k.route) xs ys
 
 -- The numbers of the rules that match, in parts.
@@ -110,12 +89,8 @@ pub next_front : (view : Viewed) (n m : ℕ) (xs ys : List Kept) (found whole : 
 next_front view n m xs ys found whole h some e = h ∙ sym (find_front (λ k. nat_le n k) (matching_from view m (routes_of xs)) (matching_from view (m + length (routes_of xs)) (routes_of ys)) (sym (ap is_some h) ∙ some))
     ∙ ap (find (λ k. nat_le n k)) (sym (ap (matching_from view m) (routes-append xs ys) ∙ matching-append view m (routes_of xs) (routes_of ys))) ∙ e
 
-length-routes : (ks : List Kept) → length (routes_of ks) ≡ length ks
-length-routes [] = refl
-length-routes (k ∷ ks) = ap suc (length-routes ks)
-
 pub next_back : (view : Viewed) (n m : ℕ) (xs ys : List Kept) (found whole : Option ℕ) → found ≡ next_in view n m xs → is_some found ≡ false → next_in view n m (xs ++ ys) ≡ whole → next_in view n (m + length xs) ys ≡ whole
-next_back view n m xs ys found whole h none e = ap (λ l. find (λ k. nat_le n k) (matching_from view (m + l) (routes_of ys))) (sym (length-routes xs))
+next_back view n m xs ys found whole h none e = ap (λ l. find (λ k. nat_le n k) (matching_from view (m + l) (routes_of ys))) (sym (length-map xs (λ k. k.route)))
     ∙ sym (find_back (λ k. nat_le n k) (matching_from view m (routes_of xs)) (matching_from view (m + length (routes_of xs)) (routes_of ys)) (sym (ap is_some h) ∙ none))
     ∙ ap (find (λ k. nat_le n k)) (sym (ap (matching_from view m) (routes-append xs ys) ∙ matching-append view m (routes_of xs) (routes_of ys))) ∙ e
 

@@ -16,11 +16,8 @@ pub mod Searching
 pub mod InParts
 pub mod Grouping
 pub mod BothFamilies
-pub mod Telling
-pub mod Marking
 pub mod Counting
 pub mod Prefixes
-pub mod Validities
 pub mod Cutting
 pub mod Begun
 pub mod Alone

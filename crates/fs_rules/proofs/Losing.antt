@@ -13,6 +13,7 @@ use Rattle.fs_base.specs.Prefix.{prefix_total, prefix_cmp}
 use Rattle.fs_base.specs.declared.prefix.Prefix.{Prefix}
 use Rattle.fs_base.proofs.SamePrefix.{same_from_cmp}
 use Rattle.fs_base.proofs.Lists.{filter-remove_other, each, each_weaker, each_of_map, each_remove, find_on}
+use Rattle.fs_base.proofs.Orderings.{is_le_of_then, is_eq_of_first}
 use Rattle.fs_unicast.specs.Unicast.{Route, place_cmp}
 use Rattle.fs_unicast.specs.declared.unicast.Place.{Place}
 use Rattle.fs_unicast.specs.Search.{held_by, is_from}
@@ -26,11 +27,6 @@ pub peers_equal : (o : Ordering) (m n : ℕ) → is_eq (ordering_then o (nat_cmp
 peers_equal Less m n h = absurd (true≢false (sym h))
 peers_equal Equal m n h = grind (arith, nat_tests)
 peers_equal Greater m n h = absurd (true≢false (sym h))
-
-pub prefixes_equal : (o p : Ordering) → is_eq (ordering_then o p) ≡ true → is_eq o ≡ true
-prefixes_equal Less p h = h
-prefixes_equal Equal p h = refl
-prefixes_equal Greater p h = h
 
 abbrev pub is_place : Prefix → ℕ → Place → Bool
 is_place prefix peer q = is_at (place_cmp (place prefix peer)) q
@@ -53,7 +49,7 @@ hit_at prefix peer r rs true h ih = record { shorter = shorter; sum = sum } wher
   shorter = subst (λ n. n < length (r ∷ rs)) (sym (ap length gone)) (omega arith)
 
   same : r.0.prefix ≡ prefix
-  same = sym (same_from_cmp prefix r.0.prefix (prefixes_equal (prefix_cmp prefix r.0.prefix) (nat_cmp peer r.0.peer) h))
+  same = sym (same_from_cmp prefix r.0.prefix (is_eq_of_first (prefix_cmp prefix r.0.prefix) (nat_cmp peer r.0.peer) h))
 
   mine : (r.0.peer == peer) ≡ true
   mine = peers_equal (prefix_cmp prefix r.0.prefix) peer r.0.peer h
@@ -120,11 +116,6 @@ pub from_start : (peer : ℕ) (from : Option Prefix) (unicast : List Route) → 
 from_start peer from unicast h = ap (option_map (λ r. r.0.prefix)) (find_on (λ r. is_from from r.0.prefix && (r.0.peer == peer)) (λ r. is_from None r.0.prefix && (r.0.peer == peer)) unicast
     (each_weaker (λ r. (r.0.peer == peer) ≡ true → is_from from r.0.prefix ≡ true) (λ r. (is_from from r.0.prefix && (r.0.peer == peer)) ≡ (is_from None r.0.prefix && (r.0.peer == peer))) (λ r k. both_tests (is_from from r.0.prefix) (r.0.peer == peer) k) unicast h))
 
-less_then : (o p : Ordering) → ordering_then o p ≡ Less → is_le o ≡ true
-less_then Less p h = refl
-less_then Equal p h = refl
-less_then Greater p h = cc
-
 -- the first that is found stands before the others of the peer
 first_is_least : (peer : ℕ) (unicast : List Route) (prefix : Prefix) → IsStrictlySortedBy place_cmp (keys_of unicast) → held_by unicast peer None ≡ Some prefix → Passed peer (Some prefix) unicast
 first_is_least peer [] prefix sorted h = tt
@@ -132,7 +123,7 @@ first_is_least peer (r ∷ rs) prefix sorted h = at (r.0.peer == peer) refl h (f
   here : r.0.prefix ≡ prefix → Passed peer (Some prefix) (r ∷ rs)
   here e = subst (λ p. Passed peer (Some p) (r ∷ rs)) e (
     (λ _. ap is_le (tied_itself prefix_total r.0.prefix)),
-    each_weaker (λ s. place_cmp r.0 s.0 ≡ Less) (λ s. (s.0.peer == peer) ≡ true → is_from (Some r.0.prefix) s.0.prefix ≡ true) (λ s less _. less_then (prefix_cmp r.0.prefix s.0.prefix) (nat_cmp r.0.peer s.0.peer) less) rs
+    each_weaker (λ s. place_cmp r.0 s.0 ≡ Less) (λ s. (s.0.peer == peer) ≡ true → is_from (Some r.0.prefix) s.0.prefix ≡ true) (λ s less _. is_le_of_then (prefix_cmp r.0.prefix s.0.prefix) (nat_cmp r.0.peer s.0.peer) less) rs
         (each_of_map (λ s. s.0) (λ q. place_cmp r.0 q ≡ Less) rs (sorted_head place_cmp r.0 (keys_of rs) sorted)),
   )
 

@@ -3,10 +3,10 @@ use Rattle.std.proofs.Common.{ℕ, ◌≡◌, refl, sym, ap, ◌∙◌, ◌⊎�
 use Rattle.std.specs.List.{list_any, AllByRecursion}
 use Rattle.std.specs.Ordering.{ordering_then, ordering_reverse, bool_cmp}
 use Rattle.std.specs.Cmp.{tied_back}
-use Rattle.fs_base.proofs.Bools.{and_both, and_first, and_second}
+use Rattle.fs_base.proofs.Bools.{and_both, and_first, and_second, false_of_not}
 use Rattle.fs_base.specs.declared.path.Path.{Path}
 use Rattle.fs_base.specs.declared.prefix.Family.{Family}
-use Rattle.fs_base.proofs.Lists.{each_weaker, each_both, none_each}
+use Rattle.fs_base.proofs.Lists.{each, each_weaker, each_both, none_each}
 use Rattle.fs_order.specs.Comparison.{rule_cmp}
 use Rattle.fs_order.specs.Ranked.{rule_total}
 use Rattle.fs_unicast.proofs.Best.{preference_total}
@@ -14,6 +14,7 @@ use Rattle.fs_unicast.specs.Preference.{preference_cmp, preferred, path_length}
 use Rattle.fs_validate.specs.declared.route.FlowRoute.{FlowRoute}
 use Rattle.fs_rules.specs.Table.{Held, key_cmp, is_of_family, stands, same_rule, beats, is_most_preferred, admitted, AreOrdered}
 use Rattle.fs_rules.specs.Group.{AreSorted}
+use Rattle.fs_rules.proofs.Changed.{each-filtered}
 
 -- two routes of different peers are never equally preferred
 apart_peers : (a b c d : Ordering) (m n : ℕ) → nat_cmp m n ≡ Less → ordering_then a (ordering_then b (ordering_then c (ordering_then d (nat_cmp m n)))) ≡ Equal → ⊥
@@ -37,16 +38,12 @@ one_preferred x y h = at (preference_cmp x y) refl where
   at Equal e = absurd (apart_peers (nat_cmp y.1.local_pref x.1.local_pref) (nat_cmp (path_length x.1.segments) (path_length y.1.segments)) (nat_cmp x.1.origin y.1.origin) (bool_cmp y.1.external x.1.external) x.0 y.0 h e)
   at Greater e = inr (ap is_lt (preference_total.antisymm y x ∙ ap ordering_reverse e))
 
-not_false : (b : Bool) → not b ≡ true → b ≡ false
-not_false true h = absurd (true≢false (sym h))
-not_false false h = refl
-
 -- what it is to be the most preferred
 abbrev Unbeaten : Held → FlowRoute → FlowRoute → Type 0
 Unbeaten held s t = (stands held t && beats t s) ≡ false
 
 unbeaten : (held : Held) (s : FlowRoute) → is_most_preferred held s ≡ true → AllByRecursion (Unbeaten held s) held.flows
-unbeaten held s h = none_each (λ t. stands held t && beats t s) held.flows (not_false (list_any (λ t. stands held t && beats t s) held.flows) (and_second (stands held s) (not (list_any (λ t. stands held t && beats t s) held.flows)) h))
+unbeaten held s h = none_each (λ t. stands held t && beats t s) held.flows (false_of_not (list_any (λ t. stands held t && beats t s) held.flows) (and_second (stands held s) (not (list_any (λ t. stands held t && beats t s) held.flows)) h))
 
 -- of two most preferred routes the earlier key has the earlier rule
 rules_apart : (held : Held) (r s : FlowRoute) → key_cmp r.rule r.peer s ≡ Less → stands held r ≡ true → stands held s ≡ true → Unbeaten held s r → Unbeaten held r s → rule_cmp r.rule s.rule ≡ Less
@@ -65,17 +62,6 @@ rules_apart held r s key valid_r valid_s su ru = at (rule_cmp r.rule s.rule) ref
 abbrev is_entry : Family → Held → FlowRoute → Bool
 is_entry family held r = is_of_family family r && is_most_preferred held r
 
-each_kept : {X : Type 0} (p : X → Bool) (P : X → Type 0) (xs : List X) → AllByRecursion (λ x. p x ≡ true → P x) xs → AllByRecursion P (filter p xs)
-each_kept p P [] h = tt
-each_kept p P (x ∷ xs) h = at (p x) refl (each_kept p P xs h.1) where
-  at : (b : Bool) → p x ≡ b → AllByRecursion P (filter p xs) → AllByRecursion P (cond b (x ∷ filter p xs) (filter p xs))
-  at true e ih = (h.0 e, ih)
-  at false e ih = ih
-
-each_all : {X : Type 0} (P : X → Type 0) → ((x : X) → P x) → (xs : List X) → AllByRecursion P xs
-each_all P h [] = tt
-each_all P h (x ∷ xs) = (h x, each_all P h xs)
-
 -- each entry is unbeaten by those of the list
 abbrev Rivals : Family → Held → List FlowRoute → FlowRoute → Type 0
 Rivals family held xs s = is_entry family held s ≡ true → AllByRecursion (Unbeaten held s) xs
@@ -88,7 +74,7 @@ entries_ordered family held (r ∷ rs) sorted h = at (is_entry family held r) re
 
   at : (b : Bool) → is_entry family held r ≡ b → AreOrdered (filter (is_entry family held) rs) → AreOrdered (cond b (r ∷ filter (is_entry family held) rs) (filter (is_entry family held) rs))
   at true e ih = (
-    each_kept (is_entry family held) (λ s. rule_cmp r.rule s.rule ≡ Less) rs
+    each-filtered (λ s. is_entry family held s ≡ true → rule_cmp r.rule s.rule ≡ Less) (λ s. rule_cmp r.rule s.rule ≡ Less) (is_entry family held) (λ s k f. k f) rs
         (each_both (λ s. key_cmp r.rule r.peer s ≡ Less) (λ s. Rivals family held (r ∷ rs) s × Unbeaten held r s) (λ s. is_entry family held s ≡ true → rule_cmp r.rule s.rule ≡ Less)
         (λ s key k f. rules_apart held r s key (valid r e) (valid s f) (k.0 f).0 k.1) rs sorted.0
         (each_both (Rivals family held (r ∷ rs)) (Unbeaten held r) (λ s. Rivals family held (r ∷ rs) s × Unbeaten held r s) (λ s k u. (k, u)) rs h.1 (h.0 e).1)),
@@ -99,4 +85,4 @@ entries_ordered family held (r ∷ rs) sorted h = at (is_entry family held r) re
   at false e ih = ih
 
 pub admitted_ordered : (family : Family) (held : Held) → AreSorted held.flows → AreOrdered (admitted family held)
-admitted_ordered family held sorted = entries_ordered family held held.flows sorted (each_all (Rivals family held held.flows) (λ s e. unbeaten held s (and_second (is_of_family family s) (is_most_preferred held s) e)) held.flows)
+admitted_ordered family held sorted = entries_ordered family held held.flows sorted (each (Rivals family held held.flows) (λ s e. unbeaten held s (and_second (is_of_family family s) (is_most_preferred held s) e)) held.flows)

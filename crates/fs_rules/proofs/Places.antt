@@ -1,5 +1,5 @@
--- The admitted rules with one destination are those of its group.
-use Rattle.std.proofs.Common.{◌≡◌, refl, sym, ap, ap₂, ◌∙◌, subst, Bool, true, false, cond, List, [], ◌∷◌, ◌++◌, filter, map, Option, Some, None, Ordering, Less, Equal, Greater, is_eq, ℕ}
+-- What the groups of a family tell, and that the admitted rules with one destination are those of its group.
+use Rattle.std.proofs.Common.{◌≡◌, refl, sym, ap, ap₂, ◌∙◌, subst, Bool, true, false, cond, List, [], ◌∷◌, ◌++◌, filter, map, Option, Some, None, Ordering, Less, Equal, Greater, is_eq, ℕ, length, ◌≤◌, ◌<◌, ◌^◌, arith}
 use Rattle.std.proofs.lemmas.List.{append-nil}
 use Rattle.std.specs.List.{AllByRecursion}
 use Rattle.std.specs.BTreeMap.{is_at}
@@ -11,22 +11,24 @@ use Rattle.fs_base.specs.declared.config.Config.{Config}
 use Rattle.fs_base.specs.declared.prefix.Family.{Family}
 use Rattle.fs_base.specs.declared.prefix.Prefix.{Prefix}
 use Rattle.fs_base.specs.Prefix.{prefix_cmp, prefix_total}
-use Rattle.fs_base.proofs.Lists.{each_both, each_weaker, filter_all, filter_none, filter-append}
-use Rattle.fs_base.proofs.SamePrefix.{same_from_cmp}
+use Rattle.fs_base.proofs.Lists.{each_both, each_mapped, filter_all, filter_none, filter-append, each_filtered}
 use Rattle.fs_unicast.specs.Unicast.{Route}
 use Rattle.fs_rules.specs.Kept.{Kept}
 use Rattle.fs_rules.specs.Changes.{is_to}
-use Rattle.fs_rules.specs.Group.{Keeps, chosen, is_chosen, routes_of}
+use Rattle.fs_rules.specs.Group.{AreSorted, Keeps, chosen, is_chosen, of_family, routes_of}
 use Rattle.fs_rules.specs.Groups.{Entry, kept_in, IsTo, ArePlaced, AreInOrder, IsGrouped, IsSound}
 use Rattle.fs_rules.specs.Lent.{listed}
-use Rattle.fs_rules.specs.Lists.{listings_to}
-use Rattle.fs_rules.specs.Reading.{chosen_in, group_at}
-use Rattle.fs_rules.specs.Table.{Held, admitted}
+use Rattle.fs_rules.specs.Lists.{judgement, listing}
+use Rattle.fs_rules.specs.Reading.{AreLent, AreTold, chosen_in, group_at}
+use Rattle.fs_rules.specs.Table.{Held, IsRuleOf, admitted}
 use Rattle.fs_rules.proofs.Apart.{each_front, each_back, to_cmp}
-use Rattle.fs_rules.proofs.Changed.{each-filter, routes-filter}
-use Rattle.fs_rules.proofs.Chosen.{admitted_is, held_of, map-map}
+use Rattle.fs_rules.proofs.Changed.{routes-filter}
+use Rattle.fs_rules.proofs.Chosen.{admitted_is, held_is, held_of, map-map}
+use Rattle.fs_rules.proofs.Complete.{held_rising, is_admitted_list}
 use Rattle.fs_rules.proofs.Elsewhere.{is_to_by}
 use Rattle.fs_rules.proofs.Grouping.{chosen_now}
+use Rattle.fs_rules.proofs.Puts.{sorted_groups, sorted_rest}
+use Rattle.fs_rules.proofs.Takes.{length-filter, other_keys}
 
 is_eq_back : (p q : Prefix) → is_eq (prefix_cmp q p) ≡ is_eq (prefix_cmp p q)
 is_eq_back p q = ap is_eq (prefix_total.antisymm q p) ∙ turned (prefix_cmp p q) where
@@ -41,7 +43,7 @@ module _ (family : Family) (destination : Option Prefix) where
 
   -- the routes to one destination pass, or none does
   each_here : (other : Option Prefix) (b : Bool) → is_eq (to_cmp other destination) ≡ b → (ks : List Kept) → AllByRecursion (IsSound family) ks → AllByRecursion (IsTo other) ks → AllByRecursion (λ k. stands_here k ≡ b) (chosen family ks)
-  each_here other b e ks sound placed = each-filter (λ k. stands_here k ≡ b) (is_chosen family ks) ks (each_both (IsSound family) (IsTo other) (λ k. stands_here k ≡ b)
+  each_here other b e ks sound placed = each_filtered (λ k. stands_here k ≡ b) (is_chosen family ks) ks (each_both (IsSound family) (IsTo other) (λ k. stands_here k ≡ b)
       (λ k s d. is_to_by family destination k.route.rule s.family s.rule ∙ ap (λ o. is_eq (to_cmp o destination)) d ∙ e) ks sound placed)
 
   all_here : (other : Option Prefix) → is_eq (to_cmp other destination) ≡ true → (ks : List Kept) → AllByRecursion (IsSound family) ks → AllByRecursion (IsTo other) ks → filter stands_here (chosen family ks) ≡ chosen family ks
@@ -76,7 +78,7 @@ module _ (family : Family) (p : Prefix) where
     at : (b : Bool) → is_eq (prefix_cmp p e.0) ≡ b → filter (stands_here family (Some p)) (chosen_in family es rest) ≡ chosen family (unwrap_or (lookup (is_at (prefix_cmp p)) es) [])
         → filter (stands_here family (Some p)) (chosen_in family (e ∷ es) rest) ≡ chosen family (unwrap_or (cond b (Some e.1) (lookup (is_at (prefix_cmp p)) es)) [])
     at true t ih = parts family (Some p) e es rest (chosen family e.1) [] (all_here family (Some p) (Some e.0) (is_eq_back p e.0 ∙ t) e.1 front placed.0)
-        (to_missing es rest (each_weaker (λ q. prefix_cmp e.0 q ≡ Less) (λ q. is_eq (prefix_cmp p q) ≡ false) (λ q less. ap (λ a. is_eq (prefix_cmp a q)) (same_from_cmp p e.0 t) ∙ ap is_eq less) (keys_of es) (sorted_head prefix_cmp e.0 (keys_of es) ordered)) placed.1 bare behind) ∙ append-nil (chosen family e.1)
+        (to_missing es rest (other_keys p e.0 (keys_of es) t (sorted_head prefix_cmp e.0 (keys_of es) ordered)) placed.1 bare behind) ∙ append-nil (chosen family e.1)
     at false t ih = parts family (Some p) e es rest [] (chosen family (unwrap_or (lookup (is_at (prefix_cmp p)) es) [])) (none_here family (Some p) (Some e.0) (is_eq_back p e.0 ∙ t) e.1 front placed.0) ih
 
 pub group_chosen : (family : Family) (destination : Option Prefix) (es : List Entry) (rest now : List Kept) (bound : ℕ) → IsGrouped es rest bound → kept_in es rest ≡ now → AllByRecursion (IsSound family) now
@@ -89,7 +91,38 @@ group_chosen family destination es rest now bound g v sound = sym (at destinatio
   at None = to_none family es rest g.placed g.bare all
   at (Some p) = to_some family p es rest g.ordered g.placed g.bare all
 
-pub listed_to : (family : Family) (destination : Option Prefix) (config : Config) (unicast : List Route) (ks : List Kept) (now : Held) → Keeps config unicast ks → held_of config unicast (routes_of ks) ≡ now
-    → listings_to family destination ks ≡ map listed (filter (λ r. is_to family destination r.rule) (admitted family now))
+listed_to : (family : Family) (destination : Option Prefix) (config : Config) (unicast : List Route) (ks : List Kept) (now : Held) → Keeps config unicast ks → held_of config unicast (routes_of ks) ≡ now
+    → map listing (filter (stands_here family destination) (chosen family ks)) ≡ map listed (filter (λ r. is_to family destination r.rule) (admitted family now))
 listed_to family destination config unicast ks now keeps v = map-map (λ k. k.route) listed (filter (stands_here family destination) (chosen family ks))
     ∙ ap (map listed) (routes-filter (λ r. is_to family destination r.rule) (chosen family ks) ∙ ap (filter (λ r. is_to family destination r.rule)) (admitted_is family config unicast ks now keeps v))
+
+-- What is lent to be read.
+pub lent_now : (family : Family) (es : List Entry) (rest now : List Kept) (bound : ℕ) → IsGrouped es rest bound → kept_in es rest ≡ now → AreSorted (routes_of now) → AllByRecursion (IsSound family) now → AreLent family (chosen family now) now es rest
+lent_now family es rest now bound g v sorted sound = record {
+  sorted = sorted_groups es rest before;
+  bare = sorted_rest es rest before;
+  few = let a : length (chosen_in family es rest) ≡ length (chosen family now) = ap length (chosen_now family family es rest now bound g v sound) in
+      let b : length (chosen family now) ≤ length now = length-filter (is_chosen family now) now in let c : length (kept_in es rest) ≡ length now = ap length v in let d : length (kept_in es rest) ≤ bound = g.most in let e : bound < 2 ^ 64 = g.small in omega arith;
+  whole = chosen_now family family es rest now bound g v sound;
+  to = λ d. group_chosen family d es rest now bound g v sound;
+  routes = v;
+} where
+  before : AreSorted (routes_of (kept_in es rest))
+  before = subst (λ ks. AreSorted (routes_of ks)) (sym v) sorted
+
+pub told_now : (family : Family) (config : Config) (unicast : List Route) (ks : List Kept) (es : List Entry) (rest : List Kept) (now : Held) → Keeps config unicast ks → held_of config unicast (routes_of ks) ≡ now
+    → AreLent family (chosen family ks) (of_family family ks) es rest → ((f : Family) → AllByRecursion (IsSound f) (chosen f ks)) → AreTold family now es rest
+told_now family config unicast ks es rest now keeps v lent rules = record {
+  sorted = lent.sorted;
+  bare = lent.bare;
+  few = lent.few;
+  admits = ap routes_of lent.whole ∙ admitted_is family config unicast ks now keeps v;
+  lists = ap (map listing) lent.whole ∙ map-map (λ k. k.route) listed (chosen family ks) ∙ ap (map listed) (admitted_is family config unicast ks now keeps v);
+  to = λ d. ap (map listing) (lent.to d) ∙ listed_to family d config unicast ks now keeps v;
+  judges = ap (map judgement) lent.routes ∙ held_is family config unicast ks now keeps v;
+  list = λ f. is_admitted_list f now sorted;
+  rules = λ f. subst (AllByRecursion (IsRuleOf f)) (admitted_is f config unicast ks now keeps v) (each_mapped (λ k. k.route) (IsRuleOf f) (chosen f ks) (rules f));
+  rising = held_rising family now sorted;
+} where
+  sorted : AreSorted now.flows
+  sorted = subst AreSorted (ap (λ (held : Held). held.flows) v) keeps.sorted

@@ -13,6 +13,7 @@ use Rattle.fs_base.specs.declared.prefix.Prefix.{Prefix}
 use Rattle.fs_base.specs.Prefix.{prefix_cmp}
 use Rattle.fs_base.proofs.Lists.{each_weaker, each_both, each_of_map, each_insert, each_remove, filter_all}
 use Rattle.fs_base.proofs.SamePrefix.{same_from_cmp}
+use Rattle.fs_base.proofs.Orderings.{equal_of_is_eq, is_eq_of_first}
 use Rattle.fs_unicast.specs.declared.unicast.Place.{Place}
 use Rattle.fs_unicast.specs.Unicast.{Route, place_cmp, put_path, has_path}
 use Rattle.fs_unicast.proofs.PlaceOrder.{place_total}
@@ -25,8 +26,7 @@ use Rattle.fs_rules.specs.Table.{Held, without_peer_unicast, related_count}
 use Rattle.fs_rules.proofs.Changed.{remove_nothing}
 use Rattle.fs_rules.proofs.Chosen.{with_unicast}
 use Rattle.fs_rules.proofs.Counting.{counted_as, fresh_put}
-use Rattle.fs_rules.proofs.Entries.{is_equal}
-use Rattle.fs_rules.proofs.Losing.{is_place, peers_equal, prefixes_equal, Hit, hit_at, IsLosing, losing_more}
+use Rattle.fs_rules.proofs.Losing.{is_place, peers_equal, Hit, hit_at, IsLosing, losing_more}
 
 -- What was listed still is.
 pub held_still : (old new : Counts) (unicast : List Route) → StaysHeld old new → AreHeld old unicast → AreHeld new unicast
@@ -49,7 +49,7 @@ held_there : (counts : Counts) (peer : ℕ) (prefix : Prefix) (unicast : List Ro
 held_there counts peer prefix [] h there = absurd (true≢false (sym there))
 held_there counts peer prefix (r ∷ rs) h there = at (is_place prefix peer r.0) refl there (held_there counts peer prefix rs h.1) where
   here : is_place prefix peer r.0 ≡ true → may_hold counts peer prefix ≡ true
-  here t = subst (λ p. may_hold counts peer p ≡ true) (sym (same_from_cmp prefix r.0.prefix (prefixes_equal (prefix_cmp prefix r.0.prefix) (nat_cmp peer r.0.peer) t)))
+  here t = subst (λ p. may_hold counts peer p ≡ true) (sym (same_from_cmp prefix r.0.prefix (is_eq_of_first (prefix_cmp prefix r.0.prefix) (nat_cmp peer r.0.peer) t)))
       (subst (λ n. may_hold counts n r.0.prefix ≡ true) (eqb-true r.0.peer peer (peers_equal (prefix_cmp prefix r.0.prefix) peer r.0.peer t)) h.0)
 
   at : (b : Bool) → is_place prefix peer r.0 ≡ b → is_some (cond b (Some r.1) (lookup (is_place prefix peer) rs)) ≡ true → (has_path peer prefix rs ≡ true → may_hold counts peer prefix ≡ true) → may_hold counts peer prefix ≡ true
@@ -98,7 +98,7 @@ among_left peer d ds [] sorted h = tt
 among_left peer d ds (r ∷ rs) sorted h = at (is_place d peer r.0) refl (among_left peer d ds rs (sorted_tail place_cmp r.0 (keys_of rs) sorted) h.1) where
   behind : is_place d peer r.0 ≡ true → AreAmong peer ds rs
   behind t = each_both (λ s. place_cmp r.0 s.0 ≡ Less) (λ s. (s.0.peer == peer) ≡ true → is_among (d ∷ ds) s.0.prefix ≡ true) (λ s. (s.0.peer == peer) ≡ true → is_among ds s.0.prefix ≡ true)
-      (λ s less among. fewer peer d ds s (ap is_eq (IsTotalOrder.congr place_total (place d peer) r.0 s.0 (is_equal (place_cmp (place d peer) r.0) t) ∙ less)) among) rs
+      (λ s less among. fewer peer d ds s (ap is_eq (IsTotalOrder.congr place_total (place d peer) r.0 s.0 (equal_of_is_eq (place_cmp (place d peer) r.0) t) ∙ less)) among) rs
       (each_of_map (λ s. s.0) (λ q. place_cmp r.0 q ≡ Less) rs (sorted_head place_cmp r.0 (keys_of rs) sorted)) h.1
 
   at : (b : Bool) → is_place d peer r.0 ≡ b → AreAmong peer ds (remove_entry (is_place d peer) rs) → AreAmong peer ds (cond b rs (r ∷ remove_entry (is_place d peer) rs))

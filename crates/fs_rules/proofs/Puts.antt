@@ -5,6 +5,7 @@ use Rattle.std.specs.BTreeMap.{insert_entry, is_at}
 use Rattle.std.specs.Map.{keys_of, lookup, set_value}
 use Rattle.std.specs.Ordering.{match_ordering, ordering_reverse}
 use Rattle.std.proofs.lemmas.Map.Keys.{sorted_head, sorted_tail}
+use Rattle.std.proofs.lemmas.Option.{same_Some}
 use Rattle.fs_base.specs.declared.prefix.Family.{Family}
 use Rattle.fs_base.specs.declared.prefix.Prefix.{Prefix}
 use Rattle.fs_base.specs.Prefix.{prefix_cmp, prefix_total}
@@ -102,9 +103,7 @@ put_found p k (e ∷ es) group ordered h = at (prefix_cmp p e.0) refl (put_found
       → cond (is_eq o) (Some e.1) (lookup (is_at (prefix_cmp p)) es) ≡ Some group
       → match_ordering o ((p, put_kept k group) ∷ e ∷ es) ((e.0, put_kept k group) ∷ es) (e ∷ insert_entry prefix_cmp es p (put_kept k group)) ≡ match_ordering o ((p, k ∷ []) ∷ e ∷ es) ((e.0, put_kept k e.1) ∷ es) (e ∷ put_entry p k es)
   at Less less ih f = absurd (not_first p e group es ordered less f)
-  at Equal same ih f = ap (λ g. (e.0, put_kept k g) ∷ es) (sym (inner f)) where
-    inner : Some e.1 ≡ Some group → e.1 ≡ group
-    inner g = cc
+  at Equal same ih f = ap (λ g. (e.0, put_kept k g) ∷ es) (sym (same_Some e.1 group f))
   at Greater more ih f = ap (λ fs. e ∷ fs) (ih f)
 
 pub put_new : (p : Prefix) (k : Kept) (es : List Entry) → lookup (is_at (prefix_cmp p)) es ≡ None → insert_entry prefix_cmp es p (k ∷ []) ≡ put_entry p k es
@@ -142,36 +141,28 @@ length-put k (x ∷ xs) = at (key_cmp k.route.rule k.route.peer x.route) (length
   at Greater ih = omega (arith, ih)
 
 -- each group is in order where all routes are
-routes_front : (xs ys : List Kept) → AreSorted (routes_of (xs ++ ys)) → AreSorted (routes_of xs)
-routes_front [] ys h = tt
-routes_front (x ∷ xs) ys h = (front xs ys h.0, routes_front xs ys h.1) where
-  front : (xs ys : List Kept) → AllByRecursion (λ s. key_cmp x.route.rule x.route.peer s ≡ Less) (routes_of (xs ++ ys)) → AllByRecursion (λ s. key_cmp x.route.rule x.route.peer s ≡ Less) (routes_of xs)
-  front [] ys g = tt
-  front (z ∷ zs) ys g = (g.0, front zs ys g.1)
-
-routes_back : (xs ys : List Kept) → AreSorted (routes_of (xs ++ ys)) → AreSorted (routes_of ys)
-routes_back [] ys h = h
-routes_back (x ∷ xs) ys h = routes_back xs ys h.1
-
 pub sorted_front : (xs ys : List Kept) → AreSorted (routes_of (xs ++ ys)) → AreSorted (routes_of xs)
-sorted_front = routes_front
+sorted_front [] ys h = tt
+sorted_front (x ∷ xs) ys h = (front xs h.0, sorted_front xs ys h.1) where
+  front : (zs : List Kept) → AllByRecursion (λ s. key_cmp x.route.rule x.route.peer s ≡ Less) (routes_of (zs ++ ys)) → AllByRecursion (λ s. key_cmp x.route.rule x.route.peer s ≡ Less) (routes_of zs)
+  front [] g = tt
+  front (z ∷ zs) g = (g.0, front zs g.1)
 
 pub sorted_back : (xs ys : List Kept) → AreSorted (routes_of (xs ++ ys)) → AreSorted (routes_of ys)
-sorted_back = routes_back
+sorted_back [] ys h = h
+sorted_back (x ∷ xs) ys h = sorted_back xs ys h.1
 
 pub sorted_groups : (es : List Entry) (rest : List Kept) → AreSorted (routes_of (kept_in es rest)) → HasSortedGroups es
 sorted_groups [] rest h = tt
-sorted_groups (e ∷ es) rest h = (routes_front e.1 (kept_in es rest) h, sorted_groups es rest (routes_back e.1 (kept_in es rest) h))
+sorted_groups (e ∷ es) rest h = (sorted_front e.1 (kept_in es rest) h, sorted_groups es rest (sorted_back e.1 (kept_in es rest) h))
 
 pub sorted_rest : (es : List Entry) (rest : List Kept) → AreSorted (routes_of (kept_in es rest)) → AreSorted (routes_of rest)
 sorted_rest [] rest h = h
-sorted_rest (e ∷ es) rest h = sorted_rest es rest (routes_back e.1 (kept_in es rest) h)
+sorted_rest (e ∷ es) rest h = sorted_rest es rest (sorted_back e.1 (kept_in es rest) h)
 
 pub each_lookup : {K X : Type 0} (P : X → Type 0) (test : K → Bool) (es : List (K × X)) (v : X) → AllByRecursion (λ e. P e.1) es → lookup test es ≡ Some v → P v
 each_lookup P test [] v h f = cc
 each_lookup P test (e ∷ es) v h f = at (test e.0) f (each_lookup P test es v h.1) where
   at : (b : Bool) → cond b (Some e.1) (lookup test es) ≡ Some v → (lookup test es ≡ Some v → P v) → P v
-  at true g ih = subst P (inner g) h.0 where
-    inner : Some e.1 ≡ Some v → e.1 ≡ v
-    inner g = cc
+  at true g ih = subst P (same_Some e.1 v g) h.0
   at false g ih = ih g

@@ -3,9 +3,9 @@ use Rattle.std.proofs.Common.{ℕ, zero, suc, ◌≡◌, ◌+◌, ◌<◌, ◌�
 use Rattle.std.specs.List.{AllByRecursion, AllWithin}
 use Rattle.std.specs.List.Sorted.{IsPartitionedBy}
 use Rattle.std.specs.Ordering.{match_ordering, ordering_then, ordering_reverse, is_gt}
-use Rattle.std.specs.Cmp.{IsTotalOrder, on_total, then_total, nat_cmp_total, tied_back}
+use Rattle.std.specs.Cmp.{tied_back}
 use Rattle.std.proofs.lemmas.Bool.Decides.{nat_tests}
-use Rattle.fs_base.proofs.Lists.{each_weaker}
+use Rattle.fs_base.proofs.Lists.{each_of_map, each_weaker}
 use Rattle.fs_nlri.specs.Parts.{Ruled}
 use Rattle.fs_order.specs.Comparison.{rule_cmp}
 use Rattle.fs_order.specs.Ranked.{rule_total}
@@ -14,13 +14,8 @@ use Rattle.fs_unicast.specs.Preference.{preferred}
 use Rattle.fs_rules.specs.Kept.{Kept}
 use Rattle.fs_rules.specs.Table.{key_cmp, is_valid, same_rule, beats}
 use Rattle.fs_rules.specs.Group.{routes_of, AreSorted, place_in, is_beaten, is_before_rule}
-
--- the order of keys
-abbrev pair_cmp : Ruled × ℕ → Ruled × ℕ → Ordering
-pair_cmp a b = ordering_then (rule_cmp a.0 b.0) (nat_cmp a.1 b.1)
-
-pair_total : IsTotalOrder pair_cmp
-pair_total = then_total (on_total (λ (a : Ruled × ℕ). a.0) rule_total) (on_total (λ (a : Ruled × ℕ). a.1) nat_cmp_total)
+use Rattle.fs_rules.proofs.Apart.{drop_each}
+use Rattle.fs_rules.proofs.Placing.{pair_total}
 
 abbrev pub is_after : Ruled → ℕ → Kept → Bool
 is_after rule peer k = is_gt (key_cmp rule peer k.route)
@@ -102,7 +97,7 @@ least_after Greater n h = refl
 greater_apart : (r s : FlowRoute) → rule_cmp r.rule s.rule ≡ Greater → same_rule s r ≡ false
 greater_apart r s h = ap is_eq (rule_total.antisymm s.rule r.rule ∙ ap ordering_reverse h)
 
-no_rival : (k x : Kept) (rest : Bool) → same_rule x.route k.route ≡ false → ((is_valid x.validity && beats x.route k.route) || rest) ≡ rest
+pub no_rival : (k x : Kept) (rest : Bool) → same_rule x.route k.route ≡ false → ((is_valid x.validity && beats x.route k.route) || rest) ≡ rest
 no_rival k x rest h = at (is_valid x.validity) (same_rule x.route k.route) h where
   at : (a b : Bool) → b ≡ false → ((a && (b && preferred (x.route.peer, x.route.path) (k.route.peer, k.route.path))) || rest) ≡ rest
   at true true e = absurd (true≢false e)
@@ -131,15 +126,11 @@ not_after_later k x y h less = at (is_after k.route.rule 0 y) refl where
   at true e = absurd (true≢false (sym (after_earlier k.route.rule 0 x.route y.route less e) ∙ h))
   at false e = e
 
-pub each_of_routes : (P : FlowRoute → Type 0) (xs : List Kept) → AllByRecursion P (routes_of xs) → AllByRecursion (λ s. P s.route) xs
-each_of_routes P [] h = tt
-each_of_routes P (x ∷ xs) h = (h.0, each_of_routes P xs h.1)
-
 pub not_before : (k : Kept) (xs : List Kept) → AreSorted (routes_of xs) → AllByRecursion (NotBefore k) (drop (place_in k.route.rule 0 xs) xs)
 not_before k [] sorted = tt
 not_before k (x ∷ xs) sorted = at (key_cmp k.route.rule 0 x.route) refl (not_before k xs sorted.1) where
   all : NotBefore k x → AllByRecursion (NotBefore k) (x ∷ xs)
-  all h = (h, each_weaker (λ s. key_cmp x.route.rule x.route.peer s.route ≡ Less) (NotBefore k) (λ s less. not_after_later k x s h less) xs (each_of_routes (λ s. key_cmp x.route.rule x.route.peer s ≡ Less) xs sorted.0))
+  all h = (h, each_weaker (λ s. key_cmp x.route.rule x.route.peer s.route ≡ Less) (NotBefore k) (λ s less. not_after_later k x s h less) xs (each_of_map (λ k. k.route) (λ s. key_cmp x.route.rule x.route.peer s ≡ Less) xs sorted.0))
 
   at : (o : Ordering) → key_cmp k.route.rule 0 x.route ≡ o → AllByRecursion (NotBefore k) (drop (place_in k.route.rule 0 xs) xs)
       → AllByRecursion (NotBefore k) (drop (match_ordering o 0 0 (1 + place_in k.route.rule 0 xs)) (x ∷ xs))
@@ -148,12 +139,6 @@ not_before k (x ∷ xs) sorted = at (key_cmp k.route.rule 0 x.route) refl (not_b
   at Greater e ih = subst (λ n. AllByRecursion (NotBefore k) (drop n (x ∷ xs))) (sym next) ih where
     next : 1 + place_in k.route.rule 0 xs ≡ suc (place_in k.route.rule 0 xs)
     next = omega arith
-
-pub each-drop : (P : Kept → Type 0) (xs : List Kept) (n : ℕ) → AllByRecursion P xs → AllByRecursion P (drop n xs)
-each-drop P [] zero h = tt
-each-drop P [] (suc n) h = tt
-each-drop P (x ∷ xs) zero h = h
-each-drop P (x ∷ xs) (suc n) h = each-drop P xs n h.1
 
 pub sorted-drop : (xs : List Kept) (n : ℕ) → AreSorted (routes_of xs) → AreSorted (routes_of (drop n xs))
 sorted-drop [] zero h = tt
@@ -185,7 +170,7 @@ none_beats k (x ∷ xs) h = no_rival k x (is_beaten xs k) h.0 ∙ none_beats k x
 
 -- behind the first route of another rule stands none of the rule
 pub run_ends : (k s : Kept) (rest : List Kept) → AllByRecursion (NotBefore k) (s ∷ rest) → AreSorted (routes_of (s ∷ rest)) → same_rule s.route k.route ≡ false → is_beaten (s ∷ rest) k ≡ false
-run_ends k s rest h sorted other = none_beats k (s ∷ rest) (other, each_weaker (λ t. key_cmp s.route.rule s.route.peer t.route ≡ Less) (λ t. same_rule t.route k.route ≡ false) (λ t less. later_rule k s t (rule_after k s h.0 other) less) rest (each_of_routes (λ t. key_cmp s.route.rule s.route.peer t ≡ Less) rest sorted.0))
+run_ends k s rest h sorted other = none_beats k (s ∷ rest) (other, each_weaker (λ t. key_cmp s.route.rule s.route.peer t.route ≡ Less) (λ t. same_rule t.route k.route ≡ false) (λ t less. later_rule k s t (rule_after k s h.0 other) less) rest (each_of_map (λ k. k.route) (λ t. key_cmp s.route.rule s.route.peer t ≡ Less) rest sorted.0))
 
 -- a slice from a place on
 pub tail_is : {X : Type 0} (xs : List X) (n : ℕ) → take (length xs - n) (drop n xs) ≡ drop n xs
@@ -196,6 +181,6 @@ pub run_starts : (k : Kept) (xs items : List Kept) (n : ℕ) → items ≡ drop 
 run_starts k xs items n e h = ap (λ ys. is_beaten ys k) (e ∙ ap (λ m. drop m xs) h) ∙ beaten_from k xs
 
 pub run_over : (k s : Kept) (xs items rest : List Kept) (n i : ℕ) → AreSorted (routes_of xs) → items ≡ drop n xs → n ≡ place_in k.route.rule 0 xs → drop i items ≡ s ∷ rest → same_rule s.route k.route ≡ false → is_beaten (drop i items) k ≡ false
-run_over k s xs items rest n i sorted e h d other = ap (λ ys. is_beaten ys k) d ∙ run_ends k s rest (subst (AllByRecursion (NotBefore k)) d (each-drop (NotBefore k) items i (subst (AllByRecursion (NotBefore k)) (sym same) (not_before k xs sorted)))) (subst (λ ys. AreSorted (routes_of ys)) d (sorted-drop items i (subst (λ ys. AreSorted (routes_of ys)) (sym same) (sorted-drop xs (place_in k.route.rule 0 xs) sorted)))) other where
+run_over k s xs items rest n i sorted e h d other = ap (λ ys. is_beaten ys k) d ∙ run_ends k s rest (subst (AllByRecursion (NotBefore k)) d (drop_each (NotBefore k) i items (subst (AllByRecursion (NotBefore k)) (sym same) (not_before k xs sorted)))) (subst (λ ys. AreSorted (routes_of ys)) d (sorted-drop items i (subst (λ ys. AreSorted (routes_of ys)) (sym same) (sorted-drop xs (place_in k.route.rule 0 xs) sorted)))) other where
   same : items ≡ drop (place_in k.route.rule 0 xs) xs
   same = e ∙ ap (λ m. drop m xs) h

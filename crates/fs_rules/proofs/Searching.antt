@@ -9,7 +9,8 @@ use Rattle.std.specs.Map.{keys_of}
 use Rattle.std.specs.Option.{MatchOption}
 use Rattle.std.specs.Ordering.{ordering_reverse}
 use Rattle.std.specs.Cmp.{tied_itself}
-use Rattle.fs_base.proofs.Bools.{and_both, and_first, and_second, false_from, or_either, or_first, or_second, same_tests}
+use Rattle.fs_unicast.proofs.Fronts.{upto_upto}
+use Rattle.fs_base.proofs.Bools.{and_both, and_first, and_second, false_from, or_either, or_first, or_second, same_tests, and_true}
 use Rattle.fs_base.specs.declared.prefix.Prefix.{Prefix}
 use Rattle.fs_base.specs.Prefix.{covers, prefix_cmp, prefix_total}
 use Rattle.fs_base.specs.Search.{IsFirst, IsFirstFrom}
@@ -65,46 +66,27 @@ le_cases p q h = at (prefix_cmp p q) h where
   at Equal g = inr refl
   at Greater g = absurd (true≢false (sym g))
 
-le_trans : (p q r : Prefix) → is_le (prefix_cmp p q) ≡ true → is_le (prefix_cmp q r) ≡ true → is_le (prefix_cmp p r) ≡ true
-le_trans p q r h k = go (le_cases p q h) (le_cases q r k) where
-  less : (p q : Prefix) → is_lt (prefix_cmp p q) ≡ true → prefix_cmp p q ≡ Less
-  less p q g = at (prefix_cmp p q) g where
-    at : (o : Ordering) → is_lt o ≡ true → o ≡ Less
-    at Less f = refl
-    at Equal f = absurd (true≢false (sym f))
-    at Greater f = absurd (true≢false (sym f))
-
-  go : (is_lt (prefix_cmp p q) ≡ true) ⊎ (is_eq (prefix_cmp p q) ≡ true) → (is_lt (prefix_cmp q r) ≡ true) ⊎ (is_eq (prefix_cmp q r) ≡ true) → is_le (prefix_cmp p r) ≡ true
-  go (inr e) l = subst (λ x. is_le (prefix_cmp x r) ≡ true) (sym (same_from_cmp p q e)) k
-  go (inl l) (inr e) = subst (λ x. is_le (prefix_cmp p x) ≡ true) (same_from_cmp q r e) h
-  go (inl l) (inl m) = ap is_le (prefix_total.trans p q r (less p q l) (less q r m))
-
 itself : (p : Prefix) → prefix_cmp p p ≡ Equal
 itself p = tied_itself prefix_total p
-
--- The range from a key on.
-from_test : (b : Bool) → (b && true) ≡ b
-from_test true = refl
-from_test false = refl
 
 pub first_in_range : (low : Prefix) (es : List Entry) → AreInOrder es → (found : List Entry) (x : Entry) (rest : List Entry)
     → found ≡ entries_between prefix_cmp (Included low) Unbounded es → found ≡ x ∷ rest → IsFirst (λ e. e.0) es low x.0
 first_in_range low es sorted found x rest e k = record {
   there = first.there;
-  from = sym (from_test (is_le (prefix_cmp low x.0))) ∙ first.passes;
+  from = sym (and_true (is_le (prefix_cmp low x.0))) ∙ first.passes;
   least = each_weaker (λ r. range_contains prefix_cmp (Included low) Unbounded r.0 ≡ true → is_le (prefix_cmp x.0 r.0) ≡ true) (λ r. is_le (prefix_cmp low r.0) ≡ true → is_le (prefix_cmp x.0 r.0) ≡ true)
-      (λ r h f. h (from_test (is_le (prefix_cmp low r.0)) ∙ f)) es first.least;
+      (λ r h f. h (and_true (is_le (prefix_cmp low r.0)) ∙ f)) es first.least;
 } where
   first : IsLeast prefix_cmp (range_contains prefix_cmp (Included low) Unbounded) es x.0
   first = filter_first prefix_cmp itself (range_contains prefix_cmp (Included low) Unbounded) es sorted x rest (sym e ∙ k)
 
 pub none_in_range : (low : Prefix) (es found : List Entry) → found ≡ entries_between prefix_cmp (Included low) Unbounded es → found ≡ [] → AllByRecursion (λ e. is_le (prefix_cmp low e.0) ≡ false) es
 none_in_range low es found e k = each_weaker (λ r. range_contains prefix_cmp (Included low) Unbounded r.0 ≡ false) (λ r. is_le (prefix_cmp low r.0) ≡ false)
-    (λ r h. sym (from_test (is_le (prefix_cmp low r.0))) ∙ h) es (filter_empty (λ r. range_contains prefix_cmp (Included low) Unbounded r.0) es (sym e ∙ k))
+    (λ r h. sym (and_true (is_le (prefix_cmp low r.0))) ∙ h) es (filter_empty (λ r. range_contains prefix_cmp (Included low) Unbounded r.0) es (sym e ∙ k))
 
 -- the next key behind a key
 after_test : (low q : Prefix) → range_contains prefix_cmp (Excluded low) Unbounded q ≡ is_lt (prefix_cmp low q)
-after_test low q = from_test (is_lt (prefix_cmp low q))
+after_test low q = and_true (is_lt (prefix_cmp low q))
 
 pub next_in_range : (low : Prefix) (es : List Entry) → AreInOrder es → (found : List Entry) (x : Entry) (rest : List Entry)
     → found ≡ entries_between prefix_cmp (Excluded low) Unbounded es → found ≡ x ∷ rest → IsNextAfter es low (Some x.0)
@@ -130,7 +112,7 @@ next_in_range low es sorted found x rest e k = record {
   back r f = at (is_lt (prefix_cmp r.0 x.0)) refl where
     at : (b : Bool) → is_lt (prefix_cmp r.0 x.0) ≡ b → is_lt (prefix_cmp r.0 x.0) ≡ true
     at true g = g
-    at false g = absurd (lt_not_le x.0 low beyond (le_trans x.0 r.0 low (not_lt_le x.0 r.0 g) f))
+    at false g = absurd (lt_not_le x.0 low beyond (upto_upto x.0 r.0 low (not_lt_le x.0 r.0 g) f))
 
 pub no_next_in_range : (low : Prefix) (es found : List Entry) → found ≡ entries_between prefix_cmp (Excluded low) Unbounded es → found ≡ [] → IsNextAfter es low None
 no_next_in_range low es found e k = record {
@@ -152,7 +134,7 @@ IsRange p first = (q : Prefix) → covers p q ≡ (is_le (prefix_cmp first q) &&
 related_from : (p first q : Prefix) → IsRange p first → is_related p q ≡ true → is_le (prefix_cmp first q) ≡ true
 related_from p first q law h = at (or_either (covers q p) (covers p q) h) where
   at : (covers q p ≡ true) ⊎ (covers p q ≡ true) → is_le (prefix_cmp first q) ≡ true
-  at (inl f) = le_trans first p q (and_first (is_le (prefix_cmp first p)) (is_le (prefix_cmp p p)) (sym (law p) ∙ covers_self p)) (covered_before q p f)
+  at (inl f) = upto_upto first p q (and_first (is_le (prefix_cmp first p)) (is_le (prefix_cmp p p)) (sym (law p) ∙ covers_self p)) (covered_before q p f)
   at (inr f) = and_first (is_le (prefix_cmp first q)) (is_le (prefix_cmp q p)) (sym (law q) ∙ f)
 
 -- those that are done
@@ -179,7 +161,7 @@ from_first p first (Some n) es law h = λ le. law n ∙ and_both (is_le (prefix_
 
 -- at the end all
 pub all_done : (p : Prefix) (es : List Entry) → AllByRecursion (Same (done p None) (is_related p)) es
-all_done p es = each (Same (done p None) (is_related p)) (λ e. from_test (is_related p e.0)) es
+all_done p es = each (Same (done p None) (is_related p)) (λ e. and_true (is_related p e.0)) es
 
 -- one more
 pub apart_now : (p n : Prefix) (es : List Entry) → AllByRecursion (λ e. (done p (Some n) e.0 && is_at (prefix_cmp n) e.0) ≡ false) es
@@ -241,7 +223,7 @@ before_later : (q n m : Prefix) → is_le (prefix_cmp q n) ≡ true → is_lt (p
 before_later q n m h k = at (is_lt (prefix_cmp q m)) refl where
   at : (b : Bool) → is_lt (prefix_cmp q m) ≡ b → is_lt (prefix_cmp q m) ≡ true
   at true e = e
-  at false e = absurd (lt_not_le m n k (le_trans m q n (not_lt_le m q e) h))
+  at false e = absurd (lt_not_le m n k (upto_upto m q n (not_lt_le m q e) h))
 
 module _ (p n : Prefix) (behind : is_le (prefix_cmp p n) ≡ true) where
   -- what is related to p and stands behind n covers both
@@ -249,7 +231,7 @@ module _ (p n : Prefix) (behind : is_le (prefix_cmp p n) ≡ true) where
   both_covered q h past = at (or_either (covers q p) (covers p q) h) where
     at : (covers q p ≡ true) ⊎ (covers p q ≡ true) → (covers q p ≡ true) × (covers q n ≡ true)
     at (inl f) = (f, between_covered q p n f behind (lt_le n q past))
-    at (inr f) = absurd (lt_not_le q n past (le_trans q p n (covered_before p q f) behind))
+    at (inr f) = absurd (lt_not_le q n past (upto_upto q p n (covered_before p q f) behind))
 
   -- without a family in common nothing does
   pub nothing_over : (es : List Entry) → (p.family ≡ n.family → ⊥) → IsNextRelated es p n None
@@ -309,7 +291,7 @@ module _ (p n : Prefix) (behind : is_le (prefix_cmp p n) ≡ true) where
           (λ e least related. same_tests (is_lt (prefix_cmp e.0 m)) (is_le (prefix_cmp e.0 n)) (there e least related) (λ f. before_later e.0 n m f beyond)) es first.least;
     } where
       beyond : is_lt (prefix_cmp n m) ≡ true
-      beyond = le_or_lt m n (false_from (is_le (prefix_cmp m n)) (λ back. true≢false (sym (le_trans both m n first.from back) ∙ common_behind)))
+      beyond = le_or_lt m n (false_from (is_le (prefix_cmp m n)) (λ back. true≢false (sym (upto_upto both m n first.from back) ∙ common_behind)))
 
       there : (e : Entry) → (is_le (prefix_cmp both e.0) ≡ true → is_le (prefix_cmp m e.0) ≡ true) → is_related p e.0 ≡ true → is_lt (prefix_cmp e.0 m) ≡ true → is_le (prefix_cmp e.0 n) ≡ true
       there e least related less = at (is_le (prefix_cmp e.0 n)) refl where
@@ -387,4 +369,4 @@ first_there first (Some n) es h = sym (any_key (λ q. is_eq (prefix_cmp n q)) es
 
 pub next_from : (p n : Prefix) (next : Option Prefix) → IsFrom p (Some n) → IsBehind n next → IsFrom p next
 next_from p n None h k = tt
-next_from p n (Some m) h k = λ le. between_covered p n m (h (le_trans n m p (lt_le n m k) le)) (lt_le n m k) le
+next_from p n (Some m) h k = λ le. between_covered p n m (h (upto_upto n m p (lt_le n m k) le)) (lt_le n m k) le

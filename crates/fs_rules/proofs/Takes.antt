@@ -1,5 +1,5 @@
 -- What is left of the groups where routes are taken away.
-use Rattle.std.proofs.Common.{ℕ, suc, ◌≡◌, ◌≤◌, refl, sym, ap, ap₂, subst, ◌∙◌, Bool, true, false, true≢false, not, ◌||◌, ◌==◌, cond, List, [], ◌∷◌, ◌++◌, filter, length, Option, Some, None, Less, is_eq, arith}
+use Rattle.std.proofs.Common.{ℕ, suc, ◌≡◌, ◌≤◌, refl, sym, ap, ap₂, subst, ◌∙◌, Bool, true, false, true≢false, not, ◌==◌, cond, List, [], ◌∷◌, ◌++◌, filter, length, Option, Some, None, Less, is_eq, arith}
 use Rattle.std.specs.List.{list_any, AllByRecursion}
 use Rattle.std.specs.List.Sorted.{IsStrictlySortedBy}
 use Rattle.std.specs.BTreeMap.{is_at}
@@ -7,11 +7,12 @@ use Rattle.std.specs.Map.{keys_of, lookup, set_value, remove_entry}
 use Rattle.std.specs.Map.Calls.{RetainsPairs}
 use Rattle.std.specs.Option.{MatchOption}
 use Rattle.std.proofs.lemmas.Bool.{eqb-true}
+use Rattle.std.proofs.lemmas.Option.{none-some, same_Some}
 use Rattle.std.proofs.lemmas.Map.Keys.{sorted_head, sorted_tail}
 use Rattle.fs_base.specs.declared.prefix.Prefix.{Prefix}
 use Rattle.fs_base.specs.Prefix.{prefix_cmp, prefix_total}
 use Rattle.std.specs.Cmp.{tied_itself}
-use Rattle.fs_base.proofs.Lists.{each_weaker, each_both, each_append, filter-append, filter_all, each_none}
+use Rattle.fs_base.proofs.Lists.{each_weaker, each_both, each_append, filter-append, each_none, each_filtered}
 use Rattle.fs_base.proofs.SamePrefix.{same_from_cmp}
 use Rattle.fs_nlri.specs.Parts.{Ruled}
 use Rattle.fs_nlri.specs.Rule.{IsRule, destination_prefix}
@@ -19,7 +20,7 @@ use Rattle.fs_rules.specs.Kept.{Kept}
 use Rattle.fs_rules.specs.Table.{is_key}
 use Rattle.fs_rules.specs.Groups.{Entry, kept_in, IsTo, ArePlaced, AreInOrder, with_group, keep_at, keep_each}
 use Rattle.fs_rules.proofs.Apart.{key_same, each_front, each_back}
-use Rattle.fs_rules.proofs.Changed.{each-filter}
+use Rattle.fs_rules.proofs.Changed.{all_stay, any_back, any_front, left_back, left_front}
 
 -- told the other way round
 pub turned : (b c : Bool) → not b ≡ c → b ≡ not c
@@ -41,13 +42,13 @@ placed_with p (k ∷ ks) es h placed = (h, placed)
 
 pub placed_each : (keeps : Kept → Bool) (es : List Entry) → ArePlaced es → ArePlaced (keep_each keeps es)
 placed_each keeps [] h = tt
-placed_each keeps (e ∷ es) h = placed_with e.0 (filter keeps e.1) (keep_each keeps es) (each-filter (IsTo (Some e.0)) keeps e.1 h.0) (placed_each keeps es h.1)
+placed_each keeps (e ∷ es) h = placed_with e.0 (filter keeps e.1) (keep_each keeps es) (each_filtered (IsTo (Some e.0)) keeps e.1 h.0) (placed_each keeps es h.1)
 
 pub placed_at : (p : Prefix) (keeps : Kept → Bool) (es : List Entry) → ArePlaced es → ArePlaced (keep_at p keeps es)
 placed_at p keeps [] h = tt
 placed_at p keeps (e ∷ es) h = at (is_eq (prefix_cmp p e.0)) (placed_at p keeps es h.1) where
   at : (b : Bool) → ArePlaced (keep_at p keeps es) → ArePlaced (cond b (with_group e.0 (filter keeps e.1) es) (e ∷ keep_at p keeps es))
-  at true ih = placed_with e.0 (filter keeps e.1) es (each-filter (IsTo (Some e.0)) keeps e.1 h.0) h.1
+  at true ih = placed_with e.0 (filter keeps e.1) es (each_filtered (IsTo (Some e.0)) keeps e.1 h.0) h.1
   at false ih = (h.0, ih)
 
 each_with : (P : Prefix → Type 0) (p : Prefix) (ks : List Kept) (es : List Entry) → P p → AllByRecursion P (keys_of es) → AllByRecursion P (keys_of (with_group p ks es))
@@ -101,9 +102,7 @@ taken_some p keeps [] group h f = refl
 taken_some p keeps (e ∷ es) group h f = at (is_eq (prefix_cmp p e.0)) h (taken_some p keeps es group) where
   at : (b : Bool) → cond b (Some e.1) (lookup (is_at (prefix_cmp p)) es) ≡ Some group → (lookup (is_at (prefix_cmp p)) es ≡ Some group → (length (filter keeps group) == 0) ≡ false → set_value (is_at (prefix_cmp p)) es (filter keeps group) ≡ keep_at p keeps es)
       → cond b ((e.0, filter keeps group) ∷ es) (e ∷ set_value (is_at (prefix_cmp p)) es (filter keeps group)) ≡ cond b (with_group e.0 (filter keeps e.1) es) (e ∷ keep_at p keeps es)
-  at true g ih = some_group e.0 (filter keeps group) es f ∙ ap (λ ks. with_group e.0 (filter keeps ks) es) (sym (inner g)) where
-    inner : Some e.1 ≡ Some group → e.1 ≡ group
-    inner m = cc
+  at true g ih = some_group e.0 (filter keeps group) es f ∙ ap (λ ks. with_group e.0 (filter keeps ks) es) (sym (same_Some e.1 group g))
   at false g ih = ap (λ fs. e ∷ fs) (ih g f)
 
 pub taken_all : (p : Prefix) (keeps : Kept → Bool) (es : List Entry) (group : List Kept) → lookup (is_at (prefix_cmp p)) es ≡ Some group → (length (filter keeps group) == 0) ≡ true → remove_entry (is_at (prefix_cmp p)) (set_value (is_at (prefix_cmp p)) es (filter keeps group)) ≡ keep_at p keeps es
@@ -112,9 +111,7 @@ taken_all p keeps (e ∷ es) group h f = at (is_eq (prefix_cmp p e.0)) refl h (t
   at : (b : Bool) → is_eq (prefix_cmp p e.0) ≡ b → cond b (Some e.1) (lookup (is_at (prefix_cmp p)) es) ≡ Some group
       → (lookup (is_at (prefix_cmp p)) es ≡ Some group → (length (filter keeps group) == 0) ≡ true → remove_entry (is_at (prefix_cmp p)) (set_value (is_at (prefix_cmp p)) es (filter keeps group)) ≡ keep_at p keeps es)
       → remove_entry (is_at (prefix_cmp p)) (cond b ((e.0, filter keeps group) ∷ es) (e ∷ set_value (is_at (prefix_cmp p)) es (filter keeps group))) ≡ cond b (with_group e.0 (filter keeps e.1) es) (e ∷ keep_at p keeps es)
-  at true t g ih = ap (λ c. cond c es ((e.0, filter keeps group) ∷ remove_entry (is_at (prefix_cmp p)) es)) t ∙ sym (ap (λ ks. with_group e.0 (filter keeps ks) es) (inner g) ∙ ap (λ ks. with_group e.0 ks es) (empty (filter keeps group) f)) where
-    inner : Some e.1 ≡ Some group → e.1 ≡ group
-    inner m = cc
+  at true t g ih = ap (λ c. cond c es ((e.0, filter keeps group) ∷ remove_entry (is_at (prefix_cmp p)) es)) t ∙ sym (ap (λ ks. with_group e.0 (filter keeps ks) es) (same_Some e.1 group g) ∙ ap (λ ks. with_group e.0 ks es) (empty (filter keeps group) f))
   at false t g ih = ap (λ c. cond c (set_value (is_at (prefix_cmp p)) es (filter keeps group)) (e ∷ remove_entry (is_at (prefix_cmp p)) (set_value (is_at (prefix_cmp p)) es (filter keeps group)))) t ∙ ap (λ fs. e ∷ fs) (ih g f)
 
 pub taken_none : (p : Prefix) (keeps : Kept → Bool) (es : List Entry) → lookup (is_at (prefix_cmp p)) es ≡ None → es ≡ keep_at p keeps es
@@ -156,32 +153,14 @@ module _ (rule : Ruled) (peer : ℕ) (normal : IsRule rule) where
   none_in : (q : Option Prefix) → (destination_prefix rule ≡ q → ⊥) → (ks : List Kept) → AllByRecursion (λ k. IsRule k.route.rule) ks → AllByRecursion (IsTo q) ks → AllByRecursion (λ k. hits k ≡ false) ks
   none_in q apart ks sound placed = each_both (λ k. IsRule k.route.rule) (IsTo q) (λ k. hits k ≡ false) (λ k s d. elsewhere q apart k s d) ks sound placed
 
-  pub all_pass : (ks : List Kept) → AllByRecursion (λ k. hits k ≡ false) ks → filter passes ks ≡ ks
-  all_pass ks h = filter_all passes ks (each_weaker (λ k. hits k ≡ false) (λ k. passes k ≡ true) (λ k e. ap not e) ks h)
-
-  pub any-append : (xs ys : List Kept) → list_any hits (xs ++ ys) ≡ (list_any hits xs || list_any hits ys)
-  any-append [] ys = refl
-  any-append (x ∷ xs) ys = at (hits x) (any-append xs ys) where
-    at : (b : Bool) → list_any hits (xs ++ ys) ≡ (list_any hits xs || list_any hits ys) → (b || list_any hits (xs ++ ys)) ≡ ((b || list_any hits xs) || list_any hits ys)
-    at true ih = refl
-    at false ih = ih
-
-  or_none : (a b : Bool) → b ≡ false → (a || b) ≡ a
-  or_none true b h = refl
-  or_none false b h = h
-
   same_test : (p q : Prefix) → p ≡ q → is_eq (prefix_cmp p q) ≡ true
   same_test p q e = subst (λ r. is_eq (prefix_cmp p r) ≡ true) e (ap is_eq (tied_itself prefix_total p))
 
   other_prefix : (p q : Prefix) → destination_prefix rule ≡ Some p → is_eq (prefix_cmp p q) ≡ false → destination_prefix rule ≡ Some q → ⊥
-  other_prefix p q d f e = true≢false (sym (same_test p q (inner (sym d ∙ e))) ∙ f) where
-    inner : Some p ≡ Some q → p ≡ q
-    inner m = cc
+  other_prefix p q d f e = true≢false (sym (same_test p q (same_Some p q (sym d ∙ e))) ∙ f)
 
   no_prefix : (p : Prefix) → destination_prefix rule ≡ Some p → destination_prefix rule ≡ None → ⊥
-  no_prefix p d e = go (sym d ∙ e) where
-    go : Some p ≡ None → ⊥
-    go m = cc
+  no_prefix p d e = none-some p (sym e ∙ d)
 
   -- no route of the key in groups of other destinations
   none_behind : (p : Prefix) (es : List Entry) (rest : List Kept) → destination_prefix rule ≡ Some p → AllByRecursion (λ q. is_eq (prefix_cmp p q) ≡ false) (keys_of es) → ArePlaced es → AllByRecursion (IsTo None) rest
@@ -193,7 +172,7 @@ module _ (rule : Ruled) (peer : ℕ) (normal : IsRule rule) where
 
   pub taken_kept : (p : Prefix) (es : List Entry) (rest : List Kept) → destination_prefix rule ≡ Some p → AreInOrder es → ArePlaced es → AllByRecursion (IsTo None) rest → AllByRecursion (λ k. IsRule k.route.rule) (kept_in es rest)
       → kept_in (keep_at p passes es) rest ≡ filter passes (kept_in es rest)
-  taken_kept p [] rest d ordered placed bare sound = sym (all_pass rest (none_in None (no_prefix p d) rest sound bare))
+  taken_kept p [] rest d ordered placed bare sound = sym (all_stay hits rest (none_in None (no_prefix p d) rest sound bare))
   taken_kept p (e ∷ es) rest d ordered placed bare sound = at (is_eq (prefix_cmp p e.0)) refl (taken_kept p es rest d (sorted_tail prefix_cmp e.0 (keys_of es) ordered) placed.1 bare later_sound) where
     later : List Kept
     later = kept_in es rest
@@ -202,15 +181,13 @@ module _ (rule : Ruled) (peer : ℕ) (normal : IsRule rule) where
     later_sound = each_back (λ k. IsRule k.route.rule) e.1 later sound
 
     at : (b : Bool) → is_eq (prefix_cmp p e.0) ≡ b → kept_in (keep_at p passes es) rest ≡ filter passes later → kept_in (cond b (with_group e.0 (filter passes e.1) es) (e ∷ keep_at p passes es)) rest ≡ filter passes (e.1 ++ later)
-    at true t ih = kept_with e.0 (filter passes e.1) es rest
-        ∙ ap (λ ks. filter passes e.1 ++ ks) (sym (all_pass later (none_behind p es rest d (other_keys p e.0 (keys_of es) t (sorted_head prefix_cmp e.0 (keys_of es) ordered)) placed.1 bare later_sound)))
-        ∙ sym (filter-append passes e.1 later)
-    at false t ih = ap₂ (λ xs ys. xs ++ ys) (sym (all_pass e.1 (none_in (Some e.0) (other_prefix p e.0 d t) e.1 (each_front (λ k. IsRule k.route.rule) e.1 later sound) placed.0))) ih ∙ sym (filter-append passes e.1 later)
+    at true t ih = kept_with e.0 (filter passes e.1) es rest ∙ left_front hits e.1 later (none_behind p es rest d (other_keys p e.0 (keys_of es) t (sorted_head prefix_cmp e.0 (keys_of es) ordered)) placed.1 bare later_sound)
+    at false t ih = ap (λ ks. e.1 ++ ks) ih ∙ left_back hits e.1 later (none_in (Some e.0) (other_prefix p e.0 d t) e.1 (each_front (λ k. IsRule k.route.rule) e.1 later sound) placed.0)
 
   pub taken_held : (p : Prefix) (es : List Entry) (rest : List Kept) (held : Bool) → destination_prefix rule ≡ Some p → AreInOrder es → ArePlaced es → AllByRecursion (IsTo None) rest → AllByRecursion (λ k. IsRule k.route.rule) (kept_in es rest)
       → MatchOption (lookup (is_at (prefix_cmp p)) es) (held ≡ false) (λ group. held ≡ list_any hits group) → held ≡ list_any hits (kept_in es rest)
   taken_held p [] rest held d ordered placed bare sound h = h ∙ sym (each_none hits rest (none_in None (no_prefix p d) rest sound bare))
-  taken_held p (e ∷ es) rest held d ordered placed bare sound h = at (is_eq (prefix_cmp p e.0)) refl h (taken_held p es rest held d (sorted_tail prefix_cmp e.0 (keys_of es) ordered) placed.1 bare later_sound) ∙ sym (any-append e.1 later) where
+  taken_held p (e ∷ es) rest held d ordered placed bare sound h = at (is_eq (prefix_cmp p e.0)) refl h (taken_held p es rest held d (sorted_tail prefix_cmp e.0 (keys_of es) ordered) placed.1 bare later_sound) where
     later : List Kept
     later = kept_in es rest
 
@@ -218,25 +195,23 @@ module _ (rule : Ruled) (peer : ℕ) (normal : IsRule rule) where
     later_sound = each_back (λ k. IsRule k.route.rule) e.1 later sound
 
     at : (b : Bool) → is_eq (prefix_cmp p e.0) ≡ b → MatchOption (cond b (Some e.1) (lookup (is_at (prefix_cmp p)) es)) (held ≡ false) (λ group. held ≡ list_any hits group)
-        → (MatchOption (lookup (is_at (prefix_cmp p)) es) (held ≡ false) (λ group. held ≡ list_any hits group) → held ≡ list_any hits later) → held ≡ (list_any hits e.1 || list_any hits later)
-    at true t g ih = g ∙ sym (or_none (list_any hits e.1) (list_any hits later) (each_none hits later (none_behind p es rest d (other_keys p e.0 (keys_of es) t (sorted_head prefix_cmp e.0 (keys_of es) ordered)) placed.1 bare later_sound)))
-    at false t g ih = ih g ∙ ap (λ b. b || list_any hits later) (sym (each_none hits e.1 (none_in (Some e.0) (other_prefix p e.0 d t) e.1 (each_front (λ k. IsRule k.route.rule) e.1 later sound) placed.0)))
+        → (MatchOption (lookup (is_at (prefix_cmp p)) es) (held ≡ false) (λ group. held ≡ list_any hits group) → held ≡ list_any hits later) → held ≡ list_any hits (e.1 ++ later)
+    at true t g ih = g ∙ any_front hits e.1 later (none_behind p es rest d (other_keys p e.0 (keys_of es) t (sorted_head prefix_cmp e.0 (keys_of es) ordered)) placed.1 bare later_sound)
+    at false t g ih = ih g ∙ any_back hits e.1 later (none_in (Some e.0) (other_prefix p e.0 d t) e.1 (each_front (λ k. IsRule k.route.rule) e.1 later sound) placed.0)
 
   no_group : (q : Prefix) → destination_prefix rule ≡ None → destination_prefix rule ≡ Some q → ⊥
-  no_group q d e = go (sym d ∙ e) where
-    go : None ≡ Some q → ⊥
-    go m = cc
+  no_group q d e = none-some q (sym d ∙ e)
 
   -- a key without a destination is among the routes without one
   pub taken_rest : (es : List Entry) (rest : List Kept) → destination_prefix rule ≡ None → ArePlaced es → AllByRecursion (λ k. IsRule k.route.rule) (kept_in es rest) → kept_in es (filter passes rest) ≡ filter passes (kept_in es rest)
   taken_rest [] rest d placed sound = refl
-  taken_rest (e ∷ es) rest d placed sound = ap₂ (λ xs ys. xs ++ ys) (sym (all_pass e.1 (none_in (Some e.0) (no_group e.0 d) e.1 (each_front (λ k. IsRule k.route.rule) e.1 (kept_in es rest) sound) placed.0)))
-      (taken_rest es rest d placed.1 (each_back (λ k. IsRule k.route.rule) e.1 (kept_in es rest) sound)) ∙ sym (filter-append passes e.1 (kept_in es rest))
+  taken_rest (e ∷ es) rest d placed sound = ap (λ ks. e.1 ++ ks) (taken_rest es rest d placed.1 (each_back (λ k. IsRule k.route.rule) e.1 (kept_in es rest) sound))
+      ∙ left_back hits e.1 (kept_in es rest) (none_in (Some e.0) (no_group e.0 d) e.1 (each_front (λ k. IsRule k.route.rule) e.1 (kept_in es rest) sound) placed.0)
 
   pub held_rest : (es : List Entry) (rest : List Kept) → destination_prefix rule ≡ None → ArePlaced es → AllByRecursion (λ k. IsRule k.route.rule) (kept_in es rest) → list_any hits rest ≡ list_any hits (kept_in es rest)
   held_rest [] rest d placed sound = refl
   held_rest (e ∷ es) rest d placed sound = held_rest es rest d placed.1 (each_back (λ k. IsRule k.route.rule) e.1 (kept_in es rest) sound)
-      ∙ ap (λ b. b || list_any hits (kept_in es rest)) (sym (each_none hits e.1 (none_in (Some e.0) (no_group e.0 d) e.1 (each_front (λ k. IsRule k.route.rule) e.1 (kept_in es rest) sound) placed.0))) ∙ sym (any-append e.1 (kept_in es rest))
+      ∙ any_back hits e.1 (kept_in es rest) (none_in (Some e.0) (no_group e.0 d) e.1 (each_front (λ k. IsRule k.route.rule) e.1 (kept_in es rest) sound) placed.0)
 
 pub length-filter : {X : Type 0} (p : X → Bool) (xs : List X) → length (filter p xs) ≤ length xs
 length-filter p [] = omega arith

@@ -87,11 +87,6 @@ IsMarked noted prefix unicast config k =
 abbrev pub mended : Prefix → List Route → Config → Kept → Kept
 mended prefix unicast config k = if is_related_kept prefix k then retested unicast config k else k
 
--- how many are related to the prefix
-abbrev pub related_kept : Prefix → List Kept → ℕ
-related_kept prefix [] = 0
-related_kept prefix (k ∷ ks) = (if is_related_kept prefix k then 1 else 0) + related_kept prefix ks
-
 -- s is valid and preferred to k
 abbrev pub is_better : Kept → Kept → Bool
 is_better s k = is_valid s.validity && preferred (s.route.peer, s.route.path) (k.route.peer, k.route.path)

@@ -1,11 +1,9 @@
 -- What the validities of kept routes tell.
-use Rattle.std.specs.Prelude.{ℕ, Option, map, filter, option_map, slice_get, List}
+use Rattle.std.specs.Prelude.{ℕ, Option, map, option_map, slice_get, List}
 use Rattle.fs_base.specs.declared.prefix.Family.{Family}
-use Rattle.fs_base.specs.declared.prefix.Prefix.{Prefix}
 use Rattle.fs_validate.specs.declared.route.FlowRoute.{FlowRoute}
 use Rattle.fs_rules.specs.Kept.{Kept}
 use Rattle.fs_rules.specs.Group.{routes_of, chosen}
-use Rattle.fs_rules.specs.Changes.{is_to}
 use Rattle.fs_rules.specs.Lent.{Listed, listed, Judged}
 
 abbrev pub judgement : Kept → Judged
@@ -17,11 +15,6 @@ listing k = listed k.route
 
 abbrev pub listings : Family → List Kept → List Listed
 listings family kept = map listing (chosen family kept)
-
--- of those with this destination, or without one
-abbrev pub listings_to : Family → Option Prefix → List Kept → List Listed
-listings_to family destination kept =
-    map listing (filter (λ k. is_to family destination k.route.rule) (chosen family kept))
 
 abbrev pub nth_listing : Family → List Kept → ℕ → Option Listed
 nth_listing family kept n = option_map listing (slice_get (chosen family kept) n)

@@ -1,5 +1,5 @@
 -- Groups found by their destination, and what validating their routes anew does.
-use Rattle.std.specs.Prelude.{◌≡◌, ℕ, ◌+◌, ◌≤◌, ◌↔◌, ◌⊎◌, Bool, true, false, Option, Some, None, List, [], ◌∷◌, map, length, MatchOption, if◌then◌else◌}
+use Rattle.std.specs.Prelude.{◌≡◌, ℕ, ◌+◌, ◌≤◌, ◌⊎◌, Bool, true, false, Option, Some, None, List, [], ◌∷◌, map, length, MatchOption, if◌then◌else◌}
 use Rattle.std.specs.BTreeMap.{BTreeMap}
 use Rattle.std.specs.List.{list_any, AllByRecursion}
 use Rattle.std.specs.Ordering.{is_eq, is_lt, is_le}
@@ -8,9 +8,10 @@ use Rattle.fs_base.specs.declared.prefix.Prefix.{Prefix}
 use Rattle.fs_base.specs.Prefix.{prefix_cmp}
 use Rattle.fs_unicast.specs.Unicast.{Route}
 use Rattle.fs_validate.specs.Laws.{is_related}
-use Rattle.fs_rules.specs.Changes.{Noted, IsNotedAt}
+use Rattle.fs_rules.specs.Changes.{Noted, StaysNoted, IsNotedAt}
 use Rattle.fs_rules.specs.Kept.{Kept}
-use Rattle.fs_rules.specs.Group.{AreRightTo, retested_to}
+use Rattle.fs_rules.specs.Group.{AreRightTo, IsMarked, mended, retested_to, routes_of}
+use Rattle.fs_rules.specs.Table.{related_count}
 use Rattle.fs_rules.specs.Groups.{Entry}
 
 -- the groups whose destination passes are validated anew, as routes to it
@@ -23,27 +24,33 @@ size test [] = 0
 size test (e ∷ es) = (if test e.0 then length e.1 else 0) + size test es
 
 module _ (unicast : List Route) (config : Config) where
-  pub record Mends (test : Prefix → Bool) (old new : List Entry) (before after : ℕ) : Type 0 where
-    pub entries : new ≡ map (touched unicast config test) old
-    pub later : before ≤ after
-    pub steps : after ≤ before + size test old
-
-  -- it is told that no validity changed exactly where each of these groups' routes had the right one
-  abbrev pub Tells : (Prefix → Bool) → List Entry → Bool → Type 0
-  Tells test old changed =
-      (changed ≡ false) ↔ AllByRecursion (λ e. test e.0 ≡ true → AreRightTo unicast config e.0 e.1) old
-
   -- of these groups those are noted in which a validity changed
   abbrev pub Marks : (Prefix → Bool) → List Entry → Noted → Type 0
   Marks test old noted =
       AllByRecursion (λ e. test e.0 ≡ true → IsNotedAt noted e.0 ⊎ AreRightTo unicast config e.0 e.1) old
 
+  pub record Mends (test : Prefix → Bool) (old new : List Entry) (noted more : Noted) (before after : ℕ) : Type 0 where
+    pub entries : new ≡ map (touched unicast config test) old
+    pub stays : StaysNoted noted more
+    pub marks : Marks test old more
+    pub later : before ≤ after
+    pub steps : after ≤ before + size test old
+
 abbrev pub GroupMap : Type 0
 GroupMap = BTreeMap Prefix (List Kept)
 
 -- of two maps
-abbrev pub Mended : List Route → Config → (Prefix → Bool) → GroupMap → GroupMap → ℕ → ℕ → Type 0
-Mended unicast config test old new before after = Mends unicast config test old.entries new.entries before after
+abbrev pub Mended : List Route → Config → (Prefix → Bool) → GroupMap → GroupMap → Noted → Noted → ℕ → ℕ → Type 0
+Mended unicast config test old new noted more before after =
+    Mends unicast config test old.entries new.entries noted more before after
+
+-- the routes that are related to the prefix are validated anew, and where a validity changed that is noted
+pub record MendsKept (p : Prefix) (unicast : List Route) (config : Config) (old new : List Kept) (noted more : Noted) (before after : ℕ) : Type 0 where
+  pub kept : new ≡ map (mended p unicast config) old
+  pub stays : StaysNoted noted more
+  pub marked : AllByRecursion (IsMarked more p unicast config) old
+  pub later : before ≤ after
+  pub steps : after ≤ before + related_count p (routes_of old)
 
 -- before the next key, if there is one
 abbrev pub is_before : Option Prefix → Prefix → Bool

@@ -144,12 +144,3 @@ pub record IsAdmitted (family : Family) (held : Held) (list : List FlowRoute) : 
   pub chosen : list ≡ filter (λ r. is_of_family family r && is_most_preferred held r) held.flows
   pub each_rule : AllByRecursion (HasRule family held list) held.flows
   pub ordered : AreOrdered list
-
--- each held flow route has the validity that it had
-abbrev pub ValiditiesStay : Held → Held → Type 0
-ValiditiesStay old new =
-    AllByRecursion (λ r. validity new.unicast new.config r ≡ validity old.unicast old.config r) old.flows
-
--- the same routes are admitted
-abbrev pub AdmitsSame : Held → Held → Type 0
-AdmitsSame old new = (family : Family) → admitted family new ≡ admitted family old

@@ -1,29 +1,22 @@
 //! The flow routes of one family, grouped by destination.
 
-ghost use Rattle.std.specs.Prelude.{◌≡◌, ◌≤◌, ◌+◌, ◌<◌, ◌^◌, ◌==◌, ◌↔◌, not, false, [], OnOk, OnErr, IfOk, MatchOption, map, filter, length, option_map, slice_get};
+ghost use Rattle.std.specs.Prelude.{◌≡◌, ◌≤◌, ◌==◌, not, false, [], OnOk, OnErr, IfOk, filter};
 ghost use Rattle.std.specs.List.{list_any, AllByRecursion};
-ghost use Rattle.std.specs.Map.{lookup};
-ghost use Rattle.std.specs.BTreeMap.{is_at};
-ghost use Rattle.fs_base.specs.Prefix.{prefix_cmp};
+ghost use Rattle.fs_base.specs.declared.prefix.Family.{Family};
 ghost use Rattle.fs_nlri.specs.Rule.{IsRule};
 ghost use Rattle.fs_rules.specs.Table.{is_key};
-ghost use Rattle.fs_rules.specs.Changes.{StaysNoted};
-ghost use Rattle.fs_rules.specs.Group.{has_key, put_kept, mended, IsRightAt, IsMarked, related_kept, AreSorted, routes_of, chosen, is_other_key};
+ghost use Rattle.fs_rules.specs.Group.{has_key, put_kept, AreSorted, routes_of, chosen, is_other_key};
 ghost use Rattle.fs_rules.specs.Groups.{IsSound, HasSortedGroups, AreInOrder, AreNoShorter, put_entry, keep_at, keep_each, IsHeldAt};
 ghost use Rattle.fs_rules.specs.Listed.{IsAmong, keep_along};
-ghost use Rattle.fs_rules.specs.Lent.{listed, shown_admitted, shown_held, shown_lent, all_admitted, all_held};
-ghost use Rattle.fs_rules.specs.Lists.{judgement, routes_chosen, listing, listings, listings_to, judgements, nth_listing};
-ghost use Rattle.fs_rules.specs.Walk.{next_match};
+ghost use Rattle.fs_rules.specs.Reading.{AreLent};
+ghost use Rattle.fs_rules.specs.Search.{MendsKept};
 
 use crate::group::Group;
 use crate::kept::{Kept, destination_key};
-use crate::lent::{Admitted, HeldFlow, LentRule};
 use crate::noted::Changes;
-use crate::reading::{self, push_admitted, push_admitted_to, push_held};
 use crate::search::retest_related;
-use fs_base::{Config, Family, Memory, Prefix, Steps};
+use fs_base::{Config, Memory, Prefix, Steps};
 use fs_nlri::Rule;
-use fs_packet::View;
 use fs_unicast::{PrefixKey, Unicast};
 use std::alloc::Global;
 use std::collections::BTreeMap;
@@ -53,6 +46,13 @@ impl Model for Groups {
     ghost view = { λ a. kept_in a.groups.entries a.rest };
 
     ghost invariant = { λ a. IsGrouped a.groups.entries a.rest a.most × AreNoShorter a.shortest a.groups.entries };
+}
+
+/// The groups of a family, and the routes without a destination.
+#[derive(Clone, Copy, Drop)]
+pub(crate) struct LentGroups<'a> {
+    pub(crate) groups: &'a BTreeMap<PrefixKey, Group>,
+    pub(crate) rest: &'a Group,
 }
 
 impl Groups {
@@ -132,8 +132,8 @@ impl Groups {
         self.rest.forget(peer);
     }
 
-    /// Validates the routes anew that are related to the prefix, notes where a validity is another than before, and
-    /// tells whether one is. At most as many steps as there are of them.
+    /// Validates the routes anew that are related to the prefix, and notes where a validity is another than before. At most
+    /// as many steps as there are of them.
     pub(crate) fn mend<L: Ledger>(
         &mut self,
         prefix: &Prefix,
@@ -141,93 +141,25 @@ impl Groups {
         config: &Config,
         changes: &mut Changes,
         steps: &mut Steps<L>,
-    ) -> bool
-        ensures mended { self.new ≡ map (mended prefix.now unicast.now config.now) self.old }
-        ensures told { (result ≡ false) ↔ AllByRecursion (IsRightAt prefix.now unicast.now config.now) self.old }
-        ensures stays { StaysNoted changes.old changes.new }
-        ensures marked { AllByRecursion (IsMarked changes.new prefix.now unicast.now config.now) self.old }
-        ensures quiet { result ≡ false → changes.new ≡ changes.old }
-        ensures later { steps.old ≤ steps.new }
-        ensures steps { steps.new ≤ steps.old + related_kept prefix.now self.old }
+    )
+        ensures { MendsKept prefix.now unicast.now config.now self.old self.new changes.old changes.new steps.old steps.new }
     {
-        retest_related(
-            &mut self.groups,
-            self.shortest,
-            prefix,
-            unicast,
-            config,
-            changes,
-            steps,
-        )
+        let shortest = self.shortest;
+        let groups = &mut self.groups;
+        retest_related(groups, shortest, prefix, unicast, config, changes, steps);
     }
 
-    /// The admitted rules, in order.
-    pub(crate) fn admitted(&self, family: Family) -> Result<Vec<LentRule<'_>>, Memory>
-        requires sorted { AreSorted (routes_of self.now) }
-        requires sound { AllByRecursion (IsSound family) self.now }
-        ensures { IfOk result (λ list. all_admitted list.items ≡ listings family self.now) }
+    /// The routes, to be read.
+    pub(crate) fn lend(&self) -> LentGroups<'_>
+        ensures { (family : Family)
+            → AreSorted (routes_of self.now)
+            → AllByRecursion (IsSound family) self.now
+            → AreLent family (chosen family self.now) self.now result.groups.now.entries result.rest.now }
     {
-        let mut list = Vec::new(self.rest.allocator());
-        push_admitted(&self.groups, &self.rest, family, &mut list)?;
-        Ok(list)
-    }
-
-    /// The admitted rules with this destination, or without one, in order.
-    pub(crate) fn admitted_to(
-        &self,
-        family: Family,
-        destination: Option<Prefix>,
-    ) -> Result<Vec<LentRule<'_>>, Memory>
-        requires sorted { AreSorted (routes_of self.now) }
-        requires sound { AllByRecursion (IsSound family) self.now }
-        ensures { IfOk result (λ list. all_admitted list.items ≡ listings_to family destination self.now) }
-    {
-        let mut list = Vec::new(self.rest.allocator());
-        push_admitted_to(&self.groups, &self.rest, family, destination, &mut list)?;
-        Ok(list)
-    }
-
-    /// The routes, in order.
-    pub(crate) fn held(&self) -> Result<Vec<HeldFlow<'_>>, Memory>
-        ensures { IfOk result (λ list. all_held list.items ≡ judgements self.now) }
-    {
-        let mut list = Vec::new(self.rest.allocator());
-        push_held(&self.groups, &self.rest, &mut list)?;
-        Ok(list)
-    }
-
-    /// How many rules are admitted.
-    pub(crate) fn count(&self, family: Family) -> usize
-        requires sorted { AreSorted (routes_of self.now) }
-        requires sound { AllByRecursion (IsSound family) self.now }
-        ensures { result ≡ length (chosen family self.now) }
-    {
-        reading::count(&self.groups, &self.rest, family)
-    }
-
-    /// The admitted rule of that number.
-    pub(crate) fn admitted_at(&self, family: Family, n: usize) -> Option<Admitted<'_>>
-        requires sorted { AreSorted (routes_of self.now) }
-        requires sound { AllByRecursion (IsSound family) self.now }
-        ensures { option_map shown_admitted result ≡ nth_listing family self.now n }
-    {
-        reading::admitted_at(&self.groups, &self.rest, family, n)
-    }
-
-    /// The route of that number.
-    pub(crate) fn held_at(&self, n: usize) -> Option<HeldFlow<'_>>
-        ensures { option_map shown_held result ≡ option_map judgement (slice_get self.now n) }
-    {
-        reading::held_at(&self.groups, &self.rest, n)
-    }
-
-    /// The least number from `n` on of an admitted rule that matches the packet.
-    pub(crate) fn next_match(&self, family: Family, view: &View<'_>, n: usize) -> Option<usize>
-        requires sorted { AreSorted (routes_of self.now) }
-        requires sound { AllByRecursion (IsSound family) self.now }
-        ensures { result ≡ next_match view.now n (routes_chosen family self.now) }
-    {
-        reading::next_match(&self.groups, &self.rest, family, view, n)
+        LentGroups {
+            groups: &self.groups,
+            rest: &self.rest,
+        }
     }
 }
 

@@ -6,8 +6,7 @@ ghost use Rattle.std.specs.Ordering.{is_le};
 ghost use Rattle.std.specs.Prelude.{MatchOption};
 ghost use Rattle.fs_base.specs.Prefix.{covers, prefix_cmp};
 ghost use Rattle.fs_base.specs.Search.{IsFirstFrom};
-ghost use Rattle.fs_rules.specs.Changes.{StaysNoted};
-ghost use Rattle.fs_rules.specs.Search.{Mended, Tells, Marks, IsNextAfter, IsNextRelated};
+ghost use Rattle.fs_rules.specs.Search.{Mended, IsNextAfter, IsNextRelated};
 ghost use Rattle.fs_rules.specs.Groups.{AreInOrder, AreNoShorter};
 ghost use Rattle.fs_validate.specs.Laws.{is_related};
 ghost use Rattle.fs_unicast.specs.Search.{is_same_prefix};
@@ -91,26 +90,8 @@ fn is_related(prefix: &Prefix, destination: &Prefix) -> bool
     destination.covers(prefix) || prefix.covers(destination)
 }
 
-/// Validates the routes of the group anew, if there is one, and tells whether a validity is another than before.
-fn retest_group<L: Ledger>(
-    groups: &mut BTreeMap<PrefixKey, Group>,
-    destination: &PrefixKey,
-    unicast: &Unicast,
-    config: &Config,
-    steps: &mut Steps<L>,
-) -> bool
-    ensures mended { Mended unicast.now config.now (is_same_prefix destination.now)
-        groups.old groups.new steps.old steps.new }
-    ensures told { Tells unicast.now config.now (is_same_prefix destination.now) groups.old.entries result }
-{
-    match groups.get_mut(destination) {
-        Some(group) => group.retest(&destination.prefix(), unicast, config, steps),
-        None => false,
-    }
-}
-
-/// Validates the routes of the group anew, and tells whether a validity is another than before. Then the destination
-/// is noted.
+/// Validates the routes of the group anew, if there is one. Where a validity is another than before, the destination is
+/// noted.
 fn mark_group<L: Ledger>(
     groups: &mut BTreeMap<PrefixKey, Group>,
     destination: &PrefixKey,
@@ -118,25 +99,22 @@ fn mark_group<L: Ledger>(
     config: &Config,
     changes: &mut Changes,
     steps: &mut Steps<L>,
-) -> bool
-    ensures mended { Mended unicast.now config.now (is_same_prefix destination.now)
-        groups.old groups.new steps.old steps.new }
-    ensures told { Tells unicast.now config.now (is_same_prefix destination.now) groups.old.entries result }
-    ensures stays { StaysNoted changes.old changes.new }
-    ensures marks { Marks unicast.now config.now (is_same_prefix destination.now) groups.old.entries changes.new }
-    ensures quiet { result ≡ false → changes.new ≡ changes.old }
+)
+    ensures { Mended unicast.now config.now (is_same_prefix destination.now)
+        groups.old groups.new changes.old changes.new steps.old steps.new }
 {
-    let changed = retest_group(groups, destination, unicast, config, steps);
-    if changed {
-        changes.note(Change::at(destination.prefix()));
+    let Some(group) = groups.get_mut(destination) else {
+        return;
+    };
+    let prefix = destination.prefix();
+    if group.retest(&prefix, unicast, config, steps) {
+        changes.note(Change::at(prefix));
     }
-    changed
 }
 
-/// Validates the routes anew whose destination covers the prefix or lies under it, notes the destinations at which a
-/// validity is another than before, and tells whether there are any. In order those under the prefix come first, from
-/// the lowest on, and behind them those that cover it, so one walk meets all of them. No destination is shorter than
-/// `shortest`.
+/// Validates the routes anew whose destination covers the prefix or lies under it, and notes the destinations at which a
+/// validity is another than before. In order those under the prefix come first, from the lowest on, and behind them those
+/// that cover it, so one walk meets all of them. No destination is shorter than `shortest`.
 pub(crate) fn retest_related<L: Ledger>(
     groups: &mut BTreeMap<PrefixKey, Group>,
     shortest: u8,
@@ -145,27 +123,22 @@ pub(crate) fn retest_related<L: Ledger>(
     config: &Config,
     changes: &mut Changes,
     steps: &mut Steps<L>,
-) -> bool
+)
     requires { AreNoShorter shortest groups.old.entries }
-    ensures mended { Mended unicast.now config.now (is_related prefix.now) groups.old groups.new steps.old steps.new }
-    ensures told { Tells unicast.now config.now (is_related prefix.now) groups.old.entries result }
-    ensures stays { StaysNoted changes.old changes.new }
-    ensures marks { Marks unicast.now config.now (is_related prefix.now) groups.old.entries changes.new }
-    ensures quiet { result ≡ false → changes.new ≡ changes.old }
+    ensures { Mended unicast.now config.now (is_related prefix.now)
+        groups.old groups.new changes.old changes.new steps.old steps.new }
 {
     if groups.is_empty() {
-        return false;
+        return;
     }
-    let mut changed = false;
     let mut next = first_from(groups, &prefix.first_under());
     while let Some(key) = next {
         let destination = key.prefix();
         if is_related(prefix, &destination) {
-            changed |= mark_group(groups, &key, unicast, config, changes, steps);
+            mark_group(groups, &key, unicast, config, changes, steps);
             next = next_related(groups, prefix, &key, shortest);
         } else {
             next = first_over(groups, prefix, &destination, shortest);
         }
     }
-    changed
 }

@@ -1,26 +1,29 @@
 //! The table.
 
-ghost use Rattle.std.specs.Prelude.{◌≡◌, ◌≤◌, ◌+◌, ◌↔◌, false, [], IfOk, OnOk, OnErr, is_some, unwrap_or, option_map, length, map, filter, slice_get, not, true, Bool};
+ghost use Rattle.std.specs.Prelude.{◌≡◌, ◌≤◌, ◌+◌, false, [], IfOk, OnOk, OnErr, option_map, length, map, filter, slice_get, true, Bool};
 ghost use Rattle.std.specs.BTreeMap.{insert_entry, is_at};
 ghost use Rattle.std.specs.List.{AllByRecursion};
 ghost use Rattle.std.specs.List.Sorted.{IsStrictlySortedBy};
 ghost use Rattle.std.specs.Map.{keys_of, remove_entry, lookup};
 ghost use Rattle.fs_unicast.specs.Unicast.{place_cmp, has_path};
-ghost use Rattle.fs_rules.specs.Table.{put_route, without_route, has_route, without_peer_unicast, without_peer_flows, related_count, related_sum, admitted, IsAdmitted, IsRuleOf, with_flow, with_path, without_path, without_peer, held_count, Held, ValiditiesStay, AdmitsSame};
+ghost use Rattle.fs_rules.specs.Table.{put_route, without_route, has_route, without_peer_unicast, without_peer_flows, related_count, related_sum, admitted, IsAdmitted, IsRuleOf, with_flow, with_path, without_path, without_peer, held_count, Held};
 ghost use Rattle.fs_base.specs.declared.prefix.Family.{Family};
 ghost use Rattle.fs_nlri.specs.Parts.{Ruled};
 ghost use Rattle.fs_rules.specs.Changes.{AdmitsElsewhere, Covers, is_to};
 ghost use Rattle.fs_rules.specs.Lent.{listed, shown_admitted, shown_held, shown_lent, held_flows, AreRising};
+ghost use Rattle.fs_rules.specs.Reading.{AreTold};
 ghost use Rattle.fs_rules.specs.Walk.{next_match};
 ghost use Rattle.fs_unicast.specs.Search.{held_by};
 ghost use Rattle.fs_rules.specs.Counts.{AreAmong};
 
 use crate::counts::Counts;
 use crate::flows::Flows;
+use crate::groups::LentGroups;
 use crate::kept::Kept;
 use crate::latest::Latest;
 use crate::lent::{Admitted, HeldFlow, LentRule};
 use crate::noted::Changes;
+use crate::reading::{self, push_admitted, push_admitted_to, push_held};
 use crate::route::{SharedRoute, validate};
 use fs_actions::Actions;
 use fs_base::{Config, Family, Memory, Path, Prefix, Steps};
@@ -122,12 +125,11 @@ impl<'a> Table<'a> {
     {
         let alloc = self.flows.allocator();
         let path = SharedPath::new(alloc, path)?;
-        self.put_unicast_telling(peer, prefix, path, &mut Changes::new(alloc), steps)?;
-        Ok(())
+        self.put_unicast_telling(peer, prefix, path, &mut Changes::new(alloc), steps)
     }
 
-    /// As [`put_unicast`](Table::put_unicast), notes where a held flow route has another validity than before, and
-    /// tells whether one has. Many routes may be given one shared path.
+    /// As [`put_unicast`](Table::put_unicast), and notes where a held flow route has another validity than before. Many
+    /// routes may be given one shared path.
     pub fn put_unicast_telling<L: Ledger>(
         &mut self,
         peer: u16,
@@ -135,13 +137,11 @@ impl<'a> Table<'a> {
         path: SharedPath,
         changes: &mut Changes,
         steps: &mut Steps<L>,
-    ) -> Result<bool, Memory>
+    ) -> Result<(), Memory>
         ensures ok { OnOk result (self.new ≡ with_path peer prefix path self.old) }
         ensures covers { OnOk result
             ((base : Held) → Covers base changes.old self.old → Covers base changes.new self.new) }
-        ensures quiet { IfOk result (λ changed. changed ≡ false → changes.new ≡ changes.old) }
         ensures err { OnErr result (self.new ≡ self.old) }
-        ensures told { IfOk result (λ changed. (changed ≡ false) ↔ ValiditiesStay self.old self.new) }
         ensures later { steps.old ≤ steps.new }
         ensures steps { steps.new ≤ steps.old + related_count prefix self.old.flows }
         ensures idle { self.new ≡ self.old → steps.new ≡ steps.old }
@@ -149,12 +149,13 @@ impl<'a> Table<'a> {
         let held = self.unicast.len();
         self.counts.reserve(peer)?;
         if !self.unicast.put_telling(peer, prefix, path)? {
-            return Ok(false);
+            return Ok(());
         }
         let is_new = held < self.unicast.len();
         self.counts.raise_at(peer, &prefix, is_new);
         let flows = &mut self.flows;
-        Ok(flows.mend(&prefix, &self.unicast, self.config, changes, steps))
+        flows.mend(&prefix, &self.unicast, self.config, changes, steps);
+        Ok(())
     }
 
     /// Takes the peer's route of the rule away, and tells whether there was one. Of other rules the same routes are
@@ -194,33 +195,31 @@ impl<'a> Table<'a> {
     {
         let mut changes = Changes::new(self.flows.allocator());
         self.withdraw_unicast_telling(peer, prefix, &mut changes, steps)
-            .is_some()
     }
 
-    /// As [`withdraw_unicast`](Table::withdraw_unicast), notes where a held flow route has another validity than
-    /// before, and tells whether one has. None where there is no such route.
+    /// As [`withdraw_unicast`](Table::withdraw_unicast), and notes where a held flow route has another validity than
+    /// before.
     pub fn withdraw_unicast_telling<L: Ledger>(
         &mut self,
         peer: u16,
         prefix: &Prefix,
         changes: &mut Changes,
         steps: &mut Steps<L>,
-    ) -> Option<bool>
+    ) -> bool
         ensures removed { self.new ≡ without_path peer prefix.now self.old }
         ensures covers { (base : Held) → Covers base changes.old self.old → Covers base changes.new self.new }
-        ensures quiet { unwrap_or result false ≡ false → changes.new ≡ changes.old }
-        ensures held { is_some result ≡ has_path peer prefix.now self.old.unicast }
-        ensures told { (unwrap_or result false ≡ false) ↔ ValiditiesStay self.old self.new }
+        ensures held { result ≡ has_path peer prefix.now self.old.unicast }
         ensures later { steps.old ≤ steps.new }
         ensures steps { steps.new ≤ steps.old + related_count prefix.now self.old.flows }
         ensures idle { self.new ≡ self.old → steps.new ≡ steps.old }
     {
         if !self.unicast.remove(peer, prefix) {
-            return None;
+            return false;
         }
         self.counts.lower(peer, true);
         let flows = &mut self.flows;
-        Some(flows.mend(prefix, &self.unicast, self.config, changes, steps))
+        flows.mend(prefix, &self.unicast, self.config, changes, steps);
+        true
     }
 
     /// Takes away all that the peer holds. At most as many steps as all withdrawals of its unicast routes would take.
@@ -229,82 +228,79 @@ impl<'a> Table<'a> {
         ensures later { steps.old ≤ steps.new }
         ensures steps { steps.new ≤ steps.old + related_sum peer self.old.unicast self.old.flows }
     {
-        self.lose_telling(peer, steps);
+        let mut changes = Changes::new(self.flows.allocator());
+        self.lose_telling(peer, &mut changes, steps);
     }
 
-    /// As [`lose`](Table::lose), and tells whether the rules that are admitted may be others than before: whether a
-    /// flow route of the peer went, or another one had another validity behind one of the withdrawals. Not where
-    /// the peer holds nothing.
-    pub fn lose_telling<L: Ledger>(&mut self, peer: u16, steps: &mut Steps<L>) -> bool
+    /// As [`lose`](Table::lose), and notes where the rules that are admitted may be others than before: any, where a flow
+    /// route of the peer went. None where the peer holds nothing.
+    pub fn lose_telling<L: Ledger>(
+        &mut self,
+        peer: u16,
+        changes: &mut Changes,
+        steps: &mut Steps<L>,
+    )
         ensures removed { self.new ≡ without_peer peer self.old }
-        ensures same { result ≡ false → AdmitsSame self.old self.new }
-        ensures idle { held_count peer self.old ≡ 0 → result ≡ false }
+        ensures covers { (base : Held) → Covers base changes.old self.old → Covers base changes.new self.new }
+        ensures idle { held_count peer self.old ≡ 0 → changes.new ≡ changes.old }
         ensures later { steps.old ≤ steps.new }
         ensures steps { steps.new ≤ steps.old + related_sum peer self.old.unicast self.old.flows }
     {
         if self.counts.of(peer) == 0 {
-            return false;
+            return;
         }
-        let marked = self.lose_unicast(peer, steps);
-        let gone = self.lose_flows(peer);
-        gone | marked
+        self.lose_unicast(peer, changes, steps);
+        if self.lose_flows(peer) {
+            changes.note_all();
+        }
     }
 
-    /// Takes the peer's unicast routes away, one after the other, and tells whether one of these withdrawals changed the
-    /// validity of a flow route: at the prefixes that are listed for it, as long as these are few.
-    fn lose_unicast<L: Ledger>(&mut self, peer: u16, steps: &mut Steps<L>) -> bool
+    /// Takes the peer's unicast routes away, one after the other: at the prefixes that are listed for it, as long as these
+    /// are few.
+    fn lose_unicast<L: Ledger>(&mut self, peer: u16, changes: &mut Changes, steps: &mut Steps<L>)
         ensures removed { self.new ≡ record self.old { unicast = without_peer_unicast peer self.old.unicast } }
-        ensures told { result ≡ false → ValiditiesStay self.old self.new }
+        ensures covers { (base : Held) → Covers base changes.old self.old → Covers base changes.new self.new }
         ensures later { steps.old ≤ steps.new }
         ensures steps { steps.new ≤ steps.old + related_sum peer self.old.unicast self.old.flows }
     {
         match self.counts.take_prefixes(peer) {
-            Some(prefixes) => self.lose_along(peer, &prefixes, steps),
-            None => self.lose_each(peer, steps),
+            Some(prefixes) => self.lose_along(peer, &prefixes, changes, steps),
+            None => self.lose_each(peer, changes, steps),
         }
     }
 
-    /// Takes the peer's unicast routes away, each of which stands at one of these prefixes, and tells whether one of
-    /// these withdrawals changed the validity of a flow route.
+    /// Takes the peer's unicast routes away, each of which stands at one of these prefixes.
     fn lose_along<L: Ledger>(
         &mut self,
         peer: u16,
         prefixes: &[PrefixKey],
+        changes: &mut Changes,
         steps: &mut Steps<L>,
-    ) -> bool
+    )
         requires among { AreAmong peer prefixes.now self.old.unicast }
         requires ordered { IsStrictlySortedBy place_cmp (keys_of self.old.unicast) }
         ensures removed { self.new ≡ record self.old { unicast = without_peer_unicast peer self.old.unicast } }
-        ensures told { result ≡ false → ValiditiesStay self.old self.new }
+        ensures covers { (base : Held) → Covers base changes.old self.old → Covers base changes.new self.new }
         ensures later { steps.old ≤ steps.new }
         ensures steps { steps.new ≤ steps.old + related_sum peer self.old.unicast self.old.flows }
     {
-        let mut changes = Changes::new(self.flows.allocator());
-        let mut marked = false;
         for key in prefixes {
-            let told = self.withdraw_unicast_telling(peer, &key.prefix(), &mut changes, steps);
-            marked |= told.unwrap_or(false);
+            self.withdraw_unicast_telling(peer, &key.prefix(), changes, steps);
         }
-        marked
     }
 
-    /// Takes the peer's unicast routes away, wherever they stand, in their order, and tells whether one of these
-    /// withdrawals changed the validity of a flow route.
-    fn lose_each<L: Ledger>(&mut self, peer: u16, steps: &mut Steps<L>) -> bool
+    /// Takes the peer's unicast routes away, wherever they stand, in their order.
+    fn lose_each<L: Ledger>(&mut self, peer: u16, changes: &mut Changes, steps: &mut Steps<L>)
         ensures removed { self.new ≡ record self.old { unicast = without_peer_unicast peer self.old.unicast } }
-        ensures told { result ≡ false → ValiditiesStay self.old self.new }
+        ensures covers { (base : Held) → Covers base changes.old self.old → Covers base changes.new self.new }
         ensures later { steps.old ≤ steps.new }
         ensures steps { steps.new ≤ steps.old + related_sum peer self.old.unicast self.old.flows }
     {
-        let mut changes = Changes::new(self.flows.allocator());
-        let mut marked = false;
         let mut from = None;
         while let Some(prefix) = self.next_held(peer, from) {
-            let told = self.withdraw_unicast_telling(peer, &prefix, &mut changes, steps);
-            marked |= told.unwrap_or(false);
+            self.withdraw_unicast_telling(peer, &prefix, changes, steps);
             from = Some(prefix);
         }
-        marked
     }
 
     /// Takes the flow routes of a peer without unicast routes away, and tells whether there was one.
@@ -337,13 +333,23 @@ impl<'a> Table<'a> {
         self.unicast.held_by(peer, from.as_ref())
     }
 
+    /// The flow routes of the family, to be read.
+    fn lend(&self, family: Family) -> LentGroups<'_>
+        ensures { AreTold family self.now result.groups.now.entries result.rest.now }
+    {
+        self.flows.lend(family)
+    }
+
     /// The admitted rules of the family in order: each rule that has a valid route, with the most preferred one.
     pub fn admitted(&self, family: Family) -> Result<Vec<LentRule<'_>>, Memory>
         ensures list { IfOk result (λ list. map shown_lent list.items ≡ map listed (admitted family self.now)) }
         ensures admitted { IsAdmitted family self.now (admitted family self.now) }
         ensures rules { AllByRecursion (IsRuleOf family) (admitted family self.now) }
     {
-        self.flows.admitted(family)
+        let lent = self.lend(family);
+        let mut list = Vec::new(self.flows.allocator());
+        push_admitted(lent.groups, lent.rest, family, &mut list)?;
+        Ok(list)
     }
 
     /// Of the admitted rules of the family those with this destination, or those without one, in order.
@@ -361,7 +367,10 @@ impl<'a> Table<'a> {
         ensures admitted { (f : Family) → IsAdmitted f self.now (admitted f self.now) }
         ensures rules { (f : Family) → AllByRecursion (IsRuleOf f) (admitted f self.now) }
     {
-        self.flows.admitted_to(family, destination)
+        let lent = self.lend(family);
+        let mut list = Vec::new(self.flows.allocator());
+        push_admitted_to(lent.groups, lent.rest, family, destination, &mut list)?;
+        Ok(list)
     }
 
     /// All held flow routes of the family with their validity, in the order of rules, then by peer.
@@ -369,7 +378,10 @@ impl<'a> Table<'a> {
         ensures list { IfOk result (λ list. map shown_held list.items ≡ held_flows family self.now) }
         ensures ordered { AreRising (held_flows family self.now) }
     {
-        self.flows.held(family)
+        let lent = self.lend(family);
+        let mut list = Vec::new(self.flows.allocator());
+        push_held(lent.groups, lent.rest, &mut list)?;
+        Ok(list)
     }
 
     /// How many rules of the family are admitted.
@@ -377,7 +389,8 @@ impl<'a> Table<'a> {
         ensures count { result ≡ length (admitted family self.now) }
         ensures admitted { IsAdmitted family self.now (admitted family self.now) }
     {
-        self.flows.count(family)
+        let lent = self.lend(family);
+        reading::count(lent.groups, lent.rest, family)
     }
 
     /// The admitted rule of that number, from 0, in the family's order. None exactly from `count` on.
@@ -385,7 +398,8 @@ impl<'a> Table<'a> {
         ensures rule { option_map shown_admitted result ≡ option_map listed (slice_get (admitted family self.now) n) }
         ensures admitted { IsAdmitted family self.now (admitted family self.now) }
     {
-        self.flows.admitted_at(family, n)
+        let lent = self.lend(family);
+        reading::admitted_at(lent.groups, lent.rest, family, n)
     }
 
     /// The held flow route of that number, from 0, in the order of rules, then by peer.
@@ -393,13 +407,16 @@ impl<'a> Table<'a> {
         ensures held { option_map shown_held result ≡ slice_get (held_flows family self.now) n }
         ensures ordered { AreRising (held_flows family self.now) }
     {
-        self.flows.held_at(family, n)
+        let lent = self.lend(family);
+        reading::held_at(lent.groups, lent.rest, n)
     }
 
     /// The least number from `n` on of an admitted rule of the packet's family that matches it.
     pub fn walk(&self, view: &View<'_>, n: usize) -> Option<usize>
         ensures { result ≡ next_match view.now n (admitted view.now.family self.now) }
     {
-        self.flows.next_match(view.family(), view, n)
+        let family = view.family();
+        let lent = self.lend(family);
+        reading::next_match(lent.groups, lent.rest, family, view, n)
     }
 }

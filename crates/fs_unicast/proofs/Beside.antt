@@ -4,12 +4,12 @@ use Rattle.std.specs.List.{last_or}
 use Rattle.std.specs.List.Sorted.{IsStrictlySortedBy}
 use Rattle.std.specs.BTreeMap.Range.{range_contains}
 use Rattle.std.specs.declared.ops.Bound.TheVariants.{Included, Excluded, Unbounded}
-use Rattle.fs_base.proofs.Bools.{and_true}
+use Rattle.fs_base.proofs.Bools.{and_false, and_true}
 use Rattle.fs_base.proofs.Lists.{each, each_weaker, filter_on, find_on}
 use Rattle.fs_unicast.specs.declared.unicast.Place.{Place}
 use Rattle.fs_unicast.specs.Unicast.{place_cmp}
 use Rattle.fs_unicast.specs.Turns.{find_last, later}
-use Rattle.fs_unicast.proofs.PlaceOrder.{below_not_upto, upto_below}
+use Rattle.fs_unicast.proofs.PlaceOrder.{below_not_upto, falsified, upto_below}
 use Rattle.fs_unicast.proofs.Finding.{first_filtered, last_filtered, find_none, none_found, after_found}
 
 module _ {X : Type 0} (key : X → Place) (xs : List X) where
@@ -24,28 +24,22 @@ module _ {X : Type 0} (key : X → Place) (xs : List X) where
   pub first_ahead : (z : Place) (found : List X) → found ≡ filter (λ x. range_contains place_cmp (Included z) Unbounded (key x)) xs → slice_get found 0 ≡ find (λ x. is_le (place_cmp z (key x))) xs
   first_ahead z found e = first_on (λ x. range_contains place_cmp (Included z) Unbounded (key x)) (λ x. is_le (place_cmp z (key x))) (λ x. and_true (is_le (place_cmp z (key x)))) found e
 
+  last_on : (test other : X → Bool) → ((x : X) → test x ≡ other x) → (found : List X) → found ≡ filter test xs → last_or None found ≡ find_last other xs
+  last_on test other h found e = ap (last_or None) (e ∙ filter_on test other xs (each (λ x. test x ≡ other x) h xs)) ∙ last_filtered other None xs ∙ or_none (find_last other xs) where
+    or_none : (o : Option X) → later o None ≡ o
+    or_none None = refl
+    or_none (Some x) = refl
+
   -- the last before a place
   pub last_ahead : (z : Place) (found : List X) → found ≡ filter (λ x. range_contains place_cmp Unbounded (Excluded z) (key x)) xs → last_or None found ≡ find_last (λ x. is_lt (place_cmp (key x) z)) xs
-  last_ahead z found e = ap (last_or None) (e ∙ filter_on (λ x. range_contains place_cmp Unbounded (Excluded z) (key x)) (λ x. is_lt (place_cmp (key x) z)) xs
-      (each (λ x. range_contains place_cmp Unbounded (Excluded z) (key x) ≡ is_lt (place_cmp (key x) z)) (λ x. sym (below_not_upto (key x) z)) xs)) ∙ last_filtered (λ x. is_lt (place_cmp (key x) z)) None xs ∙ or_none (find_last (λ x. is_lt (place_cmp (key x) z)) xs) where
-        or_none : (o : Option X) → later o None ≡ o
-        or_none None = refl
-        or_none (Some x) = refl
+  last_ahead z found e = last_on (λ x. range_contains place_cmp Unbounded (Excluded z) (key x)) (λ x. is_lt (place_cmp (key x) z)) (λ x. sym (below_not_upto (key x) z)) found e
 
   -- the first that passes isn't before the end, so none that passes is
   pub none_before : (test : X → Bool) (high : Place) (x : X) → IsStrictlySortedBy place_cmp (map key xs) → find test xs ≡ Some x → is_lt (place_cmp (key x) high) ≡ false → None ≡ find (λ y. test y && is_lt (place_cmp (key y) high)) xs
-  none_before test high x sorted e k = sym (find_none (λ y. test y && is_lt (place_cmp (key y) high)) xs (each_weaker (λ y. test y ≡ true → is_lt (place_cmp (key y) high) ≡ false) (λ y. (test y && is_lt (place_cmp (key y) high)) ≡ false) (λ y. at (test y) (is_lt (place_cmp (key y) high))) xs
+  none_before test high x sorted e k = sym (find_none (λ y. test y && is_lt (place_cmp (key y) high)) xs (each_weaker (λ y. test y ≡ true → is_lt (place_cmp (key y) high) ≡ false) (λ y. (test y && is_lt (place_cmp (key y) high)) ≡ false) (λ y. and_false (test y) (is_lt (place_cmp (key y) high))) xs
       (after_found place_cmp key test (λ y. is_lt (place_cmp (key y) high) ≡ false) xs sorted x e k (λ y less. past y less)))) where
-        at : (a b : Bool) → (a ≡ true → b ≡ false) → (a && b) ≡ false
-        at true b h = h refl
-        at false b h = refl
-
-        turned : (b : Bool) → (b ≡ true → true ≡ false) → b ≡ false
-        turned true h = h refl
-        turned false h = refl
-
         past : (y : X) → place_cmp (key x) (key y) ≡ Less → is_lt (place_cmp (key y) high) ≡ false
-        past y less = turned (is_lt (place_cmp (key y) high)) (λ yes. sym (upto_below (key x) (key y) high (ap is_le less) yes) ∙ k)
+        past y less = falsified (is_lt (place_cmp (key y) high)) (λ yes. sym (upto_below (key x) (key y) high (ap is_le less) yes) ∙ k)
 
   -- nothing passes, so nothing does before the end
   pub none_within : (test : X → Bool) (high : Place) → find test xs ≡ None → None ≡ find (λ y. test y && is_lt (place_cmp (key y) high)) xs
@@ -53,12 +47,7 @@ module _ {X : Type 0} (key : X → Place) (xs : List X) where
 
   -- the last up to a place
   pub last_upto : (z : Place) (found : List X) → found ≡ filter (λ x. range_contains place_cmp Unbounded (Included z) (key x)) xs → last_or None found ≡ find_last (λ x. is_le (place_cmp (key x) z)) xs
-  last_upto z found e = ap (last_or None) (e ∙ filter_on (λ x. range_contains place_cmp Unbounded (Included z) (key x)) (λ x. is_le (place_cmp (key x) z)) xs
-      (each (λ x. range_contains place_cmp Unbounded (Included z) (key x) ≡ is_le (place_cmp (key x) z)) (λ x. not_not (is_le (place_cmp (key x) z)) (is_lt (place_cmp z (key x))) (below_not_upto z (key x))) xs)) ∙ last_filtered (λ x. is_le (place_cmp (key x) z)) None xs ∙ or_none (find_last (λ x. is_le (place_cmp (key x) z)) xs) where
-        or_none : (o : Option X) → later o None ≡ o
-        or_none None = refl
-        or_none (Some x) = refl
-
-        not_not : (b c : Bool) → c ≡ not b → not c ≡ b
-        not_not true c h = ap not h
-        not_not false c h = ap not h
+  last_upto z found e = last_on (λ x. range_contains place_cmp Unbounded (Included z) (key x)) (λ x. is_le (place_cmp (key x) z)) (λ x. not_not (is_le (place_cmp (key x) z)) (is_lt (place_cmp z (key x))) (below_not_upto z (key x))) found e where
+    not_not : (b c : Bool) → c ≡ not b → not c ≡ b
+    not_not true c h = ap not h
+    not_not false c h = ap not h

@@ -6,6 +6,7 @@ use Rattle.std.specs.Cmp.{IsTotalOrder, alike_right, tied_itself, on_total, then
 use Rattle.std.proofs.lemmas.Cmp.{back_total}
 use Rattle.std.proofs.lemmas.List.Elements.{Contains-push, Contains-append_left, Contains-append_right, Contains-append_cases}
 use Rattle.fs_base.specs.declared.path.Path.{Path}
+use Rattle.fs_base.proofs.Orderings.{less_of_is_lt}
 use Rattle.fs_unicast.specs.Preference.{path_length, preference_cmp, preferred, better, best_of}
 use Rattle.fs_unicast.specs.Laws.{IsMostPreferred, IsBest}
 
@@ -31,14 +32,9 @@ not_over r s b h k = at (preference_cmp r b) refl (preference_cmp s b) refl wher
 
 before_both : (r s b : ℕ × Path) → preferred r s ≡ true → preferred r b ≡ false → preferred s b ≡ false
 before_both r s b h k = at (preferred s b) refl where
-  less : (o : Ordering) → is_lt o ≡ true → o ≡ Less
-  less Less l = refl
-  less Equal l = absurd (true≢false (sym l))
-  less Greater l = absurd (true≢false (sym l))
-
   at : (b' : Bool) → preferred s b ≡ b' → preferred s b ≡ false
   at false e = e
-  at true e = absurd (true≢false (sym (ap is_lt (preference_total.trans r s b (less (preference_cmp r s) h) (less (preference_cmp s b) e))) ∙ k))
+  at true e = absurd (true≢false (sym (ap is_lt (preference_total.trans r s b (less_of_is_lt (preference_cmp r s) h) (less_of_is_lt (preference_cmp s b) e))) ∙ k))
 
 -- of s and some more routes
 abbrev IsFound : ℕ × Path → List (ℕ × Path) → Option (ℕ × Path) → Type 0

@@ -1,10 +1,9 @@
 -- What a change at a place leaves idle: at most the turns beside it.
-use Rattle.std.proofs.Common.{ℕ, ◌≡◌, ◌⊎◌, inl, inr, refl, sym, ap, subst, ◌∙◌, Bool, true, false, true≢false, not, ◌&&◌, List, [], ◌∷◌, map, find, Option, Some, None, is_eq, is_le, is_lt}
+use Rattle.std.proofs.Common.{ℕ, ◌≡◌, ◌⊎◌, inl, inr, refl, sym, ap, subst, ◌∙◌, Bool, true, false, true≢false, not, ◌&&◌, List, find, Option, Some, None, is_eq, is_le, is_lt, map-id}
 use Rattle.std.specs.List.{list_any}
 use Rattle.std.specs.List.Sorted.{IsStrictlySortedBy}
 use Rattle.std.specs.BTreeMap.{insert_entry, is_at}
 use Rattle.std.specs.Map.{keys_of}
-use Rattle.std.specs.Cmp.{tied_itself}
 use Rattle.std.proofs.Math.Path.{ap₂}
 use Rattle.fs_base.proofs.Bools.{false_from}
 use Rattle.fs_base.proofs.Lists.{each_weaker}
@@ -13,18 +12,11 @@ use Rattle.fs_unicast.specs.declared.unicast.Place.{Place}
 use Rattle.fs_unicast.specs.Neighbour.{neighbour}
 use Rattle.fs_unicast.specs.Unicast.{Route, place_cmp}
 use Rattle.fs_unicast.specs.Turns.{neighbour_of, is_same, lies_between, is_alone, parts_alone, is_needed, stands_at, is_alike, are_alike, NoneIdle, find_last}
-use Rattle.fs_unicast.proofs.PlaceOrder.{place_total, below_upto, upto_below, upto_upto, lt_le, upto_itself}
+use Rattle.fs_unicast.proofs.PlaceOrder.{below_upto, upto_below, upto_upto, lt_le, upto_itself, equal_itself}
 use Rattle.fs_unicast.proofs.Finding.{found_passes, last_passes, none_found, no_last, after_found, before_last}
 use Rattle.fs_unicast.proofs.Parting.{same_is, same_itself}
 use Rattle.fs_unicast.proofs.Members.{In, in_each, in_any, any_in, found_in, last_in, exact_place, put_from, put_new, put_other, one_route}
-use Rattle.fs_unicast.proofs.Needed.{lt, le, apart, never, both, le_from, Beside, IsNeededBut, AreNeededBut, Nobody, IsIt, IsNext, last_upto, first_past}
-
-pub equal_itself : (z : Place) → is_eq (place_cmp z z) ≡ true
-equal_itself z = ap is_eq (tied_itself place_total z)
-
-pub map_same : (ts : List Place) → map (λ t. t) ts ≡ ts
-map_same [] = refl
-map_same (t ∷ ts) = ap (λ us. t ∷ us) (map_same ts)
+use Rattle.fs_unicast.proofs.Needed.{lt, le, apart, never, both, le_from, Beside, IsNeededBut, AreNeededBut, Nobody, IsIt, IsNext, last_upto, first_past, left_of, right_of}
 
 -- The turns beside a place.
 pub record IsLast (turns : List Place) (z u : Place) : Type 0 where
@@ -51,7 +43,7 @@ module _ (turns : List Place) (sorted : IsStrictlySortedBy place_cmp turns) (z u
       is = e;
       there = last_in (λ t. is_le (place_cmp t z)) turns w e;
       upto = last_passes (λ t. is_le (place_cmp t z)) turns w e;
-      over = in_each (λ t. is_le (place_cmp t z) ≡ true → le t w) turns u (before_last place_cmp (λ t. t) (λ t. is_le (place_cmp t z)) (λ t. le t w) turns (subst (IsStrictlySortedBy place_cmp) (sym (map_same turns)) sorted) w e (upto_itself w) (λ y less. ap is_le less)) i k;
+      over = in_each (λ t. is_le (place_cmp t z) ≡ true → le t w) turns u (before_last place_cmp (λ t. t) (λ t. is_le (place_cmp t z)) (λ t. le t w) turns (subst (IsStrictlySortedBy place_cmp) (sym (map-id turns)) sorted) w e (upto_itself w) (λ y less. ap is_le less)) i k;
     }
 
   pub first_of : lt z u → IsFirst turns z u
@@ -63,7 +55,7 @@ module _ (turns : List Place) (sorted : IsStrictlySortedBy place_cmp turns) (z u
       is = e;
       there = found_in (λ t. is_lt (place_cmp z t)) turns w e;
       past = found_passes (λ t. is_lt (place_cmp z t)) turns w e;
-      under = in_each (λ t. is_lt (place_cmp z t) ≡ true → le w t) turns u (after_found place_cmp (λ t. t) (λ t. is_lt (place_cmp z t)) (λ t. le w t) turns (subst (IsStrictlySortedBy place_cmp) (sym (map_same turns)) sorted) w e (upto_itself w) (λ y less. ap is_le less)) i k;
+      under = in_each (λ t. is_lt (place_cmp z t) ≡ true → le w t) turns u (after_found place_cmp (λ t. t) (λ t. is_lt (place_cmp z t)) (λ t. le w t) turns (subst (IsStrictlySortedBy place_cmp) (sym (map-id turns)) sorted) w e (upto_itself w) (λ y less. ap is_le less)) i k;
     }
 
   pub is_last : (l : IsLast turns z u) → u ≡ l.turn → IsNext turns z u
@@ -194,12 +186,8 @@ module _ (old new : List Place) (held : List Route) (z : Place) (path : Path) (a
       astray l k (inl o) = never n.fore.0 z l (lt_le (place_cmp z n.fore.0) o)
       astray l k (inr o) = never n.aft.0 z o k
 
-      bottom : (v : Place) → (v ≡ u) ⊎ ⊥ → (v ≡ u) ⊎ E v
-      bottom v (inl e) = inl e
-      bottom v (inr x) = absurd x
-
       alone : (v : Place) → lt n.fore.0 v → le v n.aft.0 → lt z n.fore.0 ⊎ lt n.aft.0 z → In old v ⊎ IsPut held z asn v → (v ≡ u) ⊎ E v
-      alone v l k o (inl i) = bottom v (n.alone v i l k)
+      alone v l k o (inl i) = inl (left_of (n.alone v i l k))
       alone v l k o (inr (inl h)) = absurd (astray (subst (lt n.fore.0) h.is l) (subst (λ x. le x n.aft.0) h.is k) o)
       alone v l k o (inr (inr h)) = absurd (stray h.route h.first (subst (lt n.fore.0) h.is l) (subst (λ x. le x n.aft.0) h.is k) o)
 
@@ -219,10 +207,7 @@ module _ (old new : List Place) (held : List Route) (z : Place) (path : Path) (a
   -- a turn whose gap the place is in, and the others of that gap
   module _ (u : Place) (n : IsNeededBut Nobody old held u) (k : le n.fore.0 z) (m : le z n.aft.0) where
     alone_there : (w : Place) → In old w → lt n.fore.0 w → le w n.aft.0 → w ≡ u
-    alone_there w j l p = at (n.alone w j l p) where
-      at : (w ≡ u) ⊎ ⊥ → w ≡ u
-      at (inl e) = e
-      at (inr x) = absurd x
+    alone_there w j l p = left_of (n.alone w j l p)
 
     far : (a : Route) → IsFirstAfter held z a → le n.aft.0 a.0
     far a f = at (n.beside.none a f.there) where
@@ -289,23 +274,18 @@ module _ (old new : List Place) (held : List Route) (z : Place) (path : Path) (a
       start (inl x) = absurd (never n.fore.0 w n.below (upto_upto w u n.fore.0 q (upto_upto u h.route.0 n.fore.0 (le_from u h.route.0 h.is) (h.first.least n.fore n.beside.first x))))
       start (inr x) = x
 
-      only : (v : Place) → In new v → (v ≡ w) ⊎ ⊥ → IsNext new z v
-      only v g (inl e) = inr (subst (λ o. IsIt o v) (sym f.is) (e ∙ sym same))
-      only v g (inr x) = absurd x
+      only : (v : Place) → (v ≡ w) ⊎ ⊥ → IsNext new z v
+      only v x = inr (subst (λ o. IsIt o v) (sym f.is) (left_of x ∙ sym same))
 
       at : (v : Place) → In new v → lt z v → le v h.route.0 → In old v ⊎ IsPut held z asn v → (v ≡ u) ⊎ IsNext new z v
-      at v g l r (inl o) = inr (only v g (n.alone v o (upto_below n.fore.0 z v (start (apart z n.fore.0)) l) (upto_upto v h.route.0 n.aft.0 r (h.first.least n.aft n.beside.second (below_upto z w n.aft.0 p n.upto)))))
+      at v g l r (inl o) = inr (only v (n.alone v o (upto_below n.fore.0 z v (start (apart z n.fore.0)) l) (upto_upto v h.route.0 n.aft.0 r (h.first.least n.aft n.beside.second (below_upto z w n.aft.0 p n.upto)))))
       at v g l r (inr (inl x)) = absurd (not_past held z asn v x l)
       at v g l r (inr (inr x)) = inl (x.is ∙ first_once held z x.route h.route x.first h.first ∙ sym h.is)
 
     behind : (u : Place) → In new u → IsBehind held z asn u → Done u
     behind u i h = at (first_of new sorted z u i (subst (lt z) (sym h.is) h.first.above)) where
-      needed : (f : IsFirst new z u) → ⊥ ⊎ IsNeededBut Nobody old held f.turn → Done u
-      needed f (inl x) = absurd x
-      needed f (inr n) = inr (after_put u f.turn i f.there h f.past f.under n f refl)
-
       by : (f : IsFirst new z u) → In old f.turn ⊎ IsPut held z asn f.turn → Done u
-      by f (inl o) = needed f (all f.turn o)
+      by f (inl o) = inr (after_put u f.turn i f.there h f.past f.under (right_of (all f.turn o)) f refl)
       by f (inr (inl x)) = absurd (not_past held z asn f.turn x f.past)
       by f (inr (inr x)) = inl (is_first new sorted z u i f (h.is ∙ first_once held z h.route x.route h.first x.first ∙ sym x.is))
 
@@ -318,12 +298,8 @@ module _ (old new : List Place) (held : List Route) (z : Place) (path : Path) (a
       place n (inl out) = inr (stays_out (IsNext new z) u n out)
       place n (inr within) = inside u i n within.0 within.1 (apart z u)
 
-      needed : ⊥ ⊎ IsNeededBut Nobody old held u → Done u
-      needed (inl x) = absurd x
-      needed (inr n) = place n (position Nobody u n)
-
       at : In old u ⊎ IsPut held z asn u → Done u
-      at (inl o) = needed (all u o)
+      at (inl o) = place (right_of (all u o)) (position Nobody u (right_of (all u o)))
       at (inr (inl h)) = inl (last_here new sorted z u i h.is)
       at (inr (inr h)) = behind u i h
 
@@ -388,12 +364,8 @@ module _ (old new : List Place) (held : List Route) (z : Place) (path : Path) (a
         aft r k (inl x) = absurd (never z r.0 k (upto_upto r.0 n.fore.0 z x within.0))
         aft r k (inr x) = upto_upto u n.aft.0 r.0 n.upto x
 
-      needed : In old u → ⊥ ⊎ IsNeededBut Nobody old held u → IsNeededBut Nobody new came u
-      needed o (inl x) = absurd x
-      needed o (inr n) = place o n (position Nobody u n)
-
       at : In old u ⊎ IsPut held z asn u → IsNeededBut Nobody new came u
-      at (inl o) = needed o (all u o)
+      at (inl o) = place o (right_of (all u o)) (position Nobody u (right_of (all u o)))
       at (inr x) = put x
 
 is_it_or_not : (o : Option Place) (u : Place) → IsIt o u ⊎ (IsIt o u → ⊥)
@@ -411,17 +383,12 @@ module _ (old new : List Place) (held : List Route) (z : Place) (asn : Option �
   -- a turn that was there, and isn't the first after the place
   old_stays : (u : Place) → (n : IsNeededBut Nobody old held u) → (IsIt (first_past new z) u → ⊥) → IsNeededBut (IsNext new z) new held u
   old_stays u n far = record { fore = n.fore; aft = n.aft; beside = n.beside; below = n.below; upto = n.upto; other = n.other; alone = λ v i l k. at v i l k (grown v i) } where
-    bottom : (v : Place) → (v ≡ u) ⊎ ⊥ → (v ≡ u) ⊎ IsNext new z v
-    bottom v (inl e) = inl e
-    bottom v (inr x) = absurd x
-
     start : (v : Place) → lt n.fore.0 v → IsBehind held z asn v → lt z n.fore.0 ⊎ le n.fore.0 z → le n.fore.0 z
     start v l h (inl x) = absurd (never n.fore.0 v l (subst (λ w. le w n.fore.0) (sym h.is) (h.first.least n.fore n.beside.first x)))
     start v l h (inr x) = x
 
     taken : (v : Place) (f : IsFirst new z v) → (f.turn ≡ u) ⊎ ⊥ → ⊥
-    taken v f (inl e) = far (subst (λ o. IsIt o u) (sym f.is) (sym e))
-    taken v f (inr x) = x
+    taken v f x = far (subst (λ o. IsIt o u) (sym f.is) (sym (left_of x)))
 
     by : (v : Place) → In new v → lt n.fore.0 v → le v n.aft.0 → IsBehind held z asn v → (f : IsFirst new z v) → In old f.turn ⊎ IsPut held z asn f.turn → (v ≡ u) ⊎ IsNext new z v
     by v i l k h f (inl o) = absurd (taken v f (n.alone f.turn o (upto_below n.fore.0 z f.turn (start v l h (apart z n.fore.0)) f.past) (upto_upto f.turn v n.aft.0 f.under k)))
@@ -432,7 +399,7 @@ module _ (old new : List Place) (held : List Route) (z : Place) (asn : Option �
     near v i l k h f = by v i l k h f (grown f.turn f.there)
 
     at : (v : Place) → In new v → lt n.fore.0 v → le v n.aft.0 → In old v ⊎ IsPut held z asn v → (v ≡ u) ⊎ IsNext new z v
-    at v i l k (inl o) = bottom v (n.alone v o l k)
+    at v i l k (inl o) = inl (left_of (n.alone v o l k))
     at v i l k (inr (inl h)) = inr (last_here new sorted z v i h.is)
     at v i l k (inr (inr h)) = near v i l k h (first_of new sorted z v i (subst (lt z) (sym h.is) h.first.above))
 
@@ -446,12 +413,8 @@ module _ (old new : List Place) (held : List Route) (z : Place) (asn : Option �
     other = n.other;
     alone = λ v g l k. at v g l k (grown v g);
   } where
-    bottom : (v : Place) → (v ≡ f.turn) ⊎ ⊥ → IsNext new z v
-    bottom v (inl e) = inr (subst (λ o. IsIt o v) (sym f.is) e)
-    bottom v (inr x) = absurd x
-
     at : (v : Place) → In new v → lt n.fore.0 v → le v n.aft.0 → In old v ⊎ IsPut held z asn v → (v ≡ u) ⊎ IsNext new z v
-    at v g l k (inl o) = inr (bottom v (n.alone v o l k))
+    at v g l k (inl o) = inr (inr (subst (λ w. IsIt w v) (sym f.is) (left_of (n.alone v o l k))))
     at v g l k (inr (inl x)) = inr (last_here new sorted z v g x.is)
     at v g l k (inr (inr x)) = inl (x.is ∙ first_once held z x.route h.route x.first h.first ∙ sym h.is)
 
@@ -461,16 +424,8 @@ module _ (old new : List Place) (held : List Route) (z : Place) (asn : Option �
     decided n (inl e) = inl (inr e)
     decided n (inr far) = inr (old_stays u n far)
 
-    needed : ⊥ ⊎ IsNeededBut Nobody old held u → Still u
-    needed (inl x) = absurd x
-    needed (inr n) = decided n (is_it_or_not (first_past new z) u)
-
-    first_needed : (h : IsBehind held z asn u) (f : IsFirst new z u) → ⊥ ⊎ IsNeededBut Nobody old held f.turn → Still u
-    first_needed h f (inl x) = absurd x
-    first_needed h f (inr n) = inr (behind_stays u i h f n)
-
     by : (h : IsBehind held z asn u) (f : IsFirst new z u) → In old f.turn ⊎ IsPut held z asn f.turn → Still u
-    by h f (inl o) = first_needed h f (all f.turn o)
+    by h f (inl o) = inr (behind_stays u i h f (right_of (all f.turn o)))
     by h f (inr (inl x)) = absurd (not_past held z asn f.turn x f.past)
     by h f (inr (inr x)) = inl (is_first new sorted z u i f (h.is ∙ first_once held z h.route x.route h.first x.first ∙ sym x.is))
 
@@ -478,7 +433,7 @@ module _ (old new : List Place) (held : List Route) (z : Place) (asn : Option �
     near h f = by h f (grown f.turn f.there)
 
     at : In old u ⊎ IsPut held z asn u → Still u
-    at (inl o) = needed (all u o)
+    at (inl o) = decided (right_of (all u o)) (is_it_or_not (first_past new z) u)
     at (inr (inl h)) = inl (last_here new sorted z u i h.is)
     at (inr (inr h)) = near h (first_of new sorted z u i (subst (lt z) (sym h.is) h.first.above))
 
@@ -551,16 +506,10 @@ module _ (old : List Place) (held : List Route) (z : Place) (free : IsFree held 
       at (inr l) (inr k) = absurd (free n.aft n.beside.second (both z n.aft.0 k l))
 
     pub one_between : (w : Place) → In old w → IsBetween held z w → w ≡ v
-    one_between w i c = at (n.alone w i (c.before n.fore n.beside.first fore_below) (c.after n.aft n.beside.second aft_above)) where
-      at : (w ≡ v) ⊎ ⊥ → w ≡ v
-      at (inl e) = e
-      at (inr x) = absurd x
+    one_between w i c = left_of (n.alone w i (c.before n.fore n.beside.first fore_below) (c.after n.aft n.beside.second aft_above))
 
   pub same_between : AreNeededBut Nobody old held → (v w : Place) → In old v → IsBetween held z v → In old w → IsBetween held z w → w ≡ v
-  same_between all v w i b j c = at (all v i) where
-    at : ⊥ ⊎ IsNeededBut Nobody old held v → w ≡ v
-    at (inl x) = absurd x
-    at (inr n) = one_between v n b w j c
+  same_between all v w i b j c = one_between v (right_of (all v i)) b w j c
 
   -- the routes beside the place are alike
   module _ (o p : Option Route) (sorted : IsStrictlySortedBy place_cmp (keys_of held)) (e : find_last (λ r. is_lt (place_cmp r.0 z)) held ≡ o) (f : find (λ r. is_lt (place_cmp z r.0)) held ≡ p) (alike : are_alike o p ≡ true) (v : Place) (b : IsBetween held z v) where
@@ -583,10 +532,7 @@ module _ (old : List Place) (held : List Route) (z : Place) (free : IsFree held 
       by (Some x) (Some a) e f k = differ x a (last_before held sorted z x e) (first_after held sorted z a f) k
 
     pub none_between : AreNeededBut Nobody old held → In old v → ⊥
-    none_between all i = at (all v i) where
-      at : ⊥ ⊎ IsNeededBut Nobody old held v → ⊥
-      at (inl x) = x
-      at (inr n) = none_needed n
+    none_between all i = none_needed (right_of (all v i))
 
 -- a turn that is put lies between the routes beside the place
 pub put_between : (held : List Route) (z : Place) (asn : Option ℕ) (u : Place) → IsPut held z asn u → IsBetween held z u

@@ -1,11 +1,12 @@
 -- The first and the last element of a list that pass a test.
-use Rattle.std.proofs.Common.{◌≡◌, refl, sym, ap, subst, ◌∙◌, Bool, true, false, true≢false, cond, ◌&&◌, ◌||◌, List, [], ◌∷◌, ◌++◌, map, filter, find, option_map, slice_get, Option, Some, None, Ordering, Less}
+use Rattle.std.proofs.Common.{◌≡◌, refl, sym, ap, subst, ◌∙◌, Bool, true, false, true≢false, cond, ◌&&◌, List, [], ◌∷◌, ◌++◌, map, filter, find, option_map, slice_get, Option, Some, None, Ordering, Less}
 use Rattle.std.specs.Prelude.{MatchOption}
 use Rattle.std.specs.List.{AllByRecursion, list_any, last_or}
 use Rattle.std.specs.List.Sorted.{IsStrictlySortedBy}
 use Rattle.std.proofs.lemmas.Map.Keys.{sorted_head, sorted_tail}
-use Rattle.fs_base.proofs.Bools.{or_first, or_second}
-use Rattle.fs_base.proofs.Lists.{each_weaker, each_of_map}
+use Rattle.std.proofs.lemmas.Option.{same_Some}
+use Rattle.fs_base.proofs.Bools.{and_both, and_first}
+use Rattle.fs_base.proofs.Lists.{each, each_weaker, each_of_map, none_each}
 use Rattle.fs_unicast.specs.Turns.{find_last, later}
 
 -- what an iterator's next call shows is the head of what is left
@@ -45,26 +46,19 @@ last_filtered {X} test o (x ∷ xs) = at (test x) (last_filtered test o xs) (las
   at true ih k = k ∙ over (find_last test xs) o
   at false ih k = ih ∙ under (find_last test xs) o
 
--- what holds of each holds of the one that is found
-pub found_each : {X : Type 0} (test : X → Bool) (P : X → Type 0) (xs : List X) (x : X) → find test xs ≡ Some x → AllByRecursion P xs → P x
-found_each test P [] x h all = cc
-found_each {X} test P (y ∷ ys) x h all = at (test y) (λ k. found_each test P ys x k all.1) h where
-  same : (a b : X) → Some a ≡ Some b → a ≡ b
-  same a b e = cc
+-- what holds of each that passes holds of the one that is found
+found_both : {X : Type 0} (test : X → Bool) (P : X → Type 0) (xs : List X) (x : X) → find test xs ≡ Some x → AllByRecursion (λ y. test y ≡ true → P y) xs → P x
+found_both test P [] x h all = cc
+found_both test P (y ∷ ys) x h all = at (test y) refl (λ k. found_both test P ys x k all.1) h where
+  at : (b : Bool) → test y ≡ b → (find test ys ≡ Some x → P x) → cond b (Some y) (find test ys) ≡ Some x → P x
+  at true e ih k = subst P (same_Some y x k) (all.0 e)
+  at false e ih k = ih k
 
-  at : (b : Bool) → (find test ys ≡ Some x → P x) → cond b (Some y) (find test ys) ≡ Some x → P x
-  at true ih k = subst P (same y x k) all.0
-  at false ih k = ih k
+pub found_each : {X : Type 0} (test : X → Bool) (P : X → Type 0) (xs : List X) (x : X) → find test xs ≡ Some x → AllByRecursion P xs → P x
+found_each test P xs x h all = found_both test P xs x h (each_weaker P (λ y. test y ≡ true → P y) (λ y p _. p) xs all)
 
 pub found_passes : {X : Type 0} (test : X → Bool) (xs : List X) (x : X) → find test xs ≡ Some x → test x ≡ true
-found_passes test [] x h = cc
-found_passes {X} test (y ∷ ys) x h = at (test y) refl (found_passes test ys x) h where
-  same : (a b : X) → Some a ≡ Some b → a ≡ b
-  same a b e = cc
-
-  at : (b : Bool) → test y ≡ b → (find test ys ≡ Some x → test x ≡ true) → cond b (Some y) (find test ys) ≡ Some x → test x ≡ true
-  at true e ih k = ap test (sym (same y x k)) ∙ e
-  at false e ih k = ih k
+found_passes test xs x h = found_both test (λ y. test y ≡ true) xs x h (each (λ y. test y ≡ true → test y ≡ true) (λ y e. e) xs)
 
 pub none_found : {X : Type 0} (test : X → Bool) (xs : List X) → find test xs ≡ None → AllByRecursion (λ x. test x ≡ false) xs
 none_found test [] h = tt
@@ -80,43 +74,25 @@ find_none test (y ∷ ys) h = at (test y) h.0 (find_none test ys h.1) where
   at true e ih = absurd (true≢false e)
   at false e ih = ih
 
--- the first that passes, where it passes another test too
-pub find_both : {X : Type 0} (test more : X → Bool) (xs : List X) (x : X) → find test xs ≡ Some x → more x ≡ true → find (λ y. test y && more y) xs ≡ Some x
-find_both test more [] x h k = cc
-find_both {X} test more (y ∷ ys) x h k = at (test y) (λ l. find_both test more ys x l k) h where
-  same : (a b : X) → Some a ≡ Some b → a ≡ b
-  same a b e = cc
-
-  here : (b : Bool) → b ≡ true → cond b (Some y) (find (λ y. test y && more y) ys) ≡ Some y
-  here true e = refl
-  here false e = absurd (true≢false (sym e))
-
-  at : (b : Bool) → (find test ys ≡ Some x → find (λ y. test y && more y) ys ≡ Some x) → cond b (Some y) (find test ys) ≡ Some x → cond (b && more y) (Some y) (find (λ y. test y && more y) ys) ≡ Some x
-  at true ih l = here (more y) (ap more (same y x l) ∙ k) ∙ l
-  at false ih l = ih l
-
 -- the first that passes, where it passes a narrower test too
 pub find_narrower : {X : Type 0} (test narrow : X → Bool) → ((x : X) → narrow x ≡ true → test x ≡ true) → (xs : List X) (x : X) → find test xs ≡ Some x → narrow x ≡ true → find narrow xs ≡ Some x
 find_narrower test narrow f [] x h k = cc
 find_narrower {X} test narrow f (y ∷ ys) x h k = at (test y) (narrow y) (f y) refl (λ l. find_narrower test narrow f ys x l k) h where
-  same : (a b : X) → Some a ≡ Some b → a ≡ b
-  same a b e = cc
-
   at : (b c : Bool) → (c ≡ true → b ≡ true) → narrow y ≡ c → (find test ys ≡ Some x → find narrow ys ≡ Some x) → cond b (Some y) (find test ys) ≡ Some x → cond c (Some y) (find narrow ys) ≡ Some x
   at true true g e ih l = l
-  at true false g e ih l = absurd (true≢false (sym (ap narrow (same y x l) ∙ k) ∙ e))
+  at true false g e ih l = absurd (true≢false (sym (ap narrow (same_Some y x l) ∙ k) ∙ e))
   at false true g e ih l = absurd (true≢false (sym (g refl)))
   at false false g e ih l = ih l
 
-pub any_found : {X : Type 0} (test p : X → Bool) (xs : List X) (x : X) → find test xs ≡ Some x → p x ≡ true → list_any p xs ≡ true
-any_found test p [] x h k = cc
-any_found {X} test p (y ∷ ys) x h k = at (test y) (λ l. any_found test p ys x l k) h where
-  same : (a b : X) → Some a ≡ Some b → a ≡ b
-  same a b e = cc
+pub find_both : {X : Type 0} (test more : X → Bool) (xs : List X) (x : X) → find test xs ≡ Some x → more x ≡ true → find (λ y. test y && more y) xs ≡ Some x
+find_both test more xs x h k = find_narrower test (λ y. test y && more y) (λ y e. and_first (test y) (more y) e) xs x h (and_both (test x) (more x) (found_passes test xs x h) k)
 
-  at : (b : Bool) → (find test ys ≡ Some x → list_any p ys ≡ true) → cond b (Some y) (find test ys) ≡ Some x → (p y || list_any p ys) ≡ true
-  at true ih l = or_first (p y) (list_any p ys) (ap p (same y x l) ∙ k)
-  at false ih l = or_second (p y) (list_any p ys) (ih l)
+true_from : (b : Bool) → (b ≡ false → ⊥) → b ≡ true
+true_from true h = refl
+true_from false h = absurd (h refl)
+
+pub any_found : {X : Type 0} (test p : X → Bool) (xs : List X) (x : X) → find test xs ≡ Some x → p x ≡ true → list_any p xs ≡ true
+any_found test p xs x h k = true_from (list_any p xs) (λ e. true≢false (sym k ∙ found_each test (λ y. p y ≡ false) xs x h (none_each p xs e)))
 
 module _ {K X : Type 0} (cmp : K → K → Ordering) (key : X → K) where
   -- In order, each that passes is the first one or after it.
@@ -124,49 +100,30 @@ module _ {K X : Type 0} (cmp : K → K → Ordering) (key : X → K) where
       → P x → ((y : X) → cmp (key x) (key y) ≡ Less → P y) → AllByRecursion (λ y. test y ≡ true → P y) xs
   after_found test P [] sorted x h here more = tt
   after_found test P (y ∷ ys) sorted x h here more = at (test y) refl (λ k. after_found test P ys (sorted_tail cmp (key y) (map key ys) sorted) x k here more) h where
-    same : (a b : X) → Some a ≡ Some b → a ≡ b
-    same a b e = cc
-
     at : (b : Bool) → test y ≡ b → (find test ys ≡ Some x → AllByRecursion (λ y. test y ≡ true → P y) ys) → cond b (Some y) (find test ys) ≡ Some x → (test y ≡ true → P y) × AllByRecursion (λ y. test y ≡ true → P y) ys
     at true e ih k = (
-      (λ _. subst P (sym (same y x k)) here),
-      each_weaker (λ z. cmp (key y) (key z) ≡ Less) (λ z. test z ≡ true → P z) (λ z less _. more z (subst (λ a. cmp (key a) (key z) ≡ Less) (same y x k) less)) ys (each_of_map key (λ k. cmp (key y) k ≡ Less) ys (sorted_head cmp (key y) (map key ys) sorted)),
+      (λ _. subst P (sym (same_Some y x k)) here),
+      each_weaker (λ z. cmp (key y) (key z) ≡ Less) (λ z. test z ≡ true → P z) (λ z less _. more z (subst (λ a. cmp (key a) (key z) ≡ Less) (same_Some y x k) less)) ys (each_of_map key (λ k. cmp (key y) k ≡ Less) ys (sorted_head cmp (key y) (map key ys) sorted)),
     )
     at false e ih k = ((λ t. absurd (true≢false (sym t ∙ e))), ih k)
 
--- what holds of each holds of the last one that is found
-pub last_each : {X : Type 0} (test : X → Bool) (P : X → Type 0) (xs : List X) (x : X) → find_last test xs ≡ Some x → AllByRecursion P xs → P x
-last_each test P [] x h all = cc
-last_each {X} test P (y ∷ ys) x h all = at (find_last test ys) (test y) (λ k. last_each test P ys x k all.1) h where
-  same : (a b : X) → Some a ≡ Some b → a ≡ b
-  same a b e = cc
-
-  at : (o : Option X) (b : Bool) → (o ≡ Some x → P x) → later o (cond b (Some y) None) ≡ Some x → P x
-  at (Some z) b ih k = ih k
-  at None true ih k = subst P (same y x k) all.0
-  at None false ih k = cc
-
-pub last_passes : {X : Type 0} (test : X → Bool) (xs : List X) (x : X) → find_last test xs ≡ Some x → test x ≡ true
-last_passes test [] x h = cc
-last_passes {X} test (y ∷ ys) x h = at (find_last test ys) (test y) refl (last_passes test ys x) h where
-  same : (a b : X) → Some a ≡ Some b → a ≡ b
-  same a b e = cc
-
-  at : (o : Option X) (b : Bool) → test y ≡ b → (o ≡ Some x → test x ≡ true) → later o (cond b (Some y) None) ≡ Some x → test x ≡ true
+-- what holds of each that passes holds of the last one that is found
+last_both : {X : Type 0} (test : X → Bool) (P : X → Type 0) (xs : List X) (x : X) → find_last test xs ≡ Some x → AllByRecursion (λ y. test y ≡ true → P y) xs → P x
+last_both test P [] x h all = cc
+last_both {X} test P (y ∷ ys) x h all = at (find_last test ys) (test y) refl (λ k. last_both test P ys x k all.1) h where
+  at : (o : Option X) (b : Bool) → test y ≡ b → (o ≡ Some x → P x) → later o (cond b (Some y) None) ≡ Some x → P x
   at (Some z) b e ih k = ih k
-  at None true e ih k = ap test (sym (same y x k)) ∙ e
+  at None true e ih k = subst P (same_Some y x k) (all.0 e)
   at None false e ih k = cc
 
-pub any_last : {X : Type 0} (test p : X → Bool) (xs : List X) (x : X) → find_last test xs ≡ Some x → p x ≡ true → list_any p xs ≡ true
-any_last test p [] x h k = cc
-any_last {X} test p (y ∷ ys) x h k = at (find_last test ys) (test y) (λ l. any_last test p ys x l k) h where
-  same : (a b : X) → Some a ≡ Some b → a ≡ b
-  same a b e = cc
+pub last_each : {X : Type 0} (test : X → Bool) (P : X → Type 0) (xs : List X) (x : X) → find_last test xs ≡ Some x → AllByRecursion P xs → P x
+last_each test P xs x h all = last_both test P xs x h (each_weaker P (λ y. test y ≡ true → P y) (λ y p _. p) xs all)
 
-  at : (o : Option X) (b : Bool) → (o ≡ Some x → list_any p ys ≡ true) → later o (cond b (Some y) None) ≡ Some x → (p y || list_any p ys) ≡ true
-  at (Some z) b ih l = or_second (p y) (list_any p ys) (ih l)
-  at None true ih l = or_first (p y) (list_any p ys) (ap p (same y x l) ∙ k)
-  at None false ih l = cc
+pub last_passes : {X : Type 0} (test : X → Bool) (xs : List X) (x : X) → find_last test xs ≡ Some x → test x ≡ true
+last_passes test xs x h = last_both test (λ y. test y ≡ true) xs x h (each (λ y. test y ≡ true → test y ≡ true) (λ y e. e) xs)
+
+pub any_last : {X : Type 0} (test p : X → Bool) (xs : List X) (x : X) → find_last test xs ≡ Some x → p x ≡ true → list_any p xs ≡ true
+any_last test p xs x h k = true_from (list_any p xs) (λ e. true≢false (sym k ∙ last_each test (λ y. p y ≡ false) xs x h (none_each p xs e)))
 
 pub no_last : {X : Type 0} (test : X → Bool) (xs : List X) → find_last test xs ≡ None → AllByRecursion (λ x. test x ≡ false) xs
 no_last test [] h = tt
@@ -182,9 +139,6 @@ module _ {K X : Type 0} (cmp : K → K → Ordering) (key : X → K) where
       → P x → ((y : X) → cmp (key y) (key x) ≡ Less → P y) → AllByRecursion (λ y. test y ≡ true → P y) xs
   before_last test P [] sorted x h here more = tt
   before_last test P (y ∷ ys) sorted x h here more = at (find_last test ys) refl (test y) refl (λ k. before_last test P ys (sorted_tail cmp (key y) (map key ys) sorted) x k here more) h where
-    same : (a b : X) → Some a ≡ Some b → a ≡ b
-    same a b e = cc
-
     first : find_last test ys ≡ Some x → P y
     first k = more y (last_each test (λ z. cmp (key y) (key z) ≡ Less) ys x k (each_of_map key (λ k. cmp (key y) k ≡ Less) ys (sorted_head cmp (key y) (map key ys) sorted)))
 
@@ -194,5 +148,5 @@ module _ {K X : Type 0} (cmp : K → K → Ordering) (key : X → K) where
     at : (o : Option X) → find_last test ys ≡ o → (b : Bool) → test y ≡ b → (find_last test ys ≡ Some x → AllByRecursion (λ y. test y ≡ true → P y) ys) → later o (cond b (Some y) None) ≡ Some x
         → (test y ≡ true → P y) × AllByRecursion (λ y. test y ≡ true → P y) ys
     at (Some z) f b e ih k = ((λ _. first (f ∙ k)), ih (f ∙ k))
-    at None f true e ih k = ((λ _. subst P (sym (same y x k)) here), none f)
+    at None f true e ih k = ((λ _. subst P (sym (same_Some y x k)) here), none f)
     at None f false e ih k = cc

@@ -23,7 +23,7 @@ use Rattle.fs_unicast.specs.Unicast.{Route, place_cmp}
 use Rattle.fs_unicast.specs.Search.{AreCoversOver, IsFront, candidate, is_same_prefix, is_strictly_under, is_other, is_other_route, best_at, best_match_of, others_under}
 use Rattle.fs_unicast.proofs.Ranges.{place, first_in_range, front_range, best_starts, from_test, no_best}
 
-upto_upto : (x y z : Prefix) → is_le (prefix_cmp x y) ≡ true → is_le (prefix_cmp y z) ≡ true → is_le (prefix_cmp x z) ≡ true
+pub upto_upto : (x y z : Prefix) → is_le (prefix_cmp x y) ≡ true → is_le (prefix_cmp y z) ≡ true → is_le (prefix_cmp x z) ≡ true
 upto_upto x y z h k = at (prefix_cmp x y) refl h (prefix_cmp y z) refl k where
   at : (o : Ordering) → prefix_cmp x y ≡ o → is_le o ≡ true → (p : Ordering) → prefix_cmp y z ≡ p → is_le p ≡ true → is_le (prefix_cmp x z) ≡ true
   at Greater e l p f m = absurd (true≢false (sym l))

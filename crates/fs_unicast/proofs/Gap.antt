@@ -1,5 +1,5 @@
 -- The gap that a route leaves: which turns of it are idle then, and that none is left.
-use Rattle.std.proofs.Common.{ℕ, zero, length, arith, ◌≡◌, ◌⊎◌, inl, inr, refl, sym, ap, subst, ◌∙◌, Bool, true, false, true≢false, cond, List, [], ◌∷◌, find, Option, Some, None, Ordering, Less, Equal, Greater, is_eq, is_le, is_lt}
+use Rattle.std.proofs.Common.{ℕ, zero, length, arith, ◌≡◌, ◌⊎◌, inl, inr, refl, sym, ap, subst, ◌∙◌, Bool, true, false, true≢false, cond, List, [], ◌∷◌, find, Option, Some, None, Ordering, Less, Equal, Greater, is_eq, is_le, is_lt, map-id}
 use Rattle.std.specs.Prelude.{IfSome}
 use Rattle.std.specs.List.{AllByRecursion, list_any}
 use Rattle.std.specs.List.Sorted.{IsStrictlySortedBy}
@@ -8,6 +8,7 @@ use Rattle.std.specs.BTreeMap.{insert_entry, is_at}
 use Rattle.std.specs.Map.{keys_of, remove_entry, lookup}
 use Rattle.std.proofs.Math.Path.{ap₂}
 use Rattle.std.proofs.lemmas.Map.Keys.{sorted_head, sorted_tail}
+use Rattle.std.proofs.lemmas.Option.{same_Some}
 use Rattle.fs_base.proofs.Bools.{and_first, and_second, false_from}
 use Rattle.fs_base.proofs.Lists.{each_of_map}
 use Rattle.fs_base.specs.declared.path.Path.{Path}
@@ -15,13 +16,13 @@ use Rattle.fs_unicast.specs.declared.unicast.Place.{Place}
 use Rattle.fs_unicast.specs.Neighbour.{neighbour}
 use Rattle.fs_unicast.specs.Unicast.{Route, place_cmp}
 use Rattle.fs_unicast.specs.Turns.{neighbour_of, is_same, lies_between, are_parted, are_alike, names, without, is_needed, find_last, IsPartedAfter, IsParted, IsLastUpto, NoneIdle, AreKept}
-use Rattle.fs_unicast.proofs.PlaceOrder.{below_upto, upto_below, upto_upto, lt_le, upto_itself}
+use Rattle.fs_unicast.proofs.PlaceOrder.{below_upto, upto_below, upto_upto, lt_le, upto_itself, equal_itself}
 use Rattle.fs_unicast.proofs.Finding.{found_passes, none_found, last_passes, no_last, before_last}
 use Rattle.fs_unicast.proofs.Parting.{same_is, same_itself}
 use Rattle.fs_unicast.proofs.Members.{In, in_each, each_in, in_any, any_in, there, last_in, exact_place, kept, other_kept, gone, put_from, put_new, put_other, one_route}
 use Rattle.fs_unicast.proofs.Idle.{parted_without}
-use Rattle.fs_unicast.proofs.Needed.{lt, le, apart, never, both, IsNeededBut, Nobody, is_from, all_back}
-use Rattle.fs_unicast.proofs.Changes.{IsFirst, first_of, IsLastBefore, IsFirstAfter, IsBetween, IsFree, equal_itself, map_same, last_before, first_after, first_once, other_way, one_between, none_needed}
+use Rattle.fs_unicast.proofs.Needed.{lt, le, apart, never, both, IsNeededBut, Nobody, is_from, all_back, left_of}
+use Rattle.fs_unicast.proofs.Changes.{IsFirst, first_of, IsLastBefore, IsFirstAfter, IsBetween, IsFree, last_before, first_after, first_once, other_way, one_between, none_needed}
 
 -- a list of no length
 pub nothing : (ts : List Place) → length ts ≡ zero → ts ≡ []
@@ -34,7 +35,7 @@ last_is turns z None sorted e = no_last (λ t. is_le (place_cmp t z)) turns (sym
 last_is turns z (Some t) sorted e = (
   in_any (is_at (place_cmp t)) turns t (last_in (λ t. is_le (place_cmp t z)) turns t (sym e)) (equal_itself t),
   last_passes (λ t. is_le (place_cmp t z)) turns t (sym e),
-  before_last place_cmp (λ t. t) (λ t. is_le (place_cmp t z)) (λ u. le u t) turns (subst (IsStrictlySortedBy place_cmp) (sym (map_same turns)) sorted) t (sym e) (upto_itself t) (λ y less. ap is_le less),
+  before_last place_cmp (λ t. t) (λ t. is_le (place_cmp t z)) (λ u. le u t) turns (subst (IsStrictlySortedBy place_cmp) (sym (map-id turns)) sorted) t (sym e) (upto_itself t) (λ y less. ap is_le less),
 )
 
 -- The route that is gone comes back to its place.
@@ -59,9 +60,6 @@ restored (x ∷ held) z path sorted h = at (place_cmp z x.0) refl h (restored he
   above : AllByRecursion (λ k. place_cmp x.0 k ≡ Less) (keys_of held)
   above = sorted_head place_cmp x.0 (keys_of held) sorted
 
-  one : (a b : Path) → Some a ≡ Some b → a ≡ b
-  one a b k = cc
-
   past : place_cmp z x.0 ≡ Less → (r : Route) × In held r × (z ≡ r.0) → ⊥
   past e f = never z x.0 (ap is_lt e) (subst (le x.0) (sym f.2) (ap is_le (in_each (λ t. place_cmp x.0 t.0 ≡ Less) held f.0 (each_of_map (λ t. t.0) (λ k. place_cmp x.0 k ≡ Less) held above) f.1)))
 
@@ -69,7 +67,7 @@ restored (x ∷ held) z path sorted h = at (place_cmp z x.0) refl h (restored he
       → insert_entry place_cmp (cond (is_eq o) held (x ∷ remove_entry (is_at (place_cmp z)) held)) z path ≡ x ∷ held
   at Less e k ih = absurd (past e (looked_up held z path k))
   at Equal e k ih = in_front held z path (subst (λ p. AllByRecursion (λ k. place_cmp p k ≡ Less) (keys_of held)) (sym (exact_place z x.0 (ap is_eq e))) above)
-      ∙ ap₂ (λ p v. (p, v) ∷ held) (exact_place z x.0 (ap is_eq e)) (sym (one x.1 path k))
+      ∙ ap₂ (λ p v. (p, v) ∷ held) (exact_place z x.0 (ap is_eq e)) (sym (same_Some x.1 path k))
   at Greater e k ih = ap (λ o. match_ordering o ((z, path) ∷ x ∷ remove_entry (is_at (place_cmp z)) held) ((x.0, path) ∷ remove_entry (is_at (place_cmp z)) held) (x ∷ insert_entry place_cmp (remove_entry (is_at (place_cmp z)) held) z path)) e
       ∙ ap (λ rs. x ∷ rs) (ih k)
 
@@ -91,10 +89,6 @@ fewer old new held u sub n = record { fore = n.fore; aft = n.aft; beside = n.bes
 
 last_once : (held : List Route) (z : Place) (a b : Route) → IsLastBefore held z a → IsLastBefore held z b → a.0 ≡ b.0
 last_once held z a b f g = both a.0 b.0 (g.most a f.there f.below) (f.most b g.there g.below)
-
-bottom : (v u : Place) → (v ≡ u) ⊎ ⊥ → v ≡ u
-bottom v u (inl e) = e
-bottom v u (inr x) = absurd x
 
 -- A route stood at the place, none does now, and the turns are those of before.
 module _ (turns : List Place) (held : List Route) (z : Place) (path : Path) (sorted : IsStrictlySortedBy place_cmp (keys_of held)) (free : IsFree held z) (was : AreKept turns (insert_entry place_cmp held z path)) where
@@ -163,7 +157,7 @@ module _ (turns : List Place) (held : List Route) (z : Place) (path : Path) (sor
       below = n.below;
       upto = upto;
       other = subst (λ r. is_same (neighbour_of n.fore) (neighbour_of r) ≡ false) f n.other;
-      alone = λ v k l m. bottom v u (n.alone v k l (subst (λ (r : Route). le v r.0) (sym f) m));
+      alone = λ v k l m. left_of (n.alone v k l (subst (λ (r : Route). le v r.0) (sym f) m));
     } where
       upto : le u z
       upto = subst (λ (r : Route). le u r.0) f n.upto
@@ -179,7 +173,7 @@ module _ (turns : List Place) (held : List Route) (z : Place) (path : Path) (sor
       past = past;
       upto = n.upto;
       other = subst (λ r. is_same (neighbour_of r) (neighbour_of n.aft) ≡ false) e n.other;
-      alone = λ v k l m. bottom v u (n.alone v k (subst (λ (r : Route). lt r.0 v) (sym e) l) m);
+      alone = λ v k l m. left_of (n.alone v k (subst (λ (r : Route). lt r.0 v) (sym e) l) m);
     } where
       past : lt z u
       past = subst (λ (r : Route). lt r.0 u) e n.below
@@ -372,16 +366,13 @@ module _ (turns : List Place) (held : List Route) (z : Place) (path : Path) (sor
 
       between_next : (p : Option Route) → p ≡ find (λ r. is_lt (place_cmp z r.0)) held → names asn p ≡ false → (t : Place) → find (λ t. is_lt (place_cmp z t)) rest ≡ Some t → IsBetween held z t
       between_next p g k t s = record { before = λ r i m. below_upto r.0 z t m (lt_le (place_cmp z t) (found_passes (λ t. is_lt (place_cmp z t)) rest t s)); after = λ r i m. after p g k r i m } where
-        one : (a b : Place) → Some a ≡ Some b → a ≡ b
-        one a b l = cc
-
         near : (a : Route) → IsFirstAfter held z a → (v : Place) × In turns v × (lies_between z a.0 v ≡ true) → le t a.0
         near a f v = at (first_of rest places z v.0 (not_lost v.0 v.1 past) past) where
           past : lt z v.0
           past = and_first (is_lt (place_cmp z v.0)) (is_le (place_cmp v.0 a.0)) v.2
 
           at : IsFirst rest z v.0 → le t a.0
-          at c = upto_upto t v.0 a.0 (subst (λ x. le x v.0) (one c.turn t (sym c.is ∙ s)) c.under) (and_second (is_lt (place_cmp z v.0)) (is_le (place_cmp v.0 a.0)) v.2)
+          at c = upto_upto t v.0 a.0 (subst (λ x. le x v.0) (same_Some c.turn t (sym c.is ∙ s)) c.under) (and_second (is_lt (place_cmp z v.0)) (is_le (place_cmp v.0 a.0)) v.2)
 
         after : (p : Option Route) → p ≡ find (λ r. is_lt (place_cmp z r.0)) held → names asn p ≡ false → (r : Route) → In held r → lt z r.0 → le t r.0
         after None g k r i m = absurd (true≢false (sym m ∙ in_each (λ r. is_lt (place_cmp z r.0) ≡ false) held r (none_found (λ r. is_lt (place_cmp z r.0)) held (sym g)) i))

@@ -1,5 +1,5 @@
 -- Idle turns: what is parted stays so without them, and which they are.
-use Rattle.std.proofs.Common.{◌≡◌, refl, sym, ap, subst, ◌∙◌, Bool, true, false, true≢false, cond, not, ◌&&◌, ◌||◌, List, [], ◌∷◌, find, filter, Some, None, Ordering, Less, Equal, Greater, is_eq, is_le, is_lt}
+use Rattle.std.proofs.Common.{◌≡◌, refl, sym, ap, subst, ◌∙◌, Bool, true, false, true≢false, cond, not, ◌&&◌, ◌||◌, List, [], ◌∷◌, find, filter, Some, None, Equal, is_eq, is_le, is_lt}
 use Rattle.std.specs.List.{AllByRecursion, list_any, list_all}
 use Rattle.std.specs.List.Sorted.{IsStrictlySortedBy}
 use Rattle.std.specs.BTreeMap.{is_at}
@@ -10,21 +10,13 @@ use Rattle.std.specs.Map.{keys_of}
 use Rattle.std.specs.Set.{remove_key}
 use Rattle.fs_base.proofs.Bools.{and_both, and_first, and_second, or_first, or_second, or_implied, or_implies}
 use Rattle.fs_base.proofs.Lists.{each, each_weaker, each_both, each_none, none_each, all_each, each_all, any_each, all_on}
+use Rattle.fs_base.proofs.Orderings.{equal_of_is_eq}
 use Rattle.fs_unicast.specs.declared.unicast.Place.{Place}
 use Rattle.fs_unicast.specs.Unicast.{Route, place_cmp}
 use Rattle.fs_unicast.specs.Turns.{neighbour_of, is_same, lies_between, are_parted, is_alone, parts_alone, is_needed, IsPartedAfter, IsParted, find_last}
-use Rattle.fs_unicast.proofs.PlaceOrder.{below_upto, upto_below, upto_upto, lt_le, below_itself, upto_itself, below_not_upto, equal_upto, equal_back}
+use Rattle.fs_unicast.proofs.PlaceOrder.{below_upto, falsified, upto_below, upto_upto, lt_le, below_itself, upto_itself, below_not_upto, equal_upto, equal_back}
 use Rattle.fs_unicast.proofs.Finding.{found_each, found_passes, none_found, any_found, after_found, last_each, last_passes, no_last, any_last, before_last}
 use Rattle.fs_unicast.proofs.Parting.{same_is, same_itself, turned_off}
-
-pub falsified : (b : Bool) → (b ≡ true → true ≡ false) → b ≡ false
-falsified true h = h refl
-falsified false h = refl
-
-pub eq_equal : (o : Ordering) → is_eq o ≡ true → o ≡ Equal
-eq_equal Less h = absurd (true≢false (sym h))
-eq_equal Equal h = refl
-eq_equal Greater h = absurd (true≢false (sym h))
 
 any_removed : (b e : Place → Bool) (ts : List Place) → list_any b (remove_key e ts) ≡ true → list_any b ts ≡ true
 any_removed b e [] h = h
@@ -54,7 +46,7 @@ not_both false b c h k l = refl
 module _ (turns : List Place) (held : List Route) (t : Place) where
   -- a turn that alone lies between two places
   between_alone : (x y : Place) → is_alone turns x y t ≡ true → are_parted turns x y ≡ true → lies_between x y t ≡ true
-  between_alone x y alone part = any_each (lies_between x y) (λ u. (not (lies_between x y u) || is_eq (place_cmp t u)) ≡ true) (lies_between x y t ≡ true) turns part (all_each (λ u. not (lies_between x y u) || is_eq (place_cmp t u)) turns alone) (λ u lies f. moved u lies (eq_equal (place_cmp t u) (or_implied (lies_between x y u) (is_eq (place_cmp t u)) f lies))) where
+  between_alone x y alone part = any_each (lies_between x y) (λ u. (not (lies_between x y u) || is_eq (place_cmp t u)) ≡ true) (lies_between x y t ≡ true) turns part (all_each (λ u. not (lies_between x y u) || is_eq (place_cmp t u)) turns alone) (λ u lies f. moved u lies (equal_of_is_eq (place_cmp t u) (or_implied (lies_between x y u) (is_eq (place_cmp t u)) f lies))) where
     moved : (u : Place) → lies_between x y u ≡ true → place_cmp t u ≡ Equal → lies_between x y t ≡ true
     moved u lies same = and_both (is_lt (place_cmp x t)) (is_le (place_cmp t y)) (below_upto x u t (and_first (is_lt (place_cmp x u)) (is_le (place_cmp u y)) lies) (equal_back t u same))
         (upto_upto t u y (equal_upto t u same) (and_second (is_lt (place_cmp x u)) (is_le (place_cmp u y)) lies))

@@ -1,5 +1,5 @@
 -- The elements of a list, and those of ordered keys and entries after a change.
-use Rattle.std.proofs.Common.{◌≡◌, ◌⊎◌, inl, inr, refl, sym, ap, subst, ◌∙◌, Bool, true, false, true≢false, cond, ◌||◌, List, [], ◌∷◌, find, Some, Ordering, Less, Equal, Greater, is_eq, is_le, is_lt}
+use Rattle.std.proofs.Common.{◌≡◌, ◌⊎◌, inl, inr, refl, sym, ap, subst, ◌∙◌, Bool, true, false, true≢false, cond, ◌||◌, List, [], ◌∷◌, find, Some, Ordering, Less, Equal, Greater, is_eq, is_lt}
 use Rattle.std.specs.List.{AllByRecursion, list_any}
 use Rattle.std.specs.List.Sorted.{IsStrictlySortedBy}
 use Rattle.std.specs.Ordering.{match_ordering, ordering_then, nat_cmp}
@@ -15,10 +15,11 @@ use Rattle.fs_base.proofs.Lists.{each_of_map}
 use Rattle.fs_base.proofs.SamePrefix.{same_from_cmp}
 use Rattle.fs_base.specs.declared.path.Path.{Path}
 use Rattle.fs_base.specs.Prefix.{prefix_cmp}
+use Rattle.fs_base.proofs.Orderings.{equal_of_is_eq}
 use Rattle.fs_unicast.specs.declared.unicast.Place.{Place}
 use Rattle.fs_unicast.specs.Unicast.{Route, place_cmp}
 use Rattle.fs_unicast.specs.Turns.{find_last}
-use Rattle.fs_unicast.proofs.PlaceOrder.{below_itself, upto_itself}
+use Rattle.fs_unicast.proofs.PlaceOrder.{below_itself, equal_itself}
 use Rattle.fs_unicast.proofs.Finding.{found_each, last_each}
 
 -- places that compare alike are one
@@ -26,11 +27,7 @@ pub exact_place : (a b : Place) → is_eq (place_cmp a b) ≡ true → a ≡ b
 exact_place a b h = at (prefix_cmp a.prefix b.prefix) refl h where
   at : (o : Ordering) → prefix_cmp a.prefix b.prefix ≡ o → is_eq (ordering_then o (nat_cmp a.peer b.peer)) ≡ true → a ≡ b
   at Less e k = absurd (true≢false (sym k))
-  at Equal e k = ap₂ (λ p n. record { prefix = p; peer = n }) (same_from_cmp a.prefix b.prefix (ap is_eq e)) (exact_unsigned a.peer b.peer (equal (nat_cmp a.peer b.peer) k)) where
-    equal : (o : Ordering) → is_eq o ≡ true → o ≡ Equal
-    equal Less l = absurd (true≢false (sym l))
-    equal Equal l = refl
-    equal Greater l = absurd (true≢false (sym l))
+  at Equal e k = ap₂ (λ p n. record { prefix = p; peer = n }) (same_from_cmp a.prefix b.prefix (ap is_eq e)) (exact_unsigned a.peer b.peer (equal_of_is_eq (nat_cmp a.peer b.peer) k))
   at Greater e k = absurd (true≢false (sym k))
 
 -- x is an element
@@ -122,14 +119,9 @@ other_kept e (x ∷ xs) u away h = at (e x) refl (other_kept e xs u away) h wher
 pub gone : (k : Place) (ks : List Place) (u : Place) → IsStrictlySortedBy place_cmp ks → In (remove_key (is_at (place_cmp k)) ks) u → u ≡ k → ⊥
 gone k [] u sorted h e = h
 gone k (x ∷ xs) u sorted h e = at (is_eq (place_cmp k x)) refl (λ l. gone k xs u (sorted_tail place_cmp x xs sorted) l e) h where
-  itself : (o : Ordering) → is_le o ≡ true → is_lt o ≡ false → is_eq o ≡ true
-  itself Less p q = absurd (true≢false q)
-  itself Equal p q = refl
-  itself Greater p q = absurd (true≢false (sym p))
-
   at : (b : Bool) → is_eq (place_cmp k x) ≡ b → (In (remove_key (is_at (place_cmp k)) xs) u → ⊥) → In (cond b xs (x ∷ remove_key (is_at (place_cmp k)) xs)) u → ⊥
   at true f ih l = never_same x u (in_each (λ y. place_cmp x y ≡ Less) xs u (sorted_head place_cmp x xs sorted) l) (sym (exact_place k x f) ∙ sym e)
-  at false f ih (inl s) = true≢false (sym (subst (λ y. is_eq (place_cmp k y) ≡ true) (sym e ∙ sym s) (itself (place_cmp k k) (upto_itself k) (below_itself k))) ∙ f)
+  at false f ih (inl s) = true≢false (sym (subst (λ y. is_eq (place_cmp k y) ≡ true) (sym e ∙ sym s) (equal_itself k)) ∙ f)
   at false f ih (inr l) = ih l
 
 each_kept : (P : Place → Type 0) (e : Place → Bool) (ks : List Place) → AllByRecursion P ks → AllByRecursion P (remove_key e ks)

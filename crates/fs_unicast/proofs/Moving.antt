@@ -7,12 +7,12 @@ use Rattle.std.specs.Map.{keys_of}
 use Rattle.std.specs.Set.{remove_key}
 use Rattle.fs_base.proofs.Bools.{and_both, and_first, and_second, or_first, or_second}
 use Rattle.fs_base.proofs.Lists.{each_weaker, each_both}
+use Rattle.fs_base.proofs.Orderings.{equal_of_is_eq}
 use Rattle.fs_unicast.specs.declared.unicast.Place.{Place}
 use Rattle.fs_unicast.specs.Unicast.{Route, place_cmp}
 use Rattle.fs_unicast.specs.Turns.{neighbour_of, is_same, lies_between, are_parted, IsPartedAfter, IsParted, StaysParted, PartsAt}
-use Rattle.fs_unicast.proofs.PlaceOrder.{below_upto, upto_upto, lt_le, below_itself, upto_itself, below_not_upto, equal_upto, equal_back}
+use Rattle.fs_unicast.proofs.PlaceOrder.{below_upto, falsified, upto_upto, lt_le, below_itself, upto_itself, below_not_upto, equal_upto, equal_back}
 use Rattle.fs_unicast.proofs.Finding.{after_found}
-use Rattle.fs_unicast.proofs.Idle.{falsified, eq_equal}
 use Rattle.fs_unicast.proofs.Parting.{wider}
 
 -- a turn that parts at a place does so where all stays parted
@@ -39,7 +39,7 @@ module _ (turns : List Place) (held : List Route) (z : Place) (s : Route) (here 
   still_here x y lies = wider rest x x z y (upto_itself x) (and_second (is_lt (place_cmp x z)) (is_le (place_cmp z y)) lies)
       (stays_removed (lies_between x z) (is_at (place_cmp s.0)) other turns (here x z (and_both (is_lt (place_cmp x z)) (is_le (place_cmp z z)) (and_first (is_lt (place_cmp x z)) (is_le (place_cmp z y)) lies) (upto_itself z)))) where
         other : (u : Place) → lies_between x z u ≡ true → is_at (place_cmp s.0) u ≡ false
-        other u k = falsified (is_at (place_cmp s.0) u) (λ same. sym (below_upto z s.0 z past (upto_upto s.0 u z (equal_upto s.0 u (eq_equal (place_cmp s.0 u) same)) (and_second (is_lt (place_cmp x u)) (is_le (place_cmp u z)) k))) ∙ below_itself z)
+        other u k = falsified (is_at (place_cmp s.0) u) (λ same. sym (below_upto z s.0 z past (upto_upto s.0 u z (equal_upto s.0 u (equal_of_is_eq (place_cmp s.0 u) same)) (and_second (is_lt (place_cmp x u)) (is_le (place_cmp u z)) k))) ∙ below_itself z)
 
   -- two routes that the turn parts are parted at the place too, since the first isn't between the two
   after : (x : Route) → IsPartedAfter turns held x.0 (neighbour_of x) → (is_le (place_cmp z x.0) ≡ true → is_le (place_cmp s.0 x.0) ≡ true) → IsPartedAfter rest held x.0 (neighbour_of x)
@@ -60,7 +60,7 @@ module _ (turns : List Place) (held : List Route) (z : Place) (s : Route) (here 
 
         at : (y : Route) → are_parted turns x.0 y.0 ≡ true → (b : Bool) → lies_between x.0 y.0 z ≡ b → are_parted rest x.0 y.0 ≡ true
         at y between true e = still_here x.0 y.0 e
-        at y between false e = stays_removed (lies_between x.0 y.0) (is_at (place_cmp s.0)) (λ u lies. falsified (is_at (place_cmp s.0) u) (λ same. reached y u e lies (eq_equal (place_cmp s.0 u) same))) turns between
+        at y between false e = stays_removed (lies_between x.0 y.0) (is_at (place_cmp s.0)) (λ u lies. falsified (is_at (place_cmp s.0) u) (λ same. reached y u e lies (equal_of_is_eq (place_cmp s.0 u) same))) turns between
 
   pub still_parted : IsStrictlySortedBy place_cmp (keys_of held) → IsParted turns held → IsParted (remove_key (is_at (place_cmp s.0)) turns) held
   still_parted sorted parted = each_both (λ x. IsPartedAfter turns held x.0 (neighbour_of x)) (λ x. is_le (place_cmp z x.0) ≡ true → is_le (place_cmp s.0 x.0) ≡ true) (λ x. IsPartedAfter rest held x.0 (neighbour_of x))

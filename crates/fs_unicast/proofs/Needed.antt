@@ -10,7 +10,7 @@ use Rattle.fs_base.proofs.Lists.{all_each, each_all}
 use Rattle.fs_unicast.specs.declared.unicast.Place.{Place}
 use Rattle.fs_unicast.specs.Unicast.{Route, place_cmp}
 use Rattle.fs_unicast.specs.Turns.{neighbour_of, is_same, lies_between, is_alone, parts_alone, is_needed, without_idle, tidied, IsParted, NoneIdle, find_last}
-use Rattle.fs_unicast.proofs.PlaceOrder.{below_upto, upto_below, upto_upto, below_itself, upto_itself, not_below}
+use Rattle.fs_unicast.proofs.PlaceOrder.{below_upto, upto_below, upto_upto, below_itself, upto_itself, not_below, equal_itself}
 use Rattle.fs_unicast.proofs.Finding.{found_passes, last_passes, after_found, before_last}
 use Rattle.fs_unicast.proofs.Members.{In, in_each, each_in, in_any, found_in, last_in, exact_place, kept, gone, sorted_kept}
 use Rattle.fs_unicast.proofs.Idle.{idle_first, idle_last, needed_beside, parted_without}
@@ -64,6 +64,15 @@ AreNeededBut E turns held = (u : Place) → In turns u → E u ⊎ IsNeededBut E
 abbrev pub Nobody : Place → Type 0
 Nobody v = ⊥
 
+-- the other of two cases, of which one can't be
+pub left_of : {A : Type 0} → A ⊎ ⊥ → A
+left_of (inl a) = a
+left_of (inr x) = absurd x
+
+pub right_of : {A : Type 0} → ⊥ ⊎ A → A
+right_of (inl x) = absurd x
+right_of (inr a) = a
+
 abbrev pub IsIt : Option Place → Place → Type 0
 IsIt None v = ⊥
 IsIt (Some t) v = v ≡ t
@@ -88,12 +97,7 @@ module _ (turns : List Place) (held : List Route) (u : Place) where
       (and_both (not (is_same (neighbour_of n.fore) (neighbour_of n.aft))) (is_alone turns n.fore.0 n.aft.0 u) (ap not n.other)
       (each_all (λ v. not (lies_between n.fore.0 n.aft.0 v) || is_eq (place_cmp u v)) turns (each_in (λ v. (not (lies_between n.fore.0 n.aft.0 v) || is_eq (place_cmp u v)) ≡ true) turns alone))))) where
         same : (v : Place) → (v ≡ u) ⊎ ⊥ → is_eq (place_cmp u v) ≡ true
-        same v (inl e) = subst (λ w. is_eq (place_cmp u w) ≡ true) (sym e) (itself (place_cmp u u) (upto_itself u) (below_itself u)) where
-          itself : (o : Ordering) → is_le o ≡ true → is_lt o ≡ false → is_eq o ≡ true
-          itself Less p q = absurd (true≢false q)
-          itself Equal p q = refl
-          itself Greater p q = absurd (true≢false (sym p))
-        same v (inr k) = absurd k
+        same v x = subst (λ w. is_eq (place_cmp u w) ≡ true) (sym (left_of x)) (equal_itself u)
 
         alone : (v : Place) → In turns v → (not (lies_between n.fore.0 n.aft.0 v) || is_eq (place_cmp u v)) ≡ true
         alone v h = or_implies (lies_between n.fore.0 n.aft.0 v) (is_eq (place_cmp u v))
@@ -137,16 +141,13 @@ pub all_from : (turns : List Place) (held : List Route) → IsStrictlySortedBy p
 all_from turns held sorted parted all u h = inr (is_from turns held u sorted parted (in_each (λ t. is_needed turns held t ≡ true) turns u all h))
 
 pub all_back : (turns : List Place) (held : List Route) → AreNeededBut Nobody turns held → NoneIdle turns held
-all_back turns held all = each_in (λ t. is_needed turns held t ≡ true) turns (λ u h. at u (all u h)) where
-  at : (u : Place) → ⊥ ⊎ IsNeededBut Nobody turns held u → is_needed turns held u ≡ true
-  at u (inl k) = absurd k
-  at u (inr n) = is_back turns held u n
+all_back turns held all = each_in (λ t. is_needed turns held t ≡ true) turns (λ u h. is_back turns held u (right_of (all u h)))
 
 -- A turn that is let off goes, if it is idle.
 module _ (turns : List Place) (held : List Route) (sorted : IsStrictlySortedBy place_cmp turns) (E : Place → Type 0) (t : Place) (all : AreNeededBut (λ v. (v ≡ t) ⊎ E v) turns held) where
   -- where it is needed and lies in the gap of another, it is that other
   meets : (nt : IsNeededBut Nobody turns held t) (u : Place) → In turns u → (n : IsNeededBut (λ v. (v ≡ t) ⊎ E v) turns held u) → lt n.fore.0 t → le t n.aft.0 → t ≡ u
-  meets nt u h n l k = at_last (nt.alone u h (upto_below nt.fore.0 n.fore.0 u (start (n.beside.none nt.fore nt.beside.first)) n.below) (upto_upto u n.aft.0 nt.aft.0 n.upto (end (n.beside.none nt.aft nt.beside.second)))) where
+  meets nt u h n l k = sym (left_of (nt.alone u h (upto_below nt.fore.0 n.fore.0 u (start (n.beside.none nt.fore nt.beside.first)) n.below) (upto_upto u n.aft.0 nt.aft.0 n.upto (end (n.beside.none nt.aft nt.beside.second))))) where
     start : le nt.fore.0 n.fore.0 ⊎ le n.aft.0 nt.fore.0 → le nt.fore.0 n.fore.0
     start (inl a) = a
     start (inr a) = absurd (never nt.fore.0 t nt.below (upto_upto t n.aft.0 nt.fore.0 k a))
@@ -155,18 +156,10 @@ module _ (turns : List Place) (held : List Route) (sorted : IsStrictlySortedBy p
     end (inl a) = absurd (never n.fore.0 t l (upto_upto t nt.aft.0 n.fore.0 nt.upto a))
     end (inr a) = a
 
-    at_last : (u ≡ t) ⊎ ⊥ → t ≡ u
-    at_last (inl e) = sym e
-    at_last (inr z) = absurd z
-
   stays : IsNeededBut Nobody turns held t → AreNeededBut E turns held
   stays nt u h = at (all u h) where
-    more : (v : Place) → (v ≡ t) ⊎ ⊥ → (v ≡ t) ⊎ E v
-    more v (inl e) = inl e
-    more v (inr k) = absurd k
-
     itself : IsNeededBut E turns held t
-    itself = record { fore = nt.fore; aft = nt.aft; beside = nt.beside; below = nt.below; upto = nt.upto; other = nt.other; alone = λ v i l k. more v (nt.alone v i l k) }
+    itself = record { fore = nt.fore; aft = nt.aft; beside = nt.beside; below = nt.below; upto = nt.upto; other = nt.other; alone = λ v i l k. inl (left_of (nt.alone v i l k)) }
 
     by : (n : IsNeededBut (λ v. (v ≡ t) ⊎ E v) turns held u) → (v : Place) → In turns v → lt n.fore.0 v → le v n.aft.0 → (v ≡ u) ⊎ ((v ≡ t) ⊎ E v) → (v ≡ u) ⊎ E v
     by n v i l k (inl e) = inl e
@@ -205,10 +198,7 @@ module _ (held : List Route) (E : Place → Type 0) where
     at false e = record { routes = s.routes; places = sorted_kept (is_at (place_cmp t)) turns s.places; parted = parted_without turns held t s.parted e }
 
   pub without : (turns : List Place) (o : Option Place) → IsSound turns held → AreNeededBut (λ v. IsIt o v ⊎ E v) turns held → AreNeededBut E (without_idle held turns o) held
-  without turns None s all = looser (λ v. ⊥ ⊎ E v) E (λ v. rest v) turns held all where
-    rest : (v : Place) → ⊥ ⊎ E v → E v
-    rest v (inl k) = absurd k
-    rest v (inr x) = x
+  without turns None s all = looser (λ v. ⊥ ⊎ E v) E (λ v x. right_of x) turns held all
   without turns (Some t) s all = at (is_needed turns held t) refl where
     at : (b : Bool) → is_needed turns held t ≡ b → AreNeededBut E (cond b turns (remove_key (is_at (place_cmp t)) turns)) held
     at true e = stays turns held s.places E t all (is_from turns held t s.routes s.parted e)

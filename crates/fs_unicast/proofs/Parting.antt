@@ -15,6 +15,8 @@ use Rattle.fs_unicast.specs.declared.unicast.Place.{Place}
 use Rattle.fs_unicast.specs.Neighbour.{neighbour}
 use Rattle.fs_unicast.specs.Unicast.{Route, place_cmp}
 use Rattle.fs_unicast.specs.Turns.{neighbour_of, is_same, lies_between, are_parted, IsPartedAfter, IsPartedBefore, IsParted, StaysParted, PartsAt, IsPartedAt, is_alike, stands_at, find_last}
+use Rattle.std.proofs.lemmas.Option.{same_Some}
+use Rattle.fs_base.proofs.Orderings.{equal_of_is_eq}
 use Rattle.fs_unicast.proofs.PlaceOrder.{place_total, below_upto, upto_below, upto_upto, lt_le, upto_itself, equal_upto, equal_back}
 use Rattle.fs_unicast.proofs.Finding.{found_each, found_passes, none_found, find_none, find_narrower, after_found, last_each, last_passes, no_last, before_last}
 
@@ -174,14 +176,6 @@ parted_aft turns held z asn (Some s) sorted e parted h = at (is_same (neighbour_
   at true k = parted_on turns held z asn s sorted e parted k
   at false k = parted_next turns held z asn s sorted e (h k)
 
-is_equal : (o : Ordering) → is_eq o ≡ true → o ≡ Equal
-is_equal Less h = absurd (true≢false (sym h))
-is_equal Equal h = refl
-is_equal Greater h = absurd (true≢false (sym h))
-
-eq_le : (o : Ordering) → is_eq o ≡ true → is_le o ≡ true
-eq_le o h = ap is_le (is_equal o h)
-
 module _ (turns : List Place) (held : List Route) (z : Place) (asn : Option ℕ) (g : Route) (e : find (λ r. is_le (place_cmp z r.0)) held ≡ Some g) (same : place_cmp z g.0 ≡ Equal) (alike : is_same (neighbour_of g) asn ≡ true) (parted : IsParted turns held) where
   alike_before : IsPartedBefore turns held z asn
   alike_before = each_weaker (λ r. IsPartedAfter turns held r.0 (neighbour_of r)) (λ r. is_lt (place_cmp r.0 z) ≡ true → is_same (neighbour_of r) asn ≡ false → are_parted turns r.0 z ≡ true)
@@ -200,7 +194,7 @@ pub parted_replaced : (turns : List Place) (held : List Route) (z : Place) (path
     → IsParted turns (insert_entry place_cmp held z path)
 parted_replaced turns held z path None e there alike parted = absurd (true≢false (sym there))
 parted_replaced turns held z path (Some g) e there alike parted = parted_put turns held z path parted
-    (alike_before turns held z (neighbour path.segments) g e (is_equal (place_cmp z g.0) there) alike parted) (alike_after turns held z (neighbour path.segments) g e (is_equal (place_cmp z g.0) there) alike parted)
+    (alike_before turns held z (neighbour path.segments) g e (equal_of_is_eq (place_cmp z g.0) there) alike parted) (alike_after turns held z (neighbour path.segments) g e (equal_of_is_eq (place_cmp z g.0) there) alike parted)
 
 -- the first route from the place on is after it, if it doesn't stand there
 pub next_behind : (held : List Route) (z : Place) (o : Option Route) → find (λ r. is_le (place_cmp z r.0)) held ≡ o → stands_at z o ≡ false → o ≡ find (λ r. is_lt (place_cmp z r.0)) held
@@ -219,21 +213,16 @@ next_behind held z (Some s) e apart = sym (find_narrower (λ r. is_le (place_cmp
 same_held : (held : List Route) (z : Place) (path : Path) (g : Route) → find (λ r. is_le (place_cmp z r.0)) held ≡ Some g → place_cmp z g.0 ≡ Equal → g.1 ≡ path → insert_entry place_cmp held z path ≡ held
 same_held [] z path g e same is = cc
 same_held (r ∷ held) z path g e same is = at (place_cmp z r.0) refl e (λ k. same_held held z path g k same is) where
-  one : (a b : Route) → Some a ≡ Some b → a ≡ b
-  one a b k = cc
-
   at : (o : Ordering) → place_cmp z r.0 ≡ o → cond (is_le o) (Some r) (find (λ r. is_le (place_cmp z r.0)) held) ≡ Some g → (find (λ r. is_le (place_cmp z r.0)) held ≡ Some g → insert_entry place_cmp held z path ≡ held)
       → match_ordering o ((z, path) ∷ r ∷ held) ((r.0, path) ∷ held) (r ∷ insert_entry place_cmp held z path) ≡ r ∷ held
-  at Less l k ih = absurd (true≢false (sym (ap is_lt l) ∙ ap (λ s. is_lt (place_cmp z s.0)) (one r g k) ∙ ap is_lt same))
-  at Equal l k ih = ap (λ p. (r.0, p) ∷ held) (sym is ∙ ap (λ s. s.1) (sym (one r g k)))
+  at Less l k ih = absurd (true≢false (sym (ap is_lt l) ∙ ap (λ s. is_lt (place_cmp z s.0)) (same_Some r g k) ∙ ap is_lt same))
+  at Equal l k ih = ap (λ p. (r.0, p) ∷ held) (sym is ∙ ap (λ s. s.1) (sym (same_Some r g k)))
   at Greater l k ih = ap (λ rs. r ∷ rs) (ih k)
 
 -- the path that a place has comes once more
 pub put_again : (held : List Route) (z : Place) (path : Path) (o : Option Route) → find (λ r. is_le (place_cmp z r.0)) held ≡ o → stands_at z o ≡ true → option_map (λ r. r.1) o ≡ Some path → insert_entry place_cmp held z path ≡ held
 put_again held z path None e there is = absurd (true≢false (sym there))
-put_again held z path (Some g) e there is = same_held held z path g e (is_equal (place_cmp z g.0) there) (one g.1 path is) where
-  one : (a b : Path) → Some a ≡ Some b → a ≡ b
-  one a b k = cc
+put_again held z path (Some g) e there is = same_held held z path g e (equal_of_is_eq (place_cmp z g.0) there) (same_Some g.1 path is)
 
 -- a path whose insertion changes nothing is the one that the place has
 pub put_back : (held : List Route) (z : Place) (path : Path) → insert_entry place_cmp held z path ≡ held

@@ -1,18 +1,19 @@
 -- The order of places.
-use Rattle.std.proofs.Common.{◌≡◌, refl, sym, ap, ◌∙◌, Bool, true, false, true≢false, not, Ordering, Less, Equal, Greater, is_le, is_lt}
+use Rattle.std.proofs.Common.{◌≡◌, refl, sym, ap, ◌∙◌, Bool, true, false, true≢false, not, Ordering, Less, Equal, Greater, is_eq, is_le, is_lt}
 use Rattle.std.specs.Ordering.{ordering_reverse}
 use Rattle.std.specs.Cmp.{IsTotalOrder, alike_right, tied_itself, on_total, then_total, nat_cmp_total}
+use Rattle.fs_base.proofs.Bools.{true_of_not}
 use Rattle.fs_base.specs.Prefix.{prefix_total}
+use Rattle.fs_base.proofs.Orderings.{less_of_is_lt}
 use Rattle.fs_unicast.specs.declared.unicast.Place.{Place}
 use Rattle.fs_unicast.specs.Unicast.{place_cmp}
 
 pub place_total : IsTotalOrder place_cmp
 place_total = then_total (on_total (λ p. p.prefix) prefix_total) (on_total (λ p. p.peer) nat_cmp_total)
 
-pub is_less : (o : Ordering) → is_lt o ≡ true → o ≡ Less
-is_less Less h = refl
-is_less Equal h = absurd (true≢false (sym h))
-is_less Greater h = absurd (true≢false (sym h))
+pub falsified : (b : Bool) → (b ≡ true → true ≡ false) → b ≡ false
+falsified true h = h refl
+falsified false h = refl
 
 pub lt_le : (o : Ordering) → is_lt o ≡ true → is_le o ≡ true
 lt_le Less h = refl
@@ -23,7 +24,7 @@ lt_le Greater h = absurd (true≢false (sym h))
 pub below_upto : (x y z : Place) → is_lt (place_cmp x y) ≡ true → is_le (place_cmp y z) ≡ true → is_lt (place_cmp x z) ≡ true
 below_upto x y z h k = at (place_cmp y z) refl k where
   at : (o : Ordering) → place_cmp y z ≡ o → is_le o ≡ true → is_lt (place_cmp x z) ≡ true
-  at Less e l = ap is_lt (place_total.trans x y z (is_less (place_cmp x y) h) e)
+  at Less e l = ap is_lt (place_total.trans x y z (less_of_is_lt (place_cmp x y) h) e)
   at Equal e l = sym (ap is_lt (alike_right place_total y z x e)) ∙ h
   at Greater e l = absurd (true≢false (sym l))
 
@@ -31,7 +32,7 @@ below_upto x y z h k = at (place_cmp y z) refl k where
 pub upto_below : (x y z : Place) → is_le (place_cmp x y) ≡ true → is_lt (place_cmp y z) ≡ true → is_lt (place_cmp x z) ≡ true
 upto_below x y z h k = at (place_cmp x y) refl h where
   at : (o : Ordering) → place_cmp x y ≡ o → is_le o ≡ true → is_lt (place_cmp x z) ≡ true
-  at Less e l = ap is_lt (place_total.trans x y z e (is_less (place_cmp y z) k))
+  at Less e l = ap is_lt (place_total.trans x y z e (less_of_is_lt (place_cmp y z) k))
   at Equal e l = ap is_lt (place_total.congr x y z e) ∙ k
   at Greater e l = absurd (true≢false (sym l))
 
@@ -51,15 +52,14 @@ reversed Greater = refl
 pub below_not_upto : (x y : Place) → is_lt (place_cmp x y) ≡ not (is_le (place_cmp y x))
 below_not_upto x y = ap is_lt (place_total.antisymm x y) ∙ reversed (place_cmp y x)
 
-not_true : (b : Bool) → not b ≡ false → b ≡ true
-not_true true h = refl
-not_true false h = absurd (true≢false h)
-
 pub not_below : (x y : Place) → is_lt (place_cmp x y) ≡ false → is_le (place_cmp y x) ≡ true
-not_below x y h = not_true (is_le (place_cmp y x)) (sym (below_not_upto x y) ∙ h)
+not_below x y h = true_of_not (is_le (place_cmp y x)) (sym (below_not_upto x y) ∙ h)
 
 pub below_itself : (x : Place) → is_lt (place_cmp x x) ≡ false
 below_itself x = ap is_lt (tied_itself place_total x)
+
+pub equal_itself : (x : Place) → is_eq (place_cmp x x) ≡ true
+equal_itself x = ap is_eq (tied_itself place_total x)
 
 pub upto_itself : (x : Place) → is_le (place_cmp x x) ≡ true
 upto_itself x = ap is_le (tied_itself place_total x)

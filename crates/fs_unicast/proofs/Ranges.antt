@@ -11,10 +11,11 @@ use Rattle.std.specs.declared.ops.Bound.TheVariants.{Included, Excluded, Unbound
 use Rattle.fs_base.proofs.Bools.{and_both, and_parts, or_implied, or_implies, same_tests}
 use Rattle.fs_base.specs.declared.prefix.Prefix.{Prefix}
 use Rattle.fs_base.specs.Prefix.{covers, prefix_cmp, prefix_total}
-use Rattle.fs_base.proofs.Lists.{filter_on, filter_none, filter_first, filter_empty, find_filter, find_on, IsLeast, each, each_weaker, each_of_map, each_all, all_each, any_each, any_on, any_weaker}
+use Rattle.fs_base.proofs.Lists.{filter_on, filter_none, filter_first, filter_empty, find_filter, find_on, IsLeast, each, each_weaker, each_of_map, each_all, all_each, any_each, any_on, any_weaker, each_filtered, filter_filtered}
 use Rattle.fs_base.proofs.Nesting.{alike, alike_covers, covers_nested, covers_same_length}
 use Rattle.fs_base.specs.Search.{IsFirst, IsLongest}
 use Rattle.std.proofs.lemmas.Map.Keys.{sorted_head, sorted_tail}
+use Rattle.fs_base.proofs.Orderings.{is_eq_of_first}
 use Rattle.fs_unicast.specs.declared.unicast.Place.{Place}
 use Rattle.fs_unicast.specs.Unicast.{Route, place_cmp}
 use Rattle.fs_unicast.specs.Search.{IsFront, is_same_prefix, is_strictly_under, is_other, others_under, best_at, best_match_of, is_longest, is_from, held_by, candidate, start_of}
@@ -25,21 +26,6 @@ use Rattle.fs_unicast.specs.Preference.{best_of}
 abbrev pub place : Prefix → ℕ → Place
 place p n = record { prefix = p; peer = n }
 
-filter_within : {X : Type 0} (p q : X → Bool) → ((x : X) → p x ≡ true → q x ≡ true) → (xs : List X) → filter p (filter q xs) ≡ filter p xs
-filter_within p q h [] = refl
-filter_within {X} p q h (x ∷ xs) = at (q x) (p x) (h x) refl (filter_within p q h xs) where
-  at : (b c : Bool) → (c ≡ true → b ≡ true) → p x ≡ c → filter p (filter q xs) ≡ filter p xs → filter p (cond b (x ∷ filter q xs) (filter q xs)) ≡ cond c (x ∷ filter p xs) (filter p xs)
-  at true c g e ih = ap (λ d. cond d (x ∷ filter p (filter q xs)) (filter p (filter q xs))) e ∙ ap (λ ys. cond c (x ∷ ys) ys) ih
-  at false true g e ih = absurd (true≢false (sym (g refl)))
-  at false false g e ih = ih
-
-each_filter : {X : Type 0} (P : X → Type 0) (q : X → Bool) (xs : List X) → AllByRecursion P xs → AllByRecursion P (filter q xs)
-each_filter P q [] all = tt
-each_filter P q (x ∷ xs) all = at (q x) (each_filter P q xs all.1) where
-  at : (b : Bool) → AllByRecursion P (filter q xs) → AllByRecursion P (cond b (x ∷ filter q xs) (filter q xs))
-  at true ih = (all.0, ih)
-  at false ih = ih
-
 from_same : (o : Ordering) (n : ℕ) → is_eq o ≡ true → (is_le (ordering_then o (nat_cmp 0 n)) && true) ≡ true
 from_same Less n h = refl
 from_same Equal n h = grind (arith, nat_tests)
@@ -49,7 +35,7 @@ from_same Greater n h = absurd (true≢false (sym h))
 pub best_starts : (p : Prefix) (held found : List Route) → found ≡ entries_between place_cmp (Included (place p 0)) Unbounded held
     → best_of (map candidate (filter (λ r. is_same_prefix p r.0.prefix) found)) ≡ best_at held p
 best_starts p held found e = ap (λ rs. best_of (map candidate rs)) (ap (filter (λ r. is_same_prefix p r.0.prefix)) e
-    ∙ filter_within (λ r. is_same_prefix p r.0.prefix) (λ r. range_contains place_cmp (Included (place p 0)) Unbounded r.0) (λ r. from_same (prefix_cmp p r.0.prefix) r.0.peer) held)
+    ∙ filter_filtered (λ r. is_same_prefix p r.0.prefix) (λ r. range_contains place_cmp (Included (place p 0)) Unbounded r.0) (λ r. from_same (prefix_cmp p r.0.prefix) r.0.peer) held)
 
 later_prefix : (p : Prefix) (r s : Place) → range_contains place_cmp (Included (place p 0)) Unbounded r ≡ true → is_same_prefix p r.prefix ≡ false → place_cmp r s ≡ Less → is_same_prefix p s.prefix ≡ false
 later_prefix p r s h k l = ap is_eq (behind (prefix_cmp r.prefix s.prefix) refl l) where
@@ -74,7 +60,7 @@ front_range p (r ∷ held) sorted = at (range_contains place_cmp (Included (plac
 
   at : (b : Bool) → among r ≡ b → IsFront p (filter among held) → IsFront p (cond b (r ∷ filter among held) (filter among held))
   at true e ih = (
-    (λ k. filter_none (λ s. is_same_prefix p s.0.prefix) (filter among held) (each_filter (λ s. is_same_prefix p s.0.prefix ≡ false) among held
+    (λ k. filter_none (λ s. is_same_prefix p s.0.prefix) (filter among held) (each_filtered (λ s. is_same_prefix p s.0.prefix ≡ false) among held
         (each_weaker (λ s. place_cmp r.0 s.0 ≡ Less) (λ s. is_same_prefix p s.0.prefix ≡ false) (λ s l. later_prefix p r.0 s.0 e k l) held (each_of_map (λ s. s.0) (λ q. place_cmp r.0 q ≡ Less) held (sorted_head place_cmp r.0 (keys_of held) sorted))))),
     ih,
   )
@@ -110,11 +96,6 @@ from_test Less n = refl
 from_test Equal n = grind (arith, nat_tests)
 from_test Greater n = refl
 
-first_equal : (o p : Ordering) → is_eq (ordering_then o p) ≡ true → is_eq o ≡ true
-first_equal Less p h = h
-first_equal Equal p h = refl
-first_equal Greater p h = h
-
 first_le : (o p : Ordering) → is_le (ordering_then o p) ≡ true → is_le o ≡ true
 first_le Less p h = refl
 first_le Equal p h = refl
@@ -130,7 +111,7 @@ place_itself q = equal_then (prefix_cmp q.prefix q.prefix) (nat_cmp q.peer q.pee
 pub first_in_range : (low : Prefix) (held : List Route) → IsStrictlySortedBy place_cmp (keys_of held) → (found : List Route) (x : Route) (rest : List Route)
     → found ≡ entries_between place_cmp (Included (place low 0)) Unbounded held → found ≡ x ∷ rest → IsFirst (λ r. r.0.prefix) held low x.0.prefix
 first_in_range low held sorted found x rest e k = record {
-  there = any_weaker (λ r. is_eq (place_cmp x.0 r.0)) (λ r. is_eq (prefix_cmp x.0.prefix r.0.prefix)) (λ r. first_equal (prefix_cmp x.0.prefix r.0.prefix) (nat_cmp x.0.peer r.0.peer)) held first.there;
+  there = any_weaker (λ r. is_eq (place_cmp x.0 r.0)) (λ r. is_eq (prefix_cmp x.0.prefix r.0.prefix)) (λ r. is_eq_of_first (prefix_cmp x.0.prefix r.0.prefix) (nat_cmp x.0.peer r.0.peer)) held first.there;
   from = sym (from_test (prefix_cmp low x.0.prefix) x.0.peer) ∙ first.passes;
   least = each_weaker (λ r. range_contains place_cmp (Included (place low 0)) Unbounded r.0 ≡ true → is_le (place_cmp x.0 r.0) ≡ true) (λ r. is_le (prefix_cmp low r.0.prefix) ≡ true → is_le (prefix_cmp x.0.prefix r.0.prefix) ≡ true)
       (λ r h f. first_le (prefix_cmp x.0.prefix r.0.prefix) (nat_cmp x.0.peer r.0.peer) (h (from_test (prefix_cmp low r.0.prefix) r.0.peer ∙ f))) held first.least;

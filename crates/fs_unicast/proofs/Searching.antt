@@ -11,7 +11,7 @@ use Rattle.fs_unicast.specs.Neighbour.{neighbour}
 use Rattle.fs_unicast.specs.Search.{is_other}
 use Rattle.fs_unicast.specs.Unicast.{Route, place_cmp}
 use Rattle.fs_unicast.specs.Turns.{neighbour_of, is_same, is_within, lies_between, are_parted, IsPartedAfter, IsParted}
-use Rattle.fs_unicast.proofs.PlaceOrder.{below_upto, upto_below, upto_upto, lt_le, below_itself, upto_itself}
+use Rattle.fs_unicast.proofs.PlaceOrder.{below_upto, falsified, upto_below, upto_upto, lt_le, below_itself, upto_itself}
 use Rattle.fs_unicast.proofs.Finding.{found_each, found_passes, none_found, any_found, after_found}
 use Rattle.fs_unicast.proofs.Parting.{same_is}
 
@@ -79,10 +79,6 @@ module _ (low high : Place) (local_as : ℕ) (asn : Option ℕ) (held : List Rou
 
   sought_other : (r : Route) → is_sought r ≡ true → is_other local_as asn r.1 ≡ true
   sought_other r h = and_second (is_within low high r.0) (is_other local_as asn r.1) h
-
-  falsified : (b : Bool) → (b ≡ true → true ≡ false) → b ≡ false
-  falsified true h = h refl
-  falsified false h = refl
 
   -- nothing is left
   pub search_ends : (from : Place) → IsAhead from → find (λ r. is_within from high r.0) held ≡ None → false ≡ list_any is_sought held

@@ -10,11 +10,11 @@ use Rattle.fs_base.proofs.Bools.{and_first, and_second, or_either, false_of_not}
 use Rattle.fs_unicast.specs.declared.unicast.Place.{Place}
 use Rattle.fs_unicast.specs.Unicast.{Route, place_cmp}
 use Rattle.fs_unicast.specs.Turns.{neighbour_of, is_same, is_alike, are_alike, put_before, put_after, was_before, was_after, IsParted, IsPartedBefore, IsPartedAfter, NoneIdle, NoneIdleBut, IsSettled, Settles, find_last}
-use Rattle.fs_unicast.proofs.PlaceOrder.{below_upto, lt_le}
+use Rattle.fs_unicast.proofs.PlaceOrder.{below_upto, lt_le, equal_itself}
 use Rattle.fs_unicast.proofs.Parting.{parted_put}
 use Rattle.fs_unicast.proofs.Members.{In, inserted, kept, there, in_any, one_route}
 use Rattle.fs_unicast.proofs.Needed.{never, le_from, Nobody, IsNext, all_from, all_back, all_tidied, looser}
-use Rattle.fs_unicast.proofs.Changes.{IsHere, IsBehind, IsPut, AreGrown, IsFree, IsFirstAfter, IsBetween, equal_itself, last_before, first_after, first_once, all_put, all_refused, all_settled, same_between, none_between, put_between}
+use Rattle.fs_unicast.proofs.Changes.{IsHere, IsBehind, IsPut, AreGrown, IsFree, IsFirstAfter, IsBetween, last_before, first_after, first_once, all_put, all_refused, all_settled, same_between, none_between, put_between}
 
 -- none is idle, so none is beside a place
 pub none_but : (turns : List Place) (held : List Route) (z : Place) → IsStrictlySortedBy place_cmp (keys_of held) → IsParted turns held → NoneIdle turns held → NoneIdleBut turns held z

@@ -4,6 +4,8 @@ use Rattle.std.specs.List.{list_any, list_all}
 use Rattle.fs_base.specs.Prefix.{covers}
 use Rattle.fs_base.specs.declared.prefix.Prefix.{Prefix}
 use Rattle.fs_base.specs.declared.config.Config.{Config}
+use Rattle.fs_base.proofs.Bools.{and_first, or_first, or_second}
+use Rattle.fs_base.proofs.Lists.{filter_filtered}
 use Rattle.fs_unicast.specs.Unicast.{Route}
 use Rattle.fs_unicast.specs.Preference.{best_of}
 use Rattle.fs_unicast.specs.Search.{best_match_of, is_longest, others_under, is_other, is_strictly_under, is_same_prefix, candidate}
@@ -12,21 +14,6 @@ use Rattle.fs_validate.specs.declared.validity.Validity.TheVariants.{Valid, More
 use Rattle.fs_nlri.specs.Rule.{destination_prefix}
 use Rattle.fs_validate.specs.Validity.{validity, validity_to, validity_at, neighbour_of_best, has_originator, has_leftmost}
 use Rattle.fs_validate.specs.Laws.{is_related, related, AgreeAt, AgreeFor}
-
--- a filter by a test that only related elements pass
-filter_within : {X : Type 0} (p q : X → Bool) → ((x : X) → p x ≡ true → q x ≡ true) → (xs : List X) → filter p (filter q xs) ≡ filter p xs
-filter_within p q h [] = refl
-filter_within {X} p q h (x ∷ xs) = at (q x) refl (filter_within p q h xs) where
-  drop : (b : Bool) → (b ≡ true → q x ≡ true) → q x ≡ false → (ys : List X) → ys ≡ cond b (x ∷ ys) ys
-  drop true f e ys = absurd (true≢false (sym (f refl) ∙ e))
-  drop false f e ys = refl
-
-  keep : (b : Bool) (ys zs : List X) → ys ≡ zs → cond b (x ∷ ys) ys ≡ cond b (x ∷ zs) zs
-  keep b ys zs e = cc
-
-  at : (b : Bool) → q x ≡ b → filter p (filter q xs) ≡ filter p xs → filter p (cond b (x ∷ filter q xs) (filter q xs)) ≡ filter p (x ∷ xs)
-  at true e ih = keep (p x) (filter p (filter q xs)) (filter p xs) ih
-  at false e ih = ih ∙ drop (p x) (h x) e (filter p xs)
 
 any_within : {X : Type 0} (p q : X → Bool) → ((x : X) → p x ≡ true → q x ≡ true) → (xs : List X) → list_any p (filter q xs) ≡ list_any p xs
 any_within p q h [] = refl
@@ -51,18 +38,6 @@ all_within {X} p q h (x ∷ xs) = at (q x) refl (all_within p q h xs) where
   at true e ih = ap (λ c. p x && c) ih
   at false e ih = ih ∙ drop (p x) (h x e) (list_all p xs)
 
-first_of_and : (a b : Bool) → (a && b) ≡ true → a ≡ true
-first_of_and true b h = refl
-first_of_and false b h = h
-
-or_left : (a b : Bool) → a ≡ true → (a || b) ≡ true
-or_left true b h = refl
-or_left false b h = absurd (true≢false (sym h))
-
-or_right : (a b : Bool) → b ≡ true → (a || b) ≡ true
-or_right true b h = refl
-or_right false b h = h
-
 neither : (a b : Bool) → (a || b) ≡ false → a ≡ false
 neither true b h = absurd (true≢false h)
 neither false b h = refl
@@ -77,7 +52,7 @@ same_filter p q h (x ∷ xs) = let e : p x ≡ q x = h x in let k : filter p xs 
 
 -- the best match of d is that of the related routes
 pub best_match_within : (held : List Route) (d : Prefix) → best_match_of (related d held) d ≡ best_match_of held d
-best_match_within held d = ap (λ rs. best_of (map candidate rs)) (same_filter (is_longest (related d held) d) (is_longest held d) same (related d held) ∙ filter_within (is_longest held d) (λ r. is_related d r.0.prefix) there held) where
+best_match_within held d = ap (λ rs. best_of (map candidate rs)) (same_filter (is_longest (related d held) d) (is_longest held d) same (related d held) ∙ filter_filtered (is_longest held d) (λ r. is_related d r.0.prefix) there held) where
   not_longer : Route → Route → Bool
   not_longer r s = not (covers s.0.prefix d) || nat_le s.0.prefix.length r.0.prefix.length
 
@@ -85,12 +60,12 @@ best_match_within held d = ap (λ rs. best_of (map candidate rs)) (same_filter (
   same r = ap (λ b. covers r.0.prefix d && b) (all_within (λ s. not (covers s.0.prefix d) || nat_le s.0.prefix.length r.0.prefix.length) (λ s. is_related d s.0.prefix) (λ s h. longer_passes (covers s.0.prefix d) (nat_le s.0.prefix.length r.0.prefix.length) (neither (covers s.0.prefix d) (covers d s.0.prefix) h)) held)
 
   there : (r : Route) → is_longest held d r ≡ true → is_related d r.0.prefix ≡ true
-  there r h = or_left (covers r.0.prefix d) (covers d r.0.prefix) (first_of_and (covers r.0.prefix d) (list_all (λ s. not (covers s.0.prefix d) || nat_le s.0.prefix.length r.0.prefix.length) held) h)
+  there r h = or_first (covers r.0.prefix d) (covers d r.0.prefix) (and_first (covers r.0.prefix d) (list_all (λ s. not (covers s.0.prefix d) || nat_le s.0.prefix.length r.0.prefix.length) held) h)
 
 pub others_within : (held : List Route) (d : Prefix) (local_as : ℕ) (asn : Option ℕ) → others_under (related d held) d local_as asn ≡ others_under held d local_as asn
 others_within held d local_as asn = any_within (λ r. is_strictly_under d r.0.prefix && is_other local_as asn r.1) (λ r. is_related d r.0.prefix) there held where
   there : (r : Route) → (is_strictly_under d r.0.prefix && is_other local_as asn r.1) ≡ true → is_related d r.0.prefix ≡ true
-  there r h = or_right (covers r.0.prefix d) (covers d r.0.prefix) (first_of_and (covers d r.0.prefix) (not (is_same_prefix d r.0.prefix)) (first_of_and (is_strictly_under d r.0.prefix) (is_other local_as asn r.1) h))
+  there r h = or_second (covers r.0.prefix d) (covers d r.0.prefix) (and_first (covers d r.0.prefix) (not (is_same_prefix d r.0.prefix)) (and_first (is_strictly_under d r.0.prefix) (is_other local_as asn r.1) h))
 
 pub validity_within : (held : List Route) (config : Config) (route : FlowRoute) (d : Prefix) → validity_to (related d held) config route (Some d) ≡ validity_to held config route (Some d)
 validity_within held config route d = let e : best_match_of (related d held) d ≡ best_match_of held d = best_match_within held d in

@@ -3,7 +3,7 @@ use Rattle.std.proofs.lemmas.List.{take_all}
 use Rattle.std.proofs.lemmas.List.Edits.{map_over_more}
 use Rattle.fs_unicast.specs.Preference.{peer_path}
 use Rattle.fs_rules.specs.Group.{IsJudged, AreJudged, rejudged}
-use Rattle.fs_rules.proofs.Telling.{told_next}
+use Rattle.fs_rules.proofs.Mending.{told_next}
 use Rattle.fs_rules.proofs.Placing.{get_or_again}
 use Rattle.fs_rules.proofs.block.retest_each.Goals as goal
 

@@ -4,7 +4,7 @@ use Rattle.std.proofs.lemmas.List.{take_all}
 use Rattle.std.proofs.lemmas.List.Edits.{map_over_more}
 use Rattle.fs_unicast.specs.Preference.{peer_path}
 use Rattle.fs_rules.specs.Group.{AreJudged, rejudged}
-use Rattle.fs_rules.proofs.Telling.{told_next}
+use Rattle.fs_rules.proofs.Mending.{told_next}
 use Rattle.fs_rules.proofs.Placing.{get_or_again}
 use Rattle.fs_rules.proofs.group.retest_each.Goals as goal
 

@@ -1,8 +1,8 @@
-use Rattle.std.proofs.Common.{◌≡◌, ◌+◌, ◌++◌, sym, ap, subst, ◌∙◌, length, arith}
+use Rattle.std.proofs.Common.{◌≡◌, ◌+◌, ◌++◌, sym, ap, subst, ◌∙◌, length, length-append, arith}
 use Rattle.fs_rules.specs.Group.{chosen}
 use Rattle.fs_rules.specs.Groups.{HasSortedGroups}
 use Rattle.fs_rules.specs.Reading.{chosen_in}
-use Rattle.fs_rules.proofs.InParts.{next_in, next_front, next_back, length-append}
+use Rattle.fs_rules.proofs.InParts.{next_in, next_front, next_back}
 use Rattle.fs_rules.proofs.reading.next_match.Goals as goal
 
 pub returns-then-is_some : goal.returns-then-is_some

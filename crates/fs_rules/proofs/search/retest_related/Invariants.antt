@@ -1,17 +1,11 @@
 use Rattle.std.specs.Map.{keys_of}
-use Rattle.std.proofs.Common.{◌≡◌, false}
-use Rattle.fs_rules.specs.Changes.{StaysNoted}
-use Rattle.fs_rules.specs.Search.{Mends, Tells, Marks}
+use Rattle.fs_rules.specs.Search.{Mends}
 use Rattle.fs_rules.proofs.Searching.{done, IsFrom, IsThere, left}
 use Rattle.fs_rules.proofs.search.retest_related.Given as goal
 
 abbrev pub invariant-loop-next : goal.invariant-loop-next
 invariant-loop-next g l = record {
-  mends : Mends l.unicast l.config (done l.prefix l.next) l.fn.groups.entries l.groups.entries l.fn.steps l.steps;
-  told : Tells l.unicast l.config (done l.prefix l.next) l.fn.groups.entries l.changed;
-  stays : StaysNoted l.fn.changes l.changes;
-  marks : Marks l.unicast l.config (done l.prefix l.next) l.fn.groups.entries l.changes;
-  quiet : l.changed ≡ false → l.changes ≡ l.fn.changes;
+  mends : Mends l.unicast l.config (done l.prefix l.next) l.fn.groups.entries l.groups.entries l.fn.changes l.changes l.fn.steps l.steps;
   from : IsFrom l.prefix l.next;
   there : IsThere (keys_of l.groups.entries) l.next;
 }

@@ -1,5 +1,4 @@
-use Rattle.std.proofs.Common.{sym, ap, ◌∙◌}
-use Rattle.fs_rules.specs.Table.{without_peer}
+use Rattle.std.proofs.Common.{sym, ◌∙◌}
 use Rattle.fs_desk.proofs.TableChanges.{lost_to}
 use Rattle.fs_desk.proofs.Played.{desk_lost}
 use Rattle.fs_desk.proofs.desk.Desk.lost.Goals as goal

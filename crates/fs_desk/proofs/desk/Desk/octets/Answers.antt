@@ -1,10 +1,8 @@
 use Rattle.std.specs.BTreeMap.{BTreeMap}
 use Rattle.fs_speaker.specs.Session.{Live}
-use Rattle.std.proofs.Common.{ap, ℕ, sym, subst, ◌∙◌}
-use Rattle.fs_rules.specs.Table.{Held}
-use Rattle.fs_desk.specs.Receive.{TakesPiece, RepliesPiece}
+use Rattle.std.proofs.Common.{ap, ℕ, sym, ◌∙◌}
 use Rattle.fs_desk.proofs.Handed.{desk_handed, desk_unhanded}
-use Rattle.fs_desk.proofs.Played.{desk_fed, desk_skipped, desk_replied, desk_silent, desk_of}
+use Rattle.fs_desk.proofs.Played.{desk_fed, desk_skipped, desk_replied, desk_silent}
 use Rattle.fs_desk.proofs.desk.Desk.octets.Goals as goal
 
 pub returns-clause-played : goal.returns-clause-played

@@ -1,6 +1,6 @@
 use Rattle.std.proofs.Common.{refl, sym, ◌∙◌}
 use Rattle.fs_rules.specs.Changes.{is_to}
-use Rattle.fs_desk.proofs.Telling.{admits_without, tells_place, tells_same}
+use Rattle.fs_desk.proofs.Telling.{tells_place, tells_same, without_nothing}
 use Rattle.fs_desk.proofs.watched.WatchedTable.withdraw_flow.Goals as goal
 
 pub returns-then-withdraw_flow-clause-told : goal.returns-then-withdraw_flow-clause-told
@@ -9,4 +9,4 @@ returns-then-withdraw_flow-clause-told g c = tells_place c.self.inside.table c.w
 
 pub returns-else-withdraw_flow-clause-told : goal.returns-else-withdraw_flow-clause-told
 returns-else-withdraw_flow-clause-told g c = tells_same c.self.inside.table c.withdraw_flow.new.self c.self.inside.changes c.self.inside.changes c.args.self.now c.self.view_is refl
-    (admits_without c.args.rule.now.rule c.args.peer c.self.inside.table c.withdraw_flow.new.self c.withdraw_flow.ensures.removed (sym c.withdraw_flow.ensures.held ∙ c.if-withdraw_flow.false))
+    (without_nothing c.args.rule.now.rule c.args.peer c.self.inside.table c.withdraw_flow.new.self c.withdraw_flow.ensures.removed (sym c.withdraw_flow.ensures.held ∙ c.if-withdraw_flow.false))

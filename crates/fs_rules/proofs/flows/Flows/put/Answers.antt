@@ -40,10 +40,10 @@ pub returns-in-V6-clause-ok : goal.returns-in-V6-clause-ok
 returns-in-V6-clause-ok c = ok_weaker _ _ c.put-in-V6.result (λ e. ap (λ ks. c.self.inside.v4 ++ ks) e ∙ put_second c.args.k c.self.inside.v4 c.self.inside.v6 (record { family = sym c.family.ensures ∙ c.in-V6.is; rule = c.put-in-V6.ensures.rule }) c.self.invariant.0 ∙ ap (put_kept c.args.k) c.self.view_is) c.put-in-V6.ensures.ok
 
 pub returns-in-V4-clause-fresh : goal.returns-in-V4-clause-fresh
-returns-in-V4-clause-fresh c = ok_along (λ (is_new : Bool). is_new) _ _ c.put.result (ap not (held_first c.args.k.route.rule c.args.k.route.peer c.self.inside.v4 c.self.inside.v6 c.put.ensures.rule (sym c.family.ensures ∙ c.in-V4.is) c.self.invariant.0 ∙ ap (has_key c.args.k.route.rule c.args.k.route.peer) c.self.view_is)) c.put.ensures.fresh
+returns-in-V4-clause-fresh c = ok_along (λ (is_new : Bool). is_new) _ _ c.put.result (ap not (held_first c.args.k.route.rule c.args.k.route.peer c.self.inside.v4 c.self.inside.v6 (sym c.family.ensures ∙ c.in-V4.is) c.self.invariant.0 ∙ ap (has_key c.args.k.route.rule c.args.k.route.peer) c.self.view_is)) c.put.ensures.fresh
 
 pub returns-in-V6-clause-fresh : goal.returns-in-V6-clause-fresh
-returns-in-V6-clause-fresh c = ok_along (λ (is_new : Bool). is_new) _ _ c.put-in-V6.result (ap not (held_second c.args.k.route.rule c.args.k.route.peer c.self.inside.v4 c.self.inside.v6 c.put-in-V6.ensures.rule (sym c.family.ensures ∙ c.in-V6.is) c.self.invariant.0 ∙ ap (has_key c.args.k.route.rule c.args.k.route.peer) c.self.view_is)) c.put-in-V6.ensures.fresh
+returns-in-V6-clause-fresh c = ok_along (λ (is_new : Bool). is_new) _ _ c.put-in-V6.result (ap not (held_second c.args.k.route.rule c.args.k.route.peer c.self.inside.v4 c.self.inside.v6 (sym c.family.ensures ∙ c.in-V6.is) c.self.invariant.0 ∙ ap (has_key c.args.k.route.rule c.args.k.route.peer) c.self.view_is)) c.put-in-V6.ensures.fresh
 
 pub returns-in-V4-clause-rules : goal.returns-in-V4-clause-rules
 returns-in-V4-clause-rules c = rules_each c.self.inside.v4 c.self.inside.v6 c.args.self.now c.self.view_is c.self.invariant.0

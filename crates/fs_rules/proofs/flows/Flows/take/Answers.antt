@@ -31,16 +31,16 @@ invariant_of-self-in-V6 c = (
 )
 
 pub returns-in-V4-clause-taken : goal.returns-in-V4-clause-taken
-returns-in-V4-clause-taken c = ap (λ ks. ks ++ c.self.inside.v6) c.take.ensures.taken ∙ take_first c.args.rule.now c.args.peer c.self.inside.v4 c.self.inside.v6 c.take.ensures.rule (sym c.family.ensures ∙ c.in-V4.is) c.self.invariant.0 ∙ ap (filter (λ k. not (is_key c.args.rule.now c.args.peer k.route))) c.self.view_is
+returns-in-V4-clause-taken c = ap (λ ks. ks ++ c.self.inside.v6) c.take.ensures.taken ∙ take_first c.args.rule.now c.args.peer c.self.inside.v4 c.self.inside.v6 (sym c.family.ensures ∙ c.in-V4.is) c.self.invariant.0 ∙ ap (filter (λ k. not (is_key c.args.rule.now c.args.peer k.route))) c.self.view_is
 
 pub returns-in-V4-clause-held : goal.returns-in-V4-clause-held
-returns-in-V4-clause-held c = c.take.ensures.held ∙ held_first c.args.rule.now c.args.peer c.self.inside.v4 c.self.inside.v6 c.take.ensures.rule (sym c.family.ensures ∙ c.in-V4.is) c.self.invariant.0 ∙ ap (list_any (λ k. is_key c.args.rule.now c.args.peer k.route)) c.self.view_is
+returns-in-V4-clause-held c = c.take.ensures.held ∙ held_first c.args.rule.now c.args.peer c.self.inside.v4 c.self.inside.v6 (sym c.family.ensures ∙ c.in-V4.is) c.self.invariant.0 ∙ ap (list_any (λ k. is_key c.args.rule.now c.args.peer k.route)) c.self.view_is
 
 pub returns-in-V6-clause-taken : goal.returns-in-V6-clause-taken
-returns-in-V6-clause-taken c = ap (λ ks. c.self.inside.v4 ++ ks) c.take-in-V6.ensures.taken ∙ take_second c.args.rule.now c.args.peer c.self.inside.v4 c.self.inside.v6 c.take-in-V6.ensures.rule (sym c.family.ensures ∙ c.in-V6.is) c.self.invariant.0 ∙ ap (filter (λ k. not (is_key c.args.rule.now c.args.peer k.route))) c.self.view_is
+returns-in-V6-clause-taken c = ap (λ ks. c.self.inside.v4 ++ ks) c.take-in-V6.ensures.taken ∙ take_second c.args.rule.now c.args.peer c.self.inside.v4 c.self.inside.v6 (sym c.family.ensures ∙ c.in-V6.is) c.self.invariant.0 ∙ ap (filter (λ k. not (is_key c.args.rule.now c.args.peer k.route))) c.self.view_is
 
 pub returns-in-V6-clause-held : goal.returns-in-V6-clause-held
-returns-in-V6-clause-held c = c.take-in-V6.ensures.held ∙ held_second c.args.rule.now c.args.peer c.self.inside.v4 c.self.inside.v6 c.take-in-V6.ensures.rule (sym c.family.ensures ∙ c.in-V6.is) c.self.invariant.0 ∙ ap (list_any (λ k. is_key c.args.rule.now c.args.peer k.route)) c.self.view_is
+returns-in-V6-clause-held c = c.take-in-V6.ensures.held ∙ held_second c.args.rule.now c.args.peer c.self.inside.v4 c.self.inside.v6 (sym c.family.ensures ∙ c.in-V6.is) c.self.invariant.0 ∙ ap (list_any (λ k. is_key c.args.rule.now c.args.peer k.route)) c.self.view_is
 
 pub returns-in-V4-clause-rules : goal.returns-in-V4-clause-rules
 returns-in-V4-clause-rules c = rules_each c.self.inside.v4 c.self.inside.v6 c.args.self.now c.self.view_is c.self.invariant.0

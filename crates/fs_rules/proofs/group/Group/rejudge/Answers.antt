@@ -6,7 +6,7 @@ use Rattle.fs_rules.specs.Blocks.{flat, IsCut}
 use Rattle.fs_rules.specs.Parts.{routes_in, AreWell}
 use Rattle.fs_rules.specs.contracts.group.Group.{the_invariant, the_view}
 use Rattle.fs_rules.proofs.Cutting.{flat_map, cut_map, each_flat, flat_each, written}
-use Rattle.fs_rules.proofs.Telling.{told_as}
+use Rattle.fs_rules.proofs.Mending.{told_as}
 use Rattle.fs_rules.proofs.group.Group.rejudge.Goals.{in-One, in-Many}
 use Rattle.fs_rules.proofs.group.Group.rejudge.Goals as goal
 

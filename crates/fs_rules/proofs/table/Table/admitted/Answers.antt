@@ -1,19 +1,13 @@
-use Rattle.std.proofs.Common.{ap, map, subst}
-use Rattle.std.specs.List.{AllByRecursion}
-use Rattle.fs_base.proofs.Lists.{each_mapped}
-use Rattle.fs_rules.specs.Table.{IsRuleOf}
-use Rattle.fs_rules.specs.Group.{routes_of, chosen}
+use Rattle.std.proofs.Common.{ap, ◌∙◌, ◌++◌, map}
 use Rattle.fs_rules.specs.Lent.{shown_lent}
-use Rattle.fs_rules.proofs.Chosen.{admitted_is, listed_is, ok_along}
-use Rattle.fs_rules.proofs.Complete.{is_admitted_list, sorted_now}
+use Rattle.fs_rules.specs.Reading.{listings_in}
 use Rattle.fs_rules.proofs.table.Table.admitted.Goals as goal
 
 pub returns-clause-list : goal.returns-clause-list
-returns-clause-list c = ok_along (λ list. map shown_lent list.items) _ _ c.admitted.result (listed_is c.args.family c.self.inside.config.now c.self.inside.unicast c.self.inside.flows c.args.self.now c.self.invariant.keeps c.self.view_is) c.admitted.ensures.list
+returns-clause-list c = c.in_ok-push_admitted.ensures ∙ ap (λ items. map shown_lent items ++ listings_in c.args.family c.lend-lent.result.groups.now.entries c.lend-lent.result.rest.now) c.new-list.ensures.items ∙ c.lend-lent.ensures.lists
 
 pub returns-clause-admitted : goal.returns-clause-admitted
-returns-clause-admitted c = is_admitted_list c.args.family c.args.self.now (sorted_now (routes_of c.self.inside.flows) c.args.self.now c.self.invariant.keeps.sorted (ap (λ held. held.flows) c.self.view_is))
+returns-clause-admitted c = c.lend-lent.ensures.list c.args.family
 
 pub returns-clause-rules : goal.returns-clause-rules
-returns-clause-rules c = subst (AllByRecursion (IsRuleOf c.args.family)) (admitted_is c.args.family c.self.inside.config.now c.self.inside.unicast c.self.inside.flows c.args.self.now c.self.invariant.keeps c.self.view_is)
-    (each_mapped (λ k. k.route) (IsRuleOf c.args.family) (chosen c.args.family c.self.inside.flows) c.admitted.ensures.rules)
+returns-clause-rules c = c.lend-lent.ensures.rules c.args.family

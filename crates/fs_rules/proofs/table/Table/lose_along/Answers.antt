@@ -2,7 +2,6 @@ use Rattle.std.proofs.Common.{◌≡◌, ◌+◌, sym, ap, subst, ◌∙◌, Lis
 use Rattle.std.specs.List.Sorted.{IsStrictlySortedBy}
 use Rattle.std.specs.Map.{keys_of}
 use Rattle.std.proofs.lemmas.List.{drop_all}
-use Rattle.fs_base.proofs.Bools.{or_false}
 use Rattle.fs_base.specs.declared.prefix.Prefix.{Prefix}
 use Rattle.fs_unicast.proofs.PlaceOrder.{place_total}
 use Rattle.fs_unicast.specs.Unicast.{place_cmp}
@@ -12,7 +11,6 @@ use Rattle.fs_rules.proofs.Entries.{sorted-remove_entry}
 use Rattle.fs_rules.proofs.Losing.{is_place, losing_starts, losing_ends}
 use Rattle.fs_rules.proofs.Prefixes.{among_more, none_among, along_more}
 use Rattle.fs_rules.proofs.Stepping.{rest_is}
-use Rattle.fs_rules.proofs.Validities.{validities_same, validities_then}
 use Rattle.fs_rules.proofs.table.Table.lose_along.Goals as goal
 
 pub loop-key-init : goal.loop-key-init
@@ -20,19 +18,18 @@ loop-key-init g c = record {
   losing = losing_starts c.args.peer c.args.self.now c.args.steps.now;
   among = c.requires.among;
   ordered = c.requires.ordered;
-  told = λ h. validities_same c.args.self.now;
+  covers = λ base h. h;
 }
 
 pub loop-key-preserved : goal.loop-key-preserved
 loop-key-preserved g c = record {
-  losing = along_more c.args.peer c.args.self.now c.loop-key.self c.withdraw_unicast_telling-told.new.self c.args.steps.now c.loop-key.steps c.withdraw_unicast_telling-told.new.steps c.prefix.result c.loop-key.invariant.losing
-      c.withdraw_unicast_telling-told.ensures.removed c.withdraw_unicast_telling-told.ensures.later c.withdraw_unicast_telling-told.ensures.steps c.withdraw_unicast_telling-told.ensures.idle;
-  among = among_more c.args.peer c.prefix.result rest c.loop-key.self c.withdraw_unicast_telling-told.new.self c.loop-key.invariant.ordered c.withdraw_unicast_telling-told.ensures.removed
+  losing = along_more c.args.peer c.args.self.now c.loop-key.self c.withdraw_unicast_telling.new.self c.args.steps.now c.loop-key.steps c.withdraw_unicast_telling.new.steps c.prefix.result c.loop-key.invariant.losing
+      c.withdraw_unicast_telling.ensures.removed c.withdraw_unicast_telling.ensures.later c.withdraw_unicast_telling.ensures.steps c.withdraw_unicast_telling.ensures.idle;
+  among = among_more c.args.peer c.prefix.result rest c.loop-key.self c.withdraw_unicast_telling.new.self c.loop-key.invariant.ordered c.withdraw_unicast_telling.ensures.removed
       (subst (λ (ds : List Prefix). AreAmong c.args.peer ds c.loop-key.self.unicast) first c.loop-key.invariant.among);
-  ordered = subst (λ (held : Held). IsStrictlySortedBy place_cmp (keys_of held.unicast)) (sym c.withdraw_unicast_telling-told.ensures.removed)
+  ordered = subst (λ (held : Held). IsStrictlySortedBy place_cmp (keys_of held.unicast)) (sym c.withdraw_unicast_telling.ensures.removed)
       (sorted-remove_entry place_cmp place_total (is_place c.prefix.result c.args.peer) c.loop-key.self.unicast c.loop-key.invariant.ordered);
-  told = λ h. let both = or_false c.loop-key.marked c.unwrap_or-marked.result h in
-      validities_then c.args.self.now c.loop-key.self c.withdraw_unicast_telling-told.new.self c.loop-key.invariant.losing.flows (c.loop-key.invariant.told both.0) (c.withdraw_unicast_telling-told.ensures.told.0 (sym c.unwrap_or-marked.ensures ∙ both.1));
+  covers = λ base h. c.withdraw_unicast_telling.ensures.covers base (c.loop-key.invariant.covers base h);
 } where
   rest : List Prefix
   rest = drop (c.loop-key.key-index + 1) c.args.prefixes.now

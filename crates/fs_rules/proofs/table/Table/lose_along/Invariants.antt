@@ -1,9 +1,10 @@
-use Rattle.std.proofs.Common.{◌≡◌, false, drop}
+use Rattle.std.proofs.Common.{drop}
 use Rattle.std.specs.List.Sorted.{IsStrictlySortedBy}
 use Rattle.std.specs.Map.{keys_of}
 use Rattle.fs_unicast.specs.Unicast.{place_cmp}
 use Rattle.fs_rules.specs.Counts.{AreAmong}
-use Rattle.fs_rules.specs.Table.{ValiditiesStay}
+use Rattle.fs_rules.specs.Changes.{Covers}
+use Rattle.fs_rules.specs.Table.{Held}
 use Rattle.fs_rules.proofs.Losing.{IsLosing}
 use Rattle.fs_rules.proofs.table.Table.lose_along.Given as goal
 
@@ -12,5 +13,5 @@ invariant-loop-key g l = record {
   losing : IsLosing l.peer l.fn.self l.self l.fn.steps l.steps;
   among : AreAmong l.peer (drop l.key-index l.prefixes) l.self.unicast;
   ordered : IsStrictlySortedBy place_cmp (keys_of l.self.unicast);
-  told : l.marked ≡ false → ValiditiesStay l.fn.self l.self;
+  covers : (base : Held) → Covers base l.fn.changes l.fn.self → Covers base l.changes l.self;
 }

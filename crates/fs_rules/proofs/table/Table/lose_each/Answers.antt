@@ -1,26 +1,23 @@
 use Rattle.std.proofs.Common.{◌≡◌, sym, ◌∙◌, Some, None}
-use Rattle.fs_base.proofs.Bools.{or_false}
 use Rattle.fs_unicast.specs.Search.{held_by}
 use Rattle.fs_rules.proofs.Losing.{losing_starts, losing_more, losing_shorter, losing_ends, found_hit, none_left, passed_starts, passed_more, from_start}
-use Rattle.fs_rules.proofs.Validities.{validities_same, validities_then}
 use Rattle.fs_rules.proofs.table.Table.lose_each.Goals as goal
 
 pub loop-prefix-init : goal.loop-prefix-init
 loop-prefix-init g c = record {
   losing = losing_starts c.args.peer c.args.self.now c.args.steps.now;
   passed = passed_starts c.args.peer c.args.self.now.unicast;
-  told = λ h. validities_same c.args.self.now;
+  covers = λ base h. h;
 }
 
 pub loop-prefix-smaller : goal.loop-prefix-smaller
-loop-prefix-smaller g c = losing_shorter c.args.peer c.loop-prefix.self c.withdraw_unicast_telling-told.new.self c.in-Some.prefix (sym (from_start c.args.peer c.loop-prefix.from c.loop-prefix.self.unicast c.loop-prefix.invariant.passed) ∙ sym c.next_held.ensures.first ∙ c.in-Some.is) c.withdraw_unicast_telling-told.ensures.removed
+loop-prefix-smaller g c = losing_shorter c.args.peer c.loop-prefix.self c.withdraw_unicast_telling.new.self c.in-Some.prefix (sym (from_start c.args.peer c.loop-prefix.from c.loop-prefix.self.unicast c.loop-prefix.invariant.passed) ∙ sym c.next_held.ensures.first ∙ c.in-Some.is) c.withdraw_unicast_telling.ensures.removed
 
 pub loop-prefix-preserved : goal.loop-prefix-preserved
 loop-prefix-preserved g c = record {
-  losing = losing_more c.args.peer c.args.self.now c.loop-prefix.self c.withdraw_unicast_telling-told.new.self c.args.steps.now c.loop-prefix.steps c.withdraw_unicast_telling-told.new.steps c.in-Some.prefix c.loop-prefix.invariant.losing (found_hit c.in-Some.prefix c.args.peer c.loop-prefix.self.unicast found) c.withdraw_unicast_telling-told.ensures.removed c.withdraw_unicast_telling-told.ensures.later c.withdraw_unicast_telling-told.ensures.steps;
-  passed = passed_more c.args.peer c.loop-prefix.self c.withdraw_unicast_telling-told.new.self c.in-Some.prefix c.next_held.ensures.ordered found c.withdraw_unicast_telling-told.ensures.removed;
-  told = λ h. let both = or_false c.loop-prefix.marked c.unwrap_or-marked.result h in
-      validities_then c.args.self.now c.loop-prefix.self c.withdraw_unicast_telling-told.new.self c.loop-prefix.invariant.losing.flows (c.loop-prefix.invariant.told both.0) (c.withdraw_unicast_telling-told.ensures.told.0 (sym c.unwrap_or-marked.ensures ∙ both.1));
+  losing = losing_more c.args.peer c.args.self.now c.loop-prefix.self c.withdraw_unicast_telling.new.self c.args.steps.now c.loop-prefix.steps c.withdraw_unicast_telling.new.steps c.in-Some.prefix c.loop-prefix.invariant.losing (found_hit c.in-Some.prefix c.args.peer c.loop-prefix.self.unicast found) c.withdraw_unicast_telling.ensures.removed c.withdraw_unicast_telling.ensures.later c.withdraw_unicast_telling.ensures.steps;
+  passed = passed_more c.args.peer c.loop-prefix.self c.withdraw_unicast_telling.new.self c.in-Some.prefix c.next_held.ensures.ordered found c.withdraw_unicast_telling.ensures.removed;
+  covers = λ base h. c.withdraw_unicast_telling.ensures.covers base (c.loop-prefix.invariant.covers base h);
 } where
   found : held_by c.loop-prefix.self.unicast c.args.peer None ≡ Some c.in-Some.prefix
   found = sym (from_start c.args.peer c.loop-prefix.from c.loop-prefix.self.unicast c.loop-prefix.invariant.passed) ∙ sym c.next_held.ensures.first ∙ c.in-Some.is

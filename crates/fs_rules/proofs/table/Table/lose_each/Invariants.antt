@@ -1,5 +1,6 @@
-use Rattle.std.proofs.Common.{◌≡◌, false, length}
-use Rattle.fs_rules.specs.Table.{ValiditiesStay}
+use Rattle.std.proofs.Common.{length}
+use Rattle.fs_rules.specs.Changes.{Covers}
+use Rattle.fs_rules.specs.Table.{Held}
 use Rattle.fs_rules.proofs.Losing.{IsLosing, Passed}
 use Rattle.fs_rules.proofs.table.Table.lose_each.Given as goal
 
@@ -7,7 +8,7 @@ abbrev pub invariant-loop-prefix : goal.invariant-loop-prefix
 invariant-loop-prefix g l = record {
   losing : IsLosing l.peer l.fn.self l.self l.fn.steps l.steps;
   passed : Passed l.peer l.from l.self.unicast;
-  told : l.marked ≡ false → ValiditiesStay l.fn.self l.self;
+  covers : (base : Held) → Covers base l.fn.changes l.fn.self → Covers base l.changes l.self;
 }
 
 abbrev pub decreases-loop-prefix : goal.decreases-loop-prefix

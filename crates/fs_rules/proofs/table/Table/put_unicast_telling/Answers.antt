@@ -2,13 +2,11 @@ use Rattle.std.proofs.Common.{rules, of_calls, refl, sym, ap, subst, ◌∙◌, 
 use Rattle.std.specs.BTreeMap.{insert_entry}
 use Rattle.fs_unicast.specs.Unicast.{place_cmp, Route}
 use Rattle.fs_rules.specs.Counts.{IsKept}
-use Rattle.fs_rules.specs.Table.{ValiditiesStay}
 use Rattle.fs_rules.specs.Group.{routes_of}
 use Rattle.fs_rules.proofs.Changed.{routes_mended}
 use Rattle.fs_rules.proofs.Chosen.{held_of, unicast_changed, keeps_after, agree_put}
 use Rattle.fs_rules.proofs.Counting.{counted_as, counted_put}
-use Rattle.fs_rules.proofs.Elsewhere.{covers_noted}
-use Rattle.fs_rules.proofs.Validities.{related_elsewhere, told_validities, validities_same}
+use Rattle.fs_rules.proofs.Elsewhere.{covers_noted, related_elsewhere}
 use Rattle.fs_rules.proofs.Prefixes.{kept_still, held_put}
 use Rattle.fs_rules.proofs.table.Table.put_unicast_telling.Goals as goal
 
@@ -23,34 +21,22 @@ pub invariant_of-self-then-not-branch : goal.invariant_of-self-then-not-branch
 invariant_of-self-then-not-branch g c = subst (λ (u : List Route). IsKept c.self.inside.config.now u c.self.inside.flows c.reserve.new.self) (sym (c.in_ok-put_telling.ensures.told.0 c.if-not-branch.true))
     (kept_still c.self.inside.config.now c.self.inside.unicast c.self.inside.flows c.self.inside.counts c.reserve.new.self c.reserve.ensures.same c.reserve.ensures.stays c.self.invariant)
 
-pub returns-then-not-branch-clause-told : goal.returns-then-not-branch-clause-told
-returns-then-not-branch-clause-told g c = (
-  (λ h. subst (λ (u : List Route). ValiditiesStay c.args.self.now (held_of c.self.inside.config.now u (routes_of c.self.inside.flows))) (sym (c.in_ok-put_telling.ensures.told.0 c.if-not-branch.true))
-      (subst (ValiditiesStay c.args.self.now) (sym c.self.view_is) (validities_same c.args.self.now))),
-  (λ m. refl),
-)
-
 pub invariant_of-self-2 : goal.invariant_of-self-2
 invariant_of-self-2 g c = record {
-  keeps = keeps_after c.self.inside.config.now c.args.prefix c.self.inside.unicast c.put_telling.new.self c.self.inside.flows c.mend.new.self (agree_put (record { prefix = c.args.prefix; peer = c.args.peer }) c.args.path c.self.inside.unicast c.put_telling.new.self c.in_ok-put_telling.ensures.ok) c.mend.ensures.mended c.self.invariant.keeps;
+  keeps = keeps_after c.self.inside.config.now c.args.prefix c.self.inside.unicast c.put_telling.new.self c.self.inside.flows c.mend.new.self (agree_put (record { prefix = c.args.prefix; peer = c.args.peer }) c.args.path c.self.inside.unicast c.put_telling.new.self c.in_ok-put_telling.ensures.ok) c.mend.ensures.mends.kept c.self.invariant.keeps;
   counted = counted_put c.args.peer c.args.prefix c.args.path c.self.inside.unicast c.put_telling.new.self (routes_of c.self.inside.flows) (routes_of c.mend.new.self) c.reserve.new.self c.raise_at.new.self _ c.len-held.ensures.ordered
       (counted_as c.self.inside.unicast (routes_of c.self.inside.flows) c.self.inside.counts c.reserve.new.self c.reserve.ensures.same c.self.invariant.counted)
-      c.raise_at.ensures.counted (search (rules, of_calls)) c.in_ok-put_telling.ensures.ok (ap routes_of c.mend.ensures.mended ∙ routes_mended c.args.prefix c.put_telling.new.self c.self.inside.config.now c.self.inside.flows);
+      c.raise_at.ensures.counted (search (rules, of_calls)) c.in_ok-put_telling.ensures.ok (ap routes_of c.mend.ensures.mends.kept ∙ routes_mended c.args.prefix c.put_telling.new.self c.self.inside.config.now c.self.inside.flows);
   held = held_put c.self.inside.counts c.raise_at.new.self c.args.peer c.args.prefix c.args.path c.self.inside.unicast c.put_telling.new.self _ c.len-held.ensures.ordered
       (λ p d h. c.raise_at.ensures.stays p d (c.reserve.ensures.stays p d h)) c.raise_at.ensures.listed (search (rules, of_calls)) c.in_ok-put_telling.ensures.ok c.self.invariant.held;
   ordered = c.len.ensures.ordered;
 }
 
 pub returns-clause-ok : goal.returns-clause-ok
-returns-clause-ok g c = unicast_changed (λ u. insert_entry place_cmp u (record { prefix = c.args.prefix; peer = c.args.peer }) c.args.path) c.self.inside.config.now c.self.inside.unicast c.put_telling.new.self c.self.inside.flows c.mend.new.self c.args.self.now c.self.view_is c.in_ok-put_telling.ensures.ok (ap routes_of c.mend.ensures.mended ∙ routes_mended c.args.prefix c.put_telling.new.self c.self.inside.config.now c.self.inside.flows)
-
-pub returns-clause-told : goal.returns-clause-told
-returns-clause-told g c = told_validities c.args.prefix c.self.inside.config.now c.self.inside.unicast c.put_telling.new.self c.self.inside.flows c.mend.new.self c.self.invariant.keeps.right c.args.self.now c.mend.result c.self.view_is
-    (keeps_after c.self.inside.config.now c.args.prefix c.self.inside.unicast c.put_telling.new.self c.self.inside.flows c.mend.new.self (agree_put (record { prefix = c.args.prefix; peer = c.args.peer }) c.args.path c.self.inside.unicast c.put_telling.new.self c.in_ok-put_telling.ensures.ok) c.mend.ensures.mended c.self.invariant.keeps).right
-    c.mend.ensures.mended c.mend.ensures.told
+returns-clause-ok g c = unicast_changed (λ u. insert_entry place_cmp u (record { prefix = c.args.prefix; peer = c.args.peer }) c.args.path) c.self.inside.config.now c.self.inside.unicast c.put_telling.new.self c.self.inside.flows c.mend.new.self c.args.self.now c.self.view_is c.in_ok-put_telling.ensures.ok (ap routes_of c.mend.ensures.mends.kept ∙ routes_mended c.args.prefix c.put_telling.new.self c.self.inside.config.now c.self.inside.flows)
 
 pub returns-clause-covers : goal.returns-clause-covers
-returns-clause-covers g c = λ base. covers_noted base c.args.self.now (held_of c.self.inside.config.now c.put_telling.new.self (routes_of c.mend.new.self)) c.args.changes.now c.mend.new.changes c.mend.ensures.stays
+returns-clause-covers g c = λ base. covers_noted base c.args.self.now (held_of c.self.inside.config.now c.put_telling.new.self (routes_of c.mend.new.self)) c.args.changes.now c.mend.new.changes c.mend.ensures.mends.stays
     (related_elsewhere c.mend.new.changes c.args.prefix c.self.inside.config.now c.self.inside.unicast c.put_telling.new.self c.self.inside.flows c.mend.new.self c.args.self.now c.self.view_is
     (agree_put (record { prefix = c.args.prefix; peer = c.args.peer }) c.args.path c.self.inside.unicast c.put_telling.new.self c.in_ok-put_telling.ensures.ok) c.self.invariant.keeps.right
-    (ap routes_of c.mend.ensures.mended ∙ routes_mended c.args.prefix c.put_telling.new.self c.self.inside.config.now c.self.inside.flows) c.mend.ensures.rules c.mend.ensures.marked)
+    (ap routes_of c.mend.ensures.mends.kept ∙ routes_mended c.args.prefix c.put_telling.new.self c.self.inside.config.now c.self.inside.flows) c.mend.ensures.rules c.mend.ensures.mends.marked)

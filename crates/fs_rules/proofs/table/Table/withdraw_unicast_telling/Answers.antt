@@ -7,12 +7,11 @@ use Rattle.std.specs.List.Sorted.{IsStrictlySortedBy}
 use Rattle.fs_unicast.proofs.PlaceOrder.{place_total}
 use Rattle.fs_rules.specs.Counts.{IsKept}
 use Rattle.fs_rules.specs.Group.{routes_of}
-use Rattle.fs_rules.specs.Table.{Held, ValiditiesStay}
+use Rattle.fs_rules.specs.Table.{Held}
 use Rattle.fs_rules.proofs.Changed.{routes_mended, remove_nothing, removes_one}
 use Rattle.fs_rules.proofs.Chosen.{held_of, unicast_changed, keeps_after, agree_taken}
 use Rattle.fs_rules.proofs.Counting.{counted_taken}
-use Rattle.fs_rules.proofs.Elsewhere.{covers_noted}
-use Rattle.fs_rules.proofs.Validities.{related_elsewhere, validities_same, told_validities}
+use Rattle.fs_rules.proofs.Elsewhere.{covers_noted, related_elsewhere}
 use Rattle.fs_rules.proofs.Entries.{sorted-remove_entry}
 use Rattle.fs_rules.proofs.Prefixes.{held_taken}
 use Rattle.fs_rules.proofs.table.Table.withdraw_unicast_telling.Goals as goal
@@ -22,25 +21,15 @@ invariant_of-self g c = subst (λ u. IsKept c.self.inside.config.now u c.self.in
 
 pub invariant_of-self-2 : goal.invariant_of-self-2
 invariant_of-self-2 g c = record {
-  keeps = keeps_after c.self.inside.config.now c.args.prefix.now c.self.inside.unicast c.remove.new.self c.self.inside.flows c.mend.new.self (agree_taken (record { prefix = c.args.prefix.now; peer = c.args.peer }) c.self.inside.unicast c.remove.new.self c.remove.ensures.removed) c.mend.ensures.mended c.self.invariant.keeps;
+  keeps = keeps_after c.self.inside.config.now c.args.prefix.now c.self.inside.unicast c.remove.new.self c.self.inside.flows c.mend.new.self (agree_taken (record { prefix = c.args.prefix.now; peer = c.args.peer }) c.self.inside.unicast c.remove.new.self c.remove.ensures.removed) c.mend.ensures.mends.kept c.self.invariant.keeps;
   counted = counted_taken c.args.peer c.args.prefix.now c.self.inside.unicast c.remove.new.self (routes_of c.self.inside.flows) (routes_of c.mend.new.self) c.self.inside.counts c.lower.new.self c.self.invariant.counted c.lower.ensures.counted
-      (sym c.remove.ensures.held ∙ c.if-not-remove.false) c.remove.ensures.removed (ap routes_of c.mend.ensures.mended ∙ routes_mended c.args.prefix.now c.remove.new.self c.self.inside.config.now c.self.inside.flows);
+      (sym c.remove.ensures.held ∙ c.if-not-remove.false) c.remove.ensures.removed (ap routes_of c.mend.ensures.mends.kept ∙ routes_mended c.args.prefix.now c.remove.new.self c.self.inside.config.now c.self.inside.flows);
   held = held_taken c.self.inside.counts c.lower.new.self (is_at (place_cmp (record { prefix = c.args.prefix.now; peer = c.args.peer }))) c.self.inside.unicast c.remove.new.self c.lower.ensures.stays c.remove.ensures.removed c.self.invariant.held;
   ordered = subst (λ (u : List Route). IsStrictlySortedBy place_cmp (keys_of u)) (sym c.remove.ensures.removed) (sorted-remove_entry place_cmp place_total (is_at (place_cmp (record { prefix = c.args.prefix.now; peer = c.args.peer }))) c.self.inside.unicast c.self.invariant.ordered);
 }
 
 pub returns-clause-removed : goal.returns-clause-removed
-returns-clause-removed g c = unicast_changed (remove_entry (is_at (place_cmp (record { prefix = c.args.prefix.now; peer = c.args.peer })))) c.self.inside.config.now c.self.inside.unicast c.remove.new.self c.self.inside.flows c.mend.new.self c.args.self.now c.self.view_is c.remove.ensures.removed (ap routes_of c.mend.ensures.mended ∙ routes_mended c.args.prefix.now c.remove.new.self c.self.inside.config.now c.self.inside.flows)
-
-pub returns-clause-told : goal.returns-clause-told
-returns-clause-told g c = told_validities c.args.prefix.now c.self.inside.config.now c.self.inside.unicast c.remove.new.self c.self.inside.flows c.mend.new.self c.self.invariant.keeps.right c.args.self.now c.mend.result c.self.view_is
-    (keeps_after c.self.inside.config.now c.args.prefix.now c.self.inside.unicast c.remove.new.self c.self.inside.flows c.mend.new.self (agree_taken (record { prefix = c.args.prefix.now; peer = c.args.peer }) c.self.inside.unicast c.remove.new.self c.remove.ensures.removed) c.mend.ensures.mended c.self.invariant.keeps).right
-    c.mend.ensures.mended c.mend.ensures.told
-
-pub returns-then-not-remove-clause-told : goal.returns-then-not-remove-clause-told
-returns-then-not-remove-clause-told g c = ((λ h. subst (λ u. ValiditiesStay c.args.self.now (held_of c.self.inside.config.now u (routes_of c.self.inside.flows))) (sym same) (subst (ValiditiesStay c.args.self.now) (sym c.self.view_is) (validities_same c.args.self.now))), (λ m. refl)) where
-  same : c.remove.new.self ≡ c.self.inside.unicast
-  same = c.remove.ensures.removed ∙ remove_nothing (is_at (place_cmp (record { prefix = c.args.prefix.now; peer = c.args.peer }))) c.self.inside.unicast (sym c.remove.ensures.held ∙ c.if-not-remove.true)
+returns-clause-removed g c = unicast_changed (remove_entry (is_at (place_cmp (record { prefix = c.args.prefix.now; peer = c.args.peer })))) c.self.inside.config.now c.self.inside.unicast c.remove.new.self c.self.inside.flows c.mend.new.self c.args.self.now c.self.view_is c.remove.ensures.removed (ap routes_of c.mend.ensures.mends.kept ∙ routes_mended c.args.prefix.now c.remove.new.self c.self.inside.config.now c.self.inside.flows)
 
 pub returns-clause-idle : goal.returns-clause-idle
 returns-clause-idle g c = λ e.
@@ -49,10 +38,10 @@ returns-clause-idle g c = λ e.
     absurd (omega (arith, one, same))
 
 pub returns-clause-covers : goal.returns-clause-covers
-returns-clause-covers g c = λ base. covers_noted base c.args.self.now (held_of c.self.inside.config.now c.remove.new.self (routes_of c.mend.new.self)) c.args.changes.now c.mend.new.changes c.mend.ensures.stays
+returns-clause-covers g c = λ base. covers_noted base c.args.self.now (held_of c.self.inside.config.now c.remove.new.self (routes_of c.mend.new.self)) c.args.changes.now c.mend.new.changes c.mend.ensures.mends.stays
     (related_elsewhere c.mend.new.changes c.args.prefix.now c.self.inside.config.now c.self.inside.unicast c.remove.new.self c.self.inside.flows c.mend.new.self c.args.self.now c.self.view_is
     (agree_taken (record { prefix = c.args.prefix.now; peer = c.args.peer }) c.self.inside.unicast c.remove.new.self c.remove.ensures.removed) c.self.invariant.keeps.right
-    (ap routes_of c.mend.ensures.mended ∙ routes_mended c.args.prefix.now c.remove.new.self c.self.inside.config.now c.self.inside.flows) c.mend.ensures.rules c.mend.ensures.marked)
+    (ap routes_of c.mend.ensures.mends.kept ∙ routes_mended c.args.prefix.now c.remove.new.self c.self.inside.config.now c.self.inside.flows) c.mend.ensures.rules c.mend.ensures.mends.marked)
 
 pub returns-then-not-remove-clause-covers : goal.returns-then-not-remove-clause-covers
 returns-then-not-remove-clause-covers g c = λ base. subst (Covers base c.args.changes.now)
