@@ -1,13 +1,15 @@
 -- The numbers of a block are those whose first bits are the block's.
 use Rattle.std.proofs.Common.{◌≡◌, ℕ, ◌+◌, ◌-◌, ◌*◌, ◌/◌, ◌%◌, ◌^◌, ◌<◌, ◌≤◌, ◌==◌, true, ◌&&◌, nat_le, refl, sym, ap, subst, ◌∙◌, arith, inl, inr}
-use Rattle.std.proofs.Math.Nat.{add-mul, mod-eq_of_lt, mod-lt, mul-le-mul_right}
+use Rattle.std.proofs.Math.Nat.{mod-eq_of_lt, mod-lt}
 use Rattle.std.proofs.lemmas.Nat.{div-add-mod', pow_pos}
-use Rattle.std.proofs.lemmas.Bool.{cases_lt, lt-leb}
+use Rattle.std.proofs.lemmas.Bool.{and_right, cases_lt, eq-eqb, eqb-true, lt-leb}
 use Rattle.fs_base.specs.declared.prefix.Family.{Family}
 use Rattle.fs_base.specs.declared.config.Address.{Address}
 use Rattle.fs_base.specs.declared.config.Address.TheVariants.{V4, V6}
 use Rattle.fs_base.specs.Bits.{cleared}
 use Rattle.fs_base.specs.Bits.{IsBlock, block_of}
+use Rattle.fs_base.proofs.Bools.{same_tests}
+use Rattle.fs_base.proofs.NumberTests.{next_row}
 use Rattle.fs_nlri.specs.Parts.{V4Body, V6Body}
 use Rattle.fs_nlri.specs.Sound.{IsSoundBody}
 use Rattle.fs_packet.specs.Matching.{is_prefix_of}
@@ -15,13 +17,6 @@ use Rattle.fs_compile.specs.declared.pattern.Pattern.{Pattern}
 use Rattle.fs_compile.specs.Facts.{IsSmallAddress, address_number}
 use Rattle.fs_compile.specs.Tests.{IsPatternOf, is_under}
 use Rattle.fs_compile.proofs.Enclosing.{from_in, to_in}
-use Rattle.fs_compile.proofs.Truths.{and_false, equal_from, equal_to, same_truth}
-
-next_row : (a b size : ℕ) → a < b → a * size + size ≤ b * size
-next_row a b size h =
-    let row : (a + 1) * size ≡ a * size + 1 * size = add-mul a 1 size in
-    let more : (a + 1) * size ≤ b * size = mul-le-mul_right size (omega arith) in
-    omega arith
 
 same_row : (x count size : ℕ) → 0 < size → count * size ≤ x → x < count * size + size → x / size ≡ count
 same_row x count size some low high = elim (cases_lt (x / size) count) [
@@ -41,7 +36,7 @@ same_row x count size some low high = elim (cases_lt (x / size) count) [
   behind more = let row : count * size + size ≤ x / size * size = next_row count (x / size) size more in omega (arith, split, below)
 
 in_block : (size count last y : ℕ) → 0 < size → last + 1 ≡ count * size + size → (nat_le (count * size) y && nat_le y last) ≡ (y / size * size == count * size)
-in_block size count last y some e = same_truth (nat_le (count * size) y && nat_le y last) (y / size * size == count * size) to from
+in_block size count last y some e = same_tests (nat_le (count * size) y && nat_le y last) (y / size * size == count * size) to from
   where
     split : y / size * size + y % size ≡ y
     split = div-add-mod' y size
@@ -53,11 +48,11 @@ in_block size count last y some e = same_truth (nat_le (count * size) y && nat_l
     to h =
         let r : (count * size ≤ y) × (y ≤ last) = from_in y (count * size, last) h in
         let high : y ≤ last = r.1 in
-        equal_to (y / size * size) (count * size) (ap (λ (q : ℕ). q * size) (same_row y count size some r.0 (omega arith)))
+        eq-eqb (y / size * size) (count * size) (ap (λ (q : ℕ). q * size) (same_row y count size some r.0 (omega arith)))
 
     from : (y / size * size == count * size) ≡ true → (nat_le (count * size) y && nat_le y last) ≡ true
     from h =
-        let same : y / size * size ≡ count * size = equal_from (y / size * size) (count * size) h in
+        let same : y / size * size ≡ count * size = eqb-true (y / size * size) (count * size) h in
         to_in y (count * size, last) (omega (arith, split, below)) (omega (arith, split, below))
 
 in_prefix : (w len bits last x : ℕ) → len ≤ w → bits ≡ cleared w len bits → last + 1 ≡ bits + 2 ^ (w - len) → (nat_le bits (x % 2 ^ w) && nat_le (x % 2 ^ w) last) ≡ (cleared w len x == bits)
@@ -74,7 +69,7 @@ in_v4 family len bits last (V4 address) short clear e small =
 in_v4 family len bits last (V6 address) short clear e small =
     let block : IsBlock 32 len bits = block_of 32 len bits short clear in
     let within : bits + 2 ^ (32 - len) ≤ 2 ^ 32 = block.within in
-    and_false (nat_le bits (2 ^ 32)) (nat_le (2 ^ 32) last) (lt-leb (2 ^ 32) last (omega arith))
+    and_right (nat_le bits (2 ^ 32)) (nat_le (2 ^ 32) last) (lt-leb (2 ^ 32) last (omega arith))
 
 pub in_v6 : (len offset bits : ℕ) (pattern : Pattern) (address : Address) → IsSoundBody (V6Body len offset bits) → IsPatternOf len offset bits pattern → is_under pattern address ≡ is_prefix_of (V6Body len offset bits) address
 in_v6 len offset bits pattern (V4 address) sound h = refl

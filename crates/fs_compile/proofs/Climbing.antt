@@ -25,7 +25,7 @@ found_join hits lo start low to count k e most first f = record {
 }
 
 -- A rule before the start of a bucket that has one is in an earlier bucket.
-home_before : (lasts : List ℕ) (nodes : List (Node ℕ)) (homes : List ℕ) (count j k : ℕ) → AreBuckets lasts nodes homes count
+pub home_before : (lasts : List ℕ) (nodes : List (Node ℕ)) (homes : List ℕ) (count j k : ℕ) → AreBuckets lasts nodes homes count
     → j ≤ length lasts → k < (node_at nodes j).start → (k < length homes) × (get_or homes k 0 < j)
 home_before lasts nodes homes count j k s lj high = (within, at (cases_lt (get_or homes k 0) j)) where
   within : k < length homes
@@ -43,7 +43,7 @@ home_before lasts nodes homes count j k s lj high = (within, at (cases_lt (get_o
       omega (arith, high, a, b)
 
 -- one from the start of a bucket on is in that or a later one
-home_from : (lasts : List ℕ) (nodes : List (Node ℕ)) (homes : List ℕ) (count i k : ℕ) → AreBuckets lasts nodes homes count
+pub home_from : (lasts : List ℕ) (nodes : List (Node ℕ)) (homes : List ℕ) (count i k : ℕ) → AreBuckets lasts nodes homes count
     → i ≤ length lasts → k < length homes → (node_at nodes i).start ≤ k → i ≤ get_or homes k 0
 home_from lasts nodes homes count i k s li within low = at (cases_lt (get_or homes k 0) i) where
   at : (get_or homes k 0 < i) ⊎ (i ≤ get_or homes k 0) → i ≤ get_or homes k 0

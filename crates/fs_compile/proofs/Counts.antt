@@ -1,32 +1,13 @@
 -- Counts of what holds in the front of a list of tests.
-use Rattle.std.proofs.Common.{◌≡◌, ℕ, zero, suc, ◌+◌, ◌-◌, ◌<◌, ◌≤◌, ◌⊎◌, inl, inr, refl, sym, ap, subst, ◌∙◌, max, Bool, true, false, List, length, get_or, count_by, arith, take_all}
+use Rattle.std.proofs.Common.{◌≡◌, ℕ, zero, suc, ◌+◌, ◌-◌, ◌<◌, ◌≤◌, ◌⊎◌, inl, inr, refl, sym, ap, subst, max, Bool, true, false, List, length, get_or, count_by, arith, take_all, take, cond}
 use Rattle.std.proofs.lemmas.Bool.{cases_lt}
 use Rattle.fs_compile.specs.Search.{marked}
-use Rattle.std.proofs.lemmas.List.Sums.{count_by_more_no, count_by_more_yes}
-
-marked_next : (n : ℕ) (near : List Bool) → marked n near ≤ marked (n + 1) near
-marked_next n near = at (cases_lt n (length near)) where
-  by : (b : Bool) → get_or near n false ≡ b → n < length near → marked n near ≤ marked (n + 1) near
-  by true e below = let more : marked (n + 1) near ≡ marked n near + 1 = count_by_more_yes (λ b. b) near n false below e in omega (arith, more)
-  by false e below = let same : marked (n + 1) near ≡ marked n near = count_by_more_no (λ b. b) near n false below e in omega (arith, same)
-
-  at : (n < length near) ⊎ (length near ≤ n) → marked n near ≤ marked (n + 1) near
-  at (inl below) = by (get_or near n false) refl below
-  at (inr above) =
-      let whole : length near ≤ n + 1 = omega (arith, above) in
-      let same : marked (n + 1) near ≡ marked n near = ap (λ (xs : List Bool). count_by (λ b. b) xs) (take_all (n + 1) near whole ∙ sym (take_all n near above)) in
-      omega (arith, same)
+use Rattle.std.proofs.lemmas.List.Sums.{count_by_more_yes, sum_by-take-le}
+use Rattle.std.proofs.lemmas.List.{take-take}
 
 -- counts don't fall
 pub marked_later : (n m : ℕ) (near : List Bool) → n ≤ m → marked n near ≤ marked m near
-marked_later n m near h = let whole : m ≡ n + (m - n) = omega (arith, h) in along (m - n) m whole where
-  along : (k j : ℕ) → j ≡ n + k → marked n near ≤ marked j near
-  along zero j e = let same : j ≡ n = omega (arith, e) in subst (λ x. marked n near ≤ marked x near) (sym same) (omega arith)
-  along (suc k) j e =
-      let first : marked n near ≤ marked (n + k) near = along k (n + k) refl in
-      let step : marked (n + k) near ≤ marked (n + k + 1) near = marked_next (n + k) near in
-      let same : j ≡ n + k + 1 = omega (arith, e) in
-      subst (λ x. marked n near ≤ marked x near) (sym same) (omega (arith, first, step))
+marked_later n m near h = subst (λ (xs : List Bool). count_by (λ b. b) xs ≤ marked m near) (take-take n m near h) (sum_by-take-le (λ (b : Bool). cond b 1 0) (take m near) n)
 
 -- a stretch in which all hold
 marked_run : (near : List Bool) (i n j : ℕ) → j ≡ i + n → j ≤ length near → ((k : ℕ) → i ≤ k → k < j → get_or near k false ≡ true) → marked i near + n ≤ marked j near

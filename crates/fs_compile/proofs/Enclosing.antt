@@ -4,44 +4,26 @@ use Rattle.std.specs.List.{list_all, list_any}
 use Rattle.std.specs.List.Sorted.{IsPartitionPoint, IsPartitionedBy}
 use Rattle.std.specs.Prelude.{IsTrue, ◌↔◌}
 use Rattle.std.proofs.lemmas.Bool.{and_right, cases_lt, le-leb, leb-true, leb-false, lt-leb, le-ltb, lt-ltb, ltb-true, ltb-false}
+use Rattle.fs_base.proofs.Bools.{and_both, and_parts, or_first, or_second}
 use Rattle.fs_compile.specs.Spans.{AreApart, contains, encloses, is_in}
 
 abbrev pub all_within : (ranges others : List (ℕ × ℕ)) → Bool
 all_within ranges others = list_all (λ range. list_any (encloses range) others) ranges
 
-pub both_from : (a b : Bool) → (a && b) ≡ true → (a ≡ true) × (b ≡ true)
-both_from true true h = (refl, refl)
-both_from true false h = absurd (true≢false (sym h))
-both_from false b h = absurd (true≢false (sym h))
-
-both_to : (a b : Bool) → a ≡ true → b ≡ true → (a && b) ≡ true
-both_to a b f g = λ i. (ap (λ (x : Bool). x && b) f ∙ g) i
-
-or_first : (a b : Bool) → a ≡ true → (a || b) ≡ true
-or_first a b h = ap (λ (x : Bool). x || b) h
-
-or_second : (a b : Bool) → b ≡ true → (a || b) ≡ true
-or_second true b h = refl
-or_second false b h = h
-
 or_rest : (a b : Bool) → a ≡ false → (a || b) ≡ true → b ≡ true
 or_rest a b h e = sym (ap (λ (x : Bool). x || b) h) ∙ e
 
 pub from_in : (n : ℕ) (r : ℕ × ℕ) → is_in n r ≡ true → (r.0 ≤ n) × (n ≤ r.1)
-from_in n r h = let b : (nat_le r.0 n ≡ true) × (nat_le n r.1 ≡ true) = both_from (nat_le r.0 n) (nat_le n r.1) h in (leb-true r.0 n b.0, leb-true n r.1 b.1)
+from_in n r h = let b : (nat_le r.0 n ≡ true) × (nat_le n r.1 ≡ true) = and_parts (nat_le r.0 n) (nat_le n r.1) h in (leb-true r.0 n b.0, leb-true n r.1 b.1)
 
 pub to_in : (n : ℕ) (r : ℕ × ℕ) → r.0 ≤ n → n ≤ r.1 → is_in n r ≡ true
-to_in n r low high = both_to (nat_le r.0 n) (nat_le n r.1) (le-leb r.0 n low) (le-leb n r.1 high)
+to_in n r low high = and_both (nat_le r.0 n) (nat_le n r.1) (le-leb r.0 n low) (le-leb n r.1 high)
 
 below_is : (n : ℕ) (r : ℕ × ℕ) → n < r.0 → is_in n r ≡ false
 below_is n r h = ap (λ (b : Bool). b && nat_le n r.1) (lt-leb r.0 n h)
 
 above_is : (n : ℕ) (r : ℕ × ℕ) → r.1 < n → is_in n r ≡ false
-above_is n r h = at (nat_le r.0 n) (lt-leb n r.1 h)
-  where
-    at : (b : Bool) → nat_le n r.1 ≡ false → (b && nat_le n r.1) ≡ false
-    at true e = e
-    at false e = refl
+above_is n r h = and_right (nat_le r.0 n) (nat_le n r.1) (lt-leb n r.1 h)
 
 starts_behind : (inner outer : ℕ × ℕ) → inner.0 < outer.0 → encloses inner outer ≡ false
 starts_behind inner outer h = ap (λ (b : Bool). b && nat_le inner.1 outer.1) (lt-leb outer.0 inner.0 h)
@@ -50,7 +32,7 @@ ends_before : (inner outer : ℕ × ℕ) → outer.1 < inner.1 → encloses inne
 ends_before inner outer h = and_right (nat_le outer.0 inner.0) (nat_le inner.1 outer.1) (lt-leb inner.1 outer.1 h)
 
 to_encloses : (inner outer : ℕ × ℕ) → outer.0 ≤ inner.0 → inner.1 ≤ outer.1 → encloses inner outer ≡ true
-to_encloses inner outer low high = both_to (nat_le outer.0 inner.0) (nat_le inner.1 outer.1) (le-leb outer.0 inner.0 low) (le-leb inner.1 outer.1 high)
+to_encloses inner outer low high = and_both (nat_le outer.0 inner.0) (nat_le inner.1 outer.1) (le-leb outer.0 inner.0 low) (le-leb inner.1 outer.1 high)
 
 one_enclosed : (n : ℕ) (range : ℕ × ℕ) (others : List (ℕ × ℕ)) → list_any (encloses range) others ≡ true → range.0 ≤ n → n ≤ range.1 → contains others n ≡ true
 one_enclosed n range [] h low high = h
@@ -58,7 +40,7 @@ one_enclosed n range (other ∷ others) h low high = at (encloses range other) r
   where
     at : (b : Bool) → encloses range other ≡ b → (list_any (encloses range) others ≡ true → contains others n ≡ true) → contains (other ∷ others) n ≡ true
     at true e later =
-        let b : (nat_le other.0 range.0 ≡ true) × (nat_le range.1 other.1 ≡ true) = both_from (nat_le other.0 range.0) (nat_le range.1 other.1) e in
+        let b : (nat_le other.0 range.0 ≡ true) × (nat_le range.1 other.1 ≡ true) = and_parts (nat_le other.0 range.0) (nat_le range.1 other.1) e in
         let first : other.0 ≤ range.0 = leb-true other.0 range.0 b.0 in
         let last : range.1 ≤ other.1 = leb-true range.1 other.1 b.1 in
         or_first (is_in n other) (contains others n) (to_in n other (omega arith) (omega arith))
@@ -69,7 +51,7 @@ within_all [] others h n here = absurd (true≢false (sym here))
 within_all (range ∷ ranges) others h n here = at (is_in n range) refl (λ rest. within_all ranges others b.1 n rest)
   where
     b : (list_any (encloses range) others ≡ true) × (all_within ranges others ≡ true)
-    b = both_from (list_any (encloses range) others) (all_within ranges others) h
+    b = and_parts (list_any (encloses range) others) (all_within ranges others) h
 
     at : (c : Bool) → is_in n range ≡ c → (contains ranges n ≡ true → contains others n ≡ true) → contains others n ≡ true
     at true e later = let r : (range.0 ≤ n) × (n ≤ range.1) = from_in n range e in one_enclosed n range others b.0 r.0 r.1
@@ -105,7 +87,7 @@ all_covers : (low bound : ℕ) (ranges others : List (ℕ × ℕ)) → AreApart 
 all_covers low bound [] others apart outer all = refl
 all_covers low bound (range ∷ ranges) others apart outer all =
     let small : range.1 < 2 ^ 64 = apart.1.1 in
-    both_to (list_any (encloses range) others) (all_within ranges others)
+    and_both (list_any (encloses range) others) (all_within ranges others)
     (one_covers bound range others outer apart.1.0 (λ n first last. all n (omega arith) (or_first (is_in n range) (contains ranges n) (to_in n range first last))))
     (all_covers (range.1 + 2) bound ranges others apart.2 outer (λ n below here. all n below (or_second (is_in n range) (contains ranges n) here)))
 
@@ -148,7 +130,7 @@ first_encloses low zero range (other ∷ others) apart at within d = by (nat_le 
     last = le-leb range.1 other.1 (at.behind 0 other (omega arith) (omega arith))
 
     by : (b : Bool) → nat_le other.0 range.0 ≡ b → nat_le other.0 range.0 ≡ list_any (encloses range) (other ∷ others)
-    by true e = e ∙ sym (or_first (encloses range other) (list_any (encloses range) others) (both_to (nat_le other.0 range.0) (nat_le range.1 other.1) e last))
+    by true e = e ∙ sym (or_first (encloses range other) (list_any (encloses range) others) (and_both (nat_le other.0 range.0) (nat_le range.1 other.1) e last))
     by false e =
         let above : range.0 < other.0 = leb-false other.0 range.0 e in
         e ∙ sym (λ i. starts_behind range other above i || none_enclose (other.1 + 2) range others apart.2 (omega (arith, proper)) i)

@@ -90,8 +90,5 @@ filter_moved before news from to count f g le within late counted is h = subst (
       same : (facts : Facts) (i : ℕ) → f.first + i < f.end → get_or (hits facts (splice before from to news)) (f.first - to + from + length news + i) false ≡ get_or (hits facts before) (f.first + i) false
       same facts i below =
           let news_size : length (hits facts news) ≡ length news = length-map news (facts_hold facts) in
-          let place : f.first - to + from + length news + i ≡ from + length (hits facts news) + (f.first - to + i) = omega (arith, news_size) in
-          let back : to + (f.first - to + i) ≡ f.first + i = omega (arith, late) in
-          ap₂ (λ bs k. get_or bs k false) (hits_spliced facts before news from to) place
-          ∙ at_back (hits facts before) (hits facts news) from to (f.first - to + i) false (omega (arith, le, within, length-map before (facts_hold facts)))
-          ∙ ap (λ k. get_or (hits facts before) k false) back
+          ap (λ bs. get_or bs (f.first - to + from + length news + i) false) (hits_spliced facts before news from to)
+          ∙ at_back (hits facts before) (hits facts news) from to (f.first - to + from + length news + i) (f.first + i) false (omega (arith, le, within, length-map before (facts_hold facts))) (omega (arith, late)) (omega (arith, late, news_size))

@@ -26,10 +26,6 @@ ascending_from ranges rises = ascending 0 ranges (λ k d below. omega arith) ris
 either : (a b c d : Bool) → a ≡ c → b ≡ d → (a || b) ≡ (c || d)
 either a b c d e f = λ i. e i || f i
 
-or_false : (a : Bool) → (a || false) ≡ a
-or_false true = refl
-or_false false = refl
-
 -- a gap has the numbers that it says
 in_gap : (from end n : ℕ) → contains (gap from end) n ≡ (nat_le from n && nat_lt n end)
 in_gap from end n = grind (arith, nat_tests)

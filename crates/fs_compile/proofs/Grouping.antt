@@ -25,9 +25,6 @@ above_has : (bit : Bool) (v n : ℕ) → n < 2 ^ 64 → contains (if bit || (v =
 above_has true v n below = refl
 above_has false v n below = grind (arith, nat_tests)
 
-either : (a b c d : Bool) → a ≡ c → b ≡ d → (a || b) ≡ (c || d)
-either a b c d e f = λ i. e i || f i
-
 missed : (less greater equal : Bool) (v n : ℕ)
     → ((not less && nat_lt n v) || ((not equal && (n == v)) || (not greater && nat_lt v n))) ≡ not ((less && nat_lt n v) || ((greater && nat_lt v n) || (equal && (n == v))))
 missed true true true v n = grind (arith, nat_tests)

@@ -1,15 +1,13 @@
 -- The range from the least number of a list to the greatest, before the list's own test.
-use Rattle.std.proofs.Common.{◌≡◌, ℕ, ◌+◌, ◌-◌, ◌^◌, ◌<◌, ◌≤◌, min, Bool, true, false, true≢false, ◌&&◌, ◌||◌, nat_lt, List, [], take, get_or, length, refl, sym, ap, ◌∙◌, arith}
-use Rattle.std.proofs.lemmas.Bool.{ltb-true}
+use Rattle.std.proofs.Common.{◌≡◌, ℕ, ◌+◌, ◌<◌, ◌≤◌, Bool, true, false, true≢false, ◌&&◌, ◌||◌, List, [], take, get_or, length, refl, sym, ap, ◌∙◌, arith}
 use Rattle.std.proofs.lemmas.List.Folds.{list_any_more}
-use Rattle.fs_base.proofs.Bools.{and_first, and_second}
+use Rattle.fs_base.proofs.Bools.{and_true}
 use Rattle.fs_compile.specs.declared.ranges.Range.{Range}
 use Rattle.fs_compile.specs.declared.ranges.Ranges.{Ranges}
 use Rattle.fs_compile.specs.declared.tests.Test.{Test}
 use Rattle.fs_compile.specs.declared.tests.Test.TheVariants.{Within}
 use Rattle.fs_compile.specs.Facts.{Facts, number_of}
 use Rattle.fs_compile.specs.Fast.{AreFree}
-use Rattle.fs_compile.specs.Numbers.{has_field}
 use Rattle.fs_compile.specs.Ranges.{range_holds, ranges_hold, with_range}
 use Rattle.fs_compile.specs.Spans.{contains, is_in}
 use Rattle.fs_compile.specs.Tests.{passes}
@@ -33,19 +31,8 @@ hull_more ranges i n low high low' high' range inside less first more last befor
       by false true e f t = wider n (get_or ranges i range).0 (get_or ranges i range).1 low' high' first last f
       by false false e f t = absurd (true≢false (sym t))
 
--- a field's number that the list holds of is below 2^32
-pub field_in_hull : (ranges : List (ℕ × ℕ)) (n low high low' high' : ℕ) → low' ≤ low → min high (2 ^ 32 - 1) ≤ high'
-    → (contains ranges n ≡ true → is_in n (low, high) ≡ true) → has_field ranges n ≡ true → is_in n (low', high') ≡ true
-field_in_hull ranges n low high low' high' less more within h =
-    let small : n < 2 ^ 32 = ltb-true n (2 ^ 32) (and_first (nat_lt n (2 ^ 32)) (contains ranges n) h) in
-    let r : (low ≤ n) × (n ≤ high) = from_in n (low, high) (within (and_second (nat_lt n (2 ^ 32)) (contains ranges n) h)) in
-    to_in n (low', high') (omega (arith, r.0, less)) (omega (arith, r.1, more, small))
-
 both : (new old range test : Bool) → (new && true) ≡ ((old && true) && range) → (test ≡ true → range ≡ true) → (new && test) ≡ (old && test)
-both new old true true e f = e ∙ sym (also (old && true)) where
-  also : (a : Bool) → a ≡ (a && true)
-  also true = refl
-  also false = refl
+both new old true true e f = e ∙ and_true (old && true)
 both new old false true e f = absurd (true≢false (sym (f refl)))
 both true true range false e f = refl
 both true false range false e f = refl
@@ -60,10 +47,7 @@ hull_placed ranges new place range test facts below free made none within =
 
 -- the test behind the others, where the ranges with it say no more than those before
 pub pushed : (new old tests test : Bool) → (new && test) ≡ (old && test) → (new && (tests && test)) ≡ ((old && tests) && test)
-pushed new old true test h = h ∙ sym (ap (λ (b : Bool). b && test) (also old)) where
-  also : (a : Bool) → (a && true) ≡ a
-  also true = refl
-  also false = refl
+pushed new old true test h = h ∙ sym (ap (λ (b : Bool). b && test) (and_true old))
 pushed true true false test h = refl
 pushed true false false test h = refl
 pushed false true false test h = refl

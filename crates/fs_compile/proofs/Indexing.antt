@@ -1,9 +1,10 @@
 -- What the search over the buckets of an index says of the rules that it stands for.
-use Rattle.std.proofs.Common.{◌≡◌, ℕ, zero, suc, ◌+◌, ◌-◌, ◌<◌, ◌≤◌, ◌⊎◌, inl, inr, refl, sym, ap, ap₂, subst, ◌∙◌, ◌++◌, Bool, true, false, true≢false, cond, if◌then◌else◌, Option, Some, None, MatchOption, max, List, [], ◌∷◌, length, get_or, drop, map, count_by, get_or-drop, drop_of_length-le, arith}
+use Rattle.std.proofs.Common.{◌≡◌, ℕ, zero, suc, ◌+◌, ◌-◌, ◌<◌, ◌≤◌, ◌⊎◌, inl, inr, refl, sym, ap, ap₂, subst, ◌∙◌, Bool, true, false, true≢false, cond, if◌then◌else◌, Option, Some, None, MatchOption, max, List, [], ◌∷◌, length, get_or, drop, map, count_by, get_or-drop, drop_of_length-le, arith}
 use Rattle.std.specs.List.{AllByRecursion}
 use Rattle.std.proofs.lemmas.Bool.{cases_lt}
-use Rattle.std.proofs.lemmas.List.{drop-map, get_or_past}
+use Rattle.std.proofs.lemmas.List.{drop-map, get_or_past, length-map}
 use Rattle.std.proofs.lemmas.List.Sums.{sum_by-cons, sum_by-take-drop}
+use Rattle.std.proofs.lemmas.Option.{none-some}
 use Rattle.fs_base.specs.declared.prefix.Family.{Family}
 use Rattle.fs_base.specs.declared.prefix.Family.TheVariants.{V4, V6}
 use Rattle.fs_packet.specs.Fields.{Viewed, family_of}
@@ -26,13 +27,8 @@ use Rattle.fs_compile.specs.Runs.{AreNesting, AreNodes, AreRuns}
 use Rattle.fs_compile.specs.Search.{Found, IsNear, Missed, Within, hit_number, hits, marked, tested_to}
 use Rattle.fs_compile.proofs.Climbing.{marked_most}
 use Rattle.fs_compile.proofs.Placing.{held_of}
-use Rattle.fs_compile.proofs.Reaching.{bare_reaches, match_reaches, reaches_span, span_reaches}
-
-none_some : {X : Type 0} (x : X) → None ≡ Some x → ⊥
-none_some x e = cc
-
-no_less : (i : ℕ) → i < 0 → ⊥
-no_less i h = omega (arith, h)
+use Rattle.fs_compile.proofs.Reaching.{bare_reaches, match_reaches, span_reaches}
+use Rattle.fs_compile.proofs.Pairing.{each_size}
 
 abbrev matches_of : Viewed → List Listed → List Bool
 matches_of view rules = map (λ r. is_match r.rule view) rules
@@ -48,18 +44,7 @@ near_count view (r ∷ rs) =
     ∙ sym (sum_by-cons (λ (r : Listed). cond (reaches view r.rule) 1 0) r rs)
 
 pub stand_size : (rules : List Listed) (fasts : List Fast) → StandForEach rules fasts → length fasts ≡ length rules
-stand_size [] [] h = refl
-stand_size [] (f ∷ fs) h = absurd h
-stand_size (r ∷ rs) [] h = absurd h
-stand_size (r ∷ rs) (f ∷ fs) h = ap suc (stand_size rs fs h.1)
-
-near_size : (view : Viewed) (rules : List Listed) → length (near_of view rules) ≡ length rules
-near_size view [] = refl
-near_size view (r ∷ rs) = ap suc (near_size view rs)
-
-matches_size : (view : Viewed) (rules : List Listed) → length (matches_of view rules) ≡ length rules
-matches_size view [] = refl
-matches_size view (r ∷ rs) = ap suc (matches_size view rs)
+stand_size rules fasts h = each_size (λ r f. StandsFor r.rule f) rules fasts h
 
 hits_are : (view : Viewed) (facts : Facts) (rules : List Listed) (fasts : List Fast) → AreFacts view facts → StandForEach rules fasts → hits facts fasts ≡ matches_of view rules
 hits_are view facts [] [] are h = refl
@@ -70,18 +55,18 @@ hits_are view facts (r ∷ rs) (f ∷ fs) are h = ap₂ (λ (b : Bool) (bs : Lis
 -- Of the rule of a number: whether it is near.
 near_held : (view : Viewed) (rules : List Listed) (k : ℕ) (p : ℕ × ℕ) → AllByRecursion (IsOfFamily view.family) rules → family_of view.destination ≡ view.family → IsSmall view
     → get_or (spans_of rules) k None ≡ Some p → p.0 ≤ number_of view.destination → number_of view.destination ≤ p.1 → get_or (near_of view rules) k false ≡ true
-near_held view [] k p each f small s low high = absurd (none_some p s)
-near_held view (r ∷ rs) zero p each f small s low high = span_reaches r.rule view p each.0.rule each.0.same f small.destination s low high
+near_held view [] k p each f small s low high = absurd (none-some p s)
+near_held view (r ∷ rs) zero p each f small s low high = (span_reaches r.rule view p each.0.rule each.0.same f small.destination s).1 (low, high)
 near_held view (r ∷ rs) (suc k) p each f small s low high = near_held view rs k p each.1 f small s low high
 
 near_apart : (view : Viewed) (rules : List Listed) (k : ℕ) (p : ℕ × ℕ) → AllByRecursion (IsOfFamily view.family) rules → family_of view.destination ≡ view.family → IsSmall view
     → get_or (spans_of rules) k None ≡ Some p → get_or (near_of view rules) k false ≡ true → (p.0 ≤ number_of view.destination) × (number_of view.destination ≤ p.1)
-near_apart view [] k p each f small s near = absurd (none_some p s)
-near_apart view (r ∷ rs) zero p each f small s near = reaches_span r.rule view p each.0.rule each.0.same f small.destination s near
+near_apart view [] k p each f small s near = absurd (none-some p s)
+near_apart view (r ∷ rs) zero p each f small s near = (span_reaches r.rule view p each.0.rule each.0.same f small.destination s).0 near
 near_apart view (r ∷ rs) (suc k) p each f small s near = near_apart view rs k p each.1 f small s near
 
 near_bare : (view : Viewed) (rules : List Listed) (k : ℕ) → k < length rules → get_or (spans_of rules) k None ≡ None → get_or (near_of view rules) k false ≡ true
-near_bare view [] k below s = absurd (no_less k below)
+near_bare view [] k below s = absurd (omega (arith, below))
 near_bare view (r ∷ rs) zero below s = bare_reaches r.rule view s
 near_bare view (r ∷ rs) (suc k) below s = near_bare view rs k (omega (arith, below)) s
 
@@ -93,7 +78,7 @@ near_matched view (r ∷ rs) each (suc k) m = near_matched view rs each.1 k m
 are_near : (view : Viewed) (rules : List Listed) (index : Indexed) → IsIndexOf view.family rules index → IsSmall view → family_of view.destination ≡ view.family
     → IsNear index.buckets (number_of view.destination) (length index.rules) (near_of view rules)
 are_near view rules index h small f = record {
-  size = near_size view rules ∙ sym (stand_size rules index.rules h.stands);
+  size = length-map rules (λ r. reaches view r.rule) ∙ sym (stand_size rules index.rules h.stands);
   held = λ k b low high. near_held view rules k _ h.each f small (h.housed.homed k b) low high;
   apart = λ k b near. near_apart view rules k _ h.each f small (h.housed.homed k b) near;
   bare = λ k above below. near_bare view rules k (subst (λ n. k < n) (stand_size rules index.rules h.stands) below) (h.housed.bare k above);
@@ -131,7 +116,7 @@ next_is : (view : Viewed) (rules : List Listed) (n : ℕ) (r : Option ℕ) → M
 next_is view rules n None missed = sym (from_none view (drop n rules) n (λ i. behind view rules n i ∙ at i (cases_lt (n + i) (length rules)))) where
   at : (i : ℕ) → (n + i < length rules) ⊎ (length rules ≤ n + i) → get_or (matches_of view rules) (n + i) false ≡ false
   at i (inl below) = missed (n + i) (omega arith) below
-  at i (inr past) = get_or_past (matches_of view rules) (n + i) false (omega (arith, past, matches_size view rules))
+  at i (inr past) = get_or_past (matches_of view rules) (n + i) false (omega (arith, past, length-map rules (λ r. is_match r.rule view)))
 next_is view rules n (Some k) found = sym (from_some view (drop n rules) n (k - n) hit before ∙ ap Some whole) where
   above : n ≤ k
   above = found.above
@@ -219,13 +204,6 @@ pub none_behind : (view : Viewed) (rules : List Listed) (index : Indexed) (famil
 none_behind view rules index family n h past = sym (ap (first_from n view) (drop_of_length-le rules short)) where
   short : length rules ≤ n
   short = subst (λ m. m ≤ n) (stand_size rules index.rules h.stands) past
-
--- one compiled rule more
-pub stand_more : (rules : List Listed) (fasts : List Fast) (r : Listed) (f : Fast) → StandForEach rules fasts → StandsFor r.rule f → StandForEach (rules ++ r ∷ []) (fasts ++ f ∷ [])
-stand_more [] [] r f h s = (s, tt)
-stand_more [] (g ∷ gs) r f h s = absurd h
-stand_more (q ∷ qs) [] r f h s = absurd h
-stand_more (q ∷ qs) (g ∷ gs) r f h s = (h.0, stand_more qs gs r f h.1 s)
 
 -- the rules are housed in the buckets of their runs
 pub housed_from : (spans : List (Option (ℕ × ℕ))) (b : Buckets) (fs ls ss hs ps : List ℕ) → AreNesting spans → AreRuns spans fs ls ss hs → AreNodes fs ss ps (length hs) (nodes_in b.nodes)

@@ -4,7 +4,7 @@ pub mod Fields
 pub mod Gapping
 pub mod Grouping
 pub mod Placing
-pub mod Standing
+pub mod ComponentTests
 pub mod Truths
 pub mod Counts
 pub mod Climbing
@@ -24,8 +24,9 @@ pub mod Skipping
 pub mod Splicing
 pub mod Stretching
 pub mod Filtering
-pub mod Mending
-pub mod Mended
+pub mod IndexMending
+pub mod MatcherMending
 pub mod Resizing
 pub mod Subnets
 pub mod Opening
+pub mod Pairing

@@ -1,13 +1,16 @@
 -- Rules in order have destinations in order: as intervals they are nested or apart, and rules without one come last.
-use Rattle.std.proofs.Common.{◌≡◌, ℕ, zero, suc, ◌+◌, ◌-◌, ◌^◌, ◌<◌, ◌≤◌, ◌==◌, ◌⊎◌, inl, inr, refl, sym, ap, ap₂, subst, ◌∙◌, Bool, true, false, true≢false, cond, nat_lt, Option, Some, None, List, [], ◌∷◌, get_or, map, Ordering, Less, Equal, Greater, is_le, nat_cmp, pow_pos, arith}
+use Rattle.std.proofs.Common.{◌≡◌, ℕ, zero, suc, ◌+◌, ◌-◌, ◌^◌, ◌<◌, ◌≤◌, ◌⊎◌, inl, inr, refl, sym, ap, ap₂, subst, ◌∙◌, true, true≢false, Option, Some, None, List, [], ◌∷◌, get_or, map, Ordering, Less, Equal, Greater, is_le, nat_cmp, pow_pos, arith}
 use Rattle.std.specs.List.{AllByRecursion}
-use Rattle.std.specs.Ordering.{ordering_then}
+use Rattle.std.specs.Ordering.{MatchOrdering, ordering_then}
 use Rattle.std.specs.Cmp.{nat_cmp_is}
 use Rattle.std.proofs.Math.Pow.{pow_mono}
-use Rattle.std.proofs.lemmas.Bool.{cases_lt, eqb-true, ltb-true}
+use Rattle.std.proofs.lemmas.Bool.{cases_lt}
+use Rattle.std.proofs.lemmas.Option.{none-some}
+use Rattle.std.proofs.lemmas.Cmp.{ranked}
 use Rattle.fs_base.specs.declared.prefix.Family.{Family}
 use Rattle.fs_base.specs.Bits.{width_of, afi_of}
 use Rattle.fs_base.proofs.Blocks.{IsBlock, block_inside, block_meeting, block_of}
+use Rattle.fs_base.proofs.Orderings.{is_le_of_then}
 use Rattle.fs_nlri.specs.Parts.{Ruled}
 use Rattle.fs_nlri.specs.Rule.{IsRule, destination_of}
 use Rattle.fs_nlri.proofs.Destination.{IsMade}
@@ -17,39 +20,17 @@ use Rattle.fs_order.proofs.First.{destinations_first}
 use Rattle.fs_rules.specs.Lent.{listed}
 use Rattle.fs_rules.specs.Table.{AreOrdered, IsRuleOf}
 use Rattle.fs_validate.specs.declared.route.FlowRoute.{FlowRoute}
+use Rattle.fs_rules.proofs.Elsewhere.{family_of_destination}
 use Rattle.fs_compile.specs.Index.{IsOfFamily, span_by, span_of, spans_of}
 use Rattle.fs_compile.specs.Runs.{AreNesting}
-use Rattle.fs_compile.proofs.Reaching.{HasDestination, family_of_destination, from_span, made_destination}
-
-not_greater : (o p : Ordering) → ordering_then o p ≡ Less → is_le o ≡ true
-not_greater Less p e = refl
-not_greater Equal p e = refl
-not_greater Greater p e = cc
-
-pub less_from : (x y : ℕ) → nat_cmp x y ≡ Less → x < y
-less_from x y e = at (nat_lt x y) refl e where
-  at : (b : Bool) → nat_lt x y ≡ b → cond b Less (cond (x == y) Equal Greater) ≡ Less → x < y
-  at true l g = ltb-true x y l
-  at false l g = by (x == y) g where
-    by : (b : Bool) → cond b Equal Greater ≡ Less → x < y
-    by true f = cc
-    by false f = cc
-
-pub equal_from : (x y : ℕ) → nat_cmp x y ≡ Equal → x ≡ y
-equal_from x y e = at (nat_lt x y) e where
-  at : (b : Bool) → cond b Less (cond (x == y) Equal Greater) ≡ Equal → x ≡ y
-  at true g = cc
-  at false g = by (x == y) refl g where
-    by : (b : Bool) → (x == y) ≡ b → cond b Equal Greater ≡ Equal → x ≡ y
-    by true is f = eqb-true x y is
-    by false is f = cc
+use Rattle.fs_compile.proofs.Reaching.{HasDestination, from_span, made_destination}
 
 le_from : (x y : ℕ) → is_le (nat_cmp x y) ≡ true → x ≤ y
-le_from x y h = at (nat_cmp x y) refl h where
-  at : (o : Ordering) → nat_cmp x y ≡ o → is_le o ≡ true → x ≤ y
-  at Less e g = let l : x < y = less_from x y e in omega (arith, l)
-  at Equal e g = let l : x ≡ y = equal_from x y e in omega (arith, l)
-  at Greater e g = absurd (true≢false (sym g))
+le_from x y h = at (nat_cmp x y) (ranked x y (nat_cmp x y) refl) h where
+  at : (o : Ordering) → MatchOrdering o (x < y) (x ≡ y) (y < x) → is_le o ≡ true → x ≤ y
+  at Less less g = omega (arith, less)
+  at Equal same g = omega (arith, same)
+  at Greater more g = absurd (true≢false (sym g))
 
 -- the comparison of the last addresses, then of the lengths
 record InOrder (p q : Family × ℕ × ℕ) : Type 0 where
@@ -63,10 +44,10 @@ in_order p q f e = by_last (nat_cmp (last_shown p) (last_shown q)) refl (subst (
 
   by_last : (o : Ordering) → nat_cmp (last_shown p) (last_shown q) ≡ o → is_le (ordering_then o (nat_cmp q.2 p.2)) ≡ true → InOrder p q
   by_last Less c g =
-      let l : last_shown p < last_shown q = less_from (last_shown p) (last_shown q) c in
+      let l : last_shown p < last_shown q = ranked (last_shown p) (last_shown q) Less (sym c) in
       record { last = omega (arith, l); longer = λ same. omega (arith, l, same) }
   by_last Equal c g =
-      let l : last_shown p ≡ last_shown q = equal_from (last_shown p) (last_shown q) c in
+      let l : last_shown p ≡ last_shown q = ranked (last_shown p) (last_shown q) Equal (sym c) in
       record { last = omega (arith, l); longer = λ same. le_from q.2 p.2 g }
   by_last Greater c g = absurd (true≢false (sym g))
 
@@ -90,12 +71,9 @@ fits w m a n b p q last meets = at (cases_lt m n) where
 abbrev pub Fits : ℕ × ℕ → ℕ × ℕ → Type 0
 Fits p q = (p.1 ≤ q.1) × (q.0 ≤ p.1 → q.0 ≤ p.0)
 
-none_some : {X : Type 0} (x : X) → None ≡ Some x → ⊥
-none_some x e = cc
-
 -- the destinations of two rules in order
 destinations_le : (a b : Ruled) → IsRule a → IsRule b → a.family ≡ b.family → rule_cmp a b ≡ Less → is_le (destination_cmp (destination_of a) (destination_of b)) ≡ true
-destinations_le a b h k f less = not_greater (destination_cmp (destination_of a) (destination_of b)) (rule_cmp a b) (sym (destinations_first a b h k f) ∙ less)
+destinations_le a b h k f less = is_le_of_then (destination_cmp (destination_of a) (destination_of b)) (rule_cmp a b) (sym (destinations_first a b h k f) ∙ less)
 
 -- the first address of a rule's destination is no later than the last
 pub span_proper : (a : Ruled) (p : ℕ × ℕ) → IsRule a → span_of a ≡ Some p → p.0 ≤ p.1
@@ -185,45 +163,58 @@ pair_bare a b h k f less e = at (destination_of a) (destination_of b) e (destina
       → span_by t ≡ None
   at d None e g = refl
   at None (Some t) e g = absurd (true≢false (sym g))
-  at (Some d) (Some t) e g = absurd (none_some (d.1, last_shown d) (sym e))
+  at (Some d) (Some t) e g = absurd (none-some (d.1, last_shown d) (sym e))
 
-later_fits : (family : Family) (a : FlowRoute) (rs : List FlowRoute) → IsRuleOf family a → AllByRecursion (IsRuleOf family) rs → AllByRecursion (λ s. rule_cmp a.rule s.rule ≡ Less) rs
-    → (j : ℕ) (p q : ℕ × ℕ) → span_of a.rule ≡ Some p → get_or (spans_of (map listed rs)) j None ≡ Some q → Fits p q
-later_fits family a [] own each less j p q e f = absurd (none_some q f)
-later_fits family a (s ∷ rs) own each less zero p q e f = pair_fits a.rule s.rule p q own.rule each.0.rule (own.family ∙ sym each.0.family) less.0 e f
-later_fits family a (s ∷ rs) own each less (suc j) p q e f = later_fits family a rs own each.1 less.1 j p q e f
+-- One behind the other, of which any may have no destination.
+abbrev pub Follows : Option (ℕ × ℕ) → Option (ℕ × ℕ) → Type 0
+Follows None None = Unit {0}
+Follows None (Some q) = ⊥
+Follows (Some p) None = Unit {0}
+Follows (Some p) (Some q) = Fits p q
 
-later_bare : (family : Family) (a : FlowRoute) (rs : List FlowRoute) → IsRuleOf family a → AllByRecursion (IsRuleOf family) rs → AllByRecursion (λ s. rule_cmp a.rule s.rule ≡ Less) rs
-    → (j : ℕ) → span_of a.rule ≡ None → get_or (spans_of (map listed rs)) j None ≡ None
-later_bare family a [] own each less j e = refl
-later_bare family a (s ∷ rs) own each less zero e = pair_bare a.rule s.rule own.rule each.0.rule (own.family ∙ sym each.0.family) less.0 e
-later_bare family a (s ∷ rs) own each less (suc j) e = later_bare family a rs own each.1 less.1 j e
+pub follows_none : (s : Option (ℕ × ℕ)) → Follows s None
+follows_none None = tt
+follows_none (Some p) = tt
 
-pairs : (family : Family) (rs : List FlowRoute) → AllByRecursion (IsRuleOf family) rs → AreOrdered rs → (i j : ℕ) (p q : ℕ × ℕ) → i < j
-    → get_or (spans_of (map listed rs)) i None ≡ Some p → get_or (spans_of (map listed rs)) j None ≡ Some q → Fits p q
-pairs family [] each ordered i j p q l e f = absurd (none_some p e)
-pairs family (r ∷ rs) each ordered i zero p q l e f = absurd (no_less i l) where
-  no_less : (i : ℕ) → i < 0 → ⊥
-  no_less i h = omega (arith, h)
-pairs family (r ∷ rs) each ordered zero (suc j) p q l e f = later_fits family r rs each.0 each.1 ordered.0 j p q e f
-pairs family (r ∷ rs) each ordered (suc i) (suc j) p q l e f = pairs family rs each.1 ordered.1 i j p q (omega (arith, l)) e f
+-- each later one follows the first
+later_follows : (family : Family) (a : FlowRoute) (rs : List FlowRoute) → IsRuleOf family a → AllByRecursion (IsRuleOf family) rs → AllByRecursion (λ s. rule_cmp a.rule s.rule ≡ Less) rs
+    → (j : ℕ) → Follows (span_of a.rule) (get_or (spans_of (map listed rs)) j None)
+later_follows family a [] own each less j = follows_none (span_of a.rule)
+later_follows family a (b ∷ rs) own each less zero = at (span_of a.rule) (span_of b.rule) refl refl where
+  same : a.rule.family ≡ b.rule.family
+  same = own.family ∙ sym each.0.family
 
-bares : (family : Family) (rs : List FlowRoute) → AllByRecursion (IsRuleOf family) rs → AreOrdered rs → (i j : ℕ) → i ≤ j
-    → get_or (spans_of (map listed rs)) i None ≡ None → get_or (spans_of (map listed rs)) j None ≡ None
-bares family [] each ordered i j l e = refl
-bares family (r ∷ rs) each ordered zero zero l e = e
-bares family (r ∷ rs) each ordered zero (suc j) l e = later_bare family r rs each.0 each.1 ordered.0 j e
-bares family (r ∷ rs) each ordered (suc i) zero l e = absurd (no_less i l) where
-  no_less : (i : ℕ) → suc i ≤ 0 → ⊥
-  no_less i h = omega (arith, h)
-bares family (r ∷ rs) each ordered (suc i) (suc j) l e = bares family rs each.1 ordered.1 i j (omega (arith, l)) e
+  at : (s t : Option (ℕ × ℕ)) → span_of a.rule ≡ s → span_of b.rule ≡ t → Follows s t
+  at s None e f = follows_none s
+  at None (Some q) e f = absurd (none-some q (sym (pair_bare a.rule b.rule own.rule each.0.rule same less.0 e) ∙ f))
+  at (Some p) (Some q) e f = pair_fits a.rule b.rule p q own.rule each.0.rule same less.0 e f
+later_follows family a (b ∷ rs) own each less (suc j) = later_follows family a rs own each.1 less.1 j
+
+follow : (family : Family) (rs : List FlowRoute) → AllByRecursion (IsRuleOf family) rs → AreOrdered rs → (i j : ℕ) → i < j → Follows (get_or (spans_of (map listed rs)) i None) (get_or (spans_of (map listed rs)) j None)
+follow family [] each ordered i j less = tt
+follow family (r ∷ rs) each ordered i zero less = absurd (omega (arith, less))
+follow family (r ∷ rs) each ordered zero (suc j) less = later_follows family r rs each.0 each.1 ordered.0 j
+follow family (r ∷ rs) each ordered (suc i) (suc j) less = follow family rs each.1 ordered.1 i j (omega (arith, less))
+
+pub nesting_from : (xs : List (Option (ℕ × ℕ))) → ((i j : ℕ) → i < j → Follows (get_or xs i None) (get_or xs j None)) → AreNesting xs
+nesting_from xs h = record {
+  rising = λ i j p q less e f. (fit i j p q less e f).0;
+  nested = λ i j p q less e f. (fit i j p q less e f).1;
+  bare = λ i j le e. at i j e (cases_lt i j) le;
+} where
+  fit : (i j : ℕ) (p q : ℕ × ℕ) → i < j → get_or xs i None ≡ Some p → get_or xs j None ≡ Some q → Fits p q
+  fit i j p q less e f = subst (λ s. Follows s (Some q)) e (subst (Follows (get_or xs i None)) f (h i j less))
+
+  none : (t : Option (ℕ × ℕ)) → Follows None t → t ≡ None
+  none None k = refl
+  none (Some q) k = absurd k
+
+  at : (i j : ℕ) → get_or xs i None ≡ None → (i < j) ⊎ (j ≤ i) → i ≤ j → get_or xs j None ≡ None
+  at i j e (inl less) le = none (get_or xs j None) (subst (λ s. Follows s (get_or xs j None)) e (h i j less))
+  at i j e (inr more) le = let same : i ≡ j = omega (arith, le, more) in subst (λ k. get_or xs k None ≡ None) same e
 
 pub nesting : (family : Family) (rs : List FlowRoute) → AllByRecursion (IsRuleOf family) rs → AreOrdered rs → AreNesting (spans_of (map listed rs))
-nesting family rs each ordered = record {
-  rising = λ i j p q l e f. (pairs family rs each ordered i j p q l e f).0;
-  nested = λ i j p q l e f. (pairs family rs each ordered i j p q l e f).1;
-  bare = λ i j l e. bares family rs each ordered i j l e;
-}
+nesting family rs each ordered = nesting_from (spans_of (map listed rs)) (follow family rs each ordered)
 
 pub all_of_family : (family : Family) (rs : List FlowRoute) → AllByRecursion (IsRuleOf family) rs → AllByRecursion (IsOfFamily family) (map listed rs)
 all_of_family family [] each = tt

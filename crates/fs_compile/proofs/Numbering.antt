@@ -1,18 +1,13 @@
 -- Lists of single numbers.
-use Rattle.std.proofs.Common.{◌≡◌, ◌==◌, ℕ, suc, ◌+◌, ◌<◌, List, [], ◌∷◌, ◌++◌, map, length, get_or, drop, drop-cons, Bool, true, false, true≢false, not, ◌&&◌, ◌||◌, nat_le, nat_lt, if◌then◌else◌, refl, sym, ap, ◌∙◌, arith}
+use Rattle.std.proofs.Common.{◌≡◌, ◌==◌, ℕ, suc, ◌+◌, ◌<◌, List, [], ◌∷◌, ◌++◌, map, length, get_or, drop, drop-cons, Bool, true, false, true≢false, not, ◌&&◌, ◌||◌, nat_le, nat_lt, if◌then◌else◌, refl, sym, ap, ◌∙◌, arith, append_assoc}
 use Rattle.std.specs.List.{All, list_any, list_all}
 use Rattle.std.proofs.lemmas.Bool.{leb-true}
 use Rattle.std.proofs.lemmas.Bool.Decides.{nat_tests}
 use Rattle.std.proofs.lemmas.List.Elements.{All-head, All-tail}
-use Rattle.fs_base.proofs.Bools.{and_first, and_second}
+use Rattle.fs_base.proofs.Bools.{and_first, and_second, and_true, false_of_not}
 use Rattle.fs_ops.specs.Evaluation.{compares, groups_of, has_bit, holds, onto_group}
 use Rattle.fs_compile.specs.Numbers.{are_singles, is_equality, is_single, lone}
 use Rattle.fs_compile.specs.Spans.{AreApart, IsRange, contains, is_in}
-use Rattle.fs_compile.proofs.Truths.{and_true}
-
-negated : (b : Bool) → not b ≡ true → b ≡ false
-negated true h = absurd (true≢false (sym h))
-negated false h = refl
 
 -- which number a pair holds of, by the bits of its operator
 equal_bits : (less greater equal : Bool) (v n : ℕ) → (not less && (not greater && equal)) ≡ true → ((less && nat_lt n v) || ((greater && nat_lt v n) || (equal && (n == v)))) ≡ is_in n (v, v)
@@ -54,17 +49,13 @@ singles_same low (pair ∷ next ∷ pairs) n h = sym (ap (λ (b : Bool). list_an
   alone = (pair ∷ []) ∷ groups_of (next ∷ pairs)
 
   apart : has_bit next.0 64 ≡ false
-  apart = negated (has_bit next.0 64) (and_second (is_equality next.0) (not (has_bit next.0 64)) (single_parts (pair.1 + 2) next pairs parts.2).0)
+  apart = false_of_not (has_bit next.0 64) (and_second (is_equality next.0) (not (has_bit next.0 64)) (single_parts (pair.1 + 2) next pairs parts.2).0)
 
   first : (compares n pair && true) ≡ is_in n (lone pair)
   first = and_true (compares n pair) ∙ single_equal pair n parts.0
 
-push_next : (xs : List (ℕ × ℕ)) (x : ℕ × ℕ) (ys : List (ℕ × ℕ)) → (xs ++ x ∷ []) ++ ys ≡ xs ++ x ∷ ys
-push_next [] x ys = refl
-push_next (z ∷ xs) x ys = ap (λ zs. z ∷ zs) (push_next xs x ys)
-
 -- the loop over the numbers
 pub lone_next : (pairs ranges : List (ℕ × ℕ)) (i : ℕ) (d : ℕ × ℕ) → i < length pairs → ranges ++ map lone (drop i pairs) ≡ map lone pairs → (ranges ++ lone (get_or pairs i d) ∷ []) ++ map lone (drop (i + 1) pairs) ≡ map lone pairs
-lone_next pairs ranges i d h e = push_next ranges (lone (get_or pairs i d)) (map lone (drop (i + 1) pairs)) ∙ ap (λ zs. ranges ++ map lone zs) (sym (drop-cons pairs i d h ∙ ap (λ n. get_or pairs i d ∷ drop n pairs) next)) ∙ e where
+lone_next pairs ranges i d h e = append_assoc ranges (lone (get_or pairs i d) ∷ []) (map lone (drop (i + 1) pairs)) ∙ ap (λ zs. ranges ++ map lone zs) (sym (drop-cons pairs i d h ∙ ap (λ n. get_or pairs i d ∷ drop n pairs) next)) ∙ e where
   next : suc i ≡ i + 1
   next = omega arith

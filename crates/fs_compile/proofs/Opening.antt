@@ -1,263 +1,216 @@
--- Buckets with one more among them.
-use Rattle.std.proofs.Common.{◌≡◌, ℕ, ◌+◌, ◌-◌, ◌%◌, ◌^◌, ◌<◌, ◌≤◌, ◌⊎◌, inl, inr, sym, ap, ap₂, subst, ◌∙◌, [], ◌∷◌, ◌++◌, false, Option, Some, None, List, length, get_or, replicate, slice_set, take, drop, arith}
-use Rattle.std.specs.List.{insert, splice}
+-- Buckets with an empty one more among them.
+use Rattle.std.proofs.Common.{◌≡◌, ℕ, ◌+◌, ◌-◌, ◌%◌, ◌^◌, ◌<◌, ◌≤◌, ◌⊎◌, ◌||◌, inl, inr, refl, sym, ap, ap₂, subst, ◌∙◌, [], ◌∷◌, Bool, true, false, if◌then◌else◌, nat_le, nat_lt, Some, List, length, get_or, arith}
+use Rattle.std.specs.List.{insert}
 use Rattle.std.proofs.Math.Nat.{mod-eq_of_lt}
-use Rattle.std.proofs.Math.Seq.{take-append_seam}
-use Rattle.std.proofs.lemmas.Bool.{cases_lt, cases_order}
-use Rattle.std.proofs.lemmas.List.{get_or-replicate, get_or-set_other, get_or-set_same, get_or_default, length-replicate, length-set}
+use Rattle.std.proofs.lemmas.Bool.{cases_lt, cases_order, le-leb, le-ltb, lt-leb, lt-ltb}
 use Rattle.fs_compile.specs.declared.buckets.Buckets.{Buckets}
 use Rattle.fs_compile.specs.declared.nodes.Node.{Node}
 use Rattle.fs_compile.specs.Addresses.{numbers_in, nodes_in}
-use Rattle.fs_compile.specs.Buckets.{AreAbove, AreHanded, AreOpened, AreRaised, IsHanded, IsSubnet, moved_on, node_at}
-use Rattle.fs_compile.specs.Index.{AreHoused, span_at}
-use Rattle.fs_compile.specs.Mending.{AreTo, IsGap, IsLeft, IsPassed, bucket_span}
+use Rattle.fs_compile.specs.Buckets.{AreChanged, AreOpened, IsSubnet, beside, node_at, parent_beside}
+use Rattle.fs_compile.specs.Index.{span_at}
+use Rattle.fs_compile.specs.Mending.{HasEmpty, IsGap, IsLeft, IsPassed, bucket_span}
 use Rattle.fs_compile.specs.Search.{AreSound}
 use Rattle.fs_compile.proofs.Splicing.{at_back, at_front, at_middle, spliced_size}
-use Rattle.fs_compile.proofs.Stretching.{home_of, home_over, home_under, start_of}
+use Rattle.fs_compile.proofs.Stretching.{first_of, home_of, home_over, home_under, last_of, none, start_of}
 use Rattle.fs_compile.proofs.Subnets.{subnet_proper, subnets_nest}
 
--- a node more whose parent is named anew
-pub handed_more : {K : Type 0} (place low number : ℕ) (old nodes : List (Node K)) (given new : Node K) → AreHanded place low number old nodes → number < length nodes → given ≡ get_or nodes number given
-    → IsHanded place low number given new → AreHanded place low (number + 1) old (slice_set nodes number new)
-handed_more {K} place low number old nodes given new h below is step = record {
-  size = length-set nodes number new ∙ h.size;
-  done = λ k d under. at k d under (cases_lt k number);
-  rest = λ k d above. get_or-set_other nodes number k new d (λ e. omega (arith, above, e)) ∙ h.rest k d (omega (arith, above));
-} where
-  at : (k : ℕ) (d : Node K) → k < number + 1 → (k < number) ⊎ (number ≤ k) → IsHanded place low k (get_or old k d) (get_or (slice_set nodes number new) k d)
-  at k d under (inl less) = subst (IsHanded place low k (get_or old k d)) (sym (get_or-set_other nodes number k new d (λ e. omega (arith, less, e)))) (h.done k d less)
-  at k d under (inr past) =
-      let same : number ≡ k = omega (arith, under, past) in
-      subst (λ i. IsHanded place low i (get_or old i d) (get_or (slice_set nodes number new) i d)) same
-      (subst (λ x. IsHanded place low number x (get_or (slice_set nodes number new) number d)) (is ∙ get_or_default nodes number given d below ∙ h.rest number d (omega arith))
-      (subst (IsHanded place low number given) (sym (get_or-set_same nodes number new d below)) step))
+-- where a bucket stands among those with one more at a place
+lift : (place i : ℕ) → ℕ
+lift place i = if nat_lt i place then i else i + 1
 
-pub gap_within : (old : Buckets) (n bucket from : ℕ) (span : ℕ × ℕ) → AreSound old n → IsGap old bucket span from → from ≤ length old.homes.items
-gap_within old n bucket from span s gap =
-    let a : start_of old bucket ≤ start_of old (length (numbers_in old.lasts)) = s.starts bucket (length (numbers_in old.lasts)) gap.within (omega arith) in
-    let t : start_of old (length (numbers_in old.lasts)) ≡ length old.homes.items = s.tail in
-    let b : start_of old bucket ≡ from = gap.start in
-    omega (arith, a, t, b)
+lift_low : (place i : ℕ) → i < place → lift place i ≡ i
+unfolding lift
+lift_low place i less = ap (λ (b : Bool). if b then i else i + 1) (lt-ltb i place less)
 
--- the starts behind the place can be moved
-pub opening_fits : (old : Buckets) (n bucket from count : ℕ) (span : ℕ × ℕ) → AreSound old n → IsGap old bucket span from → count + length old.homes.items < 2 ^ 32 → AreAbove bucket 0 count (nodes_in old.nodes)
-opening_fits old n bucket from count span s h fits k d above below =
-    subst (λ (x : Node ℕ). (0 ≤ x.start) × (x.start + count < 2 ^ 32 + 0)) (sym (get_or_default (nodes_in old.nodes) k d none below))
-    (omega arith, omega (arith, high, tail, fits)) where
-      none : Node ℕ
-      none = record { first = 0; start = 0; parent = 0 }
+lift_high : (place i : ℕ) → place ≤ i → lift place i ≡ i + 1
+unfolding lift
+lift_high place i past = ap (λ (b : Bool). if b then i else i + 1) (le-ltb i place past)
 
-      within : k ≤ length (numbers_in old.lasts)
-      within = let a = s.size in omega (arith, below, a)
+lifted : (place i : ℕ) → ((i < place) × (lift place i ≡ i)) ⊎ ((place ≤ i) × (lift place i ≡ i + 1))
+lifted place i = elim (cases_lt i place) [ inl less ↦ inl (less, lift_low place i less) | inr past ↦ inr (past, lift_high place i past) ]
 
-      high : start_of old k ≤ start_of old (length (numbers_in old.lasts))
-      high = s.starts k (length (numbers_in old.lasts)) within (omega arith)
+lift_least : (place i : ℕ) → i ≤ lift place i
+lift_least place i = elim (lifted place i) [ inl l ↦ omega (arith, l.1) | inr l ↦ omega (arith, l.1) ]
 
-      tail : start_of old (length (numbers_in old.lasts)) ≡ length old.homes.items
-      tail = s.tail
+lift_most : (place i : ℕ) → lift place i ≤ i + 1
+lift_most place i = elim (lifted place i) [ inl l ↦ omega (arith, l.1) | inr l ↦ omega (arith, l.1) ]
 
--- what is written back of numbers that were lent
-pub written_back : (size : ℕ) (old new : List ℕ) → length new ≡ size → take size (new ++ drop (length new) old) ≡ new
-written_back size old new e = ap (λ n. take n (new ++ drop (length new) old)) (sym e) ∙ take-append_seam new (drop (length new) old)
+below_it : (place i : ℕ) → lift place i < place → i < place
+below_it place i h = elim (lifted place i) [ inl l ↦ l.0 | inr l ↦ omega (arith, h, l.0, l.1) ]
 
--- the first buckets with one more of these addresses at a place, which has so many rules, from a number on
-pub record IsOpened (old new : Buckets) (bucket low from count parent : ℕ) (span : ℕ × ℕ) : Type 0 where
+behind_it : (place i : ℕ) → place < lift place i → place ≤ i
+behind_it place i h = elim (lifted place i) [ inl l ↦ omega (arith, h, l.0, l.1) | inr l ↦ l.0 ]
+
+in_order : (place i j : ℕ) → lift place i < lift place j → i < j
+in_order place i j h = at (lifted place i) (lifted place j) where
+  at : ((i < place) × (lift place i ≡ i)) ⊎ ((place ≤ i) × (lift place i ≡ i + 1)) → ((j < place) × (lift place j ≡ j)) ⊎ ((place ≤ j) × (lift place j ≡ j + 1)) → i < j
+  at (inl l) (inl k) = omega (arith, h, l.1, k.1)
+  at (inl l) (inr k) = omega (arith, l.0, k.0)
+  at (inr l) (inl k) = omega (arith, h, l.0, l.1, k.0, k.1)
+  at (inr l) (inr k) = omega (arith, h, l.1, k.1)
+
+-- one of the new ones is that at the place, or one of the old
+abbrev Origin : (place m i : ℕ) → Type 0
+Origin place m i = (i ≡ place) ⊎ ((o : ℕ) × (lift place o ≡ i) × (o < m))
+
+origin : (place m i : ℕ) → place ≤ m → i < m + 1 → Origin place m i
+origin place m i within below = at (cases_order i place) where
+  at : (i ≡ place) ⊎ ((i < place) ⊎ (place < i)) → Origin place m i
+  at (inl same) = inl same
+  at (inr (inl less)) = inr (i, lift_low place i less, omega (arith, less, within))
+  at (inr (inr more)) = inr (i - 1, lift_high place (i - 1) (omega (arith, more)) ∙ (let e : i - 1 + 1 ≡ i = omega (arith, more) in e), omega (arith, below, more))
+
+one : (place m : ℕ) (P : ℕ → Type 0) → place ≤ m → ((o : ℕ) → o < m → P (lift place o)) → P place → (i : ℕ) → i < m + 1 → P i
+one place m P within old new i below = at (origin place m i within below) where
+  at : Origin place m i → P i
+  at (inl same) = subst P (sym same) new
+  at (inr (o, is, inside)) = subst P is (old o inside)
+
+two : (place m : ℕ) (R : ℕ → ℕ → Type 0) → place ≤ m → ((o p : ℕ) → o < p → p < m → R (lift place o) (lift place p)) → ((o : ℕ) → o < place → R (lift place o) place)
+    → ((p : ℕ) → place ≤ p → p < m → R place (lift place p)) → (i j : ℕ) → i < j → j < m + 1 → R i j
+two place m R within olds to from i j less below = at (origin place m i within (omega (arith, less, below))) (origin place m j within below) where
+  at : Origin place m i → Origin place m j → R i j
+  at (inl a) (inl b) = absurd (omega (arith, less, a, b))
+  at (inl a) (inr (p, e, inside)) = subst (λ x. R x j) (sym a) (subst (R place) e (from p (behind_it place p (omega (arith, less, a, e))) inside))
+  at (inr (o, d, inside)) (inl b) = subst (R i) (sym b) (subst (λ x. R x place) d (to o (below_it place o (omega (arith, less, d, b)))))
+  at (inr (o, d, inner)) (inr (p, e, inside)) = subst (λ x. R x j) d (subst (R (lift place o)) e (olds o p (in_order place o p (omega (arith, less, d, e))) inside))
+
+-- the first buckets with an empty one of these addresses at a place, whose rules would stand from a number on
+pub record IsOpened (old new : Buckets) (bucket low from parent : ℕ) (span : ℕ × ℕ) : Type 0 where
   pub lasts : numbers_in new.lasts ≡ insert (numbers_in old.lasts) bucket span.1
-  pub nodes : AreOpened bucket low count (record { first = span.0; start = from; parent = parent + 1 }) (nodes_in old.nodes) (nodes_in new.nodes)
-  pub raised : List ℕ
-  pub raises : AreRaised from (length old.homes.items) old.homes.items raised
-  pub homes : new.homes.items ≡ splice raised from from (replicate count bucket)
+  pub nodes : AreOpened bucket low (record { first = span.0; start = from; parent = parent + 1 }) (nodes_in old.nodes) (nodes_in new.nodes)
+  pub homes : AreChanged from (length old.homes.items) (λ k n. n + 1) old.homes.items new.homes.items
   -- buckets before `low` end before it begins, and none before its parent begins as early
   pub apart : (i : ℕ) → i < low → get_or (numbers_in old.lasts) i 0 < span.0
   pub over : (bucket ≤ parent) × (parent ≤ length (numbers_in old.lasts))
   pub least : (j : ℕ) → bucket ≤ j → j < parent → span.0 < (node_at (nodes_in old.nodes) j).first
 
-abbrev none : Node ℕ
-none = record { first = 0; start = 0; parent = 0 }
-
-abbrev first_of : Buckets → ℕ → ℕ
-first_of b i = (node_at (nodes_in b.nodes) i).first
-
-abbrev last_of : Buckets → ℕ → ℕ
-last_of b i = get_or (numbers_in b.lasts) i 0
-
 abbrev parent_of : Buckets → ℕ → ℕ
 parent_of b i = (node_at (nodes_in b.nodes) i).parent
 
--- a bucket of the new ones: one before the place, that at it, or one behind
-abbrev pub Where : (bucket i : ℕ) → Type 0
-Where bucket i = (i < bucket) ⊎ ((i ≡ bucket) ⊎ ((bucket ≤ i - 1) × (i ≡ i - 1 + 1)))
-
-where_is : (bucket i : ℕ) → Where bucket i
-where_is bucket i = at (cases_order i bucket) where
-  at : (i ≡ bucket) ⊎ ((i < bucket) ⊎ (bucket < i)) → Where bucket i
-  at (inl same) = inr (inl same)
-  at (inr (inl less)) = inl less
-  at (inr (inr more)) = inr (inr (omega (arith, more), omega (arith, more)))
-
--- where a rule's home comes from
-abbrev pub Place : (old new : Buckets) (bucket from count k : ℕ) → Type 0
-Place old new bucket from count k =
-    ((k < from) × (home_of new k ≡ home_of old k))
-    ⊎ (((from ≤ k) × (k < from + count) × (home_of new k ≡ bucket))
-    ⊎ ((from + count ≤ k) × (home_of new k ≡ home_of old (k - count) + 1)))
-
--- They are buckets of the rules, and house those that they housed and those put there.
-pub record Opens (old new : Buckets) (bucket from count : ℕ) (span : ℕ × ℕ) : Type 0 where
-  pub sound : (most : ℕ) → count + length old.homes.items ≤ most → AreSound new most
-  pub housed : (spans news : List (Option (ℕ × ℕ))) → AreHoused spans old → length old.homes.items ≤ length spans → AreTo (Some span) news → length news ≡ count → AreHoused (splice spans from from news) new
-
-pub opens : (old new : Buckets) (n bucket low from count parent : ℕ) (span : ℕ × ℕ) → AreSound old n → IsSubnet span.0 span.1 → IsGap old bucket span from → IsOpened old new bucket low from count parent span
-    → Opens old new bucket from count span
-opens old new n bucket low from count parent span s own gap o = record {
-  sound = λ most fits. record {
-    size = let a = o.nodes.size in let b = s.size in omega (arith, a, b, lasts);
-    rising = λ i j less below. rise i j less (omega (arith, below, lasts)) (where_is bucket i) (where_is bucket j);
-    subnets = λ i below. subnet i (omega (arith, below, lasts)) (where_is bucket i);
-    nested = λ i j less below meets. nest i j less (omega (arith, below, lasts)) meets (where_is bucket i) (where_is bucket j);
-    after = λ i below. (up i (omega (arith, below, lasts)) (where_is bucket i)).0;
-    within = λ i below. let w = (up i (omega (arith, below, lasts)) (where_is bucket i)).1 in omega (arith, w, lasts);
-    least = λ i j below less under. least i j (omega (arith, below, lasts)) less under (where_is bucket i) (where_is bucket j);
-    starts = λ i j le below. start i j le (omega (arith, below, lasts)) (where_is bucket i) (where_is bucket j);
-    tail = let a : start_of new (length (numbers_in new.lasts)) ≡ start_of new (length (numbers_in old.lasts) + 1) = ap (start_of new) lasts in
-        let b = start_back (length (numbers_in old.lasts)) inside (omega arith) in
-        let t : start_of old (length (numbers_in old.lasts)) ≡ length old.homes.items = s.tail in
-        omega (arith, a, b, t, homes);
-    few = omega (arith, homes, fits);
-    home = λ k below. subst (λ m. home_of new k < m) (sym lasts) (home k below (place k below));
-    begins = λ k below. begins k below (place k below);
-    ends = λ k below. end k below (place k below);
+pub opens : (old new : Buckets) (n bucket low from parent : ℕ) (span : ℕ × ℕ) → AreSound old n → IsSubnet span.0 span.1 → IsGap old bucket span from → IsOpened old new bucket low from parent span
+    → HasEmpty old new bucket span from
+opens old new n bucket low from parent span s own gap o = record {
+  sound = record {
+    size = omega (arith, o.nodes.size, s.size, lasts);
+    rising = λ i j less below. two bucket m (λ i j. last_of new i ≤ last_of new j) inside
+        (λ i j less below. omega (arith, last_is i, last_is j, s.rising i j less below))
+        (λ i less. omega (arith, last_is i, last_at, last_passed i less))
+        (λ j past below. omega (arith, last_is j, last_at, last_left j past below)) i j less (omega (arith, below, lasts));
+    subnets = λ i below. one bucket m (λ i. IsSubnet (first_of new i) (last_of new i)) inside
+        (λ i below. subst (λ x. IsSubnet x (last_of new (lift bucket i))) (sym (first_is i (omega (arith, below)))) (subst (IsSubnet (first_of old i)) (sym (last_is i)) (s.subnets i below)))
+        (subst (λ x. IsSubnet x (last_of new bucket)) (sym first_at) (subst (IsSubnet span.0) (sym last_at) own)) i (omega (arith, below, lasts));
+    nested = λ i j less below. two bucket m (λ i j. first_of new j ≤ last_of new i → first_of new j ≤ first_of new i) inside nests
+        (λ i less meets. let x = first_is i (omega (arith, less, inside)) in omega (arith, x, first_at, first_passed i less (omega (arith, meets, first_at, last_is i))))
+        (λ j past below meets. let x = first_is j (omega (arith, below)) in omega (arith, x, first_at, first_left j past below (omega (arith, meets, x, last_at)))) i j less (omega (arith, below, lasts));
+    after = λ i below. (ups i (omega (arith, below, lasts))).0;
+    within = λ i below. let w = (ups i (omega (arith, below, lasts))).1 in omega (arith, w, lasts);
+    least = λ i j below less under. two bucket m (λ i j. j < parent_of new i → first_of new i < first_of new j) inside leasts before
+        (λ j past below under. let x = first_is j (omega (arith, below)) in omega (arith, x, first_at, o.least j past (omega (arith, under, parent_at, lift_high bucket j past))))
+        i j less (let top = (ups i (omega (arith, below, lasts))).1 in omega (arith, under, top)) under;
+    starts = λ i j le below. start i j le (omega (arith, below, lasts)) (cases_lt i j);
+    tail = ap (start_of new) (lasts ∙ sym (lift_high bucket m inside)) ∙ start_is m (omega arith) ∙ s.tail ∙ sym o.homes.size;
+    few = omega arith;
+    home = λ k below. omega (arith, home_is k (here k below), lift_most bucket (home_of old k), s.home k (here k below), lasts);
+    begins = λ k below. let h = s.home k (here k below) in
+        let e : start_of new (home_of new k) ≡ start_of old (home_of old k) = ap (start_of new) (home_is k (here k below)) ∙ start_is (home_of old k) (omega (arith, h)) in
+        omega (arith, e, s.begins k (here k below));
+    ends = λ k below. end k (here k below) (cases_order (home_of old k + 1) bucket);
   };
-  housed = λ spans news housed whole each size. record {
-    homed = λ k below. homed spans news housed whole each size k below (place k below);
-    bare = λ k past.
-        let above : from + count ≤ k = omega (arith, past, homes, from_in) in
-        shift spans news whole size k above ∙ housed.bare (k - count) (omega (arith, past, homes));
+  holder = record {
+    within = omega (arith, inside, lasts);
+    few = omega (arith, inside, gap.few);
+    first = first_at;
+    last = last_at;
+    start = start_at;
+    end = ap (start_of new) (sym (lift_high bucket bucket (omega arith))) ∙ start_is bucket inside ∙ gap.start;
+  };
+  size = o.homes.size;
+  housed = λ spans housed. record {
+    homed = λ k below. let h = s.home k (here k below) in
+        housed.homed k (here k below) ∙ sym (ap (λ i. Some (bucket_span new i)) (home_is k (here k below)) ∙ ap₂ (λ (x y : ℕ). Some (x, y)) (first_is (home_of old k) (omega (arith, h))) (last_is (home_of old k)));
+    bare = λ k past. housed.bare k (omega (arith, past, o.homes.size));
   };
 } where
+  m : ℕ
+  m = length (numbers_in old.lasts)
+
   inside : bucket ≤ length (numbers_in old.lasts)
   inside = gap.within
 
   lasts : length (numbers_in new.lasts) ≡ length (numbers_in old.lasts) + 1
   lasts = let a = spliced_size (numbers_in old.lasts) (span.1 ∷ []) bucket bucket (omega arith) inside in let b : length (numbers_in new.lasts) ≡ length (insert (numbers_in old.lasts) bucket span.1) = ap length o.lasts in omega (arith, a, b)
 
-  old_size : length (nodes_in old.nodes) ≡ length (numbers_in old.lasts) + 1
-  old_size = s.size
-
-  begin : start_of old bucket ≡ from
-  begin = gap.start
-
-  from_in : from ≤ length old.homes.items
-  from_in = gap_within old n bucket from span s gap
-
-  raised_size : length o.raised ≡ length old.homes.items
-  raised_size = o.raises.size
-
-  homes : length new.homes.items ≡ count + length old.homes.items
-  homes =
-      let a = spliced_size o.raised (replicate count bucket) from from (omega arith) (omega (arith, from_in, raised_size)) in
-      let b : length new.homes.items ≡ length (splice o.raised from from (replicate count bucket)) = ap length o.homes in
-      let c = length-replicate count bucket in
-      omega (arith, a, b, c, raised_size)
-
-  few : length (numbers_in old.lasts) + 1 < 2 ^ 32
-  few = gap.few
-
   -- last addresses
-  last_front : (i : ℕ) → i < bucket → last_of new i ≡ last_of old i
-  last_front i below = ap (λ xs. get_or xs i 0) o.lasts ∙ at_front (numbers_in old.lasts) (span.1 ∷ []) bucket bucket i 0 inside below
+  last_is : (i : ℕ) → last_of new (lift bucket i) ≡ last_of old i
+  last_is i = elim (lifted bucket i) [
+    | inl l ↦ ap₂ (λ xs k. get_or xs k 0) o.lasts l.1 ∙ at_front (numbers_in old.lasts) (span.1 ∷ []) bucket bucket i 0 inside l.0
+    | inr l ↦ ap₂ (λ xs k. get_or xs k 0) o.lasts l.1 ∙ at_back (numbers_in old.lasts) (span.1 ∷ []) bucket bucket (i + 1) i 0 inside l.0 (omega arith)
+  ]
 
   last_at : last_of new bucket ≡ span.1
-  last_at =
-      let same : bucket ≡ bucket + 0 = omega arith in
-      ap₂ (λ xs i. get_or xs i 0) o.lasts same ∙ at_middle (numbers_in old.lasts) (span.1 ∷ []) bucket bucket 0 0 inside (omega arith)
-
-  last_back : (i : ℕ) → bucket ≤ i → last_of new (i + 1) ≡ last_of old i
-  last_back i above =
-      let there : i + 1 ≡ bucket + 1 + (i - bucket) = omega (arith, above) in
-      let same : bucket + (i - bucket) ≡ i = omega (arith, above) in
-      ap₂ (λ xs k. get_or xs k 0) o.lasts there ∙ at_back (numbers_in old.lasts) (span.1 ∷ []) bucket bucket (i - bucket) 0 inside ∙ ap (λ k. get_or (numbers_in old.lasts) k 0) same
+  last_at = ap (λ xs. get_or xs bucket 0) o.lasts ∙ at_middle (numbers_in old.lasts) (span.1 ∷ []) bucket bucket bucket 0 0 inside (omega arith) (omega arith)
 
   -- nodes
-  handed : (i : ℕ) → i < bucket → IsHanded bucket low i (node_at (nodes_in old.nodes) i) (node_at (nodes_in new.nodes) i)
-  handed i below = o.nodes.front i none below
+  node_is : (i : ℕ) → i ≤ length (numbers_in old.lasts) → node_at (nodes_in new.nodes) (lift bucket i) ≡ beside bucket low i (node_at (nodes_in old.nodes) i)
+  node_is i below = elim (lifted bucket i) [
+    | inl l ↦ ap (node_at (nodes_in new.nodes)) l.1 ∙ o.nodes.front i none l.0
+    | inr l ↦ ap (node_at (nodes_in new.nodes)) l.1 ∙ o.nodes.back i none l.0 (omega (arith, below, s.size))
+  ]
 
-  first_front : (i : ℕ) → i < bucket → first_of new i ≡ first_of old i
-  first_front i below = (handed i below).first
+  first_is : (i : ℕ) → i ≤ length (numbers_in old.lasts) → first_of new (lift bucket i) ≡ first_of old i
+  first_is i below = ap (λ (x : Node ℕ). x.first) (node_is i below)
 
   first_at : first_of new bucket ≡ span.0
   first_at = ap (λ (x : Node ℕ). x.first) (o.nodes.at none)
 
-  moved : (i : ℕ) → bucket ≤ i → i ≤ length (numbers_in old.lasts) → node_at (nodes_in new.nodes) (i + 1) ≡ moved_on count (node_at (nodes_in old.nodes) i)
-  moved i above below = o.nodes.back i none above (omega (arith, below, old_size))
-
-  first_back : (i : ℕ) → bucket ≤ i → i ≤ length (numbers_in old.lasts) → first_of new (i + 1) ≡ first_of old i
-  first_back i above below = ap (λ (x : Node ℕ). x.first) (moved i above below)
-
-  start_front : (i : ℕ) → i < bucket → start_of new i ≡ start_of old i
-  start_front i below = (handed i below).start
+  start_is : (i : ℕ) → i ≤ length (numbers_in old.lasts) → start_of new (lift bucket i) ≡ start_of old i
+  start_is i below = ap (λ (x : Node ℕ). x.start) (node_is i below)
 
   start_at : start_of new bucket ≡ from
   start_at = ap (λ (x : Node ℕ). x.start) (o.nodes.at none)
 
-  start_back : (i : ℕ) → bucket ≤ i → i ≤ length (numbers_in old.lasts) → start_of new (i + 1) ≡ start_of old i + count
-  start_back i above below = ap (λ (x : Node ℕ). x.start) (moved i above below)
+  begin : start_of old bucket ≡ from
+  begin = gap.start
 
-  -- parents
-  one_more : (i p : ℕ) → i < length (numbers_in old.lasts) → p ≡ (parent_of old i + 1) % 2 ^ 32 → p ≡ parent_of old i + 1
-  one_more i p below e =
-      let w : parent_of old i ≤ length (numbers_in old.lasts) = s.within i below in
-      e ∙ mod-eq_of_lt (let fits : parent_of old i + 1 < 2 ^ 32 = omega (arith, w, few) in fits)
+  -- the parent of an old one is as it was, goes on by one, or is the new one
+  Parent : ℕ → Type 0
+  Parent i = ((parent_of old i < bucket) × (parent_of new (lift bucket i) ≡ parent_of old i))
+      ⊎ (((bucket ≤ parent_of old i) × ((i < low) ⊎ (bucket ≤ i)) × (parent_of new (lift bucket i) ≡ parent_of old i + 1))
+      ⊎ ((bucket ≤ parent_of old i) × (i < bucket) × (parent_of new (lift bucket i) ≡ bucket)))
+
+  parent_is : (i : ℕ) → i < length (numbers_in old.lasts) → Parent i
+  parent_is i below = at (cases_lt (parent_of old i) bucket) (cases_lt i low) (cases_lt i bucket) where
+    is : parent_of new (lift bucket i) ≡ parent_beside bucket low i (parent_of old i)
+    is = ap (λ (x : Node ℕ). x.parent) (node_is i (omega (arith, below)))
+
+    fits : parent_of old i + 1 < 2 ^ 32
+    fits = omega (arith, s.within i below, gap.few)
+
+    by : (near far : Bool) → nat_lt (parent_of old i) bucket ≡ near → (nat_lt i low || nat_le bucket i) ≡ far → parent_of new (lift bucket i) ≡ (if near then parent_of old i else (if far then parent_of old i + 1 else bucket))
+    by near far e f = is ∙ (λ j. if e j then parent_of old i else (if f j then mod-eq_of_lt fits j else bucket))
+
+    at : (parent_of old i < bucket) ⊎ (bucket ≤ parent_of old i) → (i < low) ⊎ (low ≤ i) → (i < bucket) ⊎ (bucket ≤ i) → Parent i
+    at (inl near) c d = inl (near, by true _ (lt-ltb (parent_of old i) bucket near) refl)
+    at (inr over) (inl before) d = inr (inl (over, inl before, by false true (le-ltb (parent_of old i) bucket over) (ap (λ b. b || nat_le bucket i) (lt-ltb i low before))))
+    at (inr over) (inr within) (inl front) = inr (inr (over, front, by false false (le-ltb (parent_of old i) bucket over) (λ j. le-ltb i low within j || lt-leb bucket i front j)))
+    at (inr over) (inr within) (inr past) = inr (inl (over, inr past, by false true (le-ltb (parent_of old i) bucket over) (λ j. le-ltb i low within j || le-leb bucket i past j)))
 
   parent_at : parent_of new bucket ≡ parent + 1
   parent_at = ap (λ (x : Node ℕ). x.parent) (o.nodes.at none)
 
-  parent_back : (i : ℕ) → bucket ≤ i → i < length (numbers_in old.lasts) → parent_of new (i + 1) ≡ parent_of old i + 1
-  parent_back i above below = one_more i (parent_of new (i + 1)) below (ap (λ (x : Node ℕ). x.parent) (moved i above (omega (arith, below))))
-
-  -- the parent of one before the place is as it was, goes on by one, or is the new one
-  Parent : ℕ → Type 0
-  Parent i = ((parent_of old i < bucket) × (parent_of new i ≡ parent_of old i))
-      ⊎ (((bucket ≤ parent_of old i) × (i < low) × (parent_of new i ≡ parent_of old i + 1)) ⊎ ((bucket ≤ parent_of old i) × (parent_of new i ≡ bucket)))
-
-  parent_front : (i : ℕ) → i < bucket → Parent i
-  parent_front i below = at (cases_lt (parent_of old i) bucket) (cases_lt i low) where
-    at : (parent_of old i < bucket) ⊎ (bucket ≤ parent_of old i) → (i < low) ⊎ (low ≤ i) → Parent i
-    at (inl near) c = inl (near, (handed i below).near near)
-    at (inr over) (inl before) = inr (inl (over, before, one_more i (parent_of new i) (omega (arith, below, inside)) ((handed i below).over over before)))
-    at (inr over) (inr within) = inr (inr (over, (handed i below).within over within))
-
-  up : (i : ℕ) → i < length (numbers_in old.lasts) + 1 → Where bucket i → (i < parent_of new i) × (parent_of new i ≤ length (numbers_in old.lasts) + 1)
-  up i below (inl front) = at (parent_front i front) where
-    old_up : i < parent_of old i
-    old_up = s.after i (omega (arith, front, inside))
-
-    old_within : parent_of old i ≤ length (numbers_in old.lasts)
-    old_within = s.within i (omega (arith, front, inside))
-
-    at : Parent i → (i < parent_of new i) × (parent_of new i ≤ length (numbers_in old.lasts) + 1)
-    at (inl p) = let e = p.1 in (omega (arith, e, old_up), omega (arith, e, old_within))
-    at (inr (inl p)) = let e = p.2 in (omega (arith, e, old_up), omega (arith, e, old_within))
-    at (inr (inr p)) = let e = p.1 in (omega (arith, e, front), omega (arith, e, inside))
-  up i below (inr (inl same)) =
-      let e : parent_of new i ≡ parent_of new bucket = ap (parent_of new) same in
-      let a = o.over.0 in
-      let b = o.over.1 in
-      (omega (arith, e, parent_at, a, same), omega (arith, e, parent_at, b))
-  up i below (inr (inr behind)) =
-      let at = behind.1 in
-      let e : parent_of new i ≡ parent_of new (i - 1 + 1) = ap (parent_of new) at in
-      let p = parent_back (i - 1) behind.0 (omega (arith, below, at)) in
-      let a = s.after (i - 1) (omega (arith, below, at)) in
-      let b = s.within (i - 1) (omega (arith, below, at)) in
-      (omega (arith, e, p, a, at), omega (arith, e, p, b))
+  ups : (i : ℕ) → i < length (numbers_in old.lasts) + 1 → (i < parent_of new i) × (parent_of new i ≤ length (numbers_in old.lasts) + 1)
+  ups = one bucket m (λ i. (i < parent_of new i) × (parent_of new i ≤ length (numbers_in old.lasts) + 1)) inside (λ i below. up i below (parent_is i below) (s.after i below) (s.within i below))
+      (omega (arith, parent_at, o.over.0), omega (arith, parent_at, o.over.1)) where
+        up : (i : ℕ) → i < length (numbers_in old.lasts) → Parent i → i < parent_of old i → parent_of old i ≤ length (numbers_in old.lasts)
+            → (lift bucket i < parent_of new (lift bucket i)) × (parent_of new (lift bucket i) ≤ length (numbers_in old.lasts) + 1)
+        up i below (inl p) a b = (omega (arith, p.0, p.1, a, lift_low bucket i (omega (arith, p.0, a))), omega (arith, p.1, b))
+        up i below (inr (inl p)) a b = (omega (arith, p.2, a, lift_most bucket i), omega (arith, p.2, b))
+        up i below (inr (inr p)) a b = (omega (arith, p.1, p.2, lift_low bucket i p.1), omega (arith, p.2, inside))
 
   -- what is passed and what is left
-  passed : (i : ℕ) → i < bucket → IsPassed (bucket_span old i) span false
-  passed i below = gap.before i below
-
   last_passed : (i : ℕ) → i < bucket → last_of old i ≤ span.1
-  last_passed i below = at (passed i below) where
+  last_passed i below = at (gap.before i below) where
     at : IsPassed (bucket_span old i) span false → last_of old i ≤ span.1
     at (inl less) = let l : last_of old i < span.1 = less in omega (arith, l)
     at (inr tied) = let e : last_of old i ≡ span.1 = tied.0 in omega (arith, e)
@@ -269,7 +222,7 @@ opens old new n bucket low from count parent span s own gap o = record {
     at (inr tied) = let e : span.1 ≡ last_of old i = tied.0 in omega (arith, e)
 
   first_passed : (i : ℕ) → i < bucket → span.0 ≤ last_of old i → span.0 ≤ first_of old i
-  first_passed i below meets = at (passed i below) where
+  first_passed i below meets = at (gap.before i below) where
     at : IsPassed (bucket_span old i) span false → span.0 ≤ first_of old i
     at (inl less) = subnets_nest (first_of old i) (last_of old i) span.0 span.1 (s.subnets i (omega (arith, below, inside))) own less meets
     at (inr tied) = let l : span.0 < first_of old i + 0 = tied.1 in omega (arith, l)
@@ -280,300 +233,59 @@ opens old new n bucket low from count parent span s own gap o = record {
     at (inl less) = subnets_nest span.0 span.1 (first_of old i) (last_of old i) own (s.subnets i below) less meets
     at (inr tied) = let l : first_of old i + 0 ≤ span.0 = tied.1 in omega (arith, l)
 
-  -- the places of two
-  rise : (i j : ℕ) → i < j → j < length (numbers_in old.lasts) + 1 → Where bucket i → Where bucket j → last_of new i ≤ last_of new j
-  rise i j less below (inl a) (inl b) = let x = last_front i a in let y = last_front j b in let z = s.rising i j less (omega (arith, b, inside)) in omega (arith, x, y, z)
-  rise i j less below (inl a) (inr (inl b)) = let x = last_front i a in let e : last_of new j ≡ last_of new bucket = ap (last_of new) b in let z = last_passed i a in omega (arith, x, e, last_at, z)
-  rise i j less below (inl a) (inr (inr b)) =
-      let x = last_front i a in
-      let at = b.1 in
-      let e : last_of new j ≡ last_of new (j - 1 + 1) = ap (last_of new) at in
-      let y = last_back (j - 1) b.0 in
-      let z = s.rising i (j - 1) (let c = b.0 in omega (arith, a, c)) (omega (arith, below, at)) in
-      omega (arith, x, e, y, z)
-  rise i j less below (inr (inl a)) (inl b) = absurd (omega (arith, less, a, b))
-  rise i j less below (inr (inl a)) (inr (inl b)) = absurd (omega (arith, less, a, b))
-  rise i j less below (inr (inl a)) (inr (inr b)) =
-      let x : last_of new i ≡ last_of new bucket = ap (last_of new) a in
-      let at = b.1 in
-      let e : last_of new j ≡ last_of new (j - 1 + 1) = ap (last_of new) at in
-      let y = last_back (j - 1) b.0 in
-      let z = last_left (j - 1) b.0 (omega (arith, below, at)) in
-      omega (arith, x, last_at, e, y, z)
-  rise i j less below (inr (inr a)) (inl b) = absurd (let c = a.0 in omega (arith, less, b, c))
-  rise i j less below (inr (inr a)) (inr (inl b)) = absurd (let c = a.0 in omega (arith, less, b, c))
-  rise i j less below (inr (inr a)) (inr (inr b)) =
-      let at = a.1 in
-      let to = b.1 in
-      let d : last_of new i ≡ last_of new (i - 1 + 1) = ap (last_of new) at in
-      let e : last_of new j ≡ last_of new (j - 1 + 1) = ap (last_of new) to in
-      let x = last_back (i - 1) a.0 in
-      let y = last_back (j - 1) b.0 in
-      let z = s.rising (i - 1) (j - 1) (omega (arith, less, at, to)) (omega (arith, below, to)) in
-      omega (arith, d, e, x, y, z)
+  -- two of the old ones, and one before the new
+  nests : (i j : ℕ) → i < j → j < length (numbers_in old.lasts) → first_of new (lift bucket j) ≤ last_of new (lift bucket i) → first_of new (lift bucket j) ≤ first_of new (lift bucket i)
+  nests i j less below meets =
+      let x = first_is i (omega (arith, less, below)) in
+      let y = first_is j (omega (arith, below)) in
+      omega (arith, x, y, s.nested i j less below (omega (arith, meets, y, last_is i)))
 
-  subnet : (i : ℕ) → i < length (numbers_in old.lasts) + 1 → Where bucket i → IsSubnet (first_of new i) (last_of new i)
-  subnet i below (inl a) = subst (λ x. IsSubnet x (last_of new i)) (sym (first_front i a)) (subst (IsSubnet (first_of old i)) (sym (last_front i a)) (s.subnets i (omega (arith, a, inside))))
-  subnet i below (inr (inl a)) = subst (λ k. IsSubnet (first_of new k) (last_of new k)) (sym a) (subst (λ x. IsSubnet x (last_of new bucket)) (sym first_at) (subst (IsSubnet span.0) (sym last_at) own))
-  subnet i below (inr (inr a)) =
-      let at = a.1 in
-      let under : i - 1 < length (numbers_in old.lasts) = omega (arith, below, at) in
-      subst (λ k. IsSubnet (first_of new k) (last_of new k)) (sym at)
-      (subst (λ x. IsSubnet x (last_of new (i - 1 + 1))) (sym (first_back (i - 1) a.0 (omega (arith, under)))) (subst (IsSubnet (first_of old (i - 1))) (sym (last_back (i - 1) a.0)) (s.subnets (i - 1) under)))
+  leasts : (i j : ℕ) → i < j → j < length (numbers_in old.lasts) → lift bucket j < parent_of new (lift bucket i) → first_of new (lift bucket i) < first_of new (lift bucket j)
+  leasts i j less below under =
+      let early : i < length (numbers_in old.lasts) = omega (arith, less, below) in
+      omega (arith, first_is i (omega (arith, early)), first_is j (omega (arith, below)), s.least i j early less (short (parent_is i early))) where
+        short : Parent i → j < parent_of old i
+        short (inl p) = omega (arith, p.1, under, lift_least bucket j)
+        short (inr (inl p)) = in_order bucket j (parent_of old i) (omega (arith, p.2, under, lift_high bucket (parent_of old i) p.0))
+        short (inr (inr p)) = omega (arith, p.0, p.2, under, lift_least bucket j)
 
-  nest : (i j : ℕ) → i < j → j < length (numbers_in old.lasts) + 1 → first_of new j ≤ last_of new i → Where bucket i → Where bucket j → first_of new j ≤ first_of new i
-  nest i j less below meets (inl a) (inl b) =
-      let x = first_front i a in let y = first_front j b in let u = last_front i a in
-      let z = s.nested i j less (omega (arith, b, inside)) (omega (arith, meets, y, u)) in omega (arith, x, y, z)
-  nest i j less below meets (inl a) (inr (inl b)) =
-      let x = first_front i a in
-      let y : first_of new j ≡ first_of new bucket = ap (first_of new) b in
-      let u = last_front i a in
-      let z = first_passed i a (omega (arith, meets, y, first_at, u)) in
-      omega (arith, x, y, first_at, z)
-  nest i j less below meets (inl a) (inr (inr b)) =
-      let x = first_front i a in
-      let at = b.1 in
-      let e : first_of new j ≡ first_of new (j - 1 + 1) = ap (first_of new) at in
-      let y = first_back (j - 1) b.0 (omega (arith, below, at)) in
-      let u = last_front i a in
-      let z = s.nested i (j - 1) (let c = b.0 in omega (arith, a, c)) (omega (arith, below, at)) (omega (arith, meets, e, y, u)) in
-      omega (arith, x, e, y, z)
-  nest i j less below meets (inr (inl a)) (inl b) = absurd (omega (arith, less, a, b))
-  nest i j less below meets (inr (inl a)) (inr (inl b)) = absurd (omega (arith, less, a, b))
-  nest i j less below meets (inr (inl a)) (inr (inr b)) =
-      let x : first_of new i ≡ first_of new bucket = ap (first_of new) a in
-      let u : last_of new i ≡ last_of new bucket = ap (last_of new) a in
-      let at = b.1 in
-      let e : first_of new j ≡ first_of new (j - 1 + 1) = ap (first_of new) at in
-      let y = first_back (j - 1) b.0 (omega (arith, below, at)) in
-      let z = first_left (j - 1) b.0 (omega (arith, below, at)) (omega (arith, meets, e, y, u, last_at)) in
-      omega (arith, x, first_at, e, y, z)
-  nest i j less below meets (inr (inr a)) (inl b) = absurd (let c = a.0 in omega (arith, less, b, c))
-  nest i j less below meets (inr (inr a)) (inr (inl b)) = absurd (let c = a.0 in omega (arith, less, b, c))
-  nest i j less below meets (inr (inr a)) (inr (inr b)) =
-      let at = a.1 in
-      let to = b.1 in
-      let d : first_of new i ≡ first_of new (i - 1 + 1) = ap (first_of new) at in
-      let f : last_of new i ≡ last_of new (i - 1 + 1) = ap (last_of new) at in
-      let e : first_of new j ≡ first_of new (j - 1 + 1) = ap (first_of new) to in
-      let x = first_back (i - 1) a.0 (omega (arith, below, less, at)) in
-      let u = last_back (i - 1) a.0 in
-      let y = first_back (j - 1) b.0 (omega (arith, below, to)) in
-      let z = s.nested (i - 1) (j - 1) (omega (arith, less, at, to)) (omega (arith, below, to)) (omega (arith, meets, e, y, f, u)) in
-      omega (arith, d, e, x, y, z)
+  before : (i : ℕ) → i < bucket → bucket < parent_of new (lift bucket i) → first_of new (lift bucket i) < first_of new bucket
+  before i less under =
+      let early : i < length (numbers_in old.lasts) = omega (arith, less, inside) in
+      omega (arith, first_is i (omega (arith, early)), first_at, subnet_proper (first_of old i) (last_of old i) (s.subnets i early), o.apart i (at (parent_is i early))) where
+        at : Parent i → i < low
+        at (inl p) = absurd (omega (arith, p.0, p.1, under))
+        at (inr (inl p)) = elim p.1 [ inl early ↦ early | inr past ↦ absurd (omega (arith, less, past)) ]
+        at (inr (inr p)) = absurd (omega (arith, p.2, under))
 
-  least : (i j : ℕ) → i < length (numbers_in old.lasts) + 1 → i < j → j < parent_of new i → Where bucket i → Where bucket j → first_of new i < first_of new j
-  least i j below less under (inl a) w = at (parent_front i a) w where
-    early : i < length (numbers_in old.lasts)
-    early = omega (arith, a, inside)
-
-    x : first_of new i ≡ first_of old i
-    x = first_front i a
-
-    top : parent_of old i ≤ length (numbers_in old.lasts)
-    top = s.within i early
-
-    far : (j ≡ bucket) ⊎ ((bucket ≤ j - 1) × (j ≡ j - 1 + 1)) → j < bucket → ⊥
-    far (inl same) early = omega (arith, same, early)
-    far (inr b) early = let c = b.0 in omega (arith, c, early)
-
-    at : Parent i → Where bucket j → first_of new i < first_of new j
-    at p (inl b) =
-        let y = first_front j b in
-        let z = s.least i j early less (short p) in
-        omega (arith, x, y, z) where
-          short : Parent i → j < parent_of old i
-          short (inl q) = let e = q.1 in omega (arith, e, under)
-          short (inr (inl q)) = let over = q.0 in omega (arith, over, b)
-          short (inr (inr q)) = let over = q.0 in omega (arith, over, b)
-    at (inl q) (inr b) = absurd (let e = q.1 in let near = q.0 in far b (omega (arith, e, near, under)))
-    at (inr (inr q)) (inr b) = absurd (let e = q.1 in far b (omega (arith, e, under)))
-    at (inr (inl q)) (inr (inl b)) =
-        let y : first_of new j ≡ first_of new bucket = ap (first_of new) b in
-        let ends = o.apart i q.1 in
-        let own_first = subnet_proper (first_of old i) (last_of old i) (s.subnets i early) in
-        omega (arith, x, y, first_at, ends, own_first)
-    at (inr (inl q)) (inr (inr b)) =
-        let to = b.1 in
-        let e : first_of new j ≡ first_of new (j - 1 + 1) = ap (first_of new) to in
-        let p = q.2 in
-        let y = first_back (j - 1) b.0 (omega (arith, under, p, to, top)) in
-        let z = s.least i (j - 1) early (let c = b.0 in omega (arith, a, c)) (omega (arith, under, p, to)) in
-        omega (arith, x, e, y, z)
-  least i j below less under (inr (inl a)) (inl b) = absurd (omega (arith, less, a, b))
-  least i j below less under (inr (inl a)) (inr (inl b)) = absurd (omega (arith, less, a, b))
-  least i j below less under (inr (inl a)) (inr (inr b)) =
-      let x : first_of new i ≡ first_of new bucket = ap (first_of new) a in
-      let to = b.1 in
-      let e : first_of new j ≡ first_of new (j - 1 + 1) = ap (first_of new) to in
-      let p : parent_of new i ≡ parent_of new bucket = ap (parent_of new) a in
-      let top = o.over.1 in
-      let y = first_back (j - 1) b.0 (omega (arith, under, p, parent_at, to, top)) in
-      let z = o.least (j - 1) b.0 (omega (arith, under, p, parent_at, to)) in
-      omega (arith, x, first_at, e, y, z)
-  least i j below less under (inr (inr a)) (inl b) = absurd (let c = a.0 in omega (arith, less, b, c))
-  least i j below less under (inr (inr a)) (inr (inl b)) = absurd (let c = a.0 in omega (arith, less, b, c))
-  least i j below less under (inr (inr a)) (inr (inr b)) =
-      let at = a.1 in
-      let to = b.1 in
-      let early : i - 1 < length (numbers_in old.lasts) = omega (arith, below, at) in
-      let d : first_of new i ≡ first_of new (i - 1 + 1) = ap (first_of new) at in
-      let e : first_of new j ≡ first_of new (j - 1 + 1) = ap (first_of new) to in
-      let q : parent_of new i ≡ parent_of new (i - 1 + 1) = ap (parent_of new) at in
-      let p = parent_back (i - 1) a.0 early in
-      let top = s.within (i - 1) early in
-      let x = first_back (i - 1) a.0 (omega (arith, early)) in
-      let y = first_back (j - 1) b.0 (omega (arith, under, q, p, to, top)) in
-      let z = s.least (i - 1) (j - 1) early (omega (arith, less, at, to)) (omega (arith, under, q, p, to)) in
-      omega (arith, d, e, x, y, z)
-
-  start : (i j : ℕ) → i ≤ j → j ≤ length (numbers_in old.lasts) + 1 → Where bucket i → Where bucket j → start_of new i ≤ start_of new j
-  start i j le below (inl a) (inl b) = let x = start_front i a in let y = start_front j b in let z = s.starts i j le (omega (arith, b, inside)) in omega (arith, x, y, z)
-  start i j le below (inl a) (inr (inl b)) =
-      let x = start_front i a in
-      let y : start_of new j ≡ start_of new bucket = ap (start_of new) b in
-      let z = s.starts i bucket (omega (arith, a)) inside in
-      omega (arith, x, y, start_at, begin, z)
-  start i j le below (inl a) (inr (inr b)) =
-      let x = start_front i a in
-      let at = b.1 in
-      let e : start_of new j ≡ start_of new (j - 1 + 1) = ap (start_of new) at in
-      let y = start_back (j - 1) b.0 (omega (arith, below, at)) in
-      let z = s.starts i (j - 1) (let c = b.0 in omega (arith, a, c)) (omega (arith, below, at)) in
-      omega (arith, x, e, y, z)
-  start i j le below (inr (inl a)) (inl b) = absurd (omega (arith, le, a, b))
-  start i j le below (inr (inl a)) (inr (inl b)) = let same : i ≡ j = omega (arith, a, b) in let e : start_of new i ≡ start_of new j = ap (start_of new) same in omega (arith, e)
-  start i j le below (inr (inl a)) (inr (inr b)) =
-      let x : start_of new i ≡ start_of new bucket = ap (start_of new) a in
-      let at = b.1 in
-      let e : start_of new j ≡ start_of new (j - 1 + 1) = ap (start_of new) at in
-      let y = start_back (j - 1) b.0 (omega (arith, below, at)) in
-      let z = s.starts bucket (j - 1) b.0 (omega (arith, below, at)) in
-      omega (arith, x, start_at, begin, e, y, z)
-  start i j le below (inr (inr a)) (inl b) = absurd (let c = a.0 in let d = a.1 in omega (arith, le, b, c, d))
-  start i j le below (inr (inr a)) (inr (inl b)) = absurd (let c = a.0 in let d = a.1 in omega (arith, le, b, c, d))
-  start i j le below (inr (inr a)) (inr (inr b)) =
-      let at = a.1 in
-      let to = b.1 in
-      let d : start_of new i ≡ start_of new (i - 1 + 1) = ap (start_of new) at in
-      let e : start_of new j ≡ start_of new (j - 1 + 1) = ap (start_of new) to in
-      let x = start_back (i - 1) a.0 (omega (arith, below, le, at)) in
-      let y = start_back (j - 1) b.0 (omega (arith, below, to)) in
-      let z = s.starts (i - 1) (j - 1) (omega (arith, le, at, to)) (omega (arith, below, to)) in
-      omega (arith, d, e, x, y, z)
+  start : (i j : ℕ) → i ≤ j → j ≤ length (numbers_in old.lasts) + 1 → (i < j) ⊎ (j ≤ i) → start_of new i ≤ start_of new j
+  start i j le below (inl less) = two bucket (m + 1) (λ i j. start_of new i ≤ start_of new j) (omega (arith, inside))
+      (λ i j less below. omega (arith, start_is i (omega (arith, less, below)), start_is j (omega (arith, below)), s.starts i j (omega (arith, less)) (omega (arith, below))))
+      (λ i less. omega (arith, start_is i (omega (arith, less, inside)), start_at, begin, s.starts i bucket (omega (arith, less)) inside))
+      (λ j past below. omega (arith, start_is j (omega (arith, below)), start_at, begin, s.starts bucket j past (omega (arith, below)))) i j less (omega (arith, below))
+  start i j le below (inr past) = let same : i ≡ j = omega (arith, le, past) in subst (λ k. start_of new i ≤ start_of new k) same (omega arith)
 
   -- homes
-  place : (k : ℕ) → k < length new.homes.items → Place old new bucket from count k
-  place k inner = at (cases_lt k from) (cases_lt k (from + count)) where
-    size : length (replicate count bucket) ≡ count
-    size = length-replicate count bucket
+  here : (k : ℕ) → k < length new.homes.items → k < length old.homes.items
+  here k below = omega (arith, below, o.homes.size)
 
-    within : from ≤ length o.raised
-    within = omega (arith, from_in, raised_size)
+  home_is : (k : ℕ) → k < length old.homes.items → home_of new k ≡ lift bucket (home_of old k)
+  home_is k below = elim (cases_lt k from) [
+    | inl early ↦ o.homes.front k 0 early ∙ sym (lift_low bucket (home_of old k) (home_under old n bucket k s inside (omega (arith, early, begin))))
+    | inr late ↦ o.homes.done k 0 late below ∙ sym (lift_high bucket (home_of old k) (home_over old n bucket k s inside below (omega (arith, late, begin))))
+  ]
 
-    is : (i : ℕ) → home_of new i ≡ get_or (splice o.raised from from (replicate count bucket)) i 0
-    is i = ap (λ xs. get_or xs i 0) o.homes
+  end : (k : ℕ) → k < length old.homes.items → (home_of old k + 1 ≡ bucket) ⊎ ((home_of old k + 1 < bucket) ⊎ (bucket < home_of old k + 1)) → k < start_of new (home_of new k + 1)
+  end k below place = at place where
+    next : home_of new k + 1 ≡ lift bucket (home_of old k + 1) → k < start_of new (home_of new k + 1)
+    next is = let h = s.home k below in
+        let e : start_of new (home_of new k + 1) ≡ start_of old (home_of old k + 1) = ap (start_of new) is ∙ start_is (home_of old k + 1) (omega (arith, h)) in
+        omega (arith, e, s.ends k below)
 
-    at : (k < from) ⊎ (from ≤ k) → (k < from + count) ⊎ (from + count ≤ k) → Place old new bucket from count k
-    at (inl below) c = inl (below, is k ∙ at_front o.raised (replicate count bucket) from from k 0 within below ∙ o.raises.front k below)
-    at (inr above) (inl below) =
-        let same : from + (k - from) ≡ k = omega (arith, above) in
-        let among : k - from < length (replicate count bucket) = omega (arith, above, below, size) in
-        inr (inl (above, below, is k ∙ ap (λ i. get_or (splice o.raised from from (replicate count bucket)) i 0) (sym same) ∙ at_middle o.raised (replicate count bucket) from from (k - from) 0 within among ∙ get_or-replicate count (k - from) bucket 0 (omega (arith, above, below))))
-    at (inr above) (inr past) =
-        let same : from + length (replicate count bucket) + (k - count - from) ≡ k = omega (arith, past, size) in
-        let there : from + (k - count - from) ≡ k - count = omega (arith, past) in
-        inr (inr (
-          past,
-          is k ∙ ap (λ i. get_or (splice o.raised from from (replicate count bucket)) i 0) (sym same) ∙ at_back o.raised (replicate count bucket) from from (k - count - from) 0 within
-              ∙ ap (λ i. get_or o.raised i 0) there ∙ o.raises.done (k - count) (omega (arith, past)) (omega (arith, inner, homes, past)),
-        ))
-
-  earlier : (k : ℕ) → k < from → home_of old k < bucket
-  earlier k below = home_under old n bucket k s inside (omega (arith, below, begin))
-
-  there : (k : ℕ) → from + count ≤ k → k < length new.homes.items → k - count < length old.homes.items
-  there k past below = omega (arith, past, below, homes)
-
-  later : (k : ℕ) → from + count ≤ k → k < length new.homes.items → bucket ≤ home_of old (k - count)
-  later k past below = home_over old n bucket (k - count) s inside (there k past below) (omega (arith, past, begin))
-
-  home : (k : ℕ) → k < length new.homes.items → Place old new bucket from count k → home_of new k < length (numbers_in old.lasts) + 1
-  home k below (inl a) = let e = a.1 in let x = earlier k a.0 in omega (arith, e, x, inside)
-  home k below (inr (inl a)) = let e = a.2 in omega (arith, e, inside)
-  home k below (inr (inr a)) = let e : home_of new k ≡ home_of old (k - count) + 1 = a.1 in let x = s.home (k - count) (there k a.0 below) in omega (arith, e, x)
-
-  begins : (k : ℕ) → k < length new.homes.items → Place old new bucket from count k → start_of new (home_of new k) ≤ k
-  begins k below (inl a) =
-      let e : start_of new (home_of new k) ≡ start_of new (home_of old k) = ap (start_of new) a.1 in
-      let x = start_front (home_of old k) (earlier k a.0) in
-      let z = s.begins k (let b = a.0 in omega (arith, b, from_in)) in
-      omega (arith, e, x, z)
-  begins k below (inr (inl a)) =
-      let e : start_of new (home_of new k) ≡ start_of new bucket = ap (start_of new) a.2 in
-      let l = a.0 in
-      omega (arith, e, start_at, l)
-  begins k below (inr (inr a)) =
-      let e : start_of new (home_of new k) ≡ start_of new (home_of old (k - count) + 1) = ap (start_of new) a.1 in
-      let w = s.home (k - count) (there k a.0 below) in
-      let x = start_back (home_of old (k - count)) (later k a.0 below) (omega (arith, w)) in
-      let z : start_of old (home_of old (k - count)) ≤ k - count = s.begins (k - count) (there k a.0 below) in
-      let l = a.0 in
-      omega (arith, e, x, z, l)
-
-  end : (k : ℕ) → k < length new.homes.items → Place old new bucket from count k → k < start_of new (home_of new k + 1)
-  end k below (inl a) = at (cases_lt (home_of old k + 1) bucket) where
-    e : start_of new (home_of new k + 1) ≡ start_of new (home_of old k + 1)
-    e = ap (λ m. start_of new (m + 1)) a.1
-
-    at : (home_of old k + 1 < bucket) ⊎ (bucket ≤ home_of old k + 1) → k < start_of new (home_of new k + 1)
-    at (inl less) =
-        let x = start_front (home_of old k + 1) less in
-        let z = s.ends k (let b = a.0 in omega (arith, b, from_in)) in
-        omega (arith, e, x, z)
-    at (inr le) =
-        let h = earlier k a.0 in
-        let same : home_of old k + 1 ≡ bucket = omega (arith, le, h) in
-        let x : start_of new (home_of old k + 1) ≡ start_of new bucket = ap (start_of new) same in
-        let b = a.0 in
-        omega (arith, e, x, start_at, b)
-  end k below (inr (inl a)) =
-      let e : start_of new (home_of new k + 1) ≡ start_of new (bucket + 1) = ap (λ m. start_of new (m + 1)) a.2 in
-      let x = start_back bucket (omega arith) inside in
-      let l = a.1 in
-      omega (arith, e, x, begin, l)
-  end k below (inr (inr a)) =
-      let e : start_of new (home_of new k + 1) ≡ start_of new (home_of old (k - count) + 1 + 1) = ap (λ m. start_of new (m + 1)) a.1 in
-      let h = later k a.0 below in
-      let w = s.home (k - count) (there k a.0 below) in
-      let x = start_back (home_of old (k - count) + 1) (omega (arith, h)) (omega (arith, w)) in
-      let z : k - count < start_of old (home_of old (k - count) + 1) = s.ends (k - count) (there k a.0 below) in
-      let l = a.0 in
-      omega (arith, e, x, z, l)
-
-  -- the bucket of a rule
-  at_home : (k i : ℕ) → home_of new k ≡ i → ◌≡◌ {A = Option (ℕ × ℕ)} (Some (span_at new k)) (Some (bucket_span new i))
-  at_home k i e = ap (λ m. Some (bucket_span new m)) e
-
-  shift : (spans news : List (Option (ℕ × ℕ))) → length old.homes.items ≤ length spans → length news ≡ count → (k : ℕ) → from + count ≤ k → get_or (splice spans from from news) k None ≡ get_or spans (k - count) None
-  shift spans news whole size k past =
-      let is : from + length news + (k - count - from) ≡ k = omega (arith, past, size) in
-      let there : from + (k - count - from) ≡ k - count = omega (arith, past) in
-      ap (λ i. get_or (splice spans from from news) i None) (sym is) ∙ at_back spans news from from (k - count - from) None (omega (arith, from_in, whole)) ∙ ap (λ i. get_or spans i None) there
-
-  homed : (spans news : List (Option (ℕ × ℕ))) → AreHoused spans old → length old.homes.items ≤ length spans → AreTo (Some span) news → length news ≡ count
-      → (k : ℕ) → k < length new.homes.items → Place old new bucket from count k → get_or (splice spans from from news) k None ≡ Some (span_at new k)
-  homed spans news housed whole each size k below (inl a) =
-      let among : k < length old.homes.items = let b = a.0 in omega (arith, b, from_in) in
-      at_front spans news from from k None (omega (arith, from_in, whole)) a.0 ∙ housed.homed k among
-      ∙ sym (at_home k (home_of old k) a.1 ∙ ap₂ (λ (x y : ℕ). Some (x, y)) (first_front (home_of old k) (earlier k a.0)) (last_front (home_of old k) (earlier k a.0)))
-  homed spans news housed whole each size k below (inr (inl a)) =
-      let is : from + (k - from) ≡ k = let b = a.0 in omega (arith, b) in
-      let among : k - from < length news = let b = a.0 in let d = a.1 in omega (arith, b, d, size) in
-      ap (λ i. get_or (splice spans from from news) i None) (sym is) ∙ at_middle spans news from from (k - from) None (omega (arith, from_in, whole)) among ∙ each (k - from) among
-      ∙ sym (at_home k bucket a.2 ∙ ap₂ (λ (x y : ℕ). Some (x, y)) first_at last_at)
-  homed spans news housed whole each size k below (inr (inr a)) =
-      let w = s.home (k - count) (there k a.0 below) in
-      shift spans news whole size k a.0 ∙ housed.homed (k - count) (there k a.0 below)
-      ∙ sym (at_home k (home_of old (k - count) + 1) a.1 ∙ ap₂ (λ (x y : ℕ). Some (x, y)) (first_back (home_of old (k - count)) (later k a.0 below) (omega (arith, w))) (last_back (home_of old (k - count)) (later k a.0 below)))
+    at : (home_of old k + 1 ≡ bucket) ⊎ ((home_of old k + 1 < bucket) ⊎ (bucket < home_of old k + 1)) → k < start_of new (home_of new k + 1)
+    at (inl last) =
+        let e : start_of new (home_of new k + 1) ≡ start_of new bucket = ap (start_of new) (omega (arith, home_is k below, lift_low bucket (home_of old k) (omega (arith, last)), last)) in
+        let a : start_of old (home_of old k + 1) ≡ start_of old bucket = ap (start_of old) last in
+        omega (arith, e, a, start_at, begin, s.ends k below)
+    at (inr (inl less)) = next (omega (arith, home_is k below, lift_low bucket (home_of old k) (omega (arith, less)), lift_low bucket (home_of old k + 1) less))
+    at (inr (inr more)) = next (omega (arith, home_is k below, lift_high bucket (home_of old k) (omega (arith, more)), lift_high bucket (home_of old k + 1) (omega (arith, more))))

@@ -3,7 +3,8 @@ use Rattle.std.proofs.Common.{◌≡◌, ℕ, zero, suc, ◌+◌, ◌<◌, ◌�
 use Rattle.std.specs.List.{list_all}
 use Rattle.std.proofs.Math.Seq.{drop-cons}
 use Rattle.std.proofs.lemmas.List.{drop_all}
-use Rattle.fs_base.proofs.Bools.{and_first, and_second}
+use Rattle.std.proofs.Math.Bool.{and_assoc, and_comm}
+use Rattle.fs_base.proofs.Bools.{and_first, and_second, and_true}
 use Rattle.fs_base.specs.Bits.{afi_of}
 use Rattle.fs_nlri.specs.declared.component.Component.{Component}
 use Rattle.fs_nlri.specs.Component.{part_of, parts_of}
@@ -19,10 +20,10 @@ use Rattle.fs_compile.specs.Facts.{Facts, AreFacts, IsSmall, facts_of, number_of
 use Rattle.fs_compile.specs.Fast.{AreFree, AreTestsOf, IsPlaced, all_pass, facts_hold, fast_holds}
 use Rattle.fs_compile.specs.Ranges.{bounds_at, field_at, free_ranges, is_in_range, range_at, range_holds, ranges_hold, with_range}
 use Rattle.fs_compile.specs.Tests.{IsTestOf, passes, test_range}
-use Rattle.fs_compile.proofs.Truths.{and_assoc, and_flip, and_swap, and_true}
+use Rattle.fs_compile.proofs.Truths.{and_swap}
 
 first_of_four : (a b c d x : Bool) → d ≡ true → (x && (a && (b && c))) ≡ ((a && (b && (c && d))) && x)
-first_of_four a b c d x h = and_flip x (a && (b && c)) ∙ ap (λ (t : Bool). (a && (b && t)) && x) (sym (ap (λ (d : Bool). c && d) h ∙ and_true c))
+first_of_four a b c d x h = and_comm x (a && (b && c)) ∙ ap (λ (t : Bool). (a && (b && t)) && x) (sym (ap (λ (d : Bool). c && d) h ∙ and_true c))
 
 range_is : (facts : Facts) (test : Test) (range : Range) → test_range test ≡ Some range → passes facts test ≡ range_holds facts range
 range_is facts (Within inner) range h = let same : inner ≡ range = cc in ap (range_holds facts) same

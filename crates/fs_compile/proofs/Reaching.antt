@@ -3,6 +3,7 @@
 use Rattle.std.proofs.Common.{◌≡◌, ℕ, ◌-◌, ◌*◌, ◌^◌, ◌<◌, ◌≤◌, ◌==◌, ◌↔◌, refl, sym, ap, ap₂, subst, ◌∙◌, Bool, true, false, true≢false, cond, Option, Some, None, List, [], ◌∷◌, arith}
 use Rattle.std.specs.List.{list_all}
 use Rattle.std.proofs.lemmas.Bool.{eqb-true, eq-eqb}
+use Rattle.std.proofs.lemmas.Option.{none-some, same_Some}
 use Rattle.fs_base.proofs.Bools.{and_first, and_second}
 use Rattle.fs_base.specs.declared.prefix.Family.{Family}
 use Rattle.fs_base.specs.declared.prefix.Family.TheVariants.{V4, V6}
@@ -18,15 +19,10 @@ use Rattle.fs_nlri.proofs.Destination.{IsMade, destination_first, made_parts}
 use Rattle.fs_order.specs.Laws.{last_shown}
 use Rattle.fs_packet.specs.Fields.{Viewed, family_of}
 use Rattle.fs_packet.specs.Matching.{is_match, is_prefix_of, body_matches, part_matches}
+use Rattle.fs_rules.proofs.Elsewhere.{family_of_destination}
 use Rattle.fs_compile.specs.Facts.{IsSmallAddress}
 use Rattle.fs_compile.specs.Index.{span_by, span_of}
 use Rattle.fs_compile.specs.Reach.{number_of, covers_address, reaches}
-
-some_same : {X : Type 0} (x y : X) → Some x ≡ Some y → x ≡ y
-some_same x y e = cc
-
-none_some : {X : Type 0} (x : X) → None ≡ Some x → ⊥
-none_some x e = cc
 
 -- the addresses with the first bits of a destination are those from its first to its last
 destination_range : (d : Family × ℕ × ℕ) (n : ℕ) → IsMade (Some d) → n < 2 ^ width_of d.0
@@ -34,27 +30,6 @@ destination_range : (d : Family × ℕ × ℕ) (n : ℕ) → IsMade (Some d) →
 destination_range d n h below =
     let prefix : Prefix = record { family = d.0; bits = d.1; length = d.2; short = h.0; clear = h.1 } in
     address_range prefix n below
-
--- the destination is of the rule's family
-family_body : (family : Family) (body : Body) (d : Family × ℕ × ℕ) → IsNormalAt (form_of family 1) body → destination_body body ≡ Some d → d.0 ≡ family
-family_body V4 (V4Body f l b) d h e = sym (ap (λ (x : Family × ℕ × ℕ). x.0) (some_same (f, b, l) d e)) ∙ h.0
-family_body V4 (V6Body l o b) d h e = absurd h
-family_body V4 (ListBody pairs) d h e = absurd h
-family_body V6 (V6Body l o b) d h e = at (o == 0) e where
-  at : (c : Bool) → cond c (Some (V6, b, l)) None ≡ Some d → d.0 ≡ V6
-  at true g = sym (ap (λ (x : Family × ℕ × ℕ). x.0) (some_same (V6, b, l) d g))
-  at false g = absurd (none_some d g)
-family_body V6 (V4Body f l b) d h e = absurd h
-family_body V6 (ListBody pairs) d h e = absurd h
-
-pub family_of_destination : (rule : Ruled) (d : Family × ℕ × ℕ) → IsRule rule → destination_of rule ≡ Some d → d.0 ≡ rule.family
-family_of_destination rule d h e = in_parts rule.parts h.normal e where
-  in_parts : (parts : List Part) → AreNormal rule.family 0 parts → destination_in parts ≡ Some d → d.0 ≡ rule.family
-  in_parts [] n f = absurd (none_some d f)
-  in_parts (x ∷ xs) n f = at (x.kind == 1) refl (sym (destination_first rule.family x xs n) ∙ f) where
-    at : (c : Bool) → (x.kind == 1) ≡ c → cond c (destination_body x.body) None ≡ Some d → d.0 ≡ rule.family
-    at true k g = family_body rule.family x.body d (subst (λ i. IsNormalAt (form_of rule.family i) x.body) (eqb-true x.kind 1 k) n.1) g
-    at false k g = absurd (none_some d g)
 
 pub made_destination : (rule : Ruled) (d : Family × ℕ × ℕ) → IsRule rule → destination_of rule ≡ Some d → IsMade (Some d)
 made_destination rule d h e = subst IsMade e (made_parts rule.family rule.parts h.normal)
@@ -72,51 +47,37 @@ pub record HasDestination (rule : Ruled) (p : ℕ × ℕ) : Type 0 where
 pub from_span : (rule : Ruled) (p : ℕ × ℕ) → span_of rule ≡ Some p → HasDestination rule p
 from_span rule p s = at (destination_of rule) refl s where
   at : (o : Option (Family × ℕ × ℕ)) → destination_of rule ≡ o → span_by o ≡ Some p → HasDestination rule p
-  at None e g = absurd (none_some p g)
-  at (Some d) e g = record { d = d; is = e; span = sym (some_same (d.1, last_shown d) p g) }
+  at None e g = absurd (none-some p g)
+  at (Some d) e g = record { d = d; is = e; span = sym (same_Some (d.1, last_shown d) p g) }
 
--- Whether a rule with a destination reaches a packet of its family.
+-- A rule with a destination reaches those packets of its family whose destination is one of its addresses.
 pub span_reaches : (rule : Ruled) (view : Viewed) (p : ℕ × ℕ) → IsRule rule → rule.family ≡ view.family → family_of view.destination ≡ view.family → IsSmallAddress view.destination
-    → span_of rule ≡ Some p → p.0 ≤ number_of view.destination → number_of view.destination ≤ p.1 → reaches view rule ≡ true
-span_reaches rule view p h f g small s low high =
-    ap (λ o. covers_address o view.destination) found.is ∙ eq-eqb (cleared (width_of found.d.0) found.d.2 (number_of view.destination)) found.d.1 (range.1 (low_is, high_is)) where
-      found : HasDestination rule p
-      found = from_span rule p s
+    → span_of rule ≡ Some p → (reaches view rule ≡ true) ↔ ((p.0 ≤ number_of view.destination) × (number_of view.destination ≤ p.1))
+span_reaches rule view p h f g small s = (
+  (λ r. subst (λ (x : ℕ × ℕ). (x.0 ≤ n) × (n ≤ x.1)) (sym found.span) (range.0 (eqb-true (cleared (width_of found.d.0) found.d.2 n) found.d.1 (sym is ∙ r)))),
+  (λ r. is ∙ eq-eqb (cleared (width_of found.d.0) found.d.2 n) found.d.1 (range.1 (subst (λ (x : ℕ × ℕ). (x.0 ≤ n) × (n ≤ x.1)) found.span r))),
+) where
+  n : ℕ
+  n = number_of view.destination
 
-      same : family_of view.destination ≡ found.d.0
-      same = g ∙ sym f ∙ sym (family_of_destination rule found.d h found.is)
+  found : HasDestination rule p
+  found = from_span rule p s
 
-      range : (cleared (width_of found.d.0) found.d.2 (number_of view.destination) ≡ found.d.1) ↔ ((found.d.1 ≤ number_of view.destination) × (number_of view.destination ≤ last_shown found.d))
-      range = destination_range found.d (number_of view.destination) (made_destination rule found.d h found.is) (subst (λ x. number_of view.destination < 2 ^ width_of x) same (number_below view.destination small))
+  is : reaches view rule ≡ (cleared (width_of found.d.0) found.d.2 n == found.d.1)
+  is = ap (λ o. covers_address o view.destination) found.is
 
-      low_is : found.d.1 ≤ number_of view.destination
-      low_is = subst (λ (x : ℕ × ℕ). x.0 ≤ number_of view.destination) found.span low
+  same : family_of view.destination ≡ found.d.0
+  same = g ∙ sym f ∙ sym (family_of_destination rule found.d h found.is)
 
-      high_is : number_of view.destination ≤ last_shown found.d
-      high_is = subst (λ (x : ℕ × ℕ). number_of view.destination ≤ x.1) found.span high
-
-pub reaches_span : (rule : Ruled) (view : Viewed) (p : ℕ × ℕ) → IsRule rule → rule.family ≡ view.family → family_of view.destination ≡ view.family → IsSmallAddress view.destination
-    → span_of rule ≡ Some p → reaches view rule ≡ true → (p.0 ≤ number_of view.destination) × (number_of view.destination ≤ p.1)
-reaches_span rule view p h f g small s r =
-    subst (λ (x : ℕ × ℕ). (x.0 ≤ number_of view.destination) × (number_of view.destination ≤ x.1)) (sym found.span) (range.0 bits) where
-      found : HasDestination rule p
-      found = from_span rule p s
-
-      same : family_of view.destination ≡ found.d.0
-      same = g ∙ sym f ∙ sym (family_of_destination rule found.d h found.is)
-
-      range : (cleared (width_of found.d.0) found.d.2 (number_of view.destination) ≡ found.d.1) ↔ ((found.d.1 ≤ number_of view.destination) × (number_of view.destination ≤ last_shown found.d))
-      range = destination_range found.d (number_of view.destination) (made_destination rule found.d h found.is) (subst (λ x. number_of view.destination < 2 ^ width_of x) same (number_below view.destination small))
-
-      bits : cleared (width_of found.d.0) found.d.2 (number_of view.destination) ≡ found.d.1
-      bits = eqb-true (cleared (width_of found.d.0) found.d.2 (number_of view.destination)) found.d.1 (sym (ap (λ o. covers_address o view.destination) found.is) ∙ r)
+  range : (cleared (width_of found.d.0) found.d.2 n ≡ found.d.1) ↔ ((found.d.1 ≤ n) × (n ≤ last_shown found.d))
+  range = destination_range found.d n (made_destination rule found.d h found.is) (subst (λ x. n < 2 ^ width_of x) same (number_below view.destination small))
 
 -- a rule without a destination reaches each packet
 pub bare_reaches : (rule : Ruled) (view : Viewed) → span_of rule ≡ None → reaches view rule ≡ true
 bare_reaches rule view s = at (destination_of rule) s where
   at : (o : Option (Family × ℕ × ℕ)) → span_by o ≡ None → covers_address o view.destination ≡ true
   at None e = refl
-  at (Some d) e = absurd (none_some (d.1, last_shown d) (sym e))
+  at (Some d) e = absurd (none-some (d.1, last_shown d) (sym e))
 
 -- A rule matches only packets that it reaches.
 match_body : (family : Family) (body : Body) (address : Address) → IsNormalAt (form_of family 1) body → is_prefix_of body address ≡ true → covers_address (destination_body body) address ≡ true

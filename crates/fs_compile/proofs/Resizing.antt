@@ -6,24 +6,17 @@ use Rattle.std.proofs.lemmas.List.{get_or-replicate, get_or_default, length-repl
 use Rattle.fs_compile.specs.declared.buckets.Buckets.{Buckets}
 use Rattle.fs_compile.specs.declared.nodes.Node.{Node}
 use Rattle.fs_compile.specs.Addresses.{numbers_in, nodes_in}
-use Rattle.fs_compile.specs.Buckets.{AreAbove, AreShifted, IsSubnet, moved, node_at}
+use Rattle.fs_compile.specs.Buckets.{AreAbove, AreChanged, IsSubnet, moved, node_at}
 use Rattle.fs_compile.specs.Index.{AreHoused, span_at}
-use Rattle.fs_compile.specs.Mending.{AreTo, IsHolder}
+use Rattle.fs_compile.specs.Mending.{AreBucketsOf, AreTo, IsHolder}
 use Rattle.fs_compile.specs.Search.{AreSound}
-use Rattle.fs_compile.proofs.Splicing.{at_back, at_front, at_middle, spliced_size}
-use Rattle.fs_compile.proofs.Stretching.{home_of, home_over, home_under, start_of}
-
--- the starts of the nodes from one place on before another are moved
-pub record AreMoved {K : Type 0} (from to down up : ℕ) (old new : List (Node K)) : Type 0 where
-  pub size : length new ≡ length old
-  pub front : (k : ℕ) (d : Node K) → k < from → get_or new k d ≡ get_or old k d
-  pub done : (k : ℕ) (d : Node K) → from ≤ k → k < to → get_or new k d ≡ moved down up (get_or old k d)
-  pub rest : (k : ℕ) (d : Node K) → to ≤ k → get_or new k d ≡ get_or old k d
+use Rattle.fs_compile.proofs.Splicing.{Part, at_back, at_front, at_middle, part_at, spliced_size}
+use Rattle.fs_compile.proofs.Stretching.{first_of, home_of, home_over, home_under, none, start_of}
 
 -- the first buckets with so many rules in one of them, which are those from one number on before another in the other
 pub record AreResized (old new : Buckets) (bucket from to count : ℕ) : Type 0 where
   pub lasts : numbers_in new.lasts ≡ numbers_in old.lasts
-  pub nodes : AreShifted (bucket + 1) (to - from) count (nodes_in old.nodes) (nodes_in new.nodes)
+  pub nodes : AreChanged (bucket + 1) (length (nodes_in old.nodes)) (λ k. moved (to - from) count) (nodes_in old.nodes) (nodes_in new.nodes)
   pub homes : new.homes.items ≡ splice old.homes.items from to (replicate count bucket)
 
 -- the bucket's rules are some of the rules
@@ -34,54 +27,23 @@ bounds old n bucket from to span s h =
     (let x = h.start in let y = h.end in omega (arith, a, x, y), let y = h.end in let z = s.tail in omega (arith, b, y, z))
 
 -- where a rule's home comes from
-abbrev pub Place : (old new : Buckets) (bucket from to count k : ℕ) → Type 0
-Place old new bucket from to count k =
-    ((k < from) × (home_of new k ≡ home_of old k))
-    ⊎ (((from ≤ k) × (k < from + count) × (home_of new k ≡ bucket))
-    ⊎ ((from + count ≤ k) × (home_of new k ≡ home_of old (to + (k - (from + count))))))
-
-place_at : (old new : Buckets) (bucket from to count : ℕ) (k : ℕ) → AreResized old new bucket from to count → from ≤ length old.homes.items → Place old new bucket from to count k
-place_at old new bucket from to count k r within = at (cases_lt k from) (cases_lt k (from + count)) where
-  size : length (replicate count bucket) ≡ count
-  size = length-replicate count bucket
-
-  is : (i : ℕ) → home_of new i ≡ get_or (splice old.homes.items from to (replicate count bucket)) i 0
-  is i = ap (λ xs. get_or xs i 0) r.homes
-
-  at : (k < from) ⊎ (from ≤ k) → (k < from + count) ⊎ (from + count ≤ k) → Place old new bucket from to count k
-  at (inl below) c = inl (below, is k ∙ at_front old.homes.items (replicate count bucket) from to k 0 within below)
-  at (inr above) (inl below) =
-      let same : from + (k - from) ≡ k = omega (arith, above) in
-      let inside : k - from < length (replicate count bucket) = omega (arith, above, below, size) in
-      inr (inl (above, below, is k ∙ ap (λ i. get_or (splice old.homes.items from to (replicate count bucket)) i 0) (sym same) ∙ at_middle old.homes.items (replicate count bucket) from to (k - from) 0 within inside ∙ get_or-replicate count (k - from) bucket 0 (omega (arith, above, below))))
-  at (inr above) (inr past) =
-      let same : from + length (replicate count bucket) + (k - (from + count)) ≡ k = omega (arith, past, size) in
-      inr (inr (past, is k ∙ ap (λ i. get_or (splice old.homes.items from to (replicate count bucket)) i 0) (sym same) ∙ at_back old.homes.items (replicate count bucket) from to (k - (from + count)) 0 within))
+abbrev Place : (old new : Buckets) (bucket from to count k : ℕ) → Type 0
+Place old new bucket from to count k = Part old.homes.items new.homes.items bucket 0 from to count k
 
 -- the nodes keep their addresses and parents
-abbrev none : Node ℕ
-none = record { first = 0; start = 0; parent = 0 }
-
-first_is : (old new : Buckets) (bucket from to count i : ℕ) → AreResized old new bucket from to count → i < length (nodes_in old.nodes)
-    → (node_at (nodes_in new.nodes) i).first ≡ (node_at (nodes_in old.nodes) i).first
-first_is old new bucket from to count i r below = at (cases_lt i (bucket + 1)) where
-  at : (i < bucket + 1) ⊎ (bucket + 1 ≤ i) → (node_at (nodes_in new.nodes) i).first ≡ (node_at (nodes_in old.nodes) i).first
-  at (inl early) = ap (λ (x : Node ℕ). x.first) (r.nodes.front i none early)
-  at (inr late) = ap (λ (x : Node ℕ). x.first) (r.nodes.back i none late below)
-
-parent_is : (old new : Buckets) (bucket from to count i : ℕ) → AreResized old new bucket from to count → i < length (nodes_in old.nodes)
-    → (node_at (nodes_in new.nodes) i).parent ≡ (node_at (nodes_in old.nodes) i).parent
-parent_is old new bucket from to count i r below = at (cases_lt i (bucket + 1)) where
-  at : (i < bucket + 1) ⊎ (bucket + 1 ≤ i) → (node_at (nodes_in new.nodes) i).parent ≡ (node_at (nodes_in old.nodes) i).parent
-  at (inl early) = ap (λ (x : Node ℕ). x.parent) (r.nodes.front i none early)
-  at (inr late) = ap (λ (x : Node ℕ). x.parent) (r.nodes.back i none late below)
+node_is : (old new : Buckets) (bucket from to count i : ℕ) → AreResized old new bucket from to count → i < length (nodes_in old.nodes)
+    → (first_of new i ≡ first_of old i) × ((node_at (nodes_in new.nodes) i).parent ≡ (node_at (nodes_in old.nodes) i).parent)
+node_is old new bucket from to count i r below = elim (cases_lt i (bucket + 1)) [
+  | inl early ↦ (ap (λ (x : Node ℕ). x.first) (r.nodes.front i none early), ap (λ (x : Node ℕ). x.parent) (r.nodes.front i none early))
+  | inr late ↦ (ap (λ (x : Node ℕ). x.first) (r.nodes.done i none late below), ap (λ (x : Node ℕ). x.parent) (r.nodes.done i none late below))
+]
 
 start_front : (old new : Buckets) (bucket from to count i : ℕ) → AreResized old new bucket from to count → i < bucket + 1 → start_of new i ≡ start_of old i
 start_front old new bucket from to count i r early = ap (λ (x : Node ℕ). x.start) (r.nodes.front i none early)
 
 start_back : (old new : Buckets) (bucket from to count i : ℕ) → AreResized old new bucket from to count → bucket + 1 ≤ i → i < length (nodes_in old.nodes)
     → start_of new i ≡ start_of old i - (to - from) + count
-start_back old new bucket from to count i r late below = ap (λ (x : Node ℕ). x.start) (r.nodes.back i none late below)
+start_back old new bucket from to count i r late below = ap (λ (x : Node ℕ). x.start) (r.nodes.done i none late below)
 
 -- the starts behind the bucket can be moved
 pub shift_fits : (old : Buckets) (n bucket from to count : ℕ) (span : ℕ × ℕ) → AreSound old n → IsHolder old bucket span from to → from + count + length old.homes.items < 2 ^ 32 + to → AreAbove (bucket + 1) (to - from) count (nodes_in old.nodes)
@@ -106,39 +68,42 @@ shift_fits old n bucket from to count span s h fits k d above below =
       ordered : from ≤ to
       ordered = (bounds old n bucket from to span s h).0
 
--- They are buckets of the rules.
-pub sound_resized : (old new : Buckets) (n most bucket from to count : ℕ) (span : ℕ × ℕ) → AreSound old n → IsHolder old bucket span from to → AreResized old new bucket from to count
-    → from + count + length old.homes.items ≤ most + to → AreSound new most
-sound_resized old new n most bucket from to count span s h r fits = record {
-  size = let a = r.nodes.size in let b = s.size in omega (arith, a, b, lasts);
-  rising = λ i j less below. subst (λ xs. get_or xs i 0 ≤ get_or xs j 0) (sym r.lasts) (s.rising i j less (down below));
-  subnets = λ i below.
-      subst (λ x. IsSubnet x (get_or (numbers_in new.lasts) i 0)) (sym (first_is old new bucket from to count i r (inside i (omega (arith, below, lasts)))))
-      (subst (λ xs. IsSubnet (node_at (nodes_in old.nodes) i).first (get_or xs i 0)) (sym r.lasts) (s.subnets i (down below)));
-  nested = λ i j less below meets.
-      let a = first_is old new bucket from to count i r (inside i (omega (arith, less, below, lasts))) in
-      let b = first_is old new bucket from to count j r (inside j (omega (arith, below, lasts))) in
-      let m : (node_at (nodes_in new.nodes) j).first ≤ get_or (numbers_in old.lasts) i 0 = subst (λ xs. (node_at (nodes_in new.nodes) j).first ≤ get_or xs i 0) r.lasts meets in
-      let c = s.nested i j less (down below) (omega (arith, m, b)) in
-      omega (arith, a, b, c);
-  after = λ i below. let a = parent_is old new bucket from to count i r (inside i (omega (arith, below, lasts))) in let b = s.after i (down below) in omega (arith, a, b);
-  within = λ i below. let a = parent_is old new bucket from to count i r (inside i (omega (arith, below, lasts))) in let b = s.within i (down below) in omega (arith, a, b, lasts);
-  least = λ i j below less under.
-      let a = first_is old new bucket from to count i r (inside i (omega (arith, below, lasts))) in
-      let p = parent_is old new bucket from to count i r (inside i (omega (arith, below, lasts))) in
-      let w = s.within i (down below) in
-      let b = first_is old new bucket from to count j r (inside j (omega (arith, under, p, w))) in
-      let c = s.least i j (down below) less (omega (arith, under, p)) in
-      omega (arith, a, b, c);
-  starts = λ i j le below. start i j le (omega (arith, below, lasts)) (cases_lt i (bucket + 1)) (cases_lt j (bucket + 1));
-  tail = let a : start_of new (length (numbers_in new.lasts)) ≡ start_of new (length (numbers_in old.lasts)) = ap (start_of new) lasts in
-      let b = start_back old new bucket from to count (length (numbers_in old.lasts)) r (let w = h.within in omega (arith, w)) (inside (length (numbers_in old.lasts)) (omega arith)) in
-      let t : start_of old (length (numbers_in old.lasts)) ≡ length old.homes.items = s.tail in
-      omega (arith, a, b, t, homes, ordered, ends);
-  few = omega (arith, homes, fits);
-  home = λ k below. subst (λ m. home_of new k < m) (sym lasts) (home k below (place k));
-  begins = λ k below. begins k below (place k);
-  ends = λ k below. end k below (place k);
+-- They are buckets of the rules with those put there.
+pub resizes : (old new : Buckets) (n most bucket from to count : ℕ) (span : ℕ × ℕ) (spans news : List (Option (ℕ × ℕ))) → AreSound old n → IsHolder old bucket span from to → AreResized old new bucket from to count
+    → from + count + length old.homes.items ≤ most + to → AreHoused spans old → length old.homes.items ≤ length spans → AreTo (Some span) news → length news ≡ count → AreBucketsOf (splice spans from to news) new most
+resizes old new n most bucket from to count span spans news s h r fits housed whole each size = record {
+  sound = record {
+    size = let a = r.nodes.size in let b = s.size in omega (arith, a, b, lasts);
+    rising = λ i j less below. subst (λ xs. get_or xs i 0 ≤ get_or xs j 0) (sym r.lasts) (s.rising i j less (down below));
+    subnets = λ i below.
+        subst (λ x. IsSubnet x (get_or (numbers_in new.lasts) i 0)) (sym ((node_is old new bucket from to count i r (inside i (omega (arith, below, lasts)))).0))
+        (subst (λ xs. IsSubnet (node_at (nodes_in old.nodes) i).first (get_or xs i 0)) (sym r.lasts) (s.subnets i (down below)));
+    nested = λ i j less below meets.
+        let a = (node_is old new bucket from to count i r (inside i (omega (arith, less, below, lasts)))).0 in
+        let b = (node_is old new bucket from to count j r (inside j (omega (arith, below, lasts)))).0 in
+        let m : (node_at (nodes_in new.nodes) j).first ≤ get_or (numbers_in old.lasts) i 0 = subst (λ xs. (node_at (nodes_in new.nodes) j).first ≤ get_or xs i 0) r.lasts meets in
+        let c = s.nested i j less (down below) (omega (arith, m, b)) in
+        omega (arith, a, b, c);
+    after = λ i below. let a = (node_is old new bucket from to count i r (inside i (omega (arith, below, lasts)))).1 in let b = s.after i (down below) in omega (arith, a, b);
+    within = λ i below. let a = (node_is old new bucket from to count i r (inside i (omega (arith, below, lasts)))).1 in let b = s.within i (down below) in omega (arith, a, b, lasts);
+    least = λ i j below less under.
+        let a = (node_is old new bucket from to count i r (inside i (omega (arith, below, lasts)))).0 in
+        let p = (node_is old new bucket from to count i r (inside i (omega (arith, below, lasts)))).1 in
+        let w = s.within i (down below) in
+        let b = (node_is old new bucket from to count j r (inside j (omega (arith, under, p, w)))).0 in
+        let c = s.least i j (down below) less (omega (arith, under, p)) in
+        omega (arith, a, b, c);
+    starts = λ i j le below. start i j le (omega (arith, below, lasts)) (cases_lt i (bucket + 1)) (cases_lt j (bucket + 1));
+    tail = let a : start_of new (length (numbers_in new.lasts)) ≡ start_of new (length (numbers_in old.lasts)) = ap (start_of new) lasts in
+        let b = start_back old new bucket from to count (length (numbers_in old.lasts)) r (let w = h.within in omega (arith, w)) (inside (length (numbers_in old.lasts)) (omega arith)) in
+        let t : start_of old (length (numbers_in old.lasts)) ≡ length old.homes.items = s.tail in
+        omega (arith, a, b, t, homes, ordered, ends);
+    few = omega (arith, homes, fits);
+    home = λ k below. subst (λ m. home_of new k < m) (sym lasts) (home k below (place k));
+    begins = λ k below. begins k below (place k);
+    ends = λ k below. end k below (place k);
+  };
+  housed = record { homed = λ k below. homed k below (place k); bare = λ k past. bare k past };
 } where
   lasts : length (numbers_in new.lasts) ≡ length (numbers_in old.lasts)
   lasts = ap length r.lasts
@@ -159,7 +124,7 @@ sound_resized old new n most bucket from to count span s h r fits = record {
   inside i le = let a = s.size in omega (arith, le, a)
 
   place : (k : ℕ) → Place old new bucket from to count k
-  place k = place_at old new bucket from to count k r (omega (arith, ordered, ends))
+  place k = part_at old.homes.items (replicate count bucket) new.homes.items bucket 0 from to count k (omega (arith, ordered, ends)) r.homes (length-replicate count bucket) (λ i below. get_or-replicate count i bucket 0 (omega (arith, below, length-replicate count bucket)))
 
   start : (i j : ℕ) → i ≤ j → j ≤ length (numbers_in old.lasts) → (i < bucket + 1) ⊎ (bucket + 1 ≤ i) → (j < bucket + 1) ⊎ (bucket + 1 ≤ j) → start_of new i ≤ start_of new j
   start i j le below (inl a) (inl b) =
@@ -245,57 +210,30 @@ sound_resized old new n most bucket from to count span s h r fits = record {
       let l = a.0 in
       omega (arith, e, y, z, l, ordered)
 
--- They house the rules with those put there.
-pub housed_resized : (old new : Buckets) (n bucket from to count : ℕ) (span : ℕ × ℕ) (spans news : List (Option (ℕ × ℕ))) → AreSound old n → IsHolder old bucket span from to
-    → AreResized old new bucket from to count → AreHoused spans old → length old.homes.items ≤ length spans → AreTo (Some span) news → length news ≡ count → AreHoused (splice spans from to news) new
-housed_resized old new n bucket from to count span spans news s h r housed whole each size = record {
-  homed = λ k below. homed k below (place k);
-  bare = λ k past. bare k past;
-} where
-  ordered : from ≤ to
-  ordered = (bounds old n bucket from to span s h).0
-
-  ends : to ≤ length old.homes.items
-  ends = (bounds old n bucket from to span s h).1
-
-  start : from ≤ length spans
-  start = omega (arith, ordered, ends, whole)
-
-  homes : length new.homes.items + to ≡ from + count + length old.homes.items
-  homes = let a = spliced_size old.homes.items (replicate count bucket) from to ordered ends in let b : length new.homes.items ≡ length (splice old.homes.items from to (replicate count bucket)) = ap length r.homes in let c = length-replicate count bucket in omega (arith, a, b, c)
-
-  place : (k : ℕ) → Place old new bucket from to count k
-  place k = place_at old new bucket from to count k r (omega (arith, ordered, ends))
-
-  behind : ℕ → ℕ
-  behind k = to + (k - (from + count))
+  begin : from ≤ length spans
+  begin = omega (arith, ordered, ends, whole)
 
   -- the bucket of a rule has the addresses that it had
   same : (k i : ℕ) → home_of new k ≡ i → i < length (numbers_in old.lasts)
       → ◌≡◌ {A = Option (ℕ × ℕ)} (Some (span_at new k)) (Some ((node_at (nodes_in old.nodes) i).first, get_or (numbers_in old.lasts) i 0))
   same k i e below = ap₂ (λ (x y : ℕ). Some (x, y))
-      (ap (λ m. (node_at (nodes_in new.nodes) m).first) e ∙ first_is old new bucket from to count i r (let a = s.size in omega (arith, below, a)))
+      (ap (λ m. (node_at (nodes_in new.nodes) m).first) e ∙ (node_is old new bucket from to count i r (omega (arith, below, s.size))).0)
       (ap₂ (λ (xs : List ℕ) (m : ℕ). get_or xs m 0) r.lasts e)
 
   shift : (k : ℕ) → from + count ≤ k → get_or (splice spans from to news) k None ≡ get_or spans (behind k) None
-  shift k past =
-      let is : from + length news + (k - (from + count)) ≡ k = omega (arith, past, size) in
-      ap (λ i. get_or (splice spans from to news) i None) (sym is) ∙ at_back spans news from to (k - (from + count)) None start
+  shift k past = at_back spans news from to k (behind k) None begin (omega arith) (omega (arith, past, size))
 
   homed : (k : ℕ) → k < length new.homes.items → Place old new bucket from to count k → get_or (splice spans from to news) k None ≡ Some (span_at new k)
   homed k below (inl a) =
-      let inside : k < length old.homes.items = let b = a.0 in omega (arith, b, ordered, ends) in
-      at_front spans news from to k None start a.0 ∙ housed.homed k inside ∙ sym (same k (home_of old k) a.1 (s.home k inside))
+      let inside : k < length old.homes.items = omega (arith, a.0, ordered, ends) in
+      at_front spans news from to k None begin a.0 ∙ housed.homed k inside ∙ sym (same k (home_of old k) a.1 (s.home k inside))
   homed k below (inr (inl a)) =
-      let is : from + (k - from) ≡ k = let b = a.0 in omega (arith, b) in
-      let inside : k - from < length news = let b = a.0 in let d = a.1 in omega (arith, b, d, size) in
-      ap (λ i. get_or (splice spans from to news) i None) (sym is) ∙ at_middle spans news from to (k - from) None start inside ∙ each (k - from) inside
+      let inside : k - from < length news = omega (arith, a.0, a.1, size) in
+      at_middle spans news from to k (k - from) None begin (omega (arith, a.0)) inside ∙ each (k - from) inside
       ∙ sym (same k bucket a.2 h.within ∙ ap₂ (λ (x y : ℕ). Some (x, y)) h.first h.last)
   homed k below (inr (inr a)) =
-      let inside : behind k < length old.homes.items = let b = a.0 in omega (arith, b, below, homes, ordered, ends) in
+      let inside : behind k < length old.homes.items = omega (arith, a.0, below, homes, ordered, ends) in
       shift k a.0 ∙ housed.homed (behind k) inside ∙ sym (same k (home_of old (behind k)) a.1 (s.home (behind k) inside))
 
   bare : (k : ℕ) → length new.homes.items ≤ k → get_or (splice spans from to news) k None ≡ None
-  bare k past =
-      let above : from + count ≤ k = omega (arith, past, homes, ends) in
-      shift k above ∙ housed.bare (behind k) (omega (arith, past, homes, ordered, ends))
+  bare k past = shift k (omega (arith, past, homes, ends)) ∙ housed.bare (behind k) (omega (arith, past, homes, ordered, ends))

@@ -5,21 +5,21 @@ use Rattle.std.specs.Cmp.{nat_cmp_is}
 use Rattle.std.specs.Ordering.{is_gt, is_lt, ordering_then}
 use Rattle.std.proofs.lemmas.Bool.{cases_lt, cases_order}
 use Rattle.std.proofs.lemmas.List.{get_or_past, length-map}
+use Rattle.std.proofs.lemmas.Option.{none-some}
 use Rattle.fs_base.specs.declared.prefix.Family.{Family}
 use Rattle.fs_rules.specs.Lent.{Listed}
 use Rattle.fs_compile.specs.declared.buckets.Buckets.{Buckets}
+use Rattle.fs_compile.specs.declared.nodes.Node.{Node}
 use Rattle.fs_compile.specs.Addresses.{numbers_in, nodes_in}
 use Rattle.fs_compile.specs.Buckets.{node_at}
 use Rattle.fs_compile.specs.Index.{AreHoused, IsOfFamily, span_at, span_of, spans_of}
-use Rattle.fs_compile.specs.Mending.{AreTo, IsLeft, IsPassed, IsStretch, Mends, bucket_span, place_by, replaced, span_cmp}
+use Rattle.fs_compile.specs.Mending.{AreTo, IsLeft, IsPassed, IsStretch, Mends, Passes, bucket_span, place_by, replaced, span_cmp}
 use Rattle.fs_compile.specs.Runs.{AreNesting}
 use Rattle.fs_compile.specs.Search.{AreSound}
-use Rattle.fs_compile.proofs.Nesting.{Fits, span_proper, spans_fit}
+use Rattle.fs_compile.proofs.Climbing.{home_before, home_from}
+use Rattle.fs_compile.proofs.Nesting.{Fits, Follows, follows_none, nesting_from, span_proper, spans_fit}
 use Rattle.fs_compile.proofs.Subnets.{subnet_proper}
-use Rattle.fs_compile.proofs.Splicing.{ArePlaced, at_back, at_front, at_middle, filter_back, filter_front, map_spliced}
-
-pub none_some : {X : Type 0} (x : X) → None ≡ Some x → ⊥
-none_some x e = absurd cc
+use Rattle.fs_compile.proofs.Splicing.{ArePlaced, Part, at_back, at_front, at_middle, filter_back, filter_front, map_spliced, part_at}
 
 -- one destination stands before another
 abbrev pub Before : ℕ × ℕ → ℕ × ℕ → Type 0
@@ -76,17 +76,6 @@ behind_of p q e = at (three p q) where
   at (inr (inl s)) = absurd (equal_greater (sym (of_same p q s.0 s.1) ∙ e))
   at (inr (inr b)) = b
 
--- One behind the other, of which any may have no destination.
-abbrev pub Follows : Option (ℕ × ℕ) → Option (ℕ × ℕ) → Type 0
-Follows None None = Unit {0}
-Follows None (Some q) = ⊥
-Follows (Some p) None = Unit {0}
-Follows (Some p) (Some q) = Fits p q
-
-follows_none : (s : Option (ℕ × ℕ)) → Follows s None
-follows_none None = tt
-follows_none (Some p) = tt
-
 follows_same : (s : Option (ℕ × ℕ)) → Follows s s
 follows_same None = tt
 follows_same (Some p) = (omega arith, λ meets. omega arith)
@@ -95,26 +84,9 @@ pub follows_at : (xs : List (Option (ℕ × ℕ))) (i j : ℕ) → AreNesting xs
 follows_at xs i j h less = at (get_or xs i None) (get_or xs j None) refl refl where
   at : (s t : Option (ℕ × ℕ)) → get_or xs i None ≡ s → get_or xs j None ≡ t → Follows s t
   at None None e f = tt
-  at None (Some q) e f = absurd (none_some q (sym (h.bare i j (omega (arith, less)) e) ∙ f))
+  at None (Some q) e f = absurd (none-some q (sym (h.bare i j (omega (arith, less)) e) ∙ f))
   at (Some p) None e f = tt
   at (Some p) (Some q) e f = (h.rising i j p q less e f, h.nested i j p q less e f)
-
-pub nesting_from : (xs : List (Option (ℕ × ℕ))) → ((i j : ℕ) → i < j → Follows (get_or xs i None) (get_or xs j None)) → AreNesting xs
-nesting_from xs h = record {
-  rising = λ i j p q less e f. (fits i j p q less e f).0;
-  nested = λ i j p q less e f. (fits i j p q less e f).1;
-  bare = λ i j le e. at i j e (cases_lt i j) le;
-} where
-  fits : (i j : ℕ) (p q : ℕ × ℕ) → i < j → get_or xs i None ≡ Some p → get_or xs j None ≡ Some q → Fits p q
-  fits i j p q less e f = subst (λ s. Follows s (Some q)) e (subst (Follows (get_or xs i None)) f (h i j less))
-
-  none : (t : Option (ℕ × ℕ)) → Follows None t → t ≡ None
-  none None k = refl
-  none (Some q) k = absurd k
-
-  at : (i j : ℕ) → get_or xs i None ≡ None → (i < j) ⊎ (j ≤ i) → i ≤ j → get_or xs j None ≡ None
-  at i j e (inl less) le = none (get_or xs j None) (subst (λ s. Follows s (get_or xs j None)) e (h i j less))
-  at i j e (inr more) le = let same : i ≡ j = omega (arith, le, more) in subst (λ k. get_or xs k None ≡ None) same e
 
 -- The rules of an index nest, since its buckets do.
 pub nesting_housed : (xs : List (Option (ℕ × ℕ))) (b : Buckets) (count : ℕ) → AreSound b count → AreHoused xs b → AreNesting xs
@@ -141,26 +113,7 @@ nesting_housed xs b count sound housed = nesting_from xs (λ i j less. at i j le
       subst (λ s. Follows s (get_or xs j None)) (sym (housed.homed i (omega (arith, less, below))))
       (subst (Follows (Some (span_at b i))) (sym (housed.homed j below)) (fits i j less below (cases_order (home i) (home j))))
 
--- what a number of a spliced list stands for
-abbrev pub Part : (xs news : List (Option (ℕ × ℕ))) (target : Option (ℕ × ℕ)) (from to k : ℕ) → Type 0
-Part xs news target from to k =
-    ((k < from) × (get_or (splice xs from to news) k None ≡ get_or xs k None))
-    ⊎ (((from ≤ k) × (k < from + length news) × (get_or (splice xs from to news) k None ≡ target))
-    ⊎ ((from + length news ≤ k) × (get_or (splice xs from to news) k None ≡ get_or xs (to + (k - (from + length news))) None)))
-
-part_at : (xs news : List (Option (ℕ × ℕ))) (target : Option (ℕ × ℕ)) (from to k : ℕ) → from ≤ length xs → ((i : ℕ) → i < length news → get_or news i None ≡ target) → Part xs news target from to k
-part_at xs news target from to k within each = at (cases_lt k from) (cases_lt k (from + length news)) where
-  at : (k < from) ⊎ (from ≤ k) → (k < from + length news) ⊎ (from + length news ≤ k) → Part xs news target from to k
-  at (inl below) c = inl (below, at_front xs news from to k None within below)
-  at (inr above) (inl below) =
-      let same : from + (k - from) ≡ k = omega (arith, above) in
-      let inside : k - from < length news = omega (arith, above, below) in
-      inr (inl (above, below, ap (λ i. get_or (splice xs from to news) i None) (sym same) ∙ at_middle xs news from to (k - from) None within inside ∙ each (k - from) inside))
-  at (inr above) (inr past) =
-      let same : from + length news + (k - (from + length news)) ≡ k = omega (arith, past) in
-      inr (inr (past, ap (λ i. get_or (splice xs from to news) i None) (sym same) ∙ at_back xs news from to (k - (from + length news)) None within))
-
-nesting_parts : (xs news : List (Option (ℕ × ℕ))) (target : Option (ℕ × ℕ)) (from to : ℕ) → AreNesting xs → from ≤ to → ((k : ℕ) → Part xs news target from to k)
+nesting_parts : (xs news : List (Option (ℕ × ℕ))) (target : Option (ℕ × ℕ)) (from to : ℕ) → AreNesting xs → from ≤ to → ((k : ℕ) → Part xs (splice xs from to news) target None from to (length news) k)
     → ((k : ℕ) → k < from → 0 < length news → Follows (get_or xs k None) target) → ((k : ℕ) → to ≤ k → 0 < length news → Follows target (get_or xs k None)) → AreNesting (splice xs from to news)
 nesting_parts xs news target from to h le part front back = nesting_from (splice xs from to news) (λ i j less. at i j less (part i) (part j)) where
   place : ℕ → ℕ
@@ -169,7 +122,7 @@ nesting_parts xs news target from to h le part front back = nesting_from (splice
   both : (i j : ℕ) (s t : Option (ℕ × ℕ)) → get_or (splice xs from to news) i None ≡ s → get_or (splice xs from to news) j None ≡ t → Follows s t → Follows (get_or (splice xs from to news) i None) (get_or (splice xs from to news) j None)
   both i j s t e f k = subst (λ x. Follows x (get_or (splice xs from to news) j None)) (sym e) (subst (Follows s) (sym f) k)
 
-  at : (i j : ℕ) → i < j → Part xs news target from to i → Part xs news target from to j → Follows (get_or (splice xs from to news) i None) (get_or (splice xs from to news) j None)
+  at : (i j : ℕ) → i < j → Part xs (splice xs from to news) target None from to (length news) i → Part xs (splice xs from to news) target None from to (length news) j → Follows (get_or (splice xs from to news) i None) (get_or (splice xs from to news) j None)
   at i j less (inl a) (inl b) = both i j _ _ a.1 b.1 (follows_at xs i j h less)
   at i j less (inl a) (inr (inl b)) = both i j _ _ a.1 b.2 (front i a.0 (omega (arith, b.0, b.1)))
   at i j less (inl a) (inr (inr b)) = both i j _ _ a.1 b.1 (follows_at xs i (place j) h (omega (arith, a.0, le)))
@@ -192,7 +145,7 @@ rule_at family (r ∷ rs) zero each below = record { r = r; own = each.0; span =
 rule_at family (r ∷ rs) (suc k) each below = let a : RuleAt family rs k = rule_at family rs k each.1 (omega (arith, below)) in record { r = a.r; own = a.own; span = a.span }
 
 pub proper_at : (family : Family) (rules : List Listed) (k : ℕ) (p : ℕ × ℕ) → AllByRecursion (IsOfFamily family) rules → get_or (spans_of rules) k None ≡ Some p → p.0 ≤ p.1
-proper_at family [] k p each e = absurd (none_some p e)
+proper_at family [] k p each e = absurd (none-some p e)
 proper_at family (r ∷ rs) zero p each e = span_proper r.rule p each.0.rule e
 proper_at family (r ∷ rs) (suc k) p each e = proper_at family rs k p each.1 e
 
@@ -216,7 +169,7 @@ pub nesting_spliced : (family : Family) (rules news : List Listed) (target : Opt
     → AreNesting (spans_of rules) → IsStretch (spans_of rules) target from to → ((i : ℕ) → i < length (spans_of news) → get_or (spans_of news) i None ≡ target) → AreNesting (spans_of (splice rules from to news))
 nesting_spliced family rules news target from to each own h s news_are =
     subst AreNesting (sym (map_spliced (λ r. span_of r.rule) rules news from to))
-    (nesting_parts (spans_of rules) (spans_of news) target from to h s.ordered (λ k. part_at (spans_of rules) (spans_of news) target from to k (omega (arith, s.ordered, s.within)) news_are) front back) where
+    (nesting_parts (spans_of rules) (spans_of news) target from to h s.ordered (λ k. part_at (spans_of rules) (spans_of news) _ target None from to _ k (omega (arith, s.ordered, s.within)) refl refl news_are) front back) where
       size : length (spans_of rules) ≡ length rules
       size = length-map rules (λ r. span_of r.rule)
 
@@ -309,20 +262,15 @@ mends_spliced xs news b from to h le within whole = record {
   front = λ k above below.
       let same : 0 + (k - 0) ≡ k = omega arith in
       ap (λ i. get_or (splice xs from to news) i None) same ∙ at_front xs news from to k None inside below ∙ h.homed k (omega (arith, below, le, within));
-  middle = λ k below. at_middle xs news from to k None inside below;
-  back = λ k above below.
-      let same : to + (k - to) ≡ k = omega (arith, above) in
-      at_back xs news from to (k - to) None inside ∙ ap (λ i. get_or xs i None) same ∙ h.homed k below;
+  middle = λ k below. at_middle xs news from to (from + k) k None inside refl below;
+  back = λ k above below. at_back xs news from to (from + length news + (k - to)) k None inside above (omega (arith, above)) ∙ h.homed k below;
 } where
   inside : from ≤ length xs
   inside = omega (arith, le, within, whole)
 
 pub rest_bare : (xs news : List (Option (ℕ × ℕ))) (b : Buckets) (from to n : ℕ) → AreHoused xs b → from ≤ to → to ≤ length b.homes.items → length b.homes.items ≤ length xs
     → n + to ≡ from + length news + length b.homes.items → get_or (splice xs from to news) n None ≡ None
-rest_bare xs news b from to n h le within whole is =
-    let same : n ≡ from + length news + (length b.homes.items - to) = omega (arith, is, within) in
-    let there : to + (length b.homes.items - to) ≡ length b.homes.items = omega (arith, within) in
-    ap (λ i. get_or (splice xs from to news) i None) same ∙ at_back xs news from to (length b.homes.items - to) None (omega (arith, le, within, whole)) ∙ ap (λ i. get_or xs i None) there ∙ h.bare (length b.homes.items) (omega arith)
+rest_bare xs news b from to n h le within whole is = at_back xs news from to n (length b.homes.items) None (omega (arith, le, within, whole)) within is ∙ h.bare (length b.homes.items) (omega arith)
 
 -- Where the buckets before a number are passed, so are the rules before it, and the others aren't.
 abbrev pub start_of : Buckets → ℕ → ℕ
@@ -334,27 +282,20 @@ home_of b k = get_or b.homes.items k 0
 start_within : (b : Buckets) (count i : ℕ) → AreSound b count → i ≤ length (numbers_in b.lasts) → start_of b i ≤ length b.homes.items
 start_within b count i sound within = let a : start_of b i ≤ start_of b (length (numbers_in b.lasts)) = sound.starts i (length (numbers_in b.lasts)) within (omega arith) in let t : start_of b (length (numbers_in b.lasts)) ≡ length b.homes.items = sound.tail in omega (arith, a, t)
 
-pub home_under : (b : Buckets) (count i k : ℕ) → AreSound b count → i ≤ length (numbers_in b.lasts) → k < start_of b i → home_of b k < i
-home_under b count i k sound within less = at (cases_lt (home_of b k) i) where
-  below : k < length b.homes.items
-  below = let a : start_of b i ≤ length b.homes.items = start_within b count i sound within in omega (arith, less, a)
+abbrev pub first_of : Buckets → ℕ → ℕ
+first_of b i = (node_at (nodes_in b.nodes) i).first
 
-  at : (home_of b k < i) ⊎ (i ≤ home_of b k) → home_of b k < i
-  at (inl earlier) = earlier
-  at (inr le) =
-      let a : start_of b (home_of b k) ≤ k = sound.begins k below in
-      let h : home_of b k < length (numbers_in b.lasts) = sound.home k below in
-      let d : start_of b i ≤ start_of b (home_of b k) = sound.starts i (home_of b k) le (omega (arith, h)) in
-      absurd (omega (arith, less, a, d))
+abbrev pub last_of : Buckets → ℕ → ℕ
+last_of b i = get_or (numbers_in b.lasts) i 0
+
+abbrev pub none : Node ℕ
+none = record { first = 0; start = 0; parent = 0 }
+
+pub home_under : (b : Buckets) (count i k : ℕ) → AreSound b count → i ≤ length (numbers_in b.lasts) → k < start_of b i → home_of b k < i
+home_under b count i k sound within less = (home_before (numbers_in b.lasts) (nodes_in b.nodes) b.homes.items count i k sound within less).1
 
 pub home_over : (b : Buckets) (count i k : ℕ) → AreSound b count → i ≤ length (numbers_in b.lasts) → k < length b.homes.items → start_of b i ≤ k → i ≤ home_of b k
-home_over b count i k sound within below le = at (cases_lt (home_of b k) i) where
-  at : (home_of b k < i) ⊎ (i ≤ home_of b k) → i ≤ home_of b k
-  at (inr later) = later
-  at (inl earlier) =
-      let a : k < start_of b (home_of b k + 1) = sound.ends k below in
-      let d : start_of b (home_of b k + 1) ≤ start_of b i = sound.starts (home_of b k + 1) i (omega (arith, earlier)) within in
-      absurd (omega (arith, le, a, d))
+home_over b count i k sound within below le = home_from (numbers_in b.lasts) (nodes_in b.nodes) b.homes.items count i k sound within below le
 
 -- what is passed and what is left
 passed_before : (p q : ℕ × ℕ) → IsPassed p q false → Before p q
@@ -378,12 +319,6 @@ never_both p q passed left = at (passed_before p q passed) (left_behind p q left
   at (inl less) (inr tied) = let same : q.1 ≡ p.1 = tied.0 in omega (arith, less, same)
   at (inr tied) (inl more) = let same : p.1 ≡ q.1 = tied.0 in omega (arith, more, same)
   at (inr tied) (inr other) = let a : q.0 < p.0 = tied.1 in let b : p.0 < q.0 = other.1 in omega (arith, a, b)
-
--- so many buckets are passed, and the others left
-pub record Passes (b : Buckets) (q : ℕ × ℕ) (same : Bool) (n : ℕ) : Type 0 where
-  pub within : n ≤ length (numbers_in b.lasts)
-  pub before : (i : ℕ) → i < n → IsPassed (bucket_span b i) q same
-  pub behind : (i : ℕ) → n ≤ i → i < length (numbers_in b.lasts) → IsLeft (bucket_span b i) q same
 
 pub stretch_at : (b : Buckets) (count k n m : ℕ) (q : ℕ × ℕ) → AreSound b count → Passes b q false n → Passes b q true m → (node_at (nodes_in b.nodes) n).start ≤ k → k < (node_at (nodes_in b.nodes) m).start → span_cmp (span_at b k) q ≡ Equal
 stretch_at b count k n m q sound h g le less = between (span_at b k) q (h.behind (home_of b k) (home_over b count n k sound h.within below le) (sound.home k below)) (g.before (home_of b k) (home_under b count m k sound g.within less)) where
@@ -466,14 +401,14 @@ bare_behind (Some p) e = less_greater e
 
 pub same_count : (xs news : List (Option (ℕ × ℕ))) (target : Option (ℕ × ℕ)) (from to : ℕ) → IsStretch xs target from to → AreTo target news → length news ≡ to - from
     → (k : ℕ) → get_or (splice xs from to news) k None ≡ get_or xs k None
-same_count xs news target from to s each size k = at (part_at xs news target from to k (omega (arith, s.ordered, s.within)) each) where
-  at : Part xs news target from to k → get_or (splice xs from to news) k None ≡ get_or xs k None
+same_count xs news target from to s each size k = at (part_at xs news _ target None from to _ k (omega (arith, s.ordered, s.within)) refl refl each) where
+  at : Part xs (splice xs from to news) target None from to (length news) k → get_or (splice xs from to news) k None ≡ get_or xs k None
   at (inl a) = a.1
   at (inr (inl a)) = a.2 ∙ sym (same_place target (get_or xs k None) (s.at k a.0 (omega (arith, a.1, size, s.ordered))))
   at (inr (inr a)) = let there : to + (k - (from + length news)) ≡ k = omega (arith, a.0, size, s.ordered) in a.1 ∙ ap (λ i. get_or xs i None) there
 
 pub none_count : (xs news : List (Option (ℕ × ℕ))) (from to : ℕ) → IsStretch xs None from to → AreTo None news → (k : ℕ) → get_or (splice xs from to news) k None ≡ get_or xs k None
-none_count xs news from to s each k = at (part_at xs news None from to k (omega (arith, s.ordered, s.within)) each) where
+none_count xs news from to s each k = at (part_at xs news _ None None from to _ k (omega (arith, s.ordered, s.within)) refl refl each) where
   past : (i : ℕ) → from ≤ i → get_or xs i None ≡ None
   past i above = by (cases_lt i to) (cases_lt i (length xs)) where
     by : (i < to) ⊎ (to ≤ i) → (i < length xs) ⊎ (length xs ≤ i) → get_or xs i None ≡ None
@@ -481,7 +416,7 @@ none_count xs news from to s each k = at (part_at xs news None from to k (omega 
     by (inr le) (inl inside) = absurd (bare_behind (get_or xs i None) (s.behind i le inside))
     by (inr le) (inr out) = get_or_past xs i None out
 
-  at : Part xs news None from to k → get_or (splice xs from to news) k None ≡ get_or xs k None
+  at : Part xs (splice xs from to news) None None from to (length news) k → get_or (splice xs from to news) k None ≡ get_or xs k None
   at (inl a) = a.1
   at (inr (inl a)) = a.2 ∙ sym (past k a.0)
   at (inr (inr a)) = a.1 ∙ past (to + (k - (from + length news))) (omega (arith, s.ordered)) ∙ sym (past k (omega (arith, a.0)))

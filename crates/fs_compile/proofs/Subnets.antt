@@ -3,16 +3,11 @@ use Rattle.std.proofs.Common.{◌≡◌, ℕ, ◌+◌, ◌-◌, ◌*◌, ◌^◌
 use Rattle.std.proofs.Math.Nat.{add-mul, mul_assoc, mul-le-mul_right}
 use Rattle.std.proofs.lemmas.Bool.{cases_lt}
 use Rattle.std.proofs.lemmas.Nat.{pow-add}
+use Rattle.fs_base.proofs.NumberTests.{next_row}
 use Rattle.fs_compile.specs.Buckets.{IsSubnet}
 
 pub subnet_proper : (first last : ℕ) → IsSubnet first last → first ≤ last
 subnet_proper first last s = let some : 0 < 2 ^ s.host = pow_pos s.host in let e : last + 1 ≡ first + 2 ^ s.host = s.ends in omega (arith, some, e)
-
-next_row : (a b size : ℕ) → a < b → a * size + size ≤ b * size
-next_row a b size h =
-    let row : (a + 1) * size ≡ a * size + 1 * size = add-mul a 1 size in
-    let more : (a + 1) * size ≤ b * size = mul-le-mul_right size (omega arith) in
-    omega arith
 
 -- so many of a size are more of a smaller one
 rows_of : (count large small : ℕ) → small ≤ large → count * 2 ^ large ≡ count * 2 ^ (large - small) * 2 ^ small

@@ -2,6 +2,7 @@
 use Rattle.std.proofs.Common.{◌≡◌, ℕ, ◌+◌, ◌<◌, ◌≤◌, List, [], ◌∷◌, Bool, true, false, Option, Some, None, IfSome, if◌then◌else◌, length, drop, get_or, refl, ap, ◌∙◌, arith, add-one, drop-cons}
 use Rattle.std.proofs.lemmas.Grind.{common_steps}
 use Rattle.std.proofs.lemmas.List.{length-drop}
+use Rattle.fs_base.proofs.Bools.{if_true, if_false}
 use Rattle.fs_packet.specs.Fields.{Viewed}
 use Rattle.fs_packet.specs.Matching.{is_match}
 use Rattle.fs_rules.specs.Lent.{Listed}
@@ -46,14 +47,6 @@ walks_by_next_law view rules n = seek view rules (drop n rules) n refl
 
 -- what is found is one of the rules, and none of those before
 
-chosen : {A : Type 0} (b : Bool) (x y : A) → b ≡ true → (if b then x else y) ≡ x
-chosen true x y h = refl
-chosen false x y h = absurd cc
-
-not_chosen : {A : Type 0} (b : Bool) (x y : A) → b ≡ false → (if b then x else y) ≡ y
-not_chosen true x y h = absurd cc
-not_chosen false x y h = refl
-
 found_within : (view : Viewed) (rules : List Listed) (place : ℕ) (found : Option ℕ) → found ≡ first_from place view rules
     → IfSome found (λ k. (place ≤ k) × (k < place + length rules))
 found_within view rules place None e = tt
@@ -64,11 +57,11 @@ found_within view (rule ∷ rules) place (Some k) e = by (is_match rule.rule vie
         → (Some k ≡ first_from (place + 1) view rules → (place + 1 ≤ k) × (k < place + 1 + length rules))
         → (place ≤ k) × (k < place + length (rule ∷ rules))
     by true m later =
-        let same : Some k ≡ Some place = e ∙ chosen (is_match rule.rule view) _ _ m in
+        let same : Some k ≡ Some place = e ∙ if_true (is_match rule.rule view) _ _ m in
         let k_is : k ≡ place = cc in
         (omega (arith, k_is), omega (arith, k_is))
     by false m later =
-        let rest : (place + 1 ≤ k) × (k < place + 1 + length rules) = later (e ∙ not_chosen (is_match rule.rule view) _ _ m) in
+        let rest : (place + 1 ≤ k) × (k < place + 1 + length rules) = later (e ∙ if_false (is_match rule.rule view) _ _ m) in
         (omega (arith, rest.0), omega (arith, rest.1))
 
 pub next_inside : (view : Viewed) (rules : List Listed) (n : ℕ) (found : Option ℕ) → found ≡ next_from n view rules → IfSome found (λ k. (n ≤ k) × (k < length rules))

@@ -1,18 +1,17 @@
 -- The addresses of a rule's destination are those of a prefix, and have the width of its family.
-use Rattle.std.proofs.Common.{◌≡◌, ◌∙◌, ℕ, zero, suc, ◌+◌, ◌-◌, ◌^◌, ◌<◌, ◌≤◌, sym, subst, Some, None, List, [], ◌∷◌, pow_pos, arith}
+use Rattle.std.proofs.Common.{◌≡◌, ◌∙◌, ℕ, zero, suc, ◌+◌, ◌-◌, ◌^◌, ◌<◌, ◌≤◌, sym, subst, Some, List, [], ◌∷◌, pow_pos, arith}
 use Rattle.std.specs.List.{AllByRecursion}
+use Rattle.std.proofs.lemmas.Option.{none-some}
 use Rattle.fs_base.specs.declared.prefix.Family.{Family}
 use Rattle.fs_base.specs.Bits.{IsBlock, width_of, block_of}
 use Rattle.fs_nlri.proofs.Destination.{IsMade}
 use Rattle.fs_order.specs.Laws.{last_shown}
 use Rattle.fs_rules.specs.Lent.{Listed}
+use Rattle.fs_rules.proofs.Elsewhere.{family_of_destination}
 use Rattle.fs_compile.specs.Buckets.{IsSubnet}
 use Rattle.fs_compile.specs.Index.{IsOfFamily, span_of, spans_of}
 use Rattle.fs_compile.specs.Mending.{AreNarrow}
-use Rattle.fs_compile.proofs.Reaching.{HasDestination, family_of_destination, from_span, made_destination}
-
-none_some : {X : Type 0} (x : X) → None ≡ Some x → ⊥
-none_some x e = absurd cc
+use Rattle.fs_compile.proofs.Reaching.{HasDestination, from_span, made_destination}
 
 span_narrow : (family : Family) (r : Listed) (s : ℕ × ℕ) → IsOfFamily family r → span_of r.rule ≡ Some s → (s.0 < 2 ^ width_of family) × (s.1 < 2 ^ width_of family) × IsSubnet s.0 s.1
 span_narrow family r s own e = subst (λ (x : ℕ × ℕ). (x.0 < 2 ^ width_of family) × (x.1 < 2 ^ width_of family) × IsSubnet x.0 x.1) (sym from.span) (subst (λ f. (from.d.1 < 2 ^ width_of f) × (last_shown from.d < 2 ^ width_of f) × IsSubnet from.d.1 (last_shown from.d)) same below) where
@@ -35,6 +34,6 @@ span_narrow family r s own e = subst (λ (x : ℕ × ℕ). (x.0 < 2 ^ width_of f
       (omega (arith, within, some), omega (arith, within, some), record { count = block.count; host = width_of from.d.0 - from.d.2; begins = block.spelled; ends = omega (arith, some) })
 
 pub narrow : (family : Family) (rs : List Listed) → AllByRecursion (IsOfFamily family) rs → AreNarrow (width_of family) (spans_of rs)
-narrow family [] each k s e = absurd (none_some s e)
+narrow family [] each k s e = absurd (none-some s e)
 narrow family (r ∷ rs) each zero s e = span_narrow family r s each.0 e
 narrow family (r ∷ rs) each (suc k) s e = narrow family rs each.1 k s e

@@ -1,5 +1,5 @@
 -- Destinations as intervals of addresses, in the order of their last addresses, with the runs of rules that have them.
-use Rattle.std.specs.Prelude.{◌≡◌, ℕ, ◌+◌, ◌-◌, ◌*◌, ◌%◌, ◌^◌, ◌<◌, ◌≤◌, List, length, get_or}
+use Rattle.std.specs.Prelude.{◌≡◌, ℕ, ◌+◌, ◌-◌, ◌*◌, ◌%◌, ◌^◌, ◌<◌, ◌≤◌, ◌||◌, nat_le, nat_lt, if◌then◌else◌, List, length, get_or}
 use Rattle.fs_compile.specs.declared.nodes.Node.{Node}
 
 abbrev pub AreRising : List ℕ → Type 0
@@ -47,48 +47,26 @@ AreAbove {K} from down up nodes =
 abbrev pub moved : {K : Type 0} → (down up : ℕ) → Node K → Node K
 moved down up node = record { first = node.first; start = node.start - down + up; parent = node.parent }
 
--- the starts of the nodes from a place on are moved
-pub record AreShifted {K : Type 0} (from down up : ℕ) (old new : List (Node K)) : Type 0 where
+-- the elements from one place on before another are changed, each by its place
+pub record AreChanged {X : Type 0} (from to : ℕ) (change : ℕ → X → X) (old new : List X) : Type 0 where
   pub size : length new ≡ length old
-  pub front : (k : ℕ) (d : Node K) → k < from → get_or new k d ≡ get_or old k d
-  pub back : (k : ℕ) (d : Node K) → from ≤ k → k < length old → get_or new k d ≡ moved down up (get_or old k d)
+  pub front : (k : ℕ) (d : X) → k < from → get_or new k d ≡ get_or old k d
+  pub done : (k : ℕ) (d : X) → from ≤ k → k < to → get_or new k d ≡ change k (get_or old k d)
+  pub rest : (k : ℕ) (d : X) → to ≤ k → get_or new k d ≡ get_or old k d
 
--- The node of a number before a place, whose parent is named anew where another is put there. Those before `low` lie
--- before that one, the others within it.
-pub record IsHanded {K : Type 0} (place low number : ℕ) (old new : Node K) : Type 0 where
-  pub first : new.first ≡ old.first
-  pub start : new.start ≡ old.start
-  pub near : old.parent < place → new.parent ≡ old.parent
-  pub over : place ≤ old.parent → number < low → new.parent ≡ (old.parent + 1) % 2 ^ 32
-  pub within : place ≤ old.parent → low ≤ number → new.parent ≡ place
+-- The parent of the node of a number, where another is put at a place. Of those before it those before `low` lie before
+-- that one, the others within it.
+abbrev pub parent_beside : (place low number parent : ℕ) → ℕ
+parent_beside place low number parent =
+    if nat_lt parent place then parent else (if nat_lt number low || nat_le place number then (parent + 1) % 2 ^ 32 else place)
 
--- the first nodes' parents are named anew
-pub record AreHanded {K : Type 0} (place low to : ℕ) (old new : List (Node K)) : Type 0 where
-  pub size : length new ≡ length old
-  pub done : (k : ℕ) (d : Node K) → k < to → IsHanded place low k (get_or old k d) (get_or new k d)
-  pub rest : (k : ℕ) (d : Node K) → to ≤ k → get_or new k d ≡ get_or old k d
+abbrev pub beside : {K : Type 0} → (place low number : ℕ) → Node K → Node K
+beside place low number node =
+    record { first = node.first; start = node.start; parent = parent_beside place low number node.parent }
 
--- a node behind a place at which another with so many rules is put
-abbrev pub moved_on : {K : Type 0} → (count : ℕ) → Node K → Node K
-moved_on count node = record { first = node.first; start = node.start + count; parent = (node.parent + 1) % 2 ^ 32 }
-
--- the nodes from a place on before another stand behind one that is put there
-pub record AreMovedOn {K : Type 0} (from to count : ℕ) (old new : List (Node K)) : Type 0 where
-  pub size : length new ≡ length old
-  pub front : (k : ℕ) (d : Node K) → k < from → get_or new k d ≡ get_or old k d
-  pub done : (k : ℕ) (d : Node K) → from ≤ k → k < to → get_or new k d ≡ moved_on count (get_or old k d)
-  pub rest : (k : ℕ) (d : Node K) → to ≤ k → get_or new k d ≡ get_or old k d
-
--- the nodes with one more at a place, of so many rules
-pub record AreOpened {K : Type 0} (place low count : ℕ) (node : Node K) (old new : List (Node K)) : Type 0 where
+-- the nodes with one more at a place
+pub record AreOpened {K : Type 0} (place low : ℕ) (node : Node K) (old new : List (Node K)) : Type 0 where
   pub size : length new ≡ length old + 1
-  pub front : (k : ℕ) (d : Node K) → k < place → IsHanded place low k (get_or old k d) (get_or new k d)
+  pub front : (k : ℕ) (d : Node K) → k < place → get_or new k d ≡ beside place low k (get_or old k d)
   pub at : (d : Node K) → get_or new place d ≡ node
-  pub back : (k : ℕ) (d : Node K) → place ≤ k → k < length old → get_or new (k + 1) d ≡ moved_on count (get_or old k d)
-
--- each number from one place on before another is one more
-pub record AreRaised (from to : ℕ) (old new : List ℕ) : Type 0 where
-  pub size : length new ≡ length old
-  pub front : (k : ℕ) → k < from → get_or new k 0 ≡ get_or old k 0
-  pub done : (k : ℕ) → from ≤ k → k < to → get_or new k 0 ≡ get_or old k 0 + 1
-  pub rest : (k : ℕ) → to ≤ k → get_or new k 0 ≡ get_or old k 0
+  pub back : (k : ℕ) (d : Node K) → place ≤ k → k < length old → get_or new (k + 1) d ≡ beside place low k (get_or old k d)

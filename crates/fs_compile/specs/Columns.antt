@@ -10,6 +10,7 @@ use Rattle.fs_compile.specs.Buckets.{AreRising}
 use Rattle.fs_compile.specs.Facts.{Facts, key_of, number_of}
 use Rattle.fs_compile.specs.Search.{hits}
 use Rattle.fs_compile.specs.Spans.{contains, is_in}
+use Rattle.fs_compile.specs.Between.{IsPlaced}
 
 -- the number is one of these
 abbrev pub allows : Limit → ℕ → Bool
@@ -18,10 +19,8 @@ allows (Range low high) number = is_in number (low, high)
 allows (Ranges ranges) number = contains ranges.now number
 
 -- the class of a number: classes before it end below the number, and it and those behind don't
-pub record IsClass (bounds : List ℕ) (number class : ℕ) : Type 0 where
-  pub within : class ≤ length bounds
-  pub below : (b : ℕ) → b < class → get_or bounds b 0 < number
-  pub from : (b : ℕ) → class ≤ b → b < length bounds → number ≤ get_or bounds b 0
+abbrev pub IsClass : (bounds : List ℕ) → (number class : ℕ) → Type 0
+IsClass bounds number class = IsPlaced bounds number (length bounds) class
 
 -- so many words have a bit for each of so many rules
 abbrev pub words_for : ℕ → ℕ

@@ -31,12 +31,16 @@ spans_of rules = map (λ r. span_of r.rule) rules
 abbrev pub actions_of : List Listed → List (List (List ℕ))
 actions_of rules = map (λ r. r.actions) rules
 
+-- as many, and each stands so to the other at its place
+abbrev pub EachWith : {X Y : Type 0} → (X → Y → Type 0) → List X → List Y → Type 0
+EachWith R [] [] = Unit {0}
+EachWith R [] (y ∷ ys) = ⊥
+EachWith R (x ∷ xs) [] = ⊥
+EachWith R (x ∷ xs) (y ∷ ys) = R x y × EachWith R xs ys
+
 -- each stands for its rule
 abbrev pub StandForEach : List Listed → List Fast → Type 0
-StandForEach [] [] = Unit {0}
-StandForEach [] (f ∷ fs) = ⊥
-StandForEach (r ∷ rs) [] = ⊥
-StandForEach (r ∷ rs) (f ∷ fs) = StandsFor r.rule f × StandForEach rs fs
+StandForEach rules fasts = EachWith (λ r f. StandsFor r.rule f) rules fasts
 
 -- a rule of the family
 pub record IsOfFamily (family : Family) (r : Listed) : Type 0 where

@@ -13,6 +13,7 @@ use Rattle.fs_compile.specs.declared.buckets.Buckets.{Buckets}
 use Rattle.fs_compile.specs.Addresses.{node_width, nodes_in, numbers_in, width_in}
 use Rattle.fs_compile.specs.Buckets.{IsSubnet, node_at}
 use Rattle.fs_compile.specs.Index.{AreHoused, IsOfFamily, span_at, span_by, span_of, spans_of}
+use Rattle.fs_compile.specs.Search.{AreSound}
 
 -- each rule has a destination
 abbrev pub AreAll : List (Option (ℕ × ℕ)) → Type 0
@@ -75,6 +76,12 @@ IsPassed p q same = (p.1 < q.1) ⊎ ((p.1 ≡ q.1) × (q.0 < p.0 + (if same then
 abbrev pub IsLeft : ℕ × ℕ → ℕ × ℕ → (same : Bool) → Type 0
 IsLeft p q same = (q.1 < p.1) ⊎ ((q.1 ≡ p.1) × (p.0 + (if same then 1 else 0) ≤ q.0))
 
+-- so many buckets are passed, and the others left
+pub record Passes (b : Buckets) (q : ℕ × ℕ) (same : Bool) (n : ℕ) : Type 0 where
+  pub within : n ≤ length (numbers_in b.lasts)
+  pub before : (i : ℕ) → i < n → IsPassed (bucket_span b i) q same
+  pub behind : (i : ℕ) → n ≤ i → i < length (numbers_in b.lasts) → IsLeft (bucket_span b i) q same
+
 -- each rule has this destination
 abbrev pub AreTo : Option (ℕ × ℕ) → List (Option (ℕ × ℕ)) → Type 0
 AreTo target spans = (k : ℕ) → k < length spans → get_or spans k None ≡ target
@@ -112,6 +119,18 @@ pub record IsGap (b : Buckets) (bucket : ℕ) (span : ℕ × ℕ) (from : ℕ) :
   pub start : (node_at (nodes_in b.nodes) bucket).start ≡ from
   pub before : (i : ℕ) → i < bucket → IsPassed (bucket_span b i) span false
   pub behind : (i : ℕ) → bucket ≤ i → i < length (numbers_in b.lasts) → IsLeft (bucket_span b i) span false
+
+-- buckets of so many rules, which have these destinations
+pub record AreBucketsOf (spans : List (Option (ℕ × ℕ))) (b : Buckets) (count : ℕ) : Type 0 where
+  pub sound : AreSound b count
+  pub housed : AreHoused spans b
+
+-- the first buckets with one more of these addresses at a place, which has no rules, and would have those from a number on
+pub record HasEmpty (old new : Buckets) (bucket : ℕ) (span : ℕ × ℕ) (from : ℕ) : Type 0 where
+  pub sound : AreSound new (length new.homes.items)
+  pub holder : IsHolder new bucket span from from
+  pub size : length new.homes.items ≡ length old.homes.items
+  pub housed : (spans : List (Option (ℕ × ℕ))) → AreHoused spans old → AreHoused spans new
 
 -- the buckets of these rules of the family, of which those from one number on before another have the destination
 pub record HasStretch (family : Family) (rules : List Listed) (b : Buckets) (target : Option (ℕ × ℕ)) (from to : ℕ)

@@ -1,11 +1,11 @@
 -- The search for an address through buckets.
-use Rattle.std.specs.Prelude.{◌≡◌, ℕ, ◌+◌, ◌<◌, ◌≤◌, Bool, true, false, Option, Some, None, option_map, List, length, take, get_or, map}
+use Rattle.std.specs.Prelude.{◌≡◌, ℕ, ◌+◌, ◌-◌, ◌<◌, ◌≤◌, Bool, true, false, Option, Some, None, MatchOption, option_map, List, length, take, get_or, map}
 use Rattle.std.specs.List.{count_by}
 use Rattle.fs_compile.specs.declared.buckets.Buckets.{Buckets}
 use Rattle.fs_compile.specs.declared.fast.Fast.{Fast}
 use Rattle.fs_compile.specs.declared.nodes.Node.{Node}
 use Rattle.fs_compile.specs.declared.search.Hit.{Hit}
-use Rattle.fs_compile.specs.declared.search.Place.{Place}
+use Rattle.fs_compile.specs.declared.search.Cursor.{Cursor}
 use Rattle.fs_compile.specs.Addresses.{numbers_in, nodes_in}
 use Rattle.fs_compile.specs.Buckets.{AreBuckets, node_at}
 use Rattle.fs_compile.specs.Facts.{Facts}
@@ -54,12 +54,12 @@ Passed lasts nodes homes address lo at =
     → (node_at nodes (get_or homes k 0)).first ≤ address → get_or lasts (get_or homes k 0) 0 < address
 
 -- a place from which a search finds all: no bucket before it matters any more
-pub record IsStart (lasts : List ℕ) (nodes : List (Node ℕ)) (homes : List ℕ) (place : Place) : Type 0 where
+pub record IsStart (lasts : List ℕ) (nodes : List (Node ℕ)) (homes : List ℕ) (place : Cursor) : Type 0 where
   pub within : place.bucket ≤ length lasts
   pub ends : place.bucket < length lasts → place.address ≤ get_or lasts place.bucket 0
   pub passed : Passed lasts nodes homes place.address place.from place.bucket
 
-abbrev pub Starts : Buckets → Place → Type 0
+abbrev pub Starts : Buckets → Cursor → Type 0
 Starts b place = IsStart (numbers_in b.lasts) (nodes_in b.nodes) b.homes.items place
 
 abbrev pub hit_number : Option Hit → Option ℕ
@@ -70,8 +70,14 @@ abbrev pub tested_to : Option ℕ → ℕ → ℕ
 tested_to None to = to
 tested_to (Some n) to = n + 1
 
+-- what a search of a stretch finds, of numbers before an end, in as many steps at most as there are rules up to that one
+pub record Scanned (tests : List Bool) (from to end before after : ℕ) (result : Option ℕ) : Type 0 where
+  pub found : MatchOption result (Missed tests from to) (Found tests from end)
+  pub later : before ≤ after
+  pub steps : after ≤ before + (tested_to result to - from)
+
 -- where a search for the address goes on behind what was found
-abbrev pub behind_hit : (address : ℕ) → Hit → Place
+abbrev pub behind_hit : (address : ℕ) → Hit → Cursor
 behind_hit address hit = record { address = address; bucket = hit.bucket; from = hit.number + 1 }
 
 abbrev pub start_at : Buckets → ℕ → ℕ

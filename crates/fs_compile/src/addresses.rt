@@ -4,7 +4,7 @@ ghost use Rattle.std.specs.Prelude.{◌≡◌, ◌<◌, ◌≤◌, ◌+◌, ◌^
 ghost use Rattle.std.specs.List.{insert};
 ghost use Rattle.fs_base.specs.Bits.{width_of};
 ghost use Rattle.fs_compile.specs.Addresses.{numbers_in, width_in};
-ghost use Rattle.fs_compile.specs.Between.{IsBetween};
+ghost use Rattle.fs_compile.specs.Between.{IsBetween, IsPlaced};
 ghost use Rattle.fs_compile.specs.Buckets.{AreRising};
 ghost use Rattle.fs_compile.specs.Reach.{number_of};
 
@@ -104,12 +104,7 @@ impl Addresses {
     /// The place of the first that isn't below the address, or how many there are.
     pub(crate) fn find(&self, address: u128) -> usize
         requires { AreRising (numbers_in self.now) }
-        ensures within { result ≤ length (numbers_in self.now) }
-        ensures below { (b : ℕ) → b < result → get_or (numbers_in self.now) b 0 < address }
-        ensures from { (b : ℕ)
-            → result ≤ b
-            → b < length (numbers_in self.now)
-            → address ≤ get_or (numbers_in self.now) b 0 }
+        ensures { IsPlaced (numbers_in self.now) address (length (numbers_in self.now)) result }
     {
         match self {
             Addresses::V4(items) => find_narrow(items, address),
@@ -121,12 +116,7 @@ impl Addresses {
     #[inline(always)]
     pub(crate) fn find_marked(&self, marks: &Marks, address: Address) -> usize
         requires { AreRising (numbers_in self.now) }
-        ensures within { result ≤ length (numbers_in self.now) }
-        ensures below { (b : ℕ) → b < result → get_or (numbers_in self.now) b 0 < number_of address }
-        ensures from { (b : ℕ)
-            → result ≤ b
-            → b < length (numbers_in self.now)
-            → number_of address ≤ get_or (numbers_in self.now) b 0 }
+        ensures { IsPlaced (numbers_in self.now) (number_of address) (length (numbers_in self.now)) result }
     {
         match (self, address) {
             (Addresses::V4(items), Address::V4(address)) => {
@@ -189,9 +179,7 @@ impl Addresses {
 
 fn find_narrow(items: &[u32], address: u128) -> usize
     requires { AreRising items.now }
-    ensures within { result ≤ length items.now }
-    ensures below { (b : ℕ) → b < result → get_or items.now b 0 < address }
-    ensures from { (b : ℕ) → result ≤ b → b < length items.now → address ≤ get_or items.now b 0 }
+    ensures { IsPlaced items.now address (length items.now) result }
 {
     match u32::try_from(address) {
         Ok(address) => find_in_width(items, 0, items.len(), address),
@@ -207,9 +195,7 @@ const FEW: usize = 16;
 fn find_in_width(items: &[u32], from: usize, to: usize, address: u32) -> usize
     requires rising { AreRising items.now }
     requires between { IsBetween items.now address from to }
-    ensures within { result ≤ length items.now }
-    ensures below { (b : ℕ) → b < result → get_or items.now b 0 < address }
-    ensures from { (b : ℕ) → result ≤ b → b < length items.now → address ≤ get_or items.now b 0 }
+    ensures { IsPlaced items.now address (length items.now) result }
 {
     let mut place = from;
     let mut size = to - from;
@@ -226,9 +212,7 @@ fn count_below(items: &[u32], from: usize, to: usize, address: u32) -> usize
     requires rising { AreRising items.now }
     requires between { IsBetween items.now address from to }
     requires few { to ≤ from + 16 }
-    ensures within { result ≤ length items.now }
-    ensures below { (b : ℕ) → b < result → get_or items.now b 0 < address }
-    ensures from { (b : ℕ) → result ≤ b → b < length items.now → address ≤ get_or items.now b 0 }
+    ensures { IsPlaced items.now address (length items.now) result }
 {
     // in the width of the addresses, so that several are compared at once
     let mut count = 0u32;
@@ -252,9 +236,7 @@ fn find_widened(items: &[u32], address: u128) -> usize
 fn find_wide(items: &[u128], from: usize, to: usize, address: u128) -> usize
     requires rising { AreRising items.now }
     requires between { IsBetween items.now address from to }
-    ensures within { result ≤ length items.now }
-    ensures below { (b : ℕ) → b < result → get_or items.now b 0 < address }
-    ensures from { (b : ℕ) → result ≤ b → b < length items.now → address ≤ get_or items.now b 0 }
+    ensures { IsPlaced items.now address (length items.now) result }
 {
     let mut place = from;
     let mut size = to - from;

@@ -6,9 +6,9 @@ ghost use Rattle.std.specs.List.{AllByRecursion, splice};
 ghost use Rattle.fs_base.specs.Bits.{width_of};
 ghost use Rattle.fs_rules.specs.Lent.{all_admitted};
 ghost use Rattle.fs_compile.specs.Addresses.{nodes_in, numbers_in};
-ghost use Rattle.fs_compile.specs.Buckets.{AreRaised, IsSubnet, node_at};
+ghost use Rattle.fs_compile.specs.Buckets.{AreChanged, IsSubnet, node_at};
 ghost use Rattle.fs_compile.specs.Index.{AreHoused, IsOfFamily, span_at, spans_of};
-ghost use Rattle.fs_compile.specs.Mending.{AreAll, AreNarrow, AreTo, IsGap, IsHolder, IsLeft, IsPassed, Mends, bucket_span, span_cmp};
+ghost use Rattle.fs_compile.specs.Mending.{AreAll, AreBucketsOf, AreNarrow, AreTo, HasEmpty, IsGap, IsHolder, IsLeft, IsPassed, Mends, Passes, bucket_span, span_cmp};
 ghost use Rattle.fs_compile.specs.Runs.{AreNesting, RunsOf};
 ghost use Rattle.fs_compile.specs.Search.{AreSound};
 
@@ -108,15 +108,32 @@ impl Buckets {
         requires subnet { IsSubnet span.0 span.1 }
         requires gap { IsGap self bucket span from }
         requires fits { count + length self.homes.items < 2 ^ 32 }
-        ensures sound { IfOk result (λ new.
-            (most : ℕ) → count + length self.homes.items ≤ most → AreSound new most) }
-        ensures housed { IfOk result (λ new.
-            (spans news : List (Option (ℕ × ℕ)))
+        ensures { IfOk result (λ new.
+            (most : ℕ) (spans news : List (Option (ℕ × ℕ)))
+            → count + length self.homes.items ≤ most
             → AreHoused spans self
             → length self.homes.items ≤ length spans
             → AreTo (Some span) news
             → length news ≡ count
-            → AreHoused (splice spans from from news) new) }
+            → AreBucketsOf (splice spans from from news) new most) }
+    {
+        self.with_empty(alloc, bucket, span, from)?
+            .resized(alloc, bucket, from, from, count)
+    }
+
+    /// The buckets with one more of these addresses at a place, which has no rules, and would have those from a number on.
+    fn with_empty(
+        self,
+        alloc: Global,
+        bucket: usize,
+        span: (u128, u128),
+        from: usize,
+    ) -> Result<Buckets, Memory>
+        requires sound { AreSound self (length self.homes.items) }
+        requires whole { length self.homes.items < 2 ^ 32 }
+        requires subnet { IsSubnet span.0 span.1 }
+        requires gap { IsGap self bucket span from }
+        ensures { IfOk result (λ new. HasEmpty self new bucket span from) }
     {
         let low = self.lasts.find(span.0);
         let parent = self.first_over(bucket, span.0);
@@ -127,22 +144,14 @@ impl Buckets {
         };
         let mut lasts = self.lasts;
         let mut nodes = self.nodes;
-        let mut homes = self.homes;
         lasts.insert(bucket, span.1)?;
-        nodes.open(bucket, low, node, count as u32)?;
-        raise(&mut homes, from);
-        put_between(
-            &mut homes,
-            from,
-            from,
-            vec![in alloc; bucket as u32; count]?,
-        )?;
+        nodes.open(bucket, low, node)?;
         let marks = Marks::of(alloc, &lasts)?;
         Ok(Buckets {
             lasts,
             marks,
             nodes,
-            homes,
+            homes: raised(self.homes, from),
         })
     }
 
@@ -176,16 +185,15 @@ impl Buckets {
         requires whole { length self.homes.items < 2 ^ 32 }
         requires some { (span : ℕ × ℕ) × IsHolder self bucket span from to }
         requires fits { from + count + length self.homes.items < 2 ^ 32 + to }
-        ensures sound { IfOk result (λ new.
-            (most : ℕ) → from + count + length self.homes.items ≤ most + to → AreSound new most) }
-        ensures housed { IfOk result (λ new.
-            (span : ℕ × ℕ) (spans news : List (Option (ℕ × ℕ)))
+        ensures { IfOk result (λ new.
+            (most : ℕ) (span : ℕ × ℕ) (spans news : List (Option (ℕ × ℕ)))
+            → from + count + length self.homes.items ≤ most + to
             → IsHolder self bucket span from to
             → AreHoused spans self
             → length self.homes.items ≤ length spans
             → AreTo (Some span) news
             → length news ≡ count
-            → AreHoused (splice spans from to news) new) }
+            → AreBucketsOf (splice spans from to news) new most) }
     {
         let mut homes = self.homes;
         let mut nodes = self.nodes;
@@ -202,12 +210,7 @@ impl Buckets {
     /// How many buckets stand before these addresses, with those that have them or without.
     fn passed(&self, first: u128, last: u128, same: bool) -> usize
         requires sound { (count : ℕ) × AreSound self.now count }
-        ensures within { result ≤ length (numbers_in self.now.lasts) }
-        ensures before { (b : ℕ) → b < result → IsPassed (bucket_span self.now b) (first, last) same }
-        ensures behind { (b : ℕ)
-            → result ≤ b
-            → b < length (numbers_in self.now.lasts)
-            → IsLeft (bucket_span self.now b) (first, last) same }
+        ensures { Passes self.now (first, last) same result }
     {
         let mut bucket = self.lasts.find(last);
         while bucket < self.lasts.len() && self.passes(bucket, first, last, same) {
@@ -239,8 +242,7 @@ pub(crate) fn buckets_of(
     requires few { length list.now < 2 ^ 32 }
     requires each { AllByRecursion (IsOfFamily family) (all_admitted list.now) }
     requires nesting { AreNesting (spans_of (all_admitted list.now)) }
-    ensures sound { IfOk result (λ buckets. AreSound buckets (length list.now)) }
-    ensures housed { IfOk result (AreHoused (spans_of (all_admitted list.now))) }
+    ensures { IfOk result (λ buckets. AreBucketsOf (spans_of (all_admitted list.now)) buckets (length list.now)) }
 {
     buckets_with(alloc, family, runs_of(alloc, family, list)?)
 }
@@ -262,18 +264,15 @@ pub(crate) fn mended_buckets(
         × Mends old.now from to (spans_of (all_admitted list.now)) spans
         × AreNarrow (width_of family) spans
         × AreNesting spans }
-    ensures sound { IfOk result (λ buckets.
-        (count : ℕ)
+    ensures { IfOk result (λ buckets.
+        (count : ℕ) (spans : List (Option (ℕ × ℕ)))
         → from + length list.now + length old.now.homes.items ≤ count + to
-        → AreSound buckets count) }
-    ensures housed { IfOk result (λ buckets.
-        (spans : List (Option (ℕ × ℕ)))
         → Mends old.now from to (spans_of (all_admitted list.now)) spans
         → AreNesting spans
         → ((n : ℕ)
         → n + to ≡ from + length list.now + length old.now.homes.items
         → get_or spans n None ≡ None)
-        → AreHoused spans buckets) }
+        → AreBucketsOf spans buckets count) }
 {
     buckets_with(
         alloc,
@@ -289,14 +288,13 @@ fn buckets_with(alloc: Global, family: Family, runs: Runs) -> Result<Buckets, Me
         × RunsOf spans runs
         × AreNarrow (width_of family) spans
         × AreNesting spans }
-    ensures sound { IfOk result (λ buckets.
-        (count : ℕ) → length runs.homes.items ≤ count → AreSound buckets count) }
-    ensures housed { IfOk result (λ buckets.
-        (spans : List (Option (ℕ × ℕ)))
+    ensures { IfOk result (λ buckets.
+        (count : ℕ) (spans : List (Option (ℕ × ℕ)))
+        → length runs.homes.items ≤ count
         → RunsOf spans runs
         → AreNesting spans
         → get_or spans (length runs.homes.items) None ≡ None
-        → AreHoused spans buckets) }
+        → AreBucketsOf spans buckets count) }
 {
     let parents = parents_of(alloc, &runs.firsts)?;
     let nodes = nodes_of(alloc, family, &runs, &parents)?;
@@ -309,10 +307,19 @@ fn buckets_with(alloc: Global, family: Family, runs: Runs) -> Result<Buckets, Me
     })
 }
 
-/// Adds one to each number from a place on.
+/// The numbers, of which those from a place on are one more.
+fn raised(numbers: Vec<u32>, from: usize) -> Vec<u32>
+    requires { (k : ℕ) → k < length numbers.items → get_or numbers.items k 0 + 1 < 2 ^ 32 }
+    ensures { AreChanged from (length numbers.items) (λ _ n. n + 1) numbers.items result.items }
+{
+    let mut numbers = numbers;
+    raise(&mut numbers, from);
+    numbers
+}
+
 fn raise(numbers: &mut [u32], from: usize)
     requires { (k : ℕ) → k < length numbers.old → get_or numbers.old k 0 + 1 < 2 ^ 32 }
-    ensures { AreRaised from (length numbers.old) numbers.old numbers.new }
+    ensures { AreChanged from (length numbers.old) (λ _ n. n + 1) numbers.old numbers.new }
 {
     for place in from..numbers.len() {
         numbers[place] += 1;

@@ -1,6 +1,6 @@
 //! The tests of a rule's components.
 
-ghost use Rattle.std.specs.Prelude.{◌≡◌, ◌<◌, ◌^◌, IfOk, IfSome};
+ghost use Rattle.std.specs.Prelude.{◌≡◌, ◌<◌, ◌^◌, ◌⊎◌, IfOk, IfSome};
 ghost use Rattle.fs_base.specs.Prefix.{last_address};
 ghost use Rattle.fs_nlri.specs.Component.{body_of, part_of};
 ghost use Rattle.fs_nlri.specs.Parts.{ListBody, V4Body, V6Body, part};
@@ -26,8 +26,8 @@ pub(crate) fn test_of(alloc: Global, component: &Component) -> Result<Test, Memo
     ensures { IfOk result (IsTestOf (part_of component.now)) }
 {
     match component {
-        Component::Destination(form) => Ok(destination_test(form)),
-        Component::Source(form) => Ok(source_test(form)),
+        Component::Destination(form) => Ok(prefix_test(1, form)),
+        Component::Source(form) => Ok(prefix_test(2, form)),
         Component::Protocol(list) => field_test(alloc, 3, list),
         Component::Port(list) => ports_test(alloc, list),
         Component::DestinationPort(list) => field_test(alloc, 5, list),
@@ -42,31 +42,26 @@ pub(crate) fn test_of(alloc: Global, component: &Component) -> Result<Test, Memo
     }
 }
 
-fn destination_test(form: &PrefixForm) -> Test
-    requires { IsSoundBody (body_of form.now) }
-    ensures { IsTestOf (part 1 (body_of form.now)) result }
+/// The test of a prefix of the destination or of the source.
+fn prefix_test(kind: u8, form: &PrefixForm) -> Test
+    requires kind { (kind ≡ 1) ⊎ (kind ≡ 2) }
+    requires sound { IsSoundBody (body_of form.now) }
+    ensures { IsTestOf (part kind (body_of form.now)) result }
 {
     match form {
-        PrefixForm::V4(prefix) => Test::Within(prefix_range(1, prefix)),
+        PrefixForm::V4(prefix) => Test::Within(prefix_range(kind, prefix)),
         PrefixForm::V6 {
             length,
             offset,
             pattern,
-        } => Test::Destination(pattern_of(*length, *offset, *pattern)),
-    }
-}
-
-fn source_test(form: &PrefixForm) -> Test
-    requires { IsSoundBody (body_of form.now) }
-    ensures { IsTestOf (part 2 (body_of form.now)) result }
-{
-    match form {
-        PrefixForm::V4(prefix) => Test::Within(prefix_range(2, prefix)),
-        PrefixForm::V6 {
-            length,
-            offset,
-            pattern,
-        } => Test::Source(pattern_of(*length, *offset, *pattern)),
+        } => {
+            let under = pattern_of(*length, *offset, *pattern);
+            if kind == 1 {
+                Test::Destination(under)
+            } else {
+                Test::Source(under)
+            }
+        }
     }
 }
 

@@ -1,9 +1,9 @@
 //! Which rules of a long run a packet may match.
 
-ghost use Rattle.std.specs.Prelude.{◌≡◌, ℕ, ◌+◌, ◌-◌, ◌*◌, ◌^◌, ◌<◌, ◌≤◌, false, true, IfOk, IfSome, List, MatchOption, get_or, length, min};
+ghost use Rattle.std.specs.Prelude.{◌≡◌, ℕ, ◌+◌, ◌-◌, ◌*◌, ◌^◌, ◌<◌, ◌≤◌, false, true, IfOk, IfSome, List, get_or, length, min};
 ghost use Rattle.std.specs.Int.{bit_at};
 ghost use Rattle.fs_compile.specs.Filters.{AreFilters, AreRows, IsFilter, IsInside, front_of, word_of};
-ghost use Rattle.fs_compile.specs.Search.{Found, Missed, hits, tested_to};
+ghost use Rattle.fs_compile.specs.Search.{Scanned, hits};
 
 use crate::columns::{Column, PortRows, row_of, words_of};
 use crate::facts::Facts;
@@ -179,11 +179,7 @@ impl Filter {
         requires few { length rules.now < 2 ^ 32 }
         requires from { self.now.first ≤ from }
         requires to { to ≤ self.now.end }
-        ensures found { MatchOption result
-            (Missed (hits facts.now rules.now) from to)
-            (Found (hits facts.now rules.now) from to) }
-        ensures later { steps.old ≤ steps.new }
-        ensures steps { steps.new ≤ steps.old + (tested_to result to - from) }
+        ensures { Scanned (hits facts.now rules.now) from to to steps.old steps.new result }
     {
         let words = words_of(self.end - self.first);
         let source = self.source.class(facts.key(self.source.field));
@@ -222,11 +218,7 @@ fn scan_rows<L: Ledger>(
     requires first { first ≤ from }
     requires to { to ≤ length rules.now }
     requires few { length rules.now < 2 ^ 32 }
-    ensures found { MatchOption result
-        (Missed (hits facts.now rules.now) from to)
-        (Found (hits facts.now rules.now) from to) }
-    ensures later { steps.old ≤ steps.new }
-    ensures steps { steps.new ≤ steps.old + (tested_to result to - from) }
+    ensures { Scanned (hits facts.now rules.now) from to to steps.old steps.new result }
 {
     let mut place = (from - first) / 64;
     'words: while first + place * 64 < to {
@@ -262,11 +254,7 @@ fn scan_word<L: Ledger>(
         → k < min to (start + 64)
         → get_or (hits facts.now rules.now) k false ≡ true
         → bit_at (word_of rows.now place) (k - start) ≡ 1 }
-    ensures found { MatchOption result
-        (Missed (hits facts.now rules.now) from (min to (start + 64)))
-        (Found (hits facts.now rules.now) from to) }
-    ensures later { steps.old ≤ steps.new }
-    ensures steps { steps.new ≤ steps.old + (tested_to result (min to (start + 64)) - from) }
+    ensures { Scanned (hits facts.now rules.now) from (min to (start + 64)) to steps.old steps.new result }
 {
     if rows.front(place) == 0 {
         return None;

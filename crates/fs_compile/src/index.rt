@@ -10,7 +10,7 @@ ghost use Rattle.fs_compile.specs.Facts.{AreFacts};
 ghost use Rattle.fs_compile.specs.Filters.{AreFilters, IsFilter};
 ghost use Rattle.fs_compile.specs.declared.fast.Fast.{Fast};
 ghost use Rattle.fs_compile.specs.Index.{AreHoused, IsIndexOf, IsOfFamily, StandForEach, actions_of, spans_of};
-ghost use Rattle.fs_compile.specs.Mending.{AreTo, HasStretch, IsStretch, replaced, target_of};
+ghost use Rattle.fs_compile.specs.Mending.{AreBucketsOf, AreTo, HasStretch, IsStretch, replaced, target_of};
 ghost use Rattle.fs_compile.specs.Matcher.{next_from};
 ghost use Rattle.fs_compile.specs.Reach.{number_of, reaching_behind, reaching_from};
 ghost use Rattle.fs_compile.specs.Runs.{AreNesting};
@@ -20,7 +20,7 @@ use crate::buckets::{Buckets, buckets_of, mended_buckets, put_between};
 use crate::facts::Facts;
 use crate::fast::Fast;
 use crate::filters::{FEW_RULES, Filter, Filters};
-use crate::search::{Hit, Place, climb, place_behind, place_from};
+use crate::search::{Cursor, Hit, climb, place_behind, place_from};
 use fs_base::{Address, Family, Memory, Prefix, Steps};
 use fs_rules::{LentRule, SharedActions};
 use std::alloc::Global;
@@ -192,7 +192,7 @@ impl Index {
 
     /// Where a search for the address begins.
     #[inline(always)]
-    pub(crate) fn start(&self, address: Address) -> Place
+    pub(crate) fn start(&self, address: Address) -> Cursor
         ensures starts { Starts self.now.buckets result }
         ensures address { result.address ≡ number_of address }
         ensures from { result.from ≡ 0 }
@@ -201,7 +201,7 @@ impl Index {
     }
 
     /// Where a search for the address goes on behind the rule of the number.
-    pub(crate) fn behind(&self, address: Address, n: usize) -> Place
+    pub(crate) fn behind(&self, address: Address, n: usize) -> Cursor
         requires { n < length self.now.rules }
         ensures starts { Starts self.now.buckets result }
         ensures address { result.address ≡ number_of address }
@@ -215,7 +215,7 @@ impl Index {
     pub(crate) fn search<L: Ledger>(
         &self,
         facts: &Facts<'_>,
-        start: Place,
+        start: Cursor,
         steps: &mut Steps<L>,
     ) -> Option<Hit>
         requires starts { Starts self.now.buckets start }
@@ -277,14 +277,13 @@ fn mended(
     requires fits { from + length list.now + length old.homes.items < 2 ^ 32 + to }
     requires homes { is_some destination ≡ true → to ≤ length old.homes.items }
     requires some { (rules : List Listed) × HasStretch family rules old (target_of destination) from to }
-    ensures sound { IfOk result (λ new.
+    ensures { IfOk result (λ new.
         (rules : List Listed)
         → HasStretch family rules old (target_of destination) from to
-        → AreSound new (from + length list.now + (length rules - to))) }
-    ensures housed { IfOk result (λ new.
-        (rules : List Listed)
-        → HasStretch family rules old (target_of destination) from to
-        → AreHoused (splice (spans_of rules) from to (spans_of (all_admitted list.now))) new) }
+        → AreBucketsOf
+        (splice (spans_of rules) from to (spans_of (all_admitted list.now)))
+        new
+        (from + length list.now + (length rules - to))) }
 {
     let Some(destination) = destination else {
         return Ok(old);

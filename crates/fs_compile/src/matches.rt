@@ -10,7 +10,7 @@ ghost use Rattle.fs_compile.specs.Reach.{number_of, reaching, reaching_behind, r
 
 use crate::facts::Facts;
 use crate::index::Index;
-use crate::search::Place;
+use crate::search::Cursor;
 use fs_base::Steps;
 use fs_packet::View;
 use std::marker::Model;
@@ -22,7 +22,7 @@ use std::sync::ledger::Ledger;
 pub struct Matches<'a> {
     index: &'a Index,
     facts: Facts<'a>,
-    place: Place,
+    place: Cursor,
 }
 
 impl<'a> Model for Matches<'a> {

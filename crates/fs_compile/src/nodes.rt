@@ -3,7 +3,7 @@
 ghost use Rattle.std.specs.Prelude.{◌≡◌, ◌<◌, ◌≤◌, ◌^◌, ◌++◌, ◌∷◌, [], IfOk, IsTrue, OnOk, length};
 ghost use Rattle.fs_base.specs.Bits.{width_of};
 ghost use Rattle.fs_compile.specs.Addresses.{node_width, nodes_in};
-ghost use Rattle.fs_compile.specs.Buckets.{AreAbove, AreHanded, AreMovedOn, AreOpened, AreShifted, IsHanded, node_at};
+ghost use Rattle.fs_compile.specs.Buckets.{AreAbove, AreChanged, AreOpened, beside, moved, node_at, parent_beside};
 
 use fs_base::{Family, Memory};
 use std::alloc::Global;
@@ -75,20 +75,13 @@ impl Nodes {
         }
     }
 
-    /// Puts a node of so many rules at a place, whose address has the width of the others. Of the nodes before it those
-    /// from `low` on lie within it.
-    pub(crate) fn open(
-        &mut self,
-        place: usize,
-        low: usize,
-        node: Node<u128>,
-        count: u32,
-    ) -> Result<(), Memory>
+    /// Puts a node at a place, whose address has the width of the others. Of the nodes before it those from `low` on lie
+    /// within it.
+    pub(crate) fn open(&mut self, place: usize, low: usize, node: Node<u128>) -> Result<(), Memory>
         requires within { place ≤ length (nodes_in self.old) }
         requires few { place < 2 ^ 32 }
         requires width { node.first < 2 ^ node_width self.old }
-        requires fits { AreAbove place 0 count (nodes_in self.old) }
-        ensures { OnOk result (AreOpened place low count node (nodes_in self.old) (nodes_in self.new)) }
+        ensures { OnOk result (AreOpened place low node (nodes_in self.old) (nodes_in self.new)) }
     {
         match self {
             Nodes::V4(items) => {
@@ -97,16 +90,16 @@ impl Nodes {
                     start: node.start,
                     parent: node.parent,
                 };
-                open_node(items, place, low, narrow, count)
+                open_node(items, place, low, narrow)
             }
-            Nodes::V6(items) => open_node(items, place, low, node, count),
+            Nodes::V6(items) => open_node(items, place, low, node),
         }
     }
 
     /// Moves the starts of the nodes from a place on by so many numbers down and so many up.
     pub(crate) fn shift(&mut self, from: usize, down: u32, up: u32)
         requires { AreAbove from down up (nodes_in self.old) }
-        ensures { AreShifted from down up (nodes_in self.old) (nodes_in self.new) }
+        ensures { AreChanged from (length (nodes_in self.old)) (λ _. moved down up) (nodes_in self.old) (nodes_in self.new) }
     {
         match self {
             Nodes::V4(items) => shift_starts(items, from, down, up),
@@ -117,7 +110,7 @@ impl Nodes {
 
 fn shift_starts<K: Copy>(nodes: &mut [Node<K>], from: usize, down: u32, up: u32)
     requires { AreAbove from down up nodes.old }
-    ensures { AreShifted from down up nodes.old nodes.new }
+    ensures { AreChanged from (length nodes.old) (λ _. moved down up) nodes.old nodes.new }
 {
     for place in from..nodes.len() {
         nodes[place].start = nodes[place].start - down + up;
@@ -129,58 +122,38 @@ fn open_node<K: Copy + Drop>(
     place: usize,
     low: usize,
     node: Node<K>,
-    count: u32,
 ) -> Result<(), Memory>
     requires within { place ≤ length nodes.old.items }
     requires few { place < 2 ^ 32 }
-    requires fits { AreAbove place 0 count nodes.old.items }
-    ensures { OnOk result (AreOpened place low count node nodes.old.items nodes.new.items) }
+    ensures { OnOk result (AreOpened place low node nodes.old.items nodes.new.items) }
 {
-    hand_over(nodes, place, low);
-    move_on(nodes, place, count);
+    name_parents(nodes, place, low);
     nodes.insert(place, node)?;
     Ok(())
 }
 
-/// Names the parents of the nodes before a place anew where another is put there.
-fn hand_over<K: Copy>(nodes: &mut [Node<K>], place: usize, low: usize)
-    requires within { place ≤ length nodes.old }
-    requires few { place < 2 ^ 32 }
-    ensures { AreHanded place low place nodes.old nodes.new }
+/// Names the parents of the nodes anew where another is put at a place.
+fn name_parents<K: Copy>(nodes: &mut [Node<K>], place: usize, low: usize)
+    requires { place < 2 ^ 32 }
+    ensures { AreChanged 0 (length nodes.old) (beside place low) nodes.old nodes.new }
 {
-    for number in 0..place {
-        nodes[number] = handed(nodes[number], number, place as u32, low);
+    for number in 0..nodes.len() {
+        nodes[number].parent = parent_beside(nodes[number].parent, number, place, low);
     }
 }
 
-/// The node of a number before a place with its parent named anew where another is put there.
+/// The parent of the node of a number where another node is put at a place.
 #[inline(always)]
-fn handed<K: Copy>(node: Node<K>, number: usize, place: u32, low: usize) -> Node<K>
-    ensures { IsHanded place low number node result }
+fn parent_beside(parent: u32, number: usize, place: usize, low: usize) -> u32
+    requires { place < 2 ^ 32 }
+    ensures { result ≡ parent_beside place low number parent }
 {
-    let parent = if node.parent < place {
-        node.parent
-    } else if number < low {
-        node.parent.wrapping_add(1)
+    if (parent as usize) < place {
+        parent
+    } else if number < low || place <= number {
+        parent.wrapping_add(1)
     } else {
-        place
-    };
-    Node { parent, ..node }
-}
-
-/// Moves the starts of the nodes from a place on by so many numbers up, and names their parents anew where another is put
-/// there.
-fn move_on<K: Copy>(nodes: &mut [Node<K>], place: usize, count: u32)
-    requires { AreAbove place 0 count nodes.old }
-    ensures { AreMovedOn place (length nodes.old) count nodes.old nodes.new }
-{
-    for number in place..nodes.len() {
-        let node = nodes[number];
-        nodes[number] = Node {
-            start: node.start + count,
-            parent: node.parent.wrapping_add(1),
-            ..node
-        };
+        place as u32
     }
 }
 

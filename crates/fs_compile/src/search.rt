@@ -6,7 +6,7 @@ ghost use Rattle.fs_compile.specs.Addresses.{numbers_in, nodes_in};
 ghost use Rattle.fs_compile.specs.Buckets.{node_at};
 ghost use Rattle.fs_compile.specs.Filters.{AreFilters};
 ghost use Rattle.fs_compile.specs.Reach.{number_of};
-ghost use Rattle.fs_compile.specs.Search.{AreSound, Found, IsNear, Missed, Starts, Within, behind_hit, hit_number, hits, marked, parent_at, start_at, tested_to};
+ghost use Rattle.fs_compile.specs.Search.{AreSound, Found, IsNear, Missed, Scanned, Starts, Within, behind_hit, hit_number, hits, marked, parent_at, start_at, tested_to};
 
 use crate::buckets::Buckets;
 use crate::facts::Facts;
@@ -17,7 +17,7 @@ use std::sync::ledger::Ledger;
 
 /// Where a search for an address goes on: at a bucket, among the rules from a number on.
 #[derive(Clone, Copy, Drop)]
-pub(crate) struct Place {
+pub(crate) struct Cursor {
     pub(crate) address: u128,
     pub(crate) bucket: usize,
     pub(crate) from: usize,
@@ -40,11 +40,7 @@ fn scan<L: Ledger>(
     steps: &mut Steps<L>,
 ) -> Option<usize>
     requires { to ≤ length rules.now }
-    ensures found { MatchOption result
-        (Missed (hits facts.now rules.now) from to)
-        (Found (hits facts.now rules.now) from to) }
-    ensures later { steps.old ≤ steps.new }
-    ensures steps { steps.new ≤ steps.old + (tested_to result to - from) }
+    ensures { Scanned (hits facts.now rules.now) from to to steps.old steps.new result }
 {
     for number in from..to {
         if rules[number].test_facts(facts, steps) {
@@ -69,11 +65,7 @@ fn scan_run<L: Ledger>(
     requires within { to ≤ length rules.now }
     requires few { length rules.now < 2 ^ 32 }
     requires filters { AreFilters rules.now filters.now }
-    ensures found { MatchOption result
-        (Missed (hits facts.now rules.now) from to)
-        (Found (hits facts.now rules.now) from to) }
-    ensures later { steps.old ≤ steps.new }
-    ensures steps { steps.new ≤ steps.old + (tested_to result to - from) }
+    ensures { Scanned (hits facts.now rules.now) from to to steps.old steps.new result }
 {
     if long && to.wrapping_sub(from) > FEW_RULES {
         scan_long(rules, filters, facts, from, to, steps)
@@ -95,11 +87,7 @@ fn scan_long<L: Ledger>(
     requires within { to ≤ length rules.now }
     requires few { length rules.now < 2 ^ 32 }
     requires filters { AreFilters rules.now filters.now }
-    ensures found { MatchOption result
-        (Missed (hits facts.now rules.now) from to)
-        (Found (hits facts.now rules.now) from to) }
-    ensures later { steps.old ≤ steps.new }
-    ensures steps { steps.new ≤ steps.old + (tested_to result to - from) }
+    ensures { Scanned (hits facts.now rules.now) from to to steps.old steps.new result }
 {
     match filters.of(from, to) {
         Some(filter) => filter.scan(rules, facts, from, to, steps),
@@ -114,7 +102,7 @@ fn scan_bucket<L: Ledger>(
     rules: &[Fast],
     filters: &Filters,
     facts: &Facts<'_>,
-    place: Place,
+    place: Cursor,
     long: bool,
     steps: &mut Steps<L>,
 ) -> Option<usize>
@@ -163,7 +151,7 @@ pub(crate) fn climb<L: Ledger>(
     rules: &[Fast],
     filters: &Filters,
     facts: &Facts<'_>,
-    start: Place,
+    start: Cursor,
     long: bool,
     steps: &mut Steps<L>,
 ) -> Option<Hit>
@@ -187,7 +175,7 @@ pub(crate) fn climb<L: Ledger>(
 {
     let mut bucket = start.bucket;
     while bucket < buckets.lasts.len() {
-        let place = Place { bucket, ..start };
+        let place = Cursor { bucket, ..start };
         let parent = buckets.nodes.at(bucket).parent;
         if let Some(number) = scan_bucket(buckets, rules, filters, facts, place, long, steps) {
             return Some(Hit { number, bucket });
@@ -202,13 +190,13 @@ pub(crate) fn climb<L: Ledger>(
 /// Where a search for an address begins, among all rules from a number on: at the first bucket that doesn't end below
 /// the address.
 #[inline(always)]
-pub(crate) fn place_from(buckets: &Buckets, address: Address, from: usize) -> Place
+pub(crate) fn place_from(buckets: &Buckets, address: Address, from: usize) -> Cursor
     requires { AreSound buckets.now (length buckets.now.homes.items) }
     ensures starts { Starts buckets.now result }
     ensures address { result.address ≡ number_of address }
     ensures from { result.from ≡ from }
 {
-    Place {
+    Cursor {
         address: number(address),
         bucket: buckets.lasts.find_marked(&buckets.marks, address),
         from,
@@ -216,7 +204,7 @@ pub(crate) fn place_from(buckets: &Buckets, address: Address, from: usize) -> Pl
 }
 
 /// Where a search for an address goes on behind a rule: in its bucket, unless that ends below the address.
-pub(crate) fn place_behind(buckets: &Buckets, address: Address, n: usize) -> Place
+pub(crate) fn place_behind(buckets: &Buckets, address: Address, n: usize) -> Cursor
     requires sound { AreSound buckets.now (length buckets.now.homes.items) }
     requires fits { n + 1 < 2 ^ 64 }
     ensures starts { Starts buckets.now result }
@@ -224,7 +212,7 @@ pub(crate) fn place_behind(buckets: &Buckets, address: Address, n: usize) -> Pla
     ensures from { result.from ≡ n + 1 }
 {
     if n >= buckets.homes.len() {
-        return Place {
+        return Cursor {
             address: number(address),
             bucket: buckets.lasts.len(),
             from: n + 1,
@@ -234,7 +222,7 @@ pub(crate) fn place_behind(buckets: &Buckets, address: Address, n: usize) -> Pla
     if buckets.lasts.at(bucket) < number(address) {
         return place_from(buckets, address, n + 1);
     }
-    Place {
+    Cursor {
         address: number(address),
         bucket,
         from: n + 1,

@@ -2,7 +2,7 @@
 use Rattle.std.proofs.Common.{◌≡◌, inl, inr, ℕ, ◌+◌, ◌<◌, List, [], ◌∷◌, ◌++◌, length, take, drop, get_or, Option, Result, Ok, Err, OnOk, OnErr, IsErrAnd, ◌≤◌, arith, sym, ◌∙◌, ap, subst, append_assoc, append-nil}
 use Rattle.std.proofs.lemmas.Grind.{common_steps}
 use Rattle.std.proofs.lemmas.List.{take_more, take-append-drop}
-use Rattle.fs_base.specs.Outside.{HasCause, Rose}
+use Rattle.fs_base.specs.Outside.{HasCause}
 use Rattle.fs_base.specs.Sink.{Grew, GrewPart}
 use Rattle.fs_base.proofs.Grew.{Grew-refl, Grew-trans, part_more, part_then}
 use Rattle.fs_line.specs.Output.{Goes, Partly, Stops, Sent}
@@ -40,19 +40,13 @@ stops_more {a} {b} {p} {q} {xs} ys stop =
     let P : List ℕ → Type 0 = λ text. GrewPart a b text in
     record { part = subst P (append_assoc p xs ys) (part_more a b (p ++ xs) ys stop.part); empty = stop.empty }
 
-rose_later : {f g h : ℕ} → f ≤ g → Rose g h → Rose f h
-rose_later {f} {g} {h} before rose = omega (arith, before, rose)
-
-later_both : {f g h : ℕ} → f ≤ g → g ≤ h → f ≤ h
-later_both {f} {g} {h} first then = omega (arith, first, then)
-
 -- what is sent first and then
 pub sends_then : {T U E F : Type 0} {f g h : ℕ} {a b c : Option (List ℕ)} {p q r xs ys : List ℕ} {value : T} {result : Result U F}
     → Sent {T = T} {E = E} f g a b p q xs (Ok value) → Sent g h b c q r ys result → Sent f h a c p r (xs ++ ys) result
 sends_then {result = Ok value} first then =
-    record { later = later_both first.later then.later; ok = goes_then first.ok then.ok; err = tt }
+    record { later = omega (arith, first.later, then.later); ok = goes_then first.ok then.ok; err = tt }
 sends_then {result = Err error} first then =
-    record { later = later_both first.later then.later; ok = tt; err = (goes_stops first.ok then.err.0, rose_later first.later then.err.1) }
+    record { later = omega (arith, first.later, then.later); ok = tt; err = (goes_stops first.ok then.err.0, omega (arith, first.later, then.err.1)) }
 
 -- the sink failed in the first part of a text, and the error is handed on
 pub sends_stopped : {T U E F : Type 0} {f g : ℕ} {a b : Option (List ℕ)} {p q xs : List ℕ} {error : E} (ys : List ℕ) (R : F → Type 0) (result : Result U F)
@@ -127,7 +121,7 @@ flush_failed {a = a} {b = b} {p = p} xs R (Err error) on part empty cause = reco
 pub sent_straight : {T E : Type 0} {f g h : ℕ} {a c : Option (List ℕ)} {p q xs : List ℕ} (b : Option (List ℕ)) (result : Result T E)
     → Grew a b p → q ≡ [] → f ≤ g → OnOk result (Grew b c xs) → OnErr result (GrewPart b c xs) → HasCause g h result → Sent f h a c p q xs result
 sent_straight {a = a} {c = c} {p = p} {xs = xs} b (Ok value) flushed empty later ok err cause = record {
-  later = later_both later cause.later;
+  later = omega (arith, later, cause.later);
   ok = record {
     flushed = p ++ xs;
     grew = Grew-trans a b c p xs flushed ok;
@@ -136,9 +130,9 @@ sent_straight {a = a} {c = c} {p = p} {xs = xs} b (Ok value) flushed empty later
   err = tt;
 }
 sent_straight {a = a} {c = c} {p = p} {xs = xs} b (Err error) flushed empty later ok err cause = record {
-  later = later_both later cause.later;
+  later = omega (arith, later, cause.later);
   ok = tt;
-  err = (record { part = part_then a b c p xs flushed err; empty = empty }, rose_later later cause.failed);
+  err = (record { part = part_then a b c p xs flushed err; empty = empty }, omega (arith, later, cause.failed));
 }
 
 -- a text that is equal
@@ -167,7 +161,7 @@ pub sends_more : {X T E : Type 0} {f g h : ℕ} {a b c : Option (List ℕ)} {p q
     → SentSo f g a b p q (text (take i xs)) → Sent {T = T} {E = E} g h b c q r (text (get_or xs i d ∷ [])) (Ok value)
     → SentSo f h a c p r (text (take (i + 1) xs))
 sends_more text adds xs i d below first then = record {
-  later = later_both first.later then.later;
+  later = omega (arith, first.later, then.later);
   goes = goes_as (text_more text adds xs i d below) (goes_then first.goes then.ok);
 }
 
@@ -187,11 +181,11 @@ pub sends_within : {X T U E F : Type 0} {f g h : ℕ} {a b c : Option (List ℕ)
     → Sent f h a c p r (text xs) result
 sends_within text adds xs i d below R (Ok value) on first then = absurd on
 sends_within text adds xs i d below R (Err error) on first then = record {
-  later = later_both first.later then.later;
+  later = omega (arith, first.later, then.later);
   ok = tt;
   err = (
     stops_as (text_whole text adds xs i d below) (goes_stops first.goes (stops_more (text (drop (i + 1) xs)) then.err.0)),
-    rose_later first.later then.err.1,
+    omega (arith, first.later, then.err.1),
   );
 }
 

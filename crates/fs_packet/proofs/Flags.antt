@@ -1,9 +1,10 @@
 -- One number serves TCP flag values of either width.
-use Rattle.std.proofs.Common.{◌≡◌, ℕ, ◌-◌, ◌<◌, ◌%◌, ◌^◌, List, [], ◌∷◌, Bool, true, false, not, ◌==◌, ◌&&◌, ◌||◌, if◌then◌else◌, refl, sym, ap, ◌∙◌, arith, bit_and, subst}
-use Rattle.std.specs.List.{AllByRecursion, list_all, list_any}
+use Rattle.std.proofs.Common.{◌≡◌, ℕ, ◌-◌, ◌<◌, ◌%◌, ◌^◌, List, [], ◌∷◌, Bool, true, false, not, ◌==◌, if◌then◌else◌, refl, sym, ap, ◌∙◌, arith, bit_and, subst}
+use Rattle.std.specs.List.{AllByRecursion, list_all}
 use Rattle.std.proofs.lemmas.Nat.{and_assoc, and_comm, and_mask}
 use Rattle.std.proofs.Math.Nat.{mod-eq_of_lt}
 use Rattle.std.proofs.lemmas.Bool.{eqb-true}
+use Rattle.fs_base.proofs.Lists.{all_on, any_on}
 use Rattle.fs_ops.specs.Operator.{joins, meant_bits, width_of}
 use Rattle.fs_ops.specs.OperatorList.{AreNormal}
 use Rattle.fs_ops.specs.Evaluation.{groups_of, has_bit, holds, masks, onto_group}
@@ -23,14 +24,6 @@ wide_pairs bits (pair ∷ next ∷ pairs) h = (h.0.fits, wide_pairs bits (next �
 pub sound_is_wide : (pairs : List (ℕ × ℕ)) → IsSoundBody (ListBody pairs) → AreWide pairs
 sound_is_wide pairs h = wide_pairs (meant_bits h.0) pairs h.1.normal
 
-any_same : {X : Type 0} (f g : X → Bool) (xs : List X) → AllByRecursion (λ x. f x ≡ g x) xs → list_any f xs ≡ list_any g xs
-any_same f g [] h = refl
-any_same f g (x ∷ xs) h = λ i. h.0 i || any_same f g xs h.1 i
-
-all_same : {X : Type 0} (f g : X → Bool) (xs : List X) → AllByRecursion (λ x. f x ≡ g x) xs → list_all f xs ≡ list_all g xs
-all_same f g [] h = refl
-all_same f g (x ∷ xs) h = λ i. h.0 i && all_same f g xs h.1 i
-
 each_onto : (P : ℕ × ℕ → Type 0) (pair : ℕ × ℕ) (groups : List (List (ℕ × ℕ))) → P pair → AllByRecursion (AllByRecursion P) groups → AllByRecursion (AllByRecursion P) (onto_group pair groups)
 each_onto P pair [] p h = ((p, tt), tt)
 each_onto P pair (group ∷ groups) p h = ((p, h.0), h.1)
@@ -47,11 +40,11 @@ each_group P (pair ∷ next ∷ pairs) h = at (joins next.0) (each_group P (next
 
 groups_same : (f g : ℕ × ℕ → Bool) (groups : List (List (ℕ × ℕ))) → AllByRecursion (AllByRecursion (λ x. f x ≡ g x)) groups → AllByRecursion (λ group. list_all f group ≡ list_all g group) groups
 groups_same f g [] h = tt
-groups_same f g (group ∷ groups) h = (all_same f g group h.0, groups_same f g groups h.1)
+groups_same f g (group ∷ groups) h = (all_on f g group h.0, groups_same f g groups h.1)
 
 -- tests that agree on the pairs
 pub holds_same : (f g : ℕ × ℕ → Bool) (pairs : List (ℕ × ℕ)) → AllByRecursion (λ x. f x ≡ g x) pairs → holds f pairs ≡ holds g pairs
-holds_same f g pairs h = any_same (list_all f) (list_all g) (groups_of pairs) (groups_same f g (groups_of pairs) (each_group (λ x. f x ≡ g x) pairs h))
+holds_same f g pairs h = any_on (list_all f) (list_all g) (groups_of pairs) (groups_same f g (groups_of pairs) (each_group (λ x. f x ≡ g x) pairs h))
 
 -- a value of at most k bits sees no more of a number
 low_bits : (k number value : ℕ) → value < 2 ^ k → bit_and (bit_and number (2 ^ k - 1)) value ≡ bit_and number value

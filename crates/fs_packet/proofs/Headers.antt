@@ -1,21 +1,17 @@
 -- The tests of a network header, one by one.
-use Rattle.std.proofs.Common.{◌≡◌, ℕ, ◌/◌, ◌<◌, ◌≤◌, List, length, drop, slice_index, Option, Some, Ok, Err, sym, subst, ◌∙◌, arith, false, not, ◌==◌, ◌&&◌, nat_lt, if◌then◌else◌}
+use Rattle.std.proofs.Common.{◌≡◌, ℕ, ◌/◌, ◌<◌, ◌≤◌, List, length, drop, slice_index, Option, Some, Ok, Err, sym, subst, ◌∙◌, arith, false, not, ◌==◌, ◌&&◌, if◌then◌else◌}
 use Rattle.std.proofs.lemmas.Bool.Decides.{nat_tests}
+use Rattle.std.proofs.lemmas.Bool.{le-ltb}
 use Rattle.fs_base.specs.declared.prefix.Family.TheVariants.{V4, V6}
+use Rattle.fs_base.proofs.NumberTests.{not_zero}
 use Rattle.fs_packet.specs.Fields.{number_at}
 use Rattle.fs_packet.specs.Chain.{last_field, protocol_at}
 use Rattle.fs_packet.specs.Fields.{viewed}
 use Rattle.fs_packet.specs.Reading.{v4_fragment, v4_size, v4_transport, v4_view, v6_chain, v6_fragment, v6_length, v6_view}
 use Rattle.fs_packet.specs.declared.fields.Unread.TheVariants.{Short, Version, Header, Length}
 
-some_octet : (n : ℕ) → 0 < n → (n == 0) ≡ false
-some_octet n h = grind (arith, nat_tests)
-
 same_number : (a b : ℕ) → a ≡ b → not (a == b) ≡ false
 same_number a b h = grind (arith, nat_tests)
-
-not_below : (a b : ℕ) → b ≤ a → nat_lt a b ≡ false
-not_below a b h = grind (arith, nat_tests)
 
 -- an IPv4 header that passes all tests
 pub v4_read : (packet : List ℕ) (len fragment : ℕ) (transport : List ℕ) → 0 < length packet → slice_index packet 0 / 16 ≡ 4 → 20 ≤ v4_size packet → v4_size packet ≤ length packet → len ≡ number_at 2 packet 2 → v4_size packet ≤ len
@@ -23,11 +19,11 @@ pub v4_read : (packet : List ℕ) (len fragment : ℕ) (transport : List ℕ) �
 v4_read packet len fragment transport some version low held e counted f t =
     let total : v4_size packet ≤ number_at 2 packet 2 = subst (λ (n : ℕ). v4_size packet ≤ n) e counted in
     (λ i. Ok (viewed V4 packet (e i) (Some (slice_index packet 9)) (f i) (t i)))
-    ∙ sym (λ i. if some_octet (length packet) some i then Err Short
+    ∙ sym (λ i. if not_zero (length packet) some i then Err Short
     else (if same_number (slice_index packet 0 / 16) 4 version i then Err Version
-    else (if not_below (v4_size packet) 20 low i then Err Header
-    else (if not_below (length packet) (v4_size packet) held i then Err Short
-    else (if not_below (number_at 2 packet 2) (v4_size packet) total i then Err Length
+    else (if le-ltb (v4_size packet) 20 low i then Err Header
+    else (if le-ltb (length packet) (v4_size packet) held i then Err Short
+    else (if le-ltb (number_at 2 packet 2) (v4_size packet) total i then Err Length
     else Ok (viewed V4 packet (number_at 2 packet 2) (Some (slice_index packet 9)) (v4_fragment (number_at 2 packet 6)) (v4_transport packet)))))))
 
 -- an IPv6 header that passes all tests
@@ -36,8 +32,8 @@ pub v6_read : (packet : List ℕ) (len : ℕ) (protocol : Option ℕ) (fragment 
     → Ok (viewed V6 packet len protocol fragment transport) ≡ v6_view packet
 v6_read packet len protocol fragment transport some version held small e p f t =
     (λ i. Ok (viewed V6 packet (e i) (p i) (f i) (t i)))
-    ∙ sym (λ i. if some_octet (length packet) some i then Err Short
+    ∙ sym (λ i. if not_zero (length packet) some i then Err Short
     else (if same_number (slice_index packet 0 / 16) 6 version i then Err Version
-    else (if not_below (length packet) 40 held i then Err Short
+    else (if le-ltb (length packet) 40 held i then Err Short
     else (if small i then Err Length
     else Ok (viewed V6 packet (v6_length packet) (protocol_at (v6_chain packet).1) (v6_fragment (last_field 0 (v6_chain packet).0)) (drop 1 (v6_chain packet).1))))))

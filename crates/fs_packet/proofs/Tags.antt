@@ -1,6 +1,6 @@
 -- One tag more of an Ethernet header.
 use Rattle.std.proofs.Common.{◌≡◌, ℕ, zero, suc, ◌+◌, ◌-◌, ◌*◌, ◌<◌, ◌≤◌, List, length, Err, sym, ◌∙◌, arith, true, false, Bool, nat_lt, if◌then◌else◌}
-use Rattle.std.proofs.lemmas.Bool.Decides.{nat_tests}
+use Rattle.std.proofs.lemmas.Bool.{le-ltb}
 use Rattle.fs_packet.specs.Fields.{number_at}
 use Rattle.fs_packet.specs.Reading.{behind_tags, behind_type, is_tag}
 use Rattle.fs_packet.specs.declared.fields.Unread.TheVariants.{Short}
@@ -14,20 +14,17 @@ tests_known : (tags place : ℕ) (octets : List ℕ) (b c : Bool) → nat_lt (le
     → behind_tags (suc tags) place octets ≡ (if b then Err Short else (if c then behind_tags tags (place + 4) octets else behind_type place (place + 2) octets))
 tests_known tags place octets b c h k = λ i. if h i then Err Short else (if k i then behind_tags tags (place + 4) octets else behind_type place (place + 2) octets)
 
-not_short : (n place : ℕ) → place + 2 ≤ n → nat_lt n (place + 2) ≡ false
-not_short n place h = grind (arith, nat_tests)
-
 -- one tag more was passed
 pub tagged_more : (octets : List ℕ) (tags place : ℕ) → 0 < tags → place + 2 ≤ length octets → is_tag (number_at 2 octets place) ≡ true → Tagged octets tags place → Tagged octets (tags - 1) (place + 4)
 tagged_more octets zero place some held tag h = absurd (omega arith)
 tagged_more octets (suc tags) place some held tag h =
     let one : suc tags - 1 ≡ tags = omega arith in
     record {
-      same = rw one (sym (tests_known tags place octets false true (not_short (length octets) place held) tag) ∙ h.same);
+      same = rw one (sym (tests_known tags place octets false true (le-ltb (length octets) (place + 2) held) tag) ∙ h.same);
       near = omega (arith, h.near);
     }
 
 -- no tag stands at the place
 pub tagged_type : (octets : List ℕ) (tags place : ℕ) → 0 < tags → place + 2 ≤ length octets → is_tag (number_at 2 octets place) ≡ false → Tagged octets tags place → behind_type place (place + 2) octets ≡ behind_tags 2 12 octets
 tagged_type octets zero place some held tag h = absurd (omega arith)
-tagged_type octets (suc tags) place some held tag h = sym (tests_known tags place octets false false (not_short (length octets) place held) tag) ∙ h.same
+tagged_type octets (suc tags) place some held tag h = sym (tests_known tags place octets false false (le-ltb (length octets) (place + 2) held) tag) ∙ h.same

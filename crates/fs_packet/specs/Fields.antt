@@ -112,32 +112,21 @@ upper_of family (Some protocol) =
 
 -- the protocol, by what it says and its number
 abbrev pub protocol_of : Upper → ℕ → Option ℕ
-protocol_of Tcp number = Some number
-protocol_of Udp number = Some number
-protocol_of Icmp number = Some number
-protocol_of Other number = Some number
 protocol_of Unknown number = None
+protocol_of upper number = Some number
 
 abbrev pub says_tcp : Upper → Bool
 says_tcp Tcp = true
-says_tcp Udp = false
-says_tcp Icmp = false
-says_tcp Other = false
-says_tcp Unknown = false
+says_tcp upper = false
 
 abbrev pub says_ports : Upper → Bool
 says_ports Tcp = true
 says_ports Udp = true
-says_ports Icmp = false
-says_ports Other = false
-says_ports Unknown = false
+says_ports upper = false
 
 abbrev pub says_icmp : Upper → Bool
-says_icmp Tcp = false
-says_icmp Udp = false
 says_icmp Icmp = true
-says_icmp Other = false
-says_icmp Unknown = false
+says_icmp upper = false
 
 -- what is true of each view: its header is whole, its fragment bits are of a rule's four, and what its protocol says is
 -- known

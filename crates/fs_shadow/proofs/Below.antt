@@ -2,7 +2,7 @@
 use Rattle.std.proofs.Common.{◌≡◌, ℕ, zero, suc, ◌+◌, ◌<◌, ◌≤◌, Bool, true, false, refl, sym, subst, arith, inl, inr}
 use Rattle.std.specs.List.{list_all, range_with_len}
 use Rattle.std.proofs.lemmas.Bool.{and_from, and_parts, cases_eq, cases_lt, true≢false}
-use Rattle.fs_compile.proofs.Truths.{same_truth}
+use Rattle.fs_base.proofs.Bools.{same_tests}
 use Rattle.fs_shadow.specs.Contains.{all_below, implies}
 
 range_from : (test : ℕ → Bool) (a n : ℕ) → list_all test (range_with_len a n) ≡ true → (k : ℕ) → a ≤ k → k < a + n → test k ≡ true
@@ -29,7 +29,7 @@ below_from bound test each = range_to test 0 bound (λ k low high. each k (omega
 
 -- what such a test is, where something else decides the same
 pub below_is : (r : Bool) (bound : ℕ) (test : ℕ → Bool) → (r ≡ true → (n : ℕ) → n < bound → test n ≡ true) → (((n : ℕ) → n < bound → test n ≡ true) → r ≡ true) → r ≡ all_below bound test
-below_is r bound test to from = same_truth r (all_below bound test) (λ h. below_from bound test (to h)) (λ h. from (each_below bound test h))
+below_is r bound test to from = same_tests r (all_below bound test) (λ h. below_from bound test (to h)) (λ h. from (each_below bound test h))
 
 pub implied : (one other : Bool) → (one ≡ true → other ≡ true) → implies one other ≡ true
 implied true other h = h refl

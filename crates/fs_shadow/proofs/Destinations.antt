@@ -1,8 +1,9 @@
 -- Which rules may contain which by their destinations: of rules in order an earlier contains a later one only where all
 -- between them have their destination too, or where its destination is all addresses.
 use Rattle.std.proofs.Common.{◌≡◌, ℕ, zero, suc, ◌+◌, ◌-◌, ◌*◌, ◌^◌, ◌<◌, ◌≤◌, ◌==◌, ◌⊎◌, inl, inr, Bool, true, false, not, ◌&&◌, ◌||◌, nat_lt, cond, Option, Some, None, List, [], ◌∷◌, get_or, length, refl, sym, ap, subst, ◌∙◌, pow_pos, arith}
-use Rattle.std.specs.List.{AllByRecursion, list_all, list_any, slice_get}
-use Rattle.std.proofs.lemmas.Bool.{and_parts, cases_Bool, cases_eq, cases_lt, eq-eqb, eqb-true, ltb-true, or_cases, true≢false}
+use Rattle.std.specs.List.{list_all, list_any, slice_get}
+use Rattle.std.proofs.lemmas.Bool.{and_parts, and_right, cases_Bool, cases_eq, cases_lt, eq-eqb, eqb-true, ltb-true, or_cases, true≢false}
+use Rattle.std.proofs.lemmas.Option.{none-some, same_Some, slice_get_within}
 use Rattle.fs_base.specs.declared.prefix.Family.{Family}
 use Rattle.fs_base.specs.declared.prefix.Family.TheVariants.{V4, V6}
 use Rattle.fs_base.specs.Bits.{cleared, width_of}
@@ -13,19 +14,14 @@ use Rattle.fs_nlri.specs.Rule.{AreNormal, IsNormalAt, destination_body, destinat
 use Rattle.fs_nlri.proofs.Destination.{IsMade, destination_first}
 use Rattle.fs_order.specs.Laws.{last_shown}
 use Rattle.fs_rules.specs.Lent.{Listed}
+use Rattle.fs_rules.proofs.Elsewhere.{family_of_destination}
 use Rattle.fs_compile.specs.Index.{IsOfFamily, span_by, span_of, spans_of}
-use Rattle.fs_compile.proofs.Reaching.{HasDestination, family_of_destination, from_span, made_destination}
-use Rattle.fs_compile.proofs.Truths.{and_false}
+use Rattle.fs_compile.proofs.Reaching.{HasDestination, from_span, made_destination}
+use Rattle.fs_compile.proofs.Splicing.{each_got}
 use Rattle.fs_shadow.specs.Contains.{body_lies_in, contains, may_lie_in, part_lies_in}
 use Rattle.fs_shadow.specs.Outlines.{AreInOrder, begins_anew, lie_apart}
 use Rattle.fs_shadow.specs.Reporting.{takes_all}
 use Rattle.fs_shadow.proofs.ByBits.{v4_less, v4_same, v6_less, v6_same}
-
-none_some : {X : Type 0} (x : X) → None ≡ Some x → ⊥
-none_some x e = cc
-
-some_same : {X : Type 0} (x y : X) → Some x ≡ Some y → x ≡ y
-some_same x y e = cc
 
 -- a destination that lies in one with these ends, or none that does
 abbrev Within : Option (ℕ × ℕ) → (s : ℕ × ℕ) → (size : ℕ) → Type 0
@@ -107,7 +103,7 @@ v6_within m o a n b h k lies = at (o == 0) refl (v6_bits m o a n b h k lies)
 body_within : (family : Family) (x y : Body) (d : Family × ℕ × ℕ) → IsNormalAt (form_of family 1) x → IsNormalAt (form_of family 1) y → destination_body x ≡ Some d → body_lies_in 1 y x ≡ true
     → Within (span_by (destination_body y)) (d.1, last_shown d) (2 ^ width_of family)
 body_within V4 (V4Body g n b) (V4Body f m a) d k h e lies =
-    subst (λ (t : Family × ℕ × ℕ). Within (Some (a, last_shown (f, a, m))) (t.1, last_shown t) (2 ^ 32)) (some_same (g, b, n) d e)
+    subst (λ (t : Family × ℕ × ℕ). Within (Some (a, last_shown (f, a, m))) (t.1, last_shown t) (2 ^ 32)) (same_Some (g, b, n) d e)
     (subst (λ x. Within (Some (a, last_shown (x, a, m))) (b, last_shown (g, b, n)) (2 ^ 32)) (sym h.0)
     (subst (λ x. Within (Some (a, last_shown (V4, a, m))) (b, last_shown (x, b, n)) (2 ^ 32)) (sym k.0)
     (v4_within m a n b (h.1, h.2) (k.1, k.2) (subst (λ x. body_lies_in 1 (V4Body V4 m a) (V4Body x n b) ≡ true) k.0 (subst (λ x. body_lies_in 1 (V4Body x m a) (V4Body g n b) ≡ true) h.0 lies)))))
@@ -122,10 +118,10 @@ body_within V6 (V6Body n p b) (ListBody ps) d k h e lies = absurd h
 body_within V6 (V6Body n p b) (V6Body m o a) d k h e lies = at (p == 0) refl e
   where
     at : (c : Bool) → (p == 0) ≡ c → cond c (Some (V6, b, n)) None ≡ Some d → Within (span_by (destination_body (V6Body m o a))) (d.1, last_shown d) (2 ^ 128)
-    at false z g = absurd (none_some d g)
+    at false z g = absurd (none-some d g)
     at true z g =
         let zero_is : p ≡ 0 = eqb-true p 0 z in
-        subst (λ (t : Family × ℕ × ℕ). Within (span_by (destination_body (V6Body m o a))) (t.1, last_shown t) (2 ^ 128)) (some_same (V6, b, n) d g)
+        subst (λ (t : Family × ℕ × ℕ). Within (span_by (destination_body (V6Body m o a))) (t.1, last_shown t) (2 ^ 128)) (same_Some (V6, b, n) d g)
         (v6_within m o a n b h (subst (λ q. IsNormalAt (form_of V6 1) (V6Body n q b)) zero_is k) (subst (λ q. body_lies_in 1 (V6Body m o a) (V6Body n q b) ≡ true) zero_is lies))
 
 -- a destination lies in the first component alone
@@ -163,14 +159,14 @@ first_within family x d (y ∷ ys) k normal e some =
 
 parts_within : (family : Family) (xs ys : List Part) (d : Family × ℕ × ℕ) → AreNormal family 0 xs → AreNormal family 0 ys → destination_in xs ≡ Some d
     → list_all (λ outer. list_any (λ inner. part_lies_in inner outer) ys) xs ≡ true → Within (span_by (destination_in ys)) (d.1, last_shown d) (2 ^ width_of family)
-parts_within family [] ys d normal also e all = absurd (none_some d e)
+parts_within family [] ys d normal also e all = absurd (none-some d e)
 parts_within family (x ∷ xs) ys d normal also e all = at (x.kind == 1) refl (sym (destination_first family x xs normal) ∙ e)
   where
     any : list_any (λ inner. part_lies_in inner x) ys ≡ true
     any = (and_parts (list_any (λ inner. part_lies_in inner x) ys) (list_all (λ outer. list_any (λ inner. part_lies_in inner outer) ys) xs) all).0
 
     at : (c : Bool) → (x.kind == 1) ≡ c → cond c (destination_body x.body) None ≡ Some d → Within (span_by (destination_in ys)) (d.1, last_shown d) (2 ^ width_of family)
-    at false c g = absurd (none_some d g)
+    at false c g = absurd (none-some d g)
     at true c g =
         let one : x.kind ≡ 1 = eqb-true x.kind 1 c in
         first_within family x d ys (subst (λ q. IsNormalAt (form_of family q) x.body) one normal.1) also g
@@ -216,14 +212,9 @@ rule_ends family a p h e = subst (λ (t : ℕ × ℕ). (t.0 ≤ t.1) × (t.1 + 1
 
 -- what stands at a place of a list of rules
 span_at : (rules : List Listed) (i : ℕ) (a : Listed) → slice_get rules i ≡ Some a → get_or (spans_of rules) i None ≡ span_of a.rule
-span_at [] i a e = absurd (none_some a e)
-span_at (r ∷ rs) zero a e = ap (λ (x : Listed). span_of x.rule) (some_same r a e)
+span_at [] i a e = absurd (none-some a e)
+span_at (r ∷ rs) zero a e = ap (λ (x : Listed). span_of x.rule) (same_Some r a e)
 span_at (r ∷ rs) (suc i) a e = span_at rs i a e
-
-family_at : (family : Family) (rules : List Listed) (i : ℕ) (a : Listed) → AllByRecursion (IsOfFamily family) rules → slice_get rules i ≡ Some a → IsOfFamily family a
-family_at family [] i a each e = absurd (none_some a e)
-family_at family (r ∷ rs) zero a each e = subst (IsOfFamily family) (some_same r a e) each.0
-family_at family (r ∷ rs) (suc i) a each e = family_at family rs i a each.1 e
 
 pub rule_at : {X : Type 0} (xs : List X) (i : ℕ) → i < length xs → (x : X) × (slice_get xs i ≡ Some x)
 rule_at [] i below = absurd (omega (arith, below))
@@ -233,9 +224,6 @@ rule_at (x ∷ xs) (suc i) below = rule_at xs i (omega (arith, below))
 -- none of the first rules takes all packets of one from a number on
 abbrev pub AreApart : List Listed → (start number : ℕ) → Type 0
 AreApart rules start number = (i j : ℕ) (a b : Listed) → i < start → number ≤ j → slice_get rules i ≡ Some a → slice_get rules j ≡ Some b → takes_all a b ≡ false
-
-less_true : (a b : ℕ) → nat_lt a b ≡ true → a < b
-less_true a b h = ltb-true a b h
 
 differ : (p q : ℕ × ℕ) → p.0 ≡ q.0 → p.1 ≡ q.1 → lie_apart (Some p) (Some q) ≡ true → ⊥
 differ p q e f h = true≢false (sym h ∙ (λ i. not (eq-eqb p.0 q.0 e i) || not (eq-eqb p.1 q.1 f i)))
@@ -250,14 +238,14 @@ module _ (rules : List Listed) (order : AreInOrder rules) where
   ends_at : (i : ℕ) (p : ℕ × ℕ) → i < length rules → get_or spans i None ≡ Some p → (p.0 ≤ p.1) × (p.1 + 1 ≤ 2 ^ width_of order.family)
   ends_at i p below e =
       let r = rule_at rules i below in
-      rule_ends order.family r.0 p (family_at order.family rules i r.0 order.each r.1) (sym (span_at rules i r.0 r.1) ∙ e)
+      rule_ends order.family r.0 p (each_got (IsOfFamily order.family) rules i r.0 order.each r.1) (sym (span_at rules i r.0 r.1) ∙ e)
 
   steps : (i m : ℕ) (s x : ℕ × ℕ) → i ≤ m → get_or spans i None ≡ Some s → get_or spans m None ≡ Some x → (s.1 ≤ x.1) × (x.0 ≤ s.1 → x.0 ≤ s.0)
   steps i m s x most e f = elim (cases_lt i m) [
     | inl less ↦ (order.nesting.rising i m s x less e f, order.nesting.nested i m s x less e f)
     | inr last ↦
         let same : m ≡ i = omega (arith, most, last) in
-        let is : s ≡ x = some_same s x (sym e ∙ ap (λ k. get_or spans k None) (sym same) ∙ f) in
+        let is : s ≡ x = same_Some s x (sym e ∙ ap (λ k. get_or spans k None) (sym same) ∙ f) in
         subst (λ (t : ℕ × ℕ). (s.1 ≤ t.1) × (t.0 ≤ s.1 → t.0 ≤ s.0)) is ((let l : s.1 ≤ s.1 = omega arith in l), (λ h. (let l : s.0 ≤ s.0 = omega arith in l)))
   ]
 
@@ -275,22 +263,29 @@ module _ (rules : List Listed) (order : AreInOrder rules) where
     last_is : get_or spans j None ≡ span_of b.rule
     last_is = span_at rules j b at_j
 
+    to_p : (s p : ℕ × ℕ) → span_of a.rule ≡ Some s → get_or spans (n - 1) None ≡ Some p → (s.1 ≤ p.1) × (p.0 ≤ s.1 → p.0 ≤ s.0)
+    to_p s p e g = steps i (n - 1) s p before (first_is ∙ e) g
+
+    p_ends : (p : ℕ × ℕ) → get_or spans (n - 1) None ≡ Some p → (p.0 ≤ p.1) × (p.1 + 1 ≤ 2 ^ width_of order.family)
+    p_ends p g = ends_at (n - 1) p (omega (arith, inside, one_less)) g
+
+    -- where the first is all addresses, that before the place begins as it does
+    p_low : (s p : ℕ × ℕ) → span_of a.rule ≡ Some s → get_or spans (n - 1) None ≡ Some p → s.1 + 1 ≡ 2 ^ width_of order.family → p.0 ≤ s.0
+    p_low s p e g all = (to_p s p e g).1 (let ends = p_ends p g in omega (arith, ends.0, ends.1, all))
+
     -- a destination of its own
     same_ends : (s t p q : ℕ × ℕ) → span_of a.rule ≡ Some s → span_of b.rule ≡ Some t → get_or spans (n - 1) None ≡ Some p → get_or spans n None ≡ Some q
         → (s.0 ≤ t.0) × (t.1 ≤ s.1) → (p.0 ≡ q.0) × (p.1 ≡ q.1)
-    same_ends s t p q e f g h within = (omega (arith, within.0, to_t.1 (omega (arith, t_ends.0, within.1, to_q, to_p.0)), between, inner), omega (arith, to_p.0, to_q, to_t.0, within.1))
+    same_ends s t p q e f g h within = (omega (arith, within.0, to_t.1 (omega (arith, t_ends.0, within.1, to_q, first.0)), between, inner), omega (arith, first.0, to_q, to_t.0, within.1))
       where
-        to_p : (s.1 ≤ p.1) × (p.0 ≤ s.1 → p.0 ≤ s.0)
-        to_p = steps i (n - 1) s p before (first_is ∙ e) g
+        first : (s.1 ≤ p.1) × (p.0 ≤ s.1 → p.0 ≤ s.0)
+        first = to_p s p e g
 
         to_q : p.1 ≤ q.1
         to_q = order.nesting.rising (n - 1) n p q one_less g h
 
         to_t : (q.1 ≤ t.1) × (t.0 ≤ q.1 → t.0 ≤ q.0)
         to_t = steps n j q t from h (last_is ∙ f)
-
-        p_ends : (p.0 ≤ p.1) × (p.1 + 1 ≤ 2 ^ width_of order.family)
-        p_ends = ends_at (n - 1) p (omega (arith, inside, one_less)) g
 
         q_ends : (q.0 ≤ q.1) × (q.1 + 1 ≤ 2 ^ width_of order.family)
         q_ends = ends_at n q inside h
@@ -300,51 +295,33 @@ module _ (rules : List Listed) (order : AreInOrder rules) where
 
         -- p begins no later than s
         inner : p.0 ≤ s.0
-        inner = to_p.1 (omega (arith, p_ends.0, to_q, to_t.0, within.1))
+        inner = first.1 (omega (arith, (p_ends p g).0, to_q, to_t.0, within.1))
 
         between : q.0 ≤ p.0
-        between = order.nesting.nested (n - 1) n p q one_less g h (omega (arith, q_ends.0, to_t.0, within.1, to_p.0))
+        between = order.nesting.nested (n - 1) n p q one_less g h (omega (arith, q_ends.0, to_t.0, within.1, first.0))
 
     -- none: then the first is all addresses
     all_ends : (s p q : ℕ × ℕ) → span_of a.rule ≡ Some s → get_or spans (n - 1) None ≡ Some p → get_or spans n None ≡ Some q
         → (s.0 ≡ 0) × (s.1 + 1 ≡ 2 ^ width_of order.family) → (p.0 ≡ q.0) × (p.1 ≡ q.1)
-    all_ends s p q e g h all = (omega (arith, all.0, p_low, q_low), omega (arith, all.1, to_p.0, to_q.0, p_ends.1, q_ends.1))
+    all_ends s p q e g h all = (omega (arith, all.0, p_low s p e g all.1, q_low), omega (arith, all.1, (to_p s p e g).0, to_q.0, (p_ends p g).1, q_ends.1))
       where
-        to_p : (s.1 ≤ p.1) × (p.0 ≤ s.1 → p.0 ≤ s.0)
-        to_p = steps i (n - 1) s p before (first_is ∙ e) g
-
         to_q : (s.1 ≤ q.1) × (q.0 ≤ s.1 → q.0 ≤ s.0)
         to_q = steps i n s q (omega (arith, less)) (first_is ∙ e) h
 
-        p_ends : (p.0 ≤ p.1) × (p.1 + 1 ≤ 2 ^ width_of order.family)
-        p_ends = ends_at (n - 1) p (omega (arith, inside, one_less)) g
-
         q_ends : (q.0 ≤ q.1) × (q.1 + 1 ≤ 2 ^ width_of order.family)
         q_ends = ends_at n q inside h
-
-        p_low : p.0 ≤ s.0
-        p_low = to_p.1 (omega (arith, p_ends.0, p_ends.1, all.1))
 
         q_low : q.0 ≤ s.0
         q_low = to_q.1 (omega (arith, q_ends.0, q_ends.1, all.1))
 
     tail_ends : (s p : ℕ × ℕ) → span_of a.rule ≡ Some s → get_or spans (n - 1) None ≡ Some p → (s.0 ≡ 0) × (s.1 + 1 ≡ 2 ^ width_of order.family) → 0 < p.0 → ⊥
-    tail_ends s p e g all above = omega (arith, all.0, p_low, above)
-      where
-        to_p : (s.1 ≤ p.1) × (p.0 ≤ s.1 → p.0 ≤ s.0)
-        to_p = steps i (n - 1) s p before (first_is ∙ e) g
-
-        p_ends : (p.0 ≤ p.1) × (p.1 + 1 ≤ 2 ^ width_of order.family)
-        p_ends = ends_at (n - 1) p (omega (arith, inside, one_less)) g
-
-        p_low : p.0 ≤ s.0
-        p_low = to_p.1 (omega (arith, p_ends.0, p_ends.1, all.1))
+    tail_ends s p e g all above = omega (arith, all.0, p_low s p e g all.1, above)
 
     none_held : contains a.rule b.rule ≡ true → ⊥
     none_held holds = by_first (span_of a.rule) refl
       where
         within : (s : ℕ × ℕ) → span_of a.rule ≡ Some s → Within (span_of b.rule) s (2 ^ width_of order.family)
-        within s e = rule_within order.family a b s (family_at order.family rules i a order.each at_i) (family_at order.family rules j b order.each at_j) holds e
+        within s e = rule_within order.family a b s (each_got (IsOfFamily order.family) rules i a order.each at_i) (each_got (IsOfFamily order.family) rules j b order.each at_j) holds e
 
         by_both : (s p q : ℕ × ℕ) → span_of a.rule ≡ Some s → get_or spans (n - 1) None ≡ Some p → get_or spans n None ≡ Some q → (o : Option (ℕ × ℕ)) → span_of b.rule ≡ o → Within o s (2 ^ width_of order.family)
             → lie_apart (Some p) (Some q) ≡ true → ⊥
@@ -355,7 +332,7 @@ module _ (rules : List Listed) (order : AreInOrder rules) where
         by_next s p e g (Some q) h apart = by_both s p q e g h (span_of b.rule) refl (within s e) apart
         by_next s p e g None h apart =
             let bare : span_of b.rule ≡ None = sym last_is ∙ order.nesting.bare n j from h in
-            tail_ends s p e g (subst (λ o. Within o s (2 ^ width_of order.family)) bare (within s e)) (less_true 0 p.0 apart)
+            tail_ends s p e g (subst (λ o. Within o s (2 ^ width_of order.family)) bare (within s e)) (ltb-true 0 p.0 apart)
 
         by_last : (s : ℕ × ℕ) → span_of a.rule ≡ Some s → (o : Option (ℕ × ℕ)) → get_or spans (n - 1) None ≡ o → lie_apart o (get_or spans n None) ≡ true → ⊥
         by_last s e None g apart = true≢false (sym apart)
@@ -367,18 +344,10 @@ module _ (rules : List Listed) (order : AreInOrder rules) where
             true≢false (sym anew ∙ ap (λ o. lie_apart o (get_or spans n None)) bare)
         by_first (Some s) e = by_last s e (get_or spans (n - 1) None) refl anew
 
-got_below : {X : Type 0} (xs : List X) (i : ℕ) (x : X) → slice_get xs i ≡ Some x → i < length xs
-got_below [] i x e = absurd (none_some x e)
-got_below (y ∷ ys) zero x e = omega arith
-got_below (y ∷ ys) (suc i) x e = let l : i < length ys = got_below ys i x e in omega (arith, l)
-
-not_taken : (a b : Listed) → contains a.rule b.rule ≡ false → takes_all a b ≡ false
-not_taken a b e = and_false _ _ e
-
 pub anew_apart : (rules : List Listed) (n : ℕ) → AreInOrder rules → n < length rules → begins_anew (spans_of rules) n ≡ true → AreApart rules n n
 anew_apart rules n order inside h i j a b less from at_i at_j =
     let p = and_parts (nat_lt 0 n) (lie_apart (get_or (spans_of rules) (n - 1) None) (get_or (spans_of rules) n None)) h in
     elim (cases_Bool (contains a.rule b.rule)) [
-      | inl holds ↦ absurd (none_held rules order n inside (less_true 0 n p.0) p.1 i j a b less from (got_below rules j b at_j) at_i at_j holds)
-      | inr none ↦ not_taken a b none
+      | inl holds ↦ absurd (none_held rules order n inside (ltb-true 0 n p.0) p.1 i j a b less from (slice_get_within rules j b at_j) at_i at_j holds)
+      | inr none ↦ and_right _ _ none
     ]

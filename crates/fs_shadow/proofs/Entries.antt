@@ -1,35 +1,21 @@
 -- The entries of an index: in order, and those of one key from a place on.
-use Rattle.std.proofs.Common.{◌≡◌, ℕ, zero, suc, ◌+◌, ◌-◌, ◌<◌, ◌≤◌, ◌==◌, ◌⊎◌, inl, inr, Bool, true, false, ◌&&◌, ◌||◌, if◌then◌else◌, nat_le, nat_lt, Some, None, List, [], ◌∷◌, get_or, length, take, drop, refl, sym, ap, subst, ◌∙◌, arith}
+use Rattle.std.proofs.Common.{◌≡◌, ℕ, zero, suc, ◌+◌, ◌-◌, ◌<◌, ◌≤◌, ◌==◌, ◌⊎◌, inl, inr, Bool, true, false, ◌&&◌, if◌then◌else◌, nat_le, nat_lt, Some, List, [], ◌∷◌, get_or, length, take, drop, refl, sym, ap, subst, ◌∙◌, arith}
 use Rattle.std.specs.List.{list_any, slice_get}
 use Rattle.std.specs.List.Sorted.{IsNonDecreasingBy, IsPartitionPoint}
 use Rattle.std.proofs.lemmas.Bool.{cases_lt, eq-eqb, eqb-true, leb-true, lt-ltb, ltb-true, ltb-false, or_cases, true≢false}
-use Rattle.fs_compile.proofs.Enclosing.{both_from}
+use Rattle.std.proofs.lemmas.Option.{none-some, same_Some}
+use Rattle.std.proofs.lemmas.List.{length-drop, take_all}
+use Rattle.fs_base.proofs.Bools.{and_both, and_parts, or_first, or_second}
 use Rattle.fs_shadow.specs.declared.outlines.Outline.{Outline}
 use Rattle.fs_shadow.specs.Outlines.{IsFirst, IsIndexOf, entries_from, first_entry, is_entry, key_of, outline_takes_all, rank, takes_as, takes_before}
 
-none_some : {X : Type 0} (x : X) → None ≡ Some x → ⊥
-none_some x e = cc
-
-some_same : {X : Type 0} (x y : X) → Some x ≡ Some y → x ≡ y
-some_same x y e = cc
-
-or_first : (a b : Bool) → a ≡ true → (a || b) ≡ true
-or_first a b h = ap (λ (x : Bool). x || b) h
-
-or_second : (a b : Bool) → b ≡ true → (a || b) ≡ true
-or_second true b h = refl
-or_second false b h = h
-
-both_to : (a b : Bool) → a ≡ true → b ≡ true → (a && b) ≡ true
-both_to a b f g = ap (λ (x : Bool). x && b) f ∙ g
-
 -- each rule has an entry
 entry_in : (p : ℕ) (outlines : List Outline) (i : ℕ) (o : Outline) → slice_get outlines i ≡ Some o → list_any (is_entry (key_of o.measures.items) (p + i)) (entries_from p outlines) ≡ true
-entry_in p [] i o e = absurd (none_some o e)
+entry_in p [] i o e = absurd (none-some o e)
 entry_in p (x ∷ xs) zero o e =
     or_first (is_entry (key_of o.measures.items) (p + 0) (key_of x.measures.items, p)) (list_any (is_entry (key_of o.measures.items) (p + 0)) (entries_from (p + 1) xs))
-    (both_to (key_of x.measures.items == key_of o.measures.items) (p == p + 0)
-    (eq-eqb (key_of x.measures.items) (key_of o.measures.items) (ap (λ (y : Outline). key_of y.measures.items) (some_same x o e)))
+    (and_both (key_of x.measures.items == key_of o.measures.items) (p == p + 0)
+    (eq-eqb (key_of x.measures.items) (key_of o.measures.items) (ap (λ (y : Outline). key_of y.measures.items) (same_Some x o e)))
     (eq-eqb p (p + 0) (omega arith)))
 entry_in p (x ∷ xs) (suc i) o e =
     or_second (is_entry (key_of o.measures.items) (p + suc i) (key_of x.measures.items, p)) (list_any (is_entry (key_of o.measures.items) (p + suc i)) (entries_from (p + 1) xs))
@@ -58,7 +44,7 @@ rising_from low (suc from) (e ∷ es) rises over =
 -- an entry is the first, or one behind it
 in_entries : (key place : ℕ) (e : ℕ × ℕ) (es : List (ℕ × ℕ)) → list_any (is_entry key place) (e ∷ es) ≡ true → ((e.0 ≡ key) × (e.1 ≡ place)) ⊎ (list_any (is_entry key place) es ≡ true)
 in_entries key place e es h = elim (or_cases (is_entry key place e) (list_any (is_entry key place) es) h) [
-  | inl here ↦ let p = both_from (e.0 == key) (e.1 == place) here in inl (eqb-true e.0 key p.0, eqb-true e.1 place p.1)
+  | inl here ↦ let p = and_parts (e.0 == key) (e.1 == place) here in inl (eqb-true e.0 key p.0, eqb-true e.1 place p.1)
   | inr later ↦ inr later
 ]
 
@@ -121,14 +107,14 @@ module _ (outlines : List Outline) (later : Outline) (key end : ℕ) where
 
       here : taking ≡ true → IsFound outlines later key end (e ∷ es) e.1
       here h =
-          let p = both_from ((e.0 == key) && nat_lt e.1 end) (takes_as (slice_get outlines e.1) later) h in
-          let r = both_from (e.0 == key) (nat_lt e.1 end) p.0 in
+          let p = and_parts ((e.0 == key) && nat_lt e.1 end) (takes_as (slice_get outlines e.1) later) h in
+          let r = and_parts (e.0 == key) (nat_lt e.1 end) p.0 in
           let same : e.0 ≡ key = eqb-true e.0 key r.0 in
           let less : e.1 < end = ltb-true e.1 end r.1 in
           record {
             within = omega (arith, less);
             takes = λ l. p.1;
-            entry = λ l. or_first (is_entry key e.1 e) (list_any (is_entry key e.1) es) (both_to (e.0 == key) (e.1 == e.1) r.0 (eq-eqb e.1 e.1 refl));
+            entry = λ l. or_first (is_entry key e.1 e) (list_any (is_entry key e.1) es) (and_both (e.0 == key) (e.1 == e.1) r.0 (eq-eqb e.1 e.1 refl));
             none = λ q l i. let s : e.1 ≤ q = same_rank e q same (no_lower q i) in absurd (let z : ⊥ = omega (arith, s, l) in z);
           }
 
@@ -143,7 +129,7 @@ module _ (outlines : List Outline) (later : Outline) (key end : ℕ) where
           this : (q : ℕ) → q < rest → e.0 ≡ key → e.1 ≡ q → takes_as (slice_get outlines q) later ≡ false
           this q less same at =
               let w = f.within in
-              let b : ((e.0 == key) && nat_lt e.1 end) ≡ true = both_to (e.0 == key) (nat_lt e.1 end) (eq-eqb e.0 key same) (lt-ltb e.1 end (let z : e.1 < end = omega (arith, less, at, w) in z)) in
+              let b : ((e.0 == key) && nat_lt e.1 end) ≡ true = and_both (e.0 == key) (nat_lt e.1 end) (eq-eqb e.0 key same) (lt-ltb e.1 end (let z : e.1 < end = omega (arith, less, at, w) in z)) in
               subst (λ k. takes_as (slice_get outlines k) later ≡ false) at (sym (ap (λ (x : Bool). x && takes_as (slice_get outlines e.1) later) b) ∙ h)
 
           none : (q : ℕ) → q < rest → list_any (is_entry key q) (e ∷ es) ≡ true → takes_as (slice_get outlines q) later ≡ false
@@ -200,16 +186,8 @@ pub taken_at : (outlines : List Outline) (later : Outline) (key end : ℕ) (e : 
 taken_at outlines later key end e o r same less at is =
     is
     ∙ sym (ap (λ x. takes_as x later) at)
-    ∙ sym (ap (λ (x : Bool). x && takes_as (slice_get outlines e.1) later) (both_to (e.0 == key) (nat_lt e.1 end) (eq-eqb e.0 key same) (lt-ltb e.1 end less)))
-
-take_whole : (es : List (ℕ × ℕ)) (n : ℕ) → length es ≤ n → take n es ≡ es
-take_whole [] zero most = refl
-take_whole [] (suc n) most = refl
-take_whole (e ∷ es) zero most = absurd (omega (arith, most))
-take_whole (e ∷ es) (suc n) most = ap (λ rest. e ∷ rest) (take_whole es n (omega (arith, most)))
+    ∙ sym (ap (λ (x : Bool). x && takes_as (slice_get outlines e.1) later) (and_both (e.0 == key) (nat_lt e.1 end) (eq-eqb e.0 key same) (lt-ltb e.1 end less)))
 
 -- all that stands behind so many
 pub rest_whole : (n : ℕ) (es : List (ℕ × ℕ)) → take (length es - n) (drop n es) ≡ drop n es
-rest_whole zero es = take_whole es (length es - 0) (omega arith)
-rest_whole (suc n) [] = take_whole [] (0 - suc n) (omega arith)
-rest_whole (suc n) (e ∷ es) = ap (λ k. take k (drop n es)) (let z : suc (length es) - suc n ≡ length es - n = omega arith in z) ∙ rest_whole n es
+rest_whole n es = take_all (length es - n) (drop n es) (omega (arith, length-drop n es))

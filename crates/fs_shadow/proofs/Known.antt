@@ -6,11 +6,11 @@ use Rattle.std.proofs.Math.Nat.{add-mul, mod-mod, mul_assoc}
 use Rattle.fs_base.specs.declared.prefix.Family.{Family}
 use Rattle.fs_base.specs.declared.config.Address.TheVariants.{V4, V6}
 use Rattle.fs_base.specs.Bits.{cleared}
+use Rattle.fs_base.proofs.Bools.{same_tests}
 use Rattle.fs_nlri.specs.Parts.{V4Body, V6Body}
 use Rattle.fs_nlri.specs.Sound.{IsSoundBody}
 use Rattle.fs_nlri.specs.Spelling.{IsRange}
 use Rattle.fs_packet.specs.Matching.{is_prefix_of}
-use Rattle.fs_compile.proofs.Truths.{same_truth}
 use Rattle.fs_shadow.specs.Ends.{highest_with, lowest_with}
 use Rattle.fs_shadow.proofs.Lying.{Knows, row}
 use Rattle.fs_shadow.proofs.Patterns.{below_all, bits_at, bits_below, first_of, first_shifted, ones_split}
@@ -18,7 +18,7 @@ use Rattle.fs_shadow.proofs.Patterns.{below_all, bits_at, bits_below, first_of, 
 -- a multiple is told by its count
 pub same_multiple : (a b k : ℕ) → (a * 2 ^ k == b * 2 ^ k) ≡ (a == b)
 same_multiple a b k =
-    same_truth (a * 2 ^ k == b * 2 ^ k) (a == b)
+    same_tests (a * 2 ^ k == b * 2 ^ k) (a == b)
     (λ h. eq-eqb a b (sym (shl-shr a k) ∙ ap (λ q. q / 2 ^ k) (eqb-true (a * 2 ^ k) (b * 2 ^ k) h) ∙ shl-shr b k))
     (λ h. eq-eqb (a * 2 ^ k) (b * 2 ^ k) (ap (λ q. q * 2 ^ k) (eqb-true a b h)))
 

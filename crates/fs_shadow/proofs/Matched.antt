@@ -1,8 +1,8 @@
 -- A packet that matches what lies in something matches that too: lists, prefixes, components, rules.
-use Rattle.std.proofs.Common.{◌≡◌, ℕ, ◌^◌, ◌<◌, ◌==◌, Bool, true, false, cond, ◌||◌, Option, Some, None, List, [], ◌∷◌, refl, sym, subst, ◌∙◌, inl, inr, arith}
+use Rattle.std.proofs.Common.{◌<◌, ◌≡◌, ℕ, ◌^◌, ◌==◌, Bool, true, false, cond, ◌||◌, Option, Some, None, List, [], ◌∷◌, refl, sym, subst, ◌∙◌, inl, inr, arith}
 use Rattle.std.specs.List.{list_all, list_any}
-use Rattle.std.proofs.lemmas.Bool.{and_from, and_parts, eq-eqb, eqb-true, or_cases, true≢false}
-use Rattle.fs_base.proofs.Bools.{or_false}
+use Rattle.std.proofs.lemmas.Bool.{and_from, and_parts, eq-eqb, eqb-true, or_cases, or_left, or_right, true≢false}
+use Rattle.fs_base.proofs.Bools.{or_false, or_weaker}
 use Rattle.fs_base.specs.declared.prefix.Family.{Family}
 use Rattle.fs_base.specs.declared.config.Address.{Address}
 use Rattle.fs_base.specs.declared.config.Address.TheVariants.{V4, V6}
@@ -29,32 +29,19 @@ second_way : (c a b x y : Bool) → c ≡ false → (b ≡ true → y ≡ true) 
 second_way true a b x y e g h = absurd (true≢false e)
 second_way false a b x y e g h = g h
 
-or_both : (a b x y : Bool) → (a ≡ true → x ≡ true) → (b ≡ true → y ≡ true) → (a || b) ≡ true → (x || y) ≡ true
-or_both true b x y f g h = or_left x y (f refl) where
-  or_left : (x y : Bool) → x ≡ true → (x || y) ≡ true
-  or_left true y e = refl
-  or_left false y e = no_truth e
-or_both false b x y f g h = or_right x y (g h) where
-  or_right : (x y : Bool) → y ≡ true → (x || y) ≡ true
-  or_right true y e = refl
-  or_right false y e = e
-
-below_64 : (n : ℕ) → n < 2 ^ 32 → n < 2 ^ 64
-below_64 n h = omega (arith, h)
-
 -- a field that the inner list holds of is one that the outer list holds of
 field_holds : (inner outer : List (ℕ × ℕ)) (field : Option ℕ) → IsSmallField field → numbers_lie_in inner outer ≡ true → holds_of inner field ≡ true → holds_of outer field ≡ true
 field_holds inner outer None small lies h = no_truth h
 field_holds inner outer (Some n) small lies h =
     follows (holds (compares n) inner) (holds (compares n) outer)
-    (each_below (2 ^ 64) (λ m. implies (holds (compares m) inner) (holds (compares m) outer)) lies n (below_64 n small)) h
+    (each_below (2 ^ 64) (λ m. implies (holds (compares m) inner) (holds (compares m) outer)) lies n (let l : n < 2 ^ 32 = small in omega (arith, l))) h
 
 -- lists that compare numbers, of each type
 numbers_match : (view : Viewed) → IsSmall view → (kind : ℕ) (inner outer : List (ℕ × ℕ)) → tests_bits kind ≡ false → numbers_lie_in inner outer ≡ true
     → list_matches view kind inner ≡ true → list_matches view kind outer ≡ true
 numbers_match view small kind inner outer none lies =
     either_way (kind == 3) _ _ _ _ (at view.protocol small.protocol)
-    (either_way (kind == 4) _ _ _ _ (or_both _ _ _ _ (at view.source_port small.source_port) (at view.destination_port small.destination_port))
+    (either_way (kind == 4) _ _ _ _ (or_weaker _ _ _ _ (at view.source_port small.source_port) (at view.destination_port small.destination_port))
     (either_way (kind == 5) _ _ _ _ (at view.destination_port small.destination_port)
     (either_way (kind == 6) _ _ _ _ (at view.source_port small.source_port)
     (either_way (kind == 7) _ _ _ _ (at view.icmp_type small.icmp_type)
@@ -125,13 +112,8 @@ body_implied view small kind (ListBody inner) (V6Body n p b) lies h = no_truth l
 port_implied : (view : Viewed) → IsSmall view → (inner outer : Body) → body_lies_in 4 inner outer ≡ true
     → (body_matches view 5 inner || body_matches view 6 inner) ≡ true → body_matches view 4 outer ≡ true
 port_implied view small (ListBody inner) (ListBody outer) lies h =
-    or_both _ _ _ _ (field_holds inner outer view.source_port small.source_port lies) (field_holds inner outer view.destination_port small.destination_port lies)
-    (or_turned (holds_of inner view.destination_port) (holds_of inner view.source_port) h) where
-      or_turned : (x y : Bool) → (x || y) ≡ true → (y || x) ≡ true
-      or_turned true true e = refl
-      or_turned true false e = refl
-      or_turned false true e = refl
-      or_turned false false e = e
+    or_weaker _ _ _ _ (field_holds inner outer view.source_port small.source_port lies) (field_holds inner outer view.destination_port small.destination_port lies)
+    (elim (or_cases (holds_of inner view.destination_port) (holds_of inner view.source_port) h) [ inl first ↦ or_right _ _ first | inr second ↦ or_left _ _ second ])
 port_implied view small (V4Body f m a) outer lies h = no_truth h
 port_implied view small (V6Body m o a) outer lies h = no_truth h
 port_implied view small (ListBody inner) (V4Body g n b) lies h = no_truth lies
@@ -155,7 +137,7 @@ part_implied view small inner outer lies h = elim (or_cases (inner.kind == outer
   at_kind kind e = subst (λ k. body_matches view k inner.body ≡ true) (eqb-true inner.kind kind e) h
 
   either : ((inner.kind == 5) || (inner.kind == 6)) ≡ true → (body_matches view 5 inner.body || body_matches view 6 inner.body) ≡ true
-  either e = or_both _ _ _ _ (at_kind 5) (at_kind 6) e
+  either e = or_weaker _ _ _ _ (at_kind 5) (at_kind 6) e
 
 any_implied : (view : Viewed) → IsSmall view → (outer : Part) (parts : List Part) → list_any (λ inner. part_lies_in inner outer) parts ≡ true
     → list_all (part_matches view) parts ≡ true → part_matches view outer ≡ true

@@ -1,5 +1,5 @@
 -- What the measures and outlines of rules tell is what the rules say.
-use Rattle.std.proofs.Common.{◌≡◌, ℕ, ◌+◌, ◌^◌, ◌<◌, ◌==◌, Bool, true, false, not, ◌&&◌, ◌||◌, if◌then◌else◌, Some, List, [], ◌∷◌, ◌++◌, get_or, length, take, drop, zero, suc, refl, sym, ap, subst, ◌∙◌, arith}
+use Rattle.std.proofs.Common.{◌≡◌, ℕ, ◌+◌, ◌^◌, ◌<◌, ◌==◌, Bool, true, false, not, ◌&&◌, ◌||◌, if◌then◌else◌, Some, List, [], ◌∷◌, get_or, length, zero, suc, refl, sym, ap, subst, ◌∙◌, arith}
 use Rattle.std.specs.Prelude.{IsTrue, ◌↔◌}
 use Rattle.std.specs.List.{list_all, list_any}
 use Rattle.std.proofs.lemmas.Bool.{true≢false}
@@ -7,13 +7,13 @@ use Rattle.fs_base.specs.Bits.{afi_of}
 use Rattle.fs_ops.specs.Evaluation.{compares, holds}
 use Rattle.fs_base.specs.declared.prefix.Prefix.{Prefix}
 use Rattle.fs_base.specs.Prefix.{covers}
+use Rattle.fs_base.proofs.Bools.{same_tests}
 use Rattle.fs_nlri.specs.declared.component.Component.{Component}
 use Rattle.fs_nlri.specs.Component.{part_of, parts_of}
 use Rattle.fs_nlri.specs.Sound.{AreSound, IsSoundBody}
 use Rattle.fs_nlri.specs.Parts.{Body, V4Body, V6Body, ListBody, Part}
 use Rattle.fs_rules.specs.Lent.{Listed}
 use Rattle.fs_compile.specs.Spans.{contains}
-use Rattle.fs_compile.proofs.Truths.{same_truth}
 use Rattle.fs_shadow.specs.declared.extents.Extent.{Extent}
 use Rattle.fs_shadow.specs.declared.extents.Extent.TheVariants.{V4, V6, Numbers, Bits}
 use Rattle.fs_shadow.specs.declared.extents.Measure.{Measure}
@@ -39,7 +39,7 @@ pairs_of (ListBody pairs) spans h = record { pairs = pairs; is = refl; says = h 
 
 same_below : (bound : ℕ) (test other : ℕ → Bool) → ((n : ℕ) → n < bound → test n ≡ other n) → all_below bound test ≡ all_below bound other
 same_below bound test other same =
-    same_truth (all_below bound test) (all_below bound other)
+    same_tests (all_below bound test) (all_below bound other)
     (λ all. below_from bound other (λ n below. sym (same n below) ∙ each_below bound test all n below))
     (λ all. below_from bound test (λ n below. same n below ∙ each_below bound other all n below))
 
@@ -124,32 +124,6 @@ taker_says later o h place [] [] all = refl
 taker_says later o h place [] (x ∷ xs) all = absurd all
 taker_says later o h place (r ∷ rs) [] all = absurd all
 taker_says later o h place (r ∷ rs) (x ∷ xs) all = λ i. if outline_says r later x o all.0 h i then Some place else taker_says later o h (place + 1) rs xs all.1 i
-
-pub outlines_take : (n : ℕ) (rules : List Listed) (outlines : List Outline) → AreOutlinesOf rules outlines → AreOutlinesOf (take n rules) (take n outlines)
-outlines_take zero rules outlines all = tt
-outlines_take (suc n) [] [] all = tt
-outlines_take (suc n) [] (x ∷ xs) all = absurd all
-outlines_take (suc n) (r ∷ rs) [] all = absurd all
-outlines_take (suc n) (r ∷ rs) (x ∷ xs) all = (all.0, outlines_take n rs xs all.1)
-
-pub outlines_drop : (n : ℕ) (rules : List Listed) (outlines : List Outline) → AreOutlinesOf rules outlines → AreOutlinesOf (drop n rules) (drop n outlines)
-outlines_drop zero rules outlines all = all
-outlines_drop (suc n) [] [] all = tt
-outlines_drop (suc n) [] (x ∷ xs) all = absurd all
-outlines_drop (suc n) (r ∷ rs) [] all = absurd all
-outlines_drop (suc n) (r ∷ rs) (x ∷ xs) all = outlines_drop n rs xs all.1
-
-pub measures_more : (parts : List Part) (measures : List Measure) (p : Part) (m : Measure) → AreMeasuresOf parts measures → IsMeasureOf p m → AreMeasuresOf (parts ++ p ∷ []) (measures ++ m ∷ [])
-measures_more [] [] p m all one = (one, tt)
-measures_more [] (x ∷ xs) p m all one = absurd all
-measures_more (q ∷ qs) [] p m all one = absurd all
-measures_more (q ∷ qs) (x ∷ xs) p m all one = (all.0, measures_more qs xs p m all.1 one)
-
-pub outlines_more : (rules : List Listed) (outlines : List Outline) (r : Listed) (o : Outline) → AreOutlinesOf rules outlines → IsOutlineOf r o → AreOutlinesOf (rules ++ r ∷ []) (outlines ++ o ∷ [])
-outlines_more [] [] r o all one = (one, tt)
-outlines_more [] (x ∷ xs) r o all one = absurd all
-outlines_more (q ∷ qs) [] r o all one = absurd all
-outlines_more (q ∷ qs) (x ∷ xs) r o all one = (all.0, outlines_more qs xs r o all.1 one)
 
 pub sound_at : (components : List Component) (i : ℕ) (x : Component) → i < length components → x ≡ get_or components i x → AreSound (parts_of components) → IsSoundBody (part_of x).body
 sound_at [] i x below is sound = absurd (omega (arith, below))

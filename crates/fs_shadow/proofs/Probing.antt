@@ -1,11 +1,12 @@
 -- Which rules may take all packets of another by the single numbers that they ask for, and where these stand in order.
-use Rattle.std.proofs.Common.{◌≡◌, ℕ, zero, suc, ◌+◌, ◌-◌, ◌^◌, ◌<◌, ◌≤◌, ◌==◌, inl, inr, Bool, true, false, not, ◌&&◌, ◌||◌, if◌then◌else◌, Option, Some, None, List, [], ◌∷◌, get_or, length, max, take, drop, refl, sym, ap, subst, ◌∙◌, arith}
+use Rattle.std.proofs.Common.{◌≡◌, ℕ, zero, suc, ◌+◌, ◌-◌, ◌^◌, ◌<◌, ◌≤◌, ◌==◌, inl, inr, Bool, true, false, not, ◌&&◌, if◌then◌else◌, Option, Some, None, List, [], ◌∷◌, get_or, length, max, take, drop, refl, sym, ap, subst, ◌∙◌, arith}
 use Rattle.std.specs.List.{AllByRecursion, list_all, list_any, slice_get}
 use Rattle.std.proofs.lemmas.Bool.{cases_Bool, cases_lt, eq-eqb, or_cases, true≢false}
+use Rattle.std.proofs.lemmas.Option.{none-some}
 use Rattle.fs_base.specs.Bits.{afi_of}
+use Rattle.fs_base.proofs.Bools.{and_parts, or_first, or_second}
 use Rattle.fs_ops.specs.Evaluation.{compares, holds}
 use Rattle.fs_compile.specs.Spans.{contains}
-use Rattle.fs_compile.proofs.Enclosing.{both_from}
 use Rattle.fs_shadow.specs.declared.extents.Extent.{Extent}
 use Rattle.fs_shadow.specs.declared.extents.Extent.TheVariants.{V4, V6, Numbers, Bits}
 use Rattle.fs_shadow.specs.declared.extents.Measure.{Measure}
@@ -13,22 +14,10 @@ use Rattle.fs_shadow.specs.declared.outlines.Outline.{Outline}
 use Rattle.fs_shadow.specs.Contains.{implies, may_lie_in}
 use Rattle.fs_nlri.specs.Parts.{Part}
 use Rattle.fs_rules.specs.Lent.{Listed}
+use Rattle.fs_compile.proofs.Splicing.{each_got}
 use Rattle.fs_shadow.specs.Extents.{AreMeasuresOf, IsMeasureOf, IsTold, TakesIn, TakesOne, extent_lies_in, has_probe, is_probed, key_in, measure_lies_in, number_or_none}
 use Rattle.fs_shadow.specs.Outlines.{AreOutlinesOf, IsFirst, IsOutlineOf, first_taker, is_asked, is_number, key_of, outline_takes_all, probes, takes_as}
 use Rattle.fs_shadow.proofs.Below.{each_below, follows}
-
-none_some : {X : Type 0} (x : X) → None ≡ Some x → ⊥
-none_some x e = cc
-
-some_same : {X : Type 0} (x y : X) → Some x ≡ Some y → x ≡ y
-some_same x y e = cc
-
-or_first : (a b : Bool) → a ≡ true → (a || b) ≡ true
-or_first a b h = ap (λ (x : Bool). x || b) h
-
-or_second : (a b : Bool) → b ≡ true → (a || b) ≡ true
-or_second true b h = refl
-or_second false b h = h
 
 -- the key
 
@@ -45,26 +34,20 @@ held_is (Bits x) f w n lies held one has = absurd held
 
 -- and is probed
 has_held : (e f : Extent) (held : Option ℕ) → extent_lies_in e f ≡ true → TakesOne f → has_probe e held ≡ true → (held ≡ None → ⊥)
-has_held (Numbers xs) f held lies one probed none = true≢false (sym probed ∙ ap (has_probe (Numbers xs)) none)
+has_held e (V4 y) held lies one probed none = absurd one
+has_held e (V6 y) held lies one probed none = absurd one
+has_held e (Bits y) held lies one probed none = absurd one
+has_held (Numbers xs) (Numbers ys) held lies one probed none = true≢false (sym probed ∙ ap (has_probe (Numbers xs)) none)
 has_held (V4 x) (Numbers ys) held lies one probed none = true≢false (sym lies)
 has_held (V6 x) (Numbers ys) held lies one probed none = true≢false (sym lies)
 has_held (Bits x) (Numbers ys) held lies one probed none = true≢false (sym lies)
-has_held (V4 x) (V4 y) held lies one probed none = absurd one
-has_held (V4 x) (V6 y) held lies one probed none = absurd one
-has_held (V4 x) (Bits y) held lies one probed none = absurd one
-has_held (V6 x) (V4 y) held lies one probed none = absurd one
-has_held (V6 x) (V6 y) held lies one probed none = absurd one
-has_held (V6 x) (Bits y) held lies one probed none = absurd one
-has_held (Bits x) (V4 y) held lies one probed none = absurd one
-has_held (Bits x) (V6 y) held lies one probed none = absurd one
-has_held (Bits x) (Bits y) held lies one probed none = absurd one
 
 -- one pair holds of a number where its comparison does
 pub one_holds : (k : ℕ) (pairs : List (ℕ × ℕ)) → 1 ≤ length pairs → length pairs < 2 → holds (compares k) pairs ≡ true → compares k (get_or pairs 0 (0, 0)) ≡ true
 one_holds k [] least below h = absurd (omega (arith, least))
 one_holds k (p ∷ q ∷ ps) least below h = absurd (omega (arith, below))
 one_holds k (p ∷ []) least below h = elim (or_cases (compares k p && true) false h) [
-  | inl one ↦ (both_from (compares k p) true one).0
+  | inl one ↦ (and_parts (compares k p) true one).0
   | inr none ↦ absurd (true≢false (sym none))
 ]
 
@@ -73,7 +56,7 @@ measure_probes : (inner outer : Measure) (n : ℕ) → IsTold inner → IsTold o
 measure_probes inner outer n told also single has probed lies = at inner.held refl
   where
     p : (may_lie_in inner.kind outer.kind ≡ true) × (extent_lies_in inner.extent outer.extent ≡ true)
-    p = both_from (may_lie_in inner.kind outer.kind) (extent_lies_in inner.extent outer.extent) lies
+    p = and_parts (may_lie_in inner.kind outer.kind) (extent_lies_in inner.extent outer.extent) lies
 
     at : (o : Option ℕ) → inner.held ≡ o → is_number n inner.held ≡ true
     at None e = absurd (has_held inner.extent outer.extent inner.held p.1 (also.single single) probed e)
@@ -85,7 +68,7 @@ any_probes : (outer : Measure) (n : ℕ) (inner : List Measure) → AllByRecursi
     → list_any (λ m. measure_lies_in m outer) inner ≡ true → list_any (probes n) inner ≡ true
 any_probes outer n [] told also single has probed lies = lies
 any_probes outer n (m ∷ ms) told also single has probed lies =
-    let p = both_from (is_probed m) (list_all is_probed ms) probed in
+    let p = and_parts (is_probed m) (list_all is_probed ms) probed in
     elim (or_cases (measure_lies_in m outer) (list_any (λ m. measure_lies_in m outer) ms) lies) [
       | inl here ↦ or_first (probes n m) (list_any (probes n) ms) (measure_probes m outer n told.0 also single has p.0 here)
       | inr later ↦ or_second (probes n m) (list_any (probes n) ms) (any_probes outer n ms told.1 also single has p.1 later)
@@ -108,7 +91,7 @@ asked_for : (measures inner : List Measure) → AllByRecursion IsTold measures �
     → list_all (λ outer. list_any (λ m. measure_lies_in m outer) inner) measures ≡ true → is_asked inner (key_of measures) ≡ true
 asked_for [] inner told also probed all = or_first (0 == 0) (list_any (probes 0) inner) refl
 asked_for (m ∷ ms) inner told also probed all =
-    let p = both_from (list_any (λ q. measure_lies_in q m) inner) (list_all (λ outer. list_any (λ q. measure_lies_in q outer) inner) ms) all in
+    let p = and_parts (list_any (λ q. measure_lies_in q m) inner) (list_all (λ outer. list_any (λ q. measure_lies_in q outer) inner) ms) all in
     let rest : is_asked inner (key_of ms) ≡ true = asked_for ms inner told.1 also probed p.1 in
     let first : is_asked inner (key_in m) ≡ true = one_asked m inner also told.0 probed p.0 in
     elim (cases_lt (key_in m) (key_of ms)) [
@@ -120,8 +103,8 @@ asked_for (m ∷ ms) inner told also probed all =
 pub takers_asked : (earlier later : Outline) → AllByRecursion IsTold earlier.measures.items → AllByRecursion IsTold later.measures.items → list_all is_probed later.measures.items ≡ true
     → outline_takes_all earlier later ≡ true → is_asked later.measures.items (key_of earlier.measures.items) ≡ true
 takers_asked earlier later told also probed takes =
-    let p = both_from (not earlier.goes_on) ((afi_of earlier.family == afi_of later.family) && list_all (λ outer. list_any (λ inner. measure_lies_in inner outer) later.measures.items) earlier.measures.items) takes in
-    let q = both_from (afi_of earlier.family == afi_of later.family) (list_all (λ outer. list_any (λ inner. measure_lies_in inner outer) later.measures.items) earlier.measures.items) p.1 in
+    let p = and_parts (not earlier.goes_on) ((afi_of earlier.family == afi_of later.family) && list_all (λ outer. list_any (λ inner. measure_lies_in inner outer) later.measures.items) earlier.measures.items) takes in
+    let q = and_parts (afi_of earlier.family == afi_of later.family) (list_all (λ outer. list_any (λ inner. measure_lies_in inner outer) later.measures.items) earlier.measures.items) p.1 in
     asked_for earlier.measures.items later.measures.items told also probed q.1
 
 -- the first that takes all packets
@@ -166,7 +149,7 @@ dropped_same (suc s) i (x ∷ xs) = dropped_same s i xs ∙ ap (slice_get (x ∷
 window_at : (s n i : ℕ) (xs : List Outline) (o : Outline) → slice_get (take (n - s) (drop s xs)) i ≡ Some o → (s + i < n) × (slice_get xs (s + i) ≡ Some o)
 window_at s n i xs o e = elim (cases_lt i (n - s)) [
   | inl less ↦ (omega (arith, less), sym (dropped_same s i xs) ∙ sym (taken_same (n - s) i (drop s xs) less) ∙ e)
-  | inr most ↦ absurd (none_some o (sym (taken_none (n - s) i (drop s xs) most) ∙ e))
+  | inr most ↦ absurd (none-some o (sym (taken_none (n - s) i (drop s xs) most) ∙ e))
 ]
 
 measures_told : (parts : List Part) (measures : List Measure) → AreMeasuresOf parts measures → AllByRecursion IsTold measures
@@ -181,18 +164,13 @@ all_told [] (o ∷ os) all = absurd all
 all_told (r ∷ rs) [] all = absurd all
 all_told (r ∷ rs) (o ∷ os) all = (let h : IsOutlineOf r o = all.0 in measures_told r.rule.parts o.measures.items h.measures, all_told rs os all.1)
 
-pub told_at : (xs : List Outline) (i : ℕ) (o : Outline) → AllByRecursion (λ x. AllByRecursion IsTold x.measures.items) xs → slice_get xs i ≡ Some o → AllByRecursion IsTold o.measures.items
-told_at [] i o all e = absurd (none_some o e)
-told_at (x ∷ xs) zero o all e = subst (λ (y : Outline). AllByRecursion IsTold y.measures.items) (some_same x o e) all.0
-told_at (x ∷ xs) (suc i) o all e = told_at xs i o all.1 e
-
 module _ (outlines : List Outline) (later : Outline) (start number place : ℕ) (told : AllByRecursion (λ x. AllByRecursion IsTold x.measures.items) outlines) (also : AllByRecursion IsTold later.measures.items)
     (probed : list_all is_probed later.measures.items ≡ true) (first : IsFirst outlines later (is_asked later.measures.items) start number place) where
   none_before : (i : ℕ) (o : Outline) → slice_get (take (number - start) (drop start outlines)) i ≡ Some o → start + i < place → outline_takes_all o later ≡ false
   none_before i o e less =
       let w = window_at start number i outlines o e in
       elim (cases_Bool (outline_takes_all o later)) [
-        | inl takes ↦ first.none (start + i) o (omega arith) less w.1 (takers_asked o later (told_at outlines (start + i) o told w.1) also probed takes)
+        | inl takes ↦ first.none (start + i) o (omega arith) less w.1 (takers_asked o later (each_got (λ x. AllByRecursion IsTold x.measures.items) outlines (start + i) o told w.1) also probed takes)
         | inr none ↦ none
       ]
 

@@ -1,19 +1,16 @@
 -- The report, rule by rule: of each the first of the earlier rules that may contain it.
-use Rattle.std.proofs.Common.{◌≡◌, ℕ, zero, suc, ◌+◌, ◌-◌, ◌<◌, ◌≤◌, Bool, true, false, Some, None, List, [], ◌∷◌, ◌++◌, if◌then◌else◌, get_or, length, take, drop, refl, sym, ap, subst, ◌∙◌, arith}
+use Rattle.std.proofs.Common.{◌≡◌, ℕ, zero, suc, ◌+◌, ◌-◌, ◌<◌, ◌≤◌, Bool, true, false, Some, List, [], ◌∷◌, ◌++◌, if◌then◌else◌, get_or, length, take, drop, refl, sym, ap, subst, ◌∙◌, arith}
 use Rattle.std.specs.List.{slice_get}
+use Rattle.std.proofs.lemmas.Option.{get_or_from_slice_get, none-some, same_Some, slice_get_within}
+use Rattle.std.proofs.lemmas.List.{append-nil, append_assoc, drop_all, drop_more, length-take-le, take_all, take_more}
 use Rattle.fs_rules.specs.Lent.{Listed}
 use Rattle.fs_compile.specs.Index.{spans_of}
+use Rattle.fs_compile.proofs.Pairing.{each_dropped, each_taken}
 use Rattle.fs_shadow.specs.declared.outlines.Outline.{Outline}
 use Rattle.fs_shadow.specs.Outlines.{AreInOrder, AreOutlinesOf, IsOutlineOf, begins_anew, first_taker}
 use Rattle.fs_shadow.specs.Reporting.{covered_by, first_taking, report_behind, takes_all}
 use Rattle.fs_shadow.proofs.Destinations.{AreApart, anew_apart}
-use Rattle.fs_shadow.proofs.Measuring.{outlines_drop, outlines_take, taker_says}
-
-some_same : {X : Type 0} (x y : X) → Some x ≡ Some y → x ≡ y
-some_same x y e = cc
-
-none_some : {X : Type 0} (x : X) → None ≡ Some x → ⊥
-none_some x e = cc
+use Rattle.fs_shadow.proofs.Measuring.{taker_says}
 
 -- the search may begin behind those that don't take all packets of the rule
 skips : (later : Listed) (s place : ℕ) (rules : List Listed) → ((i : ℕ) (a : Listed) → i < s → slice_get rules i ≡ Some a → takes_all a later ≡ false)
@@ -26,22 +23,15 @@ skips later (suc s) place (r ∷ rs) none =
     ∙ ap (λ k. first_taking k (drop s rs) later) (let e : place + 1 + s ≡ place + suc s = omega arith in e)
 
 get_taken : (n i : ℕ) (rules : List Listed) (a : Listed) → slice_get (take n rules) i ≡ Some a → slice_get rules i ≡ Some a
-get_taken zero i rules a e = absurd (none_some a e)
-get_taken (suc n) i [] a e = absurd (none_some a e)
+get_taken zero i rules a e = absurd (none-some a e)
+get_taken (suc n) i [] a e = absurd (none-some a e)
 get_taken (suc n) zero (r ∷ rs) a e = e
 get_taken (suc n) (suc i) (r ∷ rs) a e = get_taken n i rs a e
-
-abbrev no_rules : List Listed
-no_rules = []
-
-take_nothing : (n : ℕ) → take n no_rules ≡ no_rules
-take_nothing zero = refl
-take_nothing (suc n) = refl
 
 drop_taken : (s n : ℕ) (rules : List Listed) → drop s (take n rules) ≡ take (n - s) (drop s rules)
 drop_taken zero n rules = ap (λ k. take k rules) (let e : n ≡ n - 0 = omega arith in e)
 drop_taken (suc s) zero rules = ap (λ k. take k (drop (suc s) rules)) (let e : 0 ≡ 0 - suc s = omega arith in e)
-drop_taken (suc s) (suc n) [] = sym (take_nothing (suc n - suc s))
+drop_taken (suc s) (suc n) [] = sym (take_all (suc n - suc s) [] (omega arith))
 drop_taken (suc s) (suc n) (r ∷ rs) = drop_taken s n rs ∙ ap (λ k. take k (drop s rs)) (let e : n - s ≡ suc n - suc s = omega arith in e)
 
 -- the first of the rules that may take all packets of the rule of a number
@@ -50,7 +40,7 @@ pub taker_is : (rules : List Listed) (outlines : List Outline) (start number : �
     → first_taker start (take (number - start) (drop start outlines)) o ≡ first_taking 0 (take number rules) later
 taker_is rules outlines start number later o all one apart at =
     taker_says later o one start (take (number - start) (drop start rules)) (take (number - start) (drop start outlines))
-    (outlines_take (number - start) (drop start rules) (drop start outlines) (outlines_drop start rules outlines all))
+    (each_taken IsOutlineOf (number - start) (drop start rules) (drop start outlines) (each_dropped IsOutlineOf start rules outlines all))
     ∙ ap (λ (rs : List Listed). first_taking start rs later) (sym (drop_taken start number rules))
     ∙ sym (skips later start 0 (take number rules) (λ i a less e. apart i number a later less (omega arith) (get_taken number i rules a e) at)
     ∙ ap (λ k. first_taking k (drop start (take number rules)) later) (let e : 0 + start ≡ start = omega arith in e))
@@ -62,61 +52,29 @@ pub record HasRule (rules : List Listed) (number : ℕ) (o : Outline) : Type 0 w
   pub outline : IsOutlineOf rule o
 
 pub outlined_at : (rules : List Listed) (outlines : List Outline) (number : ℕ) (o : Outline) → AreOutlinesOf rules outlines → slice_get outlines number ≡ Some o → HasRule rules number o
-outlined_at [] [] number o all e = absurd (none_some o e)
+outlined_at [] [] number o all e = absurd (none-some o e)
 outlined_at [] (x ∷ xs) number o all e = absurd all
 outlined_at (r ∷ rs) [] number o all e = absurd all
-outlined_at (r ∷ rs) (x ∷ xs) zero o all e = record { rule = r; is = refl; outline = subst (IsOutlineOf r) (some_same x o e) all.0 }
+outlined_at (r ∷ rs) (x ∷ xs) zero o all e = record { rule = r; is = refl; outline = subst (IsOutlineOf r) (same_Some x o e) all.0 }
 outlined_at (r ∷ rs) (x ∷ xs) (suc number) o all e =
     let h = outlined_at rs xs number o all.1 e in
     record { rule = h.rule; is = h.is; outline = h.outline }
-
-pub outlines_size : (rules : List Listed) (outlines : List Outline) → AreOutlinesOf rules outlines → length outlines ≡ length rules
-outlines_size [] [] all = refl
-outlines_size [] (x ∷ xs) all = absurd all
-outlines_size (r ∷ rs) [] all = absurd all
-outlines_size (r ∷ rs) (x ∷ xs) all = ap suc (outlines_size rs xs all.1)
-
-drop_one : (rules : List Listed) (n : ℕ) (a : Listed) → slice_get rules n ≡ Some a → drop n rules ≡ a ∷ drop (suc n) rules
-drop_one [] n a e = absurd (none_some a e)
-drop_one (r ∷ rs) zero a e = ap (λ x. x ∷ rs) (some_same r a e)
-drop_one (r ∷ rs) (suc n) a e = drop_one rs n a e
-
-take_one : (rules : List Listed) (n : ℕ) (a : Listed) → slice_get rules n ≡ Some a → take (suc n) rules ≡ take n rules ++ a ∷ []
-take_one [] n a e = absurd (none_some a e)
-take_one (r ∷ rs) zero a e = ap (λ x. x ∷ []) (some_same r a e)
-take_one (r ∷ rs) (suc n) a e = ap (λ xs. r ∷ xs) (take_one rs n a e)
-
-take_size : (rules : List Listed) (n : ℕ) (a : Listed) → slice_get rules n ≡ Some a → length (take n rules) ≡ n
-take_size [] n a e = absurd (none_some a e)
-take_size (r ∷ rs) zero a e = refl
-take_size (r ∷ rs) (suc n) a e = ap suc (take_size rs n a e)
 
 -- one rule more
 pub report_more : (rules : List Listed) (n : ℕ) (a : Listed) → slice_get rules n ≡ Some a
     → report_behind (take n rules) (drop n rules) ≡ covered_by n (first_taking 0 (take n rules) a) ++ report_behind (take (n + 1) rules) (drop (n + 1) rules)
 report_more rules n a e =
-    ap (report_behind (take n rules)) (drop_one rules n a e)
-    ∙ (λ i. covered_by (take_size rules n a e i) (first_taking 0 (take n rules) a) ++ report_behind (sym (take_one rules n a e) i) (drop (suc n) rules))
-    ∙ ap (λ k. covered_by n (first_taking 0 (take n rules) a) ++ report_behind (take k rules) (drop k rules)) (let m : suc n ≡ n + 1 = omega arith in m)
+    ap (report_behind (take n rules)) (drop_more rules n a within ∙ ap (λ x. x ∷ drop (n + 1) rules) is)
+    ∙ (λ i. covered_by (length-take-le n rules (omega (arith, within)) i) (first_taking 0 (take n rules) a) ++ report_behind (sym one i) (drop (n + 1) rules))
+  where
+    within : n < length rules
+    within = slice_get_within rules n a e
 
-append_assoc : (xs ys zs : List (ℕ × ℕ)) → (xs ++ ys) ++ zs ≡ xs ++ (ys ++ zs)
-append_assoc [] ys zs = refl
-append_assoc (x ∷ xs) ys zs = ap (λ rest. x ∷ rest) (append_assoc xs ys zs)
+    is : get_or rules n a ≡ a
+    is = get_or_from_slice_get rules n a a e
 
-append_none : (xs : List (ℕ × ℕ)) → xs ++ [] ≡ xs
-append_none [] = refl
-append_none (x ∷ xs) = ap (λ rest. x ∷ rest) (append_none xs)
-
-drop_all : (rules : List Listed) (n : ℕ) → length rules ≤ n → drop n rules ≡ []
-drop_all [] zero most = refl
-drop_all [] (suc n) most = refl
-drop_all (r ∷ rs) zero most = absurd (omega (arith, most))
-drop_all (r ∷ rs) (suc n) most = drop_all rs n (omega (arith, most))
-
-pub got_at : {X : Type 0} (xs : List X) (i : ℕ) (x : X) → i < length xs → x ≡ get_or xs i x → slice_get xs i ≡ Some x
-got_at [] i x below is = absurd (omega (arith, below))
-got_at (y ∷ ys) zero x below is = ap Some (sym is)
-got_at (y ∷ ys) (suc i) x below is = got_at ys i x (omega (arith, below)) is
+    one : take (n + 1) rules ≡ take n rules ++ a ∷ []
+    one = take_more rules n a within ∙ ap (λ x. take n rules ++ x ∷ []) is
 
 -- what the loop does with the rule of a number
 pub report_step : (rules : List Listed) (outlines : List Outline) (start n : ℕ) (o : Outline) (pairs new whole : List (ℕ × ℕ)) → AreOutlinesOf rules outlines → slice_get outlines n ≡ Some o
@@ -136,7 +94,7 @@ report_step rules outlines start n o pairs new whole all at apart e rest =
 
 pub report_ends : (rules : List Listed) (n : ℕ) (pairs whole : List (ℕ × ℕ)) → length rules ≤ n → pairs ++ report_behind (take n rules) (drop n rules) ≡ whole → pairs ≡ whole
 report_ends rules n pairs whole most rest =
-    sym (append_none pairs) ∙ ap (λ rs. pairs ++ report_behind (take n rules) rs) (sym (drop_all rules n most)) ∙ rest
+    sym (append-nil pairs) ∙ ap (λ rs. pairs ++ report_behind (take n rules) rs) (sym (drop_all n rules most)) ∙ rest
 
 -- where the stretch begins now
 pub stretch_apart : (rules : List Listed) (start n : ℕ) → AreInOrder rules → n < length rules → AreApart rules start n → AreApart rules (if begins_anew (spans_of rules) n then n else start) n
@@ -145,9 +103,6 @@ stretch_apart rules start n order inside apart = at (begins_anew (spans_of rules
     at : (b : Bool) → begins_anew (spans_of rules) n ≡ b → AreApart rules (if b then n else start) n
     at true e = anew_apart rules n order inside e
     at false e = apart
-
-pub none_before : (rules : List Listed) → AreApart rules 0 0
-none_before rules i j a b less from e f = absurd (omega (arith, less))
 
 pub apart_later : (rules : List Listed) (start n : ℕ) → AreApart rules start n → AreApart rules start (n + 1)
 apart_later rules start n apart i j a b less from e f = apart i j a b less (omega (arith, from)) e f

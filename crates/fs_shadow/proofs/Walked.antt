@@ -2,6 +2,8 @@
 use Rattle.std.proofs.Common.{◌≡◌, ◌≢◌, ℕ, zero, suc, ◌+◌, ◌<◌, Bool, true, false, not, Option, Some, None, List, [], ◌∷◌, ◌++◌, if◌then◌else◌, length, refl, sym, ap, subst, ◌∙◌, inl, inr, arith, append_assoc}
 use Rattle.std.specs.List.{AllByRecursion, slice_get}
 use Rattle.std.proofs.lemmas.Bool.{and_parts, cases_Bool, not-true, true≢false}
+use Rattle.std.proofs.lemmas.Option.{none-some, same_Some}
+use Rattle.fs_base.proofs.Lists.{each_append}
 use Rattle.fs_packet.specs.Fields.{Viewed}
 use Rattle.fs_packet.specs.Matching.{is_match}
 use Rattle.fs_compile.specs.Facts.{IsSmall}
@@ -11,12 +13,6 @@ use Rattle.fs_shadow.specs.Contains.{contains}
 use Rattle.fs_shadow.specs.Reporting.{covered_by, first_taking, report_behind, takes_all}
 use Rattle.fs_shadow.specs.Laws.{ConfirmedNeverWalks, CoveredNeverWalks, NeverWalks}
 use Rattle.fs_shadow.proofs.Matched.{contained_matches}
-
-some_same : {X : Type 0} (x y : X) → Some x ≡ Some y → x ≡ y
-some_same x y e = cc
-
-none_some : {X : Type 0} (x : X) → None ≡ Some x → ⊥
-none_some x e = cc
 
 abbrev Entry : Type 0
 Entry = ℕ × List (List ℕ)
@@ -50,7 +46,7 @@ module _ (view : Viewed) where
   unmatched (rule ∷ rules) place zero later at none =
       let rest : Without (place + 0) (walk_from (place + 1) view rules) = above rules (place + 0) (place + 1) (omega arith) in
       step (place + 0) (is_match rule.rule view) (goes_on rule.actions) (place, rule.actions) (walk_from (place + 1) view rules)
-      (λ h. absurd (true≢false (sym h ∙ ap (λ (r : Listed). is_match r.rule view) (some_same rule later at) ∙ none))) (λ h g. rest) (λ h. rest)
+      (λ h. absurd (true≢false (sym h ∙ ap (λ (r : Listed). is_match r.rule view) (same_Some rule later at) ∙ none))) (λ h g. rest) (λ h. rest)
   unmatched (rule ∷ rules) place (suc k) later at none =
       let rest : Without (place + suc k) (walk_from (place + 1) view rules) = numbered rules place k (unmatched rules (place + 1) k later at none) in
       step (place + suc k) (is_match rule.rule view) (goes_on rule.actions) (place, rule.actions) (walk_from (place + 1) view rules)
@@ -65,7 +61,7 @@ module _ (view : Viewed) where
   ended [] place j k earlier later less at_j at_k ends all = tt
   ended (rule ∷ rules) place j zero earlier later less at_j at_k ends all = absurd (omega (arith, less))
   ended (rule ∷ rules) place zero (suc k) earlier later less at_j at_k ends all =
-      let same : rule ≡ earlier = some_same rule earlier at_j in
+      let same : rule ≡ earlier = same_Some rule earlier at_j in
       step (place + suc k) (is_match rule.rule view) (goes_on rule.actions) (place, rule.actions) (walk_from (place + 1) view rules)
       (λ h e. omega (arith, e)) (λ h g. absurd (true≢false (sym g ∙ ap (λ (r : Listed). goes_on r.actions) same ∙ ends)))
       (λ h. numbered rules place k (unmatched rules (place + 1) k later at_k (missed earlier later all (sym (ap (λ (r : Listed). is_match r.rule view) same) ∙ h))))
@@ -99,13 +95,13 @@ behind place rule rules later found t = record {
 }
 
 taken : (place : ℕ) (rules : List Listed) (later : Listed) (found : ℕ) → first_taking place rules later ≡ Some found → Takes place rules later found
-taken place [] later found e = absurd (none_some found e)
+taken place [] later found e = absurd (none-some found e)
 taken place (rule ∷ rules) later found e = by (taken (place + 1) rules later found) (takes_all rule later) refl e where
   by : (first_taking (place + 1) rules later ≡ Some found → Takes (place + 1) rules later found) → (b : Bool) → takes_all rule later ≡ b
       → (if b then Some place else first_taking (place + 1) rules later) ≡ Some found → Takes place (rule ∷ rules) later found
   by rest true h f = record {
     j = 0;
-    is = sym (some_same place found f) ∙ (let e : place ≡ place + 0 = omega arith in e);
+    is = sym (same_Some place found f) ∙ (let e : place ≡ place + 0 = omega arith in e);
     within = omega arith;
     earlier = rule;
     at = refl;
@@ -113,12 +109,8 @@ taken place (rule ∷ rules) later found e = by (taken (place + 1) rules later f
   }
   by rest false h f = behind place rule rules later found (rest f)
 
-joined : {X : Type 0} (P : X → Type 0) (xs ys : List X) → AllByRecursion P xs → AllByRecursion P ys → AllByRecursion P (xs ++ ys)
-joined P [] ys h k = k
-joined P (x ∷ xs) ys h k = (h.0, joined P xs ys h.1 k)
-
 at_front : (front rest : List Listed) (j : ℕ) (rule : Listed) → slice_get front j ≡ Some rule → slice_get (front ++ rest) j ≡ Some rule
-at_front [] rest j rule e = absurd (none_some rule e)
+at_front [] rest j rule e = absurd (none-some rule e)
 at_front (r ∷ front) rest zero rule e = e
 at_front (r ∷ front) rest (suc j) rule e = at_front front rest j rule e
 
@@ -133,7 +125,7 @@ module _ (view : Viewed) (small : IsSmall view) (all : List Listed) where
   each : (front rules : List Listed) → front ++ rules ≡ all → AllByRecursion Never (report_behind front rules)
   each front [] whole = tt
   each front (rule ∷ rules) whole =
-      joined Never (covered_by (length front) (first_taking 0 front rule)) (report_behind (front ++ rule ∷ []) rules) (first (first_taking 0 front rule) refl)
+      each_append Never (covered_by (length front) (first_taking 0 front rule)) (report_behind (front ++ rule ∷ []) rules) (first (first_taking 0 front rule) refl)
       (each (front ++ rule ∷ []) rules (append_assoc front (rule ∷ []) rules ∙ whole)) where
         first : (o : Option ℕ) → first_taking 0 front rule ≡ o → AllByRecursion Never (covered_by (length front) o)
         first None e = tt

@@ -1,11 +1,12 @@
 -- What a component takes in, as it is compared with many others, and which component it stands for.
-use Rattle.std.specs.Prelude.{◌≡◌, ℕ, ◌-◌, ◌*◌, ◌%◌, ◌^◌, ◌<◌, ◌==◌, Bool, true, false, ◌&&◌, ◌||◌, nat_lt, Option, Some, None, List, [], ◌∷◌, if◌then◌else◌}
+use Rattle.std.specs.Prelude.{◌≡◌, ℕ, ◌-◌, ◌*◌, ◌%◌, ◌^◌, ◌<◌, ◌==◌, Bool, true, false, ◌&&◌, ◌||◌, nat_lt, Option, Some, None, List, if◌then◌else◌}
 use Rattle.fs_ops.specs.Evaluation.{compares, holds}
 use Rattle.fs_base.specs.Bits.{cleared}
 use Rattle.fs_base.specs.Prefix.{covers}
 use Rattle.fs_nlri.specs.Parts.{Body, V4Body, V6Body, ListBody, Part}
 use Rattle.fs_nlri.specs.Sound.{IsSoundBody}
 use Rattle.fs_compile.specs.Spans.{contains}
+use Rattle.fs_compile.specs.Index.{EachWith}
 use Rattle.fs_shadow.specs.declared.extents.Extent.{Extent}
 use Rattle.fs_shadow.specs.declared.extents.Extent.TheVariants.{V4, V6, Numbers, Bits}
 use Rattle.fs_shadow.specs.declared.extents.Measure.{Measure}
@@ -68,10 +69,7 @@ key_in measure = if measure.single then number_or_none measure.held else 0
 -- one of its numbers is known, if it takes in numbers
 abbrev pub has_probe : Extent → Option ℕ → Bool
 has_probe (Numbers spans) None = false
-has_probe (Numbers spans) (Some n) = true
-has_probe (V4 prefix) held = true
-has_probe (V6 known) held = true
-has_probe (Bits pairs) held = true
+has_probe extent held = true
 
 abbrev pub is_probed : Measure → Bool
 is_probed measure = has_probe measure.extent measure.held
@@ -83,7 +81,4 @@ pub record IsMeasureOf (part : Part) (measure : Measure) : Type 0 where
 
 -- each of its component
 abbrev pub AreMeasuresOf : List Part → List Measure → Type 0
-AreMeasuresOf [] [] = Unit {0}
-AreMeasuresOf [] (measure ∷ measures) = ⊥
-AreMeasuresOf (part ∷ parts) [] = ⊥
-AreMeasuresOf (part ∷ parts) (measure ∷ measures) = IsMeasureOf part measure × AreMeasuresOf parts measures
+AreMeasuresOf parts measures = EachWith IsMeasureOf parts measures

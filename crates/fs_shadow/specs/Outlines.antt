@@ -7,7 +7,7 @@ use Rattle.fs_base.specs.declared.prefix.Family.{Family}
 use Rattle.fs_base.specs.Bits.{afi_of}
 use Rattle.fs_rules.specs.Lent.{Listed}
 use Rattle.fs_rules.specs.Walk.{goes_on}
-use Rattle.fs_compile.specs.Index.{IsOfFamily, spans_of}
+use Rattle.fs_compile.specs.Index.{EachWith, IsOfFamily, spans_of}
 use Rattle.fs_compile.specs.Runs.{AreNesting}
 use Rattle.fs_shadow.specs.declared.outlines.Outline.{Outline}
 use Rattle.fs_shadow.specs.Extents.{AreMeasuresOf, IsTold, key_in, measure_lies_in}
@@ -34,10 +34,7 @@ pub record IsOutlineOf (rule : Listed) (outline : Outline) : Type 0 where
 
 -- each of its rule
 abbrev pub AreOutlinesOf : List Listed → List Outline → Type 0
-AreOutlinesOf [] [] = Unit {0}
-AreOutlinesOf [] (outline ∷ outlines) = ⊥
-AreOutlinesOf (rule ∷ rules) [] = ⊥
-AreOutlinesOf (rule ∷ rules) (outline ∷ outlines) = IsOutlineOf rule outline × AreOutlinesOf rules outlines
+AreOutlinesOf rules outlines = EachWith IsOutlineOf rules outlines
 
 -- rules of a family by their destinations
 pub record AreInOrder (rules : List Listed) : Type 0 where

@@ -1,9 +1,9 @@
 use Rattle.std.proofs.Common.{◌+◌, ◌≤◌, min}
-use Rattle.fs_compile.proofs.Finding.{Counted}
+use Rattle.fs_compile.specs.Between.{IsPlaced}
 use Rattle.fs_compile.proofs.addresses.count_below.Given as goal
 
 abbrev pub invariant-loop-number : goal.invariant-loop-number
 invariant-loop-number l = record {
-  counted : Counted l.items l.address (min l.number l.to) (l.from + l.count);
+  counted : IsPlaced l.items l.address (min l.number l.to) (l.from + l.count);
   few : l.count + l.from ≤ min l.number l.to;
 }

@@ -1,5 +1,6 @@
-use Rattle.fs_compile.specs.Buckets.{AreRaised}
+use Rattle.std.proofs.Common.{◌+◌}
+use Rattle.fs_compile.specs.Buckets.{AreChanged}
 use Rattle.fs_compile.proofs.buckets.raise.Given as goal
 
 abbrev pub invariant-loop-place : goal.invariant-loop-place
-invariant-loop-place l = AreRaised l.from l.place l.initial.numbers l.numbers
+invariant-loop-place l = AreChanged l.from l.place (λ _ n. n + 1) l.initial.numbers l.numbers

@@ -5,7 +5,7 @@ use Rattle.fs_rules.specs.Table.{admitted}
 use Rattle.fs_compile.specs.Index.{IsIndexOf, IsOfFamily, spans_of}
 use Rattle.fs_compile.specs.Runs.{AreNesting}
 use Rattle.fs_compile.proofs.Nesting.{all_of_family, nesting}
-use Rattle.fs_compile.proofs.Mended.{if_ok}
+use Rattle.fs_compile.proofs.MatcherMending.{if_ok}
 use Rattle.fs_compile.proofs.compiled.admitted_index.Goals as goal
 
 pub of-requires-clause-each : goal.of-requires-clause-each

@@ -1,7 +1,7 @@
 use Rattle.std.proofs.Common.{◌∙◌, sym, ap}
 use Rattle.fs_compile.specs.Flags.{is_syn}
 use Rattle.fs_compile.proofs.Flags.{syn_is}
-use Rattle.fs_compile.proofs.Standing.{flags_are}
+use Rattle.fs_compile.proofs.ComponentTests.{flags_are}
 use Rattle.fs_compile.proofs.components.flags_test.Goals as goal
 
 pub returns-then-is_syn : goal.returns-then-is_syn

@@ -1,5 +1,5 @@
 use Rattle.std.proofs.Common.{ℕ, ◌<◌, ◌^◌, subst, sym, arith}
-use Rattle.fs_compile.proofs.Standing.{v4_high}
+use Rattle.fs_compile.proofs.ComponentTests.{v4_high}
 use Rattle.fs_compile.proofs.components.prefix_range.Goals as goal
 
 pub overflow_cast-result-2 : goal.overflow_cast-result-2

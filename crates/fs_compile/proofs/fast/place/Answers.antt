@@ -1,12 +1,12 @@
 use Rattle.std.proofs.Common.{◌≡◌, ◌∙◌, ◌&&◌, ◌++◌, ◌∷◌, [], Bool, List, ap, sym}
 use Rattle.std.specs.List.{list_all}
 use Rattle.std.proofs.lemmas.List.Folds.{list_all-append}
+use Rattle.fs_base.proofs.Bools.{and_true}
 use Rattle.fs_compile.specs.declared.tests.Test.{Test}
 use Rattle.fs_compile.specs.Ranges.{ranges_hold}
 use Rattle.fs_compile.specs.Tests.{passes}
 use Rattle.fs_compile.proofs.Hulls.{pushed}
 use Rattle.fs_compile.proofs.Placing.{put_free, put_placed}
-use Rattle.fs_compile.proofs.Truths.{and_true}
 use Rattle.fs_compile.proofs.fast.place.Goals as goal
 
 pub returns-clause-placed : goal.returns-clause-placed

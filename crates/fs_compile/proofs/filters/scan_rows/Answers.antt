@@ -1,6 +1,6 @@
 use Rattle.std.proofs.Common.{◌≡◌, ℕ, ◌+◌, ◌-◌, ◌*◌, ◌/◌, ◌^◌, ◌<◌, ◌≤◌, min, inl, inr, ◌⊎◌, false, get_or, arith}
 use Rattle.std.proofs.lemmas.Bool.{cases_lt}
-use Rattle.fs_compile.specs.Search.{hits}
+use Rattle.fs_compile.specs.Search.{Found, hits}
 use Rattle.fs_compile.proofs.Sieving.{set_in_all}
 use Rattle.fs_compile.proofs.Skipping.{words_missed}
 use Rattle.fs_compile.proofs.filters.scan_rows.Goals as goal
@@ -30,16 +30,26 @@ scan_word-requires-clause-marked g c = λ k above below hit.
     let e = c.max.ensures in
     set_in_all (hits c.args.facts.now c.args.rules.now) c.args.rows.now c.args.first c.args.to c.words.place k c.requires.rows (omega (arith, e, above)) (omega (arith, below)) (omega (arith, below)) hit
 
-pub returns-in-Some-clause-found : goal.returns-in-Some-clause-found
-returns-in-Some-clause-found g c = record {
-  above = let a = c.in-Some.ensures.found.above in let e = c.max.ensures in omega (arith, a, e);
-  below = c.in-Some.ensures.found.below;
-  hit = c.in-Some.ensures.found.hit;
-  before = λ k above below. by k above below (cases_lt k (c.args.first + c.words.place * 64));
+pub returns-in-Some : goal.returns-in-Some
+returns-in-Some g c = record {
+  found = record {
+    above = omega (arith, found.above, c.max.ensures);
+    below = found.below;
+    hit = found.hit;
+    before = λ k above below. by k above below (cases_lt k (c.args.first + c.words.place * 64));
+  };
+  later = let a : c.args.steps.now ≤ c.words.steps = c.words.invariant.later in let b = c.in-Some.ensures.later in omega (arith, a, b);
+  steps =
+      let a : c.words.steps ≤ c.args.steps.now + (min (c.args.first + c.words.place * 64) c.args.to - c.args.from) = c.words.invariant.steps in
+      let b = c.in-Some.ensures.steps in
+      omega (arith, a, b, found.above, c.max.ensures, c.words-test.true);
 } where
+  found : Found (hits c.args.facts.now c.args.rules.now) c.max.result c.args.to c.in-Some.number
+  found = c.in-Some.ensures.found
+
   by : (k : ℕ) → c.args.from ≤ k → k < c.in-Some.number → (k < c.args.first + c.words.place * 64) ⊎ (c.args.first + c.words.place * 64 ≤ k) → get_or (hits c.args.facts.now c.args.rules.now) k false ≡ false
-  by k above below (inl earlier) = let t = c.words-test.true in c.words.invariant.missed k above (omega (arith, earlier, t))
-  by k above below (inr here) = let e = c.max.ensures in c.in-Some.ensures.found.before k (omega (arith, above, here, e)) below
+  by k above below (inl earlier) = c.words.invariant.missed k above (omega (arith, earlier, c.words-test.true))
+  by k above below (inr here) = found.before k (omega (arith, above, here, c.max.ensures)) below
 
 pub words-preserved : goal.words-preserved
 words-preserved g c = record {

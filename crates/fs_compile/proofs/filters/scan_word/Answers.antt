@@ -6,8 +6,10 @@ use Rattle.fs_compile.proofs.Climbing.{missed_more, test_fails}
 use Rattle.fs_compile.proofs.Sieving.{fits_shifted, left_first, left_next, lowest, missed_all, missed_on, none_marked, test_passes}
 use Rattle.fs_compile.proofs.filters.scan_word.Goals as goal
 
-pub returns-then-front-eq0-clause-found : goal.returns-then-front-eq0-clause-found
-returns-then-front-eq0-clause-found g c = none_marked (hits c.args.facts.now c.args.rules.now) c.args.rows.now c.args.place c.args.start c.args.from (min c.args.to (c.args.start + 64)) (sym c.front.ensures ∙ c.if-front-eq0.true) c.requires.marked
+pub returns-then-front-eq0 : goal.returns-then-front-eq0
+returns-then-front-eq0 g c = record { found = found; later = omega arith; steps = omega arith } where
+  found : Missed (hits c.args.facts.now c.args.rules.now) c.args.from (min c.args.to (c.args.start + 64))
+  found = none_marked (hits c.args.facts.now c.args.rules.now) c.args.rows.now c.args.place c.args.start c.args.from (min c.args.to (c.args.start + 64)) (sym c.front.ensures ∙ c.if-front-eq0.true) c.requires.marked
 
 pub candidates-init : goal.candidates-init
 candidates-init g c = record {
@@ -27,37 +29,29 @@ overflow_add-number g c =
     let b = c.candidates.invariant.small in
     omega (arith, a, b)
 
-pub returns-then-number-end-clause-found : goal.returns-then-number-end-clause-found
-returns-then-number-end-clause-found g c = λ k above below.
-    missed_on (hits c.args.facts.now c.args.rules.now) c.candidates.rest c.args.from (min c.args.to (c.args.start + 64)) c.candidates.number (trailing_zeros w64 c.candidates.rest) c.candidates.invariant.left
-    (lowest c.candidates.rest c.candidates.invariant.rest (let some = c.candidates-test.true in omega (arith, some))).2 c.candidates.invariant.missed k above (omega (arith, below, c.if-number-end.true, c.min-end.ensures))
-
-pub returns-then-number-end-clause-later : goal.returns-then-number-end-clause-later
-returns-then-number-end-clause-later g c = c.candidates.invariant.later
-
-pub returns-then-number-end-clause-steps : goal.returns-then-number-end-clause-steps
-returns-then-number-end-clause-steps g c = let a = c.candidates.invariant.steps in omega (arith, a)
-
-pub returns-then-test_facts-clause-found : goal.returns-then-test_facts-clause-found
-returns-then-test_facts-clause-found g c = record {
-  above = let a = c.candidates.invariant.from in omega (arith, a);
-  below = omega (arith, c.if-number-end.false, c.min-end.ensures);
-  hit = test_passes (facts_hold c.args.facts.now) c.args.rules.now (c.candidates.number + trailing_zeros w64 c.candidates.rest) c.index-rules-number.result c.test_facts.result
-      (omega (arith, c.if-number-end.false, c.requires.to, c.min-end.ensures)) (c.test_facts.ensures.holds ∙ ap (facts_hold c.args.facts.now) c.index-rules-number.is) c.if-test_facts.true;
-  before = λ k above below.
+pub returns-then-number-end : goal.returns-then-number-end
+returns-then-number-end g c = record {
+  found = λ k above below.
       missed_on (hits c.args.facts.now c.args.rules.now) c.candidates.rest c.args.from (min c.args.to (c.args.start + 64)) c.candidates.number (trailing_zeros w64 c.candidates.rest) c.candidates.invariant.left
-      (lowest c.candidates.rest c.candidates.invariant.rest (let some = c.candidates-test.true in omega (arith, some))).2 c.candidates.invariant.missed k above (omega (arith, below, c.if-number-end.false, c.min-end.ensures));
+      (lowest c.candidates.rest c.candidates.invariant.rest (let some = c.candidates-test.true in omega (arith, some))).2 c.candidates.invariant.missed k above (omega (arith, below, c.if-number-end.true, c.min-end.ensures));
+  later = c.candidates.invariant.later;
+  steps = let a = c.candidates.invariant.steps in omega (arith, a);
 }
 
-pub returns-then-test_facts-clause-later : goal.returns-then-test_facts-clause-later
-returns-then-test_facts-clause-later g c = let a = c.candidates.invariant.later in let b = c.test_facts.ensures.step in omega (arith, a, b)
-
-pub returns-then-test_facts-clause-steps : goal.returns-then-test_facts-clause-steps
-returns-then-test_facts-clause-steps g c =
-    let a = c.candidates.invariant.steps in
-    let b = c.test_facts.ensures.step in
-    let d = c.candidates.invariant.from in
-    omega (arith, a, b, d)
+pub returns-then-test_facts : goal.returns-then-test_facts
+returns-then-test_facts g c = record {
+  found = record {
+    above = let a = c.candidates.invariant.from in omega (arith, a);
+    below = omega (arith, c.if-number-end.false, c.min-end.ensures);
+    hit = test_passes (facts_hold c.args.facts.now) c.args.rules.now (c.candidates.number + trailing_zeros w64 c.candidates.rest) c.index-rules-number.result c.test_facts.result
+        (omega (arith, c.if-number-end.false, c.requires.to, c.min-end.ensures)) (c.test_facts.ensures.holds ∙ ap (facts_hold c.args.facts.now) c.index-rules-number.is) c.if-test_facts.true;
+    before = λ k above below.
+        missed_on (hits c.args.facts.now c.args.rules.now) c.candidates.rest c.args.from (min c.args.to (c.args.start + 64)) c.candidates.number (trailing_zeros w64 c.candidates.rest) c.candidates.invariant.left
+        (lowest c.candidates.rest c.candidates.invariant.rest (let some = c.candidates-test.true in omega (arith, some))).2 c.candidates.invariant.missed k above (omega (arith, below, c.if-number-end.false, c.min-end.ensures));
+  };
+  later = let a = c.candidates.invariant.later in let b = c.test_facts.ensures.step in omega (arith, a, b);
+  steps = let a = c.candidates.invariant.steps in let b = c.test_facts.ensures.step in let d = c.candidates.invariant.from in omega (arith, a, b, d);
+}
 
 pub candidates-preserved : goal.candidates-preserved
 candidates-preserved g c = record {
@@ -83,11 +77,9 @@ candidates-preserved g c = record {
       missed_on (hits c.args.facts.now c.args.rules.now) c.candidates.rest c.args.from (min c.args.to (c.args.start + 64)) c.candidates.number (trailing_zeros w64 c.candidates.rest) c.candidates.invariant.left
       (lowest c.candidates.rest c.candidates.invariant.rest (let some = c.candidates-test.true in omega (arith, some))).2 c.candidates.invariant.missed
 
-pub returns-clause-found : goal.returns-clause-found
-returns-clause-found g c = missed_all (hits c.args.facts.now c.args.rules.now) c.candidates.rest c.args.from (min c.args.to (c.args.start + 64)) c.candidates.number (let none = c.candidates-test.false in omega (arith, none)) c.candidates.invariant.left c.candidates.invariant.missed
-
-pub returns-clause-later : goal.returns-clause-later
-returns-clause-later g c = c.candidates.invariant.later
-
-pub returns-clause-steps : goal.returns-clause-steps
-returns-clause-steps g c = let a = c.candidates.invariant.steps in omega (arith, a)
+pub returns : goal.returns
+returns g c = record {
+  found = missed_all (hits c.args.facts.now c.args.rules.now) c.candidates.rest c.args.from (min c.args.to (c.args.start + 64)) c.candidates.number (let none = c.candidates-test.false in omega (arith, none)) c.candidates.invariant.left c.candidates.invariant.missed;
+  later = c.candidates.invariant.later;
+  steps = let a = c.candidates.invariant.steps in omega (arith, a);
+}

@@ -1,19 +1,15 @@
-use Rattle.std.proofs.Common.{◌≡◌, ◌+◌, ◌++◌, [], ◌∷◌, List, length, take, sym, ap, subst, ◌∙◌, length-take-le, arith}
-use Rattle.std.proofs.lemmas.List.{length-map, map_more}
-use Rattle.fs_rules.specs.Lent.{Listed, all_admitted, shown_lent}
-use Rattle.fs_rules.specs.declared.lent.LentRule.{LentRule}
-use Rattle.fs_compile.specs.Index.{StandForEach}
-use Rattle.fs_compile.proofs.Indexing.{stand_more, stand_size}
+use Rattle.std.proofs.Common.{◌≡◌, length, take, ◌∙◌, length-take-le, arith}
+use Rattle.std.proofs.lemmas.List.{length-map}
+use Rattle.fs_rules.specs.Lent.{all_admitted, shown_lent}
+use Rattle.fs_compile.specs.Fast.{StandsFor}
+use Rattle.fs_compile.proofs.Indexing.{stand_size}
+use Rattle.fs_compile.proofs.Pairing.{each_pushed}
 use Rattle.fs_compile.proofs.index.compiled_rules.Goals as goal
 
 pub loop-admitted-preserved : goal.loop-admitted-preserved
 loop-admitted-preserved c =
-    subst (λ (rs : List Listed). StandForEach rs c.push.new.self.items) (sym taken)
-    (subst (StandForEach (all_admitted (take c.loop-admitted.admitted-index c.args.list.now) ++ shown_lent c.admitted-item.result ∷ [])) (sym c.in_ok-push.ensures.items)
-    (stand_more (all_admitted (take c.loop-admitted.admitted-index c.args.list.now)) c.loop-admitted.rules.items (shown_lent c.admitted-item.result) c.in_ok-of.field-0 c.loop-admitted.invariant c.in_ok-of.ensures)) where
-      taken : all_admitted (take (c.loop-admitted.admitted-index + 1) c.args.list.now) ≡ all_admitted (take c.loop-admitted.admitted-index c.args.list.now) ++ shown_lent c.admitted-item.result ∷ []
-      taken = map_more shown_lent c.args.list.now c.loop-admitted.admitted-index c.admitted-item.result (omega (arith, c.loop-admitted-test.true))
-          ∙ ap (λ (a : LentRule). all_admitted (take c.loop-admitted.admitted-index c.args.list.now) ++ shown_lent a ∷ []) (sym c.admitted-item.is)
+    each_pushed (λ r f. StandsFor r.rule f) shown_lent c.args.list.now c.loop-admitted.admitted-index c.admitted-item.result c.loop-admitted.rules.items c.push.new.self.items c.in_ok-of.field-0
+    (omega (arith, c.loop-admitted-test.true)) c.admitted-item.is c.in_ok-push.ensures.items c.loop-admitted.invariant c.in_ok-of.ensures
 
 pub returns-clause-size : goal.returns-clause-size
 returns-clause-size c =

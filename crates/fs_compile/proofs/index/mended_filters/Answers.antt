@@ -1,4 +1,4 @@
-use Rattle.std.proofs.Common.{◌≡◌, ℕ, ◌+◌, ◌<◌, ◌++◌, ◌∷◌, [], List, length, sym, ap, subst, arith}
+use Rattle.std.proofs.Common.{◌≡◌, ◌+◌, ◌++◌, ◌∷◌, [], List, length, sym, ap, subst, arith, ℕ, ◌≤◌}
 use Rattle.std.specs.List.{All, splice}
 use Rattle.std.specs.Vec.Iter.{into_iter_items}
 use Rattle.std.proofs.lemmas.List.Elements.{All-head, All-push, All-tail}
@@ -9,11 +9,8 @@ use Rattle.fs_compile.proofs.Filtering.{filter_kept, filter_moved}
 use Rattle.fs_compile.proofs.Splicing.{spliced_size}
 use Rattle.fs_compile.proofs.index.mended_filters.Goals as goal
 
-no_less : (i : ℕ) → i < 0 → ⊥
-no_less i h = omega (arith, h)
-
 all_none : (P : Filter → Type 0) → All P []
-all_none P k d below = absurd (no_less k below)
+all_none P k d below = absurd (omega (arith, below))
 
 -- one more, and the others that are left
 pushed : (rules : List Fast) (new old : List Filter) (f : Filter) → new ≡ old ++ f ∷ [] → All (IsFilter rules) old → IsFilter rules f → All (IsFilter rules) new
@@ -24,6 +21,10 @@ head_of rules left rest f is h = All-head (IsFilter rules) f rest (subst (λ (fs
 
 tail_of : (rules : List Fast) (left rest : List Filter) (f : Filter) → left ≡ f ∷ rest → All (IsFilter rules) left → All (IsFilter rules) rest
 tail_of rules left rest f is h = All-tail (IsFilter rules) f rest (subst (λ (fs : List Filter). All (IsFilter rules) fs) is h)
+
+-- the rules behind a stretch end where they are
+room : (rules before news : List Fast) (f : Filter) (from to : ℕ) → IsFilter before f → from ≤ to → to ≤ length before → rules ≡ splice before from to news → (f.first ≤ f.end) × (f.end + from + length news ≤ length rules + to)
+room rules before news f from to own le within is = (own.ordered, omega (arith, own.within, spliced_size before news from to le within, ap length is))
 
 pub loop-filter-init : goal.loop-filter-init
 loop-filter-init c = record {
@@ -41,26 +42,16 @@ loop-filter-preserved-in-Continue-1 c = record {
 }
 
 pub overflow_add-first-then-to-filter : goal.overflow_add-first-then-to-filter
-overflow_add-first-then-to-filter c = omega (arith, own.ordered, own.within, size, c.requires.was.4, whole, c.requires.few) where
-  own : IsFilter c.requires.was.0 c.in-Some.filter
-  own = head_of c.requires.was.0 (into_iter_items c.loop-filter.filter-iterator) (into_iter_items c.next.new.self) c.in-Some.filter c.in-Some.ensures.steps.0 (c.loop-filter.invariant.left c.requires.was.0 c.requires.was.2)
-
-  size : length (splice c.requires.was.0 c.args.from c.args.to c.requires.was.1) + c.args.to ≡ c.args.from + length c.requires.was.1 + length c.requires.was.0
-  size = spliced_size c.requires.was.0 c.requires.was.1 c.args.from c.args.to c.requires.bounds c.requires.was.3
-
-  whole : length c.args.rules.now ≡ length (splice c.requires.was.0 c.args.from c.args.to c.requires.was.1)
-  whole = ap length c.requires.was.5
+overflow_add-first-then-to-filter c =
+    let r = room c.args.rules.now c.requires.was.0 c.requires.was.1 c.in-Some.filter c.args.from c.args.to
+    (head_of c.requires.was.0 (into_iter_items c.loop-filter.filter-iterator) (into_iter_items c.next.new.self) c.in-Some.filter c.in-Some.ensures.steps.0 (c.loop-filter.invariant.left c.requires.was.0 c.requires.was.2)) c.requires.bounds c.requires.was.3 c.requires.was.5 in
+    omega (arith, r.0, r.1, c.requires.was.4, c.requires.few)
 
 pub moved-requires-clause-fits : goal.moved-requires-clause-fits
-moved-requires-clause-fits c = omega (arith, own.ordered, own.within, size, c.requires.was.4, whole, c.requires.few) where
-  own : IsFilter c.requires.was.0 c.in-Some.filter
-  own = head_of c.requires.was.0 (into_iter_items c.loop-filter.filter-iterator) (into_iter_items c.next.new.self) c.in-Some.filter c.in-Some.ensures.steps.0 (c.loop-filter.invariant.left c.requires.was.0 c.requires.was.2)
-
-  size : length (splice c.requires.was.0 c.args.from c.args.to c.requires.was.1) + c.args.to ≡ c.args.from + length c.requires.was.1 + length c.requires.was.0
-  size = spliced_size c.requires.was.0 c.requires.was.1 c.args.from c.args.to c.requires.bounds c.requires.was.3
-
-  whole : length c.args.rules.now ≡ length (splice c.requires.was.0 c.args.from c.args.to c.requires.was.1)
-  whole = ap length c.requires.was.5
+moved-requires-clause-fits c =
+    let r = room c.args.rules.now c.requires.was.0 c.requires.was.1 c.in-Some.filter c.args.from c.args.to
+    (head_of c.requires.was.0 (into_iter_items c.loop-filter.filter-iterator) (into_iter_items c.next.new.self) c.in-Some.filter c.in-Some.ensures.steps.0 (c.loop-filter.invariant.left c.requires.was.0 c.requires.was.2)) c.requires.bounds c.requires.was.3 c.requires.was.5 in
+    omega (arith, r.0, r.1, c.requires.was.4, c.requires.few)
 
 pub loop-filter-preserved-in-Continue-branch-2 : goal.loop-filter-preserved-in-Continue-branch-2
 loop-filter-preserved-in-Continue-branch-2 c = record {

@@ -8,9 +8,7 @@ use Rattle.fs_rules.specs.Lent.{Listed, all_admitted, shown_lent}
 use Rattle.fs_rules.specs.declared.lent.LentRule.{LentRule}
 use Rattle.fs_compile.specs.Index.{span_by, span_of, spans_of}
 use Rattle.fs_compile.proofs.runs.add_each.Goals as goal
-
-spans_size : (list : List LentRule) → length (spans_of (all_admitted list)) ≡ length list
-spans_size list = length-map (all_admitted list) (λ r. span_of r.rule) ∙ length-map list shown_lent
+use Rattle.fs_compile.proofs.IndexMending.{spans_size}
 
 -- the span of the rule of a number
 span_is : (list : List LentRule) (i : ℕ) (a : LentRule) → i < length list → a ≡ get_or list i a → get_or (spans_of (all_admitted list)) i None ≡ span_of a.rule.now

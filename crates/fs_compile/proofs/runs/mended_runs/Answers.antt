@@ -1,14 +1,11 @@
 use Rattle.std.proofs.Common.{◌≡◌, ◌⊎◌, inl, inr, ℕ, ◌+◌, ◌-◌, ◌<◌, ◌≤◌, Option, None, List, length, get_or, sym, ap, subst, ◌∙◌, arith}
 use Rattle.std.proofs.lemmas.Bool.{cases_lt}
-use Rattle.std.proofs.lemmas.List.{length-map}
-use Rattle.fs_rules.specs.Lent.{all_admitted, shown_lent}
+use Rattle.fs_rules.specs.Lent.{all_admitted}
 use Rattle.fs_rules.specs.declared.lent.LentRule.{LentRule}
-use Rattle.fs_compile.specs.Index.{span_of, spans_of}
+use Rattle.fs_compile.specs.Index.{spans_of}
 use Rattle.fs_compile.specs.Mending.{Adds, AreAll, AreNarrow, Keeps}
 use Rattle.fs_compile.proofs.runs.mended_runs.Goals as goal
-
-spans_size : (list : List LentRule) → length (spans_of (all_admitted list)) ≡ length list
-spans_size list = length-map (all_admitted list) (λ r. span_of r.rule) ∙ length-map list shown_lent
+use Rattle.fs_compile.proofs.IndexMending.{spans_size}
 
 -- where each has a destination all were added
 all_added : (spans : List (Option (ℕ × ℕ))) (n : ℕ) → AreAll spans → n ≤ length spans → get_or spans n None ≡ None → n ≡ length spans

@@ -1,23 +1,29 @@
-use Rattle.std.proofs.Common.{ℕ, ◌<◌, ◌++◌, length, sym, subst, arith}
+use Rattle.std.proofs.Common.{ℕ, ◌<◌, ◌++◌, length, sym, subst, arith, refl}
 use Rattle.std.proofs.lemmas.List.{length-map}
+use Rattle.std.proofs.lemmas.Option.{slice_get_read}
+use Rattle.std.specs.List.{AllByRecursion}
 use Rattle.fs_rules.specs.Lent.{all_admitted, shown_lent}
+use Rattle.fs_compile.proofs.Pairing.{each_size}
+use Rattle.fs_compile.proofs.Splicing.{each_got}
 use Rattle.fs_shadow.specs.Reporting.{report_of}
 use Rattle.fs_shadow.proofs.Destinations.{AreApart}
-use Rattle.fs_shadow.proofs.Probing.{all_told, told_at}
-use Rattle.fs_shadow.proofs.Reported.{apart_later, got_at, outlines_size, report_ends, report_step, stretch_apart}
+use Rattle.fs_shadow.proofs.Probing.{all_told}
+use Rattle.fs_shadow.proofs.Reported.{apart_later, report_ends, report_step, stretch_apart}
 use Rattle.fs_shadow.proofs.reporting.append_report.Goals as goal
+use Rattle.fs_shadow.specs.Outlines.{IsOutlineOf}
+use Rattle.fs_shadow.specs.Extents.{IsTold}
 
 pub stretch_start-start-requires-clause-inside : goal.stretch_start-start-requires-clause-inside
 stretch_start-start-requires-clause-inside c =
-    omega (arith, c.loop-number-test.true, outlines_size (all_admitted c.args.list.now) c.args.outlines.now c.requires.outlines, length-map c.args.list.now shown_lent)
+    omega (arith, c.loop-number-test.true, each_size IsOutlineOf (all_admitted c.args.list.now) c.args.outlines.now c.requires.outlines, length-map c.args.list.now shown_lent)
 
 pub append_covered-requires-clause-told : goal.append_covered-requires-clause-told
 append_covered-requires-clause-told c = all_told (all_admitted c.args.list.now) c.args.outlines.now c.requires.outlines
 
 pub append_covered-requires-clause-later : goal.append_covered-requires-clause-later
 append_covered-requires-clause-later c =
-    told_at c.args.outlines.now c.loop-number.number c.index-outlines-number.result (all_told (all_admitted c.args.list.now) c.args.outlines.now c.requires.outlines)
-    (got_at c.args.outlines.now c.loop-number.number c.index-outlines-number.result (omega (arith, c.loop-number-test.true)) c.index-outlines-number.is)
+    each_got (λ x. AllByRecursion IsTold x.measures.items) c.args.outlines.now c.loop-number.number c.index-outlines-number.result (all_told (all_admitted c.args.list.now) c.args.outlines.now c.requires.outlines)
+    (slice_get_read c.args.outlines.now (length c.args.outlines.now) c.loop-number.number c.index-outlines-number.result refl (omega (arith, c.loop-number-test.true)) c.index-outlines-number.is)
 
 pub loop-number-preserved : goal.loop-number-preserved
 loop-number-preserved c = record {
@@ -25,11 +31,11 @@ loop-number-preserved c = record {
   apart = apart_later (all_admitted c.args.list.now) c.stretch_start-start.result c.loop-number.number apart;
   rest = report_step (all_admitted c.args.list.now) c.args.outlines.now c.stretch_start-start.result c.loop-number.number c.index-outlines-number.result c.loop-number.pairs.items c.append_covered.new.pairs.items
       (c.args.pairs.now.items ++ report_of (all_admitted c.args.list.now)) c.requires.outlines
-      (got_at c.args.outlines.now c.loop-number.number c.index-outlines-number.result (omega (arith, c.loop-number-test.true)) c.index-outlines-number.is)
+      (slice_get_read c.args.outlines.now (length c.args.outlines.now) c.loop-number.number c.index-outlines-number.result refl (omega (arith, c.loop-number-test.true)) c.index-outlines-number.is)
       apart c.in_ok-append_covered.ensures c.loop-number.invariant.rest;
 } where
   inside : c.loop-number.number < length (all_admitted c.args.list.now)
-  inside = omega (arith, c.loop-number-test.true, outlines_size (all_admitted c.args.list.now) c.args.outlines.now c.requires.outlines)
+  inside = omega (arith, c.loop-number-test.true, each_size IsOutlineOf (all_admitted c.args.list.now) c.args.outlines.now c.requires.outlines)
 
   apart : AreApart (all_admitted c.args.list.now) c.stretch_start-start.result c.loop-number.number
   apart = subst (λ (s : ℕ). AreApart (all_admitted c.args.list.now) s c.loop-number.number) (sym c.stretch_start-start.ensures.start)
@@ -38,4 +44,4 @@ loop-number-preserved c = record {
 pub returns : goal.returns
 returns c =
     report_ends (all_admitted c.args.list.now) c.loop-number.number c.loop-number.pairs.items (c.args.pairs.now.items ++ report_of (all_admitted c.args.list.now))
-    (omega (arith, c.loop-number-test.false, outlines_size (all_admitted c.args.list.now) c.args.outlines.now c.requires.outlines)) c.loop-number.invariant.rest
+    (omega (arith, c.loop-number-test.false, each_size IsOutlineOf (all_admitted c.args.list.now) c.args.outlines.now c.requires.outlines)) c.loop-number.invariant.rest

@@ -1,6 +1,6 @@
 use Rattle.std.proofs.Common.{length, refl, ap, ◌∙◌, arith}
 use Rattle.std.specs.List.{splice}
-use Rattle.fs_compile.proofs.Resizing.{AreResized, bounds, housed_resized, shift_fits, sound_resized}
+use Rattle.fs_compile.proofs.Resizing.{bounds, resizes, shift_fits}
 use Rattle.fs_compile.proofs.buckets.Buckets.resized.Goals as goal
 
 pub overflow_cast-to : goal.overflow_cast-to
@@ -11,24 +11,11 @@ overflow_cast-to c =
 pub shift-requires : goal.shift-requires
 shift-requires c = shift_fits c.args.self (length c.args.self.homes.items) c.args.bucket c.args.from c.args.to c.args.count c.requires.some.0 c.requires.sound c.requires.some.1 c.requires.fits
 
-pub returns-clause-sound : goal.returns-clause-sound
-returns-clause-sound c = λ most fits.
-    sound_resized c.args.self (record { lasts = c.args.self.lasts; marks = c.args.self.marks; nodes = c.shift.new.self; homes = c.put_between.new.items }) (length c.args.self.homes.items) most
-    c.args.bucket c.args.from c.args.to c.args.count c.requires.some.0 c.requires.sound c.requires.some.1 resized fits where
-      resized : AreResized c.args.self (record { lasts = c.args.self.lasts; marks = c.args.self.marks; nodes = c.shift.new.self; homes = c.put_between.new.items }) c.args.bucket c.args.from c.args.to c.args.count
-      resized = record {
-        lasts = refl;
-        nodes = c.shift.ensures;
-        homes = c.in_ok-put_between.ensures ∙ ap (splice c.args.self.homes.items c.args.from c.args.to) (c.in_ok-vec.ensures.items_if_clones_equal (λ y h. h));
-      }
-
-pub returns-clause-housed : goal.returns-clause-housed
-returns-clause-housed c = λ span spans news holder housed whole each size.
-    housed_resized c.args.self (record { lasts = c.args.self.lasts; marks = c.args.self.marks; nodes = c.shift.new.self; homes = c.put_between.new.items }) (length c.args.self.homes.items)
-    c.args.bucket c.args.from c.args.to c.args.count span spans news c.requires.sound holder resized housed whole each size where
-      resized : AreResized c.args.self (record { lasts = c.args.self.lasts; marks = c.args.self.marks; nodes = c.shift.new.self; homes = c.put_between.new.items }) c.args.bucket c.args.from c.args.to c.args.count
-      resized = record {
-        lasts = refl;
-        nodes = c.shift.ensures;
-        homes = c.in_ok-put_between.ensures ∙ ap (splice c.args.self.homes.items c.args.from c.args.to) (c.in_ok-vec.ensures.items_if_clones_equal (λ y h. h));
-      }
+pub returns : goal.returns
+returns c = λ most span spans news fits holder housed whole each size.
+    resizes c.args.self (record { lasts = c.args.self.lasts; marks = c.args.self.marks; nodes = c.shift.new.self; homes = c.put_between.new.items }) (length c.args.self.homes.items) most
+    c.args.bucket c.args.from c.args.to c.args.count span spans news c.requires.sound holder (record {
+      lasts = refl;
+      nodes = c.shift.ensures;
+      homes = c.in_ok-put_between.ensures ∙ ap (splice c.args.self.homes.items c.args.from c.args.to) (c.in_ok-vec.ensures.items_if_clones_equal (λ y h. h));
+    }) fits housed whole each size

@@ -1,5 +1,5 @@
 use Rattle.std.proofs.Common.{List, ◌∷◌, ◌+◌, sym, ap, subst, ◌∙◌, drop, arith}
-use Rattle.std.proofs.lemmas.List.{drop_more}
+use Rattle.std.proofs.lemmas.List.{drop_all, drop_more}
 use Rattle.std.specs.List.{AllByRecursion}
 use Rattle.fs_rules.specs.Lent.{Listed, all_admitted}
 use Rattle.fs_rules.specs.Table.{admitted}
@@ -7,7 +7,7 @@ use Rattle.fs_rules.specs.declared.noted.Change.{Change}
 use Rattle.fs_compile.specs.Index.{IsOfFamily, spans_of}
 use Rattle.fs_compile.specs.Matcher.{admitted_in}
 use Rattle.fs_compile.specs.Mending.{AreTo, target_of}
-use Rattle.fs_compile.proofs.Mended.{Mends, drop_past, listed_to, mends_first, mends_next, mends_own, mends_stand, own_here, own_item, to_here}
+use Rattle.fs_compile.proofs.MatcherMending.{Mends, listed_to, mends_first, mends_next, mends_own, mends_stand, own_here, own_item, to_here}
 use Rattle.fs_compile.proofs.Nesting.{all_of_family}
 use Rattle.fs_compile.proofs.compiled.Compiled.mend.Goals as goal
 
@@ -37,7 +37,7 @@ loop-place-preserved c = mends_next c.place-item.result (drop (c.loop-place.plac
     c.loop-place.invariant)
 
 pub returns-clause-stands : goal.returns-clause-stands
-returns-clause-stands c = mends_stand c.args.table.now c.loop-place.self (subst (λ (ps : List Change). Mends ps c.args.table.now c.loop-place.self) (drop_past c.places-places.result.now c.loop-place.place-index (omega (arith, c.loop-place-test.false))) c.loop-place.invariant)
+returns-clause-stands c = mends_stand c.args.table.now c.loop-place.self (subst (λ (ps : List Change). Mends ps c.args.table.now c.loop-place.self) (drop_all c.loop-place.place-index c.places-places.result.now (omega (arith, c.loop-place-test.false))) c.loop-place.invariant)
 
 pub returns-clause-own : goal.returns-clause-own
-returns-clause-own c = mends_own c.args.table.now c.loop-place.self (subst (λ (ps : List Change). Mends ps c.args.table.now c.loop-place.self) (drop_past c.places-places.result.now c.loop-place.place-index (omega (arith, c.loop-place-test.false))) c.loop-place.invariant)
+returns-clause-own c = mends_own c.args.table.now c.loop-place.self (subst (λ (ps : List Change). Mends ps c.args.table.now c.loop-place.self) (drop_all c.loop-place.place-index c.places-places.result.now (omega (arith, c.loop-place-test.false))) c.loop-place.invariant)

@@ -1,5 +1,5 @@
 use Rattle.std.proofs.Common.{drop}
-use Rattle.fs_compile.proofs.Mended.{Mends}
+use Rattle.fs_compile.proofs.MatcherMending.{Mends}
 use Rattle.fs_compile.proofs.compiled.Compiled.mend.Given as goal
 
 abbrev pub invariant-loop-place : goal.invariant-loop-place

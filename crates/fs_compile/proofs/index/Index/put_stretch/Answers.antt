@@ -7,7 +7,7 @@ use Rattle.fs_compile.specs.Index.{Indexed, StandForEach}
 use Rattle.fs_compile.specs.Mending.{target_of}
 use Rattle.fs_compile.specs.Search.{AreSound}
 use Rattle.fs_compile.proofs.Indexing.{stand_size}
-use Rattle.fs_compile.proofs.Mending.{has_stretch, index_spliced, sound_more}
+use Rattle.fs_compile.proofs.IndexMending.{has_stretch, index_spliced, sound_more}
 use Rattle.fs_compile.proofs.Splicing.{map_spliced, spliced_size, stand_spliced}
 use Rattle.fs_compile.proofs.index.Index.put_stretch.Goals as goal
 
@@ -60,9 +60,9 @@ invariant_of-result c = (subst (AreSound c.in_ok-buckets.buckets) (sym (size ∙
   same = ap (λ n. c.args.from + length c.args.list.now + (n - c.args.to)) (old ∙ stand_size c.requires.some.0 c.args.self.rules c.requires.some.1.stands)
 
   sound : AreSound c.in_ok-buckets.buckets (c.args.from + length c.args.list.now + (length c.requires.some.0 - c.args.to))
-  sound = c.in_ok-buckets.ensures.sound c.requires.some.0
+  sound = (c.in_ok-buckets.ensures c.requires.some.0
       (has_stretch c.args.family c.requires.some.0 (record { buckets = c.self.inside.buckets; rules = c.self.inside.rules.items; actions = c.self.inside.actions.items }) c.args.self
-      (target_of c.args.destination) c.args.from c.args.to c.self.view_is c.self.invariant.0.few c.requires.some.1 c.requires.some.2)
+      (target_of c.args.destination) c.args.from c.args.to c.self.view_is c.self.invariant.0.few c.requires.some.1 c.requires.some.2)).sound
 
 pub returns : goal.returns
 returns c = λ rules h s.
@@ -72,6 +72,6 @@ returns c = λ rules h s.
     (subst (λ (x : Indexed). StandForEach rules x.rules) (sym c.self.view_is) h.stands) c.in_ok-compiled_rules.ensures.stand))
     (c.in_ok-put_between.ensures ∙ ap₂ (λ xs ys. splice xs c.args.from c.args.to ys) (ap (λ (x : Indexed). x.actions) c.self.view_is ∙ h.actions_are) c.in_ok-shared_actions.ensures
     ∙ sym (map_spliced (λ r. r.actions) rules (all_admitted c.args.list.now) c.args.from c.args.to))
-    (c.in_ok-buckets.ensures.housed rules
+    ((c.in_ok-buckets.ensures rules
     (has_stretch c.args.family rules (record { buckets = c.self.inside.buckets; rules = c.self.inside.rules.items; actions = c.self.inside.actions.items }) c.args.self (target_of c.args.destination) c.args.from c.args.to c.self.view_is
-    c.self.invariant.0.few h s))
+    c.self.invariant.0.few h s)).housed)

@@ -4,7 +4,7 @@ use Rattle.fs_rules.specs.Lent.{all_admitted}
 use Rattle.fs_rules.specs.declared.lent.LentRule.{LentRule}
 use Rattle.fs_compile.specs.Index.{IsIndexOf, IsOfFamily, spans_of}
 use Rattle.fs_compile.specs.Runs.{AreNesting}
-use Rattle.fs_compile.proofs.Mending.{nothing_nests}
+use Rattle.fs_compile.proofs.IndexMending.{nothing_nests}
 use Rattle.fs_compile.proofs.index.Index.replace.Goals as goal
 
 pub of-requires-clause-each : goal.of-requires-clause-each

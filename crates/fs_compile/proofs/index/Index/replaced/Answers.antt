@@ -3,7 +3,7 @@ use Rattle.std.proofs.lemmas.Result.{IfOk-weaker}
 use Rattle.fs_rules.specs.Lent.{all_admitted}
 use Rattle.fs_compile.specs.Index.{Indexed, IsIndexOf}
 use Rattle.fs_compile.specs.Mending.{target_of}
-use Rattle.fs_compile.proofs.Mending.{all_shared, stretch_bounds}
+use Rattle.fs_compile.proofs.IndexMending.{all_shared, stretch_bounds}
 use Rattle.fs_compile.proofs.Stretching.{replaced_is}
 use Rattle.fs_compile.proofs.index.Index.replaced.Goals as goal
 

@@ -2,7 +2,7 @@ use Rattle.std.proofs.Common.{◌≡◌, ℕ, Option, Some, None, length, sym, a
 use Rattle.fs_compile.specs.Index.{IsIndexOf, spans_of}
 use Rattle.fs_compile.specs.Mending.{IsStretch, target_of}
 use Rattle.fs_compile.proofs.Indexing.{stand_size}
-use Rattle.fs_compile.proofs.Mending.{rules_size}
+use Rattle.fs_compile.proofs.IndexMending.{rules_size}
 use Rattle.fs_compile.proofs.Stretching.{stretch_none, stretch_some}
 use Rattle.fs_compile.proofs.index.Index.stretch.Goals as goal
 

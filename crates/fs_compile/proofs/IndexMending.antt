@@ -10,13 +10,14 @@ use Rattle.fs_rules.specs.declared.lent.LentRule.{LentRule}
 use Rattle.fs_compile.specs.declared.buckets.Buckets.{Buckets}
 use Rattle.fs_compile.specs.Buckets.{IsSubnet}
 use Rattle.fs_compile.specs.Index.{AreHoused, Indexed, IsIndexOf, IsOfFamily, StandForEach, actions_of, span_of, spans_of}
-use Rattle.fs_compile.specs.Mending.{AreNarrow, AreTo, HasStretch, IsStretch, Mends, place_by}
+use Rattle.fs_compile.specs.Mending.{AreBucketsOf, AreNarrow, AreTo, HasStretch, IsStretch, Mends, place_by}
 use Rattle.fs_compile.specs.Runs.{AreNesting}
 use Rattle.fs_compile.specs.Search.{AreSound}
 use Rattle.fs_compile.proofs.Indexing.{stand_size}
 use Rattle.fs_compile.proofs.Splicing.{each_spliced, map_spliced}
-use Rattle.fs_compile.proofs.Stretching.{bare_behind, housed_same, mends_spliced, nesting_housed, less_equal, nesting_from, nesting_spliced, none_count, same_count}
+use Rattle.fs_compile.proofs.Stretching.{bare_behind, housed_same, mends_spliced, nesting_housed, less_equal, nesting_spliced, none_count, same_count}
 use Rattle.fs_compile.proofs.Widths.{narrow}
+use Rattle.fs_compile.proofs.Nesting.{nesting_from}
 
 pub spans_size : (list : List LentRule) → length (spans_of (all_admitted list)) ≡ length list
 spans_size list = length-map (all_admitted list) (λ r. span_of r.rule) ∙ length-map list shown_lent
@@ -51,21 +52,21 @@ bare_from xs b from to h whole s = at (cases_lt from (length b.homes.items)) (ca
   at (inl less) (inr le) = absurd (bare_behind (get_or xs from None) (s.behind from le (omega (arith, less, whole))))
 
 -- Where the rules have no destination, or are as many as before, the buckets stay.
-pub none_sound : (family : Family) (rules : List Listed) (b : Buckets) (from to n : ℕ) → HasStretch family rules b None from to → AreSound b (length b.homes.items) → AreSound b (from + n + (length rules - to))
-none_sound family rules b from to n h sound = sound_more b (length b.homes.items) _ sound (omega (arith, front)) where
+pub none_stay : (family : Family) (rules : List Listed) (b : Buckets) (from to n : ℕ) (news : List (Option (ℕ × ℕ))) → HasStretch family rules b None from to → AreSound b (length b.homes.items) → AreTo None news
+    → AreBucketsOf (splice (spans_of rules) from to news) b (from + n + (length rules - to))
+none_stay family rules b from to n news h sound each = record {
+  sound = sound_more b (length b.homes.items) _ sound (omega (arith, front));
+  housed = housed_same (spans_of rules) (splice (spans_of rules) from to news) b (none_count (spans_of rules) news from to h.stretch each) h.housed;
+} where
   front : length b.homes.items ≤ from
-  front = bare_from (spans_of rules) b from to h.housed (let w = h.whole in omega (arith, w, rules_size rules)) h.stretch
+  front = bare_from (spans_of rules) b from to h.housed (omega (arith, h.whole, rules_size rules)) h.stretch
 
-pub none_housed : (family : Family) (rules : List Listed) (b : Buckets) (from to : ℕ) (news : List (Option (ℕ × ℕ))) → HasStretch family rules b None from to → AreTo None news → AreHoused (splice (spans_of rules) from to news) b
-none_housed family rules b from to news h each = housed_same (spans_of rules) (splice (spans_of rules) from to news) b (none_count (spans_of rules) news from to h.stretch each) h.housed
-
-pub same_sound : (family : Family) (rules : List Listed) (b : Buckets) (target : Option (ℕ × ℕ)) (from to n : ℕ) → HasStretch family rules b target from to → AreSound b (length b.homes.items) → n ≡ to - from → AreSound b (from + n + (length rules - to))
-same_sound family rules b target from to n h sound size =
-    sound_more b (length b.homes.items) _ sound (let w = h.whole in let o = h.stretch.ordered in let i = h.stretch.within in omega (arith, w, o, i, size, rules_size rules))
-
-pub same_housed : (family : Family) (rules : List Listed) (b : Buckets) (target : Option (ℕ × ℕ)) (from to : ℕ) (news : List (Option (ℕ × ℕ))) → HasStretch family rules b target from to → AreTo target news → length news ≡ to - from
-    → AreHoused (splice (spans_of rules) from to news) b
-same_housed family rules b target from to news h each size = housed_same (spans_of rules) (splice (spans_of rules) from to news) b (same_count (spans_of rules) news target from to h.stretch each size) h.housed
+pub same_stay : (family : Family) (rules : List Listed) (b : Buckets) (target : Option (ℕ × ℕ)) (from to n : ℕ) (news : List (Option (ℕ × ℕ))) → HasStretch family rules b target from to → AreSound b (length b.homes.items)
+    → AreTo target news → n ≡ to - from → length news ≡ n → AreBucketsOf (splice (spans_of rules) from to news) b (from + n + (length rules - to))
+same_stay family rules b target from to n news h sound each count size = record {
+  sound = sound_more b (length b.homes.items) _ sound (let w = h.whole in let o = h.stretch.ordered in let i = h.stretch.within in omega (arith, w, o, i, count, rules_size rules));
+  housed = housed_same (spans_of rules) (splice (spans_of rules) from to news) b (same_count (spans_of rules) news target from to h.stretch each (size ∙ count)) h.housed;
+}
 
 -- what the runs of the rules with a stretch put anew are made of
 pub mends : (family : Family) (rules : List Listed) (b : Buckets) (target : Option (ℕ × ℕ)) (from to : ℕ) (news : List Listed) → HasStretch family rules b target from to → to ≤ length b.homes.items → Mends b from to (spans_of news) (splice (spans_of rules) from to (spans_of news))

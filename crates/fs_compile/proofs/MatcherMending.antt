@@ -1,11 +1,12 @@
 -- The rules of a matcher put anew, one place after the other.
-use Rattle.std.proofs.Common.{◌≡◌, ℕ, zero, suc, Result, Ok, Err, IfOk, ◌-◌, ◌^◌, ◌<◌, ◌≤◌, ◌+◌, ◌==◌, ◌&&◌, ◌||◌, ◌⊎◌, inl, inr, refl, sym, ap, subst, ◌∙◌, Bool, true, false, true≢false, not, cond, Option, Some, None, IfSome, option_map, List, [], ◌∷◌, drop, filter, length, get_or, map, Ordering, Less, Equal, Greater, nat_cmp, pow_pos, arith}
+use Rattle.std.proofs.Common.{◌≡◌, ℕ, zero, suc, Result, Ok, Err, IfOk, ◌-◌, ◌^◌, ◌<◌, ◌≤◌, ◌+◌, ◌==◌, ◌&&◌, ◌||◌, ◌⊎◌, inl, inr, refl, sym, ap, subst, ◌∙◌, Bool, true, false, true≢false, not, cond, Option, Some, None, IfSome, option_map, List, [], ◌∷◌, filter, length, get_or, map, Ordering, Less, Equal, Greater, nat_cmp, pow_pos, arith}
 use Rattle.std.specs.List.{AllByRecursion}
 use Rattle.std.specs.Cmp.{nat_cmp_is}
 use Rattle.std.specs.Ordering.{is_eq, is_gt, is_lt, ordering_then}
 use Rattle.std.proofs.Math.Pow.{pow-lt}
 use Rattle.std.proofs.lemmas.Bool.{cases_order, eq-eqb, eqb-true}
-use Rattle.fs_base.proofs.Lists.{each_append, each_weaker, filter_all, filter_on}
+use Rattle.std.proofs.lemmas.Option.{slice_get_read}
+use Rattle.fs_base.proofs.Lists.{each_append, each_weaker, filter_all, filter_on, each_filtered}
 use Rattle.fs_base.specs.Bits.{afi_of, width_of}
 use Rattle.fs_base.specs.declared.prefix.Family.{Family}
 use Rattle.fs_base.specs.declared.prefix.Family.TheVariants.{V4, V6}
@@ -19,14 +20,15 @@ use Rattle.fs_rules.specs.Lent.{Listed, listed}
 use Rattle.fs_rules.specs.Table.{Held, IsAdmitted, IsRuleOf, admitted}
 use Rattle.fs_rules.specs.declared.noted.Change.{Change}
 use Rattle.fs_validate.specs.declared.route.FlowRoute.{FlowRoute}
+use Rattle.fs_rules.proofs.Elsewhere.{family_of_destination}
 use Rattle.fs_compile.specs.declared.compiled.Compiled.{Compiled}
 use Rattle.fs_compile.specs.Index.{IsIndexOf, IsOfFamily, span_by, span_of, spans_of}
 use Rattle.fs_compile.specs.Matcher.{StandsForLists, admitted_in}
 use Rattle.fs_compile.specs.Mending.{AreOwn, AreTo, place_by, put_in, replaced, span_cmp, target_of}
 use Rattle.fs_compile.specs.Runs.{AreNesting}
 use Rattle.fs_compile.proofs.Nesting.{all_of_family, nesting}
-use Rattle.fs_compile.proofs.Reaching.{family_of_destination, made_destination}
-use Rattle.fs_compile.proofs.Splicing.{one_fewer}
+use Rattle.fs_compile.proofs.Reaching.{made_destination}
+use Rattle.fs_compile.proofs.Splicing.{each_got, one_fewer}
 use Rattle.fs_compile.proofs.Stretching.{placed, same_place}
 
 -- two destinations of a family are the same where their addresses are
@@ -163,16 +165,8 @@ stands_mended held rules compiled left h = record {
 pub own_last : (held : Held) (rules : Family → List Listed) → AreLeft [] held rules → AreOwn rules → AreOwn (admitted_in held)
 own_last held rules left own family = subst (AllByRecursion (IsOfFamily family)) (left_none held rules left family) (own family)
 
--- What is put there is the family's own, and stands at the place.
-each_kept : {X : Type 0} (P : X → Type 0) (p : X → Bool) (xs : List X) → AllByRecursion P xs → AllByRecursion P (filter p xs)
-each_kept P p [] h = tt
-each_kept P p (x ∷ xs) h = at (p x) (each_kept P p xs h.1) where
-  at : (b : Bool) → AllByRecursion P (filter p xs) → AllByRecursion P (cond b (x ∷ filter p xs) (filter p xs))
-  at true ih = (h.0, ih)
-  at false ih = ih
-
 pub own_here : (family : Family) (destination : Option Prefix) (ys : List Listed) → AllByRecursion (IsOfFamily family) ys → AllByRecursion (IsOfFamily family) (filter (λ r. is_to family destination r.rule) ys)
-own_here family destination ys each = each_kept (IsOfFamily family) (λ r. is_to family destination r.rule) ys each
+own_here family destination ys each = each_filtered (IsOfFamily family) (λ r. is_to family destination r.rule) ys each
 
 each_to : (family : Family) (destination : Option Prefix) (ys : List Listed) → IfSome destination (λ p. p.family ≡ family) → AllByRecursion (IsOfFamily family) ys
     → AllByRecursion (λ r. span_of r.rule ≡ target_of destination) (filter (λ r. is_to family destination r.rule) ys)
@@ -198,8 +192,8 @@ pub to_here : (family : Family) (destination : Option Prefix) (ys : List Listed)
 to_here family destination ys here each = are_to (target_of destination) (filter (λ r. is_to family destination r.rule) ys) (each_to family destination ys here each)
 
 own_replaced : (family : Family) (target : Option (ℕ × ℕ)) (news rules : List Listed) → AllByRecursion (IsOfFamily family) news → AllByRecursion (IsOfFamily family) rules → AllByRecursion (IsOfFamily family) (replaced target news rules)
-own_replaced family target news rules h k = each_append (IsOfFamily family) _ _ (each_kept (IsOfFamily family) (λ r. is_lt (place_by target (span_of r.rule))) rules k)
-    (each_append (IsOfFamily family) news _ h (each_kept (IsOfFamily family) (λ r. is_gt (place_by target (span_of r.rule))) rules k))
+own_replaced family target news rules h k = each_append (IsOfFamily family) _ _ (each_filtered (IsOfFamily family) (λ r. is_lt (place_by target (span_of r.rule))) rules k)
+    (each_append (IsOfFamily family) news _ h (each_filtered (IsOfFamily family) (λ r. is_gt (place_by target (span_of r.rule))) rules k))
 
 pub own_put : (family : Family) (target : Option (ℕ × ℕ)) (news : List Listed) (rules : Family → List Listed) → AllByRecursion (IsOfFamily family) news → AreOwn rules → AreOwn (put_in family (replaced target news (rules family)) rules)
 own_put V4 target news rules h own V4 = own_replaced V4 target news (rules V4) h (own V4)
@@ -210,12 +204,6 @@ own_put V6 target news rules h own V6 = own_replaced V6 target news (rules V6) h
 pub if_ok : {T E P : Type 0} (r : Result T E) → P → IfOk r (λ _. P)
 if_ok (Ok t) p = p
 if_ok (Err e) p = tt
-
--- the place of that number
-pub own_at : (places : List Change) (i : ℕ) (d : Change) → i < length places → AllByRecursion IsOwn places → IsOwn (get_or places i d)
-own_at [] i d below h = absurd (omega arith)
-own_at (p ∷ ps) zero d below h = h.0
-own_at (p ∷ ps) (suc i) d below h = own_at ps i d (omega arith) h.1
 
 pub listed_to : (family : Family) (destination : Option Prefix) (held : Held) → map listed (filter (λ r. is_to family destination r.rule) (admitted family held)) ≡ filter (λ r. is_to family destination r.rule) (admitted_in held family)
 listed_to family destination held = sym (listed_filter (is_to family destination) (admitted family held))
@@ -258,10 +246,4 @@ own_both rules h k V4 = h
 own_both rules h k V6 = k
 
 pub own_item : (places noted : List Change) (i : ℕ) (item : Change) → places ≡ noted → i < length places → item ≡ get_or places i item → AllByRecursion IsOwn noted → IsOwn item
-own_item places noted i item e below is own = subst IsOwn (sym is) (own_at places i item below (subst (AllByRecursion IsOwn) (sym e) own))
-
-pub drop_past : {X : Type 0} (xs : List X) (i : ℕ) → length xs ≤ i → drop i xs ≡ []
-drop_past [] zero h = refl
-drop_past [] (suc i) h = refl
-drop_past (x ∷ xs) zero h = absurd (omega (arith, h))
-drop_past (x ∷ xs) (suc i) h = drop_past xs i (omega (arith, h))
+own_item places noted i item e below is own = each_got IsOwn places i item (subst (AllByRecursion IsOwn) (sym e) own) (slice_get_read places (length places) i item refl below is)

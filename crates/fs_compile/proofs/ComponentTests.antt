@@ -1,5 +1,5 @@
 -- The tests of components stand for them.
-use Rattle.std.proofs.Common.{◌≡◌, ℕ, ◌+◌, ◌-◌, ◌^◌, ◌<◌, ◌≤◌, List, Option, Some, None, refl, sym, ap, ◌∙◌, arith, inl, inr}
+use Rattle.std.proofs.Common.{◌≡◌, ℕ, ◌+◌, ◌-◌, ◌^◌, ◌<◌, ◌≤◌, List, Option, Some, None, refl, sym, ap, ◌∙◌, arith, inl, inr, subst, ◌⊎◌}
 use Rattle.std.proofs.lemmas.Nat.{pow_pos}
 use Rattle.fs_base.specs.declared.prefix.Family.{Family}
 use Rattle.fs_base.specs.declared.prefix.Family.TheVariants.{V4}
@@ -9,7 +9,6 @@ use Rattle.fs_base.specs.Bits.{IsBlock, block_of}
 use Rattle.fs_base.specs.Prefix.{last_address}
 use Rattle.fs_nlri.specs.Parts.{ListBody, V4Body, V6Body, part}
 use Rattle.fs_nlri.specs.Sound.{IsSoundBody}
-use Rattle.fs_nlri.specs.Spelling.{IsRange}
 use Rattle.fs_packet.specs.Matching.{flags_hold}
 use Rattle.fs_packet.proofs.Flags.{flags_same, sound_is_wide}
 use Rattle.fs_compile.specs.declared.pattern.Pattern.{Pattern}
@@ -33,16 +32,11 @@ v4_high p sound =
     let last : last_address p + 1 ≡ p.bits + 2 ^ (32 - p.length) = v4_last p sound.0 in
     omega arith
 
-pub v4_destination : (p : Prefix) (r : Range) → IsSoundBody (V4Body p.family p.length p.bits) → r ≡ range 1 p.bits (last_address p) → IsTestOf (part 1 (V4Body p.family p.length p.bits)) (Within r)
-v4_destination p r sound h = λ view small.
-    ap (range_holds (facts_of view)) h ∙ in_v4 p.family p.length p.bits (last_address p) view.destination sound.1 sound.2 (v4_last p sound.0) small.destination
-
-pub v4_source : (p : Prefix) (r : Range) → IsSoundBody (V4Body p.family p.length p.bits) → r ≡ range 2 p.bits (last_address p) → IsTestOf (part 2 (V4Body p.family p.length p.bits)) (Within r)
-v4_source p r sound h = λ view small.
-    ap (range_holds (facts_of view)) h ∙ in_v4 p.family p.length p.bits (last_address p) view.source sound.1 sound.2 (v4_last p sound.0) small.source
-
-pub offset_small : (len offset : ℕ) → IsRange len offset → offset < 128
-offset_small len offset h = let short : len ≤ 128 = h.0 in elim h.1 [ inl below ↦ omega arith | inr none ↦ let e : offset ≡ 0 = none.1 in omega arith ]
+pub v4_prefix : (kind : ℕ) (p : Prefix) (r : Range) → (kind ≡ 1) ⊎ (kind ≡ 2) → IsSoundBody (V4Body p.family p.length p.bits) → r ≡ range kind p.bits (last_address p) → IsTestOf (part kind (V4Body p.family p.length p.bits)) (Within r)
+v4_prefix kind p r (inl one) sound h = subst (λ k. IsTestOf (part k (V4Body p.family p.length p.bits)) (Within r)) (sym one) (λ view small.
+    ap (range_holds (facts_of view)) (h ∙ ap (λ k. range k p.bits (last_address p)) one) ∙ in_v4 p.family p.length p.bits (last_address p) view.destination sound.1 sound.2 (v4_last p sound.0) small.destination)
+v4_prefix kind p r (inr two) sound h = subst (λ k. IsTestOf (part k (V4Body p.family p.length p.bits)) (Within r)) (sym two) (λ view small.
+    ap (range_holds (facts_of view)) (h ∙ ap (λ k. range k p.bits (last_address p)) two) ∙ in_v4 p.family p.length p.bits (last_address p) view.source sound.1 sound.2 (v4_last p sound.0) small.source)
 
 pub v6_destination : (len offset bits : ℕ) (pattern : Pattern) → IsSoundBody (V6Body len offset bits) → IsPatternOf len offset bits pattern → IsTestOf (part 1 (V6Body len offset bits)) (Destination pattern)
 v6_destination len offset bits pattern sound h = λ view small. in_v6 len offset bits pattern view.destination sound h
