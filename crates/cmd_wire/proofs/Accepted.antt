@@ -1,16 +1,10 @@
 -- What the files of an accepted configuration and its rules hold.
 use Rattle.std.proofs.Common.{◌≡◌, ℕ, ◌<◌, List, Option, Some, None, refl, ap, sym, ◌∙◌}
 use Rattle.fs_base.specs.declared.config.Config.{Config}
-use Rattle.fs_base.specs.declared.config.Peer.{Peer}
+use Rattle.cmd_wire.proofs.Words.{CanArrive, Found, Names, Peer, Refusal, Sending, Stage, Stopped, and_then, config_stage, fetch, or_stop, rules_stage, sender_of, sending_stage}
 use Rattle.fs_conf.specs.Config.{config_of}
 use Rattle.fs_conf.specs.Rules.{rules_of}
-use Rattle.fs_speaker.specs.Sending.{sender_of}
-use Rattle.fs_speaker.specs.declared.Sending.{Sending}
-use Rattle.fs_speaker.specs.JointLaws.{CanArrive}
-use Rattle.cmd_stages.specs.Load.{Names, config_stage, fetch, rules_stage, sending_stage}
-use Rattle.cmd_stages.specs.Refusal.{Found, Stage, Stopped, and_then, or_stop}
-use Rattle.cmd_stages.specs.declared.refusal.Refusal.{Refusal}
-use Rattle.cmd_stages.specs.declared.refusal.Refusal.TheVariants.{Config as Refused}
+use Rattle.cmd_stages.specs.declared.refusal.Refusal.TheVariants.{Files as Refused}
 use Rattle.cmd_wire.proofs.Arrivable.{can_arrive}
 use Rattle.cmd_wire.proofs.Statuses.{same_found}
 

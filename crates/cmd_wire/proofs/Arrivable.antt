@@ -3,8 +3,7 @@ use Rattle.std.proofs.Common.{◌≡◌, true}
 use Rattle.fs_base.proofs.Lists.{each_both}
 use Rattle.fs_speaker.specs.declared.Sent.{Sent}
 use Rattle.fs_speaker.specs.Laws.{ComesBack, IsSent}
-use Rattle.fs_speaker.specs.Sending.{is_lowest, is_short}
-use Rattle.fs_speaker.specs.Transition.{terms_of}
+use Rattle.cmd_wire.proofs.Words.{is_lowest, is_short, terms_of}
 use Rattle.fs_speaker.proofs.Returning.{comes_back}
 use Rattle.fs_conf.specs.Laws.{HasPeerNumbers}
 use Rattle.fs_conf.proofs.Accepted.{accepts_numbers}

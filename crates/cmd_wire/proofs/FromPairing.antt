@@ -1,37 +1,22 @@
 -- How what `pair` answers follows from its stages.
 use Rattle.std.proofs.Common.{◌≡◌, ◌⊎◌, inl, inr, ◌∙◌, ℕ, List, ◌++◌, Bool, false, Option, Some, None, IfSome, Result, Ok, Err, refl, ap, sym, subst}
-use Rattle.std.specs.Option.{is_some}
-use Rattle.fs_base.specs.Config.{peer_of}
-use Rattle.fs_base.specs.Wire.{EndCloses, Told, WireEnds, joined_end}
+use Rattle.cmd_wire.proofs.Words.{Announcing, Arrives, AtLimit, CanSend, Desked, Done, EndCloses, Ended, Ending, Found, HasReason, Names, Pairs, PairsOver, PairsSo, Peer, Played, Refusal, Sending, Told, WireEnds, and_then, announcing, answered, begins_with, config_stage, joined_end, octets_in, or_stop, peer_of, rules_stage, sender_of, status_of, tape_of}
 use Rattle.fs_base.specs.declared.config.Config.{Config}
-use Rattle.fs_base.specs.declared.config.Peer.{Peer}
-use Rattle.fs_speaker.specs.declared.Sending.{Sending}
-use Rattle.fs_speaker.specs.Announcer.{Announcing, CanSend, announcing}
 use Rattle.fs_speaker.specs.Line.{fresh}
-use Rattle.fs_speaker.specs.Sending.{sender_of}
 use Rattle.fs_peering.proofs.WrittenInParts.{told_and}
 use Rattle.fs_peering.specs.Joined.{AreJoined, of_first, of_second}
-use Rattle.fs_peering.specs.Round.{octets_in}
-use Rattle.fs_desk.specs.Desk.{Desked, Played}
 use Rattle.fs_desk.proofs.Leaves.{played_leaves}
-use Rattle.fs_peering.specs.declared.tell.Ending.{Ending}
-use Rattle.fs_peering.specs.declared.tell.Ending.TheVariants.{Done, Closed as HasClosed, Ended, AtLimit}
-use Rattle.fs_peering.specs.Tell.{begins_with}
-use Rattle.fs_peering.specs.Hearer.{tape_of}
-use Rattle.fs_peering.specs.Pair.{Arrives, Pairs, PairsOver, PairsSo}
-use Rattle.cmd_stages.specs.Load.{Names, config_stage, rules_stage}
-use Rattle.cmd_stages.specs.Refusal.{Found, HasReason, answered, status_of, and_then, or_stop}
-use Rattle.cmd_stages.specs.declared.refusal.Refusal.{Refusal}
+use Rattle.fs_peering.specs.declared.tell.Ending.TheVariants.{Closed as HasClosed}
 use Rattle.cmd_stages.proofs.Stages.{answers_for}
 use Rattle.cmd_wire.specs.Announcing.{IsBrokenOff, IsOfSession}
 use Rattle.cmd_wire.specs.Conversation.{Conversation}
 use Rattle.cmd_wire.specs.Listed.{IsListing, ListsDesk, TellsListing, verdict_by}
 use Rattle.cmd_wire.specs.Pairing.{BothBegin, Joined, JoinsSo, Meets}
-use Rattle.cmd_wire.proofs.FromStages.{config_early, rules_early, sending_found, wire_early}
+use Rattle.cmd_wire.proofs.FromStages.{sending_found}
 use Rattle.fs_speaker.proofs.Lowest.{sender_told}
 use Rattle.cmd_wire.specs.Listening.{Begins}
 use Rattle.std.specs.Result.{IfErr, IsErrAnd}
-use Rattle.cmd_stages.specs.declared.refusal.Refusal.TheVariants.{Config as Refused}
+use Rattle.cmd_stages.specs.declared.refusal.Refusal.TheVariants.{Files as Refused}
 
 -- neither is answered with 3
 not_three : (ending : Ending) (text : List ℕ) → (verdict_by ending text).status ≡ 3 → ⊥
@@ -144,16 +129,16 @@ joined_from ending config sending begun desk number limit text sender started t0
     (pairs config b.peer sending b.config_is b.known b.sender_is b.unstarted))
     closes
 
-abbrev Made : Config → Sending → Option Peer → Announcing → Bool → ℕ → Type 0
-Made config sending o sender started count =
-    IfSome o (λ peer. (sender ≡ announcing config peer sending fresh false 0) × ((started ≡ false) × (count ≡ 0)))
+abbrev Made : Config → Sending → Option Peer → Announcing → Bool → Type 0
+Made config sending o teller started =
+    IfSome o (λ peer. (teller ≡ announcing config peer sending fresh false 0) × (started ≡ false))
 
 -- both ends before their first octets
-pub both_begin : (config : Config) (sending : Sending) (desk : Desked) (number heard : ℕ) (sender : Announcing) (started : Bool) (count : ℕ)
-    → Begins config desk number heard → Made config sending (sender_of config.peers) sender started count
-    → BothBegin config sending desk number sender started
-both_begin config sending desk number heard sender started count b made =
-    let own : Made config sending (Some b.peer) sender started count = subst (λ (o : Option Peer). Made config sending o sender started count) b.peer_is made in
+pub both_begin : (config : Config) (sending : Sending) (desk : Desked) (number heard : ℕ) (teller : Announcing) (started : Bool)
+    → Begins config desk number heard → Made config sending (sender_of config.peers) teller started
+    → BothBegin config sending desk number teller started
+both_begin config sending desk number heard teller started b made =
+    let own : Made config sending (Some b.peer) teller started = subst (λ (o : Option Peer). Made config sending o teller started) b.peer_is made in
     record {
       peer = b.peer;
       peer_is = b.peer_is;
@@ -161,7 +146,7 @@ both_begin config sending desk number heard sender started count b made =
       known = ap (λ (n : ℕ). peer_of n config.peers) b.number_is ∙ sender_told config.peers b.peer b.peer_is;
       config_is = b.config_is;
       sender_is = own.0;
-      unstarted = own.1.0;
+      unstarted = own.1;
     }
 
 -- a peer that rules may be sent for is there
@@ -171,33 +156,6 @@ lowest_broken config o sending (Ok t) refusal can reason e = tt
 lowest_broken config None sending (Err other) refusal can reason e = absurd can
 lowest_broken config (Some peer) sending (Err other) refusal can (inl h) e = absurd cc
 lowest_broken config (Some peer) sending (Err other) refusal can (inr h) e = subst (IsBrokenOff ⊥) (sym e) h
-
-pub unheard : (config : Config) (o : Option Peer) (sending : Sending) (sender : Announcing) (started : Bool) (count : ℕ) → CanSend config o sending
-    → Made config sending o sender started count → count ≡ 0
-unheard config None sending sender started count can made = absurd can
-unheard config (Some peer) sending sender started count can made = made.1.1
-
-pub still_open : (config : Config) (o : Option Peer) (sending : Sending) (sender : Announcing) (started : Bool) (count : ℕ) → CanSend config o sending
-    → Made config sending o sender started count → is_some sender.line.closed ≡ false
-still_open config None sending sender started count can made = absurd can
-still_open config (Some peer) sending sender started count can made = ap (λ (n : Announcing). is_some n.line.closed) made.0
-
--- the run ended before anything was written
-
-pub pair_config_stops : (limit : ℕ) (holds : Names) (config rules : List ℕ) (failed failed' : Type 0) (a : Option (List ℕ)) (talk : Conversation) (refusal : Refusal)
-    → HasReason (config_stage limit holds config) failed refusal → (failed → failed')
-    → JoinsSo limit holds config rules failed' a a talk (status_of refusal)
-pair_config_stops limit holds config rules failed failed' a talk refusal h f = inl (config_early limit holds config rules failed failed' a refusal h f)
-
-pub pair_rules_stop : (limit : ℕ) (holds holds' : Names) (config rules : List ℕ) (accepted : Config) (failed failed' : Type 0) (a : Option (List ℕ)) (talk : Conversation) (refusal : Refusal)
-    → config_stage limit holds config ≡ Found accepted → holds' ≡ holds → HasReason (rules_stage accepted limit holds' rules) failed refusal → (failed → failed')
-    → JoinsSo limit holds config rules failed' a a talk (status_of refusal)
-pair_rules_stop limit holds holds' config rules accepted failed failed' a talk refusal e same h f =
-    inl (rules_early limit holds holds' config rules accepted failed failed' a refusal e same h f)
-
-pub pair_wire_stops : (limit : ℕ) (holds : Names) (config rules : List ℕ) (failed failed' : Type 0) (a : Option (List ℕ)) (talk : Conversation) (refusal : Refusal)
-    → IsBrokenOff failed refusal → (failed → failed') → JoinsSo limit holds config rules failed' a a talk (status_of refusal)
-pair_wire_stops limit holds config rules failed failed' a talk refusal h f = inl (wire_early limit holds config rules failed failed' a refusal h f)
 
 -- or the session ended
 

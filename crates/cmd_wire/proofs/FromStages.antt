@@ -1,31 +1,17 @@
 -- How what `announce` answers follows from its stages.
-use Rattle.std.proofs.Common.{◌≡◌, inl, inr, ◌<◌, ◌≤◌, ◌∙◌, ℕ, ◌+◌, List, [], ◌++◌, length, nat_le, Bool, true, false, if◌then◌else◌, Option, Some, None, IfSome, append-nil, arith, refl, ap, sym, subst}
-use Rattle.std.proofs.lemmas.Bool.Decides.{nat_tests}
-use Rattle.fs_base.specs.Wire.{EndCloses, Told, WireEnds, opened_end}
+use Rattle.std.proofs.Common.{◌≡◌, inl, inr, ◌<◌, ◌∙◌, ℕ, ◌+◌, List, [], ◌++◌, length, nat_le, Bool, true, false, if◌then◌else◌, Option, Some, None, IfSome, append-nil, arith, refl, ap, sym, subst}
+use Rattle.cmd_wire.proofs.Words.{Announcing, AtLimit, CanSend, Done, EndCloses, Ended, Ending, EndsBefore, EndsEarly, Found, HasReason, Machine, MetLimit, Names, Peer, Phase, Pieces, Refusal, SaidAll, Sending, Stage, Tells, TellsOver, TellsSo, Told, WireEnds, and_then, announcing, at_start, begins_with, config_stage, is_established, moments_in, needs_of, octets_in, opened_end, rules_stage, sender_of, sending_stage, status_of, still}
 use Rattle.fs_base.specs.declared.config.Config.{Config}
-use Rattle.fs_base.specs.declared.config.Peer.{Peer}
-use Rattle.fs_speaker.specs.declared.Sending.{Sending}
+use Rattle.fs_base.proofs.NumberTests.{le_false, le_true}
 use Rattle.fs_speaker.specs.declared.Closed.{Closed}
-use Rattle.fs_session.specs.declared.transition.Phase.{Phase}
-use Rattle.fs_speaker.specs.Announcer.{Announcing, CanSend, announcing, is_established}
 use Rattle.fs_speaker.specs.Line.{fresh}
-use Rattle.fs_speaker.specs.Sending.{needs_of, sender_of}
-use Rattle.fs_speaker.specs.Session.{at_start, still}
 use Rattle.fs_speaker.specs.Side.{announcer}
-use Rattle.fs_speaker.specs.Transition.{Machine}
 use Rattle.fs_peering.proofs.WrittenInParts.{told_and}
-use Rattle.fs_peering.specs.Round.{Pieces, moments_in, octets_in}
-use Rattle.fs_peering.specs.declared.tell.Ending.{Ending}
-use Rattle.fs_peering.specs.declared.tell.Ending.TheVariants.{Done, Closed as HasClosed, Ended, AtLimit}
+use Rattle.fs_peering.specs.declared.tell.Ending.TheVariants.{Closed as HasClosed}
 use Rattle.fs_peering.specs.Opening.{opened_by}
-use Rattle.fs_peering.specs.Tell.{EndsBefore, MetLimit, SaidAll, Tells, TellsOver, TellsSo, begins_with}
 use Rattle.fs_peering.specs.Teller.{ClosesSo}
-use Rattle.cmd_stages.specs.Load.{Names, config_stage, rules_stage, sending_stage}
-use Rattle.cmd_stages.specs.Refusal.{EndsEarly, Found, HasReason, Stage, and_then, status_of}
-use Rattle.cmd_stages.specs.declared.refusal.Refusal.{Refusal}
 use Rattle.cmd_stages.proofs.Stages.{ends_early, reason_then}
-use Rattle.cmd_wire.specs.Announcing.{AnnouncesSo, Connected, IsBrokenOff, IsDue, Speaks, ending_by, ending_of}
-use Rattle.cmd_wire.specs.Conversation.{Conversation}
+use Rattle.cmd_wire.specs.Announcing.{Connected, IsBrokenOff, IsDue, Speaks, ending_by, ending_of}
 
 -- the end that is due
 
@@ -33,12 +19,6 @@ ending_at : (limit size : ℕ) (phase : Phase) (behind : List ℕ) (met up : Boo
     → ending_by limit size (still phase, behind) ≡ (if met then AtLimit else if up then Done else Ended)
 ending_at limit size phase behind met up m u =
     ap (λ (b : Bool). if b then AtLimit else if is_established phase.state then Done else Ended) m ∙ ap (λ (b : Bool). if met then AtLimit else if b then Done else Ended) u
-
-pub is_below : (least size : ℕ) → size < least → nat_le least size ≡ false
-is_below least size l = grind (arith, nat_tests, l)
-
-pub is_reached : (least size : ℕ) → least ≤ size → nat_le least size ≡ true
-is_reached least size l = grind (arith, nat_tests, l)
 
 below_sum : (limit size : ℕ) → size < limit → size < limit + length {A = ℕ} []
 below_sum limit size l = omega (arith, l)
@@ -53,17 +33,17 @@ module _ (config : Config) (peer : Peer) (sending : Sending) (limit : ℕ) (hear
   due_done : SaidAll config peer sending limit heard said → Done ≡ ending_of machine limit octets
   due_done s = sym (
       ap (ending_by limit (length octets)) s.found
-      ∙ ending_at limit (length octets) s.phase s.behind false true (is_below (limit + length s.behind) (length octets) s.within) s.up)
+      ∙ ending_at limit (length octets) s.phase s.behind false true (le_false (limit + length s.behind) (length octets) s.within) s.up)
 
   due_limit : MetLimit machine limit octets → AtLimit ≡ ending_of machine limit octets
   due_limit m = sym (
       ap (ending_by limit (length octets)) m.found
-      ∙ ending_at limit (length octets) m.phase m.behind true (is_established m.phase.state) (is_reached (limit + length m.behind) (length octets) m.met) refl)
+      ∙ ending_at limit (length octets) m.phase m.behind true (is_established m.phase.state) (le_true (limit + length m.behind) (length octets) m.met) refl)
 
   due_ended : EndsBefore machine limit octets left → Ended ≡ ending_of machine limit octets
   due_ended e = sym (
       ap (ending_by limit (length octets)) e.found
-      ∙ ending_at limit (length octets) e.phase [] false false (is_below (limit + length {A = ℕ} []) (length octets) (below_sum limit (length octets) e.within)) e.down)
+      ∙ ending_at limit (length octets) e.phase [] false false (le_false (limit + length {A = ℕ} []) (length octets) (below_sum limit (length octets) e.within)) e.down)
 
   due_closed : (why : Closed) → ClosesSo machine (moments_in heard) octets why → IsDue (HasClosed why) machine limit (moments_in heard) octets
   due_closed why (inl c) = inl (sym (
@@ -142,11 +122,6 @@ pub config_early : (limit : ℕ) (holds : Names) (config rules : List ℕ) (fail
 config_early limit holds config rules failed failed' a refusal h f =
     ends_early (sending_stage limit holds config rules) failed failed' a refusal (reason_then (config_stage limit holds config) (then_rules limit holds rules) failed refusal h) f
 
-pub config_stops : (limit : ℕ) (holds : Names) (config rules : List ℕ) (failed failed' : Type 0) (a : Option (List ℕ)) (talk : Conversation) (refusal : Refusal)
-    → HasReason (config_stage limit holds config) failed refusal → (failed → failed')
-    → AnnouncesSo limit holds config rules failed' a a talk (status_of refusal)
-config_stops limit holds config rules failed failed' a talk refusal h f = inl (config_early limit holds config rules failed failed' a refusal h f)
-
 rules_in : (limit : ℕ) (holds : Names) (config rules : List ℕ) (accepted : Config) → config_stage limit holds config ≡ Found accepted
     → sending_stage limit holds config rules ≡ then_rules limit holds rules accepted
 rules_in limit holds config rules accepted e = ap (λ (s : Stage Config). and_then s (then_rules limit holds rules)) e
@@ -159,12 +134,6 @@ rules_early limit holds holds' config rules accepted failed failed' a refusal e 
     ends_early (sending_stage limit holds config rules) failed failed' a refusal
     (subst (λ (s : Stage (Config × Sending)). HasReason s failed refusal) (sym (rules_in limit holds config rules accepted e))
     (reason_then (rules_stage accepted limit holds rules) (λ sending. Found (accepted, sending)) failed refusal here)) f
-
-pub rules_stop : (limit : ℕ) (holds holds' : Names) (config rules : List ℕ) (accepted : Config) (failed failed' : Type 0) (a : Option (List ℕ)) (talk : Conversation) (refusal : Refusal)
-    → config_stage limit holds config ≡ Found accepted → holds' ≡ holds → HasReason (rules_stage accepted limit holds' rules) failed refusal → (failed → failed')
-    → AnnouncesSo limit holds config rules failed' a a talk (status_of refusal)
-rules_stop limit holds holds' config rules accepted failed failed' a talk refusal e same h f =
-    inl (rules_early limit holds holds' config rules accepted failed failed' a refusal e same h f)
 
 pub wire_early : (limit : ℕ) (holds : Names) (config rules : List ℕ) (failed failed' : Type 0) (a : Option (List ℕ)) (refusal : Refusal)
     → IsBrokenOff failed refusal → (failed → failed') → EndsEarly (sending_stage limit holds config rules) failed' a a (status_of refusal)

@@ -1,37 +1,24 @@
 -- How what `listen` answers follows from its stages.
 use Rattle.std.proofs.Common.{◌≡◌, ◌⊎◌, inl, inr, ◌∙◌, ℕ, List, [], ◌∷◌, ◌++◌, length, nat_le, Bool, true, false, if◌then◌else◌, Option, Some, None, append-nil, refl, ap, sym, subst}
 use Rattle.std.proofs.lemmas.Option.{same_Some}
-use Rattle.fs_base.specs.Config.{peer_of}
-use Rattle.fs_base.specs.Wire.{EndCloses, Told, WireEnds}
+use Rattle.cmd_wire.proofs.Words.{AtLimit, ClosesIn, Desked, Done, EndCloses, Ended, Ending, ExpiresAt, Found, HasReason, Last, Names, Peer, Phase, Pieces, Played, Refusal, Stage, Told, WireEnds, and_then, at_start, bounded_from, bounded_session, closed, config_stage, is_established, octets_in, or_stop, peer_of, sender_of, status_of, still, tape_of}
 use Rattle.fs_base.specs.declared.config.Config.{Config}
-use Rattle.fs_base.specs.declared.config.Peer.{Peer}
+use Rattle.fs_base.proofs.NumberTests.{le_false, le_true}
 use Rattle.fs_attrs.specs.declared.update.Update.{Update}
 use Rattle.fs_speaker.specs.declared.Closed.{Closed}
-use Rattle.fs_session.specs.declared.transition.Phase.{Phase}
-use Rattle.fs_speaker.specs.Announcer.{is_established}
-use Rattle.fs_speaker.specs.Sending.{sender_of}
-use Rattle.fs_speaker.specs.Session.{Last, at_start, closed, still}
-use Rattle.fs_desk.specs.Desk.{Desked, Played}
-use Rattle.fs_desk.specs.Limit.{bounded_from, bounded_session}
 use Rattle.fs_desk.proofs.Leaves.{played_leaves}
 use Rattle.fs_peering.proofs.WrittenInParts.{told_and, told_as}
-use Rattle.fs_peering.specs.Round.{Pieces, octets_in}
-use Rattle.fs_peering.specs.declared.tell.Ending.{Ending}
-use Rattle.fs_peering.specs.declared.tell.Ending.TheVariants.{Done, Closed as HasClosed, Ended, AtLimit}
-use Rattle.fs_peering.specs.Hearer.{ClosesIn, ExpiresAt, HasClosed as ClosesOnce, tape_of}
+use Rattle.fs_peering.specs.declared.tell.Ending.TheVariants.{Closed as HasClosed}
+use Rattle.fs_peering.specs.Hearer.{HasClosed as ClosesOnce}
 use Rattle.fs_peering.specs.Listen.{EndsSo, Listens, ListensOver, ListensSo}
-use Rattle.cmd_stages.specs.Load.{Names, config_stage}
-use Rattle.cmd_stages.specs.Refusal.{Found, HasReason, Stage, and_then, or_stop, status_of}
-use Rattle.cmd_stages.specs.declared.refusal.Refusal.{Refusal}
-use Rattle.cmd_stages.specs.declared.refusal.Refusal.TheVariants.{Config as Refused}
+use Rattle.cmd_stages.specs.declared.refusal.Refusal.TheVariants.{Files as Refused}
 use Rattle.cmd_stages.proofs.Stages.{answers_for, ends_early, reason_then}
 use Rattle.cmd_wire.specs.Announcing.{IsBrokenOff}
-use Rattle.fs_peering.proofs.Hearing.{octets_more}
+use Rattle.fs_peering.proofs.Courses.{octets_more}
 use Rattle.cmd_wire.specs.Conversation.{Conversation}
 use Rattle.cmd_wire.specs.Listening.{Begins, HasExpired, Heard, Hears, IsHeard, ListenedSo, ListensThrough, ending_by, ending_of, hearing_stage, listening, with_peer}
 use Rattle.cmd_wire.specs.Listed.{ListsDesk, TellsListing, verdict_by}
 use Rattle.fs_speaker.proofs.Lowest.{sender_told}
-use Rattle.cmd_wire.proofs.FromStages.{is_below, is_reached}
 
 pub closes_behind : (config : Config) (peer : Peer) (heard earlier : Pieces) (moment : ℕ) (piece said more : List ℕ) (why : Closed)
     → heard ≡ earlier ++ (moment, piece) ∷ [] → ClosesIn config peer.number peer earlier moment piece said why
@@ -82,10 +69,10 @@ module _ (desk : Desked) (peer : Peer) (limit : ℕ) (heard : Pieces) (said left
           ∙ closes_behind desk.config peer heard t.earlier t.moment t.piece said [] why t.split c)))
 
   due_of : (ending : Ending) → ListensSo ending desk peer.number peer limit heard said left → IsHeard ending desk.config peer limit heard
-  due_of Done t = inl (due_still desk.config peer limit (octets_in heard) t.receives.phase false true (found_from t.receives.phase t.receives.found) (is_below limit (length (octets_in heard)) t.within) t.settled)
+  due_of Done t = inl (due_still desk.config peer limit (octets_in heard) t.receives.phase false true (found_from t.receives.phase t.receives.found) (le_false limit (length (octets_in heard)) t.within) t.settled)
   due_of (HasClosed why) t = due_closed why t
-  due_of Ended t = inl (due_still desk.config peer limit (octets_in heard) t.receives.phase false false (found_from t.receives.phase t.receives.found) (is_below limit (length (octets_in heard)) t.within) t.settled)
-  due_of AtLimit t = inl (due_still desk.config peer limit (octets_in heard) t.receives.phase true (is_established t.receives.phase.state) (found_from t.receives.phase t.receives.found) (is_reached limit (length (octets_in heard)) t.met) refl)
+  due_of Ended t = inl (due_still desk.config peer limit (octets_in heard) t.receives.phase false false (found_from t.receives.phase t.receives.found) (le_false limit (length (octets_in heard)) t.within) t.settled)
+  due_of AtLimit t = inl (due_still desk.config peer limit (octets_in heard) t.receives.phase true (is_established t.receives.phase.state) (found_from t.receives.phase t.receives.found) (le_true limit (length (octets_in heard)) t.met) refl)
 
 -- what was told of a connection that was taken, heard, and closed
 

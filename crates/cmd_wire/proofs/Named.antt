@@ -1,27 +1,15 @@
 -- An announcing end that the other end stayed open for named an identifier other than 0.0.0.0.
 use Rattle.std.proofs.Common.{◌≡◌, ℕ, zero, suc, ◌<◌, List, [], Option, None, Some, refl, ap, sym, ◌∙◌, arith}
-use Rattle.fs_base.specs.Config.{peer_of}
+use Rattle.cmd_wire.proofs.Words.{Arrives, CanArrive, Desked, Found, IsUnnamed, Last, Names, Peer, Phase, Pieces, Sending, at_start, bounded, bounded_from, bounded_session, closed, is_lowest, octets_in, peer_of, sender_of, sending_stage, session_from, still}
 use Rattle.fs_base.specs.declared.config.Config.{Config}
-use Rattle.fs_base.specs.declared.config.Peer.{Peer}
 use Rattle.fs_attrs.specs.declared.update.Update.{Update}
 use Rattle.fs_conf.specs.Laws.{HasPeerNumbers}
 use Rattle.fs_conf.proofs.Accepted.{accepts_numbers}
 use Rattle.fs_conf.proofs.Found.{found_each}
-use Rattle.fs_speaker.specs.Session.{Last, at_start, closed, session_from, still}
-use Rattle.fs_speaker.specs.Sending.{is_lowest, sender_of}
-use Rattle.fs_speaker.specs.declared.Sending.{Sending}
 use Rattle.fs_speaker.specs.declared.Closed.{Closed}
 use Rattle.fs_speaker.specs.declared.Closed.TheVariants.{Fault}
-use Rattle.fs_session.specs.declared.transition.Phase.{Phase}
-use Rattle.fs_speaker.specs.JointLaws.{CanArrive, IsUnnamed}
 use Rattle.fs_speaker.proofs.Lowest.{sender_told}
 use Rattle.fs_speaker.proofs.Unnamed.{refused}
-use Rattle.fs_desk.specs.Desk.{Desked}
-use Rattle.fs_desk.specs.Limit.{bounded, bounded_from, bounded_session}
-use Rattle.fs_peering.specs.Pair.{Arrives}
-use Rattle.fs_peering.specs.Round.{Pieces, octets_in}
-use Rattle.cmd_stages.specs.Load.{Names, sending_stage}
-use Rattle.cmd_stages.specs.Refusal.{Found}
 use Rattle.cmd_wire.proofs.Accepted.{accepted_files, arrivable}
 
 -- a limit of routes leaves a session without updates as it is

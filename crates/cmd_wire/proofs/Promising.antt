@@ -1,30 +1,15 @@
 -- What the clauses of a run of `announce` say follows from what it does.
 use Rattle.std.proofs.Common.{◌≡◌, ◌⊎◌, inl, inr, ◌<◌, ◌≤◌, ◌∙◌, ℕ, ◌+◌, List, [], ◌++◌, length, nat_le, Bool, true, false, if◌then◌else◌, Option, Some, None, append-nil, append_assoc, arith, refl, ap, sym, subst, length-append, true≢false}
-use Rattle.fs_base.specs.Happened.{Happened, FilesFailed, FilesStood, SinkFailed, SinkStood, WireFailed, WireStood}
-use Rattle.fs_base.specs.Sink.{Grew}
-use Rattle.fs_base.specs.Wire.{Told, WireEnds}
+use Rattle.cmd_wire.proofs.Words.{AtLimit, Done, Ended, Ending, EndsBefore, FilesFailed, FilesStood, Found, Grew, Happened, Last, Limit, Machine, MetLimit, Names, Outside, Peer, Phase, Refusal, Sending, SinkFailed, SinkStood, Stage, Stopped, Told, WireEnds, WireFailed, WireStood, and_then, at_start, closed, config_stage, fetch, is_established, moments_in, needs_of, octets_in, or_stop, rules_stage, sending_stage, status_of, still}
 use Rattle.fs_base.specs.declared.config.Config.{Config}
-use Rattle.fs_base.specs.declared.config.Peer.{Peer}
-use Rattle.fs_speaker.specs.declared.Sending.{Sending}
 use Rattle.fs_speaker.specs.declared.Closed.{Closed}
-use Rattle.fs_session.specs.declared.transition.Phase.{Phase}
-use Rattle.fs_speaker.specs.Announcer.{is_established}
-use Rattle.fs_speaker.specs.Sending.{needs_of}
-use Rattle.fs_speaker.specs.Session.{Last, at_start, closed, still}
 use Rattle.fs_speaker.specs.Side.{announcer}
-use Rattle.fs_speaker.specs.Transition.{Machine}
-use Rattle.fs_peering.specs.declared.tell.Ending.{Ending}
-use Rattle.fs_peering.specs.declared.tell.Ending.TheVariants.{Done, Closed as HasClosed, Ended, AtLimit}
+use Rattle.fs_peering.specs.declared.tell.Ending.TheVariants.{Closed as HasClosed}
 use Rattle.fs_peering.specs.Opening.{opened_by}
-use Rattle.fs_peering.specs.Tell.{EndsBefore, MetLimit}
 use Rattle.fs_peering.specs.Teller.{ClosesSo, HasExpired}
-use Rattle.fs_peering.specs.Round.{moments_in, octets_in}
 use Rattle.fs_conf.specs.Config.{config_of}
 use Rattle.fs_conf.specs.Rules.{rules_of}
-use Rattle.cmd_stages.specs.Load.{Names, config_stage, fetch, rules_stage, sending_stage}
-use Rattle.cmd_stages.specs.Refusal.{Found, Stage, Stopped, and_then, or_stop, status_of}
-use Rattle.cmd_stages.specs.declared.refusal.Refusal.{Refusal}
-use Rattle.cmd_stages.specs.declared.refusal.Refusal.TheVariants.{Outside, Config as Refused, Limit}
+use Rattle.cmd_stages.specs.declared.refusal.Refusal.TheVariants.{Files as Refused}
 use Rattle.cmd_wire.specs.Announcing.{Announces, AnnouncesSo, Connected, Speaks, verdict_of}
 use Rattle.cmd_wire.specs.Conversation.{Conversation}
 use Rattle.cmd_wire.specs.Promised.{AnnouncePromises, EndsSo, HasAnnounceStatus, HasStatusBy, IsServed, Sent}

@@ -1,26 +1,12 @@
 -- What the clauses of a run of `listen` say follows from what it does.
 use Rattle.std.proofs.Common.{◌≡◌, ◌⊎◌, inl, inr, ◌<◌, ◌≤◌, ◌∙◌, ℕ, ◌+◌, List, ◌++◌, length, true, false, Option, Some, None, append-nil, arith, refl, ap, sym, subst, length-append, true≢false}
-use Rattle.fs_base.specs.Happened.{Happened, FilesFailed, FilesStood, SinkFailed, SinkStood, WireFailed, WireStood}
-use Rattle.fs_base.specs.Config.{peer_of}
-use Rattle.fs_base.specs.Sink.{Grew}
-use Rattle.fs_base.specs.Wire.{Told, WireEnds}
+use Rattle.cmd_wire.proofs.Words.{AtLimit, ClosesIn, Done, Ended, Ending, ExpiresAt, FilesFailed, FilesStood, Found, Grew, Happened, Names, Peer, Phase, Pieces, Refusal, SinkFailed, SinkStood, Stage, Stopped, Told, WireEnds, WireFailed, WireStood, and_then, bounded_from, bounded_session, closed, config_stage, is_established, moments_in, octets_in, or_stop, peer_of, sender_of, still}
 use Rattle.fs_base.specs.declared.config.Config.{Config}
-use Rattle.fs_base.specs.declared.config.Peer.{Peer}
 use Rattle.fs_speaker.specs.declared.Closed.{Closed}
-use Rattle.fs_session.specs.declared.transition.Phase.{Phase}
-use Rattle.fs_speaker.specs.Announcer.{is_established}
-use Rattle.fs_speaker.specs.Sending.{sender_of}
-use Rattle.fs_speaker.specs.Session.{closed, still}
-use Rattle.fs_desk.specs.Limit.{bounded_from, bounded_session}
-use Rattle.fs_peering.specs.Round.{Pieces, moments_in, octets_in}
-use Rattle.fs_peering.specs.declared.tell.Ending.{Ending}
-use Rattle.fs_peering.specs.declared.tell.Ending.TheVariants.{Done, Closed as HasClosed, Ended, AtLimit}
-use Rattle.fs_peering.specs.Hearer.{ClosesIn, ExpiresAt, HasClosed as ClosesOnce}
+use Rattle.fs_peering.specs.declared.tell.Ending.TheVariants.{Closed as HasClosed}
+use Rattle.fs_peering.specs.Hearer.{HasClosed as ClosesOnce}
 use Rattle.fs_peering.specs.Listen.{EndsSo, MeetsLimit}
-use Rattle.cmd_stages.specs.Load.{Names, config_stage}
-use Rattle.cmd_stages.specs.Refusal.{Found, Stage, Stopped, and_then, or_stop}
-use Rattle.cmd_stages.specs.declared.refusal.Refusal.{Refusal}
-use Rattle.cmd_stages.specs.declared.refusal.Refusal.TheVariants.{Config as Refused}
+use Rattle.cmd_stages.specs.declared.refusal.Refusal.TheVariants.{Files as Refused}
 use Rattle.cmd_wire.specs.Conversation.{Conversation}
 use Rattle.cmd_wire.specs.Listed.{verdict_by}
 use Rattle.cmd_wire.specs.Listening.{HasExpired, Heard, Hears, ListenedSo, ListensTo, hearing_stage, with_peer}

@@ -1,20 +1,10 @@
 -- What the clauses of a run of `pair` say follows from what it does.
 use Rattle.std.proofs.Common.{◌≡◌, ◌⊎◌, inl, inr, ◌∙◌, ℕ, ◌+◌, ◌<◌, List, ◌++◌, length, Option, Some, ap, sym, subst, arith, length-append}
 use Rattle.std.proofs.lemmas.Option.{same_Some}
-use Rattle.fs_base.specs.Happened.{Happened, FilesFailed, FilesStood, SinkFailed, SinkStood, WireFailed, WireStood}
-use Rattle.fs_base.specs.Sink.{Grew}
-use Rattle.fs_base.specs.Wire.{Told, WireEnds}
+use Rattle.cmd_wire.proofs.Words.{CanArrive, Done, Ending, FilesFailed, FilesStood, Found, Grew, Happened, MayHold, Names, Peer, Sending, SinkFailed, SinkStood, Stage, Told, WireEnds, WireFailed, WireStood, sending_stage}
 use Rattle.fs_base.specs.declared.config.Config.{Config}
-use Rattle.fs_base.specs.declared.config.Peer.{Peer}
-use Rattle.fs_speaker.specs.declared.Sending.{Sending}
-use Rattle.fs_speaker.specs.JointLaws.{CanArrive}
-use Rattle.fs_peering.specs.declared.tell.Ending.{Ending}
-use Rattle.fs_peering.specs.declared.tell.Ending.TheVariants.{Done}
 use Rattle.fs_peering.specs.Joined.{of_first, of_second}
 use Rattle.fs_peering.proofs.WrittenInParts.{told_as}
-use Rattle.fs_peering.specs.Pair.{MayHold}
-use Rattle.cmd_stages.specs.Load.{Names, sending_stage}
-use Rattle.cmd_stages.specs.Refusal.{Found, Stage}
 use Rattle.cmd_wire.specs.Conversation.{Conversation}
 use Rattle.cmd_wire.specs.Listed.{verdict_by}
 use Rattle.cmd_wire.specs.Pairing.{Joined, Joins, JoinsSo, Meets}

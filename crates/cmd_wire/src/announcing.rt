@@ -12,7 +12,7 @@ ghost use Rattle.cmd_wire.specs.Conversation.{conversation};
 use crate::tell::tell_ending;
 use cmd_stages::{Refusal, load_config, load_rules};
 use fs_base::{Clock, Config, Files, Opening, Sink, Wire};
-use fs_peering::{Ending, Room, TalkFault, Teller, announce_over};
+use fs_peering::{Buffers, Ending, TalkFault, Teller, announce_over};
 use fs_speaker::Sending;
 use std::alloc::Global;
 
@@ -77,10 +77,10 @@ fn speak<W: Wire, C: Clock>(
     ensures spoken { IfOk result (λ ending. Connected ending config.now sending order.now.limit
         (conversation W.Wire C.Clock wire.old wire.new clock.old clock.new)) }
 {
-    let mut teller = Teller::new(alloc, config, sending)?;
-    let mut room = Room::new(alloc);
+    let mut teller = Teller::new(alloc, config, sending, false)?;
+    let mut buffers = Buffers::new(alloc);
     wire.open_end(Opening::Dial(order.address))?;
-    match announce_over(wire, clock, &mut teller, order.limit, &mut room) {
+    match announce_over(wire, clock, &mut teller, order.limit, &mut buffers) {
         Ok(ending) => {
             wire.close(1)?;
             Ok(ending)

@@ -13,7 +13,7 @@ ghost use Rattle.cmd_wire.specs.Listening.{Begins, ListensThrough, ListensTo, wi
 use crate::listed::tell_listing;
 use cmd_stages::{Refusal, load_config};
 use fs_base::{Clock, Config, Files, Opening, Sink, Wire};
-use fs_peering::{Ending, Hearer, Room, TalkFault, listen_over};
+use fs_peering::{Buffers, Ending, Hearer, TalkFault, listen_over};
 use fs_speaker::sender;
 use std::alloc::Global;
 
@@ -64,7 +64,7 @@ pub fn listen<F: Files, S: Sink, W: Wire, C: Clock>(
 ///
 /// # Errors
 ///
-/// `Config` where the configuration has no peers; `Memory` where the machine refused memory.
+/// `Files` where the configuration has no peers; `Memory` where the machine refused memory.
 pub(crate) fn lowest<'a>(alloc: Global, config: &'a Config) -> Result<Hearer<'a>, Refusal>
     ensures begins { MatchResult result
         (λ made. Begins config.entry.now made.desk made.peer made.count)
@@ -73,7 +73,7 @@ pub(crate) fn lowest<'a>(alloc: Global, config: &'a Config) -> Result<Hearer<'a>
     ensures open { IfOk result (λ made. is_ended (standing_at_desk made.desk made.peer) ≡ false) }
 {
     let Some(peer) = sender(config) else {
-        return Err(Refusal::Config);
+        return Err(Refusal::Files);
     };
     let hearer = Hearer::new(alloc, config, peer.number)?;
     Ok(hearer)
@@ -96,9 +96,9 @@ fn hear<W: Wire, C: Clock>(
         ListensThrough ending hearer.old.desk.config hearer.new.desk hearer.old.peer order.now.limit
         (conversation W.Wire C.Clock wire.old wire.new clock.old clock.new)) }
 {
-    let mut room = Room::new(alloc);
+    let mut buffers = Buffers::new(alloc);
     wire.open_end(Opening::Listen(order.address))?;
-    match listen_over(wire, clock, hearer, order.limit, &mut room) {
+    match listen_over(wire, clock, hearer, order.limit, &mut buffers) {
         Ok(ending) => {
             wire.close(0)?;
             Ok(ending)

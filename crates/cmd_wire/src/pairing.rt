@@ -1,12 +1,12 @@
 //! The command `pair`.
 
-ghost use Rattle.std.specs.Prelude.{◌≡◌, ◌≤◌, ◌⊎◌, [], false, IfErr, IfOk, IsTrue, List, ℕ};
-ghost use Rattle.std.specs.Option.{is_some};
+ghost use Rattle.std.specs.Prelude.{◌≡◌, ◌≤◌, ◌⊎◌, [], false, true, IfErr, IfOk, IsTrue, List, ℕ};
 ghost use Rattle.fs_base.specs.Happened.{happened, with_wire};
 ghost use Rattle.fs_base.specs.Outside.{Rose};
 ghost use Rattle.fs_base.specs.declared.config.Config.{Config};
 ghost use Rattle.fs_desk.specs.Desk.{standing_at_desk};
 ghost use Rattle.fs_peering.specs.Hearer.{Receives, is_ended};
+ghost use Rattle.fs_peering.specs.Teller.{is_over};
 ghost use Rattle.fs_speaker.specs.Announcer.{CanSend};
 ghost use Rattle.fs_speaker.specs.Sending.{sender_of};
 ghost use Rattle.fs_speaker.specs.declared.Sending.{Sending};
@@ -20,7 +20,7 @@ use crate::listed::tell_listing;
 use crate::listening::lowest;
 use cmd_stages::{Refusal, load_config, load_rules};
 use fs_base::{Clock, Config, Files, Opening, Sink, Wire};
-use fs_peering::{Ending, Hearer, Room, Sender, TalkFault, pair_over};
+use fs_peering::{Buffers, Ending, Hearer, TalkFault, Teller, pair_over};
 use fs_speaker::Sending;
 use std::alloc::Global;
 
@@ -72,7 +72,7 @@ pub fn pair<F: Files, S: Sink, W: Wire, C: Clock>(
 #[derive(Drop)]
 struct Ends<'a> {
     hearer: Hearer<'a>,
-    sender: Sender<'a>,
+    teller: Teller<'a>,
 }
 
 /// Both ends of the session with the configuration's peer with the lowest number, before their first octets.
@@ -81,14 +81,15 @@ fn both_ends<'a>(alloc: Global, config: &'a Config, sending: Sending) -> Result<
     ensures broken { IfErr result (IsBrokenOff ⊥) }
     ensures fresh { IfOk result (λ ends. Receives ends.hearer.desk ends.hearer.peer ends.hearer.count [] []) }
     ensures open { IfOk result (λ ends. is_ended (standing_at_desk ends.hearer.desk ends.hearer.peer) ≡ false) }
-    ensures unheard { IfOk result (λ ends. ends.sender.count ≡ 0) }
-    ensures other { IfOk result (λ ends. is_some ends.sender.announcer.line.closed ≡ false) }
+    ensures unheard { IfOk result (λ ends. ends.teller.count ≡ 0) }
+    ensures on { IfOk result (λ ends. ends.teller.hears_on ≡ true) }
+    ensures other { IfOk result (λ ends. is_over ends.teller.hears_on ends.teller.announcer.line ≡ false) }
     ensures begins { IfOk result (λ ends. BothBegin config.entry.now sending
-        ends.hearer.desk ends.hearer.peer ends.sender.announcer ends.sender.started) }
+        ends.hearer.desk ends.hearer.peer ends.teller.announcer ends.teller.started) }
 {
     let hearer = lowest(alloc, config)?;
-    let sender = Sender::new(alloc, config, sending)?;
-    Ok(Ends { hearer, sender })
+    let teller = Teller::new(alloc, config, sending, true)?;
+    Ok(Ends { hearer, teller })
 }
 
 /// Joins both ends, announces and receives, and closes the announcing end.
@@ -102,26 +103,27 @@ fn join<W: Wire, C: Clock>(
     requires some { 1 ≤ limit }
     requires fresh { Receives ends.old.hearer.desk ends.old.hearer.peer ends.old.hearer.count [] [] }
     requires open { is_ended (standing_at_desk ends.old.hearer.desk ends.old.hearer.peer) ≡ false }
-    requires unheard { ends.old.sender.count ≡ 0 }
-    requires other { is_some ends.old.sender.announcer.line.closed ≡ false }
+    requires unheard { ends.old.teller.count ≡ 0 }
+    requires on { ends.old.teller.hears_on ≡ true }
+    requires other { is_over ends.old.teller.hears_on ends.old.teller.announcer.line ≡ false }
     ensures later { W.faults wire.old ≤ W.faults wire.new }
     ensures broken { IfErr result (IsBrokenOff (Rose (W.faults wire.old) (W.faults wire.new))) }
     ensures joined { IfOk result (λ ending. (config : Config) (sending : Sending) (text : List ℕ)
         → BothBegin config sending
-        ends.old.hearer.desk ends.old.hearer.peer ends.old.sender.announcer ends.old.sender.started
+        ends.old.hearer.desk ends.old.hearer.peer ends.old.teller.announcer ends.old.teller.started
         → ListsDesk ending ends.new.hearer.desk text
         → Joined ending config sending limit text
         (conversation W.Wire C.Clock wire.old wire.new clock.old clock.new)) }
 {
-    let mut room = Room::new(alloc);
+    let mut buffers = Buffers::new(alloc);
     wire.open_end(Opening::Both)?;
     match pair_over(
         wire,
         clock,
         &mut ends.hearer,
-        &mut ends.sender,
+        &mut ends.teller,
         limit,
-        &mut room,
+        &mut buffers,
     ) {
         Ok(ending) => {
             wire.close(1)?;

@@ -1,13 +1,8 @@
 -- What an announcing end has still to say.
-use Rattle.std.proofs.Common.{◌≡◌, ◌<◌, ◌≤◌, ℕ, suc, zero, ◌+◌, ◌-◌, List, [], ◌∷◌, ◌++◌, length, drop, take, Bool, true, false, if◌then◌else◌, Option, Some, None, Result, Ok, Err, refl, ap, sym, ◌∙◌, subst, arith, append_assoc, append-nil, IfSome, IfOk, OnOk}
-use Rattle.std.specs.Prelude.{flat_map}
+use Rattle.std.proofs.Common.{◌≡◌, ◌≤◌, ℕ, suc, zero, ◌+◌, ◌-◌, List, [], ◌∷◌, ◌++◌, length, drop, take, Bool, true, false, if◌then◌else◌, Option, Some, None, Result, Ok, Err, refl, ap, sym, ◌∙◌, subst, arith, IfSome, IfOk, OnOk}
 use Rattle.std.specs.Option.{is_some}
-use Rattle.fs_speaker.specs.Announcer.{Announcing, SaysText, Starts, StartsOpen, StartsWith, StaysEnded, first_text, is_established, next_text}
-use Rattle.fs_speaker.specs.Line.{state_in}
-use Rattle.fs_speaker.specs.Sending.{text_sent}
-use Rattle.fs_speaker.specs.declared.Sent.{Sent}
-use Rattle.fs_speaker.specs.declared.Closed.{Closed}
-use Rattle.fs_peering.specs.Teller.{ahead_of, before_all}
+use Rattle.fs_peering.proofs.Words.{Announcing, Closed, SaysText, Sent, Starts, StartsOpen, StartsWith, StaysEnded, first_text, is_established, next_text, state_in, text_sent}
+use Rattle.fs_peering.specs.Teller.{ahead_of}
 
 module _ {A : Type 0} (old new : Announcing) (out out' : List ℕ) (result : Result A Closed) (stays : StaysEnded old new result out out') where
   pub stayed : (why : Closed) → old.line.closed ≡ Some why → (result ≡ Err why) × (new ≡ old) × (out' ≡ out)
@@ -26,24 +21,18 @@ module _ {A : Type 0} (old new : Announcing) (out out' : List ℕ) (result : Res
       by None h = h
       by (Some why) h = absurd (not_both a why e (stayed why h).0)
 
-pub not_some : {A : Type 0} (o : Option A) → is_some o ≡ false → o ≡ None
-not_some None e = refl
-not_some (Some a) e = absurd cc
-
--- one rule more is said
-pub first_of : (text : Sent → List ℕ) (n : ℕ) (rules : List Sent) (said : List ℕ) → first_text text (drop n rules) ≡ Some said → (flat_map text (take (suc n) rules) ≡ flat_map text (take n rules) ++ said) × (n < length rules)
-first_of text n [] said h = absurd (none n h)
+-- the next rule of a list
+pub next_of : (text : Sent → List ℕ) (n : ℕ) (rules : List Sent) (said : List ℕ) → first_text text (drop n rules) ≡ Some said
+    → (sent : Sent) × ((said ≡ text sent) × (take (suc n) rules ≡ take n rules ++ sent ∷ []))
+next_of text n [] said h = absurd (none n h)
   where
     none : (n : ℕ) → first_text text (drop n []) ≡ Some said → ⊥
     none zero e = cc
     none (suc n) e = cc
-first_of text zero (sent ∷ rules) said h = (append-nil (text sent) ∙ some, omega arith)
-  where
-    some : text sent ≡ said
-    some = ap (λ (o : Option (List ℕ)). elim o [ None ↦ text sent | Some t ↦ t ]) h
-first_of text (suc n) (sent ∷ rules) said h =
-    let later = first_of text n rules said h in
-    (ap (λ (z : List ℕ). text sent ++ z) later.0 ∙ sym (append_assoc (text sent) (flat_map text (take n rules)) said), omega (arith, later.1))
+next_of text zero (sent ∷ rules) said h = (sent, (ap (λ (o : Option (List ℕ)). elim o [ None ↦ said | Some t ↦ t ]) (sym h), refl))
+next_of text (suc n) (sent ∷ rules) said h =
+    let later = next_of text n rules said h in
+    (later.0, (later.1.0, ap (λ (z : List Sent). sent ∷ z) later.1.1))
 
 pub none_left : (text : Sent → List ℕ) (n : ℕ) (rules : List Sent) → first_text text (drop n rules) ≡ None → length rules ≤ n
 none_left text n [] h = omega arith
@@ -82,34 +71,6 @@ starts_ahead old new out out' result stays starts started = by old.line.closed r
     by None e = on result (starts e)
     by (Some why) e = same (stayed old new out out' result stays why e).1
 
--- and it was to be said
-pub starts_fewer : (old new : Announcing) (out out' : List ℕ) → old.line.closed ≡ None → StartsWith old.started old new out out' → ahead_of new true < ahead_of old false
-starts_fewer old new out out' alive starts = by old.started starts
-  where
-    rest : ℕ
-    rest = length old.sending.rules - old.appended
-
-    less : (if is_some old.line.closed then 0 else 0 + rest) < (if is_some old.line.closed then 0 else 1 + rest)
-    less = subst (λ (c : Option Closed). (if is_some c then 0 else 0 + rest) < (if is_some c then 0 else 1 + rest)) (sym alive) (omega arith)
-
-    by : (b : Bool) → StartsWith b old new out out' → ahead_of new true < ahead_of old false
-    by true s = subst (λ (n : Announcing). ahead_of n true < ahead_of old false) (sym s.0) less
-    by false s = subst (λ (n : Announcing). ahead_of n true < ahead_of old false) (sym s.0) less
-
-pub starts_own : (old new : Announcing) (out out' : List ℕ) → StartsWith old.started old new out out' → (before_all new ≡ before_all old) × (new.line ≡ old.line)
-starts_own old new out out' starts = by old.started starts
-  where
-    by : (b : Bool) → StartsWith b old new out out' → (before_all new ≡ before_all old) × (new.line ≡ old.line)
-    by true s = (ap before_all s.0, ap (λ (n : Announcing). n.line) s.0)
-    by false s = (ap before_all s.0, ap (λ (n : Announcing). n.line) s.0)
-
-pub starts_sent : (old new : Announcing) (out out' : List ℕ) → StartsWith old.started old new out out' → new.appended ≡ old.appended
-starts_sent old new out out' starts = by old.started starts
-  where
-    by : (b : Bool) → StartsWith b old new out out' → new.appended ≡ old.appended
-    by true s = ap (λ (n : Announcing). n.appended) s.0
-    by false s = ap (λ (n : Announcing). n.appended) s.0
-
 -- none is left once an established end says nothing more
 pub says_all : (old new : Announcing) (started : Bool) (out out' : List ℕ) → old.line.closed ≡ None → is_established (state_in old.line) ≡ true → started ≡ true → SaysText (next_text old) false old new out out'
     → ahead_of new started ≡ 0
@@ -143,9 +104,3 @@ if_on (Err e) Q q f = tt
 pub if_if : {E : Type 0} (r : Result Bool E) (Q P : Bool → Type 0) → IfOk r Q → ((had : Bool) → Q had → P had) → IfOk r P
 if_if (Ok had) Q P q f = f had q
 if_if (Err e) Q P q f = tt
-
-pub begins_fewer : (old new : Announcing) (started : Bool) (out out' : List ℕ) → started ≡ false → old.line.closed ≡ None → StartsWith old.started old new out out' → ahead_of new true < ahead_of old started
-begins_fewer old new started out out' e alive starts = subst (λ (b : Bool). ahead_of new true < ahead_of old b) (sym e) (starts_fewer old new out out' alive starts)
-
-pub begins_least : (old new : Announcing) (started : Bool) (out out' : List ℕ) → started ≡ false → old.line.closed ≡ None → StartsWith old.started old new out out' → ahead_of new true ≤ ahead_of old started
-begins_least old new started out out' e alive starts = let less = begins_fewer old new started out out' e alive starts in omega (arith, less)

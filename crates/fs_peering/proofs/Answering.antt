@@ -1,28 +1,9 @@
 -- What the machine of an announcing end answers to the OPEN: a KEEPALIVE.
 use Rattle.std.proofs.Common.{◌≡◌, ◌==◌, ◌⊎◌, inl, inr, ℕ, List, [], ◌++◌, Bool, true, false, if◌then◌else◌, min, Option, Some, None, Result, Ok, Err, refl, ap, sym, ◌∙◌, subst, append-nil, arith}
 use Rattle.std.proofs.lemmas.Bool.Decides.{nat_tests}
-use Rattle.fs_base.specs.declared.config.Config.{Config}
-use Rattle.fs_message.specs.declared.fault.MessageFault.{MessageFault}
-use Rattle.fs_message.specs.declared.open_.Open.{Open}
-use Rattle.fs_message.specs.Open.{open_of}
-use Rattle.fs_message.specs.Notice.{notice_of}
-use Rattle.fs_message.specs.Stream.{Message, first_message, wrong_at}
-use Rattle.fs_message.specs.Write.{message_text}
-use Rattle.fs_attrs.specs.declared.update.Update.{Update}
-use Rattle.fs_speaker.specs.Handed.{Handed, runs_by}
-use Rattle.fs_speaker.specs.Line.{rest_step, step_at, step_by, stops, takes}
-use Rattle.fs_speaker.specs.Side.{announcer, keepalive_to, lacks_of}
-use Rattle.fs_speaker.specs.Times.{taken_in}
-use Rattle.fs_speaker.specs.Transition.{Machine, faulted, not_taken, notified, opened, phase, taken, transition_at, transition_by}
-use Rattle.fs_session.specs.declared.side.Needs.{Needs}
-use Rattle.fs_speaker.specs.declared.Closed.{Closed}
-use Rattle.fs_speaker.specs.declared.Closed.TheVariants.{NoFamily}
-use Rattle.fs_speaker.specs.declared.State.{State}
-use Rattle.fs_speaker.specs.declared.State.TheVariants.{WaitOpen, WaitKeep}
-use Rattle.fs_session.specs.declared.times.Times.{Times}
-use Rattle.fs_session.specs.declared.transition.Phase.{Phase}
+use Rattle.fs_peering.proofs.Words.{Closed, Config, Handed, Machine, Message, MessageFault, Needs, NoFamily, Open, Phase, State, Times, Update, WaitKeep, WaitOpen, announcer, faulted, first_message, keepalive_to, lacks_of, message_text, not_taken, notice_of, notified, open_of, opened, phase, rest_step, runs_by, step_at, step_by, stops, taken, taken_in, takes, transition_at, transition_by, wrong_at}
 use Rattle.fs_speaker.proofs.Handing.{runs_stops, runs_takes, runs_waits}
-use Rattle.fs_peering.proofs.Quieting.{Quiet, awaits_open, quiet_by, silent}
+use Rattle.fs_peering.proofs.Phases.{Quiet, awaits_open, quiet_by, silent}
 use Rattle.fs_peering.specs.Sender.{TookOpen}
 
 abbrev Made : Type 0

@@ -3,27 +3,16 @@ use Rattle.std.proofs.Common.{◌≡◌, ◌⊎◌, inl, inr, ℕ, ◌+◌, ◌<
 use Rattle.std.proofs.lemmas.Bool.Decides.{nat_tests}
 use Rattle.std.proofs.lemmas.Grind.{flat_map-append}
 use Rattle.std.proofs.lemmas.List.{map-append}
-use Rattle.fs_base.specs.declared.config.Config.{Config}
-use Rattle.fs_base.specs.declared.config.Peer.{Peer}
-use Rattle.fs_attrs.specs.declared.update.Update.{Update}
+use Rattle.fs_peering.proofs.Words.{Config, Expires, Fault, Last, Machine, Peer, Sending, Update, announcer, at_moment, needs_of, receiver, tick_at}
 use Rattle.fs_peering.specs.HoldTime.{Spans, most}
-use Rattle.fs_peering.proofs.Moments.{positive}
-use Rattle.fs_speaker.specs.Sending.{needs_of}
-use Rattle.fs_speaker.specs.Session.{Last}
-use Rattle.fs_speaker.specs.Side.{announcer, receiver}
-use Rattle.fs_speaker.specs.Times.{at_moment, tick_at}
-use Rattle.fs_speaker.specs.Transition.{Machine}
-use Rattle.fs_speaker.specs.declared.Sending.{Sending}
-use Rattle.fs_speaker.specs.declared.Closed.TheVariants.{Fault}
-use Rattle.fs_session.specs.declared.times.Tick.TheVariants.{Expires}
+use Rattle.fs_peering.proofs.Moments.{expires_late, positive}
 use Rattle.fs_peering.specs.Joined.{Heard, moments_of, of_first, of_second}
 use Rattle.fs_peering.specs.Round.{Pieces, moments_in, octets_in}
 use Rattle.fs_peering.specs.Hearer.{ClosesIn, ExpiresAt, HasClosed}
 use Rattle.fs_peering.specs.Pair.{LieApart, Reaches, RunsLate, told_by}
 use Rattle.fs_peering.specs.Course.{course}
 use Rattle.fs_peering.proofs.Expiring.{Expired, bounded_late, closed_late}
-use Rattle.fs_peering.proofs.Lasting.{expires_late}
-use Rattle.fs_peering.proofs.Staying.{stands}
+use Rattle.fs_peering.proofs.StaysOpen.{stands}
 
 reaches_behind : (least : ℕ) (xs ys : List ℕ) → Reaches least ys → Reaches least (xs ++ ys)
 reaches_behind least [] ys r = r

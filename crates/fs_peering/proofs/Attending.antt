@@ -2,11 +2,11 @@
 use Rattle.std.proofs.Common.{◌≡◌, ℕ, List, [], ◌∷◌, ◌++◌, ◌+◌, Bool, Option, length, length-append, arith, refl, ap, ◌∙◌}
 use Rattle.std.proofs.lemmas.List.{map-append}
 use Rattle.fs_base.specs.Sink.{Grew}
-use Rattle.fs_base.specs.Wire.{Told, WireEnds, end_at}
+use Rattle.fs_peering.proofs.Words.{Told, WireEnds, end_at}
 use Rattle.fs_base.proofs.Grew.{Grew-refl, Grew-trans}
 use Rattle.fs_peering.specs.Listening.{EndsSo, HeardOut, HearsOut, Listened, Listens}
 use Rattle.fs_peering.specs.Round.{Stance, Round}
-use Rattle.fs_peering.specs.declared.listening.Heard.{Heard}
+use Rattle.fs_peering.specs.declared.listening.Stopped.{Stopped}
 use Rattle.fs_peering.proofs.Composing.{part_none, part_then}
 use Rattle.fs_peering.proofs.WrittenInParts.{told_and, told_same}
 
@@ -38,7 +38,7 @@ listens_more s0 s1 s2 place moment count said before now later answers asked las
 }
 
 -- the last round, and why it is the last
-pub hears_out : (heard : Heard) (s0 s1 s2 : Stance) (over : Bool) (heard_so_far place limit moment count said : ℕ) (before now later : Option WireEnds)
+pub hears_out : (heard : Stopped) (s0 s1 s2 : Stance) (over : Bool) (heard_so_far place limit moment count said : ℕ) (before now later : Option WireEnds)
     (answers asked last : Option (List ℕ)) → Listens s0 s1 place before now answers asked → Told (Round s1 s2 place moment count said) now later
     → Grew asked last (moment ∷ []) → ((left : List ℕ) → (count ≡ 0 → left ≡ []) → EndsSo heard over heard_so_far limit left)
     → HearsOut heard s0 s2 over heard_so_far place limit before later answers last

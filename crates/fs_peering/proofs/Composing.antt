@@ -2,7 +2,7 @@
 use Rattle.std.proofs.Common.{◌≡◌, ℕ, List, [], ◌++◌, refl, ap, sym, ◌∙◌, append_assoc}
 use Rattle.std.proofs.lemmas.Grind.{flat_map-append}
 use Rattle.std.proofs.lemmas.List.{append-nil}
-use Rattle.fs_base.specs.Wire.{WireEnds, end_at, heard_end, other_than}
+use Rattle.fs_peering.proofs.Words.{WireEnds, end_at, heard_end, other_than}
 use Rattle.fs_peering.specs.Round.{Part, Pieces, Stance, octets_in}
 use Rattle.fs_peering.proofs.WrittenInParts.{heard_none, heard_then}
 

@@ -1,17 +1,13 @@
 -- One piece more.
-use Rattle.std.proofs.Common.{◌≡◌, ◌⊎◌, inl, inr, ℕ, suc, zero, List, [], ◌∷◌, ◌++◌, Option, Some, None, refl, ap, sym, ◌∙◌, subst, append_assoc, append-nil}
+use Rattle.std.proofs.Common.{◌≡◌, ◌⊎◌, inl, inr, ℕ, suc, zero, ◌+◌, List, [], ◌∷◌, ◌++◌, length, take, Option, Some, None, refl, ap, sym, ◌∙◌, subst, arith, append_assoc, append-nil, length-append}
+use Rattle.std.proofs.lemmas.Grind.{flat_map-append}
+use Rattle.std.proofs.lemmas.List.{map-append}
 use Rattle.std.proofs.lemmas.Option.{none-some}
-use Rattle.fs_message.specs.Write.{message_text}
-use Rattle.fs_speaker.specs.End.{first_point, ticked, ticks}
-use Rattle.fs_speaker.specs.Handed.{Handed, Point, hand, handed, point, runs_by}
-use Rattle.fs_speaker.specs.Times.{at_moment, tick_at, written_now}
-use Rattle.fs_speaker.specs.Transition.{Machine}
-use Rattle.fs_speaker.specs.declared.Closed.{Closed}
-use Rattle.fs_speaker.specs.declared.Closed.TheVariants.{Fault}
-use Rattle.fs_session.specs.declared.times.Tick.{Tick}
-use Rattle.fs_session.specs.declared.times.Tick.TheVariants.{Quiet, Keeps, Expires}
-use Rattle.fs_session.specs.declared.times.Times.{Times}
-use Rattle.fs_peering.specs.Round.{Pieces}
+use Rattle.std.proofs.Math.Seq.{take-append_seam}
+use Rattle.fs_peering.proofs.Words.{Closed, Expires, Fault, Handed, Keeps, Machine, Point, Quiet, Tick, Times, at_moment, first_point, hand, handed, message_text, point, runs_by, tick_at, ticked, ticks, written_now}
+use Rattle.fs_speaker.proofs.Handover.{closed_hand}
+use Rattle.fs_speaker.proofs.Waking.{ticked_by}
+use Rattle.fs_peering.specs.Round.{Pieces, moments_in, octets_in}
 use Rattle.fs_peering.specs.Course.{after, hears, course, course_from}
 
 -- so many KEEPALIVEs
@@ -28,6 +24,21 @@ pub course_more : (machine : Machine) (heard : Pieces) (event : ℕ × List ℕ)
     → course machine (heard ++ event ∷ []) ≡ after (course machine heard) (hears machine event (course machine heard).point)
 course_more machine heard event = more machine (handed first_point [] []) heard event
 
+-- the pieces but the last
+pub but_last : (xs ys : Pieces) (x y : ℕ × List ℕ) → xs ++ x ∷ [] ≡ ys ++ y ∷ [] → xs ≡ ys
+but_last xs ys x y e =
+    let one : length (xs ++ x ∷ []) ≡ length xs + 1 = length-append xs (x ∷ []) in
+    let other : length (ys ++ y ∷ []) ≡ length ys + 1 = length-append ys (y ∷ []) in
+    let all : length (xs ++ x ∷ []) ≡ length (ys ++ y ∷ []) = ap (λ (z : Pieces). length z) e in
+    let same : length xs ≡ length ys = omega (arith, one, other, all) in
+    sym (take-append_seam xs (x ∷ [])) ∙ ap (λ (n : ℕ). take n (xs ++ x ∷ [])) same ∙ ap (take (length ys)) e ∙ take-append_seam ys (y ∷ [])
+
+pub octets_more : (heard : Pieces) (moment : ℕ) (piece : List ℕ) → octets_in (heard ++ (moment, piece) ∷ []) ≡ octets_in heard ++ piece
+octets_more heard moment piece = flat_map-append (λ (p : ℕ × List ℕ). p.1) heard ((moment, piece) ∷ []) ∙ ap (λ (z : List ℕ). octets_in heard ++ z) (append-nil piece)
+
+pub moments_more : (heard : Pieces) (moment : ℕ) (piece : List ℕ) → moments_in (heard ++ (moment, piece) ∷ []) ≡ moments_in heard ++ moment ∷ []
+moments_more heard moment piece = map-append (λ (p : ℕ × List ℕ). p.0) heard ((moment, piece) ∷ [])
+
 -- what each piece more leaves true is true of all
 module _ (P : Pieces → Type 0) (step : (heard : Pieces) (event : ℕ × List ℕ) → P heard → P (heard ++ event ∷ [])) where
   behind : (earlier later : Pieces) → P earlier → P (earlier ++ later)
@@ -42,6 +53,8 @@ module _ (P : Pieces → Type 0) (step : (heard : Pieces) (event : ℕ × List �
 -- time; then the octets in hand are run.
 pub record Steps (machine : Machine) (event : ℕ × List ℕ) (now : Point) : Type 0 where
   pub times : Times
+  pub greatest : times.greatest ≡ (at_moment event.0 now.times).greatest
+  pub taken : times.taken ≡ now.times.taken
   pub kept : ℕ
   pub point_is : (hears machine event now).point ≡ (runs_by machine now.phase times (now.waiting ++ event.1)).point
   pub text_is : (hears machine event now).text ≡ keepalives kept ++ (runs_by machine now.phase times (now.waiting ++ event.1)).text
@@ -51,19 +64,16 @@ module _ (machine : Machine) (event : ℕ × List ℕ) (now : Point) where
   abbrev then_at : Times
   then_at = at_moment event.0 now.times
 
-  abbrev woke_by : Option Closed → Handed
-  woke_by c = elim c [ Some why ↦ handed now [] [] | None ↦ ticks (tick_at now.phase.hold then_at) now.waiting now.phase then_at ]
+  pub woke_is : (tick : Tick) → now.closed ≡ None → tick_at now.phase.hold then_at ≡ tick → ticked event.0 now ≡ ticks tick now.waiting now.phase then_at
+  woke_is tick e k = ap (ticked_by event.0 now) e ∙ ap (λ (x : Tick). ticks x now.waiting now.phase then_at) k
 
-  abbrev hand_by : Option Closed → Point → Handed
-  hand_by c p = elim c [ Some why ↦ handed p [] [] | None ↦ runs_by machine p.phase (at_moment event.0 p.times) (p.waiting ++ event.1) ]
-
-  woke_is : (tick : Tick) → now.closed ≡ None → tick_at now.phase.hold then_at ≡ tick → ticked event.0 now ≡ ticks tick now.waiting now.phase then_at
-  woke_is tick e k = ap woke_by e ∙ ap (λ (x : Tick). ticks x now.waiting now.phase then_at) k
-
-  stepped : (times : Times) (kept : ℕ) → ticked event.0 now ≡ handed (point now.waiting now.phase times None) [] (keepalives kept) → (now.phase.hold ≡ 0 → kept ≡ 0)
+  stepped : (times : Times) (kept : ℕ) → times.greatest ≡ then_at.greatest → times.taken ≡ now.times.taken
+      → ticked event.0 now ≡ handed (point now.waiting now.phase times None) [] (keepalives kept) → (now.phase.hold ≡ 0 → kept ≡ 0)
       → Steps machine event now
-  stepped times kept w untimed = record {
+  stepped times kept g t w untimed = record {
     times = at_moment event.0 times;
+    greatest = omega (arith, g);
+    taken = t;
     kept = kept;
     point_is = ap (λ (m : Handed). (hand machine event.0 m.point event.1).point) w;
     text_is = ap (λ (m : Handed). m.text ++ (hand machine event.0 m.point event.1).text) w;
@@ -80,21 +90,25 @@ module _ (machine : Machine) (event : ℕ × List ℕ) (now : Point) where
   steps e = by (tick_at now.phase.hold then_at) refl
     where
       by : (tick : Tick) → tick_at now.phase.hold then_at ≡ tick → Steps machine event now ⊎ (tick_at now.phase.hold then_at ≡ Expires)
-      by Quiet k = inl (stepped then_at 0 (woke_is Quiet e k) (λ z. refl))
-      by Keeps k = inl (stepped (written_now then_at) 1 (woke_is Keeps e k) (timed k))
+      by Quiet k = inl (stepped then_at 0 refl refl (woke_is Quiet e k) (λ z. refl))
+      by Keeps k = inl (stepped (written_now then_at) 1 refl refl (woke_is Keeps e k) (timed k))
       by Expires k = inr k
+
+  shut : (why : Closed) → (ticked event.0 now).point.closed ≡ Some why → (hears machine event now).point.closed ≡ Some why
+  shut why e = ap (λ (h : Handed). h.point.closed) (closed_hand machine event.0 (ticked event.0 now).point event.1 why e) ∙ e
+
+  -- a closed end stays as it is
+  pub stays_shut : (why : Closed) → now.closed ≡ Some why → (hears machine event now).point.closed ≡ Some why
+  stays_shut why e = shut why (ap (λ (m : Handed). m.point.closed) (ap (ticked_by event.0 now) e) ∙ e)
 
   -- an end that is open behind it was so before, and its hold time didn't expire
   pub lived : (hears machine event now).point.closed ≡ None → (now.closed ≡ None) × Steps machine event now
   lived end = by now.closed refl
     where
-      shut : (why : Closed) → (ticked event.0 now).point.closed ≡ Some why → (hears machine event now).point.closed ≡ Some why
-      shut why e = ap (λ (c : Option Closed). (hand_by c (ticked event.0 now).point).point.closed) e ∙ e
-
-      at : now.closed ≡ None → Steps machine event now ⊎ (tick_at now.phase.hold then_at ≡ Expires) → (now.closed ≡ None) × Steps machine event now
+      at : now.closed ≡ None → Steps machine event now ⊎ (tick_at now.phase.hold (at_moment event.0 now.times) ≡ Expires) → (now.closed ≡ None) × Steps machine event now
       at e (inl s) = (e, s)
       at e (inr k) = absurd (none-some (Fault 4 0) (sym end ∙ shut (Fault 4 0) (ap (λ (m : Handed). m.point.closed) (woke_is Expires e k))))
 
       by : (c : Option Closed) → now.closed ≡ c → (now.closed ≡ None) × Steps machine event now
       by None e = at e (steps e)
-      by (Some why) e = absurd (none-some why (sym end ∙ shut why (ap (λ (m : Handed). m.point.closed) (ap woke_by e) ∙ e)))
+      by (Some why) e = absurd (none-some why (sym end ∙ stays_shut why e))

@@ -3,13 +3,13 @@ use Rattle.std.proofs.Common.{◌≡◌, ℕ, ◌+◌, ◌-◌, ◌<◌, List, [
 use Rattle.std.proofs.lemmas.Grind.{flat_map-append}
 use Rattle.std.proofs.lemmas.List.{map-append}
 use Rattle.fs_base.specs.Sink.{Grew}
-use Rattle.fs_base.specs.Wire.{Told, WireEnd, WireEnds, heard_end}
+use Rattle.fs_peering.proofs.Words.{Told, WireEnd, WireEnds, heard_end}
 use Rattle.fs_base.proofs.Grew.{Grew-refl, Grew-trans}
-use Rattle.fs_peering.specs.declared.joined.Flow.{Flow}
+use Rattle.fs_peering.specs.declared.joined.InFlight.{InFlight}
 use Rattle.fs_peering.specs.declared.joined.Talk.{Talk}
 use Rattle.fs_peering.specs.declared.joined.Talk.TheVariants.{Broken, Done}
 use Rattle.fs_peering.specs.Joined.{AreJoined, Ended, Exchanged, ExchangedOut, Exchanges, Heard, Side, StopsSo, heard_by, moments_of, of_first, of_second}
-use Rattle.fs_peering.specs.Flow.{no_flow, first_heard, second_heard, second_said}
+use Rattle.fs_peering.specs.InFlight.{no_flow, first_heard, second_heard, second_said}
 use Rattle.fs_peering.specs.Round.{Pieces, Speech, Stance, Round, octets_in}
 use Rattle.fs_peering.proofs.Composing.{octets_then, same_stance}
 use Rattle.fs_peering.proofs.WrittenInParts.{told_and, told_same}
@@ -54,7 +54,7 @@ side_same : (s0 s1 : Stance) (heard heard' : Pieces) (said said' others others' 
 side_same s0 s1 heard heard' said said' others others' b n h s o side = rw (← h, ← s, ← o) side
 
 -- Both ends, with the counts of octets.
-pub record Exchanging (r r' a a' : Stance) (given : List ℕ) (flow : Flow) (before now : WireEnds) : Type 0 where
+pub record Exchanging (r r' a a' : Stance) (given : List ℕ) (flow : InFlight) (before now : WireEnds) : Type 0 where
   pub events : List Heard
   pub exchanged : Exchanged r r' a a' events before now
   pub asked : moments_of events ≡ given
@@ -116,7 +116,7 @@ read_more heard heard' moment got n count e h k =
     ∙ length-append (octets_in heard) got in
     omega (arith, h, k, whole)
 
-exchanging_first : (r r1 r2 a a1 : Stance) (given : List ℕ) (flow : Flow) (moment count said : ℕ) (b m n : WireEnds) → Exchanging r r1 a a1 given flow b m
+exchanging_first : (r r1 r2 a a1 : Stance) (given : List ℕ) (flow : InFlight) (moment count said : ℕ) (b m n : WireEnds) → Exchanging r r1 a a1 given flow b m
     → Round r1 r2 0 moment count said m n → Exchanging r r2 a a1 (given ++ moment ∷ []) (first_heard count said flow) b n
 exchanging_first r r1 r2 a a1 given flow moment count said b m n x round =
     let more = first_more x.events moment round.got in
@@ -138,7 +138,7 @@ exchanging_first r r1 r2 a a1 given flow moment count said b m n x round =
       second_read = x.second_read ∙ ap (λ (p : Pieces). length (octets_in p)) (sym more.1);
     }
 
-exchanging_second : (r r1 a a1 a2 : Stance) (given : List ℕ) (flow : Flow) (moment count said : ℕ) (b m n : WireEnds) → Exchanging r r1 a a1 given flow b m
+exchanging_second : (r r1 a a1 a2 : Stance) (given : List ℕ) (flow : InFlight) (moment count said : ℕ) (b m n : WireEnds) → Exchanging r r1 a a1 given flow b m
     → Round a1 a2 1 moment count said m n → Exchanging r r1 a a2 (given ++ moment ∷ []) (second_heard count said flow) b n
 exchanging_second r r1 a a1 a2 given flow moment count said b m n x round =
     let more = second_more x.events moment round.got in
@@ -160,7 +160,7 @@ exchanging_second r r1 a a1 a2 given flow moment count said b m n x round =
       second_read = read_more (of_second x.events) _ moment round.got flow.second_read count more.1 x.second_read round.counted;
     }
 
-exchanging_said : (r r1 a a1 a2 : Stance) (given : List ℕ) (flow : Flow) (said : ℕ) (b m n : WireEnds) → Exchanging r r1 a a1 given flow b m
+exchanging_said : (r r1 a a1 a2 : Stance) (given : List ℕ) (flow : InFlight) (said : ℕ) (b m n : WireEnds) → Exchanging r r1 a a1 given flow b m
     → Speech a1 a2 1 said m n → Exchanging r r1 a a2 given (second_said said flow) b n
 exchanging_said r r1 a a1 a2 given flow said b m n x speech = record {
   events = x.events;
@@ -180,7 +180,7 @@ exchanging_said r r1 a a1 a2 given flow said b m n x speech = record {
 }
 
 -- So where the wire tells, between joined ends; and the clock answered these moments.
-pub record Talking (r r' a a' : Stance) (flow : Flow) (before now : Option WireEnds) (answers answers' : Option (List ℕ)) : Type 0 where
+pub record Talking (r r' a a' : Stance) (flow : InFlight) (before now : Option WireEnds) (answers answers' : Option (List ℕ)) : Type 0 where
   pub given : List ℕ
   pub grew : Grew answers answers' given
   pub told : Told (λ b n. AreJoined b → Exchanging r r' a a' given flow b n) before now
@@ -192,50 +192,50 @@ talking_none r a told answers = record {
   told = told_same (λ b n. AreJoined b → Exchanging r r a a [] no_flow b n) (λ ends j. exchanging_none r a ends j) told;
 }
 
-pub talking_first : (r r1 r2 a a1 : Stance) (flow flow' : Flow) (moment count said : ℕ) (before now later : Option WireEnds) (answers asked last : Option (List ℕ))
+pub talking_first : (r r1 r2 a a1 : Stance) (flow flow' : InFlight) (moment count said : ℕ) (before now later : Option WireEnds) (answers asked last : Option (List ℕ))
     → Talking r r1 a a1 flow before now answers asked → flow' ≡ first_heard count said flow → Told (Round r1 r2 0 moment count said) now later → Grew asked last (moment ∷ [])
     → Talking r r2 a a1 flow' before later answers last
 talking_first r r1 r2 a a1 flow flow' moment count said before now later answers asked last t e round grew = record {
   given = t.given ++ moment ∷ [];
   grew = Grew-trans answers asked last t.given (moment ∷ []) t.grew grew;
-  told = subst (λ (f : Flow). Told (λ b n. AreJoined b → Exchanging r r2 a a1 (t.given ++ moment ∷ []) f b n) before later) (sym e)
+  told = subst (λ (f : InFlight). Told (λ b n. AreJoined b → Exchanging r r2 a a1 (t.given ++ moment ∷ []) f b n) before later) (sym e)
       (told_and (λ b n. AreJoined b → Exchanging r r1 a a1 t.given flow b n) (Round r1 r2 0 moment count said)
       (λ b n. AreJoined b → Exchanging r r2 a a1 (t.given ++ moment ∷ []) (first_heard count said flow) b n)
       (λ b m n x turned j. exchanging_first r r1 r2 a a1 t.given flow moment count said b m n (x j) turned) before now later t.told round);
 }
 
-pub talking_second : (r r1 a a1 a2 : Stance) (flow flow' : Flow) (moment count said : ℕ) (before now later : Option WireEnds) (answers asked last : Option (List ℕ))
+pub talking_second : (r r1 a a1 a2 : Stance) (flow flow' : InFlight) (moment count said : ℕ) (before now later : Option WireEnds) (answers asked last : Option (List ℕ))
     → Talking r r1 a a1 flow before now answers asked → flow' ≡ second_heard count said flow → Told (Round a1 a2 1 moment count said) now later → Grew asked last (moment ∷ [])
     → Talking r r1 a a2 flow' before later answers last
 talking_second r r1 a a1 a2 flow flow' moment count said before now later answers asked last t e round grew = record {
   given = t.given ++ moment ∷ [];
   grew = Grew-trans answers asked last t.given (moment ∷ []) t.grew grew;
-  told = subst (λ (f : Flow). Told (λ b n. AreJoined b → Exchanging r r1 a a2 (t.given ++ moment ∷ []) f b n) before later) (sym e)
+  told = subst (λ (f : InFlight). Told (λ b n. AreJoined b → Exchanging r r1 a a2 (t.given ++ moment ∷ []) f b n) before later) (sym e)
       (told_and (λ b n. AreJoined b → Exchanging r r1 a a1 t.given flow b n) (Round a1 a2 1 moment count said)
       (λ b n. AreJoined b → Exchanging r r1 a a2 (t.given ++ moment ∷ []) (second_heard count said flow) b n)
       (λ b m n x turned j. exchanging_second r r1 a a1 a2 t.given flow moment count said b m n (x j) turned) before now later t.told round);
 }
 
-pub talking_said : (r r1 a a1 a2 : Stance) (flow flow' : Flow) (said : ℕ) (before now later : Option WireEnds) (answers asked : Option (List ℕ))
+pub talking_said : (r r1 a a1 a2 : Stance) (flow flow' : InFlight) (said : ℕ) (before now later : Option WireEnds) (answers asked : Option (List ℕ))
     → Talking r r1 a a1 flow before now answers asked → flow' ≡ second_said said flow → Told (Speech a1 a2 1 said) now later
     → Talking r r1 a a2 flow' before later answers asked
 talking_said r r1 a a1 a2 flow flow' said before now later answers asked t e speech = record {
   given = t.given;
   grew = t.grew;
-  told = subst (λ (f : Flow). Told (λ b n. AreJoined b → Exchanging r r1 a a2 t.given f b n) before later) (sym e)
+  told = subst (λ (f : InFlight). Told (λ b n. AreJoined b → Exchanging r r1 a a2 t.given f b n) before later) (sym e)
       (told_and (λ b n. AreJoined b → Exchanging r r1 a a1 t.given flow b n) (Speech a1 a2 1 said)
       (λ b n. AreJoined b → Exchanging r r1 a a2 t.given (second_said said flow) b n)
       (λ b m n x spoke j. exchanging_said r r1 a a1 a2 t.given flow said b m n (x j) spoke) before now later t.told speech);
 }
 
 -- What the counts say of octets when no more is heard.
-abbrev pub Counts : Talk → Ended → (limit : ℕ) → Flow → Type 0
+abbrev pub Counts : Talk → Ended → (limit : ℕ) → InFlight → Type 0
 Counts talk end limit flow =
     (events : List Heard) (now : WireEnds) → flow.to_first ≡ length now.first.left → flow.to_second ≡ length now.second.left
     → flow.first_read ≡ length (octets_in (of_first events))
     → StopsSo talk end (length (octets_in (of_first events))) limit now
 
-pub talked : (talk : Talk) (r r' a a' : Stance) (end : Ended) (limit : ℕ) (flow : Flow) (before now : Option WireEnds) (answers answers' : Option (List ℕ))
+pub talked : (talk : Talk) (r r' a a' : Stance) (end : Ended) (limit : ℕ) (flow : InFlight) (before now : Option WireEnds) (answers answers' : Option (List ℕ))
     → Talking r r' a a' flow before now answers answers' → Counts talk end limit flow → Exchanges talk r r' a a' end limit before now answers answers'
 talked talk r r' a a' end limit flow before now answers answers' t stops = record {
   given = t.given;
@@ -257,7 +257,7 @@ never_arrives left left' got flying count e h some k none empty =
     let whole : length left ≡ length got + length left' = ap length (e ∙ ap (λ (octets : List ℕ). octets ++ left') (append-nil got)) ∙ length-append got left' in
     absurd (omega (arith, h, some, k, none, whole, ap length empty))
 
-pub never_first : (r r1 r2 a a1 : Stance) (end : Ended) (limit : ℕ) (flow : Flow) (moment count said : ℕ) (before now later : Option WireEnds) (answers asked last : Option (List ℕ))
+pub never_first : (r r1 r2 a a1 : Stance) (end : Ended) (limit : ℕ) (flow : InFlight) (moment count said : ℕ) (before now later : Option WireEnds) (answers asked last : Option (List ℕ))
     → Talking r r1 a a1 flow before now answers asked → Told (Round r1 r2 0 moment count said) now later → Grew asked last (moment ∷ []) → 0 < flow.to_first → count ≡ 0
     → Exchanges Broken r r2 a a1 end limit before later answers last
 never_first r r1 r2 a a1 end limit flow moment count said before now later answers asked last t round grew some none = record {
@@ -269,7 +269,7 @@ never_first r r1 r2 a a1 end limit flow moment count said before now later answe
       before now later t.told round;
 }
 
-pub never_second : (r r1 a a1 a2 : Stance) (end : Ended) (limit : ℕ) (flow : Flow) (moment count said : ℕ) (before now later : Option WireEnds) (answers asked last : Option (List ℕ))
+pub never_second : (r r1 a a1 a2 : Stance) (end : Ended) (limit : ℕ) (flow : InFlight) (moment count said : ℕ) (before now later : Option WireEnds) (answers asked last : Option (List ℕ))
     → Talking r r1 a a1 flow before now answers asked → Told (Round a1 a2 1 moment count said) now later → Grew asked last (moment ∷ []) → 0 < flow.to_second → count ≡ 0
     → Exchanges Broken r r1 a a2 end limit before later answers last
 never_second r r1 a a1 a2 end limit flow moment count said before now later answers asked last t round grew some none = record {
@@ -286,7 +286,7 @@ no_octets [] h = refl
 no_octets (octet ∷ octets) h = absurd (omega (arith, h))
 
 -- the second end said no more
-pub talked_done : (r r1 a a1 a2 : Stance) (end : Ended) (limit : ℕ) (flow : Flow) (before now later : Option WireEnds) (answers asked : Option (List ℕ))
+pub talked_done : (r r1 a a1 a2 : Stance) (end : Ended) (limit : ℕ) (flow : InFlight) (before now later : Option WireEnds) (answers asked : Option (List ℕ))
     → Talking r r1 a a1 flow before now answers asked → Told (Speech a1 a2 1 0) now later → end.over_first ≡ false → end.over_second ≡ false → flow.first_read < limit
     → end.count < limit → flow.to_first ≡ 0 → IsTrue end.begun → (end.ready ≡ false → flow.to_second ≡ 0) → (IsTrue end.ready → end.ahead ≡ 0)
     → Exchanges Done r r1 a a2 end limit before later answers asked

@@ -1,48 +1,25 @@
 -- No octets close an end with Hold Timer Expired: only the clock does.
 use Rattle.std.proofs.Common.{◌≡◌, ◌⊎◌, inl, inr, ◌==◌, ◌||◌, not, ℕ, ◌-◌, nat_lt, List, [], ◌∷◌, ◌++◌, length, drop, get_or, min, Bool, true, false, if◌then◌else◌, Option, Some, None, Result, Ok, Err, refl, ap, sym, ◌∙◌, subst, append_assoc}
+use Rattle.std.proofs.lemmas.Bool.{true≢false as never}
 use Rattle.std.proofs.lemmas.Option.{none-some, same_Some}
 use Rattle.byteorder.specs.Endian.{big_number}
-use Rattle.fs_base.specs.Parts.{parts_of}
-use Rattle.fs_base.specs.declared.config.Config.{Config}
-use Rattle.fs_base.specs.declared.config.Peer.{Peer}
+use Rattle.fs_peering.proofs.Words.{Closed, Config, Established, Expires, Fault, Handed, Last, Machine, Message, MessageFault, NoFamily, Open, Peer, Phase, Point, State, Times, Update, UpdateFault, WaitKeep, WaitOpen, at_moment, at_start, bounded_from, closed, closing_of, faulted, fields_fault, first_message, first_over, header_of, is_established, not_taken, notice_of, notified, open_of, opened, parts_of, phase, plays, receiver, rest_closes, runs, runs_by, session_by, session_from, shuts, still, taken, taken_in, tick_at, too_many, transition_at, transition_by, updates, wrong_at}
 use Rattle.fs_message.specs.Capabilities.{Field, are_parameters, capabilities_of}
 use Rattle.fs_message.specs.Header.{allows, fault, header_fault, kind_at, kind_wrong, marker_wrong, size_at, size_wrong}
-use Rattle.fs_message.specs.Notice.{notice_of}
-use Rattle.fs_message.specs.Open.{fields_fault, open_of, opened as reads_open}
-use Rattle.fs_message.specs.Stream.{Message, first_message, header_of, wrong_at}
-use Rattle.fs_message.specs.declared.fault.MessageFault.{MessageFault}
-use Rattle.fs_message.specs.declared.open_.Open.{Open}
-use Rattle.fs_attrs.specs.declared.update.Update.{Update}
-use Rattle.fs_attrs.specs.declared.update.UpdateFault.{UpdateFault}
+use Rattle.fs_message.specs.Open.{opened as reads_open}
 use Rattle.fs_attrs.specs.declared.update.UpdateFault.TheVariants.{List as ListFault, Network, Optional, Memory as NoMemory}
-use Rattle.fs_speaker.specs.Announcer.{is_established}
-use Rattle.fs_speaker.specs.Handed.{Handed, Point, hand, handed, runs, runs_by, shuts}
-use Rattle.fs_speaker.specs.Session.{Last, at_start, closed, plays, rest_closes, session_by, session_from, still}
-use Rattle.fs_speaker.specs.Side.{receiver}
-use Rattle.fs_speaker.specs.Times.{at_moment, taken_in, tick_at}
-use Rattle.fs_speaker.specs.Transition.{Machine, closing_of, faulted, not_taken, notified, opened, phase, taken, transition_at, transition_by, updates}
-use Rattle.fs_speaker.specs.declared.Closed.{Closed}
-use Rattle.fs_speaker.specs.declared.Closed.TheVariants.{Fault, NoFamily}
-use Rattle.fs_speaker.specs.declared.State.{State}
-use Rattle.fs_speaker.specs.declared.State.TheVariants.{WaitOpen, WaitKeep, Established, Closed as IsClosed}
-use Rattle.fs_session.specs.declared.times.Tick.TheVariants.{Expires}
-use Rattle.fs_session.specs.declared.times.Times.{Times}
-use Rattle.fs_session.specs.declared.transition.Phase.{Phase}
+use Rattle.fs_speaker.specs.declared.State.TheVariants.{Closed as IsClosed}
 use Rattle.fs_speaker.proofs.Handing.{ran, runs_none, runs_step}
 use Rattle.fs_speaker.proofs.SessionSteps.{going, plays_none, plays_step}
-use Rattle.fs_desk.specs.Limit.{bounded_from, first_over, too_many}
 use Rattle.fs_peering.specs.Opening.{opened_by, opens, front_message}
-use Rattle.fs_speaker.specs.End.{ticks}
 use Rattle.fs_peering.specs.Round.{Pieces}
 use Rattle.fs_peering.specs.Course.{hears, course}
 use Rattle.fs_speaker.proofs.Lasting.{last_update}
-use Rattle.fs_peering.proofs.Courses.{Steps, by_pieces, steps, course_more}
+use Rattle.fs_peering.proofs.Courses.{Steps, by_pieces, course_more, stays_shut, steps}
+use Rattle.fs_peering.proofs.OpenSteps.{Opened, going as made_open, opens_none, opens_step}
 
 abbrev Made : Type 0
 Made = Result (Phase × Option Update) Closed
-
-never : true ≡ false → ⊥
-never e = cc
 
 -- another closing than by the clock
 abbrev NotLate : Closed → Type 0
@@ -194,39 +171,17 @@ module _ (machine : Machine) where
   session_not now octets = plays_not (parts_of first_message octets).0 now (wrong_at (parts_of first_message octets).1) (wrong_not (parts_of first_message octets).1)
 
   -- up to where it is established
-  abbrev Opened : Type 0
-  Opened = Last × List ℕ
-
-  abbrev chosen : Message × List ℕ → Made → (Phase → Opened) → Opened
-  chosen found (Ok next) rest = if is_established next.0.state then (still next.0, found.1) else rest next.0
-  chosen found (Err why) rest = (closed why, [])
-
-  opens_step : (now : Phase) (found : Message × List ℕ) (later : List (Message × List ℕ)) (wrong : Option MessageFault)
-      → opens machine now (found ∷ later) wrong ≡ chosen found (transition_by machine now found.0) (λ next. opens machine next later wrong)
-  unfolding opens
-  opens_step now found later wrong = at (transition_by machine now found.0)
-    where
-      at : (made : Made)
-          → elim made [ Err why ↦ (closed why, []) | Ok next ↦ if is_established next.0.state then (still next.0, found.1) else opens machine next.0 later wrong ]
-          ≡ chosen found made (λ next. opens machine next later wrong)
-      at (Ok next) = refl
-      at (Err why) = refl
-
-  opens_none : (now : Phase) (wrong : Option MessageFault) → opens machine now [] wrong ≡ (rest_closes now wrong, [])
-  unfolding opens
-  opens_none now wrong = refl
-
   opens_not : (parts : List (Message × List ℕ)) (now : Phase) (wrong : Option MessageFault) → WrongNot wrong → LastNot (opens machine now parts wrong).0
-  opens_not [] now wrong n = subst (λ (z : Opened). LastNot z.0) (sym (opens_none now wrong)) (rest_not now wrong n)
+  opens_not [] now wrong n = subst (λ (z : Opened). LastNot z.0) (sym (opens_none machine now wrong)) (rest_not now wrong n)
   opens_not (found ∷ later) now wrong n =
-      subst (λ (z : Opened). LastNot z.0) (sym (opens_step now found later wrong))
+      subst (λ (z : Opened). LastNot z.0) (sym (opens_step machine now found later wrong))
       (by (λ next. opens_not later next wrong n) (transition_by machine now found.0) (transition_not now found.0))
     where
       up : (b : Bool) (next : Phase) → LastNot (opens machine next later wrong).0 → LastNot (if b then (still next, found.1) else opens machine next later wrong).0
       up true next rest = tt
       up false next rest = rest
 
-      by : ((next : Phase) → LastNot (opens machine next later wrong).0) → (made : Made) → MadeNot made → LastNot (chosen found made (λ next. opens machine next later wrong)).0
+      by : ((next : Phase) → LastNot (opens machine next later wrong).0) → (made : Made) → MadeNot made → LastNot (made_open made found.1 (λ next. opens machine next later wrong)).0
       by rest (Ok next) m = up (is_established next.0.state) next.0 (rest next.0)
       by rest (Err why) m = m
 
@@ -258,23 +213,8 @@ module _ (machine : Machine) where
     abbrev here : Point
     here = (course machine heard).point
 
-    abbrev hand_by : Option Closed → Point → Handed
-    hand_by c p = elim c [ Some why ↦ handed p [] [] | None ↦ runs_by machine p.phase (at_moment event.0 p.times) (p.waiting ++ event.1) ]
-
-    abbrev woke_by : Option Closed → Handed
-    woke_by c = elim c [
-      | Some why ↦ handed here [] []
-      | None ↦ ticks (tick_at here.phase.hold (at_moment event.0 here.times)) here.waiting here.phase (at_moment event.0 here.times)
-    ]
-
     there : (hears machine event here).point.closed ≡ Some (Fault 4 0)
     there = sym (ap (λ (m : Handed). m.point.closed) (course_more machine heard event)) ∙ e
-
-    shut : (why : Closed) → here.closed ≡ Some why → (hears machine event here).point.closed ≡ Some why
-    shut why k =
-        ap (λ (m : Handed). (hand machine event.0 m.point event.1).point.closed) (ap woke_by k)
-        ∙ ap (λ (c : Option Closed). (hand_by c here).point.closed) k
-        ∙ k
 
     late_more : Expired (heard ++ event ∷ [])
     late_more = by here.closed refl
@@ -287,7 +227,7 @@ module _ (machine : Machine) where
         by : (c : Option Closed) → here.closed ≡ c → Expired (heard ++ event ∷ [])
         by None k = alive k (steps machine event here k)
         by (Some why) k =
-            let x = before (k ∙ sym (shut why k) ∙ there) in
+            let x = before (k ∙ sym (stays_shut machine event here why k) ∙ there) in
             record {
               earlier = x.earlier;
               event = x.event;

@@ -1,12 +1,7 @@
 -- An announcing end that takes a piece message by message.
 use Rattle.std.proofs.Common.{◌≡◌, ℕ, List, [], drop, Option, Some, None, Result, Ok, Err, IfSome, ap, ◌∙◌, refl, subst}
-use Rattle.fs_speaker.specs.End.{HandsOver}
+use Rattle.fs_peering.proofs.Words.{Announcing, Closed, FeedsEnd, FeedsOpen, HandsOver, Machine, Memory, StaysEnded, StaysOver, closed_after, machine_in, with_line, without_update}
 use Rattle.fs_speaker.proofs.Handover.{Going, going_more, hands_all, hands_closed}
-use Rattle.fs_speaker.specs.Announcer.{Announcing, FeedsEnd, StaysEnded, machine_in, with_line, without_update}
-use Rattle.fs_speaker.specs.Line.{FeedsOpen, StaysOver, closed_after}
-use Rattle.fs_speaker.specs.Transition.{Machine}
-use Rattle.fs_speaker.specs.declared.Closed.{Closed}
-use Rattle.fs_speaker.specs.declared.Closed.TheVariants.{Memory}
 
 -- as of either end
 pub stays_over : {A B : Type 0} (old new : Announcing) (result : Result A Closed) (other : Result B Closed) (out out' : List ℕ)

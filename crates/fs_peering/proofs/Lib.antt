@@ -1,3 +1,4 @@
+mod Words
 pub mod WrittenInParts
 pub mod Composing
 pub mod Attending
@@ -7,22 +8,19 @@ pub mod OpenSteps
 pub mod Moments
 pub mod Ahead
 pub mod Courses
-pub mod Quieting
+pub mod Phases
 pub mod Feeding
-mod Telling
 pub mod Hearing
 mod Announced
 mod Receiving
 mod Listened
 mod Answering
-mod Settling
+mod Settled
 mod Counting
 mod Sending
-mod Holding
 mod Replying
-mod Meeting
-mod Lasting
-mod Staying
+mod BothEnds
+mod StaysOpen
 mod Timely
 mod Expiring
 mod Apart

@@ -4,14 +4,8 @@ use Rattle.std.specs.Set.{distinct_count}
 use Rattle.std.proofs.lemmas.Bool.Decides.{nat_tests}
 use Rattle.std.proofs.lemmas.List.Sums.{count_by-le-length, length-filter}
 use Rattle.std.proofs.lemmas.Map.Made.{distinct_count-le}
-use Rattle.fs_base.specs.declared.config.Config.{Config}
-use Rattle.fs_base.specs.declared.config.Peer.{Peer}
+use Rattle.fs_peering.proofs.Words.{Config, Peer, Sending, Sent, Update, first_over, fronts, is_over, routes_left, update_sent}
 use Rattle.fs_attrs.specs.Update.{gives_prefixes, gives_rules}
-use Rattle.fs_attrs.specs.declared.update.Update.{Update}
-use Rattle.fs_speaker.specs.Sending.{update_sent}
-use Rattle.fs_speaker.specs.declared.Sending.{Sending}
-use Rattle.fs_speaker.specs.declared.Sent.{Sent}
-use Rattle.fs_desk.specs.Limit.{first_over, fronts, is_over, routes_left}
 use Rattle.fs_desk.specs.Updates.{flow_left, is_rule, path_left, same_prefix}
 use Rattle.fs_peering.specs.Pair.{MayHold}
 

@@ -1,25 +1,16 @@
 -- How what a receiving end hears and says over a wire follows from how it stands.
 use Rattle.std.proofs.Common.{◌≡◌, ◌<◌, ◌≤◌, ℕ, List, [], Bool, true, false, Option, Some, None, refl, ap, sym, ◌∙◌, subst, if◌then◌else◌}
-use Rattle.fs_base.specs.Config.{peer_of}
-use Rattle.fs_base.specs.Wire.{WireEnds}
-use Rattle.fs_base.specs.declared.config.Config.{Config}
-use Rattle.fs_base.specs.declared.config.Peer.{Peer}
-use Rattle.fs_speaker.specs.Announcer.{is_established}
-use Rattle.fs_speaker.specs.Session.{Last, closed, still}
+use Rattle.fs_peering.proofs.Words.{Closed, Config, Desked, Down, Ended, Last, Peer, Phase, WireEnds, bounded_session, closed, is_established, peer_of, standing_at_desk, still}
 use Rattle.fs_speaker.specs.State.{standing_at}
-use Rattle.fs_speaker.specs.declared.Closed.{Closed}
 use Rattle.fs_speaker.specs.declared.Standing.{Standing}
-use Rattle.fs_speaker.specs.declared.Standing.TheVariants.{Down, Live, Ended}
-use Rattle.fs_session.specs.declared.transition.Phase.{Phase}
-use Rattle.fs_desk.specs.Desk.{Desked, standing_at_desk}
-use Rattle.fs_desk.specs.Limit.{bounded_session}
+use Rattle.fs_speaker.specs.declared.Standing.TheVariants.{Live}
 use Rattle.fs_desk.proofs.Standing.{desk_stands}
 use Rattle.fs_peering.specs.declared.tell.Ending.{Ending}
 use Rattle.fs_peering.specs.declared.tell.Ending.TheVariants.{Done, Ended as EndedEarly}
 use Rattle.fs_peering.specs.Listening.{EndsSo as StopsSo, HeardOut, HearsOut}
 use Rattle.fs_peering.specs.Round.{Pieces, Stance, octets_in}
-use Rattle.fs_peering.specs.declared.listening.Heard.{Heard}
-use Rattle.fs_peering.specs.declared.listening.Heard.TheVariants.{All, Over, AtLimit as MetIt}
+use Rattle.fs_peering.specs.declared.listening.Stopped.{Stopped}
+use Rattle.fs_peering.specs.declared.listening.Stopped.TheVariants.{All, Over, AtLimit as MetIt}
 use Rattle.fs_peering.proofs.WrittenInParts.{told_as}
 use Rattle.fs_peering.specs.Hearer.{HasClosed, IsHearing, Receives, bare, is_ended, tape_of}
 use Rattle.fs_peering.specs.Listen.{EndsSo, IsReceiving, Listens, ListensOver, ListensSo, MeetsLimit, is_settled, EndsHearing}
@@ -80,7 +71,7 @@ module _ (first last : Desked) (peer peer' first_count count limit : ℕ) (same 
   config_is : last.config ≡ first.config
   config_is = ap (λ (d : Desked). d.config) own
 
-  listens_so : (ending : Ending) (heard : Heard) (over : Bool) (hears : HearsOut heard s0 s1 over count 0 limit t0 t1 answers answers')
+  listens_so : (ending : Ending) (heard : Stopped) (over : Bool) (hears : HearsOut heard s0 s1 over count 0 limit t0 t1 answers answers')
       → ((pieces : Pieces) (said left : List ℕ) (r : Receives last peer count pieces said) → StopsSo heard over count limit left → ListensSo ending last peer r.whose limit pieces said left)
       → ListensOver ending first.config last peer limit t0 t1 answers answers'
   listens_so ending heard over hears ends = record {
@@ -105,7 +96,7 @@ module _ (first last : Desked) (peer peer' first_count count limit : ℕ) (same 
             ends = ends l.listened.heard l.listened.said b.first.left r l.ends;
           }
 
-  pub listens_as : (heard : Heard) (ending : Ending) (over : Bool) → HearsOut heard s0 s1 over count 0 limit t0 t1 answers answers' → over ≡ is_ended (standing_at_desk last peer)
+  pub listens_as : (heard : Stopped) (ending : Ending) (over : Bool) → HearsOut heard s0 s1 over count 0 limit t0 t1 answers answers' → over ≡ is_ended (standing_at_desk last peer)
       → EndsHearing heard (standing_at_desk last peer) ending → ListensOver ending first.config last peer limit t0 t1 answers answers'
   listens_as heard ending over hears o is = listens_so ending heard over hears (λ pieces said left r stops. by heard is pieces said left r stops)
     where
@@ -114,7 +105,7 @@ module _ (first last : Desked) (peer peer' first_count count limit : ℕ) (same 
       all pieces said left r e true s = ends_so last peer count limit pieces said left r true s (sym o ∙ e.0) e.1.0 e.1.1
       all pieces said left r e false s = ends_so last peer count limit pieces said left r false s (sym o ∙ e.0) e.1.0 e.1.1
 
-      by : (heard : Heard) → EndsHearing heard (standing_at_desk last peer) ending → (pieces : Pieces) (said left : List ℕ) (r : Receives last peer count pieces said)
+      by : (heard : Stopped) → EndsHearing heard (standing_at_desk last peer) ending → (pieces : Pieces) (said left : List ℕ) (r : Receives last peer count pieces said)
           → StopsSo heard over count limit left → ListensSo ending last peer r.whose limit pieces said left
       by Over is pieces said left r e =
           let found = ended_there (standing_at_desk last peer) (sym o ∙ e) in

@@ -1,17 +1,8 @@
 -- One step and all octets up to the message that establishes.
 use Rattle.std.proofs.Common.{◌≡◌, ◌<◌, ℕ, List, [], ◌∷◌, ◌++◌, length, if◌then◌else◌, Option, Some, None, Ok, Err, refl, ap, sym, ◌∙◌, subst, option_map, inl, inr}
-use Rattle.fs_base.specs.Parts.{Shrinks, parts_of}
+use Rattle.fs_peering.proofs.Words.{Closed, Last, Machine, Message, MessageFault, Phase, Shrinks, Update, closed, first_message, is_established, parts_of, rest_closes, step_by, still, stops, takes, transition_by, waits, wrong_at}
 use Rattle.fs_base.proofs.Parts.{parts_end, parts_step}
-use Rattle.fs_message.specs.declared.fault.MessageFault.{MessageFault}
-use Rattle.fs_message.specs.Stream.{Message, first_message, wrong_at}
 use Rattle.fs_message.proofs.StreamLaws.{message_shrinks, message_stable, fault_stays}
-use Rattle.fs_attrs.specs.declared.update.Update.{Update}
-use Rattle.fs_speaker.specs.declared.Closed.{Closed}
-use Rattle.fs_speaker.specs.Announcer.{is_established}
-use Rattle.fs_speaker.specs.Line.{waits, takes, stops, step_by}
-use Rattle.fs_speaker.specs.Session.{Last, closed, rest_closes, still}
-use Rattle.fs_speaker.specs.Transition.{Machine, transition_by}
-use Rattle.fs_session.specs.declared.transition.Phase.{Phase}
 use Rattle.fs_speaker.proofs.ReplySteps.{Shows, told, wrong_first}
 use Rattle.fs_speaker.proofs.SessionSteps.{Transition}
 use Rattle.fs_peering.specs.Opening.{front_message, opened_by, opens}
@@ -26,7 +17,7 @@ abbrev pub going : Transition → List ℕ → (Phase → Opened) → Opened
 going (Ok next) behind rest = chosen next.0 behind rest
 going (Err why) behind rest = (closed why, [])
 
-opens_step : (machine : Machine) (now : Phase) (found : Message × List ℕ) (later : List (Message × List ℕ)) (wrong : Option MessageFault)
+pub opens_step : (machine : Machine) (now : Phase) (found : Message × List ℕ) (later : List (Message × List ℕ)) (wrong : Option MessageFault)
     → opens machine now (found ∷ later) wrong ≡ going (transition_by machine now found.0) found.1 (λ next. opens machine next later wrong)
 unfolding opens
 opens_step machine now found later wrong = at (transition_by machine now found.0)
@@ -37,7 +28,7 @@ opens_step machine now found later wrong = at (transition_by machine now found.0
     at (Ok next) = refl
     at (Err why) = refl
 
-opens_none : (machine : Machine) (now : Phase) (wrong : Option MessageFault) → opens machine now [] wrong ≡ (rest_closes now wrong, [])
+pub opens_none : (machine : Machine) (now : Phase) (wrong : Option MessageFault) → opens machine now [] wrong ≡ (rest_closes now wrong, [])
 unfolding opens
 opens_none machine now wrong = refl
 

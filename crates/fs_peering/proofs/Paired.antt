@@ -1,95 +1,55 @@
 -- How what both ends come to over a wire follows from how they stand.
-use Rattle.std.proofs.Common.{◌≡◌, ◌⊎◌, inl, inr, ◌≤◌, ℕ, ◌+◌, ◌-◌, ◌||◌, List, [], ◌∷◌, ◌++◌, length, take, map, Bool, true, false, if◌then◌else◌, Option, Some, None, refl, ap, sym, ◌∙◌, subst, arith, append-nil, length-append, ◌<◌}
+use Rattle.std.proofs.Common.{◌≡◌, ◌⊎◌, inl, inr, ◌≤◌, ℕ, ◌+◌, ◌-◌, List, [], ◌∷◌, ◌++◌, length, take, map, Bool, true, false, if◌then◌else◌, Option, Some, None, refl, ap, sym, ◌∙◌, subst, arith, append-nil, length-append, ◌<◌}
+use Rattle.std.proofs.lemmas.Bool.{true≢false as never}
 use Rattle.std.specs.Option.{is_some}
 use Rattle.std.proofs.lemmas.Option.{none-some}
-use Rattle.fs_base.specs.Config.{peer_of}
-use Rattle.fs_base.specs.Wire.{WireEnds}
-use Rattle.fs_base.specs.declared.config.Config.{Config}
-use Rattle.fs_base.specs.declared.config.Peer.{Peer}
-use Rattle.fs_attrs.specs.declared.update.Update.{Update}
-use Rattle.fs_speaker.specs.Announcer.{Announcing, is_established, machine_in, open_sent}
-use Rattle.fs_speaker.specs.Line.{Lined}
-use Rattle.fs_speaker.specs.Sending.{needs_of, text_sent, update_sent}
-use Rattle.fs_speaker.specs.Session.{Last, at_start, closed, session_from, still}
-use Rattle.fs_speaker.specs.Side.{announcer, receiver, reply_to}
-use Rattle.fs_speaker.specs.Transition.{Machine, phase}
-use Rattle.fs_speaker.specs.declared.Sending.{Sending}
-use Rattle.fs_speaker.specs.declared.Sent.{Sent}
-use Rattle.fs_speaker.specs.declared.Closed.{Closed}
-use Rattle.fs_speaker.specs.declared.Closed.TheVariants.{Fault}
-use Rattle.fs_speaker.specs.declared.Standing.TheVariants.{Ended}
-use Rattle.fs_speaker.specs.declared.State.{State}
-use Rattle.fs_speaker.specs.declared.State.TheVariants.{WaitOpen, WaitKeep, Established, Closed as IsClosed}
-use Rattle.fs_session.specs.declared.transition.Phase.{Phase}
-use Rattle.fs_message.specs.Stream.{first_message}
-use Rattle.fs_desk.specs.Desk.{Desked, standing_at_desk}
-use Rattle.fs_desk.specs.Limit.{bounded, bounded_from, bounded_session, first_over, too_many}
-use Rattle.fs_peering.specs.Teller.{ahead_of, before_all, is_settled, opening_of}
+use Rattle.fs_peering.proofs.Words.{Announcing, CanArrive, Closed, Config, Desked, Ended, Established, Fault, IsAt, Last, Machine, Peer, Phase, Sending, Sent, State, Update, WaitKeep, WaitOpen, WireEnds, announcer, at_start, bounded, bounded_from, bounded_session, closed, first_message, first_over, is_established, machine_in, needs_of, open_sent, peer_of, phase, receiver, reply_to, session_from, standing_at_desk, still, text_sent, too_many, update_sent}
+use Rattle.fs_speaker.specs.declared.State.TheVariants.{Closed as IsClosed}
+use Rattle.fs_peering.specs.Teller.{ahead_of, before_all, is_over, is_settled, opening_of}
 use Rattle.fs_peering.proofs.Courses.{keepalives}
-use Rattle.fs_peering.specs.Tell.{EndsBefore, MetLimit, begins_with}
+use Rattle.fs_peering.specs.Tell.{MetLimit, begins_with}
 use Rattle.fs_peering.specs.declared.tell.Ending.{Ending}
-use Rattle.fs_peering.specs.declared.tell.Ending.TheVariants.{Done, Closed as WasClosed, Ended as EndedEarly, AtLimit}
-use Rattle.fs_peering.specs.Joined.{AreJoined, Ended as EndedSo, Exchanges, ExchangedOut, Heard, SaidAll, StopsSo, ended, moments_of, of_first, of_second}
+use Rattle.fs_peering.specs.declared.tell.Ending.TheVariants.{Done, AtLimit, Closed as WasClosed, Ended as EndedEarly}
+use Rattle.fs_peering.specs.Joined.{AreJoined, Exchanges, ExchangedOut, Heard, SaidAll, StopsSo, ended, moments_of, of_first, of_second, Ended as EndedSo}
 use Rattle.fs_peering.specs.Round.{Pieces, Stance, octets_in}
 use Rattle.fs_peering.specs.declared.joined.Talk.{Talk}
-use Rattle.fs_peering.specs.declared.joined.Talk.TheVariants.{Done as AllSaid, FirstOver, SecondOver, AtLimit as MetIt, Broken}
+use Rattle.fs_peering.specs.declared.joined.Talk.TheVariants.{FirstOver, SecondOver, Broken, AtLimit as MetIt, Done as AllSaid}
 use Rattle.fs_peering.proofs.WrittenInParts.{told_as}
 use Rattle.fs_peering.specs.Hearer.{HasClosed, Receives, bare, is_ended, course_of}
 use Rattle.fs_peering.specs.Listen.{IsReceiving}
-use Rattle.fs_speaker.specs.JointLaws.{CanArrive}
 use Rattle.fs_peering.specs.Pair.{Arrives, ComesUp, EndsEarly, IsUnhindered, Pairs, PairsOver, PairsSo, RunsLate, SaysFront, told_by, EndsTalk}
-use Rattle.fs_peering.specs.Sender.{Began, Speaks, SpeaksUpTo, TookOpen, rules_in, text_in, without_rules, woven}
+use Rattle.fs_peering.specs.Sender.{Began, SaysUpTo, Speaks, TookOpen, rules_in, text_in, without_rules, woven}
 use Rattle.fs_peering.specs.Course.{course}
-use Rattle.fs_speaker.specs.End.{IsAt}
 use Rattle.fs_peering.proofs.Apart.{late_first, late_second}
-use Rattle.fs_peering.proofs.Counting.{Opens, opens_so}
+use Rattle.fs_peering.proofs.Counting.{Opens, ends_by, met_by, opens_so}
+use Rattle.fs_peering.proofs.Hearing.{unsettled}
 use Rattle.fs_peering.proofs.Listened.{receiving}
-use Rattle.fs_peering.proofs.Meeting.{all_arrive, answers, meets, open_first, own_message}
+use Rattle.fs_peering.proofs.BothEnds.{all_arrive, answers, meets, open_first, own_message}
 use Rattle.fs_peering.proofs.Receiving.{closed_of, ended_there, hearing_of}
 use Rattle.fs_peering.proofs.Sending.{Past, past_of}
 use Rattle.fs_peering.proofs.Replying.{replies}
-use Rattle.fs_peering.proofs.Staying.{teller_stays, teller_up}
+use Rattle.fs_peering.proofs.StaysOpen.{teller_stays, teller_up}
 use Rattle.fs_peering.proofs.Timely.{timely_first, timely_second}
 use Rattle.fs_peering.proofs.Unhindered.{Fronts, never_first, unread}
-use Rattle.fs_peering.proofs.Ahead.{not_some}
 use Rattle.std.proofs.lemmas.List.{take_all}
-use Rattle.fs_peering.proofs.Settling.{open_settled}
-use Rattle.fs_peering.proofs.Quieting.{unawaited}
+use Rattle.fs_base.proofs.Options.{some_there, none_there}
+use Rattle.fs_peering.proofs.Settled.{open_settled}
+use Rattle.fs_peering.proofs.Phases.{unawaited}
 
--- before its first octet
-speaks_none : (config : Config) (whose : Peer) (sending : Sending) → Speaks (begins_with config whose sending) false [] []
-speaks_none config whose sending = record {
-  started_is = refl;
-  at = record { closed_is = refl; open_is = λ e. record { waiting_is = refl; phase_is = refl; times_is = refl; waits_is = refl } };
-  four = false;
-  parts = [];
-  rules_are = refl;
-  ending = [];
-  said_is = refl;
-  kept = refl;
-  lived = λ earlier last e. absurd (nothing earlier last e);
-  unended = λ e. refl;
-  began = λ e. (refl, (refl, (refl, refl)));
-  unstarted = λ e. (refl, refl);
-}
-  where
-    nothing : (earlier : Pieces) (last : ℕ × List ℕ) → [] ≡ earlier ++ last ∷ [] → ⊥
-    nothing [] last e = cc
-    nothing (event ∷ earlier) last e = cc
-
-pub speaks_start : (end : Announcing) (started : Bool) (count : ℕ) (config : Config) (whose : Peer) (sending : Sending) → end ≡ begins_with config whose sending → started ≡ false → count ≡ 0
-    → SpeaksUpTo end started count [] []
-speaks_start end started count config whose sending e s k =
-    subst (λ (n : Announcing). SpeaksUpTo n started count [] []) (sym e)
-    (subst (λ (b : Bool). SpeaksUpTo (begins_with config whose sending) b count [] []) (sym s)
-    (subst (λ (m : ℕ). SpeaksUpTo (begins_with config whose sending) false m [] []) (sym k) (speaks_none config whose sending, λ f. (λ more. refl, refl))))
-
-some_there : {A : Type 0} (o : Option A) → is_some o ≡ true → (a : A) × (o ≡ Some a)
-some_there None e = absurd cc
-some_there (Some a) e = (a, refl)
-
-never : true ≡ false → ⊥
-never e = cc
+-- what both ends come to of which the announcing one hears on
+pub pairs_on : (first last : Desked) (peer peer' first_count count limit : ℕ) (on on' : Bool) (a b : Announcing) (begun started : Bool) (heard_before heard_up : ℕ)
+    (t0 t1 : Option WireEnds) (moments moments' : Option (List ℕ)) (talk : Talk) → on ≡ true → on' ≡ true
+    → Exchanges talk (Receives first peer first_count) (Receives last peer' count) (SaysUpTo on a begun heard_before) (SaysUpTo on' b started heard_up)
+    (ended (is_ended (standing_at_desk last peer')) (is_over on' b.line) (is_settled b.line) started heard_up (ahead_of b started)) limit t0 t1 moments moments'
+    → Exchanges talk (Receives first peer first_count) (Receives last peer' count) (SaysUpTo true a begun heard_before) (SaysUpTo true b started heard_up)
+    (ended (is_ended (standing_at_desk last peer')) (is_some b.line.closed) (is_settled b.line) started heard_up (ahead_of b started)) limit t0 t1 moments moments'
+pairs_on first last peer peer' first_count count limit on on' a b begun started heard_before heard_up t0 t1 moments moments' talk e e' x =
+    subst
+    (λ (o : Bool). Exchanges talk (Receives first peer first_count) (Receives last peer' count) (SaysUpTo true a begun heard_before) (SaysUpTo o b started heard_up)
+    (ended (is_ended (standing_at_desk last peer')) (is_over o b.line) (is_settled b.line) started heard_up (ahead_of b started)) limit t0 t1 moments moments') e'
+    (subst
+    (λ (o : Bool). Exchanges talk (Receives first peer first_count) (Receives last peer' count) (SaysUpTo o a begun heard_before) (SaysUpTo on' b started heard_up)
+    (ended (is_ended (standing_at_desk last peer')) (is_over on' b.line) (is_settled b.line) started heard_up (ahead_of b started)) limit t0 t1 moments moments') e x)
 
 -- a session that the limit doesn't close is the one without
 bounded_still : (most : Option ℕ) (session : List Update × Last) (found : Phase) → (bounded most session).1 ≡ still found → bounded most session ≡ session
@@ -104,13 +64,6 @@ bounded_still most session found e = by (first_over most session.0) refl
       where
         no : closed too_many ≡ still found → ⊥
         no h = cc
-
-unsettled : (line : Lined) → is_settled line ≡ false → line.closed ≡ None
-unsettled line s = by line.closed refl
-  where
-    by : (c : Option Closed) → line.closed ≡ c → line.closed ≡ None
-    by None e = e
-    by (Some why) e = absurd (never (sym (ap (λ (c : Option Closed). is_some c || is_established (elim c [ Some w ↦ IsClosed | None ↦ line.phase.state ])) e) ∙ s))
 
 abbrev unsaid : Bool → ℕ
 unsaid started = if started then 0 else 1
@@ -127,7 +80,7 @@ reaches_never heard left said limit e l m =
 module _ (first last : Desked) (peer peer' first_count count limit : ℕ) (same : peer' ≡ peer) (own : bare last ≡ bare first) (start : Receives first peer first_count [] [])
     (a b : Announcing) (begun started : Bool) (heard_before heard_up : ℕ) (keeps : before_all b ≡ before_all a)
     (config : Config) (whose : Peer) (sending : Sending) (config_first : first.config ≡ config) (whose_is : peer_of peer config.peers ≡ Some whose)
-    (begins : SpeaksUpTo a begun heard_before [] []) (a_is : a ≡ begins_with config whose sending)
+    (begins : SaysUpTo true a begun heard_before [] []) (a_is : a ≡ begins_with config whose sending)
     (t0 t1 : Option WireEnds) (moments moments' : Option (List ℕ)) where
   abbrev s0 : Stance
   s0 = λ heard said. Receives first peer first_count heard said
@@ -136,10 +89,10 @@ module _ (first last : Desked) (peer peer' first_count count limit : ℕ) (same 
   s1 = λ heard said. Receives last peer' count heard said
 
   abbrev a0 : Stance
-  a0 = λ heard said. SpeaksUpTo a begun heard_before heard said
+  a0 = λ heard said. SaysUpTo true a begun heard_before heard said
 
   abbrev a1 : Stance
-  a1 = λ heard said. SpeaksUpTo b started heard_up heard said
+  a1 = λ heard said. SaysUpTo true b started heard_up heard said
 
   config_is : last.config ≡ config
   config_is = ap (λ (d : Desked). d.config) own ∙ config_first
@@ -194,7 +147,7 @@ module _ (first last : Desked) (peer peer' first_count count limit : ℕ) (same 
   -- what is known then
   record Known (events : List Heard) (announced replied : List ℕ) (now : WireEnds) : Type 0 where
     hears : Receives last peer count (of_first events) replied
-    speaks : SpeaksUpTo b started heard_up (of_second events) announced
+    speaks : SaysUpTo true b started heard_up (of_second events) announced
     read_first : announced ≡ octets_in (of_first events) ++ now.first.left
     read_second : replied ≡ octets_in (of_second events) ++ now.second.left
 
@@ -288,14 +241,11 @@ module _ (first last : Desked) (peer peer' first_count count limit : ℕ) (same 
       at_second : IsAt (machine_in b) b.line (course (machine_in b) (of_second events)).point
       at_second = s.at.open_is (sym s.at.closed_is ∙ open_b)
 
-      opens_b : Opens (machine_in b) b.line heard_up (octets_in (of_second events))
-      opens_b = opens_so (machine_in b) b.line (course (machine_in b) (of_second events)).point heard_up (octets_in (of_second events)) open_b at_second k.speaks.1
+      opens_b : Opens true (machine_in b) b.line heard_up (octets_in (of_second events))
+      opens_b = opens_so true (machine_in b) b.line (course (machine_in b) (of_second events)).point heard_up (octets_in (of_second events)) open_b (λ down. at_second) k.speaks.1
 
-      opens : Opens (announcer config (needs_of sending.rules)) b.line heard_up (octets_in (of_second events))
-      opens = subst (λ (m : Machine). Opens m b.line heard_up (octets_in (of_second events))) machine_is opens_b
-
-      met_second : limit ≤ heard_up → MetLimit (announcer config (needs_of sending.rules)) limit (octets_in (of_second events))
-      met_second l = let c = opens.counted in record { phase = opens.phase; behind = opens.behind; found = opens.found; met = omega (arith, l, c) }
+      opens : Opens true (announcer config (needs_of sending.rules)) b.line heard_up (octets_in (of_second events))
+      opens = subst (λ (m : Machine). Opens true m b.line heard_up (octets_in (of_second events))) machine_is opens_b
 
       comes_up : is_settled b.line ≡ true → heard_up < limit → ComesUp config sending limit (of_second events)
       comes_up up l =
@@ -309,23 +259,9 @@ module _ (first last : Desked) (peer peer' first_count count limit : ℕ) (same 
             within = omega (arith, l, c);
           }
 
-      ends_before : is_settled b.line ≡ false → heard_up < limit → now.second.left ≡ [] → EndsBefore (announcer config (needs_of sending.rules)) limit (octets_in (of_second events)) now.second.left
-      ends_before e l other =
-          let down : is_established b.line.phase.state ≡ false = sym (open_settled b.line open_b) ∙ e in
-          let none : opens.behind ≡ [] = opens.none down in
-          let c = opens.counted in
-          let zero : length opens.behind ≡ 0 = ap length none in
-          record {
-            phase = opens.phase;
-            found = opens.found ∙ ap (λ (z : List ℕ). (still opens.phase, z)) none;
-            down = opens.up ∙ down;
-            within = omega (arith, l, c, zero);
-            none = other;
-          }
-
     down_second : is_settled b.line ≡ false → is_established (told_by config sending (of_second events)).point.phase.state ≡ false
     down_second e =
-        let open_b : b.line.closed ≡ None = unsettled b.line e in
+        let open_b : b.line.closed ≡ None = (unsettled b.line e).0 in
         sym (ap (λ (m : Machine). is_established (course m (of_second events)).point.phase.state) machine_is)
         ∙ sym (ap (λ (p : Phase). is_established p.state) (at_second open_b).phase_is)
         ∙ sym (open_settled b.line open_b) ∙ e
@@ -333,14 +269,14 @@ module _ (first last : Desked) (peer peer' first_count count limit : ℕ) (same 
     ends_early : is_ended (standing_at_desk last peer) ≡ false → is_settled b.line ≡ false → length (octets_in (of_first events)) < limit → heard_up < limit → now.first.left ≡ [] → now.second.left ≡ []
         → EndsEarly config whose sending last peer limit (of_first events) (of_second events) replied now
     ends_early alive e few few_up none other =
-        let open_b : b.line.closed ≡ None = unsettled b.line e in
+        let open_b : b.line.closed ≡ None = (unsettled b.line e).0 in
         record {
           receives = receives_so alive;
           within = few;
           none_first = none;
           alive = alive_second open_b;
           down = down_second e;
-          before = ends_before open_b e few_up other;
+          before = ends_by (opens open_b) limit now.second.left (sym (open_settled b.line open_b) ∙ e) few_up other;
         }
 
     all_heard : now.first.left ≡ [] → announced ≡ octets_in (of_first events)
@@ -537,7 +473,7 @@ module _ (first last : Desked) (peer peer' first_count count limit : ℕ) (same 
       by events announced replied now k st true up =
           let is : ending ≡ Done = e ∙ ap (λ (z : Bool). if z then Done else EndedEarly) up in (
             subst (λ (x : Ending). PairsSo x config whose sending last peer limit events announced replied now) (sym is)
-                (arrives events announced replied now k (at_peer ∙ st.open_first) (not_some b.line.closed st.open_second) up st.heard_first (st.all up) st.within_first st.within_second),
+                (arrives events announced replied now k (at_peer ∙ st.open_first) (none_there b.line.closed st.open_second) up st.heard_first (st.all up) st.within_first st.within_second),
             λ u. is,
           )
       by events announced replied now k st false down = (
@@ -554,7 +490,7 @@ module _ (first last : Desked) (peer peer' first_count count limit : ℕ) (same 
       let found = ended_there (standing_at_desk last peer) (at_peer ∙ st.0) in (
         subst (λ (x : Ending). PairsSo x config whose sending last peer limit events announced replied now) (sym (is found.0 found.1))
             (inl (closes_first events announced replied now k found.0 found.1)),
-        λ u. absurd (first_never events announced replied now k u (not_some b.line.closed st.1) found.0 found.1),
+        λ u. absurd (first_never events announced replied now k u (none_there b.line.closed st.1) found.0 found.1),
       ))
 
   second_so : (ending : Ending) → Exchanges SecondOver s0 s1 a0 a1 end limit t0 t1 moments moments'
@@ -570,7 +506,7 @@ module _ (first last : Desked) (peer peer' first_count count limit : ℕ) (same 
 
   limit_so : Exchanges MetIt s0 s1 a0 a1 end limit t0 t1 moments moments' → PairsOver AtLimit config whose sending last peer limit t0 t1 moments moments'
   limit_so x = pairs_so AtLimit MetIt x (λ events announced replied now k st.
-      let open_b : b.line.closed ≡ None = not_some b.line.closed st.1.0 in
+      let open_b : b.line.closed ≡ None = none_there b.line.closed st.1.0 in
       let met = by events announced replied now k open_b st.1.1 in (
         record { receives = receives_so events announced replied now k (at_peer ∙ st.0); alive = alive_second events announced replied now k open_b; met = met },
         λ u. absurd (limit_never events announced replied now k u met),
@@ -580,7 +516,7 @@ module _ (first last : Desked) (peer peer' first_count count limit : ℕ) (same 
           → (limit ≤ length (octets_in (of_first events))) ⊎ (limit ≤ heard_up)
           → (limit ≤ length (octets_in (of_first events))) ⊎ MetLimit (announcer config (needs_of sending.rules)) limit (octets_in (of_second events))
       by events announced replied now k open_b (inl l) = inl l
-      by events announced replied now k open_b (inr l) = inr (met_second events announced replied now k open_b l)
+      by events announced replied now k open_b (inr l) = inr (met_by (opens events announced replied now k open_b) limit l)
 
   pub pairs_as : (talk : Talk) (ending : Ending) → Exchanges talk s0 s1 a0 a1 end limit t0 t1 moments moments' → EndsTalk talk (standing_at_desk last peer) b.line ending
       → PairsOver ending config whose sending last peer limit t0 t1 moments moments'

@@ -1,44 +1,22 @@
 -- A receiving end that hears a piece at a moment.
 use Rattle.std.proofs.Common.{◌≡◌, ◌==◌, ◌⊎◌, inl, inr, ℕ, ◌+◌, max, List, [], ◌∷◌, ◌++◌, length, Bool, true, false, if◌then◌else◌, Option, Some, None, Result, Ok, Err, OnOk, refl, ap, sym, ◌∙◌, subst, arith, append_assoc, append-nil, length-append}
+use Rattle.std.proofs.lemmas.Bool.{true≢false as never}
 use Rattle.std.specs.Prelude.{IsSome, option_map}
-use Rattle.std.proofs.lemmas.Bool.Decides.{nat_tests}
-use Rattle.std.proofs.lemmas.Grind.{flat_map-append}
-use Rattle.fs_base.specs.Config.{peer_of}
-use Rattle.fs_base.specs.declared.config.Config.{Config}
-use Rattle.fs_base.specs.declared.config.Peer.{Peer}
-use Rattle.fs_message.specs.Deframer.{pending}
-use Rattle.fs_speaker.specs.End.{ticked, ticks}
-use Rattle.fs_speaker.specs.Handed.{Handed, Point, handed, hand, point, runs_by}
-use Rattle.fs_speaker.specs.Line.{fresh}
-use Rattle.fs_speaker.specs.Session.{Live, begins, live}
-use Rattle.fs_speaker.specs.Side.{notice_text, receiver}
+use Rattle.fs_base.proofs.NumberTests.{eq_itself}
+use Rattle.fs_peering.proofs.Words.{Closed, Config, Desked, Down, Ended, Expires, Fault, Handed, HandsPeer, Keeps, Machine, Peer, PeerIs, Played, Plays, Point, Quiet, Replied, RepliesBehind, StaysPlayed, Tick, TicksPeer, Times, at_moment, begins, fresh, hand, handed, live, notice_text, peer_of, pending, point, receiver, runs_by, session_at, standing_at_desk, tick_at, ticked, ticks, times, written_now}
+use Rattle.fs_speaker.proofs.Waking.{ticked_by}
+use Rattle.fs_speaker.specs.Session.{Live}
 use Rattle.fs_speaker.specs.State.{standing_by}
-use Rattle.fs_speaker.specs.Times.{at_moment, tick_at, times, written_now}
-use Rattle.fs_speaker.specs.Transition.{Machine}
-use Rattle.fs_speaker.specs.declared.Closed.{Closed}
-use Rattle.fs_speaker.specs.declared.Closed.TheVariants.{Fault}
 use Rattle.fs_speaker.specs.declared.Standing.{Standing}
-use Rattle.fs_speaker.specs.declared.Standing.TheVariants.{Down, Live as LiveIn, Ended}
-use Rattle.fs_session.specs.declared.times.Tick.{Tick}
-use Rattle.fs_session.specs.declared.times.Tick.TheVariants.{Quiet, Keeps, Expires}
-use Rattle.fs_session.specs.declared.times.Times.{Times}
+use Rattle.fs_speaker.specs.declared.Standing.TheVariants.{Live as LiveIn}
 use Rattle.fs_tape.specs.Tape.{Item, came_up, received}
-use Rattle.fs_desk.specs.Desk.{Desked, HandsPeer, PeerIs, Played, Plays, RepliesBehind, Replied, StaysPlayed, TicksPeer, session_at, standing_at_desk}
 use Rattle.fs_desk.specs.HoldTimer.{TickMakes, TicksIn, TicksSession, with_times}
 use Rattle.fs_desk.specs.Life.{life}
 use Rattle.fs_desk.specs.Receive.{IsFed, IsUp, point_of}
 use Rattle.fs_peering.specs.Round.{Hears, Pieces, octets_in}
 use Rattle.fs_peering.specs.Hearer.{HasClosed, IsHearing, Receives, StandsBy, is_ended, tape_of, course_of}
 use Rattle.fs_peering.specs.Course.{after, hears}
-use Rattle.fs_peering.proofs.Courses.{course_more}
-
-own : (n : ℕ) → (n == n) ≡ true
-own n = grind (arith, nat_tests)
-
--- the octets of one piece more
-pub octets_more : (heard : Pieces) (moment : ℕ) (piece : List ℕ) → octets_in (heard ++ (moment, piece) ∷ []) ≡ octets_in heard ++ piece
-octets_more heard moment piece =
-    flat_map-append (λ (e : ℕ × List ℕ). e.1) heard ((moment, piece) ∷ []) ∙ ap (λ (z : List ℕ). octets_in heard ++ z) (append-nil piece)
+use Rattle.fs_peering.proofs.Courses.{course_more, octets_more}
 
 pub counted_more : (heard : Pieces) (moment count count' : ℕ) (piece : List ℕ) → count ≡ length (octets_in heard) → count' ≡ count + length piece
     → count' ≡ length (octets_in (heard ++ (moment, piece) ∷ []))
@@ -47,7 +25,7 @@ counted_more heard moment count count' piece h k =
 
 -- a tape of one peer
 pub life_tape : (peer : ℕ) (octets : List ℕ) → life peer (tape_of peer octets) ≡ Some octets
-life_tape peer octets = by (peer == peer) (own peer)
+life_tape peer octets = by (peer == peer) (eq_itself peer)
   where
     by : (b : Bool) → b ≡ true → (if b then Some ((if b then octets else []) ++ []) else None) ≡ Some octets
     by true e = ap Some (append-nil octets)
@@ -110,9 +88,6 @@ stands_ended : (desk : Desked) (peer : ℕ) (session : Live) (why : Closed) → 
 stands_ended desk peer session why there shut =
     ap standing_by there ∙ ap (λ (c : Option Closed). elim c [ Some w ↦ Ended w | None ↦ LiveIn session.phase.state ]) shut
 
-never : true ≡ false → ⊥
-never e = cc
-
 -- what stands of an open session, and of an ended one
 pub hearing_of : (desk : Desked) (peer : ℕ) (whose : Peer) (heard : Pieces) (said : List ℕ) → is_ended (standing_at_desk desk peer) ≡ false
     → StandsBy (standing_at_desk desk peer) desk peer whose heard said → IsHearing desk peer whose heard said
@@ -131,9 +106,6 @@ pub ended_there : (at : Standing) → is_ended at ≡ true → (why : Closed) ×
 ended_there Down e = absurd cc
 ended_there (LiveIn state) e = absurd cc
 ended_there (Ended why) e = (why, refl)
-
-abbrev stance : Desked → ℕ → ℕ → Pieces → List ℕ → Type 0
-stance desk peer count heard said = Receives desk peer count heard said
 
 -- the moments of a session that heard the clock
 moved_stays : (moment : ℕ) (now : Times) → at_moment moment (at_moment moment now) ≡ at_moment moment now
@@ -180,10 +152,7 @@ module _ (old new : Desked) (peer moment : ℕ) (whose : Peer) (heard : Pieces) 
       → ticked moment here ≡ ticks tick (pending h.session.framing) h.session.phase (at_moment moment h.session.times)
   ticked_here tick e =
       ap (ticked moment) (sym h.point_is)
-      ∙ ap (λ (c : Option Closed). elim c [
-        | Some why ↦ handed (point_of h.session) [] []
-        | None ↦ ticks (tick_at h.session.phase.hold (at_moment moment h.session.times)) (pending h.session.framing) h.session.phase (at_moment moment h.session.times)
-      ]) h.alive
+      ∙ ap (ticked_by moment (point_of h.session)) h.alive
       ∙ ap (λ (t : Tick). ticks t (pending h.session.framing) h.session.phase (at_moment moment h.session.times)) e
 
   due_here : tick_at h.session.phase.hold (at_moment moment h.session.times) ≡ Expires → tick_at here.phase.hold (at_moment moment here.times) ≡ Expires
@@ -231,7 +200,7 @@ module _ (old new : Desked) (peer moment : ℕ) (whose : Peer) (heard : Pieces) 
       → Woke old new peer moment whose heard out out' ⊎ Slept old new peer moment whose heard out out'
   wakes ticked stays =
       let t = subst TicksOf h.session_is ticked in
-      let there : session_at peer new.sessions ≡ Some t.0 = t.1.1 peer ∙ ap (λ (b : Bool). if b then Some t.0 else session_at peer old.sessions) (own peer) in
+      let there : session_at peer new.sessions ≡ Some t.0 = t.1.1 peer ∙ ap (λ (b : Bool). if b then Some t.0 else session_at peer old.sessions) (eq_itself peer) in
       made t.0 there stays (tick_at h.session.phase.hold (at_moment moment h.session.times)) refl
       (subst (λ (c : Option Closed). TicksIn c peer moment h.session t.0 old.held new.held out out') h.alive t.1.0)
 
@@ -380,7 +349,7 @@ module _ (old mid new : Desked) (peer moment : ℕ) (whose : Peer) (heard : Piec
 -- the clock closes the session
 pub hears_clock : (old mid : Desked) (peer count count' moment : ℕ) (piece a b : List ℕ) → mid.config ≡ old.config → is_ended (standing_at_desk old peer) ≡ false
     → is_ended (standing_at_desk mid peer) ≡ true → count' ≡ count + length piece → TicksPeer peer moment old mid a b → StaysPlayed peer old mid
-    → Hears (stance old peer count) (stance mid peer count') moment piece a b
+    → Hears (Receives old peer count) (Receives mid peer count') moment piece a b
 hears_clock old mid peer count count' moment piece a b config_mid alive shut k ticked stays heard said r =
     by (wakes old mid peer moment r.whose heard said a b h ticked stays)
   where
@@ -396,7 +365,7 @@ hears_clock old mid peer count count' moment piece a b config_mid alive shut k t
 pub hears_piece : (old mid new : Desked) (peer count count' moment : ℕ) (piece a b c : List ℕ) → mid.config ≡ old.config → new.config ≡ mid.config
     → is_ended (standing_at_desk old peer) ≡ false → is_ended (standing_at_desk mid peer) ≡ false → count' ≡ count + length piece → TicksPeer peer moment old mid a b → StaysPlayed peer old mid
     → Plays (received peer piece) mid new → RepliesBehind peer mid piece b c → HandsPeer peer mid new piece b c
-    → Hears (stance old peer count) (stance new peer count') moment piece a c
+    → Hears (Receives old peer count) (Receives new peer count') moment piece a c
 hears_piece old mid new peer count count' moment piece a b c config_mid config_new alive open_ k ticked stays plays replies hands heard said r =
     by (wakes old mid peer moment r.whose heard said a b h ticked stays)
   where

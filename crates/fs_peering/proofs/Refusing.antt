@@ -1,37 +1,19 @@
 -- Two joined ends of which the announcing one has the identifier 0.0.0.0: its OPEN is refused, and nothing else closes them.
 use Rattle.std.proofs.Common.{◌≡◌, ◌⊎◌, inl, inr, ◌<◌, ◌^◌, ◌==◌, ℕ, Bool, true, false, if◌then◌else◌, List, [], ◌∷◌, ◌++◌, length, take, drop, Option, Some, None, Result, Err, Ok, refl, ap, sym, ◌∙◌, subst, append_assoc, append-nil, arith}
+use Rattle.std.proofs.lemmas.Bool.{true≢false as never}
 use Rattle.std.proofs.lemmas.List.{take-append-drop}
 use Rattle.std.proofs.lemmas.Option.{none-some, same_Some}
-use Rattle.fs_base.specs.declared.config.Config.{Config}
-use Rattle.fs_base.specs.declared.config.Peer.{Peer}
-use Rattle.fs_attrs.specs.declared.update.Update.{Update}
-use Rattle.fs_message.specs.Stream.{Message, first_message}
-use Rattle.fs_message.specs.Write.{open_body}
-use Rattle.fs_message.specs.declared.fault.MessageFault.{MessageFault}
-use Rattle.fs_message.specs.declared.open_.Open.{Open}
+use Rattle.fs_peering.proofs.Words.{Closed, Config, Fault, Handed, IsUnnamed, Last, Machine, Message, MessageFault, Notified, Open, Peer, Phase, Point, Sending, Step, Times, Update, at_fault, at_moment, at_start, closed, first_message, hand, handed, notice_text, open_body, open_sent, opened, point, runs_by, session_by, shuts, step_by, stops, takes, tick_at, ticked, ticks, transition_by, waits}
 use Rattle.fs_message.proofs.OpenReadBack.{open_unnamed}
 use Rattle.fs_message.proofs.StreamLaws.{message_stable}
 use Rattle.fs_message.proofs.TextFirst.{text_first}
-use Rattle.fs_speaker.specs.Announcer.{open_sent}
-use Rattle.fs_speaker.specs.End.{ticked, ticks}
-use Rattle.fs_speaker.specs.Handed.{Handed, Point, hand, handed, point, runs_by, shuts}
-use Rattle.fs_speaker.specs.JointLaws.{IsUnnamed}
-use Rattle.fs_speaker.specs.Line.{Step, step_by, stops, takes, waits}
-use Rattle.fs_speaker.specs.Session.{Last, at_start, closed, session_by}
-use Rattle.fs_speaker.specs.Side.{at_fault, notice_text}
-use Rattle.fs_speaker.specs.Times.{at_moment, tick_at}
-use Rattle.fs_speaker.specs.Transition.{Machine, opened, transition_by}
 use Rattle.fs_speaker.specs.World.{World, at_first, happens, next_said, run, runs_on, says, sent, taker_comes, taker_of, teller_comes, teller_of}
-use Rattle.fs_speaker.specs.declared.Closed.{Closed}
-use Rattle.fs_speaker.specs.declared.Closed.TheVariants.{Fault, Notified}
-use Rattle.fs_speaker.specs.declared.Sending.{Sending}
 use Rattle.fs_speaker.specs.declared.event.Event.{Event}
 use Rattle.fs_speaker.specs.declared.event.Event.TheVariants.{Send, Deliver, Tick as TickEvent, Cut}
-use Rattle.fs_session.specs.declared.times.Times.{Times}
-use Rattle.fs_session.specs.declared.transition.Phase.{Phase}
 use Rattle.fs_speaker.proofs.Arriving.{open_fits}
 use Rattle.fs_speaker.proofs.Handing.{runs_stops, runs_waits}
 use Rattle.fs_speaker.proofs.Handover.{closed_hand, open_hand}
+use Rattle.fs_speaker.proofs.Waking.{ticked_by}
 use Rattle.fs_speaker.proofs.ReplySteps.{Shows, told}
 use Rattle.fs_speaker.proofs.SessionSteps.{machine_stops, step_found}
 use Rattle.fs_peering.specs.Laws.{ClosesUnnamed}
@@ -109,17 +91,11 @@ module _ (machine : Machine) (why : Closed) (text : List ℕ) (message : Message
   end_tick : (heard : List ℕ) (now : Point) (moment : ℕ) → IsEnd heard now
       → IsEnd heard (ticked moment now).point × (((ticked moment now).text ≡ []) × ((ticked moment now).point.closed ≡ now.closed))
   end_tick heard now moment (inr shut) =
-      let at : ticked moment now ≡ handed now [] [] = ap (λ (c : Option Closed). elim c [
-        | Some w ↦ handed now [] []
-        | None ↦ ticks (tick_at now.phase.hold (at_moment moment now.times)) now.waiting now.phase (at_moment moment now.times)
-      ]) shut in
+      let at : ticked moment now ≡ handed now [] [] = ap (ticked_by moment now) shut in
       (inr (ap (λ (h : Handed). h.point.closed) at ∙ shut), (ap (λ (h : Handed). h.text) at, ap (λ (h : Handed). h.point.closed) at))
   end_tick heard now moment (inl i) =
       let at : ticked moment now ≡ handed (point now.waiting at_start (at_moment moment now.times) None) [] [] =
-      ap (λ (c : Option Closed). elim c [
-        | Some w ↦ handed now [] []
-        | None ↦ ticks (tick_at now.phase.hold (at_moment moment now.times)) now.waiting now.phase (at_moment moment now.times)
-      ]) i.0 ∙ ap (λ (p : Phase). ticks (tick_at p.hold (at_moment moment now.times)) now.waiting p (at_moment moment now.times)) i.1.0 in (
+      ap (ticked_by moment now) i.0 ∙ ap (λ (p : Phase). ticks (tick_at p.hold (at_moment moment now.times)) now.waiting p (at_moment moment now.times)) i.1.0 in (
         inl (ap (λ (h : Handed). h.point.closed) at, (ap (λ (h : Handed). h.point.phase) at, ap (λ (h : Handed). h.point.waiting) at ∙ i.1.1)),
         (ap (λ (h : Handed). h.text) at, ap (λ (h : Handed). h.point.closed) at ∙ sym i.0),
       )
@@ -136,9 +112,6 @@ flies_said heard flying whole text true f = (
     λ e. absurd (never e),
   ),
 )
-  where
-    never : true ≡ false → ⊥
-    never e = cc
 flies_said heard flying whole text false f = (
   [],
   (
@@ -159,9 +132,6 @@ flies_taken heard flying whole cut n f = (f.0, (taken_front heard flying f.0 n �
 
 flies_cut : (heard flying whole : List ℕ) (cut : Bool) → Flies heard flying whole cut → Flies heard [] whole true
 flies_cut heard flying whole cut f = (flying ++ f.0, (f.1.0, λ e. absurd (never e)))
-  where
-    never : true ≡ false → ⊥
-    never e = cc
 
 nothing : (xs ys : List ℕ) → xs ++ ys ≡ [] → xs ≡ []
 nothing [] ys e = refl

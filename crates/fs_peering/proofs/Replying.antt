@@ -1,29 +1,14 @@
 -- What an open receiving end has said: nothing, or the answer to the OPEN and then KEEPALIVEs.
 use Rattle.std.proofs.Common.{◌≡◌, ◌⊎◌, inl, inr, ℕ, zero, suc, ◌+◌, arith, List, [], ◌∷◌, ◌++◌, drop, true, false, Option, Some, None, Result, Ok, Err, refl, ap, sym, ◌∙◌, subst, append_assoc, append-nil}
 use Rattle.std.proofs.lemmas.Option.{none-some}
-use Rattle.fs_base.specs.Parts.{parts_of}
-use Rattle.fs_base.specs.declared.config.Config.{Config}
-use Rattle.fs_base.specs.declared.config.Peer.{Peer}
-use Rattle.fs_message.specs.Stream.{Message, first_message, wrong_at}
-use Rattle.fs_message.specs.Write.{message_text}
-use Rattle.fs_message.specs.declared.fault.MessageFault.{MessageFault}
-use Rattle.fs_attrs.specs.declared.update.Update.{Update}
-use Rattle.fs_speaker.specs.Handed.{Handed, Point, runs, runs_by, shuts}
-use Rattle.fs_speaker.specs.Side.{receiver, reply_to}
-use Rattle.fs_speaker.specs.Times.{taken_in}
-use Rattle.fs_speaker.specs.Transition.{Machine, faulted, transition_by}
-use Rattle.fs_speaker.specs.declared.Closed.{Closed}
-use Rattle.fs_speaker.specs.declared.State.{State}
-use Rattle.fs_speaker.specs.declared.State.TheVariants.{WaitOpen, WaitKeep, Established, Closed as IsClosed}
-use Rattle.fs_session.specs.declared.times.Times.{Times}
-use Rattle.fs_session.specs.declared.transition.Phase.{Phase}
+use Rattle.fs_peering.proofs.Words.{Closed, Config, Established, Handed, Machine, Message, MessageFault, Peer, Phase, Point, State, Times, Update, WaitKeep, WaitOpen, faulted, first_message, message_text, parts_of, receiver, reply_to, runs, runs_by, shuts, taken_in, transition_by, wrong_at}
+use Rattle.fs_speaker.specs.declared.State.TheVariants.{Closed as IsClosed}
 use Rattle.fs_speaker.proofs.Handing.{ran, runs_none, runs_step}
 use Rattle.fs_peering.proofs.Courses.{keepalives}
 use Rattle.fs_peering.specs.Round.{Pieces}
 use Rattle.fs_peering.specs.Hearer.{course_of}
 use Rattle.fs_peering.specs.Course.{after, hears, course}
-use Rattle.fs_peering.proofs.Quieting.{awaits_open}
-use Rattle.fs_peering.proofs.Holding.{Keeps, keeps}
+use Rattle.fs_peering.proofs.Phases.{GoesTo, awaits_open, goes_on}
 use Rattle.fs_peering.proofs.Courses.{Steps, by_pieces, lived, course_more}
 
 abbrev Made : Type 0
@@ -69,9 +54,9 @@ module _ (config : Config) (whose : Peer) where
       subst (Answered now) (sym (runs_none machine now times waiting (Some fault))) (shut_answered now now times (faulted fault))
   runs_answered (message ∷ messages) now times waiting wrong =
       subst (Answered now) (sym (runs_step machine now times message messages waiting wrong))
-      (by (λ next. runs_answered messages next (taken_in now.state times) waiting wrong) (transition_by machine now message) (keeps machine now message))
+      (by (λ next. runs_answered messages next (taken_in now.state times) waiting wrong) (transition_by machine now message) (goes_on machine now message))
     where
-      by : ((next : Phase) → Answered next (runs machine next (taken_in now.state times) messages waiting wrong)) → (made : Made) → Keeps now made
+      by : ((next : Phase) → Answered next (runs machine next (taken_in now.state times) messages waiting wrong)) → (made : Made) → GoesTo now made
           → Answered now (ran machine now times made (λ next. runs machine next (taken_in now.state times) messages waiting wrong))
       by rest (Ok next) k e = at (rest next.0 e)
         where

@@ -1,28 +1,17 @@
 -- What may be announced can arrive.
-use Rattle.std.proofs.Common.{◌≡◌, ◌<◌, ◌≤◌, ◌&&◌, ℕ, zero, suc, List, [], ◌∷◌, length, map, take, nat_le, nat_lt, Bool, true, false, refl, arith}
+use Rattle.std.proofs.Common.{◌≡◌, ◌<◌, ◌≤◌, ◌&&◌, ℕ, zero, suc, List, [], ◌∷◌, length, map, take, nat_le, nat_lt, Bool, true, refl, arith}
 use Rattle.std.proofs.lemmas.Bool.Decides.{nat_tests}
 use Rattle.std.specs.List.{AllByRecursion, list_all}
 use Rattle.fs_base.proofs.Lists.{each_both}
-use Rattle.fs_base.specs.declared.config.Config.{Config}
-use Rattle.fs_base.specs.declared.config.Peer.{Peer}
-use Rattle.fs_speaker.specs.JointLaws.{CanArrive, TakesFront, TakesNone}
-use Rattle.fs_speaker.specs.Laws.{AreSendable, ComesBack, IsSent}
-use Rattle.fs_speaker.specs.Sending.{is_short, update_sent}
-use Rattle.fs_speaker.specs.Transition.{terms_of}
+use Rattle.fs_base.proofs.Bools.{and_parts}
+use Rattle.fs_peering.proofs.Words.{AreSendable, CanArrive, ComesBack, Config, IsSent, Peer, Sending, Sent, TakesFront, TakesNone, is_short, terms_of, update_sent}
 use Rattle.fs_speaker.specs.World.{run}
-use Rattle.fs_speaker.specs.declared.Sending.{Sending}
-use Rattle.fs_speaker.specs.declared.Sent.{Sent}
 use Rattle.fs_speaker.proofs.Returning.{comes_back}
 use Rattle.fs_peering.specs.Laws.{AreRead, SendsFront}
 
-both_true : (a b : Bool) → (a && b) ≡ true → (a ≡ true) × (b ≡ true)
-both_true true true e = (refl, refl)
-both_true true false e = absurd cc
-both_true false b e = absurd cc
-
 each_true : (test : Sent → Bool) (rules : List Sent) → list_all test rules ≡ true → AllByRecursion (λ sent. test sent ≡ true) rules
 each_true test [] e = tt
-each_true test (sent ∷ rules) e = let b = both_true (test sent) (list_all test rules) e in (b.0, each_true test rules b.1)
+each_true test (sent ∷ rules) e = let b = and_parts (test sent) (list_all test rules) e in (b.0, each_true test rules b.1)
 
 few : (n : ℕ) → nat_le n 255 ≡ true → n ≤ 255
 few n e = grind (arith, nat_tests, e)
@@ -34,8 +23,8 @@ module _ (config : Config) (peer : Peer) (sending : Sending) (read : AreRead con
 
   arrives : 0 < sending.id → CanArrive config peer sending
   arrives named =
-      let parts = both_true (nat_le (length sending.as_path) 255 && list_all (λ (asn : ℕ). nat_lt 0 asn) sending.as_path) (list_all test sending.rules) can in
-      let path = both_true (nat_le (length sending.as_path) 255) (list_all (λ (asn : ℕ). nat_lt 0 asn) sending.as_path) parts.0 in
+      let parts = and_parts (nat_le (length sending.as_path) 255 && list_all (λ (asn : ℕ). nat_lt 0 asn) sending.as_path) (list_all test sending.rules) can in
+      let path = and_parts (nat_le (length sending.as_path) 255) (list_all (λ (asn : ℕ). nat_lt 0 asn) sending.as_path) parts.0 in
       let numbers : AreSendable sending.as_path = record { few = few (length sending.as_path) path.0; each = read.path } in
       record {
         local_as = read.local_as;

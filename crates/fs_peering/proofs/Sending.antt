@@ -1,39 +1,24 @@
 -- An announcing end that hears a piece at a moment.
 use Rattle.std.proofs.Common.{◌≡◌, ◌⊎◌, inl, inr, ℕ, suc, zero, ◌+◌, List, [], ◌∷◌, ◌++◌, drop, arith, take, Bool, true, false, if◌then◌else◌, Option, Some, None, refl, ap, sym, ◌∙◌, subst, append_assoc, append-nil}
+use Rattle.std.proofs.lemmas.Bool.{true≢false as never}
 use Rattle.std.proofs.lemmas.Grind.{flat_map-append}
 use Rattle.std.proofs.lemmas.Option.{none-some}
-use Rattle.fs_base.specs.declared.config.Config.{Config}
-use Rattle.fs_message.specs.Write.{message_text}
+use Rattle.fs_base.proofs.Options.{none_there}
+use Rattle.fs_peering.proofs.Words.{Announcing, Closed, Config, Established, Expires, Fault, Handed, IsAt, Lined, Machine, Peer, Phase, Point, SaysText, Sending, Sent, StandsAt, StartsWith, State, WaitKeep, WaitOpen, at_moment, first_text, hand, has_started, is_established, machine_in, message_text, needs_of, next_text, notice_text, one_sent, open_sent, runs_by, text_sent, tick_at, ticked, with_line}
 use Rattle.fs_message.proofs.StreamLaws.{message_stable}
-use Rattle.fs_speaker.specs.End.{HandsOver, IsAt, StandsAt, TicksOver, ticked, ticks}
-use Rattle.fs_speaker.specs.Announcer.{Announcing, SaysText, StartsWith, first_text, has_started, is_established, machine_in, next_text, one_sent, open_sent, with_line}
-use Rattle.fs_speaker.specs.Handed.{Handed, Point, hand, handed, point, runs_by}
-use Rattle.fs_speaker.specs.Line.{Lined}
-use Rattle.fs_speaker.specs.Sending.{needs_of, text_sent}
-use Rattle.fs_speaker.specs.Side.{notice_text}
-use Rattle.fs_speaker.specs.Times.{at_moment, tick_at, written_now}
-use Rattle.fs_speaker.specs.Transition.{Machine}
-use Rattle.fs_speaker.specs.declared.Sent.{Sent}
-use Rattle.fs_speaker.specs.declared.Closed.{Closed}
-use Rattle.fs_speaker.specs.declared.Closed.TheVariants.{Fault}
-use Rattle.fs_speaker.specs.declared.State.{State}
-use Rattle.fs_speaker.specs.declared.State.TheVariants.{WaitOpen, WaitKeep, Established, Closed as IsClosed}
-use Rattle.fs_session.specs.declared.times.Tick.{Tick}
-use Rattle.fs_session.specs.declared.times.Tick.TheVariants.{Quiet, Keeps, Expires}
-use Rattle.fs_session.specs.declared.times.Times.{Times}
-use Rattle.fs_session.specs.declared.transition.Phase.{Phase}
-use Rattle.fs_peering.specs.Teller.{opening_of}
-use Rattle.fs_peering.specs.Round.{Hears, Pieces, Says, octets_in}
-use Rattle.fs_peering.proofs.Hearing.{but_last}
-use Rattle.fs_peering.specs.Sender.{Began, CountsTo, Speaks, SpeaksUpTo, TookOpen, part_text, rule_in, rules_in, text_in, without_rules, woven}
+use Rattle.fs_speaker.specs.declared.State.TheVariants.{Closed as IsClosed}
+use Rattle.fs_speaker.proofs.Handover.{closed_hand}
+use Rattle.fs_peering.specs.Teller.{HasHeard, SaysTo, before_all, is_over, is_settled, opening_of, stops_at}
+use Rattle.fs_peering.specs.Round.{Hears, Pieces, Says, Stance, octets_in}
+use Rattle.fs_peering.proofs.Ahead.{next_of}
+use Rattle.fs_peering.proofs.Counting.{counts_piece, counts_same, counts_text}
+use Rattle.fs_peering.proofs.Hearing.{HeardSo, begins_early, hears_early, next_early, says_same}
+use Rattle.fs_peering.specs.Sender.{Began, CountsTo, SaysOn, SaysUpTo, Speaks, TookOpen, part_text, rule_in, rules_in, text_in, without_rules, woven}
 use Rattle.fs_peering.specs.Course.{course}
+use Rattle.fs_peering.specs.Tell.{begins_with}
 use Rattle.fs_peering.proofs.Answering.{Opens, opens_by}
-use Rattle.fs_peering.proofs.Quieting.{Goes, Quiet as IsQuiet, awaits_open, quiet_by}
-use Rattle.fs_peering.proofs.Receiving.{octets_more}
-use Rattle.fs_peering.proofs.Courses.{course_more}
-
-never : true ≡ false → ⊥
-never e = cc
+use Rattle.fs_peering.proofs.Phases.{Goes, awaits_open, quiet_by, Quiet as IsQuiet}
+use Rattle.fs_peering.proofs.Courses.{Steps, but_last, course_more, keepalives, octets_more, steps, woke_is}
 
 -- the parts that are said behind others
 woven_more : (text : Sent → List ℕ) (parts more : List (Option Sent)) → woven text (parts ++ more) ≡ woven text parts ++ woven text more
@@ -70,63 +55,20 @@ took_more config four octets piece t = record {
   four_is = t.four_is;
 }
 
--- what the clock leaves of an open end that stays open
-record Stays (now : Point) (made : Handed) (keeps : List (Option Sent)) : Type 0 where
-  times : Times
-  point_is : made.point ≡ point now.waiting now.phase times None
-  text_is : (text : Sent → List ℕ) → made.text ≡ woven text keeps
-  none : rules_in keeps ≡ []
-  timed : now.phase.hold ≡ 0 → keeps ≡ []
+-- so many KEEPALIVEs among what is said
+abbrev keeps_of : ℕ → List (Option Sent)
+keeps_of zero = []
+keeps_of (suc n) = keeps_of n ++ None ∷ []
 
-record Expired (made : Handed) : Type 0 where
-  text_is : made.text ≡ notice_text 4 0
-  closed_is : made.point.closed ≡ Some (Fault 4 0)
+keeps_text : (text : Sent → List ℕ) (n : ℕ) → woven text (keeps_of n) ≡ keepalives n
+keeps_text text zero = refl
+keeps_text text (suc n) =
+    woven_more text (keeps_of n) (None ∷ []) ∙ ap (λ (z : List ℕ). z ++ (message_text 4 [] ++ [])) (keeps_text text n)
+    ∙ ap (λ (z : List ℕ). keepalives n ++ z) (append-nil (message_text 4 []))
 
-clock : (moment : ℕ) (now : Point) → now.closed ≡ None → ((keeps : List (Option Sent)) × Stays now (ticked moment now) keeps) ⊎ Expired (ticked moment now)
-clock moment now e = by (tick_at now.phase.hold then_at) refl
-  where
-    then_at : Times
-    then_at = at_moment moment now.times
-
-    made : (tick : Tick) → tick_at now.phase.hold then_at ≡ tick → ticked moment now ≡ ticks tick now.waiting now.phase then_at
-    made tick t =
-        ap (λ (c : Option Closed). elim c [
-          | Some why ↦ handed now [] []
-          | None ↦ ticks (tick_at now.phase.hold then_at) now.waiting now.phase then_at
-        ]) e ∙ ap (λ (x : Tick). ticks x now.waiting now.phase then_at) t
-
-    untimed : tick_at now.phase.hold then_at ≡ Keeps → now.phase.hold ≡ 0 → ⊥
-    untimed t z = quiet (subst (λ (n : ℕ). tick_at n then_at ≡ Keeps) z t)
-      where
-        quiet : Quiet ≡ Keeps → ⊥
-        quiet h = cc
-
-    by : (tick : Tick) → tick_at now.phase.hold then_at ≡ tick → ((keeps : List (Option Sent)) × Stays now (ticked moment now) keeps) ⊎ Expired (ticked moment now)
-    by Quiet t = inl (
-      [],
-      record {
-        times = then_at;
-        point_is = ap (λ (m : Handed). m.point) (made Quiet t);
-        text_is = λ text. ap (λ (m : Handed). m.text) (made Quiet t);
-        none = refl;
-        timed = λ z. refl;
-      },
-    )
-    by Keeps t = inl (
-      None ∷ [],
-      record {
-        times = written_now then_at;
-        point_is = ap (λ (m : Handed). m.point) (made Keeps t);
-        text_is = λ text. ap (λ (m : Handed). m.text) (made Keeps t) ∙ sym (append-nil (message_text 4 []));
-        none = refl;
-        timed = λ z. absurd (untimed t z);
-      },
-    )
-    by Expires t = inr (record { text_is = ap (λ (m : Handed). m.text) (made Expires t); closed_is = ap (λ (m : Handed). m.point.closed) (made Expires t) })
-
-closed_there : (machine : Machine) (moment : ℕ) (now : Point) (piece : List ℕ) (why : Closed) → now.closed ≡ Some why → hand machine moment now piece ≡ handed now [] []
-closed_there machine moment now piece why e =
-    ap (λ (o : Option Closed). elim o [ Some why ↦ handed now [] [] | None ↦ runs_by machine now.phase (at_moment moment now.times) (now.waiting ++ piece) ]) e
+keeps_rules : (n : ℕ) → rules_in (keeps_of n) ≡ []
+keeps_rules zero = refl
+keeps_rules (suc n) = rules_more (keeps_of n) (None ∷ []) ∙ ap (λ (z : List Sent). z ++ []) (keeps_rules n)
 
 module _ (a : Announcing) (line : Lined) (heard : Pieces) (said : List ℕ) (moment : ℕ) (piece o0 o2 : List ℕ) (s : Speaks a true heard said)
     (alive : (course (machine_in a) heard).point.closed ≡ None) where
@@ -209,11 +151,13 @@ module _ (a : Announcing) (line : Lined) (heard : Pieces) (said : List ℕ) (mom
         (sym (append_assoc (woven (text_in a s.four) s.parts) (woven (text_in a s.four) keeps) ending)
         ∙ ap (λ (z : List ℕ). z ++ ending) (sym (woven_more (text_in a s.four) s.parts keeps)))
 
-    expires : Expired woke → Answer
-    expires x =
-        let there = closed_there machine moment woke.point piece (Fault 4 0) x.closed_is in
-        shut (Fault 4 0) (notice_text 4 0) (notice_text 4 0) [] (ap (λ (h : Handed). h.point.closed) there ∙ x.closed_is)
-        (ap (λ (z : List ℕ). z ++ made.text) x.text_is ∙ ap (λ (h : Handed). notice_text 4 0 ++ h.text) there ∙ append-nil (notice_text 4 0)) refl refl
+    expires : tick_at here.phase.hold (at_moment moment here.times) ≡ Expires → Answer
+    expires due =
+        let late = woke_is machine (moment, piece) here Expires alive due in
+        let closed_is : woke.point.closed ≡ Some (Fault 4 0) = ap (λ (h : Handed). h.point.closed) late in
+        let there = closed_hand machine moment woke.point piece (Fault 4 0) closed_is in
+        shut (Fault 4 0) (notice_text 4 0) (notice_text 4 0) [] (ap (λ (h : Handed). h.point.closed) there ∙ closed_is)
+        (ap (λ (h : Handed). h.text ++ made.text) late ∙ ap (λ (h : Handed). notice_text 4 0 ++ h.text) there ∙ append-nil (notice_text 4 0)) refl refl
         (said_more [] (notice_text 4 0) (s.unended open_a))
 
     -- it goes on, with these parts more
@@ -246,32 +190,29 @@ module _ (a : Announcing) (line : Lined) (heard : Pieces) (said : List ℕ) (mom
       ),
     )
 
-    module _ (keeps : List (Option Sent)) (k : Stays here woke keeps) where
+    module _ (k : Steps machine (moment, piece) here) where
       abbrev later : Handed
-      later = runs_by machine here.phase (at_moment moment k.times) (here.waiting ++ piece)
-
-      made_is : made ≡ later
-      made_is = ap (λ (p : Point). hand machine moment p piece) k.point_is
+      later = runs_by machine here.phase k.times (here.waiting ++ piece)
 
       line_phase : line.closed ≡ None → line.phase ≡ later.point.phase
-      line_phase e = (stands.open_is (sym stands.closed_is ∙ e)).phase_is ∙ ap (λ (h : Handed). h.point.phase) made_is
+      line_phase e = (stands.open_is (sym stands.closed_is ∙ e)).phase_is ∙ ap (λ (p : Point). p.phase) k.point_is
 
       later_open : line.closed ≡ None → later.point.closed ≡ None
-      later_open e = sym (ap (λ (h : Handed). h.point.closed) made_is) ∙ sym stands.closed_is ∙ e
+      later_open e = sym (ap (λ (p : Point). p.closed) k.point_is) ∙ sym stands.closed_is ∙ e
 
       -- past its OPEN
       past : awaits_open here.phase.state ≡ false → Answer
       past e =
-          let quiet : IsQuiet a.config (needs_of a.sending.rules) here.phase later = quiet_by a.config (needs_of a.sending.rules) here.phase (at_moment moment k.times) (here.waiting ++ piece) e in
+          let quiet : IsQuiet a.config (needs_of a.sending.rules) here.phase later = quiet_by a.config (needs_of a.sending.rules) here.phase k.times (here.waiting ++ piece) e in
           let before : Past a s.four heard s.parts =
           past_of a.line.phase.state a s.four heard s.parts (ap (λ (p : Phase). awaits_open p.state) at_here.phase_is ∙ e) (s.began open_a) in
-          goes_on s.four keeps
-          (λ text. ap (λ (z : List ℕ). z ++ made.text) (k.text_is text) ∙ ap (λ (h : Handed). woven text keeps ++ h.text) made_is ∙ ap (λ (z : List ℕ). woven text keeps ++ z) quiet.text_is ∙ append-nil (woven text keeps))
-          k.none refl
+          goes_on s.four (keeps_of k.kept)
+          (λ text. k.text_is ∙ ap (λ (z : List ℕ). keepalives k.kept ++ z) quiet.text_is ∙ append-nil (keepalives k.kept) ∙ sym (keeps_text text k.kept))
+          (keeps_rules k.kept) refl
           (λ f.
           let g : Goes here.phase later.point.phase = quiet.goes (later_open f) in
-          of_past line.phase.state end s.four all (s.parts ++ keeps) (ap (λ (p : Phase). awaits_open p.state) (line_phase f) ∙ g.past) (
-            (before.0.0 ++ keeps, ap (λ (z : List (Option Sent)). z ++ keeps) before.0.1),
+          of_past line.phase.state end s.four all (s.parts ++ keeps_of k.kept) (ap (λ (p : Phase). awaits_open p.state) (line_phase f) ∙ g.past) (
+            (before.0.0 ++ keeps_of k.kept, ap (λ (z : List (Option Sent)). z ++ keeps_of k.kept) before.0.1),
             (
               before.1.0 ∙ ap (λ (p : Phase). p.four) at_here.phase_is ∙ sym g.four_is ∙ sym (ap (λ (p : Phase). p.four) (line_phase f)),
               subst (TookOpen a.config s.four) (sym (octets_more heard moment piece)) (took_more a.config s.four (octets_in heard) piece before.1.1),
@@ -280,16 +221,10 @@ module _ (a : Announcing) (line : Lined) (heard : Pieces) (said : List ℕ) (mom
 
       -- before it
       opening : here.phase.state ≡ WaitOpen → Answer
-      opening e = by (opens_by a.config (needs_of a.sending.rules) here.phase (at_moment moment k.times) (here.waiting ++ piece) e)
+      opening e = by (opens_by a.config (needs_of a.sending.rules) here.phase k.times (here.waiting ++ piece) e)
         where
           before : (s.parts ≡ []) × ((a.appended ≡ 0) × ((a.line.phase.hold ≡ 0) × (here.waiting ≡ octets_in heard)))
           before = subst (λ (state : State). Began state a s.four heard s.parts) (ap (λ (p : Phase). p.state) at_here.phase_is ∙ e) (s.began open_a)
-
-          no_keeps : keeps ≡ []
-          no_keeps = k.timed (sym (ap (λ (p : Phase). p.hold) at_here.phase_is) ∙ before.1.1.0)
-
-          unkept : (text : Sent → List ℕ) → woke.text ≡ []
-          unkept text = k.text_is text ∙ ap (woven text) no_keeps
 
           octets_are : here.waiting ++ piece ≡ octets_in all
           octets_are = ap (λ (z : List ℕ). z ++ piece) before.1.1.1 ∙ sym (octets_more heard moment piece)
@@ -297,12 +232,12 @@ module _ (a : Announcing) (line : Lined) (heard : Pieces) (said : List ℕ) (mom
           no_parts : (four : Bool) → woven (text_in a s.four) s.parts ≡ woven (text_in a four) s.parts
           no_parts four = ap (woven (text_in a s.four)) before.0 ∙ sym (ap (woven (text_in a four)) before.0)
 
-          text_so : (text : Sent → List ℕ) → woke.text ++ made.text ≡ later.text
-          text_so text = ap (λ (z : List ℕ). z ++ made.text) (unkept text) ∙ ap (λ (h : Handed). h.text) made_is
+          text_so : woke.text ++ made.text ≡ later.text
+          text_so = k.text_is ∙ ap (λ (n : ℕ). keepalives n ++ later.text) (k.untimed (sym (ap (λ (p : Phase). p.hold) at_here.phase_is) ∙ before.1.1.0))
 
           by : Opens a.config (needs_of a.sending.rules) (here.waiting ++ piece) here.phase later → Answer
           by (inl w) =
-              goes_on s.four [] (λ text. text_so text ∙ w.text_is) refl refl
+              goes_on s.four [] (λ text. text_so ∙ w.text_is) refl refl
               (λ f.
               subst (λ (state : State). Began state end s.four all (s.parts ++ [])) (sym (ap (λ (p : Phase). p.state) (line_phase f) ∙ ap (λ (p : Phase). p.state) w.phase_is ∙ e)) (
                 append-nil s.parts ∙ before.0,
@@ -310,20 +245,20 @@ module _ (a : Announcing) (line : Lined) (heard : Pieces) (said : List ℕ) (mom
                   before.1.0,
                   (
                     ap (λ (p : Phase). p.hold) (line_phase f) ∙ ap (λ (p : Phase). p.hold) w.phase_is ∙ sym (ap (λ (p : Phase). p.hold) at_here.phase_is) ∙ before.1.1.0,
-                    ap (λ (h : Handed). h.point.waiting) (course_more machine heard (moment, piece)) ∙ ap (λ (h : Handed). h.point.waiting) made_is ∙ w.waiting_is ∙ octets_are,
+                    ap (λ (h : Handed). h.point.waiting) (course_more machine heard (moment, piece)) ∙ ap (λ (p : Point). p.waiting) k.point_is ∙ w.waiting_is ∙ octets_are,
                   ),
                 ),
               ))
           by (inr (inl t)) =
               goes_on later.point.phase.four (None ∷ [])
-              (λ text. text_so text ∙ t.text_is ∙ sym (append-nil (message_text 4 []))) refl (no_parts later.point.phase.four)
+              (λ text. text_so ∙ t.text_is ∙ sym (append-nil (message_text 4 []))) refl (no_parts later.point.phase.four)
               (λ f.
               of_past line.phase.state end later.point.phase.four all (s.parts ++ None ∷ []) (ap (λ (p : Phase). awaits_open p.state) (line_phase f) ∙ t.past (later_open f)) (
                 ([], ap (λ (z : List (Option Sent)). z ++ None ∷ []) before.0),
                 (sym (ap (λ (p : Phase). p.four) (line_phase f)), subst (TookOpen a.config later.point.phase.four) octets_are (t.took (later_open f))),
               ))
           by (inr (inr x)) =
-              shut x.why [] [] [] (ap (λ (h : Handed). h.point.closed) made_is ∙ x.closed_is) (text_so (text_in a s.four) ∙ x.text_is) refl refl
+              shut x.why [] [] [] (ap (λ (p : Point). p.closed) k.point_is ∙ x.closed_is) (text_so ∙ x.text_is) refl refl
               (said_more [] [] (s.unended open_a))
 
       either_way : Answer
@@ -336,18 +271,14 @@ module _ (a : Announcing) (line : Lined) (heard : Pieces) (said : List ℕ) (mom
           at IsClosed e = past (ap awaits_open e)
 
     is_open : Answer
-    is_open = by (clock moment here alive)
+    is_open = by (steps machine (moment, piece) here alive)
       where
-        by : ((keeps : List (Option Sent)) × Stays here woke keeps) ⊎ Expired woke → Answer
-        by (inl k) = either_way k.0 k.1
-        by (inr x) = expires x
+        by : Steps machine (moment, piece) here ⊎ (tick_at here.phase.hold (at_moment moment here.times) ≡ Expires) → Answer
+        by (inl k) = either_way k
+        by (inr due) = expires due
 
     pub spoke : (more : List ℕ) × ((o2 ≡ o0 ++ more) × Speaks end true all (said ++ more))
     spoke = is_open
-
--- nothing is said
-pub says_same : (a : Announcing) (started : Bool) (out : List ℕ) → Says (Speaks a started) (Speaks a started) out out
-says_same a started out heard said s = ([], (sym (append-nil out), subst (Speaks a started heard) (sym (append-nil said)) s))
 
 -- the OPEN
 pub begins_from : (a new : Announcing) (started : Bool) (out out' : List ℕ) → started ≡ false → StartsWith a.started a new out out'
@@ -387,19 +318,6 @@ begins_from a new started out out' e starts heard said s =
     began_same WaitKeep b = b
     began_same Established b = b
     began_same IsClosed b = b
-
--- the next rule of a list
-next_of : (text : Sent → List ℕ) (n : ℕ) (rules : List Sent) (said : List ℕ) → first_text text (drop n rules) ≡ Some said
-    → (sent : Sent) × ((said ≡ text sent) × (take (suc n) rules ≡ take n rules ++ sent ∷ []))
-next_of text n [] said h = absurd (none n h)
-  where
-    none : (n : ℕ) → first_text text (drop n []) ≡ Some said → ⊥
-    none zero e = cc
-    none (suc n) e = cc
-next_of text zero (sent ∷ rules) said h = (sent, (ap (λ (o : Option (List ℕ)). elim o [ None ↦ said | Some t ↦ t ]) (sym h), refl))
-next_of text (suc n) (sent ∷ rules) said h =
-    let later = next_of text n rules said h in
-    (later.0, (later.1.0, ap (λ (z : List Sent). sent ∷ z) later.1.1))
 
 -- the UPDATE of the next rule
 pub says_next : (a new : Announcing) (started had : Bool) (out out' : List ℕ) → started ≡ true → a.line.closed ≡ None → SaysText (next_text a) had a new out out'
@@ -483,55 +401,133 @@ says_next a new started had out out' go alive says heard said s = by (is_establi
     by true e = by_text texts e refl (subst (λ (o : Option (List ℕ)). SaysText o had a new out out') (next_is true e) says)
 
 -- an open end hears a piece at a moment
-pub hears_piece : (a b c : Announcing) (started : Bool) (moment : ℕ) (piece o0 o1 o2 : List ℕ) → started ≡ true → a.line.closed ≡ None → b ≡ with_line a b.line → c ≡ with_line b c.line
-    → TicksOver (machine_in a) moment a.line b.line o0 o1 → HandsOver (machine_in b) moment b.line c.line piece [] [] o1 o2
-    → Hears (Speaks a started) (Speaks c started) moment piece o0 o2
-hears_piece a b c started moment piece o0 o1 o2 go alive first later ticks_over hands heard said s =
-    subst (λ (g : Bool). (more : List ℕ) × ((o2 ≡ o0 ++ more) × Speaks c g (heard ++ (moment, piece) ∷ []) (said ++ more))) (sym go)
-    (subst (λ (n : Announcing). (more : List ℕ) × ((o2 ≡ o0 ++ more) × Speaks n true (heard ++ (moment, piece) ∷ []) (said ++ more)))
-    (sym (later ∙ ap (λ (n : Announcing). with_line n c.line) first))
-    (spoke a c.line heard said moment piece o0 o2 t (sym t.at.closed_is ∙ alive) made.0
-    (made.1.1 ∙ ap (λ (z : List ℕ). z ++ (hand (machine_in a) moment woke.point piece).text) ticked_so.1 ∙ append_assoc o0 woke.text (hand (machine_in a) moment woke.point piece).text)))
+hears_piece : (b w c : Announcing) (moment needed : ℕ) (piece o1 o2 o3 : List ℕ) → b.line.closed ≡ None → HeardSo true b w c moment needed piece o1 o2 o3
+    → Hears (Speaks b true) (Speaks c true) moment piece o1 o3
+hears_piece b w c moment needed piece o1 o2 o3 alive call heard said s =
+    subst (λ (n : Announcing). (more : List ℕ) × ((o3 ≡ o1 ++ more) × Speaks n true (heard ++ (moment, piece) ∷ []) (said ++ more)))
+    (sym (call.took.0 ∙ ap (λ (n : Announcing). with_line n c.line) call.woke.0))
+    (spoke b c.line heard said moment piece o1 o3 s (sym s.at.closed_is ∙ alive) (made.1 refl)
+    (made.0 ∙ ap (λ (z : List ℕ). z ++ (hand (machine_in b) moment woke.point piece).text) ticked_so.1 ∙ append_assoc o1 woke.text (hand (machine_in b) moment woke.point piece).text))
   where
-    t : Speaks a true heard said
-    t = subst (λ (g : Bool). Speaks a g heard said) go s
-
     woke : Handed
-    woke = ticked moment (course (machine_in a) heard).point
+    woke = ticked moment (course (machine_in b) heard).point
 
-    ticked_so : StandsAt (machine_in a) b.line woke.point × (o1 ≡ o0 ++ woke.text)
-    ticked_so = ticks_over (course (machine_in a) heard).point t.at
+    ticked_so : StandsAt (machine_in b) w.line woke.point × (o2 ≡ o1 ++ woke.text)
+    ticked_so = call.ticks (course (machine_in b) heard).point s.at
 
-    hands_a : HandsOver (machine_in a) moment b.line c.line piece [] [] o1 o2
-    hands_a = subst (λ (m : Machine). HandsOver m moment b.line c.line piece [] [] o1 o2) (ap machine_in first) hands
-
-    made : StandsAt (machine_in a) c.line (hand (machine_in a) moment woke.point piece).point
-        × (([] ≡ [] ++ (hand (machine_in a) moment woke.point piece).updates) × (o2 ≡ o1 ++ (hand (machine_in a) moment woke.point piece).text))
-    made = hands_a woke.point ticked_so.0
+    made : (o3 ≡ o2 ++ (hand (machine_in b) moment woke.point piece).text)
+        × (stops_at true c.line ≡ false → StandsAt (machine_in b) c.line (hand (machine_in b) moment woke.point piece).point)
+    made = (subst (λ (m : Machine). SaysTo true m moment w.line c.line piece o2 o3) (ap machine_in call.woke.0) call.says) woke.point ticked_so.0
 
 -- once the OPEN was said
-pub begins_hears : (a b c : Announcing) (started started' : Bool) (moment : ℕ) (piece o0 o1 o2 : List ℕ) → Says (Speaks a started) (Speaks b started') o0 o1
-    → Hears (Speaks b started') (Speaks c started') moment piece o1 o2 → Hears (Speaks a started) (Speaks c started') moment piece o0 o2
-begins_hears a b c started started' moment piece o0 o1 o2 first later heard said s =
+begins_hears : (s0 s1 s2 : Stance) (moment : ℕ) (piece o0 o1 o2 : List ℕ) → Says s0 s1 o0 o1 → Hears s1 s2 moment piece o1 o2 → Hears s0 s2 moment piece o0 o2
+begins_hears s0 s1 s2 moment piece o0 o1 o2 first later heard said s =
     let f = first heard said s in
     let l = later heard (said ++ f.0) f.1.1 in (
       f.0 ++ l.0,
       (
         l.1.0 ∙ ap (λ (z : List ℕ). z ++ l.0) f.1.0 ∙ append_assoc o0 f.0 l.0,
-        subst (Speaks c started' (heard ++ (moment, piece) ∷ [])) (append_assoc said f.0 l.0) l.1.1,
+        subst (s2 (heard ++ (moment, piece) ∷ [])) (append_assoc said f.0 l.0) l.1.1,
       ),
     )
 
 -- and so many octets count
-pub counts_hears : (a c : Announcing) (started started' : Bool) (count count' moment : ℕ) (piece out out' : List ℕ)
-    → ((octets : List ℕ) → CountsTo (machine_in a) a.line count octets → CountsTo (machine_in c) c.line count' (octets ++ piece))
-    → Hears (Speaks a started) (Speaks c started') moment piece out out' → Hears (SpeaksUpTo a started count) (SpeaksUpTo c started' count') moment piece out out'
-counts_hears a c started started' count count' moment piece out out' counts step heard said s =
-    let h = step heard said s.0 in
-    (h.0, (h.1.0, (h.1.1, subst (CountsTo (machine_in c) c.line count') (sym (octets_more heard moment piece)) (counts (octets_in heard) s.1))))
-
-pub counts_says : (a c : Announcing) (started started' : Bool) (count count' : ℕ) (out out' : List ℕ)
-    → ((octets : List ℕ) → CountsTo (machine_in a) a.line count octets → CountsTo (machine_in c) c.line count' octets)
-    → Says (Speaks a started) (Speaks c started') out out' → Says (SpeaksUpTo a started count) (SpeaksUpTo c started' count') out out'
-counts_says a c started started' count count' out out' counts step heard said s =
+counts_says : (on : Bool) (a c : Announcing) (started started' : Bool) (count : ℕ) (out out' : List ℕ)
+    → ((octets : List ℕ) → CountsTo on (machine_in a) a.line count octets → CountsTo on (machine_in c) c.line count octets)
+    → Says (SaysOn on a started) (SaysOn on c started') out out' → Says (SaysUpTo on a started count) (SaysUpTo on c started' count) out out'
+counts_says on a c started started' count out out' counts step heard said s =
     let h = step heard said s.0 in (h.0, (h.1.0, (h.1.1, counts (octets_in heard) s.1)))
+
+-- by whether it hears on
+pub begins_on : (on : Bool) (a new : Announcing) (started : Bool) (out out' : List ℕ) → started ≡ false → StartsWith a.started a new out out'
+    → Says (SaysOn on a started) (SaysOn on new true) out out'
+begins_on true a new started out out' e starts = begins_from a new started out out' e starts
+begins_on false a new started out out' e starts = begins_early a new started out out' e starts
+
+pub begun_on : (on : Bool) (a : Announcing) (started : Bool) (out : List ℕ) → started ≡ true → Says (SaysOn on a started) (SaysOn on a true) out out
+begun_on on a started out e = subst (λ (b : Bool). Says (SaysOn on a started) (SaysOn on a b) out out) e (says_same (SaysOn on a started) out)
+
+next_by : (on : Bool) (a new : Announcing) (started had : Bool) (out out' : List ℕ) → started ≡ true → a.line.closed ≡ None → SaysText (next_text a) had a new out out'
+    → Says (SaysOn on a started) (SaysOn on new started) out out'
+next_by true a new started had out out' go alive says = says_next a new started had out out' go alive says
+next_by false a new started had out out' go alive says = next_early a new started had out out' alive go says
+
+pub next_on : (on : Bool) (a new : Announcing) (started had : Bool) (count : ℕ) (out out' : List ℕ) → started ≡ true → a.line.closed ≡ None → SaysText (next_text a) had a new out out'
+    → Says (SaysUpTo on a started count) (SaysUpTo on new started count) out out'
+next_on on a new started had count out out' go alive says =
+    counts_says on a new started started count out out' (counts_text on (next_text a) had a new count out out' says) (next_by on a new started had out out' go alive says)
+
+pub opens_on : (on : Bool) (a new : Announcing) (started : Bool) (count : ℕ) (out out' : List ℕ) → before_all new ≡ before_all a → new.line ≡ a.line
+    → Says (SaysOn on a started) (SaysOn on new true) out out' → Says (SaysUpTo on a started count) (SaysUpTo on new true count) out out'
+opens_on on a new started count out out' own same begins =
+    counts_says on a new started true count out out' (counts_same on a new count count (ap machine_in own) same refl) begins
+
+hears_by : (on : Bool) (b w c : Announcing) (count count' moment needed : ℕ) (piece o1 o2 o3 : List ℕ) → is_over on b.line ≡ false → HeardSo on b w c moment needed piece o1 o2 o3
+    → ((octets : List ℕ) → CountsTo on (machine_in b) b.line count octets → CountsTo on (machine_in c) c.line count' (octets ++ piece))
+    → Hears (SaysUpTo on b true count) (SaysUpTo on c true count') moment piece o1 o3
+hears_by true b w c count count' moment needed piece o1 o2 o3 over call counts heard said s =
+    let h = hears_piece b w c moment needed piece o1 o2 o3 (none_there b.line.closed over) call heard said s.0 in
+    (h.0, (h.1.0, (h.1.1, subst (CountsTo true (machine_in c) c.line count') (sym (octets_more heard moment piece)) (counts (octets_in heard) s.1))))
+hears_by false b w c count count' moment needed piece o1 o2 o3 over call counts heard said s = hears_early b w c count count' moment needed piece o1 o2 o3 call over counts heard said s
+
+-- what it is when it isn't over
+early_on : (on : Bool) (line : Lined) → is_over on line ≡ false → on ≡ false → is_settled line ≡ false
+early_on true line over off = absurd cc
+early_on false line over off = over
+
+pub hears_on : (on : Bool) (a b w c : Announcing) (started was : Bool) (count count' moment needed : ℕ) (piece o0 o1 o2 o3 : List ℕ) → is_over on a.line ≡ false
+    → before_all b ≡ before_all a → b.line ≡ a.line → Says (SaysOn on a started) (SaysOn on b true) o0 o1 → HeardSo on b w c moment needed piece o1 o2 o3
+    → was ≡ is_settled a.line → (was ≡ false → count' ≡ count + needed) → (was ≡ true → count' ≡ count)
+    → Hears (SaysUpTo on a started count) (SaysUpTo on c true count') moment piece o0 o3
+hears_on on a b w c started was count count' moment needed piece o0 o1 o2 o3 over own same begins call is added kept =
+    let over_b : is_over on b.line ≡ false = ap (is_over on) same ∙ over in
+    begins_hears (SaysUpTo on a started count) (SaysUpTo on b true count) (SaysUpTo on c true count') moment piece o0 o1 o3
+    (opens_on on a b started count o0 o1 own same begins)
+    (hears_by on b w c count count' moment needed piece o1 o2 o3 over_b call
+    (counts_piece on b w c was piece needed count count' call.woke call.took call.hand call.counts (is ∙ ap is_settled (sym same)) added kept (early_on on b.line over_b)))
+
+-- before its first octet
+none_last : (earlier : Pieces) (last : ℕ × List ℕ) → [] ≡ earlier ++ last ∷ [] → ⊥
+none_last [] last e = cc
+none_last (event ∷ earlier) last e = cc
+
+speaks_none : (config : Config) (whose : Peer) (sending : Sending) → Speaks (begins_with config whose sending) false [] []
+speaks_none config whose sending = record {
+  started_is = refl;
+  at = record { closed_is = refl; open_is = λ e. record { waiting_is = refl; phase_is = refl; times_is = refl; waits_is = refl } };
+  four = false;
+  parts = [];
+  rules_are = refl;
+  ending = [];
+  said_is = refl;
+  kept = refl;
+  lived = λ earlier last e. absurd (none_last earlier last e);
+  unended = λ e. refl;
+  began = λ e. (refl, (refl, (refl, refl)));
+  unstarted = λ e. (refl, refl);
+}
+
+heard_none : (config : Config) (peer : Peer) (sending : Sending) → HasHeard (begins_with config peer sending) false [] []
+heard_none config peer sending = record {
+  started_is = refl;
+  at = λ e. record {
+    closed_is = refl;
+    open_is = λ f. record { waiting_is = refl; phase_is = refl; times_is = refl; waits_is = refl };
+  };
+  said_is = refl;
+  listened = λ earlier last e. absurd (none_last earlier last e);
+  shut = λ why e. absurd (none-some why e);
+  none = λ e. refl;
+  unstarted = λ e. (refl, refl);
+}
+
+says_none : (on : Bool) (config : Config) (peer : Peer) (sending : Sending) → SaysOn on (begins_with config peer sending) false [] []
+says_none true config peer sending = speaks_none config peer sending
+says_none false config peer sending = heard_none config peer sending
+
+pub says_start : (on : Bool) (teller : Announcing) (started : Bool) (count : ℕ) (config : Config) (peer : Peer) (sending : Sending) → teller ≡ begins_with config peer sending → started ≡ false
+    → count ≡ 0 → SaysUpTo on teller started count [] []
+says_start on teller started count config peer sending e s k =
+    subst (λ (n : Announcing). SaysUpTo on n started count [] []) (sym e)
+    (subst (λ (b : Bool). SaysUpTo on (begins_with config peer sending) b count [] []) (sym s)
+    (subst (λ (m : ℕ). SaysUpTo on (begins_with config peer sending) false m [] []) (sym k) (says_none on config peer sending, λ f. (λ more. refl, refl))))

@@ -1,16 +1,8 @@
 -- The octets up to the message that establishes a session, and the session of all octets.
 use Rattle.std.proofs.Common.{◌≡◌, ◌<◌, ◌≤◌, ℕ, zero, suc, List, [], ◌++◌, length, take, Bool, true, false, if◌then◌else◌, Option, Some, None, Result, Ok, Err, refl, ap, sym, ◌∙◌, subst, arith, append_assoc, append-nil}
 use Rattle.std.proofs.lemmas.List.{take-append-drop}
-use Rattle.fs_message.specs.declared.fault.MessageFault.{MessageFault}
-use Rattle.fs_message.specs.Stream.{Message, first_message, size_of, wrong_at}
+use Rattle.fs_peering.proofs.Words.{Closed, Last, Machine, Message, MessageFault, Phase, Update, closed, first_message, is_established, rest_closes, session_by, size_of, step_at, step_by, still, transition_by, wrong_at}
 use Rattle.fs_message.proofs.StreamLaws.{is_first, message_shrinks}
-use Rattle.fs_attrs.specs.declared.update.Update.{Update}
-use Rattle.fs_speaker.specs.Announcer.{is_established}
-use Rattle.fs_speaker.specs.Line.{step_at, step_by}
-use Rattle.fs_speaker.specs.Session.{Last, closed, rest_closes, session_by, still}
-use Rattle.fs_speaker.specs.Transition.{Machine, transition_by}
-use Rattle.fs_speaker.specs.declared.Closed.{Closed}
-use Rattle.fs_session.specs.declared.transition.Phase.{Phase}
 use Rattle.fs_speaker.proofs.Lasting.{last_update}
 use Rattle.fs_speaker.proofs.SessionSteps.{machine_stops, machine_takes, session_rest, step_found}
 use Rattle.fs_peering.specs.Opening.{opened_by}

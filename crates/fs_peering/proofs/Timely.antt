@@ -1,7 +1,7 @@
 -- Of moments between which no hold time can have passed some.
 use Rattle.std.proofs.Common.{inl, inr, ℕ, ◌+◌, ◌*◌, ◌<◌, ◌≤◌, List, [], ◌∷◌, ◌++◌, Bool, true, false, if◌then◌else◌}
 use Rattle.std.specs.List.{AllByRecursion}
-use Rattle.fs_base.specs.declared.config.Config.{Config}
+use Rattle.fs_peering.proofs.Words.{Config}
 use Rattle.fs_peering.specs.Joined.{Heard, moments_of, of_first, of_second}
 use Rattle.fs_peering.specs.Round.{Pieces, moments_in}
 use Rattle.fs_peering.specs.Pair.{IsTimely}

@@ -1,70 +1,24 @@
 -- A receiving end that hears what the announcing end says doesn't close, where nothing hinders the rules.
-use Rattle.std.proofs.Common.{◌≡◌, ◌⊎◌, inl, inr, ℕ, zero, suc, ◌≤◌, List, [], ◌∷◌, ◌++◌, length, map, take, Bool, true, false, Option, Some, None, Result, Ok, Err, refl, ap, sym, ◌∙◌, subst, append_assoc, append-nil, arith}
+use Rattle.std.proofs.Common.{◌≡◌, ◌⊎◌, inl, inr, ℕ, zero, suc, ◌≤◌, List, [], ◌∷◌, ◌++◌, length, map, take, Bool, true, Option, Some, None, Ok, refl, ap, sym, ◌∙◌, subst, append_assoc, append-nil, arith}
+use Rattle.std.proofs.lemmas.Bool.{true≢false as never}
 use Rattle.std.specs.List.{AllByRecursion}
 use Rattle.std.proofs.lemmas.Grind.{flat_map-append}
 use Rattle.std.proofs.lemmas.Option.{none-some}
-use Rattle.fs_base.specs.Config.{peer_of}
-use Rattle.fs_base.specs.Parts.{parts_of}
-use Rattle.fs_base.specs.declared.config.Config.{Config}
-use Rattle.fs_base.specs.declared.config.Peer.{Peer}
-use Rattle.fs_message.specs.Stream.{Message, first_message, wrong_at}
-use Rattle.fs_message.specs.declared.fault.MessageFault.{MessageFault}
+use Rattle.fs_peering.proofs.Words.{CanArrive, Closed, ComesBack, Config, Established, Handed, Last, Message, MessageFault, Peer, Phase, Point, Sending, Sent, Update, WaitKeep, WaitOpen, at_moment, at_start, bounded, bounded_from, bounded_replies, bounded_replies_from, closed, first_message, first_over, handed, open_sent, peer_of, phase, receiver, replies_to_limit, reply_at, reply_to, session_from, still, text_sent, tick_at, ticked, ticks, too_many, update_sent, wrong_at}
 use Rattle.fs_message.proofs.StreamLaws.{fault_stays, message_stable}
-use Rattle.fs_attrs.specs.declared.update.Update.{Update}
-use Rattle.fs_speaker.specs.End.{ticked, ticks}
-use Rattle.fs_speaker.specs.JointLaws.{CanArrive}
-use Rattle.fs_speaker.specs.Announcer.{open_sent}
-use Rattle.fs_speaker.specs.Handed.{Handed, Point, handed}
-use Rattle.fs_speaker.specs.Laws.{ComesBack}
 use Rattle.fs_speaker.specs.Replies.{replies_from, reply_rest}
-use Rattle.fs_speaker.specs.Sending.{text_sent, update_sent}
-use Rattle.fs_speaker.specs.Session.{Last, at_start, closed, plays, session_by, session_from, still}
-use Rattle.fs_speaker.specs.Side.{receiver, reply_at, reply_to}
-use Rattle.fs_speaker.specs.Times.{at_moment, tick_at}
-use Rattle.fs_speaker.specs.Transition.{Machine, faulted, phase, transition_by}
-use Rattle.fs_speaker.specs.declared.Sending.{Sending}
-use Rattle.fs_speaker.specs.declared.Sent.{Sent}
-use Rattle.fs_speaker.specs.declared.Closed.{Closed}
-use Rattle.fs_speaker.specs.declared.State.TheVariants.{WaitOpen, WaitKeep, Established}
-use Rattle.fs_session.specs.declared.transition.Phase.{Phase}
 use Rattle.fs_speaker.proofs.ReplySteps.{replies_rest, replies_takes, wrong_first}
-use Rattle.fs_speaker.proofs.SessionSteps.{going, machine_takes, plays_none, plays_step, session_rest, step_found}
-use Rattle.fs_desk.specs.Limit.{bounded, bounded_from, bounded_replies, bounded_replies_from, first_over, replies_to_limit, too_many}
+use Rattle.fs_speaker.proofs.SessionSteps.{machine_takes, session_rest, step_found}
 use Rattle.fs_peering.specs.Round.{Pieces, moments_in, octets_in}
 use Rattle.fs_peering.specs.Hearer.{ClosesIn, ExpiresAt, HasClosed, course_of}
 use Rattle.fs_peering.specs.Pair.{IsTimely, MayHold}
 use Rattle.fs_peering.specs.Sender.{TookOpen, rules_in, woven}
 use Rattle.fs_peering.proofs.Limits.{within}
-use Rattle.fs_peering.proofs.Quieting.{awaits_open}
-use Rattle.fs_speaker.proofs.Lasting.{last_update}
-use Rattle.fs_peering.proofs.Holding.{Keeps, closed_still, keeps, same_still}
-use Rattle.fs_peering.proofs.Meeting.{answers, meets, open_first, own_message, parts_arrive, peer_opens}
+use Rattle.fs_peering.proofs.Phases.{awaits_open, session_on}
+use Rattle.fs_peering.proofs.BothEnds.{answers, meets, open_first, own_message, parts_arrive, peer_opens}
 use Rattle.fs_peering.proofs.Replying.{waits_silent}
-use Rattle.fs_peering.proofs.Staying.{hearer_hold, never_due, stands}
+use Rattle.fs_peering.proofs.StaysOpen.{hearer_hold, never_due, stands}
 use Rattle.fs_peering.proofs.Timely.{timely_up_to}
-
-never : true ≡ false → ⊥
-never e = cc
-
--- an end past its OPEN stays past it
-past_stays : (machine : Machine) (messages : List Message) (now last : Phase) (wrong : Option MessageFault) → awaits_open now.state ≡ false
-    → (plays machine now messages wrong).1 ≡ still last → awaits_open last.state ≡ false
-past_stays machine [] now last None e h =
-    ap (λ (p : Phase). awaits_open p.state) (sym (same_still now last (sym (ap (λ (z : List Update × Last). z.1) (plays_none machine now None)) ∙ h))) ∙ e
-past_stays machine [] now last (Some fault) e h =
-    absurd (closed_still (faulted fault) last (sym (ap (λ (z : List Update × Last). z.1) (plays_none machine now (Some fault))) ∙ h))
-past_stays machine (message ∷ messages) now last wrong e h =
-    by (λ next f k. past_stays machine messages next last wrong f k) (transition_by machine now message) (keeps machine now message)
-    (sym (ap (λ (z : List Update × Last). z.1) (plays_step machine now message messages wrong)) ∙ h)
-  where
-    by : ((next : Phase) → awaits_open next.state ≡ false → (plays machine next messages wrong).1 ≡ still last → awaits_open last.state ≡ false)
-        → (made : Result (Phase × Option Update) Closed) → Keeps now made
-        → (going made (λ next. plays machine next messages wrong)).1 ≡ still last → awaits_open last.state ≡ false
-    by rest (Ok next) k g = rest next.0 k.0 (sym (last_update next.1 (plays machine next.0 messages wrong)) ∙ g)
-    by rest (Err why) k g = absurd (closed_still why last g)
-
-past_kept : (machine : Machine) (now last : Phase) (octets : List ℕ) → awaits_open now.state ≡ false → (session_by machine now octets).1 ≡ still last → awaits_open last.state ≡ false
-past_kept machine now last octets e h = past_stays machine (parts_of first_message octets).0 now last (wrong_at (parts_of first_message octets).1) e h
 
 all_take : (P : Sent → Type 0) (n : ℕ) (rules : List Sent) → AllByRecursion P rules → AllByRecursion P (take n rules)
 all_take P zero rules a = tt
@@ -185,7 +139,7 @@ module _ (config : Config) (whose : Peer) (sending : Sending) (can : CanArrive c
           (step_found (receiver config whose) at_start (octets_in heard) (own, f.0) (Ok (opened_phase, None)) f.1 (peer_opens config whose sending can)) in
           let found : (session_from config whose opened_phase (f.0 ++ [])).1 ≡ still here =
           sym (ap (λ (s : List Update × Last). s.1) goes) ∙ (stands (receiver config whose) heard alive).found in
-          absurd (never (sym silent ∙ past_kept (receiver config whose) opened_phase here (f.0 ++ []) refl found))
+          absurd (never (sym silent ∙ (session_on (receiver config whose) opened_phase here (f.0 ++ []) refl found).past))
 
   module _ (peer : ℕ) (whose_is : peer_of peer config.peers ≡ Some whose) where
     replies_are : (octets : List ℕ) → bounded_replies config peer octets ≡ bounded_replies_from config whose octets

@@ -2,7 +2,7 @@
 use Rattle.std.proofs.Common.{◌≡◌, ℕ, List, [], ◌++◌, Bool, true, false, Option, Some, None, take, drop, refl, ap, sym, ◌∙◌, append_assoc}
 use Rattle.std.specs.Prelude.{if◌then◌else◌}
 use Rattle.std.proofs.lemmas.List.{append-nil, take-append-drop}
-use Rattle.fs_base.specs.Wire.{TakesIn, Told, WireEnd, WireEnds, end_at, heard_end, other_than, wrote_end}
+use Rattle.fs_peering.proofs.Words.{TakesIn, Told, WireEnd, WireEnds, end_at, heard_end, other_than, wrote_end}
 
 -- one step and then another are one step
 pub told_and : (p q r : WireEnds → WireEnds → Type 0) → ((a b c : WireEnds) → p a b → q b c → r a c)
@@ -42,9 +42,6 @@ left_then false left xs ys = refl
 
 pub heard_then : (end : WireEnd) (xs ys : List ℕ) → heard_end ys (heard_end xs end) ≡ heard_end (xs ++ ys) end
 heard_then end xs ys = ap (λ (octets : List ℕ). record end { left = octets }) (left_then end.joined end.left xs ys)
-
-takes_none : (place : ℕ) (ends : WireEnds) → TakesIn place [] ends ends
-takes_none place ends = record { wrote = sym (wrote_none (end_at place ends)); other = sym (heard_none (other_than place ends)) }
 
 takes_then : (place : ℕ) (xs ys : List ℕ) (a b c : WireEnds) → TakesIn place xs a b → TakesIn place ys b c → TakesIn place (xs ++ ys) a c
 takes_then place xs ys a b c first later = record {

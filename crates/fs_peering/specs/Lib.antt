@@ -1,6 +1,6 @@
 pub mod Round
 pub mod Listening
-pub mod Flow
+pub mod InFlight
 pub mod Joined
 pub mod Opening
 pub mod HoldTime

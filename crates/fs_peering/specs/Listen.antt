@@ -16,8 +16,8 @@ use Rattle.fs_desk.specs.Limit.{bounded_session}
 use Rattle.fs_peering.specs.declared.tell.Ending.{Ending}
 use Rattle.fs_peering.specs.declared.tell.Ending.TheVariants.{Done, Closed as WasClosed, Ended, AtLimit}
 use Rattle.fs_peering.specs.Round.{Pieces, moments_in, octets_in}
-use Rattle.fs_peering.specs.declared.listening.Heard.{Heard}
-use Rattle.fs_peering.specs.declared.listening.Heard.TheVariants.{All, Over, AtLimit as MetIt}
+use Rattle.fs_peering.specs.declared.listening.Stopped.{Stopped}
+use Rattle.fs_peering.specs.declared.listening.Stopped.TheVariants.{All, Over, AtLimit as MetIt}
 use Rattle.fs_peering.specs.Hearer.{HasClosed, tape_of, course_of}
 
 -- the peer is up, and its session is established
@@ -54,7 +54,7 @@ ListensSo AtLimit desk peer whose limit heard said left = MeetsLimit desk peer w
 ListensSo (WasClosed why) desk peer whose limit heard said left = HasClosed desk.config peer whose heard said why
 
 -- The ending of a session of which no more is heard: a receiving end that has closed closes it.
-abbrev pub EndsHearing : Heard → Standing → Ending → Type 0
+abbrev pub EndsHearing : Stopped → Standing → Ending → Type 0
 EndsHearing Over standing ending = (why : Closed) → standing ≡ HasEnded why → ending ≡ WasClosed why
 EndsHearing MetIt standing ending = ending ≡ AtLimit
 EndsHearing All standing ending = ending ≡ (if is_settled standing then Done else Ended)

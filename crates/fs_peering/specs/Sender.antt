@@ -17,7 +17,7 @@ use Rattle.fs_speaker.specs.declared.State.{State}
 use Rattle.fs_speaker.specs.declared.State.TheVariants.{WaitOpen}
 use Rattle.fs_session.specs.declared.transition.Phase.{Phase}
 use Rattle.fs_peering.specs.Opening.{opened_by}
-use Rattle.fs_peering.specs.Teller.{is_settled, opening_of}
+use Rattle.fs_peering.specs.Teller.{HasHeard, is_settled, opening_of}
 use Rattle.fs_peering.specs.Round.{Pieces, octets_in}
 use Rattle.fs_peering.specs.Course.{course}
 
@@ -81,45 +81,52 @@ pub record Speaks (end : Announcing) (started : Bool) (heard : Pieces) (said : L
   pub began : end.line.closed ≡ None → Began end.line.phase.state end four heard parts
   pub unstarted : started ≡ false → (parts ≡ []) × (ending ≡ [])
 
--- From a phase with octets in hand an end is established by these octets. So many of them count: those up to and with
--- the message that establishes it.
-pub record CountsUp (machine : Machine) (begun : Phase) (held octets : List ℕ) (count : ℕ) : Type 0 where
+-- From a phase with octets in hand an end is established by these octets; one that doesn't hear on stays as it is then. So
+-- many of them count: those up to and with the message that establishes it.
+pub record CountsUp (hears_on : Bool) (machine : Machine) (begun : Phase) (held octets : List ℕ) (line : Lined) (count : ℕ)
+    : Type 0 where
   pub phase : Phase
   pub behind : List ℕ
   pub opens : (more : List ℕ) → opened_by machine begun (held ++ (octets ++ more)) ≡ (still phase, behind ++ more)
   pub up : is_established phase.state ≡ true
+  pub stays : hears_on ≡ false → line.phase ≡ phase
   pub counted : count + length behind ≡ length octets
 
 -- Or it isn't, and all of them count that it has taken: what is to come of them is what is to come of those in hand and
 -- of the rest.
-abbrev pub CountsBy : Bool → Machine → Phase → (held octets : List ℕ) → Lined → List ℕ → ℕ → Type 0
-CountsBy true machine begun held octets line rest count = CountsUp machine begun held octets count
-CountsBy false machine begun held octets line rest count =
+abbrev pub CountsBy : Bool → Bool → Machine → Phase → (held octets : List ℕ) → Lined → List ℕ → ℕ → Type 0
+CountsBy hears_on true machine begun held octets line rest count = CountsUp hears_on machine begun held octets line count
+CountsBy hears_on false machine begun held octets line rest count =
     ((more : List ℕ) → opened_by machine begun (held ++ (octets ++ more))
     ≡ opened_by machine line.phase (pending line.framing ++ (rest ++ more)))
     × (count + length rest ≡ length octets)
 
 -- So of a piece, where it was open and not established before it; the rest is still to be taken.
-abbrev pub CountsOn : Machine → Lined → Lined → (piece rest : List ℕ) → ℕ → Type 0
-CountsOn machine old line piece rest count = line.closed ≡ None
+abbrev pub CountsOn : Bool → Machine → Lined → Lined → (piece rest : List ℕ) → ℕ → Type 0
+CountsOn hears_on machine old line piece rest count = line.closed ≡ None
     → (old.closed ≡ None)
     × (is_established old.phase.state ≡ false
-    → CountsBy (is_established line.phase.state) machine old.phase (pending old.framing) piece line rest count)
+    → CountsBy hears_on (is_established line.phase.state) machine old.phase (pending old.framing) piece line rest count)
 
 -- and of all that it heard, while it is open
-abbrev pub CountsTo : Machine → Lined → ℕ → List ℕ → Type 0
-CountsTo machine line count octets = line.closed ≡ None
-    → CountsBy (is_established line.phase.state) machine at_start [] octets line [] count
+abbrev pub CountsTo : Bool → Machine → Lined → ℕ → List ℕ → Type 0
+CountsTo hears_on machine line count octets = line.closed ≡ None
+    → CountsBy hears_on (is_established line.phase.state) machine at_start [] octets line [] count
 
 -- What an end keeps of the other's octets, where it stays open.
 abbrev pub KeepsHand : Lined → Lined → Type 0
 KeepsHand old new = new.closed ≡ None
     → (old.closed ≡ None) × ((new.phase ≡ old.phase) × (new.framing ≡ old.framing))
 
+-- by whether it hears on once it is established
+abbrev pub SaysOn : Bool → Announcing → Bool → Pieces → List ℕ → Type 0
+SaysOn true end started heard said = Speaks end started heard said
+SaysOn false end started heard said = HasHeard end started heard said
+
 -- and so many of the octets count
-abbrev pub SpeaksUpTo : Announcing → Bool → ℕ → Pieces → List ℕ → Type 0
-SpeaksUpTo end started count heard said =
-    Speaks end started heard said × CountsTo (machine_in end) end.line count (octets_in heard)
+abbrev pub SaysUpTo : Bool → Announcing → Bool → ℕ → Pieces → List ℕ → Type 0
+SaysUpTo hears_on end started count heard said =
+    SaysOn hears_on end started heard said × CountsTo hears_on (machine_in end) end.line count (octets_in heard)
 
 -- only what it keeps of the other's octets changes, and one that is settled stays so
 abbrev pub KeepsSettled : Announcing → Announcing → Type 0

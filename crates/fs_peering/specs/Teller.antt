@@ -1,20 +1,20 @@
 -- An announcing end, by what it heard and said.
-use Rattle.std.specs.Prelude.{◌≡◌, ◌≢◌, ◌⊎◌, ◌||◌, ℕ, ◌+◌, ◌-◌, ◌*◌, List, [], ◌∷◌, ◌++◌, length, take, flat_map, Bool, true, false, if◌then◌else◌, Option, Some, None}
+use Rattle.std.specs.Prelude.{◌≡◌, ◌≢◌, ◌⊎◌, ◌||◌, ◌&&◌, not, ℕ, ◌+◌, ◌-◌, ◌*◌, List, [], ◌∷◌, ◌++◌, length, take, flat_map, Bool, true, false, if◌then◌else◌, Some, None}
 use Rattle.std.specs.Option.{is_some}
 use Rattle.fs_message.specs.Deframer.{pending}
 use Rattle.fs_speaker.specs.declared.Closed.{Closed}
 use Rattle.fs_speaker.specs.declared.Closed.TheVariants.{Fault}
-use Rattle.fs_speaker.specs.Announcer.{Announcing, announcing, is_established, machine_in, open_sent, with_line}
+use Rattle.fs_speaker.specs.Announcer.{Announcing, announcing, is_established, machine_in, open_sent}
 use Rattle.fs_speaker.specs.End.{StandsAt}
 use Rattle.fs_speaker.specs.Handed.{Point, hand}
-use Rattle.fs_speaker.specs.Line.{Lined, fresh, state_in, step_by, waits}
+use Rattle.fs_speaker.specs.Line.{Lined, fresh, state_in}
 use Rattle.fs_speaker.specs.Sending.{text_sent}
 use Rattle.fs_speaker.specs.Session.{at_start, closed, still}
 use Rattle.fs_speaker.specs.Transition.{Machine}
 use Rattle.fs_session.specs.declared.transition.Phase.{Phase}
 use Rattle.fs_peering.specs.Round.{Pieces, moments_in, octets_in}
 use Rattle.fs_peering.specs.Course.{course}
-use Rattle.fs_peering.specs.HoldTime.{AreTimely, Spans}
+use Rattle.fs_peering.specs.HoldTime.{Spans}
 use Rattle.fs_peering.specs.Opening.{opened_by}
 
 -- its OPEN, once it was said
@@ -25,15 +25,6 @@ opening_of end = if end.started then open_sent end.config end.peer end.sending e
 abbrev pub rules_of : Announcing → List ℕ
 rules_of end =
     flat_map (text_sent end.config end.peer end.line.phase.four end.sending) (take end.appended end.sending.rules)
-
--- An open end that isn't established: of the octets that it was handed it has yet to take `rest`. What is to come of them
--- and of all that follows is what is to come of those in hand and of these.
-pub record IsOpening (machine : Machine) (line : Lined) (moments octets rest : List ℕ) : Type 0 where
-  pub waits_is : step_by machine line.phase (pending line.framing) ≡ waits
-  pub goes : (more : List ℕ)
-      → opened_by machine at_start (octets ++ more)
-      ≡ opened_by machine line.phase (pending line.framing ++ (rest ++ more))
-  pub timely : AreTimely moments line.phase.hold line.times
 
 -- The hold time expired: of the octets a front was taken, which agrees on one above 0, and so much time passed.
 pub record HasExpired (machine : Machine) (moments octets : List ℕ) : Type 0 where
@@ -51,38 +42,32 @@ ClosesSo machine moments octets why =
     ((more : List ℕ) → opened_by machine at_start (octets ++ more) ≡ (closed why, []))
     ⊎ ((why ≡ Fault 4 0) × HasExpired machine moments octets)
 
--- of an established end what lies behind the message that established it isn't read
-abbrev pub StandsBy : Option Closed → Bool → Machine → Lined → (moments octets rest : List ℕ) → Type 0
-StandsBy (Some why) established machine line moments octets rest = ClosesSo machine moments octets why
-StandsBy None true machine line moments octets rest =
-    (more : List ℕ) → opened_by machine at_start (octets ++ more) ≡ (still line.phase, rest ++ more)
-StandsBy None false machine line moments octets rest = IsOpening machine line moments octets rest
-
-abbrev pub Stands : Machine → Lined → (moments octets rest : List ℕ) → Type 0
-Stands machine line moments octets rest =
-    StandsBy line.closed (is_established line.phase.state) machine line moments octets rest
-
 -- it is established, or has closed
 abbrev pub is_settled : Lined → Bool
 is_settled line = is_some line.closed || is_established (state_in line)
+
+-- Whether an end hears no more: it has closed, or it is established and doesn't hear on.
+abbrev pub is_over : Bool → Lined → Bool
+is_over true line = is_some line.closed
+is_over false line = is_settled line
+
+abbrev pub stops_at : Bool → Lined → Bool
+stops_at hears_on line = not hears_on && is_established (state_in line)
 
 -- open, and not established
 abbrev pub IsListening : Point → Type 0
 IsListening now = (now.closed ≡ None) × (is_established now.phase.state ≡ false)
 
 -- It heard these pieces, and said its OPEN, what is answered to them and what the clock appended, and the UPDATEs of the
--- first rules. It was open and not established behind all pieces but the last. All octets count but those behind the
--- message that establishes.
-pub record HasHeard (end : Announcing) (started : Bool) (count : ℕ) (heard : Pieces) (said : List ℕ) : Type 0 where
+-- first rules. It was open and not established behind all pieces but the last.
+pub record HasHeard (end : Announcing) (started : Bool) (heard : Pieces) (said : List ℕ) : Type 0 where
   pub started_is : end.started ≡ started
-  pub rest : List ℕ
-  pub stands : Stands (machine_in end) end.line (moments_in heard) (octets_in heard) rest
   pub at : is_established (state_in end.line) ≡ false → StandsAt (machine_in end) end.line (course (machine_in end) heard).point
   pub said_is : said ≡ opening_of end ++ ((course (machine_in end) heard).text ++ rules_of end)
   pub listened : (earlier : Pieces) (last : ℕ × List ℕ) → heard ≡ earlier ++ last ∷ []
       → IsListening (course (machine_in end) earlier).point
-  pub counted : count + length rest ≡ length (octets_in heard)
-  pub none : is_established (state_in end.line) ≡ false → (rest ≡ []) × (end.appended ≡ 0)
+  pub shut : (why : Closed) → end.line.closed ≡ Some why → ClosesSo (machine_in end) (moments_in heard) (octets_in heard) why
+  pub none : is_established (state_in end.line) ≡ false → end.appended ≡ 0
   pub unstarted : end.started ≡ false → (heard ≡ []) × (end.appended ≡ 0)
 
 -- how many messages it has still to say: its OPEN, and those of the rules
@@ -95,25 +80,15 @@ ahead_of end started =
 abbrev pub before_all : Announcing → Announcing
 before_all end = announcing end.config end.peer end.sending fresh false 0
 
--- From any point it says all that the piece makes of it; and unless it is established then, it stands where that leaves it.
-abbrev pub SaysTo : Machine → ℕ → (old new : Lined) → List ℕ → (out out' : List ℕ) → Type 0
-SaysTo machine moment old new piece out out' =
+-- From any point it says all that the piece makes of it; and unless it stops, it stands where that leaves it.
+abbrev pub SaysTo : Bool → Machine → ℕ → (old new : Lined) → List ℕ → (out out' : List ℕ) → Type 0
+SaysTo hears_on machine moment old new piece out out' =
     (now : Point) → StandsAt machine old now
     → (out' ≡ out ++ (hand machine moment now piece).text)
-    × (is_established (state_in new) ≡ false → StandsAt machine new (hand machine moment now piece).point)
+    × (stops_at hears_on new ≡ false → StandsAt machine new (hand machine moment now piece).point)
 
--- Of a piece the octets before the rest were taken at a moment, the last of those that it heard.
-abbrev pub Takes : Machine → ℕ → (old new : Lined) → (piece rest : List ℕ) → Type 0
-Takes machine moment old new piece rest =
-    (moments octets : List ℕ) → Stands machine old (moments ++ moment ∷ []) octets piece
-    → Stands machine new (moments ++ moment ∷ []) octets rest
-
--- the clock was heard
-abbrev pub Wakes : Machine → ℕ → (old new : Lined) → Type 0
-Wakes machine moment old new =
-    (moments octets : List ℕ) → Stands machine old moments octets []
-    → Stands machine new (moments ++ moment ∷ []) octets []
-
--- only what it keeps of the other's octets changes, and a closed one stays closed
-abbrev pub KeepsOwn : Announcing → Announcing → Type 0
-KeepsOwn old new = (new ≡ with_line old new.line) × (is_some old.line.closed ≡ true → is_some new.line.closed ≡ true)
+-- A piece that closes an end which isn't established does so whatever follows.
+abbrev pub ShutsBy : Machine → (old new : Lined) → List ℕ → Type 0
+ShutsBy machine old new piece =
+    (why : Closed) → new.closed ≡ Some why → old.closed ≡ None → is_established old.phase.state ≡ false
+    → (more : List ℕ) → opened_by machine old.phase (pending old.framing ++ (piece ++ more)) ≡ (closed why, [])

@@ -69,6 +69,8 @@ impl<'a> Speaker for Hearer<'a> {
 
     ghost over = { λ h. is_ended (standing_at_desk h.desk h.peer) };
 
+    ghost shut = { λ h. is_ended (standing_at_desk h.desk h.peer) };
+
     ghost ready = { λ h. false };
 
     ghost count = { λ h. h.count };

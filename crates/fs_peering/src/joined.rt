@@ -5,8 +5,8 @@ ghost use Rattle.std.specs.Result.{IsErrOf};
 ghost use Rattle.fs_base.specs.Outside.{Rose};
 ghost use Rattle.fs_peering.specs.Joined.{Exchanges, ended};
 
+use crate::buffers::Buffers;
 use crate::fault::TalkFault;
-use crate::room::Room;
 use crate::round::{Taken, speak, take_round};
 use crate::speaker::Speaker;
 use fs_base::{Clock, Memory, Wire};
@@ -28,21 +28,21 @@ pub enum Talk {
 
 /// The octets between two joined ends: how many are unread at each, and how many each has read.
 #[derive(Clone, Copy, Debug, PartialEq, Eq, Drop)]
-pub struct Flow {
+pub struct InFlight {
     pub to_first: u64,
     pub to_second: u64,
     pub first_read: u64,
     pub second_read: u64,
 }
 
-impl Flow {
-    ghost use Rattle.fs_peering.specs.Flow.{no_flow, first_heard, second_heard, second_said};
+impl InFlight {
+    ghost use Rattle.fs_peering.specs.InFlight.{no_flow, first_heard, second_heard, second_said};
 
     /// Nothing was said yet.
-    fn none() -> Flow
+    fn none() -> InFlight
         ensures { result ≡ no_flow }
     {
-        Flow {
+        InFlight {
             to_first: 0,
             to_second: 0,
             first_read: 0,
@@ -51,10 +51,10 @@ impl Flow {
     }
 
     /// The first end heard and said so much.
-    fn first_heard(&self, round: &Taken) -> Result<Flow, Memory>
+    fn first_heard(&self, round: &Taken) -> Result<InFlight, Memory>
         ensures { IfOk result (λ flow. flow ≡ first_heard round.now.count round.now.said self.now) }
     {
-        Ok(Flow {
+        Ok(InFlight {
             to_first: self.to_first.saturating_sub(round.count),
             to_second: sum(self.to_second, round.said)?,
             first_read: sum(self.first_read, round.count)?,
@@ -63,10 +63,10 @@ impl Flow {
     }
 
     /// The second end heard and said so much.
-    fn second_heard(&self, round: &Taken) -> Result<Flow, Memory>
+    fn second_heard(&self, round: &Taken) -> Result<InFlight, Memory>
         ensures { IfOk result (λ flow. flow ≡ second_heard round.now.count round.now.said self.now) }
     {
-        Ok(Flow {
+        Ok(InFlight {
             to_first: sum(self.to_first, round.said)?,
             to_second: self.to_second.saturating_sub(round.count),
             first_read: self.first_read,
@@ -75,10 +75,10 @@ impl Flow {
     }
 
     /// The second end said so much unasked.
-    fn second_said(&self, said: u64) -> Result<Flow, Memory>
+    fn second_said(&self, said: u64) -> Result<InFlight, Memory>
         ensures { IfOk result (λ flow. flow ≡ second_said said self.now) }
     {
-        Ok(Flow {
+        Ok(InFlight {
             to_first: sum(self.to_first, said)?,
             ..*self
         })
@@ -105,7 +105,7 @@ pub fn exchange<W: Wire, C: Clock, R: Speaker, A: Speaker>(
     first: &mut R,
     second: &mut A,
     limit: u64,
-    room: &mut Room,
+    buffers: &mut Buffers,
 ) -> Result<Talk, TalkFault>
     requires some { 1 ≤ limit }
     requires fresh { A.count second.old ≡ 0 }
@@ -134,10 +134,10 @@ pub fn exchange<W: Wire, C: Clock, R: Speaker, A: Speaker>(
         (C.answers clock.old)
         (C.answers clock.new)) }
 {
-    let mut flow = Flow::none();
+    let mut flow = InFlight::none();
     loop {
         if 0 < flow.to_first {
-            let round = take_round(wire, clock, 0, first, limit - flow.first_read, room)?;
+            let round = take_round(wire, clock, 0, first, limit - flow.first_read, buffers)?;
             flow = flow.first_heard(&round)?;
             if first.is_over() {
                 return Ok(Talk::FirstOver);
@@ -149,7 +149,7 @@ pub fn exchange<W: Wire, C: Clock, R: Speaker, A: Speaker>(
                 return Ok(Talk::Broken);
             }
         } else if 0 < flow.to_second && flow.second_read < limit {
-            let round = take_round(wire, clock, 1, second, limit - flow.second_read, room)?;
+            let round = take_round(wire, clock, 1, second, limit - flow.second_read, buffers)?;
             flow = flow.second_heard(&round)?;
             if second.is_over() {
                 return Ok(Talk::SecondOver);
@@ -161,7 +161,7 @@ pub fn exchange<W: Wire, C: Clock, R: Speaker, A: Speaker>(
                 return Ok(Talk::Broken);
             }
         } else {
-            let Some(said) = speak(wire, 1, second, room)? else {
+            let Some(said) = speak(wire, 1, second, buffers)? else {
                 return Ok(Talk::Done);
             };
             flow = flow.second_said(said)?;

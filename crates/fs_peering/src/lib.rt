@@ -2,6 +2,7 @@
 //! end that receives them, and both joined.
 #![tactic(auto)]
 
+mod buffers;
 mod fault;
 mod hearer;
 mod joined;
@@ -9,24 +10,21 @@ mod laws;
 mod listen;
 mod listening;
 mod pair;
-mod room;
 mod round;
-mod sender;
 mod speaker;
 mod steps;
 mod tell;
 mod teller;
 
+pub use buffers::Buffers;
 pub use fault::TalkFault;
 pub use hearer::Hearer;
-pub use joined::{Flow, Talk, exchange};
+pub use joined::{InFlight, Talk, exchange};
 pub use laws::{closes_unnamed, expires_late, never_expires, opens_the_session, sends_a_front};
 pub use listen::listen_over;
-pub use listening::{Heard, hear_out};
+pub use listening::{Stopped, hear_out};
 pub use pair::pair_over;
-pub use room::Room;
 pub use round::say_all;
-pub use sender::Sender;
 pub use speaker::Speaker;
 pub use steps::{closes, is_established, is_settled, say, start, sum};
 pub use tell::{Ending, announce_over};

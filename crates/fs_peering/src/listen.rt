@@ -8,10 +8,10 @@ ghost use Rattle.fs_peering.specs.Hearer.{Receives, is_ended};
 ghost use Rattle.fs_peering.specs.Listen.{EndsHearing, ListensOver, is_settled};
 ghost use Rattle.fs_speaker.specs.declared.Closed.{Closed};
 
+use crate::buffers::Buffers;
 use crate::fault::TalkFault;
 use crate::hearer::{Hearer, is_settled};
-use crate::listening::{Heard, hear_out};
-use crate::room::Room;
+use crate::listening::{Stopped, hear_out};
 use crate::tell::Ending;
 use fs_base::{Clock, Wire};
 use fs_speaker::Standing;
@@ -27,7 +27,7 @@ pub fn listen_over<W: Wire, C: Clock>(
     clock: &mut C,
     hearer: &mut Hearer<'_>,
     limit: u64,
-    room: &mut Room,
+    buffers: &mut Buffers,
 ) -> Result<Ending, TalkFault>
     requires some { 1 ≤ limit }
     requires fresh { Receives hearer.old.desk hearer.old.peer hearer.old.count [] [] }
@@ -38,18 +38,18 @@ pub fn listen_over<W: Wire, C: Clock>(
         ListensOver ending hearer.old.desk.config hearer.new.desk hearer.old.peer limit
         (W.tells wire.old) (W.tells wire.new) (C.answers clock.old) (C.answers clock.new)) }
 {
-    let heard = hear_out(wire, clock, 0, hearer, limit, room)?;
+    let heard = hear_out(wire, clock, 0, hearer, limit, buffers)?;
     Ok(ending_of(heard, hearer.standing()))
 }
 
 /// How the session ended of which no more is heard.
-fn ending_of(heard: Heard, standing: Standing) -> Ending
+fn ending_of(heard: Stopped, standing: Standing) -> Ending
     ensures { EndsHearing heard standing result }
 {
     match heard {
-        Heard::Over => closing_of(standing),
-        Heard::AtLimit => Ending::AtLimit,
-        Heard::All => end_of(standing),
+        Stopped::Over => closing_of(standing),
+        Stopped::AtLimit => Ending::AtLimit,
+        Stopped::All => end_of(standing),
     }
 }
 

@@ -5,15 +5,15 @@ ghost use Rattle.std.specs.Result.{IsErrOf};
 ghost use Rattle.fs_base.specs.Outside.{Rose};
 ghost use Rattle.fs_peering.specs.Listening.{HearsOut};
 
+use crate::buffers::Buffers;
 use crate::fault::TalkFault;
-use crate::room::Room;
 use crate::round::take_round;
 use crate::speaker::Speaker;
 use fs_base::{Clock, Wire};
 
 /// Why an end hears no more.
 #[derive(Clone, Copy, Debug, PartialEq, Eq, Drop)]
-pub enum Heard {
+pub enum Stopped {
     /// The stream ended.
     All,
     /// The end hears no more.
@@ -34,12 +34,12 @@ pub fn hear_out<W: Wire, C: Clock, S: Speaker>(
     end: u8,
     speaker: &mut S,
     limit: u64,
-    room: &mut Room,
-) -> Result<Heard, TalkFault>
+    buffers: &mut Buffers,
+) -> Result<Stopped, TalkFault>
     requires place { end ≤ 1 }
     requires some { S.count speaker.old < limit }
     requires open { S.over speaker.old ≡ false }
-    requires deaf { (s : S) → S.over s ≡ false → S.ready s ≡ false }
+    requires deaf { (s : S) → S.own s ≡ S.own speaker.old → S.over s ≡ false → S.ready s ≡ false }
     ensures later { W.faults wire.old ≤ W.faults wire.new }
     ensures failed { IsErrOf result TalkFault.Failed → Rose (W.faults wire.old) (W.faults wire.new) }
     ensures bound { OnOk result (S.count speaker.new ≤ limit) }
@@ -60,15 +60,15 @@ pub fn hear_out<W: Wire, C: Clock, S: Speaker>(
         (C.answers clock.new)) }
 {
     loop {
-        let round = take_round(wire, clock, end, speaker, limit - speaker.count(), room)?;
+        let round = take_round(wire, clock, end, speaker, limit - speaker.count(), buffers)?;
         if speaker.is_over() {
-            return Ok(Heard::Over);
+            return Ok(Stopped::Over);
         }
         if limit <= speaker.count() {
-            return Ok(Heard::AtLimit);
+            return Ok(Stopped::AtLimit);
         }
         if round.count == 0 {
-            return Ok(Heard::All);
+            return Ok(Stopped::All);
         }
     }
 }

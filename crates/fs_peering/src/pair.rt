@@ -1,7 +1,6 @@
 //! Both ends over a wire that joins them.
 
-ghost use Rattle.std.specs.Prelude.{◌≡◌, ◌≤◌, [], Some, false, IfOk};
-ghost use Rattle.std.specs.Option.{is_some};
+ghost use Rattle.std.specs.Prelude.{◌≡◌, ◌≤◌, [], Some, false, true, IfOk};
 ghost use Rattle.std.specs.Result.{IsErrOf};
 ghost use Rattle.fs_base.specs.Config.{peer_of};
 ghost use Rattle.fs_base.specs.Outside.{Rose};
@@ -11,16 +10,17 @@ ghost use Rattle.fs_desk.specs.Desk.{standing_at_desk};
 ghost use Rattle.fs_peering.specs.Tell.{begins_with};
 ghost use Rattle.fs_peering.specs.Hearer.{Receives, is_ended};
 ghost use Rattle.fs_peering.specs.Pair.{EndsTalk, PairsOver};
+ghost use Rattle.fs_peering.specs.Teller.{is_over};
 ghost use Rattle.fs_speaker.specs.declared.Sending.{Sending};
 
+use crate::buffers::Buffers;
 use crate::fault::TalkFault;
 use crate::hearer::Hearer;
 use crate::joined::{Talk, exchange};
 use crate::listen::closing_of;
-use crate::room::Room;
-use crate::sender::Sender;
 use crate::speaker::Speaker;
 use crate::tell::Ending;
+use crate::teller::Teller;
 use fs_base::{Clock, Wire};
 use fs_speaker::Closed;
 
@@ -36,41 +36,42 @@ pub fn pair_over<W: Wire, C: Clock>(
     wire: &mut W,
     clock: &mut C,
     hearer: &mut Hearer<'_>,
-    sender: &mut Sender<'_>,
+    teller: &mut Teller<'_>,
     limit: u64,
-    room: &mut Room,
+    buffers: &mut Buffers,
 ) -> Result<Ending, TalkFault>
     requires some { 1 ≤ limit }
     requires fresh { Receives hearer.old.desk hearer.old.peer hearer.old.count [] [] }
     requires open { is_ended (standing_at_desk hearer.old.desk hearer.old.peer) ≡ false }
-    requires unheard { sender.old.count ≡ 0 }
-    requires other { is_some sender.old.announcer.line.closed ≡ false }
+    requires unheard { teller.old.count ≡ 0 }
+    requires on { teller.old.hears_on ≡ true }
+    requires other { is_over teller.old.hears_on teller.old.announcer.line ≡ false }
     ensures later { W.faults wire.old ≤ W.faults wire.new }
     ensures failed { IsErrOf result TalkFault.Failed → Rose (W.faults wire.old) (W.faults wire.new) }
     ensures pairs { IfOk result (λ ending. (config : Config) (whose : Peer) (sending : Sending)
         → hearer.old.desk.config ≡ config → peer_of hearer.old.peer config.peers ≡ Some whose
-        → sender.old.announcer ≡ begins_with config whose sending → sender.old.started ≡ false
+        → teller.old.announcer ≡ begins_with config whose sending → teller.old.started ≡ false
         → PairsOver ending config whose sending hearer.new.desk hearer.old.peer limit
         (W.tells wire.old) (W.tells wire.new) (C.answers clock.old) (C.answers clock.new)) }
 {
-    let talk = exchange(wire, clock, hearer, sender, limit, room)?;
-    Ok(ending_of(talk, hearer, sender))
+    let talk = exchange(wire, clock, hearer, teller, limit, buffers)?;
+    Ok(ending_of(talk, hearer, teller))
 }
 
 /// How the session ended of which no more is heard.
-fn ending_of(talk: Talk, hearer: &Hearer<'_>, sender: &Sender<'_>) -> Ending
-    ensures { EndsTalk talk (standing_at_desk hearer.now.desk hearer.now.peer) sender.now.announcer.line result }
+fn ending_of(talk: Talk, hearer: &Hearer<'_>, teller: &Teller<'_>) -> Ending
+    ensures { EndsTalk talk (standing_at_desk hearer.now.desk hearer.now.peer) teller.now.announcer.line result }
 {
     match talk {
         Talk::Done => {
-            if sender.is_ready() {
+            if teller.is_ready() {
                 Ending::Done
             } else {
                 Ending::Ended
             }
         }
         Talk::FirstOver => closing_of(hearer.standing()),
-        Talk::SecondOver => closed_as(sender.closed()),
+        Talk::SecondOver => closed_as(teller.closed()),
         Talk::AtLimit => Ending::AtLimit,
         Talk::Broken => Ending::Ended,
     }

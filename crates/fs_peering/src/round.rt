@@ -9,8 +9,8 @@ ghost use Rattle.fs_base.specs.Wire.{EndReads, TakesIn, Told};
 ghost use Rattle.fs_base.specs.declared.Failed.{Failed};
 ghost use Rattle.fs_peering.specs.Round.{Speech, Spoken, Round};
 
+use crate::buffers::{Buffers, PIECE};
 use crate::fault::TalkFault;
-use crate::room::{PIECE, Room};
 use crate::speaker::Speaker;
 use fs_base::{Clock, Failed, Wire};
 
@@ -73,7 +73,7 @@ pub fn take_round<W: Wire, C: Clock, S: Speaker>(
     end: u8,
     speaker: &mut S,
     left: u64,
-    room: &mut Room,
+    buffers: &mut Buffers,
 ) -> Result<Taken, TalkFault>
     requires place { end ≤ 1 }
     requires some { 1 ≤ left }
@@ -96,14 +96,14 @@ pub fn take_round<W: Wire, C: Clock, S: Speaker>(
     ensures own { OnOk result (S.own speaker.new ≡ S.own speaker.old) }
 {
     let most = left.min(PIECE as u64) as usize;
-    let Arrival { moment, count } = read_end(wire, clock, end, &mut room.buffer[..most])?;
-    room.out.clear();
-    speaker.hear(moment, &room.buffer[..count], &mut room.out)?;
-    write_end(wire, end, &room.out)?;
+    let Arrival { moment, count } = read_end(wire, clock, end, &mut buffers.buffer[..most])?;
+    buffers.out.clear();
+    speaker.hear(moment, &buffers.buffer[..count], &mut buffers.out)?;
+    write_end(wire, end, &buffers.out)?;
     Ok(Taken {
         moment,
         count: count as u64,
-        said: room.out.len() as u64,
+        said: buffers.out.len() as u64,
     })
 }
 
@@ -112,7 +112,7 @@ pub fn speak<W: Wire, S: Speaker>(
     wire: &mut W,
     end: u8,
     speaker: &mut S,
-    room: &mut Room,
+    buffers: &mut Buffers,
 ) -> Result<Option<u64>, TalkFault>
     requires { end ≤ 1 }
     ensures later { W.faults wire.old ≤ W.faults wire.new }
@@ -126,15 +126,16 @@ pub fn speak<W: Wire, S: Speaker>(
     ensures all { IfOk result (λ said. said ≡ None → IsTrue (S.ready speaker.old) → S.ahead speaker.new ≡ 0) }
     ensures begun { IfOk result (λ said. said ≡ None → S.over speaker.old ≡ false → IsTrue (S.begun speaker.new)) }
     ensures over { OnOk result (S.over speaker.new ≡ S.over speaker.old) }
+    ensures shut { OnOk result (S.shut speaker.new ≡ S.shut speaker.old) }
     ensures ready { OnOk result (S.ready speaker.new ≡ S.ready speaker.old) }
     ensures count { OnOk result (S.count speaker.new ≡ S.count speaker.old) }
     ensures own { OnOk result (S.own speaker.new ≡ S.own speaker.old) }
 {
-    room.out.clear();
-    let had = speaker.next(&mut room.out)?;
-    write_end(wire, end, &room.out)?;
+    buffers.out.clear();
+    let had = speaker.next(&mut buffers.out)?;
+    write_end(wire, end, &buffers.out)?;
     Ok(if had {
-        Some(room.out.len() as u64)
+        Some(buffers.out.len() as u64)
     } else {
         None
     })
@@ -145,7 +146,7 @@ pub fn say_all<W: Wire, S: Speaker>(
     wire: &mut W,
     end: u8,
     speaker: &mut S,
-    room: &mut Room,
+    buffers: &mut Buffers,
 ) -> Result<(), TalkFault>
     requires { end ≤ 1 }
     ensures later { W.faults wire.old ≤ W.faults wire.new }
@@ -154,10 +155,11 @@ pub fn say_all<W: Wire, S: Speaker>(
         (Told (Spoken (S.stands speaker.old) (S.stands speaker.new) end) (W.tells wire.old) (W.tells wire.new)) }
     ensures all { OnOk result (IsTrue (S.ready speaker.old) → S.ahead speaker.new ≡ 0) }
     ensures over { OnOk result (S.over speaker.new ≡ S.over speaker.old) }
+    ensures shut { OnOk result (S.shut speaker.new ≡ S.shut speaker.old) }
     ensures ready { OnOk result (S.ready speaker.new ≡ S.ready speaker.old) }
     ensures count { OnOk result (S.count speaker.new ≡ S.count speaker.old) }
     ensures own { OnOk result (S.own speaker.new ≡ S.own speaker.old) }
 {
-    'messages: while let Some(_) = speak(wire, end, speaker, room)? {}
+    'messages: while let Some(_) = speak(wire, end, speaker, buffers)? {}
     Ok(())
 }

@@ -13,6 +13,9 @@ pub trait Speaker {
     /// Whether it hears no more: it has closed, or needs to hear no more.
     ghost over: { Self → Bool };
 
+    /// Whether it has closed.
+    ghost shut: { Self → Bool };
+
     /// Whether it says what it has to say without hearing more.
     ghost ready: { Self → Bool };
 
@@ -59,6 +62,7 @@ pub trait Speaker {
         ensures all { IfOk result (λ had. had ≡ false → IsTrue (ready self.old) → ahead self.new ≡ 0) }
         ensures begun { IfOk result (λ had. had ≡ false → over self.old ≡ false → IsTrue (begun self.new)) }
         ensures over { OnOk result (over self.new ≡ over self.old) }
+        ensures shut { OnOk result (shut self.new ≡ shut self.old) }
         ensures ready { OnOk result (ready self.new ≡ ready self.old) }
         ensures count { OnOk result (count self.new ≡ count self.old) }
         ensures own { OnOk result (own self.new ≡ own self.old) };

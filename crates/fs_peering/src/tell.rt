@@ -7,11 +7,11 @@ ghost use Rattle.fs_base.specs.declared.config.Config.{Config};
 ghost use Rattle.fs_base.specs.declared.config.Peer.{Peer};
 ghost use Rattle.fs_speaker.specs.declared.Sending.{Sending};
 ghost use Rattle.fs_peering.specs.Tell.{TellsOver, begins_with};
-ghost use Rattle.fs_peering.specs.Teller.{is_settled};
+ghost use Rattle.fs_peering.specs.Teller.{is_over};
 
+use crate::buffers::Buffers;
 use crate::fault::TalkFault;
-use crate::listening::{Heard, hear_out};
-use crate::room::Room;
+use crate::listening::{Stopped, hear_out};
 use crate::round::say_all;
 use crate::speaker::Speaker;
 use crate::teller::Teller;
@@ -42,11 +42,12 @@ pub fn announce_over<W: Wire, C: Clock>(
     clock: &mut C,
     teller: &mut Teller<'_>,
     limit: u64,
-    room: &mut Room,
+    buffers: &mut Buffers,
 ) -> Result<Ending, TalkFault>
     requires some { 1 ≤ limit }
     requires fresh { teller.old.count ≡ 0 }
-    requires open { is_settled teller.old.announcer.line ≡ false }
+    requires early { teller.old.hears_on ≡ false }
+    requires open { is_over teller.old.hears_on teller.old.announcer.line ≡ false }
     ensures later { W.faults wire.old ≤ W.faults wire.new }
     ensures failed { IsErrOf result TalkFault.Failed → Rose (W.faults wire.old) (W.faults wire.new) }
     ensures tells { IfOk result (λ ending. (config : Config) (peer : Peer) (sending : Sending)
@@ -54,19 +55,19 @@ pub fn announce_over<W: Wire, C: Clock>(
         → TellsOver ending config peer sending limit (W.tells wire.old) (W.tells wire.new)
         (C.answers clock.old) (C.answers clock.new)) }
 {
-    say_all(wire, 1, teller, room)?;
-    match hear_out(wire, clock, 1, teller, limit, room)? {
-        Heard::Over => {
+    say_all(wire, 1, teller, buffers)?;
+    match hear_out(wire, clock, 1, teller, limit, buffers)? {
+        Stopped::Over => {
             if let Some(why) = teller.closed() {
                 return Ok(Ending::Closed(why));
             }
             if limit <= teller.count() {
                 return Ok(Ending::AtLimit);
             }
-            say_all(wire, 1, teller, room)?;
+            say_all(wire, 1, teller, buffers)?;
             Ok(Ending::Done)
         }
-        Heard::AtLimit => Ok(Ending::AtLimit),
-        Heard::All => Ok(Ending::Ended),
+        Stopped::AtLimit => Ok(Ending::AtLimit),
+        Stopped::All => Ok(Ending::Ended),
     }
 }

@@ -1,10 +1,11 @@
-//! The announcing end, up to the message that establishes its session.
+//! The announcing end of a session.
 
-ghost use Rattle.std.specs.Prelude.{◌≡◌, ◌≤◌, ◌<◌, true, false, length, drop, IfOk, IfSome, OnOk};
-ghost use Rattle.fs_speaker.specs.Announcer.{is_established, machine_in};
+ghost use Rattle.std.specs.Prelude.{◌≡◌, ◌≤◌, ◌<◌, [], Bool, true, false, length, IfOk, IfSome, OnOk};
+ghost use Rattle.fs_speaker.specs.Announcer.{machine_in};
 ghost use Rattle.fs_speaker.specs.End.{TicksOver};
-ghost use Rattle.fs_speaker.specs.Line.{state_in};
-ghost use Rattle.fs_peering.specs.Teller.{ahead_of, KeepsOwn, SaysTo, Takes, Wakes};
+ghost use Rattle.fs_peering.specs.Round.{Says};
+ghost use Rattle.fs_peering.specs.Teller.{SaysTo, ShutsBy, ahead_of, before_all, stops_at};
+ghost use Rattle.fs_peering.specs.Sender.{CountsOn, KeepsHand, KeepsSettled, SaysOn};
 
 use crate::speaker::Speaker;
 use crate::steps::{closes, is_established, is_settled, say, start, sum};
@@ -12,33 +13,45 @@ use fs_base::{Config, Memory};
 use fs_speaker::{Announcer, Closed, Sending};
 use std::alloc::Global;
 
-/// An announcing end that hears octets up to and with the message that establishes its session. It says its OPEN, what
-/// it replies, and once established its rules.
+/// An announcing end: it says its OPEN, what it replies, and once established its rules. At each piece it first hears
+/// the clock. It hears octets up to and with the message that establishes its session, or all that come; those up to
+/// there are counted.
 #[derive(Drop)]
 pub struct Teller<'a> {
     announcer: Announcer<'a>,
+    hears_on: bool,
     started: bool,
     count: u64,
 }
 
 impl<'a> Teller<'a> {
-    ghost use Rattle.fs_speaker.specs.Announcer.{announcing, CanSend};
+    ghost use Rattle.fs_speaker.specs.Announcer.{CanSend, announcing};
     ghost use Rattle.fs_speaker.specs.Line.{fresh};
     ghost use Rattle.fs_speaker.specs.Sending.{sender_of};
-    ghost use Rattle.fs_peering.specs.Teller.{HasHeard, ahead_of, before_all, is_settled};
-    ghost use Rattle.fs_peering.specs.Round.{Says};
+    ghost use Rattle.fs_peering.specs.Teller.{is_over};
 
-    /// The end of the peer with the lowest number, before its OPEN.
-    pub fn new(alloc: Global, config: &'a Config, sending: Sending) -> Result<Teller<'a>, Memory>
+    /// The end of the peer with the lowest number, before its OPEN. Whether it hears on once it is established.
+    ///
+    /// # Errors
+    ///
+    /// `Memory` where the machine refused memory.
+    pub fn new(
+        alloc: Global,
+        config: &'a Config,
+        sending: Sending,
+        hears_on: bool,
+    ) -> Result<Teller<'a>, Memory>
         requires { CanSend config.now (sender_of config.now.peers) sending }
-        ensures open { IfOk result (λ made. is_settled made.announcer.line ≡ false) }
+        ensures open { IfOk result (λ made. is_over made.hears_on made.announcer.line ≡ false) }
         ensures fresh { IfOk result (λ made. made.count ≡ 0) }
+        ensures on { IfOk result (λ made. made.hears_on ≡ hears_on) }
         ensures made { IfOk result (λ made. IfSome (sender_of config.now.peers) (λ peer.
             (made.announcer ≡ announcing config.now peer sending fresh false 0)
             × (made.started ≡ false))) }
     {
         Ok(Teller {
             announcer: Announcer::new(alloc, config, sending)?,
+            hears_on,
             started: false,
             count: 0,
         })
@@ -50,39 +63,32 @@ impl<'a> Teller<'a> {
     {
         self.announcer.closed()
     }
+}
 
-    /// Says its OPEN, unless it did.
-    fn begin(&mut self, out: &mut Vec<u8>) -> Result<(), Memory>
-        ensures started { OnOk result (self.new.started ≡ true) }
-        ensures same { OnOk result (self.new.announcer.line ≡ self.old.announcer.line) }
-        ensures own { OnOk result (before_all self.new.announcer ≡ before_all self.old.announcer) }
-        ensures count { self.new.count ≡ self.old.count }
-        ensures sent { OnOk result (self.new.announcer.appended ≡ self.old.announcer.appended) }
-        ensures ahead { ahead_of self.new.announcer self.new.started ≤ ahead_of self.old.announcer self.old.started }
-        ensures fewer { OnOk result (self.old.started ≡ false
-            → ahead_of self.new.announcer self.new.started < ahead_of self.old.announcer self.old.started) }
-        ensures begins { OnOk result (Says
-            (HasHeard self.old.announcer self.old.started self.old.count)
-            (HasHeard self.new.announcer self.new.started self.new.count)
-            out.old.items out.new.items) }
-    {
-        if self.started {
-            return Ok(());
-        }
-        start(&mut self.announcer, out)?;
-        self.started = true;
-        Ok(())
+/// Says its OPEN, unless it was said.
+fn begin(announcer: &mut Announcer<'_>, started: bool, out: &mut Vec<u8>) -> Result<(), Memory>
+    ensures own { OnOk result (before_all announcer.new ≡ before_all announcer.old) }
+    ensures same { OnOk result (announcer.new.line ≡ announcer.old.line) }
+    ensures sent { OnOk result (announcer.new.appended ≡ announcer.old.appended) }
+    ensures ahead { ahead_of announcer.new started ≤ ahead_of announcer.old started }
+    ensures least { OnOk result (ahead_of announcer.new true ≤ ahead_of announcer.old started) }
+    ensures fewer { OnOk result (started ≡ false → ahead_of announcer.new true < ahead_of announcer.old started) }
+    ensures begins { OnOk result ((hears_on : Bool) → Says
+        (SaysOn hears_on announcer.old started) (SaysOn hears_on announcer.new true)
+        out.old.items out.new.items) }
+{
+    if started {
+        return Ok(());
     }
+    start(announcer, out)
 }
 
 /// The clock, at a moment.
 fn wake(announcer: &mut Announcer<'_>, moment: u64, out: &mut Vec<u8>) -> Result<(), Memory>
-    requires { is_established (state_in announcer.old.line) ≡ false }
-    ensures wakes { OnOk result (Wakes (machine_in announcer.old) moment announcer.old.line announcer.new.line) }
-    ensures ticks { OnOk result (TicksOver
+    ensures wakes { OnOk result (TicksOver
         (machine_in announcer.old) moment announcer.old.line announcer.new.line out.old.items out.new.items) }
-    ensures early { is_established (state_in announcer.new.line) ≡ false }
-    ensures same { KeepsOwn announcer.old announcer.new }
+    ensures same { KeepsSettled announcer.old announcer.new }
+    ensures kept { KeepsHand announcer.old.line announcer.new.line }
 {
     match announcer.tick(moment, out) {
         Ok(()) => Ok(()),
@@ -90,50 +96,69 @@ fn wake(announcer: &mut Announcer<'_>, moment: u64, out: &mut Vec<u8>) -> Result
     }
 }
 
-/// Takes the piece message by message, up to and with the one that establishes the session, or up to what closes it.
-/// Answers how many octets that were, all of them where none establishes it.
-fn take_until(
+/// Whether an end takes no more of a piece: it is established, and doesn't hear on.
+fn stops(announcer: &Announcer<'_>, hears_on: bool) -> bool
+    ensures { result ≡ stops_at hears_on announcer.now.line }
+{
+    !hears_on && is_established(announcer.state())
+}
+
+/// Takes the piece message by message, up to what closes the end, and where it doesn't hear on up to and with the one that
+/// establishes it. Answers how many octets that were up to and with the message that settled the end: all of them where
+/// none did.
+fn take(
     announcer: &mut Announcer<'_>,
+    hears_on: bool,
     moment: u64,
     piece: &[u8],
     out: &mut Vec<u8>,
 ) -> Result<usize, Memory>
-    requires { is_established (state_in announcer.old.line) ≡ false }
-    ensures bound { IfOk result (λ count. count ≤ length piece.now) }
-    ensures says { OnOk result (SaysTo
+    ensures says { OnOk result (SaysTo hears_on
         (machine_in announcer.old) moment announcer.old.line announcer.new.line piece.now out.old.items out.new.items) }
-    ensures taken { IfOk result (λ count. Takes
-        (machine_in announcer.old) moment announcer.old.line announcer.new.line piece.now (drop count piece.now)) }
-    ensures all { IfOk result (λ count.
-        is_established (state_in announcer.new.line) ≡ false → count ≡ length piece.now) }
-    ensures same { KeepsOwn announcer.old announcer.new }
+    ensures same { KeepsSettled announcer.old announcer.new }
+    ensures bound { IfOk result (λ needed. needed ≤ length piece.now) }
+    ensures counts { IfOk result (λ needed. CountsOn hears_on
+        (machine_in announcer.old) announcer.old.line announcer.new.line piece.now [] needed) }
+    ensures shuts { OnOk result (hears_on ≡ false
+        → ShutsBy (machine_in announcer.old) announcer.old.line announcer.new.line piece.now) }
 {
     let mut rest = piece;
+    let mut needed = 0;
     'messages: loop {
+        let was_settled = is_settled(announcer);
         match announcer.feed_at(moment, rest, out) {
-            Ok(count) => rest = &rest[count..],
+            Ok(count) => {
+                if !was_settled {
+                    needed += count;
+                }
+                rest = &rest[count..];
+            }
             Err(why) => {
                 closes(why)?;
-                return Ok(piece.len());
+                return Ok(needed);
             }
         }
-        if is_established(announcer.state()) {
-            return Ok(piece.len() - rest.len());
-        }
         if rest.is_empty() {
-            return Ok(piece.len());
+            return Ok(needed);
+        }
+        if stops(announcer, hears_on) {
+            return Ok(needed);
         }
     }
 }
 
 impl<'a> Speaker for Teller<'a> {
-    ghost use Rattle.fs_peering.specs.Teller.{HasHeard, ahead_of, before_all, is_settled};
+    ghost use Rattle.std.specs.Option.{is_some};
+    ghost use Rattle.fs_peering.specs.Teller.{is_over, is_settled};
+    ghost use Rattle.fs_peering.specs.Sender.{SaysUpTo};
 
-    ghost stands = { λ t heard said. HasHeard t.announcer t.started t.count heard said };
+    ghost stands = { λ t heard said. SaysUpTo t.hears_on t.announcer t.started t.count heard said };
 
-    ghost over = { λ t. is_settled t.announcer.line };
+    ghost over = { λ t. is_over t.hears_on t.announcer.line };
 
-    ghost ready = { λ t. is_established (state_in t.announcer.line) };
+    ghost shut = { λ t. is_some t.announcer.line.closed };
+
+    ghost ready = { λ t. is_settled t.announcer.line };
 
     ghost count = { λ t. t.count };
 
@@ -143,13 +168,17 @@ impl<'a> Speaker for Teller<'a> {
 
     ghost sent = { λ t. t.announcer.appended };
 
-    ghost own = { λ t. record { announcer = before_all t.announcer; started = false; count = 0 } };
+    ghost own = { λ t. record { announcer = before_all t.announcer; hears_on = t.hears_on; started = false; count = 0 } };
 
     fn hear(&mut self, moment: u64, piece: &[u8], out: &mut Vec<u8>) -> Result<(), Memory> {
-        self.begin(out)?;
+        let was_ready = self.is_ready();
+        begin(&mut self.announcer, self.started, out)?;
+        self.started = true;
         wake(&mut self.announcer, moment, out)?;
-        let count = take_until(&mut self.announcer, moment, piece, out)?;
-        self.count = sum(self.count, count)?;
+        let needed = take(&mut self.announcer, self.hears_on, moment, piece, out)?;
+        if !was_ready {
+            self.count = sum(self.count, needed)?;
+        }
         Ok(())
     }
 
@@ -158,18 +187,23 @@ impl<'a> Speaker for Teller<'a> {
             return Ok(false);
         }
         if !self.started {
-            self.begin(out)?;
+            begin(&mut self.announcer, self.started, out)?;
+            self.started = true;
             return Ok(true);
         }
         say(&mut self.announcer, out)
     }
 
     fn is_over(&self) -> bool {
-        is_settled(&self.announcer)
+        if self.hears_on {
+            self.announcer.closed().is_some()
+        } else {
+            is_settled(&self.announcer)
+        }
     }
 
     fn is_ready(&self) -> bool {
-        is_established(self.announcer.state())
+        is_settled(&self.announcer)
     }
 
     fn count(&self) -> u64 {

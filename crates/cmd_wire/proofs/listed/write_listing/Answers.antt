@@ -1,5 +1,5 @@
-use Rattle.fs_base.specs.Outside.{Rose}
-use Rattle.cmd_wire.proofs.Telling.{told_listing}
+use Rattle.cmd_wire.proofs.Words.{Rose}
+use Rattle.cmd_wire.proofs.Listings.{told_listing}
 use Rattle.cmd_wire.proofs.listed.write_listing.Goals as goal
 
 pub returns-clause-told : goal.returns-clause-told

@@ -1,5 +1,5 @@
 use Rattle.std.proofs.Common.{◌⊎◌, inl, inr}
-use Rattle.fs_base.specs.Outside.{Rose}
+use Rattle.cmd_wire.proofs.Words.{Rose}
 use Rattle.cmd_stages.proofs.Stages.{answered_err}
 use Rattle.cmd_wire.specs.Announcing.{IsOfSession}
 use Rattle.cmd_wire.specs.Listening.{ListenedSo}

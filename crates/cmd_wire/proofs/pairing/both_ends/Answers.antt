@@ -1,5 +1,5 @@
-use Rattle.fs_speaker.specs.Sending.{sender_of}
-use Rattle.cmd_wire.proofs.FromPairing.{both_begin, lowest_broken, still_open, unheard}
+use Rattle.cmd_wire.proofs.Words.{sender_of}
+use Rattle.cmd_wire.proofs.FromPairing.{both_begin, lowest_broken}
 use Rattle.cmd_wire.proofs.pairing.both_ends.Goals as goal
 
 pub returns-in_err-hearer-clause-broken : goal.returns-in_err-hearer-clause-broken
@@ -7,20 +7,10 @@ returns-in_err-hearer-clause-broken c =
     lowest_broken c.args.config.now (sender_of c.args.config.now.peers) c.args.sending c.from_residual.result c.in_err-hearer.field-0.0
     c.requires c.in_err-hearer.ensures.begins c.from_residual.ensures.1
 
-pub returns-clause-unheard : goal.returns-clause-unheard
-returns-clause-unheard c =
-    unheard c.args.config.now (sender_of c.args.config.now.peers) c.args.sending c.in_ok-sender.sender.announcer c.in_ok-sender.sender.started c.in_ok-sender.sender.count
-    c.requires c.in_ok-sender.ensures
-
-pub returns-clause-other : goal.returns-clause-other
-returns-clause-other c =
-    still_open c.args.config.now (sender_of c.args.config.now.peers) c.args.sending c.in_ok-sender.sender.announcer c.in_ok-sender.sender.started c.in_ok-sender.sender.count
-    c.requires c.in_ok-sender.ensures
-
 pub returns-clause-fresh : goal.returns-clause-fresh
 returns-clause-fresh c = c.in_ok-hearer.ensures.begins.fresh
 
 pub returns-clause-begins : goal.returns-clause-begins
 returns-clause-begins c =
     both_begin c.args.config.now c.args.sending c.in_ok-hearer.hearer.desk c.in_ok-hearer.hearer.peer c.in_ok-hearer.hearer.count
-    c.in_ok-sender.sender.announcer c.in_ok-sender.sender.started c.in_ok-sender.sender.count c.in_ok-hearer.ensures.begins c.in_ok-sender.ensures
+    c.in_ok-teller.teller.announcer c.in_ok-teller.teller.started c.in_ok-hearer.ensures.begins c.in_ok-teller.ensures.made

@@ -1,5 +1,5 @@
 use Rattle.std.proofs.Common.{◌≡◌, ℕ, ap, subst, ◌∙◌}
-use Rattle.fs_desk.specs.Desk.{standing_at_desk}
+use Rattle.fs_peering.proofs.Words.{standing_at_desk}
 use Rattle.fs_peering.specs.Hearer.{is_ended}
 use Rattle.fs_peering.specs.Listen.{EndsHearing}
 use Rattle.fs_peering.specs.declared.hearer.Hearer.{Hearer}

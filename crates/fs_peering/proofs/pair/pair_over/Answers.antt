@@ -1,22 +1,26 @@
-use Rattle.std.proofs.Common.{◌≡◌, ℕ, ap, subst}
-use Rattle.fs_desk.specs.Desk.{standing_at_desk}
+use Rattle.std.proofs.Common.{◌≡◌, ℕ, true, ap, subst, ◌∙◌}
+use Rattle.fs_peering.proofs.Words.{standing_at_desk}
 use Rattle.fs_peering.specs.Pair.{EndsTalk}
 use Rattle.fs_peering.specs.declared.hearer.Hearer.{Hearer}
-use Rattle.fs_peering.specs.declared.sender.Sender.{Sender}
-use Rattle.fs_peering.proofs.Paired.{pairs_as, speaks_start}
+use Rattle.fs_peering.specs.declared.teller.Teller.{Teller}
+use Rattle.fs_peering.proofs.Paired.{pairs_as, pairs_on}
+use Rattle.fs_peering.proofs.Sending.{says_start}
 use Rattle.fs_peering.proofs.pair.pair_over.Goals as goal
 
 pub returns-clause-pairs : goal.returns-clause-pairs
 returns-clause-pairs g c config whose sending d w e s =
     let first : Hearer = c.args.hearer.now in
     let last : Hearer = c.exchange.new.first in
-    let before : Sender = c.args.sender.now in
-    let after : Sender = c.exchange.new.second in
+    let before : Teller = c.args.teller.now in
+    let after : Teller = c.exchange.new.second in
     let kept = c.in_ok-talk.ensures.own in
     let same : last.peer ≡ first.peer = ap (λ (h : Hearer). h.peer) kept.0 in
     pairs_as first.desk last.desk first.peer last.peer first.count last.count c.args.limit same (ap (λ (h : Hearer). h.desk) kept.0) c.requires.fresh
-    before.announcer after.announcer before.started after.started before.count after.count (ap (λ (s : Sender). s.announcer) kept.1) config whose sending d w
-    (speaks_start before.announcer before.started before.count config whose sending e s c.requires.unheard) e
+    before.announcer after.announcer before.started after.started before.count after.count (ap (λ (s : Teller). s.announcer) kept.1) config whose sending d w
+    (says_start true before.announcer before.started before.count config whose sending e s c.requires.unheard) e
     (g.W.Wire.tells c.args.wire.now) (g.W.Wire.tells c.exchange.new.wire) (g.C.Clock.answers c.args.clock.now) (g.C.Clock.answers c.exchange.new.clock)
-    c.in_ok-talk.talk c.ending_of.result c.in_ok-talk.ensures.talked
+    c.in_ok-talk.talk c.ending_of.result
+    (pairs_on first.desk last.desk first.peer last.peer first.count last.count c.args.limit before.hears_on after.hears_on before.announcer after.announcer before.started after.started before.count after.count
+    (g.W.Wire.tells c.args.wire.now) (g.W.Wire.tells c.exchange.new.wire) (g.C.Clock.answers c.args.clock.now) (g.C.Clock.answers c.exchange.new.clock) c.in_ok-talk.talk
+    c.requires.on (ap (λ (s : Teller). s.hears_on) kept.1 ∙ c.requires.on) c.in_ok-talk.ensures.talked)
     (subst (λ (n : ℕ). EndsTalk c.in_ok-talk.talk (standing_at_desk last.desk n) after.announcer.line c.ending_of.result) same c.ending_of.ensures)

@@ -1,5 +1,5 @@
 use Rattle.std.proofs.Common.{◌≤◌, ◌≡◌}
-use Rattle.fs_base.specs.Wire.{Told}
+use Rattle.fs_peering.proofs.Words.{Told}
 use Rattle.fs_peering.specs.Round.{Spoken}
 use Rattle.fs_peering.proofs.round.say_all.Given as goal
 
@@ -12,6 +12,7 @@ invariant-messages g l = record {
       (g.W.Wire.tells l.fn.wire)
       (g.W.Wire.tells l.wire);
   over : g.S.Speaker.over l.speaker ≡ g.S.Speaker.over l.fn.speaker;
+  shut : g.S.Speaker.shut l.speaker ≡ g.S.Speaker.shut l.fn.speaker;
   ready : g.S.Speaker.ready l.speaker ≡ g.S.Speaker.ready l.fn.speaker;
   own : g.S.Speaker.own l.speaker ≡ g.S.Speaker.own l.fn.speaker;
   count : g.S.Speaker.count l.speaker ≡ g.S.Speaker.count l.fn.speaker;

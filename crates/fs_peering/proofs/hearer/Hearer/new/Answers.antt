@@ -1,6 +1,5 @@
 use Rattle.std.proofs.Common.{refl, ap, ◌∙◌}
-use Rattle.fs_base.specs.declared.config.Config.{Config}
-use Rattle.fs_speaker.specs.Session.{begins}
+use Rattle.fs_peering.proofs.Words.{Config, begins}
 use Rattle.fs_peering.proofs.Receiving.{open_new, receives_none}
 use Rattle.fs_peering.proofs.hearer.Hearer.new.Goals as goal
 

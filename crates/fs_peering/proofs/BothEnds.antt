@@ -2,35 +2,16 @@
 use Rattle.std.proofs.Common.{◌≡◌, ◌⊎◌, inl, inr, ℕ, List, [], ◌∷◌, ◌++◌, length, map, min, Bool, true, Option, Some, None, Result, Ok, Err, refl, ap, sym, ◌∙◌, subst, append_assoc, arith}
 use Rattle.std.specs.List.{AllByRecursion}
 use Rattle.std.proofs.lemmas.Option.{none-some}
-use Rattle.fs_base.specs.declared.config.Config.{Config}
-use Rattle.fs_base.specs.declared.config.Peer.{Peer}
-use Rattle.fs_message.specs.Open.{open_of}
-use Rattle.fs_message.specs.Stream.{Message, first_message}
-use Rattle.fs_message.specs.Write.{message_text, open_body}
-use Rattle.fs_message.specs.declared.fault.MessageFault.{MessageFault}
-use Rattle.fs_message.specs.declared.open_.Open.{Open}
+use Rattle.fs_peering.proofs.Words.{CanArrive, ComesBack, Config, Established, Last, Machine, Message, MessageFault, Open, Peer, Phase, Sending, Sent, Update, UpdateFault, WaitKeep, WaitOpen, as_update, at_start, body_by, first_message, message_text, open_body, open_of, open_sent, opened, phase, receiver, reply_to, session_by, session_from, still, terms_of, text_sent, transition_by, update_sent, updates, with_update}
 use Rattle.fs_message.specs.Laws.{own_open}
 use Rattle.fs_message.proofs.OpenReadBack.{open_read}
 use Rattle.fs_message.proofs.StreamLaws.{message_stable}
 use Rattle.fs_message.proofs.TextFirst.{text_first}
-use Rattle.fs_attrs.specs.declared.update.Update.{Update}
-use Rattle.fs_attrs.specs.declared.update.UpdateFault.{UpdateFault}
-use Rattle.fs_speaker.specs.Announcer.{open_sent}
-use Rattle.fs_speaker.specs.Laws.{ComesBack}
-use Rattle.fs_speaker.specs.Sending.{body_by, text_sent, update_sent}
-use Rattle.fs_speaker.specs.Session.{Last, at_start, session_by, session_from, still, with_update}
-use Rattle.fs_speaker.specs.Side.{as_update, receiver, reply_to}
-use Rattle.fs_speaker.specs.Transition.{Machine, opened, phase, terms_of, transition_by, updates}
-use Rattle.fs_speaker.specs.declared.Sending.{Sending}
-use Rattle.fs_speaker.specs.declared.Sent.{Sent}
-use Rattle.fs_speaker.specs.declared.State.TheVariants.{WaitOpen, WaitKeep, Established}
-use Rattle.fs_session.specs.declared.transition.Phase.{Phase}
 use Rattle.fs_speaker.proofs.Arriving.{at_most, body_long, one_message, open_fits, update_fits}
 use Rattle.fs_speaker.proofs.SessionSteps.{machine_waits}
 use Rattle.fs_peering.proofs.Courses.{keepalives}
 use Rattle.fs_peering.specs.Round.{Pieces}
 use Rattle.fs_peering.specs.Hearer.{course_of}
-use Rattle.fs_speaker.specs.JointLaws.{CanArrive}
 use Rattle.fs_peering.specs.Sender.{TookOpen, rules_in, woven}
 use Rattle.fs_peering.proofs.Replying.{replies}
 

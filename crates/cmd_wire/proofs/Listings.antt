@@ -2,12 +2,9 @@
 use Rattle.std.proofs.Common.{◌≡◌, ◌∙◌, inr, ℕ, List, Option, Result, Ok, Err}
 use Rattle.fs_base.specs.declared.config.Config.{Config}
 use Rattle.fs_tape.specs.Tape.{Item}
-use Rattle.fs_desk.specs.Desk.{Desked, Played}
-use Rattle.fs_peering.specs.declared.tell.Ending.TheVariants.{Done}
+use Rattle.cmd_wire.proofs.Words.{Answers, Desked, Done, Played, Refusal, answered, verdict_with}
 use Rattle.fs_reports.specs.Listing.{listing}
-use Rattle.cmd_stages.specs.Refusal.{Answers, answered, verdict_with}
 use Rattle.cmd_stages.specs.Writing.{Writes}
-use Rattle.cmd_stages.specs.declared.refusal.Refusal.{Refusal}
 use Rattle.cmd_stages.proofs.Texts.{said_partly, said_whole}
 use Rattle.cmd_wire.specs.Listed.{TellsListing}
 

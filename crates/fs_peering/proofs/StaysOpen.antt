@@ -2,51 +2,25 @@
 use Rattle.std.proofs.Common.{◌≡◌, ◌≢◌, ◌⊎◌, inl, inr, ℕ, zero, suc, ◌+◌, ◌*◌, ◌<◌, ◌≤◌, min, List, [], ◌∷◌, ◌++◌, length, Bool, true, false, ◌&&◌, ◌||◌, if◌then◌else◌, Option, Some, None, Result, Ok, Err, refl, ap, sym, ◌∙◌, subst, append_assoc, append-nil, arith}
 use Rattle.std.specs.List.{AllByRecursion}
 use Rattle.std.proofs.lemmas.List.{map-append}
-use Rattle.fs_base.specs.Parts.{parts_of}
-use Rattle.fs_base.specs.declared.config.Config.{Config}
-use Rattle.fs_base.specs.declared.config.Peer.{Peer}
-use Rattle.fs_message.specs.Stream.{Message, first_message, wrong_at}
-use Rattle.fs_message.specs.Write.{message_text, open_body}
-use Rattle.fs_message.specs.declared.fault.MessageFault.{MessageFault}
-use Rattle.fs_message.specs.declared.open_.Open.{Open}
+use Rattle.fs_peering.proofs.Words.{CanArrive, Closed, Config, Established, Expires, Handed, Last, Machine, Message, MessageFault, Needs, NoFamily, Open, Peer, Phase, Point, Sending, Times, Update, WaitKeep, WaitOpen, announcer, at_moment, at_start, closed, faulted, first_message, is_established, message_text, needs_of, open_body, open_sent, opened, parts_of, phase, plays, receiver, reply_to, rest_closes, runs, runs_by, session_by, session_from, still, taken, taken_in, tick_at, transition_by, wrong_at}
 use Rattle.fs_message.proofs.OpenReadBack.{open_read}
 use Rattle.fs_message.proofs.StreamLaws.{message_stable}
 use Rattle.fs_message.proofs.TextFirst.{text_first}
-use Rattle.fs_attrs.specs.declared.update.Update.{Update}
-use Rattle.fs_speaker.specs.Announcer.{is_established, open_sent}
-use Rattle.fs_speaker.specs.Handed.{Handed, Point, runs, runs_by}
-use Rattle.fs_speaker.specs.Sending.{needs_of}
-use Rattle.fs_speaker.specs.Session.{Last, at_start, closed, plays, rest_closes, session_by, session_from, still}
-use Rattle.fs_speaker.specs.Side.{announcer, receiver, reply_to}
-use Rattle.fs_speaker.specs.Times.{at_moment, taken_in, tick_at}
-use Rattle.fs_speaker.specs.Transition.{Machine, faulted, opened, phase, taken, transition_by}
-use Rattle.fs_speaker.specs.declared.Sending.{Sending}
-use Rattle.fs_session.specs.declared.side.Needs.{Needs}
-use Rattle.fs_speaker.specs.declared.Closed.{Closed}
-use Rattle.fs_speaker.specs.declared.Closed.TheVariants.{NoFamily}
-use Rattle.fs_speaker.specs.declared.State.TheVariants.{WaitOpen, WaitKeep, Established}
-use Rattle.fs_session.specs.declared.times.Tick.TheVariants.{Expires}
-use Rattle.fs_session.specs.declared.times.Times.{Times}
-use Rattle.fs_session.specs.declared.transition.Phase.{Phase}
 use Rattle.fs_speaker.proofs.Handing.{ran, runs_none, runs_step}
 use Rattle.fs_speaker.proofs.SessionSteps.{going, machine_takes, machine_waits, plays_none, plays_step, session_rest, step_found}
 use Rattle.fs_peering.specs.HoldTime.{Spans, most}
-use Rattle.fs_peering.proofs.Courses.{keepalives}
+use Rattle.fs_peering.proofs.Courses.{keepalives, octets_more}
 use Rattle.fs_peering.specs.Round.{Pieces, moments_in, octets_in}
 use Rattle.fs_peering.specs.Hearer.{course_of}
-use Rattle.fs_speaker.specs.JointLaws.{CanArrive}
 use Rattle.fs_peering.specs.Pair.{IsTimely, told_by}
 use Rattle.fs_peering.specs.Course.{course}
-use Rattle.fs_peering.proofs.Quieting.{awaits_open}
+use Rattle.fs_peering.proofs.Phases.{Unheld, awaits_open, closed_still, hold_is, runs_unheld, same_still, session_on}
 use Rattle.fs_speaker.proofs.Lasting.{goes_by, goes_on, last_by, last_update}
-use Rattle.fs_peering.proofs.Holding.{Unheld, closed_still, hold_is, hold_kept, runs_unheld, same_still}
-use Rattle.fs_peering.proofs.Lasting.{expires_late}
+use Rattle.fs_peering.proofs.Moments.{expires_late, positive}
 use Rattle.fs_speaker.proofs.Arriving.{one_message, open_fits}
-use Rattle.fs_peering.proofs.Meeting.{least, peer_opens}
-use Rattle.fs_peering.proofs.Receiving.{octets_more}
+use Rattle.fs_peering.proofs.BothEnds.{least, peer_opens}
 use Rattle.fs_peering.proofs.Replying.{keepalives_front}
 use Rattle.fs_peering.proofs.Courses.{Steps, by_pieces, lived, steps, course_more}
-use Rattle.fs_peering.proofs.Moments.{positive}
 
 abbrev Made : Type 0
 Made = Result (Phase × Option Update) Closed
@@ -265,7 +239,7 @@ module _ (machine : Machine) where
           let goes = step_found machine at_start octets found (Ok (next, None)) f (ap (transition_by machine at_start) same ∙ opens) in
           let taken_so : session_by machine at_start octets ≡ session_by machine next (found.1 ++ []) =
           ap (session_by machine at_start) (sym (append-nil octets)) ∙ machine_takes machine at_start next None octets found.1 [] goes in
-          inr (hold_kept machine next last (found.1 ++ []) past (sym (ap (λ (z : List Update × Last). z.1) taken_so) ∙ h))
+          inr (session_on machine next last (found.1 ++ []) past (sym (ap (λ (z : List Update × Last). z.1) taken_so) ∙ h)).hold_is
 
 module _ (config : Config) (peer : Peer) (sending : Sending) where
   abbrev teller : Machine

@@ -7,15 +7,15 @@ pub const PIECE: usize = 4096;
 
 /// What is read, and what an end says to it.
 #[derive(Drop)]
-pub struct Room {
+pub struct Buffers {
     pub buffer: [u8; PIECE],
     pub out: Vec<u8>,
 }
 
-impl Room {
+impl Buffers {
     /// Empty buffers.
-    pub fn new(alloc: Global) -> Room {
-        Room {
+    pub fn new(alloc: Global) -> Buffers {
+        Buffers {
             buffer: [0; PIECE],
             out: Vec::new(alloc),
         }

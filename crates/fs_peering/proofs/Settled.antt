@@ -1,17 +1,14 @@
 -- An end that is settled stays so.
-use Rattle.std.proofs.Common.{◌≡◌, ◌||◌, ℕ, ◌+◌, ◌-◌, ◌≤◌, List, ◌++◌, length, take, drop, length-drop, Bool, true, false, Option, Some, None, Result, Ok, Err, IfSome, refl, ap, sym, ◌∙◌, arith}
+use Rattle.std.proofs.Common.{◌≡◌, ◌||◌, ℕ, ◌+◌, ◌-◌, ◌≤◌, List, ◌++◌, length, take, drop, length-drop, Bool, true, false, Option, Some, None, Result, Ok, Err, refl, ap, sym, ◌∙◌, arith}
+use Rattle.std.proofs.lemmas.Bool.{true≢false}
 use Rattle.std.specs.Option.{is_some}
 use Rattle.std.proofs.lemmas.List.{take_rest}
-use Rattle.fs_message.specs.Deframer.{pending}
-use Rattle.fs_speaker.specs.Announcer.{Announcing, FeedsEnd, StaysEnded, TicksEnd, is_established, machine_in, with_line}
-use Rattle.fs_speaker.specs.Line.{Advanced, Lined, Step, closed_after, moved, state_in, step_by, stops, takes, waits}
-use Rattle.fs_speaker.specs.Sending.{needs_of}
-use Rattle.fs_speaker.specs.declared.Closed.{Closed}
+use Rattle.fs_peering.proofs.Words.{Advanced, Announcing, Closed, FeedsEnd, Lined, Phase, StaysEnded, Step, TicksEnd, closed_after, is_established, machine_in, moved, needs_of, pending, state_in, step_by, stops, takes, waits, with_line}
 use Rattle.fs_speaker.specs.declared.State.TheVariants.{Closed as IsClosed}
-use Rattle.fs_session.specs.declared.transition.Phase.{Phase}
 use Rattle.fs_peering.specs.Sender.{KeepsSettled}
-use Rattle.fs_peering.specs.Teller.{is_settled}
-use Rattle.fs_peering.proofs.Quieting.{step_goes, unawaited}
+use Rattle.fs_peering.specs.Teller.{is_settled, stops_at}
+use Rattle.fs_peering.proofs.Ahead.{alive_on}
+use Rattle.fs_peering.proofs.Phases.{step_goes, unawaited}
 
 -- one that has closed is settled
 shut_settled : (line : Lined) (why : Closed) → line.closed ≡ Some why → is_settled line ≡ true
@@ -20,16 +17,20 @@ shut_settled line why e = ap (λ (c : Option Closed). is_some c || is_establishe
 pub open_settled : (line : Lined) → line.closed ≡ None → is_settled line ≡ is_established line.phase.state
 open_settled line e = ap (λ (c : Option Closed). is_some c || is_established (elim c [ Some w ↦ IsClosed | None ↦ line.phase.state ])) e
 
-no_call : {A : Type 0} (why : Closed) (a : A) (result : Result A Closed) → result ≡ Ok a → result ≡ Err why → ⊥
-no_call why a result e f = absurd cc
+pub state_open : (line : Lined) → line.closed ≡ None → is_established (state_in line) ≡ is_established line.phase.state
+state_open line e = ap (λ (c : Option Closed). is_established (elim c [ Some why ↦ IsClosed | None ↦ line.phase.state ])) e
 
--- of an end that a call leaves open
-pub alive_before : {A : Type 0} (old new : Announcing) (result : Result A Closed) (a : A) (out out' : List ℕ) → result ≡ Ok a → StaysEnded old new result out out' → old.line.closed ≡ None
-alive_before old new result a out out' e stays = by old.line.closed refl stays
-  where
-    by : (c : Option Closed) → old.line.closed ≡ c → IfSome c (λ why. (result ≡ Err why) × (new ≡ old) × (out' ≡ out)) → old.line.closed ≡ None
-    by None h k = h
-    by (Some why) h k = absurd (no_call why a result e k.0)
+pub state_shut : (line : Lined) (why : Closed) → line.closed ≡ Some why → is_established (state_in line) ≡ false
+state_shut line why e = ap (λ (c : Option Closed). is_established (elim c [ Some w ↦ IsClosed | None ↦ line.phase.state ])) e
+
+-- one that takes more of a piece isn't established, where it doesn't hear on
+pub goes_early : (on : Bool) (line : Lined) → line.closed ≡ None → stops_at on line ≡ false → on ≡ false → is_established line.phase.state ≡ false
+goes_early true line alive e off = absurd cc
+goes_early false line alive e off = sym (state_open line alive) ∙ e
+
+pub stops_up : (on : Bool) (line : Lined) → stops_at on line ≡ true → is_established (state_in line) ≡ true
+stops_up true line e = absurd (true≢false (sym e))
+stops_up false line e = e
 
 pub fed_settled : (old new : Announcing) (moment : ℕ) (piece out out' : List ℕ) (result : Result ℕ Closed) → new ≡ with_line old new.line → StaysEnded old new result out out'
     → new.line.closed ≡ closed_after result → FeedsEnd moment old new piece out out' result → KeepsSettled old new
@@ -38,7 +39,7 @@ fed_settled old new moment piece out out' result same stays shut feeds = (same, 
     by : (r : Result ℕ Closed) → result ≡ r → is_settled old.line ≡ true → is_settled new.line ≡ true
     by (Err why) e h = shut_settled new.line why (shut ∙ ap closed_after e)
     by (Ok count) e h =
-        let alive = alive_before old new result count out out' e stays in
+        let alive = alive_on old new out out' result stays count e in
         let up : is_established old.line.phase.state ≡ true = sym (open_settled old.line alive) ∙ h in
         let fed = rw e at feeds alive in
         open_settled new.line (shut ∙ ap closed_after e)
@@ -59,7 +60,7 @@ woke_settled old new moment out out' result same stays shut ticks_so = (same, λ
     by : (r : Result (Unit {0}) Closed) → result ≡ r → is_settled old.line ≡ true → is_settled new.line ≡ true
     by (Err why) e h = shut_settled new.line why (shut ∙ ap closed_after e)
     by (Ok u) e h =
-        let alive = alive_before old new result u out out' e stays in
+        let alive = alive_on old new out out' result stays u e in
         open_settled new.line (shut ∙ ap closed_after e) ∙ ap (λ (p : Phase). is_established p.state) (ticks_so alive).1.1 ∙ sym (open_settled old.line alive) ∙ h
 
 pub settled_then : (a b c : Announcing) → KeepsSettled a b → KeepsSettled b c → KeepsSettled a c

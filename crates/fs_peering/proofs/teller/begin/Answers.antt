@@ -1,0 +1,13 @@
+use Rattle.std.proofs.Common.{rules}
+use Rattle.std.proofs.lemmas.Result.{on_ok_weaker}
+use Rattle.fs_peering.proofs.Sending.{begins_on, begun_on}
+use Rattle.fs_peering.proofs.teller.begin.Goals as goal
+
+pub returns-then-started-clause-begins : goal.returns-then-started-clause-begins
+returns-then-started-clause-begins c = λ hears_on. begun_on hears_on c.args.announcer.now c.args.started c.args.out.now.items (search rules)
+
+pub returns-clause-begins : goal.returns-clause-begins
+returns-clause-begins c =
+    on_ok_weaker c.start.result
+    (λ starts hears_on. begins_on hears_on c.args.announcer.now c.start.new.announcer c.args.started c.args.out.now.items c.start.new.out.items (search rules) starts)
+    c.start.ensures.starts
