@@ -1,6 +1,6 @@
 -- How the answer of `convert` follows from what its parts did.
 use Rattle.std.proofs.Common.{◌≡◌, ◌⊎◌, inl, inr, ◌≤◌, ◌∙◌, ◌++◌, ℕ, List, [], Option, Some, None, Result, Ok, Err, refl, ap, sym, subst}
-use Rattle.std.specs.Result.{IsErrAnd, MatchResult}
+use Rattle.std.specs.Result.{MatchResult}
 use Rattle.fs_base.specs.Outside.{Rose}
 use Rattle.fs_base.specs.Sink.{Grew, GrewPart}
 use Rattle.fs_base.specs.declared.config.Config.{Config}
@@ -12,9 +12,11 @@ use Rattle.fs_mrt.specs.declared.fault.DumpReason.{DumpReason}
 use Rattle.fs_input.specs.Records.{End, done}
 use Rattle.cmd_stages.specs.Load.{Names, config_stage}
 use Rattle.cmd_stages.specs.Refusal.{Answers, Found, HasReason, Stage, Verdict, answered, or_stop, status_of, verdict_with}
+use Rattle.cmd_stages.specs.Writing.{Finishes}
 use Rattle.cmd_stages.specs.declared.refusal.Refusal.{Refusal}
 use Rattle.cmd_stages.specs.declared.refusal.Refusal.TheVariants.{Outside}
-use Rattle.cmd_stages.proofs.Stages.{answers_for, answers_memory, answers_outside, ends_early, rose_earlier, rose_later}
+use Rattle.cmd_stages.proofs.Texts.{said_by, said_front}
+use Rattle.cmd_stages.proofs.Stages.{answers_for, answers_memory, answers_outside, ends_early, outside_one, rose_earlier, rose_later}
 use Rattle.fs_tape.specs.Laws.{tape_text}
 use Rattle.fs_tape.specs.declared.magic.Version.TheVariants.{Two}
 use Rattle.cmd_convert.specs.Lives.{Life, lives_of, no_lives}
@@ -68,47 +70,23 @@ abbrev Went : (end : End DumpReason) (before mid : Option (List ℕ)) (first pen
 Went end before mid first pending text failed result =
     MatchResult result (λ _. (end ≡ done) × Goes before mid first pending text) (Breaks end before mid first pending text failed)
 
-text_whole : (end : End DumpReason) (text : List ℕ) (failed : Type 0) (before now : Option (List ℕ)) (answer : ℕ)
-    → answer ≡ status_at end → Grew before now text → Answers (verdict_with (status_at end) text) failed before now answer
-text_whole end text failed before now answer e grew = record {
-  status_is = inl e;
-  part = part_whole before now text grew;
-  whole = λ six one. grew;
-}
-
-text_broken : (end : End DumpReason) (text : List ℕ) (failed : Type 0) (before now : Option (List ℕ)) (refusal : Refusal)
-    → refusal ≡ Outside → failed → GrewPart before now text → Answers (verdict_with (status_at end) text) failed before now (status_of refusal)
-text_broken end text failed before now refusal e f part = record {
-  status_is = inr (inr (ap status_of e, f));
-  part = part;
-  whole = λ six one. absurd (one (ap status_of e));
-}
-
 -- what is pending was written out
 flushed : {T : Type 0} (end : End DumpReason) (before mid now : Option (List ℕ)) (pending text : List ℕ) (failed : Type 0) (result : Result T Refusal)
     → Went end before mid [] pending text failed result → Grew mid now pending
     → Answers (verdict_with (status_at end) text) failed before now (answered result)
 flushed end before mid now pending text failed (Ok value) went grew =
-    text_whole end text failed before now 0 (sym (ap status_at went.0)) (goes_flush now went.1 grew)
+    said_by (status_at end) text failed before now 0 (inl (sym (ap status_at went.0))) (goes_flush now went.1 grew)
 flushed end before mid now pending text failed (Err refusal) (inl h) grew =
-    text_whole end text failed before now (status_of refusal) (sym h.0) (goes_flush now h.1 grew)
+    said_by (status_at end) text failed before now (status_of refusal) (inl (sym h.0)) (goes_flush now h.1 grew)
 flushed end before mid now pending text failed (Err refusal) (inr h) grew =
-    text_broken end text failed before now refusal h.0 h.1.0 (partly_flushed before mid now pending text h.1.1 (part_whole mid now pending grew))
+    said_front (status_at end) text failed before now (status_of refusal) (ap status_of h.0) h.1.0 (partly_flushed before mid now pending text h.1.1 (part_whole mid now pending grew))
 
 -- or couldn't be
-unflushed : {T : Type 0} (end : End DumpReason) (before mid now : Option (List ℕ)) (pending text : List ℕ) (failed other : Type 0) (result : Result T Refusal) (refusal : Refusal)
-    → Went end before mid [] pending text other result → GrewPart mid now pending → failed → refusal ≡ Outside
-    → Answers (verdict_with (status_at end) text) failed before now (status_of refusal)
-unflushed end before mid now pending text failed other (Ok value) refusal w part f e =
-    text_broken end text failed before now refusal e f (goes_flush_part now w.1 part)
-unflushed end before mid now pending text failed other (Err cause) refusal (inl h) part f e =
-    text_broken end text failed before now refusal e f (goes_flush_part now h.1 part)
-unflushed end before mid now pending text failed other (Err cause) refusal (inr h) part f e =
-    text_broken end text failed before now refusal e f (partly_flushed before mid now pending text h.1.1 part)
-
-went_from : {T : Type 0} (end : End DumpReason) (before mid : Option (List ℕ)) (first pending text : List ℕ) (failed : Type 0) (result : Result T Refusal)
-    → first ≡ [] → Went end before mid first pending text failed result → Went end before mid [] pending text failed result
-went_from end before mid first pending text failed result e w = subst (λ (p : List ℕ). Went end before mid p pending text failed result) e w
+front : {T : Type 0} (end : End DumpReason) (before mid now : Option (List ℕ)) (pending text : List ℕ) (failed : Type 0) (result : Result T Refusal)
+    → Went end before mid [] pending text failed result → GrewPart mid now pending → GrewPart before now text
+front end before mid now pending text failed (Ok value) w part = goes_flush_part now w.1 part
+front end before mid now pending text failed (Err cause) (inl h) part = goes_flush_part now h.1 part
+front end before mid now pending text failed (Err cause) (inr h) part = partly_flushed before mid now pending text h.1.1 part
 
 -- the dump was converted, and what is pending was written out, or couldn't be
 module _ (limit : ℕ) (holds names : Names) (config dump : List ℕ) (accepted : Config) (end : End DumpReason) (text first pending : List ℕ)
@@ -126,32 +104,29 @@ module _ (limit : ℕ) (holds names : Names) (config dump : List ℕ) (accepted 
             (subst (λ (v : Verdict). Answers v (Rose f f2 ⊎ Rose s s2) before now answer) (sym e) a);
       })
 
-  pub all_flushed : {T : Type 0} (result : Result T Refusal)
+  pub finished : {T : Type 0} (converted result : Result T Refusal)
       → config_stage limit holds config ≡ Found accepted → names ≡ holds
       → verdict_of accepted limit (dump_stage names dump) ≡ verdict_with (status_at end) text → first ≡ []
-      → MatchResult result (λ _. (end ≡ done) × Goes before mid first pending text) (Breaks end before mid first pending text (Rose f1 f2 ⊎ Rose s s1))
-      → f ≤ f1 → s1 ≤ s2 → Grew mid now pending
+      → MatchResult converted (λ _. (end ≡ done) × Goes before mid first pending text) (Breaks end before mid first pending text (Rose f1 f2 ⊎ Rose s s1))
+      → f ≤ f1 → s ≤ s1 → s1 ≤ s2 → Finishes pending (Rose s1 s2) mid now converted result
       → ConvertsSo limit holds config dump (Rose f f2 ⊎ Rose s s2) before now (answered result)
-  all_flushed result found same e none w l m grew =
-      converts_so (answered result) found same e
-      (answers_for (verdict_with (status_at end) text) (Rose f1 f2 ⊎ Rose s s1) (Rose f f2 ⊎ Rose s s2) before now (answered result)
-      (flushed end before mid now pending text (Rose f1 f2 ⊎ Rose s s1) result (went_from end before mid first pending text (Rose f1 f2 ⊎ Rose s s1) result none w) grew) wider)
+  finished {T} converted result found same e none w l m n finishes = converts_so (answered result) found same e (by finishes)
     where
+      went : Went end before mid [] pending text (Rose f1 f2 ⊎ Rose s s1) converted
+      went = subst (λ (p : List ℕ). Went end before mid p pending text (Rose f1 f2 ⊎ Rose s s1) converted) none w
+
       wider : Rose f1 f2 ⊎ Rose s s1 → Rose f f2 ⊎ Rose s s2
       wider (inl r) = inl (rose_earlier f f1 f2 l r)
-      wider (inr r) = inr (rose_later s s1 s2 r m)
+      wider (inr r) = inr (rose_later s s1 s2 r n)
 
-  pub not_flushed : {T U : Type 0} (result : Result T Refusal) (answer : Result U Refusal)
-      → config_stage limit holds config ≡ Found accepted → names ≡ holds
-      → verdict_of accepted limit (dump_stage names dump) ≡ verdict_with (status_at end) text → first ≡ []
-      → MatchResult result (λ _. (end ≡ done) × Goes before mid first pending text) (Breaks end before mid first pending text (Rose f1 f2 ⊎ Rose s s1))
-      → s ≤ s1 → Rose s1 s2 → GrewPart mid now pending → IsErrAnd answer (λ e. e ≡ Outside)
-      → ConvertsSo limit holds config dump (Rose f f2 ⊎ Rose s s2) before now (answered answer)
-  not_flushed result (Ok value) found same e none w l r part h = absurd h
-  not_flushed result (Err refusal) found same e none w l r part h =
-      converts_so (status_of refusal) found same e
-      (unflushed end before mid now pending text (Rose f f2 ⊎ Rose s s2) (Rose f1 f2 ⊎ Rose s s1) result refusal
-      (went_from end before mid first pending text (Rose f1 f2 ⊎ Rose s s1) result none w) part (inr (rose_earlier s s1 s2 l r)) h)
+      by : Finishes pending (Rose s1 s2) mid now converted result → Answers (verdict_with (status_at end) text) (Rose f f2 ⊎ Rose s s2) before now (answered result)
+      by (inl h) =
+          subst (λ (r : Result T Refusal). Answers (verdict_with (status_at end) text) (Rose f f2 ⊎ Rose s s2) before now (answered r)) (sym h.0)
+          (answers_for (verdict_with (status_at end) text) (Rose f1 f2 ⊎ Rose s s1) (Rose f f2 ⊎ Rose s s2) before now (answered converted)
+          (flushed end before mid now pending text (Rose f1 f2 ⊎ Rose s s1) converted went h.1) wider)
+      by (inr h) =
+          said_front (status_at end) text (Rose f f2 ⊎ Rose s s2) before now (answered result) (outside_one result h.0) (inr (rose_earlier s s1 s2 m h.1))
+          (front end before mid now pending text (Rose f1 f2 ⊎ Rose s s1) converted went h.2)
 
 -- no status of a dump that was opened is that of a configuration, or of want of memory
 
@@ -159,7 +134,6 @@ pub never_quiet : {A : Type 0} (status : ℕ) → IsAtRecord status → (status 
 never_quiet status h (inl e) = absurd (h.1 e)
 never_quiet status h (inr e) = absurd (h.2 e)
 
-pub outside_quiet : {T A : Type 0} (r : Result T Refusal) → IsErrAnd r (λ e. e ≡ Outside) → (answered r ≡ 3) ⊎ (answered r ≡ 6) → A
-outside_quiet (Ok t) h q = absurd h
-outside_quiet (Err refusal) h (inl q) = let at : status_of Outside ≡ 3 = ap status_of (sym h) ∙ q in absurd cc
-outside_quiet (Err refusal) h (inr q) = let at : status_of Outside ≡ 6 = ap status_of (sym h) ∙ q in absurd cc
+pub outside_quiet : {A : Type 0} (status : ℕ) → status ≡ 1 → (status ≡ 3) ⊎ (status ≡ 6) → A
+outside_quiet status one (inl e) = absurd cc
+outside_quiet status one (inr e) = absurd cc

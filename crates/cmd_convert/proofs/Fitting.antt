@@ -18,7 +18,7 @@ use Rattle.fs_message.specs.Write.{as_field, message_text}
 use Rattle.fs_mrt.specs.Dump.{dump_of}
 use Rattle.fs_mrt.specs.Laws.{AreHeard, IsHeard, IsSaid}
 use Rattle.fs_mrt.specs.Record.{Said, Spoken, change, message}
-use Rattle.fs_mrt.proofs.Telling.{heard_fits}
+use Rattle.fs_mrt.proofs.AllHeard.{heard_fits}
 use Rattle.fs_input.specs.Parts.{AllFrom}
 use Rattle.fs_tape.specs.Laws.{Fits, IsNumbered, IsWritable, after, item_text, item_text_at, record_text, tape_text}
 use Rattle.fs_tape.specs.Magic.{magic_of}

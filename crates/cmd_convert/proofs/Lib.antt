@@ -1,4 +1,3 @@
-pub mod Writing
-pub mod Items
+pub mod Converting
 pub mod Ending
 pub mod Fitting

@@ -1,10 +1,9 @@
 -- What `convert` is given, and what it answers and writes (the order of work: configuration, dump).
-use Rattle.std.specs.Prelude.{ℕ, List, [], ◌≡◌, ◌≢◌, ◌⊎◌, ◌<◌, ◌++◌, Option, Some, None, Result, MatchResult, length}
+use Rattle.std.specs.Prelude.{ℕ, List, [], ◌≡◌, ◌≢◌, ◌⊎◌, Option, Some, None, Result, MatchResult}
 use Rattle.fs_base.specs.Happened.{Happened, FilesFailed, SinkFailed, Wrote}
 use Rattle.fs_base.specs.Language.{IsOctets}
 use Rattle.fs_base.specs.Parts.{with_part}
 use Rattle.fs_base.specs.declared.config.Config.{Config}
-use Rattle.fs_conf.specs.Config.{config_of}
 use Rattle.fs_input.specs.Records.{End, done, limited, bad}
 use Rattle.fs_input.specs.declared.fault.Fault.{Fault}
 use Rattle.fs_input.specs.declared.fault.Fault.TheVariants.{Read, Limit, Bad}
@@ -13,7 +12,7 @@ use Rattle.fs_mrt.specs.Dump.{spoken_from}
 use Rattle.fs_mrt.specs.Record.{Spoken}
 use Rattle.fs_mrt.specs.declared.fault.DumpReason.{DumpReason}
 use Rattle.fs_mrt.specs.declared.heard.Heard.{Heard}
-use Rattle.cmd_stages.specs.Load.{Names, config_stage}
+use Rattle.cmd_stages.specs.Load.{HoldsConfig, Names, config_stage}
 use Rattle.cmd_stages.specs.Refusal.{Answers, EndsEarly, HasReason, Stage, Found, Stopped, Verdict, or_stop, status_of, verdict_with}
 use Rattle.cmd_stages.specs.declared.refusal.Refusal.{Refusal}
 use Rattle.cmd_stages.specs.declared.refusal.Refusal.TheVariants.{Outside, Dump as DumpRefusal, Limit as AtLimit}
@@ -67,11 +66,8 @@ convert_status limit holds config dump = status_for limit (dump_stage holds dump
 -- written whose items the dump's records make. Whoever reads it for this configuration is given exactly these items,
 -- where it lies below the reader's limit.
 pub record Converted (limit : ℕ) (holds : Names) (config dump : List ℕ) (call : Happened) : Type 0 where
-  pub config_octets : List ℕ
-  pub config_is : holds config ≡ Some config_octets
-  pub config_within : length config_octets < limit
   pub accepted : Config
-  pub accepted_is : config_of config_octets ≡ Some accepted
+  pub config_is : HoldsConfig limit holds config accepted
   pub dump_octets : List ℕ
   pub dump_is : holds dump ≡ Some dump_octets
   pub items : List Timed

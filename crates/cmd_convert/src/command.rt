@@ -55,8 +55,7 @@ pub fn convert<F: Files, S: Sink>(
     let mut making = Making::new(alloc, &config)?;
     let mut buffer = vec![in alloc; 0u8; LONGEST_MESSAGE]?;
     let converted = convert_dump(files, &mut dump, &mut making, &mut buffer, sink);
-    making.flush(sink)?;
-    converted
+    making.finish(converted, sink)
 }
 
 /// Opens the dump, up to its first record.

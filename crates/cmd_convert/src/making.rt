@@ -1,8 +1,8 @@
 //! What the records of a dump make of a tape.
 
-ghost use Rattle.std.specs.Prelude.{◌≡◌, ◌≤◌, ℕ, Bool, Some, None, [], IfOk, OnOk, OnErr, length};
-ghost use Rattle.fs_base.specs.Outside.{HasCause};
-ghost use Rattle.fs_base.specs.Sink.{Grew, GrewPart};
+ghost use Rattle.std.specs.Prelude.{◌≡◌, ◌≤◌, ℕ, Bool, Some, None, [], IfOk, OnOk, length};
+ghost use Rattle.fs_base.specs.Outside.{Rose};
+ghost use Rattle.cmd_stages.specs.Writing.{Finishes};
 ghost use Rattle.fs_line.specs.Output.{Sends};
 ghost use Rattle.fs_mrt.specs.Dump.{IsWithin, spoken_from};
 ghost use Rattle.fs_mrt.specs.Record.{change, message, spoken};
@@ -16,7 +16,8 @@ ghost use Rattle.cmd_convert.specs.Making.{asn_of, is_established, is_taken, mad
 
 use crate::greeting::{narrow_greeting, wide_greeting};
 use crate::lives::{Lives, has_width};
-use crate::records::{Stamp, write_lost, write_magic, write_received, write_up};
+use crate::records::{LOST, RECEIVED, Stamp, UP, write_magic, write_record};
+use cmd_stages::Refusal;
 use fs_base::{Config, Failed, Memory, Sink};
 use fs_line::Output;
 use fs_message::{NOTIFICATION, UPDATE};
@@ -130,10 +131,10 @@ impl<'a> Making<'a> {
             return Ok(());
         }
         if has_width(self.lives.of(stamp.peer), wide) {
-            return write_received(&mut self.output, sink, stamp, octets);
+            return write_record(&mut self.output, sink, RECEIVED, stamp, octets);
         }
         self.open(stamp, wide, sink)?;
-        write_received(&mut self.output, sink, stamp, octets)
+        write_record(&mut self.output, sink, RECEIVED, stamp, octets)
     }
 
     /// Writes what is made of a change of state.
@@ -173,7 +174,7 @@ impl<'a> Making<'a> {
         let asn = asn_of(self.config, stamp.peer);
         self.lose(stamp, sink)?;
         self.lives.set(stamp.peer, Some(wide));
-        write_up(&mut self.output, sink, stamp)?;
+        write_record(&mut self.output, sink, UP, stamp, &[])?;
         write_greeting(&mut self.output, sink, stamp, asn, wide)
     }
 
@@ -188,18 +189,23 @@ impl<'a> Making<'a> {
         let life = self.lives.of(stamp.peer);
         self.lives.set(stamp.peer, None);
         match life {
-            Some(_) => write_lost(&mut self.output, sink, stamp),
+            Some(_) => write_record(&mut self.output, sink, LOST, stamp, &[]),
             None => Ok(()),
         }
     }
 
-    /// Writes out the records that are pending.
-    pub(crate) fn flush<S: Sink>(&mut self, sink: &mut S) -> Result<(), Failed>
-        ensures ok { OnOk result (Grew (S.written sink.old) (S.written sink.new) self.old.pending) }
-        ensures err { OnErr result (GrewPart (S.written sink.old) (S.written sink.new) self.old.pending) }
-        ensures cause { HasCause (S.faults sink.old) (S.faults sink.new) result }
+    /// Writes out the records that are pending, and hands on how converting ended.
+    pub(crate) fn finish<S: Sink>(
+        &mut self,
+        converted: Result<(), Refusal>,
+        sink: &mut S,
+    ) -> Result<(), Refusal>
+        ensures later { S.faults sink.old ≤ S.faults sink.new }
+        ensures finishes { Finishes self.old.pending (Rose (S.faults sink.old) (S.faults sink.new))
+            (S.written sink.old) (S.written sink.new) converted result }
     {
-        self.output.flush(sink)
+        self.output.flush(sink)?;
+        converted
     }
 }
 
@@ -235,8 +241,8 @@ fn write_greeting<S: Sink>(
         (item_text_at Two stamp.moment (received stamp.peer (greeting asn wide))) result }
 {
     if wide {
-        write_received(output, sink, stamp, &wide_greeting(asn))
+        write_record(output, sink, RECEIVED, stamp, &wide_greeting(asn))
     } else {
-        write_received(output, sink, stamp, &narrow_greeting(asn))
+        write_record(output, sink, RECEIVED, stamp, &narrow_greeting(asn))
     }
 }

@@ -1,11 +1,10 @@
 //! The records of a tape of the second version, as they are written.
 
-ghost use Rattle.std.specs.Prelude.{◌≡◌, ◌≤◌, ◌∷◌, [], ◌++◌, length};
+ghost use Rattle.std.specs.Prelude.{◌≡◌, ◌≤◌, ◌∷◌, ◌++◌, length};
 ghost use Rattle.byteorder.specs.Endian.{big_bytes};
 ghost use Rattle.fs_line.specs.Output.{Sends};
-ghost use Rattle.fs_tape.specs.Laws.{item_text_at, record_text};
+ghost use Rattle.fs_tape.specs.Laws.{record_text};
 ghost use Rattle.fs_tape.specs.Magic.{magic_of};
-ghost use Rattle.fs_tape.specs.Tape.{came_up, received, was_lost};
 ghost use Rattle.fs_tape.specs.declared.magic.Version.TheVariants.{Two};
 
 use byteorder::{BigEndian, ByteOrder};
@@ -13,13 +12,13 @@ use fs_base::{Failed, Sink};
 use fs_line::Output;
 
 /// The kind of a record that tells that a peer came up.
-const UP: u8 = 1;
+pub(crate) const UP: u8 = 1;
 
 /// The kind of a record that has octets of a peer.
-const RECEIVED: u8 = 2;
+pub(crate) const RECEIVED: u8 = 2;
 
 /// The kind of a record that tells that a peer was lost.
-const LOST: u8 = 3;
+pub(crate) const LOST: u8 = 3;
 
 /// The octets of a record's head.
 const HEAD_SIZE: usize = 15;
@@ -38,45 +37,8 @@ pub(crate) fn write_magic<S: Sink>(output: &mut Output, sink: &mut S) -> Result<
     output.put(sink, b"FSTAPE2\n")
 }
 
-/// Writes that the peer came up.
-pub(crate) fn write_up<S: Sink>(
-    output: &mut Output,
-    sink: &mut S,
-    stamp: Stamp,
-) -> Result<(), Failed>
-    ensures { Sends S.Sink sink.old sink.new output.old output.new
-        (item_text_at Two stamp.moment (came_up stamp.peer)) result }
-{
-    write_record(output, sink, UP, stamp, &[])
-}
-
-/// Writes that the peer sent these octets.
-pub(crate) fn write_received<S: Sink>(
-    output: &mut Output,
-    sink: &mut S,
-    stamp: Stamp,
-    octets: &[u8],
-) -> Result<(), Failed>
-    requires { length octets.now ≤ 65536 }
-    ensures { Sends S.Sink sink.old sink.new output.old output.new
-        (item_text_at Two stamp.moment (received stamp.peer octets.now)) result }
-{
-    write_record(output, sink, RECEIVED, stamp, octets)
-}
-
-/// Writes that the peer was lost.
-pub(crate) fn write_lost<S: Sink>(
-    output: &mut Output,
-    sink: &mut S,
-    stamp: Stamp,
-) -> Result<(), Failed>
-    ensures { Sends S.Sink sink.old sink.new output.old output.new
-        (item_text_at Two stamp.moment (was_lost stamp.peer)) result }
-{
-    write_record(output, sink, LOST, stamp, &[])
-}
-
-fn write_record<S: Sink>(
+/// Writes a record of this kind.
+pub(crate) fn write_record<S: Sink>(
     output: &mut Output,
     sink: &mut S,
     kind: u8,

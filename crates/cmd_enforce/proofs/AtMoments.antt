@@ -3,7 +3,8 @@ use Rattle.std.proofs.Common.{◌≡◌, ◌≢◌, ◌⊎◌, inl, inr, ◌≤�
 use Rattle.std.specs.Option.{is_some}
 use Rattle.std.specs.Prelude.{IfSome, Result, Ok, Err, if◌then◌else◌}
 use Rattle.std.specs.Result.{IsErrAnd}
-use Rattle.std.proofs.lemmas.Bool.Decides.{nat_tests}
+use Rattle.std.proofs.lemmas.Bool.{eq-eqb, eqb-true}
+use Rattle.fs_base.proofs.Lists.{each_append}
 use Rattle.fs_base.specs.Outside.{Rose}
 use Rattle.fs_base.specs.Parts.{with_part}
 use Rattle.fs_base.specs.declared.config.Config.{Config}
@@ -24,7 +25,7 @@ use Rattle.cmd_stages.specs.Player.{IsUnplayed, PlayerState, Stands, due_item}
 use Rattle.fs_tape.specs.declared.item.TapeItem.{TapeItem}
 use Rattle.cmd_stages.specs.Refusal.{answered, status_of}
 use Rattle.cmd_stages.proofs.LookingAhead.{stands_later}
-use Rattle.cmd_stages.proofs.Playing.{all_more}
+use Rattle.cmd_stages.proofs.Stages.{rose_earlier}
 use Rattle.cmd_enforce.specs.Judge.{AdmittedRules, Ceases, IsAtPacket, admitted_rules, always, hand_text, in_hand, lines_from, output_of, packet_text, rules_by, status_at}
 use Rattle.cmd_enforce.specs.Moments.{BreaksBehind, BreaksOff, CameTo, Follows, HoldAt, IsUnjudged, LeaveSameAt, came_lines}
 
@@ -69,12 +70,6 @@ same_at config items (packet ∷ packets) = (record { unicast = λ place. refl; 
 abbrev with_table : (ℕ → Held) → ℕ → Held → ℕ → Held
 with_table held m table t = if t == m then table else held t
 
-itself : (n : ℕ) → (n == n) ≡ true
-itself n = grind (arith, nat_tests)
-
-one_number : (a b : ℕ) → (a == b) ≡ true → a ≡ b
-one_number a b e = grind (arith, nat_tests, e)
-
 holds_still : (config : Config) (items : List Timed) (held : ℕ → Held) (m : ℕ) (table : Held) (gone : List Captured)
     → HoldAt config items held gone → Leaves config (until m items) table → HoldAt config items (with_table held m table) gone
 holds_still config items held m table [] all l = tt
@@ -82,7 +77,7 @@ holds_still config items held m table (packet ∷ gone) all l =
     (by (packet.moment == m) refl, holds_still config items held m table gone all.1 l)
   where
     by : (b : Bool) → (packet.moment == m) ≡ b → Leaves config (until packet.moment items) (if b then table else held packet.moment)
-    by true e = subst (λ (t : ℕ). Leaves config (until t items) table) (sym (one_number packet.moment m e)) l
+    by true e = subst (λ (t : ℕ). Leaves config (until t items) table) (sym (eqb-true packet.moment m e)) l
     by false e = all.0
 
 -- one more packet, under a table of the routes held at its moment
@@ -97,11 +92,11 @@ extend : OneList → (config : Config) (items : List Timed) (held : ℕ → Held
 extend one config items held gone packet table a l =
     let kept : ℕ → Held = with_table held packet.moment table in
     let still : HoldAt config items kept gone = holds_still config items held packet.moment table gone a l in
-    let here : kept packet.moment ≡ table = ap (λ (b : Bool). if b then table else held packet.moment) (itself packet.moment) in
+    let here : kept packet.moment ≡ table = ap (λ (b : Bool). if b then table else held packet.moment) (eq-eqb packet.moment packet.moment refl) in
     let zero : 0 + length gone ≡ length gone = omega arith in
     record {
       kept = kept;
-      leaves = all_more (λ (p : Captured). Leaves config (until p.moment items) (kept p.moment)) gone (packet ∷ []) still
+      leaves = each_append (λ (p : Captured). Leaves config (until p.moment items) (kept p.moment)) gone (packet ∷ []) still
           (subst (λ (h : Held). Leaves config (until packet.moment items) h) (sym here) l, tt);
       lines =
           lines_append (rules_by kept) 0 gone (packet ∷ [])
@@ -113,14 +108,15 @@ extend one config items held gone packet table a l =
           ∙ ap (λ (h : Held). packet_text (length gone + 1) (admitted_rules h) packet.link packet.octets) here);
     }
 
-followed_none : (config : Config) (items : List Timed) (all : List Captured × End CaptureReason) (now : Option (List ℕ)) (pending : List ℕ) (table : Held)
-    → Follows config items all all now now pending pending 0
-followed_none config items all now pending table = record {
+-- no packet was judged
+pub followed_first : (config : Config) (items : List Timed) (all : List Captured × End CaptureReason) (now : Option (List ℕ)) (pending : List ℕ) (number : ℕ) (table : Held)
+    → number ≡ 0 → Follows config items all all now now pending pending number
+followed_first config items all now pending number table zero = record {
   held = always table;
   gone = [];
   parts = refl;
   end_is = refl;
-  count = refl;
+  count = zero;
   leaves = tt;
   goes = goes_none now pending;
 }
@@ -155,9 +151,6 @@ pub followed_done : (config : Config) (items : List Timed) (all rest : List Capt
 followed_done config items all rest before now pending pending_now number f e =
     (came_of f, ap (λ (r : List Captured × End CaptureReason). r.0) e, f.end_is ∙ ap (λ (r : List Captured × End CaptureReason). r.1) e, f.goes)
 
-rose_before : (early mid after : ℕ) → early ≤ mid → Rose mid after → Rose early after
-rose_before early mid after l r = omega (arith, l, r)
-
 -- a call on the files failed
 files_failed : (config : Config) (items : List Timed) (all rest : List Captured × End CaptureReason) (left : List Captured) (before now : Option (List ℕ)) (pending pending_now : List ℕ) (number : ℕ) (failed : Type 0) (refusal : Refusal)
     → Follows config items all rest before now pending pending_now number → refusal ≡ Outside → failed
@@ -182,7 +175,7 @@ pub followed_ceased : (config : Config) (items : List Timed) (all rest : List Ca
 followed_ceased config items all rest left before now pending pending_now number early mid after other cause refusal f l s (inl h) =
     (came_of f, inl (ap status_at f.end_is ∙ h.1 ∙ ap status_of (sym s), h.0, f.goes))
 followed_ceased config items all rest left before now pending pending_now number early mid after other cause refusal f l s (inr h) =
-    files_failed config items all rest left before now pending pending_now number (Rose early after ⊎ other) refusal f (s ∙ h.0) (inl (rose_before early mid after l h.1))
+    files_failed config items all rest left before now pending pending_now number (Rose early after ⊎ other) refusal f (s ∙ h.0) (inl (rose_earlier early mid after l h.1))
 
 -- memory was wanting, and these packets are left
 pub followed_wanting : (config : Config) (items : List Timed) (all rest : List Captured × End CaptureReason) (left : List Captured) (before now : Option (List ℕ)) (pending pending_now : List ℕ) (number : ℕ) (failed : Type 0) (refusal : Refusal)
@@ -197,7 +190,7 @@ pub followed_unplayed : (config : Config) (items : List Timed) (all rest : List 
 followed_unplayed config items all rest left before now pending pending_now number early mid after other cause refusal f u l s (inl h) =
     followed_wanting config items all rest left before now pending pending_now number (Rose early after ⊎ other) refusal f u (s ∙ h)
 followed_unplayed config items all rest left before now pending pending_now number early mid after other cause refusal f u l s (inr h) =
-    files_failed config items all rest left before now pending pending_now number (Rose early after ⊎ other) refusal f (s ∙ h.0) (inl (rose_before early mid after l h.1))
+    files_failed config items all rest left before now pending pending_now number (Rose early after ⊎ other) refusal f (s ∙ h.0) (inl (rose_earlier early mid after l h.1))
 
 -- the sink failed within the line of a packet
 pub followed_stopped : OneList → (config : Config) (items : List Timed) (all rest rest' : List Captured × End CaptureReason) (left : List Captured) (before now now' : Option (List ℕ)) (pending pending_now pending' : List ℕ) (number : ℕ) (packet : Captured) (table : Held) (files : Type 0) (first mid after : ℕ) (refusal : Refusal)
@@ -216,7 +209,7 @@ followed_stopped one config items all rest rest' left before now now' pending pe
       },
       inr (inr (
         s,
-        inr (rose_before first mid after later rose),
+        inr (rose_earlier first mid after later rose),
         inr (stops_as
             (ap (λ (n : ℕ). lines_from 0 (rules_by f.held) f.gone ++ packet_text (n + 1) (admitted_rules table) packet.link packet.octets) f.count ∙ sym more.lines)
             (goes_stops f.goes stop)),
@@ -284,8 +277,8 @@ breaks_wider config items all left before now pending pending_now failed other r
     by (inr (inr h)) = inr (inr (h.0, f h.1, h.2))
 
 pub rose_back : (f f1 f2 s s1 s2 : ℕ) → f ≤ f1 → s ≤ s1 → Rose f1 f2 ⊎ Rose s1 s2 → Rose f f2 ⊎ Rose s s2
-rose_back f f1 f2 s s1 s2 l m (inl r) = inl (rose_before f f1 f2 l r)
-rose_back f f1 f2 s s1 s2 l m (inr r) = inr (rose_before s s1 s2 m r)
+rose_back f f1 f2 s s1 s2 l m (inl r) = inl (rose_earlier f f1 f2 l r)
+rose_back f f1 f2 s s1 s2 l m (inr r) = inr (rose_earlier s s1 s2 m r)
 
 -- where nothing is ahead nothing is due
 pub never_due : {A : Type 0} (ahead : Option TapeItem) (at moment : ℕ) → ahead ≡ None → is_some (due_item ahead at moment) ≡ true → A
@@ -332,12 +325,6 @@ followed_as config config' items all packet capture octets octets' before now pe
 
 pub capture_apart : (tape : ℕ) → tape ≡ 1 → 2 ≢ tape
 capture_apart tape one same = not_same tape 2 one refl (sym same)
-
--- no packet was judged
-pub followed_first : (config : Config) (items : List Timed) (all : List Captured × End CaptureReason) (now : Option (List ℕ)) (pending : List ℕ) (number : ℕ) (table : Held)
-    → number ≡ 0 → Follows config items all all now now pending pending number
-followed_first config items all now pending number table e =
-    subst (λ (n : ℕ). Follows config items all all now now pending pending n) (sym e) (followed_none config items all now pending table)
 
 pub followed_read : (config : Config) (items : List Timed) (all rest rest' : List Captured × End CaptureReason) (before now : Option (List ℕ)) (pending pending_now : List ℕ) (number : ℕ)
     → rest ≡ rest' → Follows config items all rest before now pending pending_now number → Follows config items all rest' before now pending pending_now number

@@ -1,10 +1,25 @@
--- How the answer of `enforce` follows from those of its stages.
-use Rattle.std.proofs.Common.{◌≡◌, ◌⊎◌, inl, inr, ◌∙◌, ℕ, List, [], Option, ap, sym, subst}
-use Rattle.fs_input.specs.Records.{End, done, limited, bad}
-use Rattle.fs_capture.specs.Capture.{CaptureState, Recorded, coming, recorded}
-use Rattle.fs_capture.specs.declared.fault.CaptureReason.{CaptureReason}
+-- How the answer of `enforce` follows from those of its stages, and from what was judged at the packets' moments.
+use Rattle.std.proofs.Common.{◌≡◌, ◌≢◌, ◌⊎◌, inl, inr, ◌∙◌, ◌≤◌, ℕ, List, [], Option, Result, Ok, Err, refl, ap, sym, subst}
+use Rattle.std.specs.Result.{IsErrAnd}
+use Rattle.fs_base.specs.Sink.{Grew, GrewPart}
 use Rattle.fs_base.specs.declared.config.Config.{Config}
+use Rattle.fs_base.proofs.Grew.{Grew-refl, part_whole, part_none}
+use Rattle.fs_input.specs.Records.{End, done, limited, bad}
+use Rattle.fs_base.specs.Outside.{Rose}
+use Rattle.fs_line.specs.Output.{Goes, Partly}
+use Rattle.fs_line.proofs.Outputs.{partly_flushed, goes_flush, goes_flush_part}
+use Rattle.fs_capture.specs.Capture.{Captured, Recorded, recorded, CaptureState, coming}
+use Rattle.fs_capture.specs.declared.fault.CaptureReason.{CaptureReason}
+use Rattle.fs_rules.specs.Table.{Held}
 use Rattle.fs_tape.specs.Tape.{Timed}
+use Rattle.cmd_stages.specs.Refusal.{Stage, Found, Stopped, answered, status_of, and_then, HasReason}
+use Rattle.cmd_stages.specs.declared.refusal.Refusal.{Refusal}
+use Rattle.cmd_stages.specs.declared.refusal.Refusal.TheVariants.{Memory}
+use Rattle.cmd_stages.proofs.Stages.{answers_for, outside_one, rose_earlier, rose_later, accepted_with, ends_early, reason_then}
+use Rattle.cmd_stages.specs.Writing.{Finishes}
+use Rattle.cmd_stages.proofs.Texts.{said_by, said_front}
+use Rattle.cmd_enforce.specs.Judge.{IsOfPackets, always, status_at, capture_stage}
+use Rattle.cmd_enforce.specs.Moments.{AnswersAt, CameTo, EndsBefore, IsUnjudged, JudgesSo, WroteJudged, came_lines, packets_of, verdict_at}
 use Rattle.fs_tape.specs.declared.magic.Version.{Version}
 use Rattle.fs_tape.specs.declared.magic.Version.TheVariants.{One, Two}
 use Rattle.fs_desk.specs.Desk.{Desked, Played}
@@ -12,11 +27,164 @@ use Rattle.cmd_enforce.specs.Command.{EnforcesSo, Unfinished}
 use Rattle.cmd_stages.specs.Load.{Names, config_stage}
 use Rattle.cmd_stages.specs.Play.{HasVersion, HaveNoMoments, IsWhole, tape_stage, accepted_stage, untimed}
 use Rattle.cmd_stages.specs.Player.{PlayerState, Stands}
-use Rattle.cmd_enforce.specs.Judge.{capture_stage, status_at}
-use Rattle.cmd_enforce.specs.Moments.{AnswersAt, WroteJudged, packets_of}
-use Rattle.cmd_stages.specs.Refusal.{Stage, Found, and_then, status_of, HasReason}
-use Rattle.cmd_stages.specs.declared.refusal.Refusal.{Refusal}
-use Rattle.cmd_stages.proofs.Stages.{accepted_with, ends_early, reason_then}
+
+-- of no packets there are no lines
+
+none_text : (held : ℕ → Held) (stage : Stage Recorded) → (verdict_at held [] stage).text ≡ []
+none_text held (Found capture) = refl
+none_text held (Stopped refusal) = refl
+
+abbrev none_held : Config → Held
+none_held config = record { config = config; unicast = []; flows = [] }
+
+abbrev pub came_to_none : (config : Config) (items : List Timed) (packets : List Captured) → CameTo config items packets
+came_to_none config items packets = record { held = always (none_held config); judged = []; rest = packets; parts = refl; leaves = tt }
+
+-- no packet was judged
+pub none_judged : (config : Config) (items : List Timed) (stage : Stage Recorded) (failed failed' : Type 0) (a : Option (List ℕ)) (refusal : Refusal)
+    → EndsBefore stage failed refusal → (failed → failed') → AnswersAt config items stage failed' a a (status_of refusal)
+none_judged config items stage failed failed' a refusal h f = record {
+  came = came_to_none config items (packets_of stage);
+  answers = record {
+    status_is = status h;
+    part = part_none a a (verdict_at (always (none_held config)) [] stage).text (Grew-refl a);
+    whole = λ six one. subst (λ (text : List ℕ). Grew a a text) (sym (none_text (always (none_held config)) stage)) (Grew-refl a);
+  };
+  all = λ six one. all h six one;
+}
+  where
+    status : EndsBefore stage failed refusal
+        → (status_of refusal ≡ (verdict_at (always (none_held config)) [] stage).status) ⊎ (status_of refusal ≡ 6) ⊎ ((status_of refusal ≡ 1) × failed')
+    status (inl e) = inl (sym (e.1 (always (none_held config))))
+    status (inr (inl e)) = inr (inl (ap status_of e))
+    status (inr (inr e)) = inr (inr (ap status_of e.0, f e.1))
+
+    all : EndsBefore stage failed refusal → status_of refusal ≢ 6 → status_of refusal ≢ 1 → packets_of stage ≡ []
+    all (inl e) six one = e.0
+    all (inr (inl e)) six one = absurd (six (ap status_of e))
+    all (inr (inr e)) six one = absurd (one (ap status_of e.0))
+
+-- the status of want of memory, and that of a call on the outside that failed, are of no input
+
+pub memory_of_packets : IsOfPackets 6
+memory_of_packets = (λ e. absurd cc, λ e. absurd cc, λ e. absurd cc)
+
+pub outside_of_packets : IsOfPackets 1
+outside_of_packets = (λ e. absurd cc, λ e. absurd cc, λ e. absurd cc)
+
+-- so at want of memory
+pub none_by_memory : {T : Type 0} {config : Config} {items : List Timed} {stage : Stage Recorded} {failed : Type 0} {a : Option (List ℕ)} (result : Result T Refusal)
+    → IsErrAnd result (λ e. e ≡ Memory) → AnswersAt config items stage failed a a (answered result)
+none_by_memory (Ok value) is = absurd is
+none_by_memory {config = config} {items = items} {stage = stage} {failed = failed} {a = a} (Err refusal) is = none_judged config items stage failed failed a refusal (inr (inl is)) (λ f. f)
+
+at_for : (config : Config) (items : List Timed) (stage : Stage Recorded) (failed failed' : Type 0) (before now : Option (List ℕ)) (answer : ℕ)
+    → AnswersAt config items stage failed before now answer → (failed → failed') → AnswersAt config items stage failed' before now answer
+at_for config items stage failed failed' before now answer a f = record {
+  came = a.came;
+  answers = answers_for (verdict_at a.came.held a.came.judged stage) failed failed' before now answer a.answers f;
+  all = a.all;
+}
+
+-- what judging the packets did and what writing out did, as the answer of the whole
+
+-- Behind these packets judging ended as is due, or memory was wanting, or a call on the outside failed.
+abbrev EndsBehind : {config : Config} {items : List Timed} {packets : List Captured}
+    → End CaptureReason → (left : List Captured) → CameTo config items packets → (before now : Option (List ℕ)) → (pending : List ℕ) → Type 0 → (answer : ℕ) → Type 0
+EndsBehind end left came before now pending failed answer =
+    ((answer ≡ status_at end) × (came.rest ≡ []) × Goes before now [] pending (came_lines came))
+    ⊎ ((answer ≡ 6) × IsUnjudged came.rest left × Goes before now [] pending (came_lines came))
+    ⊎ ((answer ≡ 1) × failed × Partly before now [] pending (came_lines came))
+
+ends_behind : {T : Type 0} (config : Config) (items : List Timed) (found : List Captured × End CaptureReason) (left : List Captured) (before mid : Option (List ℕ)) (first pending : List ℕ) (failed : Type 0) (result : Result T Refusal)
+    → first ≡ [] → JudgesSo config items found left before mid first pending failed result
+    → (came : CameTo config items found.0) × EndsBehind found.1 left came before mid pending failed (answered result)
+ends_behind {T} config items found left before mid first pending failed result e judged =
+    by result (subst (λ (p : List ℕ). JudgesSo config items found left before mid p pending failed result) e judged)
+  where
+    by : (r : Result T Refusal) → JudgesSo config items found left before mid [] pending failed r
+        → (came : CameTo config items found.0) × EndsBehind found.1 left came before mid pending failed (answered r)
+    by (Ok value) w = (w.0, inl (sym (ap status_at w.2), w.1, w.3))
+    by (Err refusal) (came, inl h) = (came, inl (sym h.0, h.1, h.2))
+    by (Err refusal) (came, inr (inl h)) = (came, inr (inl (ap status_of h.0, h.1, h.2)))
+    by (Err refusal) (came, inr (inr h)) = (came, inr (inr (ap status_of h.0, h.1, h.2)))
+
+-- a call on the outside failed
+part_lines : (config : Config) (items : List Timed) (found : List Captured × End CaptureReason) (failed : Type 0) (before now : Option (List ℕ)) (answer : ℕ) (came : CameTo config items found.0)
+    → answer ≡ 1 → failed → GrewPart before now (came_lines came) → AnswersAt config items (Found (recorded found)) failed before now answer
+part_lines config items found failed before now answer came e f part = record {
+  came = came;
+  answers = said_front (status_at found.1) (came_lines came) failed before now answer e f part;
+  all = λ six one. absurd (one e);
+}
+
+pub moments_finished : {T : Type 0} (config : Config) (items : List Timed) (found : List Captured × End CaptureReason) (left : List Captured) (before mid now : Option (List ℕ)) (first pending : List ℕ) (failed rose other : Type 0) (judged result : Result T Refusal)
+    → first ≡ [] → JudgesSo config items found left before mid first pending failed judged → Finishes pending rose mid now judged result → (failed → other) → (rose → other)
+    → AnswersAt config items (Found (recorded found)) other before now (answered result)
+moments_finished {T} config items found left before mid now first pending failed rose other judged result e w finishes f g =
+    let b = ends_behind config items found left before mid first pending failed judged e w in by b.0 b.1 finishes
+  where
+    whole : (came : CameTo config items found.0) → EndsBehind found.1 left came before mid pending failed (answered judged) → Grew mid now pending
+        → AnswersAt config items (Found (recorded found)) other before now (answered judged)
+    whole came (inl h) grew = record {
+      came = came;
+      answers = said_by (status_at found.1) (came_lines came) other before now (answered judged) (inl h.0) (goes_flush now h.2 grew);
+      all = λ six one. h.1;
+    }
+    whole came (inr (inl h)) grew = record {
+      came = came;
+      answers = said_by (status_at found.1) (came_lines came) other before now (answered judged) (inr (inl h.0)) (goes_flush now h.2 grew);
+      all = λ six one. absurd (six h.0);
+    }
+    whole came (inr (inr h)) grew =
+        part_lines config items found other before now (answered judged) came h.0 (f h.1) (partly_flushed before mid now pending (came_lines came) h.2 (part_whole mid now pending grew))
+
+    front : (came : CameTo config items found.0) → EndsBehind found.1 left came before mid pending failed (answered judged) → GrewPart mid now pending → GrewPart before now (came_lines came)
+    front came (inl h) part = goes_flush_part now h.2 part
+    front came (inr (inl h)) part = goes_flush_part now h.2 part
+    front came (inr (inr h)) part = partly_flushed before mid now pending (came_lines came) h.2 part
+
+    by : (came : CameTo config items found.0) → EndsBehind found.1 left came before mid pending failed (answered judged) → Finishes pending rose mid now judged result
+        → AnswersAt config items (Found (recorded found)) other before now (answered result)
+    by came behind (inl h) = subst (λ (r : Result T Refusal). AnswersAt config items (Found (recorded found)) other before now (answered r)) (sym h.0) (whole came behind h.1)
+    by came behind (inr h) = part_lines config items found other before now (answered result) came (outside_one result h.0) (g h.1) (front came behind h.2)
+
+-- of a capture that was opened so
+pub answers_opened : (config : Config) (items : List Timed) (stage : Stage Recorded) (found : Recorded) (failed failed' : Type 0) (before now : Option (List ℕ)) (answer : ℕ)
+    → stage ≡ Found found → AnswersAt config items (Found found) failed before now answer → (failed → failed') → AnswersAt config items stage failed' before now answer
+answers_opened config items stage found failed failed' before now answer e a f =
+    subst (λ (s : Stage Recorded). AnswersAt config items s failed' before now answer) (sym e) (at_for config items (Found found) failed failed' before now answer a f)
+
+-- a count that rose in a part rose in the whole
+pub rose_wider : (f f1 f2 s s1 s2 : ℕ) → f ≤ f1 → s1 ≤ s2 → Rose f1 f2 ⊎ Rose s s1 → Rose f f2 ⊎ Rose s s2
+rose_wider f f1 f2 s s1 s2 l m (inl r) = inl (rose_earlier f f1 f2 l r)
+rose_wider f f1 f2 s s1 s2 l m (inr r) = inr (rose_later s s1 s2 r m)
+
+-- at want of memory
+
+-- no packet was read
+abbrev pub wrote_none : (config : Config) (items : List Timed) (packets left : List Captured) (before now : Option (List ℕ)) → packets ≡ left → Grew before now []
+    → WroteJudged config items packets left before now
+wrote_none config items packets left before now e g = record { came = came_to_none config items packets; unjudged = inl e; wrote = g }
+
+-- those that were judged were written out
+pub wrote_judged : {T : Type 0} (config : Config) (items : List Timed) (found : List Captured × End CaptureReason) (left : List Captured) (before mid now : Option (List ℕ)) (first pending : List ℕ) (failed rose : Type 0) (judged result : Result T Refusal)
+    → first ≡ [] → JudgesSo config items found left before mid first pending failed judged → Finishes pending rose mid now judged result → answered result ≡ 6
+    → WroteJudged config items found.0 left before now
+wrote_judged config items found left before mid now first pending failed rose judged result e w finishes six =
+    let b = ends_behind config items found left before mid first pending failed judged e w in by b.0 b.1 finishes
+  where
+    of_end : (end : End CaptureReason) → 6 ≡ status_at end → ⊥
+    of_end done h = absurd cc
+    of_end limited h = absurd cc
+    of_end (bad reason place) h = absurd cc
+
+    by : (came : CameTo config items found.0) → EndsBehind found.1 left came before mid pending failed (answered judged) → Finishes pending rose mid now judged result
+        → WroteJudged config items found.0 left before now
+    by came (inl h) (inl done_so) = absurd (of_end found.1 (sym six ∙ ap answered done_so.0 ∙ h.0))
+    by came (inr (inl h)) (inl done_so) = record { came = came; unjudged = h.1; wrote = goes_flush now h.2 done_so.1 }
+    by came (inr (inr h)) (inl done_so) = let one : answered result ≡ 1 = ap answered done_so.0 ∙ h.0 in absurd cc
+    by came behind (inr h) = let one : answered result ≡ 1 = outside_one result h.0 in absurd cc
 
 -- the configuration ended the run
 pub config_ends : (limit : ℕ) (holds : Names) (config tape capture : List ℕ) (failed failed' : Type 0) (a : Option (List ℕ)) (refusal : Refusal)
@@ -91,8 +259,8 @@ never_tape {A} config items found failed before now answer a four = by a.answers
 
     by : (answer ≡ status_at found.end) ⊎ (answer ≡ 6) ⊎ ((answer ≡ 1) × failed) → A
     by (inl h) = of_end found.end (sym four ∙ h)
-    by (inr (inl h)) = let wrong : 4 ≡ 6 = sym four ∙ h in absurd cc
-    by (inr (inr h)) = let wrong : 4 ≡ 1 = sym four ∙ h.0 in absurd cc
+    by (inr (inl h)) = let six : answer ≡ 6 = h in absurd cc
+    by (inr (inr h)) = let one : answer ≡ 1 = h.0 in absurd cc
 
 -- a tape of the second version is one
 pub is_second : (limit : ℕ) (holds holds' : Names) (config : Config) (tape : List ℕ) (version : Version) (desk : Desked)

@@ -1,4 +1,3 @@
 pub mod AtMoments
 pub mod Enforcing
-pub mod MomentAnswers
 pub mod Walking

@@ -54,19 +54,13 @@ walk_over view list place walked w f =
     ∙ w
 
 actions_at : (list : List Listed) (k : ℕ) (a : List (List ℕ)) (r : Listed) → k < length list → get_or (actions_of list) k a ≡ (get_or list k r).actions
-actions_at [] k a r l = absurd (none k l)
-  where
-    none : (k : ℕ) → k < 0 → ⊥
-    none k l = omega (arith, l)
+actions_at [] k a r l = absurd (omega (arith, l))
 actions_at (rule ∷ list) zero a r l = refl
 actions_at (rule ∷ list) (suc k) a r l = actions_at list k a r (omega (arith, l))
 
 -- of a list in which something is found
 some_rule : (list : List Listed) (found : ℕ) → found < length list → Listed
-some_rule [] found l = absurd (none found l)
-  where
-    none : (k : ℕ) → k < 0 → ⊥
-    none k l = omega (arith, l)
+some_rule [] found l = absurd (omega (arith, l))
 some_rule (rule ∷ list) found l = rule
 
 one_more : (view : Viewed) (list : List Listed) (place found : ℕ) (walked : List Walked) (next : Walked) (actions : List (List ℕ)) (rest : Walk)

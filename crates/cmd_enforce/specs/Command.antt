@@ -1,15 +1,14 @@
 -- What `enforce` is given, and what it answers and writes (the order of work: configuration, tape, capture).
-use Rattle.std.specs.Prelude.{ℕ, List, [], ◌≡◌, ◌⊎◌, ◌<◌, Option, Some, length}
+use Rattle.std.specs.Prelude.{ℕ, List, [], ◌≡◌, ◌⊎◌, Option, Some}
 use Rattle.fs_input.specs.Records.{done}
 use Rattle.fs_base.specs.declared.config.Config.{Config}
-use Rattle.fs_tape.specs.Tape.{Timed, tape_of}
+use Rattle.fs_tape.specs.Tape.{Timed}
 use Rattle.fs_capture.specs.Capture.{CaptureState, Recorded, capture_of, coming}
 use Rattle.cmd_stages.specs.Refusal.{Stage, Found, Stopped, and_then, status_of, EndsEarly}
-use Rattle.cmd_stages.specs.Load.{Names}
+use Rattle.cmd_stages.specs.Load.{HoldsConfig, Names}
 use Rattle.fs_base.specs.Happened.{Happened, FilesFailed, SinkFailed, Wrote}
-use Rattle.fs_conf.specs.Config.{config_of}
 use Rattle.fs_rules.specs.Table.{Held}
-use Rattle.cmd_stages.specs.Play.{HasVersion, accepted_stage}
+use Rattle.cmd_stages.specs.Play.{HasVersion, HoldsTape, accepted_stage}
 use Rattle.fs_tape.specs.declared.magic.Version.TheVariants.{Two}
 use Rattle.cmd_enforce.specs.Judge.{capture_stage, status_at, output_of}
 use Rattle.cmd_enforce.specs.Moments.{AnswersAt, HoldAt, WroteJudged, packets_of}
@@ -69,15 +68,10 @@ Wants limit holds config tape capture left_before left call =
 -- packets were written: of the ordered walk over the rules that validation admits from the routes that the tape holds at
 -- the packet's moment.
 pub record Enforced (limit : ℕ) (holds : Names) (config tape capture : List ℕ) (call : Happened) : Type 0 where
-  pub config_octets : List ℕ
-  pub config_is : holds config ≡ Some config_octets
-  pub config_within : length config_octets < limit
   pub accepted : Config
-  pub accepted_is : config_of config_octets ≡ Some accepted
-  pub tape_octets : List ℕ
-  pub tape_is : holds tape ≡ Some tape_octets
   pub items : List Timed
-  pub items_are : tape_of accepted limit tape_octets ≡ (items, done)
+  pub config_is : HoldsConfig limit holds config accepted
+  pub tape_is : HoldsTape limit holds tape accepted items
   pub capture_octets : List ℕ
   pub capture_is : holds capture ≡ Some capture_octets
   pub capture_done : (capture_of limit capture_octets).end ≡ done

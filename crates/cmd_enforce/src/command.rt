@@ -9,11 +9,18 @@ ghost use Rattle.fs_tape.specs.declared.magic.Version.TheVariants.{Two};
 
 use crate::capture::open_capture;
 use crate::judge::judge_capture;
-use crate::names::InputNames;
 use cmd_stages::{Player, Refusal, load_config, play_whole};
 use fs_base::{Files, Sink};
 use fs_tape::Version;
 use std::alloc::Global;
+
+/// The names of the files that `enforce` reads.
+#[derive(Clone, Copy, Drop)]
+pub struct InputNames<'w> {
+    pub config: &'w str,
+    pub tape: &'w str,
+    pub capture: &'w str,
+}
 
 /// Plays the tape, and writes a line for each packet of the capture: by the rules that a tape of the first version
 /// leaves admitted, and by those that one of the second version admits at the packet's moment. That one is read twice.

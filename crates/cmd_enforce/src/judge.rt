@@ -81,7 +81,7 @@ pub(crate) fn judge_capture<F: Files, S: Sink>(
     let mut buffer = vec![in alloc; 0u8; LONGEST_RECORD]?;
     let mut lines = Lines::new(alloc)?;
     let mut following = Following::new(alloc, player)?;
-    let judged = judge_all(
+    let judged = judge_packets(
         files,
         capture,
         &mut following,
@@ -90,58 +90,7 @@ pub(crate) fn judge_capture<F: Files, S: Sink>(
         sink,
     );
     forget(following); // the program ends here: no route is given back by itself
-    judged
-}
-
-/// Judges all packets of the capture, and writes out their lines.
-fn judge_all<F: Files, S: Sink>(
-    files: &mut F,
-    capture: &mut Capture,
-    following: &mut Following<'_>,
-    buffer: &mut [u8],
-    lines: &mut Lines,
-    sink: &mut S,
-) -> Result<(), Refusal>
-    requires room { longest_record ≤ length buffer.old }
-    requires slot { capture.old.slot ≡ 2 }
-    requires open { capture.old.end ≡ None }
-    requires moment { capture.old.moment ≡ 0 }
-    requires within { capture.old.place ≤ capture.old.limit }
-    requires fits { capture.old.limit < 2 ^ 64 }
-    requires tape { following.old.player.tape.slot ≡ 1 }
-    requires ends { IsOpenOrDone following.old.player.tape following.old.player.ahead }
-    requires stands { StandsFor (admitted_rules following.old.player.desk.held) following.old.rules }
-    requires own { AreOwn (admitted_in following.old.player.desk.held) }
-    requires none { (lines.old.output ≡ []) × (lines.old.number ≡ 0) }
-    ensures files_later { F.faults files.old ≤ F.faults files.new }
-    ensures sink_later { S.faults sink.old ≤ S.faults sink.new }
-    ensures possible { IsOfPackets (answered result) }
-    ensures ends { EndsTape following.new.player result }
-    ensures unwritten { following.old.player.ahead ≡ None
-        → answered result ≡ 6
-        → (sink.new ≡ sink.old) × (files.new ≡ files.old) × (capture.new ≡ capture.old) }
-
-    ensures judges { IsTrue F.tells
-        → (items : List Timed)
-        → Stands items 0 following.old.player (F.left files.old 1)
-        → AnswersAt following.old.player.desk.config items
-        (Found (recorded (coming capture.old (F.left files.old 2))))
-        (Rose (F.faults files.old) (F.faults files.new) ⊎ Rose (S.faults sink.old) (S.faults sink.new))
-        (S.written sink.old)
-        (S.written sink.new)
-        (answered result) }
-    ensures wanting { IsTrue F.tells
-        → answered result ≡ 6
-        → (items : List Timed)
-        → Stands items 0 following.old.player (F.left files.old 1)
-        → WroteJudged following.old.player.desk.config items
-        (coming capture.old (F.left files.old 2)).0
-        (coming capture.new (F.left files.new 2)).0
-        (S.written sink.old) (S.written sink.new) }
-{
-    let judged = judge_packets(files, capture, following, buffer, lines, sink);
-    lines.output.flush(sink)?;
-    judged
+    lines.finish(judged, sink)
 }
 
 /// Judges the packets of the capture. Memory is taken between the items of a packet's moment and that packet, and before

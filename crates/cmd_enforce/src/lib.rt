@@ -7,10 +7,8 @@ mod following;
 mod judge;
 mod laws;
 mod lines;
-mod names;
 mod walk;
 
-pub use command::enforce;
+pub use command::{InputNames, enforce};
 pub use laws::same_lines;
-pub use names::InputNames;
 pub use walk::drops;

@@ -4,11 +4,14 @@ ghost use Rattle.std.specs.Prelude.{◌≡◌, ◌≤◌, ◌<◌, ◌+◌, ◌^
 ghost use Rattle.std.specs.Option.{is_some};
 ghost use Rattle.cmd_enforce.specs.Judge.{AdmittedRules, hand_text, packet_text, rules_for, seen_of};
 ghost use Rattle.cmd_enforce.specs.Matcher.{HasRoom, IsSound, StandsFor};
+ghost use Rattle.cmd_stages.specs.Writing.{Finishes};
+ghost use Rattle.fs_base.specs.Outside.{Rose};
 ghost use Rattle.fs_line.specs.Line.{line_of};
 ghost use Rattle.fs_line.specs.Output.{Sends};
 ghost use Rattle.fs_rules.specs.Walk.{walk_of};
 
 use crate::walk::walk_packet;
+use cmd_stages::Refusal;
 use fs_base::{Failed, Link, Memory, Sink};
 use fs_capture::Caught;
 use fs_compile::Compiled;
@@ -31,6 +34,21 @@ impl Lines {
             output: Output::new(alloc)?,
             number: 0,
         })
+    }
+
+    /// Writes out the lines that are pending, and hands on how judging ended.
+    pub(crate) fn finish<S: Sink>(
+        &mut self,
+        judged: Result<(), Refusal>,
+        sink: &mut S,
+    ) -> Result<(), Refusal>
+        ensures later { S.faults sink.old ≤ S.faults sink.new }
+        ensures idle { self.old.output ≡ [] → sink.new ≡ sink.old }
+        ensures finishes { Finishes self.old.output (Rose (S.faults sink.old) (S.faults sink.new))
+            (S.written sink.old) (S.written sink.new) judged result }
+    {
+        self.output.flush(sink)?;
+        judged
     }
 }
 

@@ -1,26 +1,17 @@
--- How `gen` counts, and what it answers.
-use Rattle.std.proofs.Common.{◌≡◌, inl, inr, ◌≤◌, ◌+◌, ◌∙◌, ℕ, suc, List, [], ◌∷◌, ◌++◌, Bool, true, false, cond, Option, Result, Ok, Err, OnOk, refl, ap, sym, subst, arith, length, append_assoc, append-nil}
+-- How `gen` counts.
+use Rattle.std.proofs.Common.{◌≡◌, ◌≤◌, ◌+◌, ◌∙◌, ℕ, suc, List, [], ◌∷◌, ◌++◌, Bool, true, false, cond, refl, ap, sym, subst, arith, length, append_assoc, append-nil}
 use Rattle.std.specs.List.{count_by}
 use Rattle.std.proofs.lemmas.List.Sums.{sum_by_push}
-use Rattle.fs_base.proofs.Grew.{part_whole}
-use Rattle.fs_base.specs.Sink.{Grew, GrewPart}
 use Rattle.fs_base.specs.declared.config.Config.{Config}
-use Rattle.fs_desk.proofs.Leaves.{played_leaves}
 use Rattle.fs_desk.specs.Desk.{Desked, Played}
-use Rattle.cmd_gen.specs.Configuration.{three_peers}
 use Rattle.cmd_gen.specs.Draws.{behind_pair, behind_pairs, pair_behind, pair_of}
-use Rattle.cmd_gen.specs.Generator.{packet_of, packets, packets_of_seed, peer_of, step_of, steps, tape_of_seed, update_of}
+use Rattle.cmd_gen.specs.Generator.{packet_of, packets, packets_of_seed, peer_of, step_of, steps, update_of}
 use Rattle.cmd_gen.specs.declared.pair.Pair.{Pair}
-use Rattle.fs_packet.specs.Reading.{view_of}
-use Rattle.fs_base.specs.declared.link.Link.TheVariants.{Raw}
 use Rattle.fs_base.specs.declared.prefix.Family.TheVariants.{V4}
 use Rattle.fs_rules.specs.Table.{Held, admitted}
 use Rattle.fs_tape.specs.Tape.{Item, received}
-use Rattle.cmd_gen.specs.Command.{GeneratesSo, dropped_of, gen_line, gen_text, is_dropped, is_passed, one_if, passed_of}
-use Rattle.cmd_enforce.specs.Judge.{AdmittedRules, admitted_rules}
-use Rattle.cmd_stages.specs.Writing.{Writes}
-use Rattle.cmd_stages.specs.Refusal.{answered, status_of}
-use Rattle.cmd_stages.specs.declared.refusal.Refusal.{Refusal}
+use Rattle.cmd_gen.specs.Command.{dropped_of, gen_line, gen_text, one_if, passed_of}
+use Rattle.cmd_enforce.specs.Judge.{admitted_rules}
 
 -- one pair of draws more, and none
 
@@ -54,28 +45,8 @@ packets_more seed count = ap (packets seed) (after count)
 pub packet_state : (seed count : ℕ) → behind_pairs seed (seed + (count + 1)) ≡ behind_pair (behind_pairs seed (seed + count))
 packet_state seed count = let same : seed + (count + 1) ≡ (seed + count) + 1 = omega arith in ap (behind_pairs seed) same ∙ state_more seed (seed + count)
 
--- one packet more
-
 counted_more : {X : Type 0} (p : X → Bool) (xs : List X) (y : X) → count_by p (xs ++ y ∷ []) ≡ count_by p xs + one_if (p y)
 counted_more p xs y = sum_by_push (λ x. cond (p x) 1 0) xs y
-
-pub passed_more : (rules : AdmittedRules) (seed count : ℕ)
-    → passed_of rules (packets seed (count + 1)) ≡ passed_of rules (packets seed count) + one_if (is_passed rules (view_of Raw (packet_of (pair_behind seed (seed + count)))))
-passed_more rules seed count =
-    ap (passed_of rules) (packets_more seed count)
-    ∙ counted_more (λ octets. is_passed rules (view_of Raw octets)) (packets seed count) (packet_of (pair_behind seed (seed + count)))
-
-pub dropped_more : (rules : AdmittedRules) (seed count : ℕ)
-    → dropped_of rules (packets seed (count + 1)) ≡ dropped_of rules (packets seed count) + one_if (is_dropped rules (view_of Raw (packet_of (pair_behind seed (seed + count)))))
-dropped_more rules seed count =
-    ap (dropped_of rules) (packets_more seed count)
-    ∙ counted_more (λ octets. is_dropped rules (view_of Raw octets)) (packets seed count) (packet_of (pair_behind seed (seed + count)))
-
-pub passed_none : (rules : AdmittedRules) (seed : ℕ) → 0 ≡ passed_of rules (packets seed 0)
-passed_none rules seed = sym (ap (passed_of rules) (packets_none seed))
-
-pub dropped_none : (rules : AdmittedRules) (seed : ℕ) → 0 ≡ dropped_of rules (packets seed 0)
-dropped_none rules seed = sym (ap (dropped_of rules) (packets_none seed))
 
 -- what is drawn makes this step, and this packet
 
@@ -88,30 +59,18 @@ pub packet_is : (pair : Pair) (octets : List ℕ) (state seed count : ℕ) → o
     → state ≡ behind_pairs seed (seed + count) → octets ≡ packet_of (pair_behind seed (seed + count))
 packet_is pair octets state seed count o d s = o ∙ ap packet_of (d ∙ ap pair_of s)
 
--- of what stands where a result is Ok
-pub on_ok : {T E : Type 0} {P Q : Type 0} (r : Result T E) → (P → Q) → OnOk r P → OnOk r Q
-on_ok (Ok t) f p = f p
-on_ok (Err e) f p = tt
+-- no packet was counted yet, and one more
 
--- one packet more was counted
+pub counted_none : (p : List ℕ → Bool) (seed : ℕ) → 0 ≡ count_by p (packets seed 0)
+counted_none p seed = sym (ap (count_by p) (packets_none seed))
 
-pub passed_after : (rules : AdmittedRules) (seed count before after : ℕ) (octets : List ℕ) (passed : Bool) → octets ≡ packet_of (pair_behind seed (seed + count))
-    → before ≡ passed_of rules (packets seed count) → after ≡ before + one_if passed → passed ≡ is_passed rules (view_of Raw octets) → after ≡ passed_of rules (packets seed (count + 1))
-passed_after rules seed count before after octets passed o b a p =
+pub counted_after : (p : List ℕ → Bool) (seed count before after : ℕ) (octets : List ℕ) (counts : Bool) → octets ≡ packet_of (pair_behind seed (seed + count))
+    → before ≡ count_by p (packets seed count) → after ≡ before + one_if counts → counts ≡ p octets → after ≡ count_by p (packets seed (count + 1))
+counted_after p seed count before after octets counts o b a c =
     a
-    ∙ ap (λ (m : ℕ). m + one_if passed) b
-    ∙ ap (λ (t : Bool). passed_of rules (packets seed count) + one_if t) p
-    ∙ ap (λ (list : List ℕ). passed_of rules (packets seed count) + one_if (is_passed rules (view_of Raw list))) o
-    ∙ sym (passed_more rules seed count)
-
-pub dropped_after : (rules : AdmittedRules) (seed count before after : ℕ) (octets : List ℕ) (dropped : Bool) → octets ≡ packet_of (pair_behind seed (seed + count))
-    → before ≡ dropped_of rules (packets seed count) → after ≡ before + one_if dropped → dropped ≡ is_dropped rules (view_of Raw octets) → after ≡ dropped_of rules (packets seed (count + 1))
-dropped_after rules seed count before after octets dropped o b a p =
-    a
-    ∙ ap (λ (m : ℕ). m + one_if dropped) b
-    ∙ ap (λ (t : Bool). dropped_of rules (packets seed count) + one_if t) p
-    ∙ ap (λ (list : List ℕ). dropped_of rules (packets seed count) + one_if (is_dropped rules (view_of Raw list))) o
-    ∙ sym (dropped_more rules seed count)
+    ∙ ap (λ (m : ℕ). m + one_if counts) b
+    ∙ ap (λ (t : Bool). count_by p (packets seed count) + one_if t) (c ∙ ap p o)
+    ∙ sym (ap (count_by p) (packets_more seed count) ∙ counted_more p (packets seed count) (packet_of (pair_behind seed (seed + count))))
 
 pub few_more : (b : Bool) (before now counter : ℕ) → before ≤ counter → now ≡ before + one_if b → now ≤ counter + 1
 few_more true before now counter f e = omega (arith, f, e)
@@ -144,29 +103,3 @@ pub opened : (config : Config) (items : List Item) (a b c : Item) (desk : Desked
 opened config items a b c desk p =
     subst (λ (all : List Item). Played config all desk)
     (append_assoc (items ++ a ∷ []) (b ∷ []) (c ∷ []) ∙ append_assoc items (a ∷ []) (b ∷ c ∷ [])) p
-
--- what is answered
-
--- the line was written under what the tape leaves, or a front of it
-pub written : {T : Type 0} (count : ℕ) (desk : Desked) (held : Held) (failed : Type 0) (before now : Option (List ℕ)) (text : List ℕ) (result : Result T Refusal)
-    → Played three_peers (tape_of_seed count) desk → held ≡ desk.held → text ≡ gen_text count held
-    → Writes text failed before now result → GeneratesSo count failed before now (answered result)
-written count desk held failed before now text (Ok t) p h e w = inr (record {
-  held = desk.held;
-  leaves = played_leaves three_peers (tape_of_seed count) desk p;
-  answers = record {
-    status_is = inl refl;
-    part = part_whole before now _ (subst (λ (t : List ℕ). Grew before now t) (e ∙ ap (gen_text count) h) w);
-    whole = λ six one. subst (λ (t : List ℕ). Grew before now t) (e ∙ ap (gen_text count) h) w;
-  };
-})
-written count desk held failed before now text (Err refusal) p h e (inl none) = inl (ap status_of none.0, none.1)
-written count desk held failed before now text (Err refusal) p h e (inr stopped) = inr (record {
-  held = desk.held;
-  leaves = played_leaves three_peers (tape_of_seed count) desk p;
-  answers = record {
-    status_is = inr (inr (ap status_of stopped.0, stopped.1));
-    part = subst (λ (t : List ℕ). GrewPart before now t) (e ∙ ap (gen_text count) h) stopped.2;
-    whole = λ six one. absurd (one (ap status_of stopped.0));
-  };
-})

@@ -2,6 +2,5 @@ pub mod Configuration
 pub mod Draws
 pub mod Generator
 pub mod Messages
-pub mod Octets
 pub mod Command
 pub mod Tally

@@ -2,6 +2,8 @@
 use Rattle.std.specs.Prelude.{ℕ, ◌+◌, List, [], ◌∷◌, ◌++◌, length}
 use Rattle.byteorder.specs.Endian.{big_bytes}
 use Rattle.fs_message.specs.Write.{message_text}
+use Rattle.cmd_gen.specs.declared.message.Message.{Message}
+use Rattle.cmd_gen.specs.declared.message.Message.TheVariants.{Wide, Net, Rule, Withdrawal}
 
 -- the AS of a peer, and its address, which is its identifier too
 abbrev pub asn_of : ℕ → ℕ
@@ -72,3 +74,10 @@ withdrawal prefix = update_text prefix [] []
 -- a peer announces a rule that drops
 abbrev pub rule_announcement : ℕ → List ℕ → List ℕ
 rule_announcement peer rule = update_text [] (reaches rule ++ (origin ++ (as_path peer ++ drops))) []
+
+-- the octets of a message of the tape
+abbrev pub octets_of : Message → List ℕ
+octets_of (Wide octets) = octets
+octets_of (Net octets) = octets
+octets_of (Rule octets) = octets
+octets_of (Withdrawal octets) = octets

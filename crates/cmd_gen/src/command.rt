@@ -22,7 +22,7 @@ use crate::draws::Draws;
 use crate::message::{keepalive, open_message};
 use crate::tally::{Fate, Tally};
 use cmd_enforce::drops;
-use cmd_stages::{Refusal, write_text};
+use cmd_stages::{Refusal, write_made};
 use fs_base::{Config, Family, Link, Memory, Sink};
 use fs_compile::Compiled;
 use fs_desk::Desk;
@@ -48,8 +48,7 @@ pub fn generate<S: Sink>(alloc: Global, sink: &mut S, count: u32) -> Result<(), 
     let config = three_peers(alloc)?;
     let mut draws = Draws::new(u64::from(count));
     let desk = play_generated(alloc, &config, &mut draws, count)?;
-    let text = gen_text(alloc, desk.table(), &mut draws, count)?;
-    write_text(&text, sink)
+    write_made(gen_text(alloc, desk.table(), &mut draws, count), sink)
 }
 
 /// The desk behind the generator's tape.

@@ -1,8 +1,7 @@
 //! The messages of the generator's tape.
 
 ghost use Rattle.std.specs.Prelude.{◌≡◌, ◌⊎◌};
-ghost use Rattle.cmd_gen.specs.Octets.{octets_of};
-ghost use Rattle.cmd_gen.specs.Messages.{announcement, keepalive, net, open_of, rule_announcement, rule_of, wide, withdrawal};
+ghost use Rattle.cmd_gen.specs.Messages.{announcement, keepalive, net, open_of, rule_announcement, rule_of, wide, withdrawal, octets_of};
 
 /// An UPDATE of the tape.
 #[derive(Drop)]

@@ -1,7 +1,7 @@
 //! What two numbers choose: a peer and its UPDATE, or a packet.
 
 ghost use Rattle.std.specs.Prelude.{◌≡◌, ◌⊎◌};
-ghost use Rattle.cmd_gen.specs.Octets.{octets_of};
+ghost use Rattle.cmd_gen.specs.Messages.{octets_of};
 ghost use Rattle.cmd_gen.specs.Generator.{host_of, packet_of, peer_of, port_of, update_of, x_of, y_of};
 
 use crate::message::{Message, announce_net, announce_rule, announce_wide, withdraw_net};

@@ -1,10 +1,10 @@
 -- A player that holds one item ahead.
 use Rattle.std.proofs.Common.{◌≡◌, inl, inr, ◌≤◌, ◌<◌, ◌-◌, ℕ, suc, List, [], ◌∷◌, ◌++◌, Bool, true, false, Option, Some, None, refl, ap, sym, ◌∙◌, subst, append_assoc, append-nil, arith, filter}
-use Rattle.std.specs.Prelude.{nat_le, if◌then◌else◌, option_map, Result, Ok, Err, IfSome, MatchResult}
+use Rattle.std.specs.Prelude.{nat_le, if◌then◌else◌, option_map, Result, Ok, IfSome}
 use Rattle.std.specs.Option.{is_some}
-use Rattle.std.specs.Result.{IsErrAnd}
 use Rattle.std.specs.List.{AllByRecursion}
-use Rattle.std.proofs.lemmas.Bool.Decides.{nat_tests}
+use Rattle.std.proofs.lemmas.Bool.{le-leb, leb-false, leb-true, lt-leb}
+use Rattle.fs_base.proofs.Lists.{each_append, each_weaker, filter-append, filter_all, filter_none}
 use Rattle.fs_base.specs.Files.{OnlySlot}
 use Rattle.fs_base.specs.Outside.{Rose}
 use Rattle.fs_base.specs.Parts.{with_part}
@@ -27,7 +27,8 @@ use Rattle.cmd_stages.specs.Load.{Names}
 use Rattle.cmd_stages.specs.Refusal.{Stage, Found, Stopped, HasReason}
 use Rattle.cmd_stages.specs.Play.{Gives, HasVersion, HaveNoMoments, IsOpened, played_to, tape_stage, until, untimed}
 use Rattle.cmd_stages.specs.Player.{IsReady, IsUnplayed, PlayerState, Stands, due_item, items_ahead, to_play}
-use Rattle.cmd_stages.proofs.Playing.{all_more, untimed_more}
+use Rattle.cmd_stages.proofs.Playing.{untimed_more}
+use Rattle.cmd_stages.proofs.Stages.{rose_earlier}
 
 -- what the reader gave is held ahead
 ahead_of : (found : Option TapeItem) (before now : List Timed × End TapeReason) (moment : ℕ) (into : List ℕ)
@@ -35,7 +36,7 @@ ahead_of : (found : Option TapeItem) (before now : List Timed × End TapeReason)
 ahead_of None before now moment into h = h
 ahead_of (Some item) before now moment into h = h
 
-found_items : (r : List Timed × End TapeReason) (items : List Timed) → played_to r ≡ Found items → r ≡ (items, done)
+pub found_items : (r : List Timed × End TapeReason) (items : List Timed) → played_to r ≡ Found items → r ≡ (items, done)
 found_items (found, done) items e = let same : found ≡ items = cc in ap (λ (l : List Timed). (l, done)) same
 found_items (found, limited) items e = absurd cc
 found_items (found, bad reason place) items e = absurd cc
@@ -102,7 +103,7 @@ stands_step items t old new left left' item h m s plays same g v =
       gone = s.gone ++ first ∷ [];
       parts = s.parts ∙ ap (λ (r : List Timed × End TapeReason). s.gone ++ r.0) all ∙ sym (append_assoc s.gone (first ∷ []) (to_play new left').0);
       ends = sym (ap (λ (r : List Timed × End TapeReason). r.1) all) ∙ s.ends;
-      early = all_more (λ (x : Timed). x.moment ≤ t) s.gone (first ∷ []) s.early (m, tt);
+      early = each_append (λ (x : Timed). x.moment ≤ t) s.gone (first ∷ []) s.early (m, tt);
       played = subst (λ (c : Config). Played c (untimed (s.gone ++ first ∷ [])) new.desk) (sym same)
           (subst (λ (z : List Item). Played old.desk.config z new.desk) (sym (untimed_more s.gone (first ∷ [])))
           (plays old.desk.config (untimed s.gone) s.played));
@@ -130,57 +131,37 @@ stands_later items t t' player left l s = record {
   gone = s.gone;
   parts = s.parts;
   ends = s.ends;
-  early = all_other (λ (x : Timed). x.moment ≤ t) (λ (x : Timed). x.moment ≤ t') (λ x h. omega (arith, l, h)) s.gone s.early;
+  early = each_weaker (λ (x : Timed). x.moment ≤ t) (λ (x : Timed). x.moment ≤ t') (λ x h. omega (arith, l, h)) s.gone s.early;
   played = s.played;
   version_is = s.version_is;
 }
-  where
-    all_other : {A : Type 0} (P Q : A → Type 0) → ((x : A) → P x → Q x) → (xs : List A) → AllByRecursion P xs → AllByRecursion Q xs
-    all_other P Q f [] all = tt
-    all_other P Q f (x ∷ xs) all = (f x all.0, all_other P Q f xs all.1)
 
 -- what is still to be played is late, where no item is due
-
-from_later : (at t : ℕ) (items : List Timed) → t < at → AreFrom at items → AllByRecursion (λ (x : Timed). t < x.moment) items
-from_later at t [] l all = tt
-from_later at t (x ∷ items) l all = (omega (arith, l, all.0), from_later at t items l all.1)
 
 late : (ahead : Option TapeItem) (at t : ℕ) (into : List ℕ) (rest : List Timed × End TapeReason)
     → due_item ahead at t ≡ None → IfSome ahead (λ _. AreFrom at rest.0) → AllByRecursion (λ (x : Timed). t < x.moment) (items_ahead ahead at into rest).0
 late None at t into rest h all = tt
 late (Some item) at t into rest h all =
     let below : t < at = by (nat_le at t) refl h in
-    (below, from_later at t rest.0 below all)
+    (below, each_weaker (λ (x : Timed). at ≤ x.moment) (λ (x : Timed). t < x.moment) (λ x h. omega (arith, below, h)) rest.0 all)
   where
     by : (b : Bool) → nat_le at t ≡ b → (if b then Some item else None) ≡ None → t < at
     by true e h = absurd cc
-    by false e h = grind (arith, nat_tests, e)
+    by false e h = leb-false at t e
 
 rises : (config : Config) (version : Version) (limit taken moment : ℕ) (left : List ℕ) → version ≡ Two → AreFrom moment (items_to_come config version limit taken moment left).0
 rises config version limit taken moment left e =
     subst (λ (v : Version). AreFrom moment (items_to_come config v limit taken moment left).0) (sym e) (moments_rise config limit taken moment left)
 
-none_until : (t : ℕ) (rest : List Timed) → AllByRecursion (λ (x : Timed). t < x.moment) rest → filter (λ (x : Timed). nat_le x.moment t) rest ≡ []
-none_until t [] all = refl
-none_until t (x ∷ rest) all =
-    let out : nat_le x.moment t ≡ false = after t x.moment all.0 in
-    ap (λ (b : Bool). if b then x ∷ filter (λ (x : Timed). nat_le x.moment t) rest else filter (λ (x : Timed). nat_le x.moment t) rest) out
-    ∙ none_until t rest all.1
-  where
-    after : (t m : ℕ) → t < m → nat_le m t ≡ false
-    after t m l = grind (arith, nat_tests, l)
-
 -- those up to t are those that were played
 until_gone : (t : ℕ) (gone rest : List Timed) → AllByRecursion (λ (x : Timed). x.moment ≤ t) gone → AllByRecursion (λ (x : Timed). t < x.moment) rest
     → filter (λ (x : Timed). nat_le x.moment t) (gone ++ rest) ≡ gone
-until_gone t [] rest early late = none_until t rest late
-until_gone t (x ∷ gone) rest early late =
-    let in_time : nat_le x.moment t ≡ true = before t x.moment early.0 in
-    ap (λ (b : Bool). if b then x ∷ filter (λ (x : Timed). nat_le x.moment t) (gone ++ rest) else filter (λ (x : Timed). nat_le x.moment t) (gone ++ rest)) in_time
-    ∙ ap (λ (l : List Timed). x ∷ l) (until_gone t gone rest early.1 late)
-  where
-    before : (t m : ℕ) → m ≤ t → nat_le m t ≡ true
-    before t m l = grind (arith, nat_tests, l)
+until_gone t gone rest early late =
+    let up_to : Timed → Bool = λ x. nat_le x.moment t in
+    filter-append up_to gone rest
+    ∙ ap (λ (l : List Timed). l ++ filter up_to rest) (filter_all up_to gone (each_weaker (λ x. x.moment ≤ t) (λ x. up_to x ≡ true) (λ x l. le-leb x.moment t l) gone early))
+    ∙ ap (λ (l : List Timed). gone ++ l) (filter_none up_to rest (each_weaker (λ x. t < x.moment) (λ x. up_to x ≡ false) (λ x l. lt-leb x.moment t l) rest late))
+    ∙ append-nil gone
 
 -- Where no item is due any more, the desk holds what the items up to this moment leave.
 pub leaves_until : (items : List Timed) (t : ℕ) (player : PlayerState) (left : List ℕ) → Stands items t player left
@@ -205,27 +186,20 @@ none_due None h = refl
 none_due (Some item) h = absurd cc
 
 -- a tape without moments was played to its end
-no_moments : (items : List Timed) → HaveNoMoments One items → AllByRecursion (λ (x : Timed). x.moment ≤ 0) items
-no_moments [] all = tt
-no_moments (x ∷ items) all = (let none : x.moment ≡ 0 = all.0 refl in omega (arith, none), no_moments items all.1)
-
 pub stands_ended : (items : List Timed) (tape : TapeState) (into : List ℕ) (desk : Desked) (left : List ℕ)
     → Played desk.config (untimed items) desk → HaveNoMoments One items → Stands items 0 (player_with tape None into desk) left
 stands_ended items tape into desk left p none = record {
   gone = items;
   parts = sym (append-nil items);
   ends = refl;
-  early = no_moments items none;
+  early = each_weaker (λ (x : Timed). One ≡ One → x.moment ≡ 0) (λ (x : Timed). x.moment ≤ 0) (λ x h. omega (arith, h refl)) items none;
   played = p;
   version_is = tt;
 }
 
 pub rose_on : (before mid after : ℕ) (refusal : Refusal) → before ≤ mid → IsUnplayed (Rose mid after) refusal → IsUnplayed (Rose before after) refusal
 rose_on before mid after refusal l (inl h) = inl h
-rose_on before mid after refusal l (inr h) = inr (h.0, rose h.1)
-  where
-    rose : Rose mid after → Rose before after
-    rose r = omega (arith, l, r)
+rose_on before mid after refusal l (inr h) = inr (h.0, rose_earlier before mid after l h.1)
 
 -- the item that is due is held ahead, and its moment has come
 pub due_is : (ahead : Option TapeItem) (at moment : ℕ) (item : TapeItem) → due_item ahead at moment ≡ Some item → (ahead ≡ Some item) × (at ≤ moment)
@@ -233,7 +207,7 @@ due_is None at moment item h = absurd cc
 due_is (Some other) at moment item h = by (nat_le at moment) refl h
   where
     by : (b : Bool) → nat_le at moment ≡ b → (if b then Some other else None) ≡ Some item → (Some other ≡ Some item) × (at ≤ moment)
-    by true e h = (h, grind (arith, nat_tests, e))
+    by true e h = (h, leb-true at moment e)
     by false e h = absurd cc
 
 -- what is left behind the item ahead, where there is one
@@ -249,11 +223,6 @@ fewer_left old new item limit place limit' place' h e g =
     by : (new : Option TapeItem) → IfSome new (λ _. (place < place') × (place' ≤ limit')) → ahead_left new limit' place' < suc (limit - place)
     by None g = omega (arith)
     by (Some next) g = omega (arith, e, g.0, g.1)
-
--- what is said of an error that a `?` hands on
-pub match_err : {T E : Type 0} {R : E → Type 0} (P : T → Type 0) (Q : E → Type 0) (r : Result T E) → IsErrAnd r R → ((e : E) → R e → Q e) → MatchResult r P Q
-match_err P Q (Ok t) h f = absurd h
-match_err P Q (Err e) h f = f e h
 
 -- the first item was read ahead, or why it wasn't
 

@@ -1,10 +1,10 @@
 -- A tape that is played item by item.
-use Rattle.std.proofs.Common.{◌≡◌, inl, inr, ◌≤◌, ℕ, List, [], ◌∷◌, ◌++◌, Option, Some, option_map, Result, Ok, Err, refl, ap, sym, ◌∙◌, subst, append_assoc, append-nil, arith, drop}
-use Rattle.std.specs.List.{AllByRecursion}
+use Rattle.std.proofs.Common.{◌≡◌, inl, inr, ◌≤◌, ℕ, List, [], ◌∷◌, ◌++◌, Option, Some, option_map, Result, Ok, Err, refl, ap, sym, ◌∙◌, subst, append_assoc, append-nil, drop}
 use Rattle.std.proofs.lemmas.List.{map-append}
+use Rattle.fs_base.proofs.Lists.{each_append}
 use Rattle.fs_base.specs.Outside.{Rose}
 use Rattle.fs_base.specs.Parts.{with_part}
-use Rattle.fs_input.specs.Records.{End, done, limited, bad}
+use Rattle.fs_input.specs.Records.{End, done}
 use Rattle.fs_base.specs.declared.config.Config.{Config}
 use Rattle.fs_tape.specs.Tape.{IsBegun, Item, TapeState, Timed, coming, items_to_come, tape_of, version_of}
 use Rattle.fs_tape.specs.declared.fault.TapeReason.{TapeReason}
@@ -15,6 +15,7 @@ use Rattle.cmd_stages.specs.declared.refusal.Refusal.{Refusal}
 use Rattle.cmd_stages.specs.declared.refusal.Refusal.TheVariants.{Outside}
 use Rattle.cmd_stages.specs.Refusal.{Stage, Found, Stopped, and_then, or_stop, HasReason}
 use Rattle.cmd_stages.specs.Load.{Names}
+use Rattle.cmd_stages.proofs.Stages.{rose_earlier}
 use Rattle.cmd_stages.specs.Play.{HasVersion, HaveNoMoments, IsOpened, IsWhole, PlaysOn, played_to, tape_stage, untimed}
 use Rattle.fs_desk.specs.Desk.{Desked, Played}
 
@@ -25,10 +26,6 @@ pub record Playing (config : Config) (version : Version) (all rest : List Timed 
   pub end_is : all.1 ≡ rest.1
   pub moments : HaveNoMoments version gone
   pub played : (items : List Item) → Played config items old → Played config (items ++ untimed gone) now
-
-pub all_more : {A : Type 0} (P : A → Type 0) (xs ys : List A) → AllByRecursion P xs → AllByRecursion P ys → AllByRecursion P (xs ++ ys)
-all_more P [] ys all more = more
-all_more P (x ∷ xs) ys all more = (all.0, all_more P xs ys all.1 more)
 
 -- an item of a tape of the first version has the moment 0
 pub no_moment : (version : Version) (last moment : ℕ) → IsTimed version last moment → version ≡ One → moment ≡ 0
@@ -46,7 +43,7 @@ playing_more config version all rest rest' old now now' timed p e m f = record {
   gone = p.gone ++ timed ∷ [];
   parts = p.parts ∙ ap (λ (r : List Timed × End TapeReason). p.gone ++ r.0) e ∙ sym (append_assoc p.gone (timed ∷ []) rest'.0);
   end_is = p.end_is ∙ ap (λ (r : List Timed × End TapeReason). r.1) e;
-  moments = all_more (λ (t : Timed). version ≡ One → t.moment ≡ 0) p.gone (timed ∷ []) p.moments (m, tt);
+  moments = each_append (λ (t : Timed). version ≡ One → t.moment ≡ 0) p.gone (timed ∷ []) p.moments (m, tt);
   played = λ items q. subst (λ (z : List Item). Played config z now')
       (append_assoc items (untimed p.gone) (timed.item ∷ []) ∙ ap (λ (z : List Item). items ++ z) (sym (untimed_more p.gone (timed ∷ []))))
       (f (items ++ untimed p.gone) (p.played items q));
@@ -59,14 +56,6 @@ playing_done config version all rest old now p e = record {
   played = λ items q. subst (λ (z : List Timed). Played config (items ++ untimed z) now)
       (sym (p.parts ∙ ap (λ (r : List Timed × End TapeReason). p.gone ++ r.0) e ∙ append-nil p.gone)) (p.played items q);
 }
-
-same_stop : (items items' : List Timed) (end : End TapeReason) (refusal : Refusal) → played_to (items, end) ≡ Stopped refusal → played_to (items', end) ≡ Stopped refusal
-same_stop items items' done refusal h = absurd cc
-same_stop items items' limited refusal h = h
-same_stop items items' (bad reason place) refusal h = h
-
-rose_before : (old mid now : ℕ) → old ≤ mid → Rose mid now → Rose old now
-rose_before old mid now l r = omega (arith, l, r)
 
 -- a tape that was played to its end
 pub all_played : (config : Config) (version : Version) (all : List Timed × End TapeReason) (old new : Desked) → PlaysOn config version all old new → played_to all ≡ Found all.0
@@ -130,4 +119,4 @@ pub refused_whole : (stage : Stage (List Timed)) (all : List Timed × End TapeRe
     → stage ≡ played_to all → before ≤ mid → HasReason (played_to all) (Rose mid after) refusal → HasReason stage (Rose before after) refusal
 refused_whole stage all before mid after refusal e l (inl h) = inl (e ∙ h)
 refused_whole stage all before mid after refusal e l (inr (inl h)) = inr (inl h)
-refused_whole stage all before mid after refusal e l (inr (inr h)) = inr (inr (h.0, rose_before before mid after l h.1))
+refused_whole stage all before mid after refusal e l (inr (inr h)) = inr (inr (h.0, rose_earlier before mid after l h.1))

@@ -1,6 +1,6 @@
 -- How the answer of a run follows from those of its stages.
 use Rattle.std.proofs.Common.{◌≡◌, ◌⊎◌, inl, inr, ◌≤◌, arith, ◌∙◌, ℕ, List, [], Option, Result, Ok, Err, take, refl, ap, sym, subst}
-use Rattle.std.specs.Result.{IsErrAnd, IsErrOf}
+use Rattle.std.specs.Result.{IsErrAnd, MatchResult}
 use Rattle.std.proofs.lemmas.Grind.{common_steps}
 use Rattle.fs_base.specs.Outside.{Rose}
 use Rattle.fs_base.specs.declared.config.Config.{Config}
@@ -8,6 +8,7 @@ use Rattle.fs_base.proofs.Grew.{Grew-refl, part_none}
 use Rattle.cmd_stages.specs.Load.{Names, config_stage}
 use Rattle.cmd_stages.specs.Play.{tape_stage, accepted_stage}
 use Rattle.cmd_stages.specs.Refusal.{Verdict, answered, Answers, EndsEarly, Stage, Found, and_then, status_of, HasReason}
+use Rattle.cmd_stages.specs.Writing.{Finishes}
 use Rattle.cmd_stages.specs.declared.refusal.Refusal.{Refusal}
 use Rattle.cmd_stages.specs.declared.refusal.Refusal.TheVariants.{Outside, Memory}
 
@@ -59,6 +60,11 @@ answers_for verdict failed failed' before now answer a f = record { status_is = 
     at (inr (inl h)) = inr (inl h)
     at (inr (inr h)) = inr (inr (h.0, f h.1))
 
+-- what is said of an error that a `?` hands on
+pub match_err : {T E : Type 0} {R : E → Type 0} (P : T → Type 0) (Q : E → Type 0) (r : Result T E) → IsErrAnd r R → ((e : E) → R e → Q e) → MatchResult r P Q
+match_err P Q (Ok t) h f = absurd h
+match_err P Q (Err e) h f = f e h
+
 -- a count that rose in a part rose in the whole
 pub rose_later : (before mid now : ℕ) → Rose before mid → mid ≤ now → Rose before now
 rose_later before mid now r l = omega (arith, r, l)
@@ -70,15 +76,16 @@ pub either_rose : (before mid now : ℕ) (other : Type 0) → before ≤ mid →
 either_rose before mid now other l (inl r) = inl (rose_earlier before mid now l r)
 either_rose before mid now other l (inr h) = inr h
 
--- a call on the outside that failed is never want of memory
-pub outside_wants_none : {T A : Type 0} (r : Result T Refusal) → IsErrAnd r (λ e. e ≡ Outside) → answered r ≡ 6 → A
-outside_wants_none (Ok t) h e = absurd h
-outside_wants_none (Err refusal) h e =
-    let at : status_of Outside ≡ 6 = ap status_of (sym h) ∙ e in absurd cc
+-- the status of a call on the outside that failed
+pub outside_one : {T : Type 0} (r : Result T Refusal) → IsErrAnd r (λ e. e ≡ Outside) → answered r ≡ 1
+outside_one (Ok t) h = absurd h
+outside_one (Err refusal) h = ap status_of h
 
--- of a call that answered this
-pub err_of : {T E : Type 0} (r : Result T E) (cause wanted : E) → r ≡ Err cause → cause ≡ wanted → IsErrOf r wanted
-err_of r cause wanted e f = e ∙ ap Err f
+-- what is said of the status that is due, and of that of a call on the outside that failed, where what is pending was written out behind it
+pub finished_by : {T : Type 0} (P : ℕ → Type 0) (pending : List ℕ) (failed : Type 0) (before now : Option (List ℕ)) (due result : Result T Refusal)
+    → Finishes pending failed before now due result → P (answered due) → P 1 → P (answered result)
+finished_by P pending failed before now due result (inl h) p one = subst (λ r. P (answered r)) (sym h.0) p
+finished_by P pending failed before now due result (inr h) p one = subst P (sym (outside_one result h.0)) one
 
 abbrev pub no_octets : List ℕ
 no_octets = []

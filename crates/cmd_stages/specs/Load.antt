@@ -1,12 +1,12 @@
 -- What the files tell, and the stages of the configuration and the rules file.
-use Rattle.std.specs.Prelude.{ℕ, List, Option, ◌≢◌, ◌⊎◌, ◌++◌, nat_le, length, if◌then◌else◌}
+use Rattle.std.specs.Prelude.{ℕ, List, Option, Some, ◌≡◌, ◌≢◌, ◌⊎◌, ◌<◌, ◌++◌, nat_le, length, if◌then◌else◌}
 use Rattle.fs_base.specs.Files.{Opened, one_opening}
 use Rattle.fs_base.specs.Sink.{Grew}
 use Rattle.fs_base.specs.declared.config.Config.{Config}
 use Rattle.fs_conf.specs.Config.{config_of}
 use Rattle.fs_conf.specs.Rules.{rules_of}
 use Rattle.fs_speaker.specs.declared.Sending.{Sending}
-use Rattle.cmd_stages.specs.declared.refusal.Refusal.TheVariants.{Outside, Config as Refused, Limit}
+use Rattle.cmd_stages.specs.declared.refusal.Refusal.TheVariants.{Outside, Files as Refused, Limit}
 use Rattle.cmd_stages.specs.Refusal.{Stage, Found, Stopped, and_then, or_stop}
 
 -- what each name holds
@@ -21,6 +21,13 @@ fetch limit holds name =
 -- the configuration file is accepted
 abbrev pub config_stage : ℕ → Names → List ℕ → Stage Config
 config_stage limit holds name = and_then (fetch limit holds name) (λ octets. or_stop Refused (config_of octets))
+
+-- the file of this name has fewer octets than the limit, and is accepted as this configuration
+pub record HoldsConfig (limit : ℕ) (holds : Names) (name : List ℕ) (config : Config) : Type 0 where
+  pub octets : List ℕ
+  pub there : holds name ≡ Some octets
+  pub within : length octets < limit
+  pub accepted : config_of octets ≡ Some config
 
 -- the rules file is accepted beside this configuration
 abbrev pub rules_stage : Config → ℕ → Names → List ℕ → Stage Sending

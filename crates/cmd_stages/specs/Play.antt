@@ -39,6 +39,12 @@ played_to (items, bad reason place) = Stopped (TapeRefusal reason place)
 abbrev pub tape_stage : Config → ℕ → Names → List ℕ → Stage (List Timed)
 tape_stage config limit holds name = and_then (or_stop Outside (holds name)) (λ octets. played_to (tape_of config limit octets))
 
+-- the tape of this name has these items, no fault, and fewer octets than the limit
+pub record HoldsTape (limit : ℕ) (holds : Names) (name : List ℕ) (config : Config) (items : List Timed) : Type 0 where
+  pub octets : List ℕ
+  pub there : holds name ≡ Some octets
+  pub read : tape_of config limit octets ≡ (items, done)
+
 -- the version that the magic of the tape tells
 abbrev pub HasVersion : ℕ → Names → List ℕ → Version → Type 0
 HasVersion limit holds name version = option_map (version_of limit) (holds name) ≡ Some (Ok version)

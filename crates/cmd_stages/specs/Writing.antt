@@ -1,5 +1,6 @@
 -- What becomes of a text that is written in one piece.
 use Rattle.std.specs.Prelude.{◌≡◌, ◌⊎◌, ℕ, List, [], Option, Result, MatchResult}
+use Rattle.std.specs.Result.{IsErrAnd}
 use Rattle.fs_base.specs.Sink.{Grew, GrewPart}
 use Rattle.cmd_stages.specs.declared.refusal.Refusal.{Refusal}
 use Rattle.cmd_stages.specs.declared.refusal.Refusal.TheVariants.{Outside, Memory}
@@ -11,3 +12,8 @@ Fails text failed before now refusal =
 
 abbrev pub Writes : {T : Type 0} → List ℕ → Type 0 → Option (List ℕ) → Option (List ℕ) → Result T Refusal → Type 0
 Writes text failed before now result = MatchResult result (λ _. Grew before now text) (Fails text failed before now)
+
+-- what was pending was written out, and what is due is answered; or it couldn't be
+abbrev pub Finishes : {T : Type 0} → List ℕ → Type 0 → Option (List ℕ) → Option (List ℕ) → (due result : Result T Refusal) → Type 0
+Finishes pending failed before now due result =
+    ((result ≡ due) × Grew before now pending) ⊎ (IsErrAnd result (λ refusal. refusal ≡ Outside) × failed × GrewPart before now pending)

@@ -10,7 +10,7 @@ pub mod status;
 mod writing;
 
 pub use load::{CAPTURE_SLOT, CONFIG_SLOT, RULES_SLOT, TAPE_SLOT, load_config, load_rules, open};
-pub use play::{WholeTape, play_tape, play_whole};
+pub use play::{WholeTape, play_whole};
 pub use player::Player;
 pub use refusal::Refusal;
-pub use writing::write_text;
+pub use writing::{write_made, write_text};

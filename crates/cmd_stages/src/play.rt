@@ -11,7 +11,7 @@ ghost use Rattle.fs_tape.specs.Header.{IsTimed, longest_payload};
 ghost use Rattle.fs_tape.specs.Tape.{IsBegun, IsItem, coming, item_from};
 ghost use Rattle.cmd_stages.specs.Refusal.{HasReason, IsOfTape, answered, status_of};
 ghost use Rattle.cmd_stages.specs.Play.{EndsBy, IsOpenOrDone};
-ghost use Rattle.cmd_stages.specs.Play.{tape_stage, played_to, IsOpened, IsPlayed, IsWhole, Gives, PlaysOn, refused_by};
+ghost use Rattle.cmd_stages.specs.Play.{tape_stage, played_to, IsOpened, IsWhole, Gives, PlaysOn, refused_by};
 ghost use Rattle.fs_desk.specs.Desk.{Notes, Plays};
 
 use crate::load::{TAPE_SLOT, open};
@@ -27,38 +27,6 @@ pub struct WholeTape<'a> {
     pub desk: Desk<'a>,
     pub tape: Tape,
     pub version: Version,
-}
-
-/// Plays the whole tape.
-///
-/// # Errors
-///
-/// As of [`play_whole`].
-pub fn play_tape<'a, F: Files>(
-    alloc: Global,
-    files: &mut F,
-    config: &'a Config,
-    name: &str,
-    limit: u64,
-) -> Result<Desk<'a>, Refusal>
-    ensures later { F.faults files.old ≤ F.faults files.new }
-    ensures holds { IsTrue F.tells → F.holds files.new ≡ F.holds files.old }
-    ensures possible { IsOfTape (answered result) }
-
-    ensures played { IsTrue F.tells
-        → MatchResult result
-        (IsPlayed config.entry.now (tape_stage config.entry.now limit (F.holds files.old) name.now))
-        (HasReason (tape_stage config.entry.now limit (F.holds files.old) name.now)
-        (Rose (F.faults files.old) (F.faults files.new))) }
-    ensures opens { Grew (F.opened files.old) (F.opened files.new) (one_opening 1 name.now) }
-{
-    match play_whole(alloc, files, config, name, limit) {
-        Ok(whole) => {
-            let WholeTape { desk, .. } = whole;
-            Ok(desk)
-        }
-        Err(refusal) => Err(refusal),
-    }
 }
 
 /// Plays the whole tape, and tells its version.

@@ -10,7 +10,7 @@ pub const OUTSIDE: u8 = 1;
 pub const NO_COMMAND: u8 = 2;
 
 /// The configuration or the rules file isn't accepted.
-pub const CONFIG: u8 = 3;
+pub const FILES: u8 = 3;
 
 /// The tape has a fault.
 pub const TAPE: u8 = 4;

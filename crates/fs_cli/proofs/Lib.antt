@@ -1,4 +1,3 @@
-pub mod Checking
 pub mod Counting
 pub mod Surveying
 pub mod Running

@@ -28,7 +28,7 @@ use Rattle.cmd_wire.proofs.PromisingPair.{pair_promises, pair_status}
 use Rattle.fs_cli.specs.Program.{ChecksSo, Does, IsOneOf, Runs, HasNoMoments, HasStatus, HasCauses, Completes, Promises, objects, FailedOver, OutsideFailed, WireServed, Objects, AreTold, FilesKept, SinkKept, WireKept, ClockKept, names_in, happened_in, talk_in, speaks, statuses}
 use Rattle.cmd_enforce.specs.Command.{EnforcesSo, Enforced, Wants, Inputs, inputs, inputs_stage, status_for}
 use Rattle.cmd_gen.specs.Command.{GeneratesSo, Generated}
-use Rattle.cmd_stages.specs.Load.{Names, OpensBoth, fetch, config_stage}
+use Rattle.cmd_stages.specs.Load.{HoldsConfig, Names, OpensBoth, fetch, config_stage}
 use Rattle.fs_cli.specs.Command.{Form, Enforce, Surveys, Converts, Check, Gen, form_of, Announce, Listen, Pair}
 use Rattle.fs_mrt.specs.declared.fault.DumpReason.{DumpReason}
 use Rattle.cmd_convert.specs.Command.{Converted, ConvertsSo, convert_status, dump_stage, status_for as status_by, status_at as dump_status, verdict_of}
@@ -38,18 +38,24 @@ use Rattle.fs_cli.specs.Survey.{Text, ListsSo, Surveyed, listed_status, text_for
 use Rattle.fs_cli.specs.declared.command.Subject.{Subject}
 use Rattle.fs_cli.specs.declared.survey.Survey.{Survey}
 use Rattle.fs_tape.specs.declared.magic.Version.TheVariants.{Two}
-use Rattle.cmd_stages.specs.Play.{HasVersion, played_to, tape_stage, accepted_stage}
+use Rattle.cmd_stages.specs.Play.{HasVersion, HoldsTape, accepted_stage, tape_stage}
+use Rattle.cmd_stages.proofs.LookingAhead.{found_items}
 use Rattle.cmd_enforce.specs.Judge.{capture_stage, lines_from, output_of, rules_by, status_at}
 use Rattle.cmd_enforce.specs.Moments.{AnswersAt, HoldAt, verdict_at}
-use Rattle.cmd_stages.specs.Refusal.{Answers, answered, Stage, Found, Stopped, and_then, or_stop, status_of}
+use Rattle.cmd_stages.specs.Refusal.{Answers, answered, Stage, Found, Stopped, Verdict, and_then, or_stop, status_of}
 use Rattle.cmd_stages.specs.declared.refusal.Refusal.{Refusal}
-use Rattle.cmd_stages.specs.declared.refusal.Refusal.TheVariants.{Outside, Config as Refused, Tape, Capture, Dump, Memory, Limit, Session}
-use Rattle.cmd_wire.proofs.Statuses.{Caused, early_status, late_status, never_early, never_zero, not_rose, same_found}
+use Rattle.cmd_stages.specs.declared.refusal.Refusal.TheVariants.{Outside, Files as Refused, Tape, Capture, Dump, Memory, Limit, Session}
+use Rattle.cmd_wire.proofs.Statuses.{Caused, due_status, early_status, late_status, never_early, never_zero, not_rose, same_found}
 use Rattle.cmd_wire.proofs.Accepted.{some_found, then_found}
 
--- the words
-
 -- the status
+
+-- the one that is due, where what failed in a part failed in the whole
+caused_in : {failed other By : Type 0} {status answer : ℕ} → (answer ≡ status → By) → (failed → other) → Caused failed status answer
+    → By ⊎ (answer ≡ 6) ⊎ ((answer ≡ 1) × other)
+caused_in due wider (inl h) = inl (due h)
+caused_in due wider (inr (inl h)) = inr (inl h)
+caused_in due wider (inr (inr h)) = inr (inr (h.0, wider h.1))
 
 abbrev with_capture : Config × List Timed → Recorded → Stage Inputs
 with_capture accepted found = Found (inputs accepted.0 accepted.1 found)
@@ -66,24 +72,20 @@ enforce_status limit holds config tape capture failed before now answer (inl ear
     early_status (accepted_stage limit holds config tape) failed answer
     (λ s. answer ≡ status_for (and_then s (λ accepted. and_then (capture_stage limit holds capture) (with_capture accepted)))) (λ refusal h. h) early.reason
 enforce_status limit holds config tape capture failed before now answer (inr judged) =
-    late_status failed (verdict_at judged.judged.came.held judged.judged.came.judged (capture_stage limit holds capture)).status answer
-    (answer ≡ status_for (inputs_stage limit holds config tape capture)) (λ h. h ∙ sym stage) judged.judged.answers.status_is
-  where
-    stage : status_for (inputs_stage limit holds config tape capture) ≡ (verdict_at judged.judged.came.held judged.judged.came.judged (capture_stage limit holds capture)).status
-    stage =
-        ap (λ (s : Stage (Config × List Timed)). status_for (and_then s (λ accepted. and_then (capture_stage limit holds capture) (with_capture accepted)))) judged.found
-        ∙ sym (capture_status judged.judged.came.held judged.judged.came.judged (capture_stage limit holds capture) (judged.accepted, judged.items))
+    let came = judged.judged.came in
+    let due = verdict_at came.held came.judged (capture_stage limit holds capture) in
+    late_status failed due.status answer (answer ≡ status_for (inputs_stage limit holds config tape capture))
+    (λ h. h
+    ∙ capture_status came.held came.judged (capture_stage limit holds capture) (judged.accepted, judged.items)
+    ∙ sym (ap (λ (s : Stage (Config × List Timed)). status_for (and_then s (λ accepted. and_then (capture_stage limit holds capture) (with_capture accepted)))) judged.found))
+    judged.judged.answers.status_is
 
 check_status : (limit : ℕ) (holds : Names) (subject : Subject) (word : List ℕ) (files sink : Type 0) (before now : Option (List ℕ)) (talk : Conversation) (answer : ℕ)
     → ChecksSo subject word sink before now answer
     → HasStatus limit holds (Check subject word) talk answer ⊎ (answer ≡ 6) ⊎ ((answer ≡ 1) × (files ⊎ sink))
 check_status limit holds subject word files sink before now talk answer (inl none) = inr (inl none.0)
-check_status limit holds subject word files sink before now talk answer (inr says) = at says.answers.status_is
-  where
-    at : Caused sink (if says.accepted then 0 else 9) answer → HasStatus limit holds (Check subject word) talk answer ⊎ (answer ≡ 6) ⊎ ((answer ≡ 1) × (files ⊎ sink))
-    at (inl h) = inl (says.accepted, says.text, says.reports, h)
-    at (inr (inl h)) = inr (inl h)
-    at (inr (inr h)) = inr (inr (h.0, inr h.1))
+check_status limit holds subject word files sink before now talk answer (inr says) =
+    caused_in {By = HasStatus limit holds (Check subject word) talk answer} (λ h. (says.accepted, says.text, says.reports, h)) (λ f. inr f) says.answers.status_is
 
 survey_status : (survey : Text) (limit : ℕ) (holds : Names) (config tape : List ℕ) (failed : Type 0) (before now : Option (List ℕ)) (answer : ℕ)
     → ListsSo survey limit holds config tape failed before now answer → Caused failed (listed_status (accepted_stage limit holds config tape)) answer
@@ -102,34 +104,20 @@ dump_caused limit holds config dump failed before now answer (inr makes) =
     (λ h. h ∙ sym (ap (status_by limit (dump_stage holds dump)) makes.found)) makes.answers.status_is
 
 gen_status : (count : ℕ) (files sink : Type 0) (before now : Option (List ℕ)) (answer : ℕ)
-    → GeneratesSo count sink before now answer → (answer ≡ 0) ⊎ (answer ≡ 6) ⊎ ((answer ≡ 1) × (files ⊎ sink))
+    → GeneratesSo count sink before now answer → Caused (files ⊎ sink) 0 answer
 gen_status count files sink before now answer (inl none) = inr (inl none.0)
-gen_status count files sink before now answer (inr counts) = at counts.answers.status_is
-  where
-    at : Caused sink 0 answer → (answer ≡ 0) ⊎ (answer ≡ 6) ⊎ ((answer ≡ 1) × (files ⊎ sink))
-    at (inl h) = inl h
-    at (inr (inl h)) = inr (inl h)
-    at (inr (inr h)) = inr (inr (h.0, inr h.1))
+gen_status count files sink before now answer (inr counts) = caused_in (λ h. h) (λ f. inr f) counts.answers.status_is
 
-pub runs_causes : (tells : Bool) (limit : ℕ) (holds : Names) (form : Option Form) (call : Happened) (talk : Conversation) (answer : ℕ)
-    → IsTrue tells → Runs tells limit holds form call talk answer → HasCauses limit holds form call talk answer
-runs_causes tells limit holds None call talk answer told r = tt
-runs_causes tells limit holds (Some (Enforce config tape capture)) call talk answer told r =
-    enforce_status limit holds config tape capture (FilesFailed call ⊎ SinkFailed call) call.before.written call.now.written answer (r.1 told)
-runs_causes tells limit holds (Some (Surveys survey config tape)) call talk answer told r =
-    survey_status (text_for survey) limit holds config tape (FilesFailed call ⊎ SinkFailed call) call.before.written call.now.written answer (r.1 told)
-runs_causes tells limit holds (Some (Converts config dump)) call talk answer told r =
-    dump_caused limit holds config dump (FilesFailed call ⊎ SinkFailed call) call.before.written call.now.written answer (r.1 told)
-runs_causes tells limit holds (Some (Check subject word)) call talk answer told r =
-    check_status limit holds subject word (FilesFailed call) (SinkFailed call) call.before.written call.now.written talk answer r.1
-runs_causes tells limit holds (Some (Gen count)) call talk answer told r =
-    gen_status count (FilesFailed call) (SinkFailed call) call.before.written call.now.written answer r.1
-runs_causes tells limit holds (Some (Announce config rules address)) call talk answer told r =
-    announce_status limit holds config rules (FilesFailed call ⊎ (SinkFailed call ⊎ WireFailed call)) call.before.written call.now.written talk answer (r.1 told)
-runs_causes tells limit holds (Some (Listen config address)) call talk answer told r =
-    listen_status limit holds config (FilesFailed call ⊎ (SinkFailed call ⊎ WireFailed call)) call.before.written call.now.written talk answer (r.1 told)
-runs_causes tells limit holds (Some (Pair config rules)) call talk answer told r =
-    pair_status limit holds config rules (FilesFailed call ⊎ (SinkFailed call ⊎ WireFailed call)) call.before.written call.now.written talk answer (r.1 told)
+causes_of : (tells : Bool) (limit : ℕ) (holds : Names) (form : Form) (call : Happened) (talk : Conversation) (answer : ℕ)
+    → IsTrue tells → Does tells limit holds form call talk answer → HasStatus limit holds form talk answer ⊎ (answer ≡ 6) ⊎ ((answer ≡ 1) × OutsideFailed form call)
+causes_of tells limit holds (Enforce config tape capture) call talk answer told d = enforce_status limit holds config tape capture _ _ _ answer (d told)
+causes_of tells limit holds (Surveys survey config tape) call talk answer told d = survey_status (text_for survey) limit holds config tape _ _ _ answer (d told)
+causes_of tells limit holds (Converts config dump) call talk answer told d = dump_caused limit holds config dump _ _ _ answer (d told)
+causes_of tells limit holds (Check subject word) call talk answer told d = check_status limit holds subject word _ _ _ _ talk answer d
+causes_of tells limit holds (Gen count) call talk answer told d = gen_status count _ _ _ _ answer d
+causes_of tells limit holds (Announce config rules address) call talk answer told d = announce_status limit holds config rules _ _ _ talk answer (d told)
+causes_of tells limit holds (Listen config address) call talk answer told d = listen_status limit holds config _ _ _ talk answer (d told)
+causes_of tells limit holds (Pair config rules) call talk answer told d = pair_status limit holds config rules _ _ _ talk answer (d told)
 
 -- completeness
 
@@ -150,167 +138,110 @@ causes_complete limit holds (Some form) call talk answer f s w (inl h) = inl h
 causes_complete limit holds (Some form) call talk answer f s w (inr (inl h)) = inr h
 causes_complete limit holds (Some form) call talk answer f s w (inr (inr h)) = absurd (none_failed form call f s w h.1)
 
--- the headline
+-- what a command wrote that answered 0
+
+-- the status that is due is 0
+due_zero : (failed : Type 0) (status answer : ℕ) → answer ≡ 0 → Caused failed status answer → status ≡ 0
+due_zero failed status answer zero caused = sym (due_status failed status answer 0 zero (λ e. absurd cc) (λ e. absurd cc) caused) ∙ zero
+
+-- and the whole text was written
+whole_zero : (verdict : Verdict) (failed : Type 0) (before now : Option (List ℕ)) (answer : ℕ) → answer ≡ 0 → Answers verdict failed before now answer → Grew before now verdict.text
+whole_zero verdict failed before now answer zero a = a.whole (λ e. absurd cc) (λ e. absurd cc)
 
 -- where stages are passed, each gave its value
 within_found : {A : Type 0} (b : Bool) (x a : A) → (if b then Stopped Limit else Found x) ≡ Found a → (b ≡ false) × (x ≡ a)
 within_found true x a e = absurd cc
 within_found false x a e = (refl, cc)
 
-played_found : (r : List Timed × End TapeReason) (items : List Timed) → played_to r ≡ Found items → r ≡ (items, done)
-played_found (found, done) items e = let same : found ≡ items = cc in ap (λ (l : List Timed). (l, done)) same
-played_found (found, limited) items e = absurd cc
-played_found (found, bad reason place) items e = absurd cc
+below_limit : (limit size : ℕ) → nat_le limit size ≡ false → size < limit
+below_limit limit size h = grind (arith, nat_tests, h)
+
+config_held : (limit : ℕ) (holds : Names) (name : List ℕ) (config : Config) → config_stage limit holds name ≡ Found config → HoldsConfig limit holds name config
+config_held limit holds name config found =
+    let read = then_found (fetch limit holds name) _ config found in
+    let fetched = then_found (or_stop Outside (holds name)) _ read.0 read.1.0 in
+    let within = within_found (nat_le limit (length fetched.0)) fetched.0 read.0 fetched.1.1 in
+    record {
+      octets = read.0;
+      there = some_found Outside (holds name) fetched.0 fetched.1.0 ∙ ap Some within.1;
+      within = below_limit limit (length read.0) (subst (λ (o : List ℕ). nat_le limit (length o) ≡ false) within.1 within.0);
+      accepted = some_found Refused (config_of read.0) config read.1.1;
+    }
+
+tape_held : (limit : ℕ) (holds : Names) (name : List ℕ) (config : Config) (items : List Timed) → tape_stage config limit holds name ≡ Found items → HoldsTape limit holds name config items
+tape_held limit holds name config items found =
+    let opened = then_found (or_stop Outside (holds name)) _ items found in
+    record {
+      octets = opened.0;
+      there = some_found Outside (holds name) opened.0 opened.1.0;
+      read = found_items (tape_of config limit opened.0) items opened.1.1;
+    }
+
+both_found : (limit : ℕ) (holds : Names) (config tape : List ℕ) (accepted : Config) (items : List Timed) → accepted_stage limit holds config tape ≡ Found (accepted, items)
+    → HoldsConfig limit holds config accepted × HoldsTape limit holds tape accepted items
+both_found limit holds config tape accepted items found =
+    let whole = then_found (config_stage limit holds config) _ (accepted, items) found in
+    let played = then_found (tape_stage whole.0 limit holds tape) _ (accepted, items) whole.1.1 in
+    let both : ◌≡◌ {A = Config × List Timed} (whole.0, played.0) (accepted, items) = same_found played.1.1 in (
+      subst (λ (p : Config × List Timed). HoldsConfig limit holds config p.0) both (config_held limit holds config whole.0 whole.1.0),
+      subst (λ (p : Config × List Timed). HoldsTape limit holds tape p.0 p.1) both (tape_held limit holds tape whole.0 played.0 played.1.0),
+    )
 
 ended_well : (end : End CaptureReason) → status_at end ≡ 0 → end ≡ done
 ended_well done e = refl
 ended_well limited e = absurd cc
 ended_well (bad reason place) e = absurd cc
 
-below_limit : (limit size : ℕ) → nat_le limit size ≡ false → size < limit
-below_limit limit size h = grind (arith, nat_tests, h)
-
-record Passed (limit : ℕ) (holds : Names) (config tape : List ℕ) (accepted : Config) (items : List Timed) : Type 0 where
-  pub config_octets : List ℕ
-  pub config_is : holds config ≡ Some config_octets
-  pub config_within : length config_octets < limit
-  pub accepted_is : config_of config_octets ≡ Some accepted
-  pub tape_octets : List ℕ
-  pub tape_is : holds tape ≡ Some tape_octets
-  pub items_are : tape_of accepted limit tape_octets ≡ (items, done)
-
-passed : (limit : ℕ) (holds : Names) (config tape : List ℕ) (accepted : Config) (items : List Timed) → accepted_stage limit holds config tape ≡ Found (accepted, items) → Passed limit holds config tape accepted items
-passed limit holds config tape accepted items found =
-    let whole = then_found (config_stage limit holds config) _ (accepted, items) found in
-    let played = then_found (tape_stage whole.0 limit holds tape) _ (accepted, items) whole.1.1 in
-    let same : whole.0 ≡ accepted = ap (λ (p : Config × List Timed). p.0) (same_found played.1.1) in
-    let same_items : played.0 ≡ items = ap (λ (p : Config × List Timed). p.1) (same_found played.1.1) in
-    let read = then_found (fetch limit holds config) _ whole.0 whole.1.0 in
-    let fetched = then_found (or_stop Outside (holds config)) _ read.0 read.1.0 in
-    let within = within_found (nat_le limit (length fetched.0)) fetched.0 read.0 fetched.1.1 in
-    let opened = then_found (or_stop Outside (holds tape)) _ played.0 played.1.0 in
-    record {
-      config_octets = read.0;
-      config_is = some_found Outside (holds config) fetched.0 fetched.1.0 ∙ ap Some within.1;
-      config_within = below_limit limit (length read.0) (subst (λ (o : List ℕ). nat_le limit (length o) ≡ false) within.1 within.0);
-      accepted_is = some_found Refused (config_of read.0) whole.0 read.1.1 ∙ ap Some same;
-      tape_octets = opened.0;
-      tape_is = some_found Outside (holds tape) opened.0 opened.1.0;
-      items_are =
-          subst (λ (c : Config). tape_of c limit opened.0 ≡ (items, done)) same
-          (played_found (tape_of whole.0 limit opened.0) played.0 opened.1.1 ∙ ap (λ (l : List Timed). (l, done)) same_items);
-    }
-
 enforced_well : (limit : ℕ) (holds : Names) (config tape capture : List ℕ) (failed : Type 0) (call : Happened) (answer : ℕ)
     → EnforcesSo limit holds config tape capture failed call.before.written call.now.written answer → answer ≡ 0 → Enforced limit holds config tape capture call
 enforced_well limit holds config tape capture failed call answer (inl early) zero =
     absurd (never_early (accepted_stage limit holds config tape) failed answer 0 zero (λ e. absurd cc) (λ e. absurd cc) (λ refusal h e. never_zero refusal e) early.reason)
-enforced_well limit holds config tape capture failed call answer (inr judged) zero = at judged.judged.answers.status_is
+enforced_well limit holds config tape capture failed call answer (inr judged) zero =
+    let files = both_found limit holds config tape judged.accepted judged.items judged.found in
+    let read = by (holds capture) judged.judged in
+    record {
+      accepted = judged.accepted;
+      items = judged.items;
+      config_is = files.0;
+      tape_is = files.1;
+      capture_octets = read.0;
+      capture_is = read.2;
+      capture_done = read.3;
+      held = read.1;
+      leaves = read.4;
+      wrote = read.5;
+    }
   where
-    six : answer ≢ 6
-    six = λ e. absurd cc
-
-    one : answer ≢ 1
-    one = λ e. absurd cc
-
-    inputs_are : Passed limit holds config tape judged.accepted judged.items
-    inputs_are = passed limit holds config tape judged.accepted judged.items judged.found
-
-    by : (content : Option (List ℕ)) (a : AnswersAt judged.accepted judged.items (and_then (or_stop Outside content) (λ o. Found (capture_of limit o))) failed call.before.written call.now.written answer)
-        → answer ≡ (verdict_at a.came.held a.came.judged (and_then (or_stop Outside content) (λ o. Found (capture_of limit o)))).status
+    by : (content : Option (List ℕ)) → AnswersAt judged.accepted judged.items (and_then (or_stop Outside content) (λ o. Found (capture_of limit o))) failed call.before.written call.now.written answer
         → (octets : List ℕ) × (held : ℕ → Held) × (content ≡ Some octets) × ((capture_of limit octets).end ≡ done)
         × HoldAt judged.accepted judged.items held (capture_of limit octets).packets × Grew call.before.written call.now.written (output_of held (capture_of limit octets))
-    by None a e = absurd cc
-    by (Some octets) a e =
+    by None a = absurd (never_zero Outside (due_zero failed (status_of Outside) answer zero a.answers.status_is))
+    by (Some octets) a =
         let all : a.came.judged ≡ (capture_of limit octets).packets =
-        sym (a.came.parts ∙ ap (λ (rest : List Captured). a.came.judged ++ rest) (a.all six one) ∙ append-nil a.came.judged) in (
+        sym (a.came.parts ∙ ap (λ (rest : List Captured). a.came.judged ++ rest) (a.all (λ e. absurd cc) (λ e. absurd cc)) ∙ append-nil a.came.judged) in (
           octets,
           a.came.held,
           refl,
-          ended_well (capture_of limit octets).end (sym e ∙ zero),
+          ended_well (capture_of limit octets).end (due_zero failed (status_at (capture_of limit octets).end) answer zero a.answers.status_is),
           subst (HoldAt judged.accepted judged.items a.came.held) all a.came.leaves,
-          subst (λ (packets : List Captured). Grew call.before.written call.now.written (lines_from 0 (rules_by a.came.held) packets)) all (a.answers.whole six one),
+          subst (λ (packets : List Captured). Grew call.before.written call.now.written (lines_from 0 (rules_by a.came.held) packets)) all (whole_zero _ failed _ _ answer zero a.answers),
         )
-
-    whole : answer ≡ (verdict_at judged.judged.came.held judged.judged.came.judged (capture_stage limit holds capture)).status → Enforced limit holds config tape capture call
-    whole h =
-        let read = by (holds capture) judged.judged h in
-        record {
-          config_octets = inputs_are.config_octets;
-          config_is = inputs_are.config_is;
-          config_within = inputs_are.config_within;
-          accepted = judged.accepted;
-          accepted_is = inputs_are.accepted_is;
-          tape_octets = inputs_are.tape_octets;
-          tape_is = inputs_are.tape_is;
-          items = judged.items;
-          items_are = inputs_are.items_are;
-          capture_octets = read.0;
-          capture_is = read.2;
-          capture_done = read.3;
-          held = read.1;
-          leaves = read.4;
-          wrote = read.5;
-        }
-
-    at : Caused failed (verdict_at judged.judged.came.held judged.judged.came.judged (capture_stage limit holds capture)).status answer → Enforced limit holds config tape capture call
-    at (inl h) = whole h
-    at (inr (inl h)) = absurd cc
-    at (inr (inr h)) = let bad : answer ≡ 1 = h.0 in absurd cc
-
-pub runs_headline : (tells : Bool) (limit : ℕ) (holds : Names) (form : Option Form) (call : Happened) (talk : Conversation) (answer : ℕ)
-    → IsTrue tells → Runs tells limit holds form call talk answer → answer ≡ 0
-    → (config tape capture : List ℕ) → form ≡ Some (Enforce config tape capture) → Enforced limit holds config tape capture call
-runs_headline tells limit holds form call talk answer told r zero config tape capture e =
-    enforced_well limit holds config tape capture (FilesFailed call ⊎ SinkFailed call) call answer
-    ((subst (λ (f : Option Form). Runs tells limit holds f call talk answer) e r).1 told) zero
-
--- the listing
 
 listed_well : (survey : Text) (limit : ℕ) (holds : Names) (config tape : List ℕ) (failed : Type 0) (call : Happened) (answer : ℕ)
     → ListsSo survey limit holds config tape failed call.before.written call.now.written answer → answer ≡ 0 → Surveyed survey limit holds config tape call
-listed_well survey limit holds config tape failed call answer (inl ends) zero = absurd (at ends.2.status_is)
-  where
-    at : Caused failed (status_of ends.0) answer → ⊥
-    at (inl h) = never_zero ends.0 (sym h ∙ zero)
-    at (inr (inl h)) = absurd cc
-    at (inr (inr h)) = let one : answer ≡ 1 = h.0 in absurd cc
-listed_well survey limit holds config tape failed call answer (inr (inl early)) zero = absurd (at early.0)
-  where
-    at : (answer ≡ 6) ⊎ ((answer ≡ 1) × failed) → ⊥
-    at (inl h) = absurd cc
-    at (inr h) = let one : answer ≡ 1 = h.0 in absurd cc
+listed_well survey limit holds config tape failed call answer (inl ends) zero = absurd (never_zero ends.0 (due_zero failed (status_of ends.0) answer zero ends.2.status_is))
+listed_well survey limit holds config tape failed call answer (inr (inl early)) zero = absurd (never_zero Memory (due_zero failed (status_of Memory) answer zero (inr early.0)))
 listed_well survey limit holds config tape failed call answer (inr (inr shows)) zero =
-    let inputs_are : Passed limit holds config tape shows.accepted shows.items = passed limit holds config tape shows.accepted shows.items shows.found in
+    let files = both_found limit holds config tape shows.accepted shows.items shows.found in
     record {
-      config_octets = inputs_are.config_octets;
-      config_is = inputs_are.config_is;
-      config_within = inputs_are.config_within;
       accepted = shows.accepted;
-      accepted_is = inputs_are.accepted_is;
-      tape_octets = inputs_are.tape_octets;
-      tape_is = inputs_are.tape_is;
       items = shows.items;
-      items_are = inputs_are.items_are;
+      config_is = files.0;
+      tape_is = files.1;
       held = shows.held;
       leaves = shows.leaves;
-      wrote = shows.answers.whole six one;
+      wrote = whole_zero _ failed _ _ answer zero shows.answers;
     }
-  where
-    six : answer ≢ 6
-    six = λ e. absurd cc
-
-    one : answer ≢ 1
-    one = λ e. absurd cc
-
-pub runs_listed : (tells : Bool) (limit : ℕ) (holds : Names) (form : Option Form) (call : Happened) (talk : Conversation) (answer : ℕ)
-    → IsTrue tells → Runs tells limit holds form call talk answer → answer ≡ 0
-    → (survey : Survey) (config tape : List ℕ) → form ≡ Some (Surveys survey config tape) → Surveyed (text_for survey) limit holds config tape call
-runs_listed tells limit holds form call talk answer told r zero survey config tape e =
-    listed_well (text_for survey) limit holds config tape (FilesFailed call ⊎ SinkFailed call) call answer
-    ((subst (λ (f : Option Form). Runs tells limit holds f call talk answer) e r).1 told) zero
-
--- a dump
 
 dump_done : (end : End DumpReason) → dump_status end ≡ 0 → end ≡ done
 dump_done done e = refl
@@ -321,77 +252,40 @@ converted_well : (limit : ℕ) (holds : Names) (config dump : List ℕ) (failed 
     → ConvertsSo limit holds config dump failed call.before.written call.now.written answer → answer ≡ 0 → Converted limit holds config dump call
 converted_well limit holds config dump failed call answer (inl early) zero =
     absurd (never_early (config_stage limit holds config) failed answer 0 zero (λ e. absurd cc) (λ e. absurd cc) (λ refusal h e. never_zero refusal e) early.reason)
-converted_well limit holds config dump failed call answer (inr makes) zero = at makes.answers.status_is
+converted_well limit holds config dump failed call answer (inr makes) zero =
+    let file = config_held limit holds config makes.accepted makes.found in
+    let read = by (holds dump) makes.answers in
+    record {
+      accepted = makes.accepted;
+      config_is = file;
+      dump_octets = read.0;
+      dump_is = read.1;
+      items = (remade makes.accepted limit read.0).0;
+      items_are = read.2;
+      wrote = read.3;
+      read_back = λ tape_limit are. reads_back_converted file.octets makes.accepted limit tape_limit read.0 file.accepted are;
+    }
   where
-    six : answer ≢ 6
-    six = λ e. absurd cc
-
-    one : answer ≢ 1
-    one = λ e. absurd cc
-
     by : (content : Option (List ℕ)) → Answers (verdict_of makes.accepted limit (or_stop Outside content)) failed call.before.written call.now.written answer
-        → answer ≡ (verdict_of makes.accepted limit (or_stop Outside content)).status
         → (octets : List ℕ) × (content ≡ Some octets) × (remade makes.accepted limit octets ≡ ((remade makes.accepted limit octets).0, done))
         × Grew call.before.written call.now.written (tape_text Two (remade makes.accepted limit octets).0)
-    by None a e = absurd cc
-    by (Some octets) a e =
-        let ended : (remade makes.accepted limit octets).1 ≡ done = dump_done (remade makes.accepted limit octets).1 (sym e ∙ zero) in
-        (octets, refl, (λ i. ((remade makes.accepted limit octets).0, ended i)), a.whole six one)
-
-    whole : answer ≡ (verdict_of makes.accepted limit (dump_stage holds dump)).status → Converted limit holds config dump call
-    whole h =
-        let read = then_found (fetch limit holds config) _ makes.accepted makes.found in
-        let fetched = then_found (or_stop Outside (holds config)) _ read.0 read.1.0 in
-        let within = within_found (nat_le limit (length fetched.0)) fetched.0 read.0 fetched.1.1 in
-        let opened = by (holds dump) makes.answers h in
-        let accepted_is = some_found Refused (config_of read.0) makes.accepted read.1.1 in
-        record {
-          config_octets = read.0;
-          config_is = some_found Outside (holds config) fetched.0 fetched.1.0 ∙ ap Some within.1;
-          config_within = below_limit limit (length read.0) (subst (λ (o : List ℕ). nat_le limit (length o) ≡ false) within.1 within.0);
-          accepted = makes.accepted;
-          accepted_is = accepted_is;
-          dump_octets = opened.0;
-          dump_is = opened.1;
-          items = (remade makes.accepted limit opened.0).0;
-          items_are = opened.2;
-          wrote = opened.3;
-          read_back = λ tape_limit are. reads_back_converted read.0 makes.accepted limit tape_limit opened.0 accepted_is are;
-        }
-
-    at : Caused failed (verdict_of makes.accepted limit (dump_stage holds dump)).status answer → Converted limit holds config dump call
-    at (inl h) = whole h
-    at (inr (inl h)) = absurd cc
-    at (inr (inr h)) = let bad : answer ≡ 1 = h.0 in absurd cc
-
-pub runs_converted : (tells : Bool) (limit : ℕ) (holds : Names) (form : Option Form) (call : Happened) (talk : Conversation) (answer : ℕ)
-    → IsTrue tells → Runs tells limit holds form call talk answer → answer ≡ 0
-    → (config dump : List ℕ) → form ≡ Some (Converts config dump) → Converted limit holds config dump call
-runs_converted tells limit holds form call talk answer told r zero config dump e =
-    converted_well limit holds config dump (FilesFailed call ⊎ SinkFailed call) call answer
-    ((subst (λ (f : Option Form). Runs tells limit holds f call talk answer) e r).1 told) zero
-
--- the generator
+    by None a = absurd (never_zero Outside (due_zero failed (status_of Outside) answer zero a.status_is))
+    by (Some octets) a =
+        let ended = dump_done (remade makes.accepted limit octets).1 (due_zero failed (dump_status (remade makes.accepted limit octets).1) answer zero a.status_is) in
+        (octets, refl, (λ i. ((remade makes.accepted limit octets).0, ended i)), whole_zero _ failed _ _ answer zero a)
 
 generated_well : (count : ℕ) (failed : Type 0) (call : Happened) (answer : ℕ)
     → GeneratesSo count failed call.before.written call.now.written answer → answer ≡ 0 → Generated count call
 generated_well count failed call answer (inl none) zero = let six : answer ≡ 6 = none.0 in absurd cc
-generated_well count failed call answer (inr counts) zero =
-    record { held = counts.held; leaves = counts.leaves; wrote = counts.answers.whole (λ e. absurd cc) (λ e. absurd cc) }
-
-pub runs_generated : (tells : Bool) (limit : ℕ) (holds : Names) (form : Option Form) (call : Happened) (talk : Conversation) (answer : ℕ)
-    → Runs tells limit holds form call talk answer → answer ≡ 0 → (count : ℕ) → form ≡ Some (Gen count) → Generated count call
-runs_generated tells limit holds form call talk answer r zero count e =
-    generated_well count (SinkFailed call) call answer
-    (subst (λ (f : Option Form). Runs tells limit holds f call talk answer) e r).1 zero
+generated_well count failed call answer (inr counts) zero = record { held = counts.held; leaves = counts.leaves; wrote = whole_zero _ failed _ _ answer zero counts.answers }
 
 -- what a command did, as what is answered
-pub runs_as : (tells : Bool) (limit : ℕ) (holds : Names) (form other : Form) (call : Happened) (talk : Conversation) (status answer : ℕ)
-    → form ≡ other → status ≡ answer → IsOneOf (statuses other) status → Does tells limit holds other call talk status
+pub runs_as : (tells : Bool) (limit : ℕ) (holds : Names) {form other : Form} (call : Happened) (talk : Conversation) {status answer : ℕ}
+    → form ≡ other → answer ≡ status → IsOneOf (statuses other) status → Does tells limit holds other call talk status
     → Runs tells limit holds (Some form) call talk answer
-runs_as tells limit holds form other call talk status answer e a one d =
+runs_as tells limit holds {other = other} call talk {answer = answer} e a one d =
     subst (λ (f : Form). Runs tells limit holds (Some f) call talk answer) (sym e)
-    (subst (λ (n : ℕ). Runs tells limit holds (Some other) call talk n) a (one, d))
+    (subst (λ (n : ℕ). Runs tells limit holds (Some other) call talk n) (sym a) (one, d))
 
 -- the statuses of refusals, without some
 
@@ -427,45 +321,27 @@ pub one_but : {T : Type 0} (r : Result T Refusal) (others : List ℕ) → AllByR
 one_but r [] all = every_one r
 one_but r (s ∷ others) all = without s (but others) (answered r) all.0 (one_but r others all.1)
 
-pub runs_announced : (tells : Bool) (limit : ℕ) (holds : Names) (form : Option Form) (call : Happened) (talk : Conversation) (answer : ℕ)
-    → IsTrue tells → Runs tells limit holds form call talk answer
-    → (config rules address : List ℕ) → form ≡ Some (Announce config rules address) → AnnouncePromises limit holds config rules call talk answer
-runs_announced tells limit holds form call talk answer told r config rules address e =
-    announce_promises limit holds config rules call talk answer ((subst (λ (f : Option Form). Runs tells limit holds f call talk answer) e r).1 told)
-
-pub runs_heard : (tells : Bool) (limit : ℕ) (holds : Names) (form : Option Form) (call : Happened) (talk : Conversation) (answer : ℕ)
-    → IsTrue tells → Runs tells limit holds form call talk answer
-    → (config address : List ℕ) → form ≡ Some (Listen config address) → ListenPromises limit holds config call talk answer
-runs_heard tells limit holds form call talk answer told r config address e =
-    listen_promises limit holds config call talk answer ((subst (λ (f : Option Form). Runs tells limit holds f call talk answer) e r).1 told)
-
-pub runs_paired : (tells : Bool) (limit : ℕ) (holds : Names) (form : Option Form) (call : Happened) (talk : Conversation) (answer : ℕ)
-    → IsTrue tells → Runs tells limit holds form call talk answer
-    → (config rules : List ℕ) → form ≡ Some (Pair config rules) → PairPromises limit holds config rules call talk answer
-runs_paired tells limit holds form call talk answer told r config rules e =
-    pair_promises limit holds config rules call talk answer ((subst (λ (f : Option Form). Runs tells limit holds f call talk answer) e r).1 told)
-
 -- at want of memory nothing is written, over a tape that isn't of the second version
-pub wants_enforce : {S T : Type 0} (tells : Bool) (limit : ℕ) (holds : Names) (form : Form) (config tape capture : List ℕ) (old new : S) (result : Result T Refusal) (answer : ℕ)
-    → form ≡ Enforce config tape capture → answered result ≡ answer
+pub wants_enforce : {S T : Type 0} {tells : Bool} (limit : ℕ) (holds : Names) (result : Result T Refusal) {form : Form} {config tape capture : List ℕ} {old new : S} {answer : ℕ}
+    → form ≡ Enforce config tape capture → answer ≡ answered result
     → (IsTrue tells → answered result ≡ 6 → (HasVersion limit holds tape Two → ⊥) → new ≡ old)
     → answer ≡ 6 → HasNoMoments tells limit holds form → new ≡ old
-wants_enforce tells limit holds form config tape capture old new result answer e a kept six none =
-    let premise = none config tape capture e in kept premise.0 (a ∙ six) premise.1
+wants_enforce limit holds result {config = config} {tape = tape} {capture = capture} e a kept six none =
+    let premise = none config tape capture e in kept premise.0 (sym a ∙ six) premise.1
 
 -- what is said of the files of `enforce`
-pub enforce_as : (Says : List ℕ → List ℕ → List ℕ → Type 0) (form : Form) (config tape capture config' tape' capture' : List ℕ)
+pub enforce_as : (Says : List ℕ → List ℕ → List ℕ → Type 0) {form : Form} {config tape capture config' tape' capture' : List ℕ}
     → form ≡ Enforce config tape capture → form ≡ Enforce config' tape' capture' → Says config tape capture → Says config' tape' capture'
-enforce_as Says form config tape capture config' tape' capture' e asked p = subst of (sym e ∙ asked) p
+enforce_as Says e asked p = subst of (sym e ∙ asked) p
   where
     of : Form → Type 0
     of (Enforce a b d) = Says a b d
     of _ = ⊤
 
 -- and of a survey, whose status is answered
-pub survey_as : (Says : List ℕ → List ℕ → ℕ → Type 0) (form : Form) (survey survey' : Survey) (config tape config' tape' : List ℕ) (status answer : ℕ)
-    → form ≡ Surveys survey config tape → form ≡ Surveys survey' config' tape' → status ≡ answer → Says config tape status → Says config' tape' answer
-survey_as Says form survey survey' config tape config' tape' status answer e asked same p = subst (Says config' tape') same (subst of (sym e ∙ asked) p)
+pub survey_as : (Says : List ℕ → List ℕ → ℕ → Type 0) {form : Form} {survey survey' : Survey} {config tape config' tape' : List ℕ} {status answer : ℕ}
+    → form ≡ Surveys survey config tape → form ≡ Surveys survey' config' tape' → answer ≡ status → Says config tape status → Says config' tape' answer
+survey_as Says {config' = config'} {tape' = tape'} {status = status} e asked same p = subst (Says config' tape') (sym same) (subst of (sym e ∙ asked) p)
   where
     of : Form → Type 0
     of (Surveys kind a b) = Says a b status
@@ -536,41 +412,34 @@ promises_some limit w words form answer e run known quiet wanting bounded still 
     let call : Happened = happened_in w in
     let talk : Conversation = talk_in w in
     let holds : Names = names_in w in
-    let ran : Runs w.of_files.tells limit holds (form_of words) call talk answer =
-    subst (λ (f : Option Form). Runs w.of_files.tells limit holds f call talk answer) e run in
+    let tells : Bool = w.of_files.tells in
+    let the : (other : Form) → form_of words ≡ Some other → form ≡ other = λ other asked. some_form form other (form_of words) e asked in
+    let does : (other : Form) → form_of words ≡ Some other → Does tells limit holds other call talk answer =
+    λ other asked. subst (λ (f : Form). Does tells limit holds f call talk answer) (the other asked) run.1 in
+    let causes : AreTold w → HasCauses limit holds (form_of words) call talk answer =
+    λ told. subst (λ (f : Option Form). HasCauses limit holds f call talk answer) e (causes_of tells limit holds form call talk answer told run.1) in
     record {
-      runs = ran;
+      runs = subst (λ (f : Option Form). Runs tells limit holds f call talk answer) e run;
       no_command = (λ two. absurd (known two), λ none. no_form form (form_of words) e none);
-      possible = λ asked is. subst (λ (f : Form). IsOneOf (statuses f) answer) (some_form form asked (form_of words) e is) run.0;
+      possible = λ asked is. subst (λ (f : Form). IsOneOf (statuses f) answer) (the asked is) run.0;
       nothing_done = λ none. no_form form (form_of words) e none;
-      check_opens_nothing = λ subject word asked. unopened subject word (some_form form (Check subject word) (form_of words) e asked);
-      gen_opens_nothing = λ count asked. generates count (some_form form (Gen count) (form_of words) e asked);
-      survey_opens = λ survey config tape asked. opens survey config tape (some_form form (Surveys survey config tape) (form_of words) e asked);
-      wire_unused = λ asked is unspoken. silent (ap speaks (some_form form asked (form_of words) e is) ∙ unspoken);
+      check_opens_nothing = λ subject word asked. unopened subject word (the (Check subject word) asked);
+      gen_opens_nothing = λ count asked. generates count (the (Gen count) asked);
+      survey_opens = λ survey config tape asked. opens survey config tape (the (Surveys survey config tape) asked);
+      wire_unused = λ asked is unspoken. silent (ap speaks (the asked is) ∙ unspoken);
       config_writes_nothing = quiet;
-      limit_writes_nothing = λ seven survey config tape asked.
-          bounded seven survey config tape (some_form form (Surveys survey config tape) (form_of words) e asked);
-      tape_writes_nothing = λ told four config tape capture asked.
-          still told four config tape capture (some_form form (Enforce config tape capture) (form_of words) e asked);
-      memory_writes_nothing = λ six asked is none.
-          wanting six (subst (HasNoMoments w.of_files.tells limit holds) (sym (some_form form asked (form_of words) e is)) none);
-      memory_keeps_judged = λ told six config tape capture asked.
-          unfinished told six config tape capture (some_form form (Enforce config tape capture) (form_of words) e asked);
-      causes = λ told. runs_causes w.of_files.tells limit holds (form_of words) call talk answer told ran;
-      complete = λ told stood sink_stood served.
-          causes_complete limit holds (form_of words) call talk answer stood sink_stood served
-          (runs_causes w.of_files.tells limit holds (form_of words) call talk answer told ran);
+      limit_writes_nothing = λ seven survey config tape asked. bounded seven survey config tape (the (Surveys survey config tape) asked);
+      tape_writes_nothing = λ told four config tape capture asked. still told four config tape capture (the (Enforce config tape capture) asked);
+      memory_writes_nothing = λ six asked is none. wanting six (subst (HasNoMoments tells limit holds) (sym (the asked is)) none);
+      memory_keeps_judged = λ told six config tape capture asked. unfinished told six config tape capture (the (Enforce config tape capture) asked);
+      causes = causes;
+      complete = λ told stood sink_stood served. causes_complete limit holds (form_of words) call talk answer stood sink_stood served (causes told);
       headline = λ told zero config tape capture asked.
-          runs_headline w.of_files.tells limit holds (form_of words) call talk answer told ran zero config tape capture asked;
-      listed = λ told zero survey config tape asked.
-          runs_listed w.of_files.tells limit holds (form_of words) call talk answer told ran zero survey config tape asked;
-      converted = λ told zero config dump asked.
-          runs_converted w.of_files.tells limit holds (form_of words) call talk answer told ran zero config dump asked;
-      announced = λ told config rules address asked.
-          runs_announced w.of_files.tells limit holds (form_of words) call talk answer told ran config rules address asked;
-      listened = λ told config address asked.
-          runs_heard w.of_files.tells limit holds (form_of words) call talk answer told ran config address asked;
-      paired = λ told config rules asked.
-          runs_paired w.of_files.tells limit holds (form_of words) call talk answer told ran config rules asked;
-      generator = λ zero count asked. runs_generated w.of_files.tells limit holds (form_of words) call talk answer ran zero count asked;
+          enforced_well limit holds config tape capture _ call answer (does (Enforce config tape capture) asked told) zero;
+      listed = λ told zero survey config tape asked. listed_well (text_for survey) limit holds config tape _ call answer (does (Surveys survey config tape) asked told) zero;
+      converted = λ told zero config dump asked. converted_well limit holds config dump _ call answer (does (Converts config dump) asked told) zero;
+      announced = λ told config rules address asked. announce_promises limit holds config rules call talk answer (does (Announce config rules address) asked told);
+      listened = λ told config address asked. listen_promises limit holds config call talk answer (does (Listen config address) asked told);
+      paired = λ told config rules asked. pair_promises limit holds config rules call talk answer (does (Pair config rules) asked told);
+      generator = λ zero count asked. generated_well count _ call answer (does (Gen count) asked) zero;
     }

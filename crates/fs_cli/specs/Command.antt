@@ -78,9 +78,9 @@ form_of _ = None
 
 -- what a parsed command says
 abbrev pub form_shown : Command → Form
-form_shown (EnforceCommand config tape capture) = Enforce config.now tape.now capture.now
-form_shown (SurveyCommand survey config tape) = Surveys survey config.now tape.now
-form_shown (ConvertCommand config dump) = Converts config.now dump.now
+form_shown (EnforceCommand names) = Enforce names.config.now names.tape.now names.capture.now
+form_shown (SurveyCommand survey names) = Surveys survey names.config.now names.tape.now
+form_shown (ConvertCommand names) = Converts names.config.now names.dump.now
 form_shown (CheckCommand subject word) = Check subject word.now
 form_shown (GenCommand count) = Gen count
 form_shown (AnnounceCommand config rules address) = Announce config.now rules.now address.now

@@ -1,11 +1,9 @@
 -- What a run of the program promises, and what it answers and writes.
-use Rattle.std.specs.Prelude.{◌≡◌, ◌⊎◌, ℕ, List, [], ◌∷◌, Bool, true, false, Option, Result, Ok, Err, if◌then◌else◌, ◌↔◌, IsTrue, IfSome, Some, None}
+use Rattle.std.specs.Prelude.{◌≡◌, ◌⊎◌, ℕ, List, [], ◌∷◌, Bool, true, false, Option, if◌then◌else◌, ◌↔◌, IsTrue, IfSome, Some, None}
 use Rattle.fs_base.specs.Happened.{Happened, SinkFailed, happened, with_wire, FilesFailed, FilesStood, SinkStood, WireFailed, WireStood, Wrote}
-use Rattle.fs_base.specs.Sink.{Grew, GrewPart}
+use Rattle.fs_base.specs.Sink.{Grew}
 use Rattle.fs_reports.specs.Report.{Reports}
 use Rattle.fs_reports.specs.Text.{ReportsText}
-use Rattle.fs_reports.specs.declared.command.CheckFault.{CheckFault}
-use Rattle.fs_reports.specs.declared.command.CheckFault.TheVariants.{Failed, Memory}
 use Rattle.cmd_stages.specs.Refusal.{Verdict, Answers}
 use Rattle.cmd_convert.specs.Command.{Converts as ConvertsDump, Converted, convert_status}
 use Rattle.cmd_enforce.specs.Command.{Enforces, Enforced, Wants, inputs_stage, status_for}
@@ -29,20 +27,17 @@ use Rattle.fs_base.specs.declared.Sink as sink
 use Rattle.fs_base.specs.declared.Wire as wire
 use Rattle.fs_base.specs.declared.Clock as clock
 
--- what `check` answers and writes
+-- what `check` answers, and writes
+abbrev pub checked : Bool → ℕ
+checked accepted = if accepted then 0 else 9
+
 abbrev pub report_verdict : Bool → List ℕ → Verdict
-report_verdict accepted text = record { status = if accepted then 0 else 9; text = text }
+report_verdict accepted text = record { status = checked accepted; text = text }
 
 -- what is said of the word, as a field of frames or as the text of a rule and its actions
 abbrev pub ReportsOn : Subject → (word text : List ℕ) → Bool → Type 0
 ReportsOn (Nlri family) word text accepted = Reports family word text accepted
 ReportsOn Text word text accepted = ReportsText word text accepted
-
--- it was written: whole, a front of it where the sink failed, nothing where memory was wanting
-abbrev pub WroteOn : Subject → (word : List ℕ) → (before now : Option (List ℕ)) → Result Bool CheckFault → Type 0
-WroteOn subject word before now (Ok accepted) = (text : List ℕ) × ReportsOn subject word text accepted × Grew before now text
-WroteOn subject word before now (Err Failed) = (text : List ℕ) × (accepted : Bool) × ReportsOn subject word text accepted × GrewPart before now text
-WroteOn subject word before now (Err Memory) = Grew before now []
 
 -- what is said of the word was written
 pub record Says (subject : Subject) (word : List ℕ) (failed : Type 0) (before now : Option (List ℕ)) (answer : ℕ) : Type 0 where

@@ -1,22 +1,20 @@
 -- What the commands that survey a tape answer and write.
-use Rattle.std.specs.Prelude.{◌≡◌, ◌≢◌, ◌⊎◌, ◌<◌, ℕ, List, [], Option, Some, Result, length}
+use Rattle.std.specs.Prelude.{◌≡◌, ◌≢◌, ◌⊎◌, ℕ, List, [], Option, Result}
 use Rattle.std.specs.Result.{IsErrAnd}
 use Rattle.fs_base.specs.Happened.{Happened, FilesFailed, SinkFailed, Wrote}
 use Rattle.fs_base.specs.Sink.{Grew}
-use Rattle.fs_input.specs.Records.{done}
 use Rattle.fs_base.specs.declared.config.Config.{Config}
-use Rattle.fs_conf.specs.Config.{config_of}
 use Rattle.fs_cli.specs.declared.survey.Survey.{Survey}
 use Rattle.fs_cli.specs.declared.survey.Survey.TheVariants.{Rules, Shadow, Words}
 use Rattle.fs_reports.specs.Listing.{listing}
 use Rattle.fs_reports.specs.TapeFault.{tape_fault_line}
 use Rattle.fs_rules.specs.Table.{Held}
 use Rattle.fs_shadow.specs.Text.{shadow_listing}
-use Rattle.fs_tape.specs.Tape.{Item, Timed, tape_of}
+use Rattle.fs_tape.specs.Tape.{Item, Timed}
 use Rattle.fs_reports.specs.Worded.{worded}
-use Rattle.cmd_stages.specs.Load.{Names}
+use Rattle.cmd_stages.specs.Load.{HoldsConfig, Names}
 use Rattle.fs_desk.specs.Leaves.{Leaves}
-use Rattle.cmd_stages.specs.Play.{accepted_stage, untimed}
+use Rattle.cmd_stages.specs.Play.{HoldsTape, accepted_stage, untimed}
 use Rattle.cmd_stages.specs.Refusal.{Answers, verdict_with, Stage, Found, Stopped, status_of}
 use Rattle.cmd_stages.specs.Writing.{Fails}
 use Rattle.cmd_stages.specs.declared.refusal.Refusal.{Refusal}
@@ -75,15 +73,10 @@ IsOfSurvey status = (status ≢ 5) × (status ≢ 8) × (status ≢ 10)
 -- Of the files that these names hold, both without a fault and within the limit, the survey was written: of the items of
 -- the tape, and of the routes that they leave held.
 pub record Surveyed (survey : Text) (limit : ℕ) (holds : Names) (config tape : List ℕ) (call : Happened) : Type 0 where
-  pub config_octets : List ℕ
-  pub config_is : holds config ≡ Some config_octets
-  pub config_within : length config_octets < limit
   pub accepted : Config
-  pub accepted_is : config_of config_octets ≡ Some accepted
-  pub tape_octets : List ℕ
-  pub tape_is : holds tape ≡ Some tape_octets
   pub items : List Timed
-  pub items_are : tape_of accepted limit tape_octets ≡ (items, done)
+  pub config_is : HoldsConfig limit holds config accepted
+  pub tape_is : HoldsTape limit holds tape accepted items
   pub held : Held
   pub leaves : Leaves accepted (untimed items) held
   pub wrote : Wrote call (survey accepted (untimed items) held)

@@ -4,7 +4,9 @@ ghost use Rattle.std.specs.Prelude.{◌≡◌, ◌∷◌, [], decimal, map, opti
 ghost use Rattle.std.specs.Str.{bytes_eq};
 ghost use Rattle.fs_cli.specs.Command.{check_form, count_of, form_of, is_name, form_shown, subject_of, survey_of};
 
-use crate::survey::Survey;
+use crate::survey::{Survey, SurveyNames};
+use cmd_convert::DumpNames;
+use cmd_enforce::InputNames;
 use fs_base::Family;
 use itoa::Buffer;
 
@@ -15,31 +17,15 @@ const MOST: u32 = 1_000_000;
 #[derive(Clone, Copy, Drop)]
 pub enum Command<'w> {
     /// Plays a tape, and judges the packets of a capture by the rules that it admits at their moments.
-    Enforce {
-        config: &'w str,
-        tape: &'w str,
-        capture: &'w str,
-    },
+    Enforce(InputNames<'w>),
     /// Plays a tape, and surveys what it leaves.
-    Survey {
-        survey: Survey,
-        config: &'w str,
-        tape: &'w str,
-    },
+    Survey(Survey, SurveyNames<'w>),
     /// Reads a dump, and writes the tape of the second version that its records make.
-    Convert {
-        config: &'w str,
-        dump: &'w str,
-    },
+    Convert(DumpNames<'w>),
     /// Plays a generated tape, and counts what becomes of generated packets: so many of each.
-    Gen {
-        count: u32,
-    },
+    Gen(u32),
     /// Says what a word is.
-    Check {
-        subject: Subject,
-        word: &'w str,
-    },
+    Check(Subject, &'w str),
     /// Connects to an address, and announces the rules of a file there.
     Announce {
         config: &'w str,
@@ -92,11 +78,11 @@ fn parse_three<'w>(
         return None;
     }
     match word {
-        "enforce" => Some(Command::Enforce {
+        "enforce" => Some(Command::Enforce(InputNames {
             config: first,
             tape: second,
             capture: third,
-        }),
+        })),
         "announce" => Some(Command::Announce {
             config: first,
             rules: second,
@@ -115,31 +101,30 @@ fn parse_two<'w>(word: &str, first: &'w str, second: &'w str) -> Option<Command<
     if !is_name(first) || !is_name(second) {
         return None;
     }
-    if word == "convert" {
-        return Some(Command::Convert {
-            config: first,
+    let config = first;
+    match word {
+        "convert" => Some(Command::Convert(DumpNames {
+            config,
             dump: second,
-        });
-    }
-    if word == "listen" {
-        return Some(Command::Listen {
-            config: first,
+        })),
+        "listen" => Some(Command::Listen {
+            config,
             address: second,
-        });
-    }
-    if word == "pair" {
-        return Some(Command::Pair {
-            config: first,
-            rules: second,
-        });
-    }
-    match survey_of(word) {
-        Some(survey) => Some(Command::Survey {
-            survey,
-            config: first,
-            tape: second,
         }),
-        None => None,
+        "pair" => Some(Command::Pair {
+            config,
+            rules: second,
+        }),
+        _ => match survey_of(word) {
+            Some(survey) => Some(Command::Survey(
+                survey,
+                SurveyNames {
+                    config,
+                    tape: second,
+                },
+            )),
+            None => None,
+        },
     }
 }
 
@@ -162,7 +147,7 @@ fn parse_check<'w>(subject: &str, word: &'w str) -> Option<Command<'w>>
         return None;
     }
     match subject_of(subject) {
-        Some(subject) => Some(Command::Check { subject, word }),
+        Some(subject) => Some(Command::Check(subject, word)),
         None => None,
     }
 }
@@ -174,7 +159,7 @@ fn parse_gen(word: &str, count: &str) -> Option<Command<'static>>
         return None;
     }
     match count_of(count) {
-        Some(count) => Some(Command::Gen { count }),
+        Some(count) => Some(Command::Gen(count)),
         None => None,
     }
 }

@@ -1,11 +1,10 @@
 //! The program.
 
-ghost use Rattle.std.specs.Prelude.{◌≡◌, ◌≢◌, ◌≤◌, ◌^◌, ◌∷◌, [], ℕ, IsErrOf, IsTrue, List, Some, false, map, string_bytes};
+ghost use Rattle.std.specs.Prelude.{◌≡◌, ◌≢◌, ◌≤◌, ◌^◌, ◌∷◌, [], ℕ, IfOk, IsTrue, List, Some, false, map, string_bytes};
 ghost use Rattle.fs_base.specs.Happened.{at_sink, happened, with_wire};
-ghost use Rattle.fs_base.specs.Outside.{Rose};
 ghost use Rattle.fs_cli.specs.declared.command.Subject.{Subject};
 ghost use Rattle.fs_cli.specs.declared.survey.Survey.{Survey};
-ghost use Rattle.fs_cli.specs.Program.{Checks, HasNoMoments, IsOneOf, Promises, Runs, WroteOn, speaks, objects};
+ghost use Rattle.fs_cli.specs.Program.{Checks, HasNoMoments, IsOneOf, Promises, ReportsOn, Runs, checked, speaks, objects};
 ghost use Rattle.fs_cli.specs.Command.{form_shown, Check, Enforce, Gen, Surveys};
 ghost use Rattle.cmd_stages.specs.Load.{OpensBoth};
 ghost use Rattle.cmd_enforce.specs.Command.{Wants};
@@ -13,14 +12,14 @@ ghost use Rattle.cmd_stages.specs.Refusal.{answered};
 ghost use Rattle.cmd_wire.specs.Conversation.{conversation};
 
 use crate::command::{Command, Subject, parse};
-use crate::survey::{SurveyNames, survey_tape};
-use cmd_convert::{DumpNames, convert};
-use cmd_enforce::{InputNames, enforce};
+use crate::survey::survey_tape;
+use cmd_convert::convert;
+use cmd_enforce::enforce;
 use cmd_gen::generate;
 use cmd_stages::{Refusal, status};
 use cmd_wire::{Announcement, Pairing, Reception, announce, listen, pair};
-use fs_base::{Clock, Files, Sink, Wire};
-use fs_reports::{CheckFault, check, check_text};
+use fs_base::{Clock, Failed, Files, Memory, Sink, Wire, write_all};
+use fs_reports::{Report, report_on, report_on_text};
 use std::alloc::Global;
 
 /// The most octets that an input may have.
@@ -125,32 +124,13 @@ fn perform<F: Files, S: Sink, W: Wire, C: Clock>(
 {
     let Job { command, limit } = job;
     match command {
-        Command::Enforce {
-            config,
-            tape,
-            capture,
-        } => {
-            let names = InputNames {
-                config,
-                tape,
-                capture,
-            };
-            answer_of(enforce(alloc, files, sink, &names, limit))
-        }
-        Command::Survey {
-            survey,
-            config,
-            tape,
-        } => {
-            let names = SurveyNames { config, tape };
+        Command::Enforce(names) => answer_of(enforce(alloc, files, sink, &names, limit)),
+        Command::Survey(survey, names) => {
             answer_of(survey_tape(alloc, files, sink, survey, &names, limit))
         }
-        Command::Convert { config, dump } => {
-            let names = DumpNames { config, dump };
-            answer_of(convert(alloc, files, sink, &names, limit))
-        }
-        Command::Check { subject, word } => run_check(alloc, sink, subject, word),
-        Command::Gen { count } => answer_of(generate(alloc, sink, count)),
+        Command::Convert(names) => answer_of(convert(alloc, files, sink, &names, limit)),
+        Command::Check(subject, word) => run_check(alloc, sink, subject, word),
+        Command::Gen(count) => answer_of(generate(alloc, sink, count)),
         Command::Announce {
             config,
             rules,
@@ -195,34 +175,34 @@ fn answer_of(done: Result<(), Refusal>) -> u8
 }
 
 /// Writes what is said of the word, and answers whether it is accepted.
-fn say<S: Sink>(
-    alloc: Global,
-    sink: &mut S,
-    subject: Subject,
-    word: &str,
-) -> Result<bool, CheckFault>
-    ensures written { WroteOn subject word.now (S.written sink.old) (S.written sink.new) result }
-    ensures later { S.faults sink.old ≤ S.faults sink.new }
-    ensures failed { IsErrOf result CheckFault.Failed → Rose (S.faults sink.old) (S.faults sink.new) }
-    ensures unwritten { IsErrOf result CheckFault.Memory → sink.new ≡ sink.old }
-{
-    match subject {
-        Subject::Nlri(family) => check(alloc, sink, family, word),
-        Subject::Text => check_text(alloc, sink, word),
-    }
-}
-
-/// Says of the word what it is.
 fn run_check<S: Sink>(alloc: Global, sink: &mut S, subject: Subject, word: &str) -> u8
     ensures checks { Checks subject word.now (at_sink S.Sink sink.old sink.new) result }
     ensures possible { IsOneOf (0 ∷ 1 ∷ 6 ∷ 9 ∷ []) result }
     ensures known { (result ≢ 2) × (result ≢ 3) × (result ≢ 4) }
     ensures quiet { result ≡ 6 → sink.new ≡ sink.old }
 {
-    match say(alloc, sink, subject, word) {
-        Ok(true) => status::DONE,
-        Ok(false) => status::NLRI,
-        Err(CheckFault::Failed) => status::OUTSIDE,
-        Err(CheckFault::Memory) => status::MEMORY,
+    match report_of(alloc, subject, word) {
+        Ok(report) => match write_all(sink, &report.text) {
+            Ok(()) => checked(report.accepted),
+            Err(Failed) => status::OUTSIDE,
+        },
+        Err(Memory) => status::MEMORY,
+    }
+}
+
+/// The status of a word that is accepted, or isn't.
+fn checked(accepted: bool) -> u8
+    ensures { result ≡ checked accepted }
+{
+    if accepted { status::DONE } else { status::NLRI }
+}
+
+/// What is said of the word.
+fn report_of(alloc: Global, subject: Subject, word: &str) -> Result<Report, Memory>
+    ensures { IfOk result (λ report. ReportsOn subject word.now report.text.items report.accepted) }
+{
+    match subject {
+        Subject::Nlri(family) => report_on(alloc, family, word),
+        Subject::Text => report_on_text(alloc, word),
     }
 }

@@ -5,19 +5,16 @@ ghost use Rattle.fs_base.specs.Happened.{happened};
 ghost use Rattle.fs_base.specs.Outside.{Rose};
 ghost use Rattle.fs_base.specs.declared.config.Config.{Config};
 ghost use Rattle.fs_tape.specs.Tape.{Item};
-ghost use Rattle.fs_reports.specs.TapeFault.{tape_fault_line};
 ghost use Rattle.fs_desk.specs.Desk.{Played};
 ghost use Rattle.cmd_stages.specs.Load.{OpensBoth};
-ghost use Rattle.cmd_stages.specs.Refusal.{IsLate, IsOfTape, answered, status_of};
-ghost use Rattle.cmd_stages.specs.Writing.{Writes};
+ghost use Rattle.cmd_stages.specs.Refusal.{IsOfTape, answered, status_of};
 ghost use Rattle.fs_cli.specs.Survey.{IsOfSurvey, Lists, SaysOf, text_for};
 
-use cmd_stages::{Refusal, load_config, play_tape, write_text};
+use cmd_stages::{Refusal, load_config, play_whole, write_made};
 use fs_base::{Files, Memory, Sink};
 use fs_desk::Desk;
 use fs_reports::{desk_text, desk_words, tape_fault_text};
 use fs_shadow::shadow_text;
-use fs_tape::TapeReason;
 use std::alloc::Global;
 
 /// What is told of the routes that a tape leaves.
@@ -65,36 +62,10 @@ pub fn survey_tape<F: Files, S: Sink>(
         (answered result) }
 {
     let config = load_config(alloc, files, names.config, limit)?;
-    match play_tape(alloc, files, &config, names.tape, limit) {
-        Ok(desk) => write_survey(alloc, survey, &desk, sink),
+    match play_whole(alloc, files, &config, names.tape, limit) {
+        Ok(whole) => write_made(survey_text(alloc, survey, &whole.desk), sink),
         Err(refusal) => tell_refusal(alloc, refusal, sink),
     }
-}
-
-/// Writes the survey of the desk behind a tape, in one piece.
-///
-/// # Errors
-///
-/// `Memory` where the machine refused memory, and then nothing is written; `Outside` where the sink failed, and then a
-/// front of the survey is.
-fn write_survey<S: Sink>(
-    alloc: Global,
-    survey: Survey,
-    desk: &Desk<'_>,
-    sink: &mut S,
-) -> Result<(), Refusal>
-    ensures late { IsLate (answered result) }
-    ensures unwritten { answered result ≡ 6 → sink.new ≡ sink.old }
-    ensures later { S.faults sink.old ≤ S.faults sink.new }
-
-    ensures listed { (config : Config)
-        → (items : List Item)
-        → Played config items desk.now
-        → Writes (text_for survey config items desk.now.held)
-        (Rose (S.faults sink.old) (S.faults sink.new)) (S.written sink.old) (S.written sink.new) result }
-{
-    let text = survey_text(alloc, survey, desk)?;
-    write_text(&text, sink)
 }
 
 /// The survey of the desk behind a tape.
@@ -119,28 +90,7 @@ fn tell_refusal<S: Sink>(alloc: Global, refusal: Refusal, sink: &mut S) -> Resul
         (S.written sink.old) (S.written sink.new) result }
 {
     if let Refusal::Tape { reason, place } = refusal {
-        write_tape_fault(alloc, reason, place, sink)?;
+        write_made(tape_fault_text(alloc, reason, place), sink)?;
     }
     Err(refusal)
-}
-
-/// Writes the line of a tape's fault, in one piece.
-///
-/// # Errors
-///
-/// As of [`write_survey`].
-fn write_tape_fault<S: Sink>(
-    alloc: Global,
-    reason: TapeReason,
-    place: u64,
-    sink: &mut S,
-) -> Result<(), Refusal>
-    ensures late { IsLate (answered result) }
-    ensures unwritten { answered result ≡ 6 → sink.new ≡ sink.old }
-    ensures later { S.faults sink.old ≤ S.faults sink.new }
-    ensures written { Writes (tape_fault_line reason place)
-        (Rose (S.faults sink.old) (S.faults sink.new)) (S.written sink.old) (S.written sink.new) result }
-{
-    let text = tape_fault_text(alloc, reason, place)?;
-    write_text(&text, sink)
 }

@@ -11,6 +11,7 @@ use Rattle.std.proofs.lemmas.List.Sorted.{Contains-permutation, IsPermutation-fi
 use Rattle.std.proofs.lemmas.Map.Keys.{sorted_from_strictly_increasing}
 use Rattle.std.proofs.lemmas.Map.Lookups.{btree_set_from_contains, exact_unsigned}
 use Rattle.std.proofs.lemmas.Map.Views.{btree_set_contains_iff}
+use Rattle.fs_base.proofs.Bools.{same_tests}
 use Rattle.fs_base.specs.Config.{peer_of}
 use Rattle.fs_base.specs.declared.config.Peer.{Peer}
 use Rattle.fs_reports.specs.Peers.{numbers_below}
@@ -57,11 +58,6 @@ kept p xs n there passes =
     (Contains-append_cases (filter p xs) (filter (λ m. not (p m)) xs) n
     (Contains-permutation xs (filter p xs ++ filter (λ m. not (p m)) xs) n (IsPermutation-filter_both p (λ m. not (p m)) (λ m. refl) xs) there))
 
-alike : (a b : Bool) → (a ≡ true → b ≡ true) → (b ≡ true → a ≡ true) → a ≡ b
-alike true b to from = sym (to refl)
-alike false true to from = from refl
-alike false false to from = refl
-
 -- strictly rising lists with the same elements are the same
 same_elements : (xs ys : List ℕ) → IsStrictlySortedBy nat_cmp xs → IsStrictlySortedBy nat_cmp ys
     → ((n : ℕ) → Contains xs n → Contains ys n) → ((n : ℕ) → Contains ys n → Contains xs n) → xs ≡ ys
@@ -72,7 +68,7 @@ same_elements xs ys sorted ordered to from =
     (λ n.
     let has = btree_set_contains_iff nat_cmp_total exact_unsigned s n in
     let keeps = btree_set_contains_iff nat_cmp_total exact_unsigned t n in
-    alike (contains nat_cmp s n) (contains nat_cmp t n) (λ h. keeps.1 (to n (has.0 h))) (λ h. has.1 (from n (keeps.0 h))))
+    same_tests (contains nat_cmp s n) (contains nat_cmp t n) (λ h. keeps.1 (to n (has.0 h))) (λ h. has.1 (from n (keeps.0 h))))
     exact_unsigned
 
 pub numbers_are : (xs : List ℕ) (bound : ℕ) (peers : List Peer) → IsStrictlySortedBy nat_cmp xs → All (λ n. n < bound) xs

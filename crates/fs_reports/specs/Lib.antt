@@ -1,5 +1,4 @@
 pub mod Report
-pub mod Command
 pub mod Text
 pub mod Listing
 pub mod Peers

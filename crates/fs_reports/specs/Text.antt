@@ -1,25 +1,17 @@
 -- What is said of a word that is to be the text of a rule and its actions.
-use Rattle.std.specs.Prelude.{◌≡◌, ℕ, List, [], ◌∷◌, ◌++◌, Bool, true, false, Option, Result, Ok, Err, codes, decimal}
-use Rattle.std.specs.List.{concat}
+use Rattle.std.specs.Prelude.{◌≡◌, ℕ, List, [], ◌++◌, Bool, true, false, codes, decimal}
 use Rattle.hex.specs.Hex.{encode_lower}
-use Rattle.fs_base.specs.Sink.{Grew, GrewPart}
 use Rattle.fs_nlri.specs.Parts.{Ruled}
 use Rattle.fs_nlri.specs.Rule.{IsRule, canonical_frame}
 use Rattle.fs_text.specs.Printed.{text_of}
 use Rattle.fs_text.specs.declared.fault.TextFault.{TextFault}
 use Rattle.fs_text.specs.declared.fault.TextFault.TheVariants.{Bad, TooLong, Memory as NoMemory}
 use Rattle.fs_text.specs.Text.{AreActions, IsTextFault}
-use Rattle.fs_reports.specs.declared.command.CheckFault.{CheckFault}
-use Rattle.fs_reports.specs.declared.command.CheckFault.TheVariants.{Failed, Memory}
-
--- the communities of actions, or that there are none
-abbrev pub actions_word : List (List ℕ) → List ℕ
-actions_word [] = codes "-"
-actions_word (action ∷ actions) = encode_lower (concat (action ∷ actions))
+use Rattle.fs_reports.specs.Rules.{tail_text}
 
 -- the canonical octets of the rule, and its actions
 abbrev pub pair_line : Ruled → List (List ℕ) → List ℕ
-pair_line rule actions = codes "1 " ++ (encode_lower (canonical_frame rule) ++ (codes " actions " ++ (actions_word actions ++ codes "\n")))
+pair_line rule actions = codes "1 " ++ (encode_lower (canonical_frame rule) ++ tail_text actions)
 
 abbrev pub text_fault_line : TextFault → List ℕ
 text_fault_line (Bad word) = codes "text fault at word " ++ (decimal word ++ codes "\n")
@@ -46,9 +38,3 @@ pub record ReportsTextFault (word text : List ℕ) : Type 0 where
 abbrev pub ReportsText : List ℕ → List ℕ → Bool → Type 0
 ReportsText word text true = ReportsPair word text
 ReportsText word text false = ReportsTextFault word text
-
--- the line is written, a front of it where the sink failed, nothing where memory was wanting
-abbrev pub WroteText : List ℕ → Option (List ℕ) → Option (List ℕ) → Result Bool CheckFault → Type 0
-WroteText word old new (Ok accepted) = (text : List ℕ) × ReportsText word text accepted × Grew old new text
-WroteText word old new (Err Failed) = (text : List ℕ) × (accepted : Bool) × ReportsText word text accepted × GrewPart old new text
-WroteText word old new (Err Memory) = Grew old new []

@@ -2,7 +2,6 @@
 //! the rules, the line of a tape's fault, and the admitted rules in words.
 #![tactic(auto)]
 
-mod command;
 mod listing;
 mod peers;
 mod report;
@@ -11,10 +10,9 @@ mod tape_fault;
 mod text;
 mod worded;
 
-pub use command::{CheckFault, check};
 pub use listing::desk_text;
 pub use peers::append_codes;
 pub use report::{Report, report_on};
 pub use tape_fault::tape_fault_text;
-pub use text::{check_text, report_on_text};
+pub use text::report_on_text;
 pub use worded::desk_words;

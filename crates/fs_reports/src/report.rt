@@ -1,13 +1,12 @@
 //! The text for a word.
 
 ghost use Rattle.std.specs.Prelude.{◌≡◌, ◌+◌, ◌<◌, ◌≤◌, ◌^◌, ◌++◌, codes, length, IfOk, OnOk};
-ghost use Rattle.hex.specs.Hex.{encode_lower};
-ghost use Rattle.fs_nlri.specs.Rule.{canonical_frame};
 ghost use Rattle.fs_reports.specs.Report.{reason_name, frame_line, fault_line, ReportsField, Reports};
 
+use crate::rules::append_frame;
 use fs_base::{Family, Memory};
-use fs_line::{append, append_decimal, append_hex};
-use fs_nlri::{NlriFault, Reason, Rule, decode, encode};
+use fs_line::{append, append_decimal};
+use fs_nlri::{NlriFault, Reason, Rule, decode};
 use hex::FromHexError;
 use std::alloc::Global;
 
@@ -46,7 +45,7 @@ fn report_field(alloc: Global, family: Family, octets: &[u8]) -> Result<Report, 
     'frames: while !rest.is_empty() {
         match decode(alloc, family, rest) {
             Ok((rule, taken)) => {
-                append_frame(alloc, number, &rule, &mut text)?;
+                append_rule(alloc, number, &rule, &mut text)?;
                 number += 1;
                 rest = &rest[taken..];
             }
@@ -66,14 +65,12 @@ fn report_field(alloc: Global, family: Family, octets: &[u8]) -> Result<Report, 
     })
 }
 
-fn append_frame(alloc: Global, number: usize, rule: &Rule, text: &mut Vec<u8>) -> Result<(), Memory>
+fn append_rule(alloc: Global, number: usize, rule: &Rule, text: &mut Vec<u8>) -> Result<(), Memory>
     ensures { OnOk result (text.new.items ≡ text.old.items ++ frame_line number rule.now) }
 {
-    let mut frame = Vec::new(alloc);
-    encode(rule, &mut frame)?;
     append_decimal(number, text)?;
     append(b" ", text)?;
-    append_hex(alloc, &frame, text)?;
+    append_frame(alloc, rule, text)?;
     append(b"\n", text)
 }
 

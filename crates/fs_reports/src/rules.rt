@@ -80,7 +80,7 @@ fn append_head(alloc: Global, rule: &Rule, peer: u16, text: &mut Vec<u8>) -> Res
 }
 
 /// Appends the rule's canonical frame in hexadecimal.
-fn append_frame(alloc: Global, rule: &Rule, text: &mut Vec<u8>) -> Result<(), Memory>
+pub(crate) fn append_frame(alloc: Global, rule: &Rule, text: &mut Vec<u8>) -> Result<(), Memory>
     ensures { OnOk result (text.new.items ≡ text.old.items ++ encode_lower (canonical_frame rule.now)) }
 {
     let mut frame = Vec::new(alloc);
@@ -88,8 +88,12 @@ fn append_frame(alloc: Global, rule: &Rule, text: &mut Vec<u8>) -> Result<(), Me
     append_hex(alloc, &frame, text)
 }
 
-/// Appends what an admitted rule's line says of its actions, and the line's end.
-fn append_tail(alloc: Global, actions: &Actions, text: &mut Vec<u8>) -> Result<(), Memory>
+/// Appends what a rule's line says of its actions, and the line's end.
+pub(crate) fn append_tail(
+    alloc: Global,
+    actions: &Actions,
+    text: &mut Vec<u8>,
+) -> Result<(), Memory>
     ensures { OnOk result (text.new.items ≡ text.old.items ++ tail_text actions.now) }
 {
     append(b" actions ", text)?;

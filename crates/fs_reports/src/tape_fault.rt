@@ -1,6 +1,6 @@
 //! The line of a tape's fault.
 
-ghost use Rattle.std.specs.Prelude.{◌≡◌, ◌++◌, IfOk, OnOk};
+ghost use Rattle.std.specs.Prelude.{◌≡◌, IfOk};
 ghost use Rattle.fs_reports.specs.TapeFault.{tape_reason_name, tape_fault_line};
 
 use fs_base::Memory;
@@ -17,19 +17,12 @@ pub fn tape_fault_text(alloc: Global, reason: TapeReason, place: u64) -> Result<
     ensures { IfOk result (λ text. text.items ≡ tape_fault_line reason place) }
 {
     let mut text = Vec::new(alloc);
-    append_line(reason, place, &mut text)?;
+    append(b"tape ", &mut text)?;
+    append(reason_name(reason), &mut text)?;
+    append(b" at ", &mut text)?;
+    append_decimal(place, &mut text)?;
+    append(b"\n", &mut text)?;
     Ok(text)
-}
-
-/// Appends the line.
-fn append_line(reason: TapeReason, place: u64, text: &mut Vec<u8>) -> Result<(), Memory>
-    ensures { OnOk result (text.new.items ≡ text.old.items ++ tape_fault_line reason place) }
-{
-    append(b"tape ", text)?;
-    append(reason_name(reason), text)?;
-    append(b" at ", text)?;
-    append_decimal(place, text)?;
-    append(b"\n", text)
 }
 
 /// The name of a tape's fault.

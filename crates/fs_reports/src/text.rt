@@ -1,51 +1,16 @@
-//! The command on a rule in words.
+//! What is said of a rule in words.
 
-ghost use Rattle.std.specs.Prelude.{◌≡◌, ◌≤◌, ◌++◌, IfOk, IsErrOf, OnOk, codes};
-ghost use Rattle.hex.specs.Hex.{encode_lower};
-ghost use Rattle.fs_base.specs.Outside.{Rose};
-ghost use Rattle.fs_nlri.specs.Rule.{canonical_frame};
-ghost use Rattle.fs_reports.specs.Text.{ReportsText, WroteText, actions_word, pair_line, text_fault_line};
-ghost use Rattle.fs_text.specs.declared.fault.TextFault.TheVariants.{TooLong};
+ghost use Rattle.std.specs.Prelude.{◌≡◌, ◌++◌, IfOk, OnOk};
+ghost use Rattle.fs_reports.specs.Text.{ReportsText, pair_line, text_fault_line};
 
-use crate::command::CheckFault;
 use crate::report::Report;
+use crate::rules::{append_frame, append_tail};
 use fs_actions::Actions;
-use fs_base::{Memory, Sink, write_all};
-use fs_line::{append, append_decimal, append_hex};
-use fs_nlri::{Rule, encode};
+use fs_base::Memory;
+use fs_line::{append, append_decimal};
+use fs_nlri::Rule;
 use fs_text::{TextFault, read};
 use std::alloc::Global;
-
-/// Appends the octets of the actions' communities in hexadecimal, or `-` where there are none.
-fn append_actions(alloc: Global, actions: &Actions, text: &mut Vec<u8>) -> Result<(), Memory>
-    ensures { OnOk result (text.new.items ≡ text.old.items ++ actions_word actions.now) }
-{
-    if actions.as_slice().is_empty() {
-        return append(b"-", text);
-    }
-    let mut octets = Vec::new(alloc);
-    actions.to_communities(&mut octets)?;
-    append_hex(alloc, &octets, text)
-}
-
-/// Appends the canonical octets of the rule.
-fn append_rule(alloc: Global, rule: &Rule, text: &mut Vec<u8>) -> Result<(), Memory>
-    ensures { OnOk result (text.new.items ≡ text.old.items ++ encode_lower (canonical_frame rule.now)) }
-{
-    let mut frame = Vec::new(alloc);
-    encode(rule, &mut frame)?;
-    append_hex(alloc, &frame, text)
-}
-
-/// Appends what is said of the actions, to the end of the line.
-fn append_behind(alloc: Global, actions: &Actions, text: &mut Vec<u8>) -> Result<(), Memory>
-    ensures { OnOk result (text.new.items
-        ≡ text.old.items ++ (codes " actions " ++ (actions_word actions.now ++ codes "\n"))) }
-{
-    append(b" actions ", text)?;
-    append_actions(alloc, actions, text)?;
-    append(b"\n", text)
-}
 
 /// Appends the canonical octets of the rule and of the actions.
 fn append_pair(
@@ -57,8 +22,8 @@ fn append_pair(
     ensures { OnOk result (text.new.items ≡ text.old.items ++ pair_line rule.now actions.now) }
 {
     append(b"1 ", text)?;
-    append_rule(alloc, rule, text)?;
-    append_behind(alloc, actions, text)
+    append_frame(alloc, rule, text)?;
+    append_tail(alloc, actions, text)
 }
 
 /// Appends why a word is no text.
@@ -100,17 +65,4 @@ pub fn report_on_text(alloc: Global, word: &str) -> Result<Report, Memory>
             })
         }
     }
-}
-
-/// Writes what is said of a word that is to be the text of a rule and its actions, and answers whether it is one. Where
-/// the sink fails a front of the line is written; where memory is wanting nothing is.
-pub fn check_text<S: Sink>(alloc: Global, sink: &mut S, word: &str) -> Result<bool, CheckFault>
-    ensures written { WroteText word.now (S.written sink.old) (S.written sink.new) result }
-    ensures later { S.faults sink.old ≤ S.faults sink.new }
-    ensures failed { IsErrOf result CheckFault.Failed → Rose (S.faults sink.old) (S.faults sink.new) }
-    ensures unwritten { IsErrOf result CheckFault.Memory → sink.new ≡ sink.old }
-{
-    let report = report_on_text(alloc, word)?;
-    write_all(sink, &report.text)?;
-    Ok(report.accepted)
 }

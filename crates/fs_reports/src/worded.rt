@@ -6,7 +6,7 @@ ghost use Rattle.fs_base.specs.declared.config.Config.{Config};
 ghost use Rattle.fs_tape.specs.Tape.{Item};
 ghost use Rattle.fs_desk.specs.Desk.{Played};
 ghost use Rattle.fs_rules.specs.Lent.{shown_lent};
-ghost use Rattle.fs_reports.specs.Worded.{family_words, rule_line, rule_lines, words_of_held, worded};
+ghost use Rattle.fs_reports.specs.Worded.{rule_line, rule_lines, words_of_held, worded};
 
 use fs_base::{Family, Memory};
 use fs_desk::Desk;
@@ -32,15 +32,9 @@ pub fn desk_words(alloc: Global, desk: &Desk<'_>) -> Result<Vec<u8>, Memory>
 fn append_table(table: &Table<'_>, text: &mut String) -> Result<(), Memory>
     ensures { OnOk result (string_bytes text.new ≡ string_bytes text.old ++ words_of_held table.now) }
 {
-    append_family(Family::V4, table, text)?;
-    append_family(Family::V6, table, text)
-}
-
-/// Appends the lines of a family's admitted rules.
-fn append_family(family: Family, table: &Table<'_>, text: &mut String) -> Result<(), Memory>
-    ensures { OnOk result (string_bytes text.new ≡ string_bytes text.old ++ family_words family table.now) }
-{
-    let rules = table.admitted(family)?;
+    let rules = table.admitted(Family::V4)?;
+    append_rules(&rules, text)?;
+    let rules = table.admitted(Family::V6)?;
     append_rules(&rules, text)
 }
 

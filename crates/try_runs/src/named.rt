@@ -9,7 +9,7 @@ use std::collections::BTreeMap;
 #[derive(Drop)]
 pub struct NamedFiles {
     alloc: Global,
-    held: BTreeMap<String, Vec<u8>>,
+    held: BTreeMap<String, Octets>,
     open: String,
 }
 
@@ -27,7 +27,7 @@ impl NamedFiles {
         self.open.clear();
         self.open.push_str(name)?;
         let key = String::from_str(self.alloc, name)?;
-        match self.held.insert(key, Vec::new(self.alloc)) {
+        match self.held.insert(key, Octets::new(self.alloc)) {
             Ok(_) => Ok(()),
             Err(_) => Err(Fault::Memory),
         }
@@ -41,28 +41,25 @@ impl NamedFiles {
         }
     }
 
+    /// The open file.
+    fn open(&mut self) -> Result<&mut Octets, Fault> {
+        self.held.get_mut(self.open.as_str()).ok_or(Fault::NoName)
+    }
+
     /// Appends octets to the open file.
     pub fn append(&mut self, made: &Octets) -> Result<(), Fault> {
         made.check()?;
-        match self.held.get_mut(self.open.as_str()) {
-            Some(open) => Ok(open.extend_from_slice(made.as_slice())?),
-            None => Err(Fault::NoName),
-        }
+        let open = self.open()?;
+        open.append(made.as_slice());
+        open.check()
     }
 
     /// Writes octets over those of the open file from this place on.
     pub fn put(&mut self, place: usize, made: &Octets) -> Result<(), Fault> {
         made.check()?;
-        let Some(open) = self.held.get_mut(self.open.as_str()) else {
-            return Err(Fault::NoName);
-        };
-        for (offset, octet) in made.as_slice().iter().enumerate() {
-            match open.get_mut(place.saturating_add(offset)) {
-                Some(old) => *old = *octet,
-                None => return Err(Fault::TooLarge),
-            }
-        }
-        Ok(())
+        let open = self.open()?;
+        open.put(place, made.as_slice());
+        open.check()
     }
 
     /// The octets of a field: names of files, and hexadecimal, with spaces between them.

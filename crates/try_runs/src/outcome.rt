@@ -189,14 +189,16 @@ fn run_through<W: Wire>(
     Ok(outcome)
 }
 
-/// Runs the words over the real outside, in which the files that they name stand.
+/// Runs the words over the real outside, in which the files that they name stand, with this peer at the other end of the
+/// connection, if there is one.
 pub fn run_outside(
     rt: &HostRuntime,
     named: &NamedFiles,
     words: &[String],
+    peer: Option<Peer>,
 ) -> Result<Outcome, Fault> {
     let mut wire = RealWire::new(rt);
-    run_through(rt, named, words, &mut AnsweredWire::new(&mut wire, None))
+    run_through(rt, named, words, &mut AnsweredWire::new(&mut wire, peer))
 }
 
 /// Runs the words, and behind them the address of a peer that gives what the terms say, over the real outside: what the
@@ -210,7 +212,7 @@ pub fn run_dialling(
     let peer = Peer::new(rt, terms)?;
     let mut dialling = Vec::new(rt.alloc());
     match append_dialling(words, &peer, &mut dialling) {
-        Ok(()) => run_answered(rt, named, &dialling, peer),
+        Ok(()) => run_outside(rt, named, &dialling, Some(peer)),
         Err(fault) => Err(fault),
     }
 }
@@ -222,19 +224,4 @@ fn append_dialling(words: &[String], peer: &Peer, made: &mut Vec<String>) -> Res
     }
     made.push(peer.address()?)?;
     Ok(())
-}
-
-fn run_answered(
-    rt: &HostRuntime,
-    named: &NamedFiles,
-    words: &[String],
-    peer: Peer,
-) -> Result<Outcome, Fault> {
-    let mut wire = RealWire::new(rt);
-    run_through(
-        rt,
-        named,
-        words,
-        &mut AnsweredWire::new(&mut wire, Some(peer)),
-    )
 }

@@ -8,7 +8,7 @@ use crate::octets::Octets;
 use crate::outcome::{Outcome, run_dialling, run_in_memory, run_outside};
 use crate::shape::fill_number;
 use crate::tally::Tally;
-use crate::terms::{Due, Failing, NUMBERS, Terms};
+use crate::terms::{Due, Failing, Terms};
 use std::alloc::Global;
 
 /// The most calls that are made to fail in turn.
@@ -105,13 +105,15 @@ impl Runner {
             "gives" => self.give(rest),
             "said" => self.expect_said(rest),
             "called" => self.expect_calls(rest),
-            _ if NUMBERS.contains(&word) => self.terms.set(word, rest),
             _ => self.fill(word, rest),
         }
     }
 
-    /// What the files have.
+    /// A number of the terms, or what the files have.
     fn fill(&mut self, word: &str, rest: &str) -> Result<(), Fault> {
+        if self.terms.set(word, rest)? {
+            return Ok(());
+        }
         match word {
             "file" => self.named.begin(rest),
             "let" => self.define(rest),
@@ -241,7 +243,7 @@ impl Runner {
 
     fn run(&self, rt: &HostRuntime, word: &str) -> Result<Outcome, Fault> {
         match word {
-            "real" => run_outside(rt, &self.named, &self.words),
+            "real" => run_outside(rt, &self.named, &self.words, None),
             "dials" => run_dialling(rt, &self.named, &self.words, &self.terms),
             _ => run_in_memory(self.alloc, &self.named, &self.words, &self.terms),
         }

@@ -11,20 +11,6 @@ const AMPLE: u64 = 1 << 40;
 /// More than any run writes to its output.
 const ROOM: u64 = 200_000;
 
-/// The words of the numbers that terms have.
-pub const NUMBERS: [&str; 10] = [
-    "limit",
-    "room",
-    "due",
-    "narrow",
-    "narrow_files",
-    "narrow_output",
-    "fail_file",
-    "fail_write",
-    "fail_wire",
-    "moment",
-];
-
 /// The numbers of the calls that fail.
 #[derive(Drop)]
 pub struct Failing {
@@ -143,14 +129,17 @@ impl Terms {
         }
     }
 
-    /// Sets the number of this word, or adds it to those of the word.
-    pub fn set(&mut self, word: &str, digits: &str) -> Result<(), Fault> {
-        let value = number(digits)?;
-        match self.number(word) {
-            Some(place) => *place = value,
-            None => self.list(word).push(value)?,
+    /// Sets the number of this word, or adds it to those of the word. Answers whether the word is that of a number.
+    pub fn set(&mut self, word: &str, digits: &str) -> Result<bool, Fault> {
+        if let Some(place) = self.number(word) {
+            *place = number(digits)?;
+            return Ok(true);
         }
-        Ok(())
+        if let Some(list) = self.list(word) {
+            list.push(number(digits)?)?;
+            return Ok(true);
+        }
+        Ok(false)
     }
 
     fn number(&mut self, word: &str) -> Option<&mut u64> {
@@ -165,12 +154,13 @@ impl Terms {
         }
     }
 
-    fn list(&mut self, word: &str) -> &mut Vec<u64> {
+    fn list(&mut self, word: &str) -> Option<&mut Vec<u64>> {
         match word {
-            "fail_file" => &mut self.failing.files,
-            "fail_write" => &mut self.failing.output,
-            "fail_wire" => &mut self.failing.wire,
-            _ => &mut self.moments,
+            "fail_file" => Some(&mut self.failing.files),
+            "fail_write" => Some(&mut self.failing.output),
+            "fail_wire" => Some(&mut self.failing.wire),
+            "moment" => Some(&mut self.moments),
+            _ => None,
         }
     }
 

@@ -1,9 +1,9 @@
-use Rattle.std.proofs.Common.{◌⊎◌, inl, le_trans}
+use Rattle.std.proofs.Common.{◌≡◌, ◌⊎◌, inl, le_trans, refl}
 use Rattle.fs_base.specs.Outside.{Rose}
 use Rattle.fs_mrt.specs.Dump.{coming}
-use Rattle.cmd_stages.proofs.Stages.{answered_err, rose_earlier}
-use Rattle.cmd_convert.specs.Command.{ConvertsSo, text_from}
-use Rattle.cmd_convert.proofs.Ending.{all_flushed, dump_ends, never_quiet, not_flushed, outside_quiet, read_verdict}
+use Rattle.cmd_stages.proofs.Stages.{answered_err, finished_by, rose_earlier}
+use Rattle.cmd_convert.specs.Command.{ConvertsSo, IsOfDump, text_from}
+use Rattle.cmd_convert.proofs.Ending.{dump_ends, finished, never_quiet, outside_quiet, read_verdict}
 use Rattle.cmd_convert.proofs.command.convert.Goals as goal
 
 pub returns-in_err-dump-clause-converts : goal.returns-in_err-dump-clause-converts
@@ -14,38 +14,26 @@ returns-in_err-dump-clause-converts g c = λ told.
     (g.F.Files.holds c.load_config.new.files) (Rose (g.F.Files.faults c.load_config.new.files) (g.F.Files.faults c.open_dump.new.files)) _ (g.S.Sink.written c.args.sink.now) c.in_err-dump.field-0.0
     (c.in_ok-config.ensures.reaches told) (c.in_ok-config.ensures.holds told) (c.in_err-dump.ensures.opened told) (λ r. inl (rose_earlier _ _ _ c.in_ok-config.ensures.later r)))
 
-pub returns-in_err-flush-clause-quiet : goal.returns-in_err-flush-clause-quiet
-returns-in_err-flush-clause-quiet g c = outside_quiet c.from_residual-in_err-flush.result c.from_residual-in_err-flush.ensures.1
-
-pub returns-in_err-flush-clause-converts : goal.returns-in_err-flush-clause-converts
-returns-in_err-flush-clause-converts g c = λ told.
-    let all = coming c.in_ok-making.making.config c.in_ok-dump.dump (g.F.Files.left c.open_dump.new.files c.in_ok-dump.dump.slot) in
-    not_flushed c.args.limit (g.F.Files.holds c.args.files.now) (g.F.Files.holds c.load_config.new.files) c.args.names.now.config.now c.args.names.now.dump.now c.in_ok-config.config
-    all.1 (text_from c.in_ok-making.making all.0) c.in_ok-making.making.pending c.convert_dump-converted.new.making.pending
-    (g.S.Sink.written c.args.sink.now) (g.S.Sink.written c.convert_dump-converted.new.sink) (g.S.Sink.written c.flush.new.sink)
-    (g.F.Files.faults c.args.files.now) (g.F.Files.faults c.open_dump.new.files) (g.F.Files.faults c.convert_dump-converted.new.files)
-    (g.S.Sink.faults c.args.sink.now) (g.S.Sink.faults c.convert_dump-converted.new.sink) (g.S.Sink.faults c.flush.new.sink)
-    c.convert_dump-converted.result c.from_residual-in_err-flush.result
-    (c.in_ok-config.ensures.reaches told) (c.in_ok-config.ensures.holds told)
-    (read_verdict c.in_ok-making.making.config c.in_ok-config.config c.args.limit (g.F.Files.holds c.load_config.new.files) c.args.names.now.dump.now (g.F.Files.left c.open_dump.new.files) c.in_ok-dump.dump c.in_ok-making.making.lives
-    c.in_ok-making.ensures.config (c.in_ok-dump.ensures.opened told) c.in_ok-dump.ensures.begun c.in_ok-making.ensures.lives)
-    c.in_ok-making.ensures.pending (c.convert_dump-converted.ensures.made told)
-    c.convert_dump-converted.ensures.sink_later c.in_err-flush.ensures.cause.failed c.in_err-flush.ensures.err c.from_residual-in_err-flush.ensures.1
-
 pub returns-clause-quiet : goal.returns-clause-quiet
-returns-clause-quiet g c = never_quiet _ c.convert_dump-converted.ensures.possible
+returns-clause-quiet g c =
+    finished_by (λ n. (n ≡ 3) ⊎ (n ≡ 6) → c.finish.new.sink ≡ c.args.sink.now) _ _ _ _ _ c.finish.result c.finish.ensures.finishes
+    (never_quiet _ c.convert_dump-converted.ensures.possible) (outside_quiet 1 refl)
+
+pub returns-clause-possible : goal.returns-clause-possible
+returns-clause-possible g c =
+    finished_by IsOfDump _ _ _ _ _ c.finish.result c.finish.ensures.finishes c.convert_dump-converted.ensures.possible.0 (λ e. absurd cc, λ e. absurd cc, λ e. absurd cc)
 
 pub returns-clause-converts : goal.returns-clause-converts
 returns-clause-converts g c = λ told.
     let all = coming c.in_ok-making.making.config c.in_ok-dump.dump (g.F.Files.left c.open_dump.new.files c.in_ok-dump.dump.slot) in
-    all_flushed c.args.limit (g.F.Files.holds c.args.files.now) (g.F.Files.holds c.load_config.new.files) c.args.names.now.config.now c.args.names.now.dump.now c.in_ok-config.config
+    finished c.args.limit (g.F.Files.holds c.args.files.now) (g.F.Files.holds c.load_config.new.files) c.args.names.now.config.now c.args.names.now.dump.now c.in_ok-config.config
     all.1 (text_from c.in_ok-making.making all.0) c.in_ok-making.making.pending c.convert_dump-converted.new.making.pending
-    (g.S.Sink.written c.args.sink.now) (g.S.Sink.written c.convert_dump-converted.new.sink) (g.S.Sink.written c.flush.new.sink)
+    (g.S.Sink.written c.args.sink.now) (g.S.Sink.written c.convert_dump-converted.new.sink) (g.S.Sink.written c.finish.new.sink)
     (g.F.Files.faults c.args.files.now) (g.F.Files.faults c.open_dump.new.files) (g.F.Files.faults c.convert_dump-converted.new.files)
-    (g.S.Sink.faults c.args.sink.now) (g.S.Sink.faults c.convert_dump-converted.new.sink) (g.S.Sink.faults c.flush.new.sink)
-    c.convert_dump-converted.result
+    (g.S.Sink.faults c.args.sink.now) (g.S.Sink.faults c.convert_dump-converted.new.sink) (g.S.Sink.faults c.finish.new.sink)
+    c.convert_dump-converted.result c.finish.result
     (c.in_ok-config.ensures.reaches told) (c.in_ok-config.ensures.holds told)
     (read_verdict c.in_ok-making.making.config c.in_ok-config.config c.args.limit (g.F.Files.holds c.load_config.new.files) c.args.names.now.dump.now (g.F.Files.left c.open_dump.new.files) c.in_ok-dump.dump c.in_ok-making.making.lives
     c.in_ok-making.ensures.config (c.in_ok-dump.ensures.opened told) c.in_ok-dump.ensures.begun c.in_ok-making.ensures.lives)
     c.in_ok-making.ensures.pending (c.convert_dump-converted.ensures.made told)
-    (le_trans c.in_ok-config.ensures.later c.in_ok-dump.ensures.later) c.in_ok-flush.ensures.cause.later c.in_ok-flush.ensures.ok
+    (le_trans c.in_ok-config.ensures.later c.in_ok-dump.ensures.later) c.convert_dump-converted.ensures.sink_later c.finish.ensures.later c.finish.ensures.finishes

@@ -1,11 +1,10 @@
-use Rattle.std.proofs.Common.{◌≡◌, ◌∙◌, ℕ, sym, subst, arith, rules}
+use Rattle.std.proofs.Common.{◌∙◌, arith, rules}
 use Rattle.fs_base.specs.Outside.{Rose}
-use Rattle.fs_base.specs.Parts.{with_part}
-use Rattle.fs_base.specs.declared.config.Config.{Config}
 use Rattle.fs_mrt.specs.Dump.{coming, spoken_from}
 use Rattle.cmd_convert.specs.Lives.{lives_of}
 use Rattle.cmd_convert.specs.Making.{items_from}
-use Rattle.cmd_convert.proofs.Items.{begun_stopped, doing_more, doing_stopped, match_err}
+use Rattle.cmd_stages.proofs.Stages.{match_err}
+use Rattle.cmd_convert.proofs.Converting.{begun_stopped, doing_more, doing_stopped, gives_as}
 use Rattle.cmd_convert.proofs.command.convert_dump.Goals as goal
 
 pub returns-in_err-begin-clause-made : goal.returns-in_err-begin-clause-made
@@ -32,14 +31,8 @@ records-preserved g c =
           doing_more c.args.making.now.config (lives_of c.args.making.now.lives) (lives_of c.records.making.lives) _ _ _ _ _ _
           c.records.making.config (lives_of c.write_heard.new.self.lives) _ _ _ (spoken_from c.in-Some.heard c.next_heard.new.buffer)
           c.records.invariant.config (c.records.invariant.doing told)
-          (subst (λ (config : Config).
-          coming config c.records.dump (g.F.Files.left c.records.files c.records.dump.slot)
-          ≡ with_part (spoken_from c.in-Some.heard c.next_heard.new.buffer) (coming config c.next_heard.new.dump (g.F.Files.left c.next_heard.new.files c.next_heard.new.dump.slot)))
-          (c.config.ensures ∙ c.records.invariant.config)
-          (subst (λ (slot : ℕ).
-          coming c.config.result.now c.records.dump (g.F.Files.left c.records.files c.records.dump.slot)
-          ≡ with_part (spoken_from c.in-Some.heard c.next_heard.new.buffer) (coming c.config.result.now c.next_heard.new.dump (g.F.Files.left c.next_heard.new.files slot)))
-          (sym c.in_ok-heard.ensures.slot) (rw c.in-Some.is at (c.in_ok-heard.ensures.gives told))))
+          (gives_as c.args.making.now.config c.config.result.now c.records.dump c.next_heard.new.dump (g.F.Files.left c.records.files) (g.F.Files.left c.next_heard.new.files) (spoken_from c.in-Some.heard c.next_heard.new.buffer)
+          (c.config.ensures ∙ c.records.invariant.config) c.in_ok-heard.ensures.slot (rw c.in-Some.is at (c.in_ok-heard.ensures.gives told)))
           c.in_ok-write_heard.ensures.lives c.in_ok-write_heard.ensures.sends.ok;
     }
 
@@ -49,12 +42,6 @@ returns-in_err-write_heard-clause-made g c = λ told. match_err _ _ c.from_resid
     c.records.making.config _ _ _ (spoken_from c.in-Some.heard c.next_heard.new.buffer) _
     (g.S.Sink.faults c.args.sink.now) (g.S.Sink.faults c.records.sink) (g.S.Sink.faults c.write_heard.new.sink) refusal
     c.records.invariant.config (c.records.invariant.doing told)
-    (subst (λ (config : Config).
-    coming config c.records.dump (g.F.Files.left c.records.files c.records.dump.slot)
-    ≡ with_part (spoken_from c.in-Some.heard c.next_heard.new.buffer) (coming config c.next_heard.new.dump (g.F.Files.left c.next_heard.new.files c.next_heard.new.dump.slot)))
-    (c.config.ensures ∙ c.records.invariant.config)
-    (subst (λ (slot : ℕ).
-    coming c.config.result.now c.records.dump (g.F.Files.left c.records.files c.records.dump.slot)
-    ≡ with_part (spoken_from c.in-Some.heard c.next_heard.new.buffer) (coming c.config.result.now c.next_heard.new.dump (g.F.Files.left c.next_heard.new.files slot)))
-    (sym c.in_ok-heard.ensures.slot) (rw c.in-Some.is at (c.in_ok-heard.ensures.gives told))))
+    (gives_as c.args.making.now.config c.config.result.now c.records.dump c.next_heard.new.dump (g.F.Files.left c.records.files) (g.F.Files.left c.next_heard.new.files) (spoken_from c.in-Some.heard c.next_heard.new.buffer)
+    (c.config.ensures ∙ c.records.invariant.config) c.in_ok-heard.ensures.slot (rw c.in-Some.is at (c.in_ok-heard.ensures.gives told)))
     c.in_err-write_heard.ensures.sends.err.0 c.records.invariant.sink_later c.in_err-write_heard.ensures.sends.err.1 same)

@@ -1,6 +1,6 @@
 use Rattle.std.proofs.Common.{rules}
 use Rattle.fs_line.proofs.Outputs.{sends_as, sends_stopped, sends_then}
-use Rattle.cmd_convert.proofs.Writing.{record_parts}
+use Rattle.cmd_convert.proofs.Converting.{record_parts}
 use Rattle.cmd_convert.proofs.records.write_record.Goals as goal
 
 pub returns-in_err-put : goal.returns-in_err-put

@@ -12,8 +12,7 @@ use Rattle.cmd_stages.specs.Refusal.{Found, answered}
 use Rattle.cmd_enforce.specs.Command.{EnforcesSo}
 use Rattle.cmd_enforce.specs.Judge.{capture_stage}
 use Rattle.cmd_stages.proofs.Stages.{answered_err, either_rose, rose_earlier}
-use Rattle.cmd_enforce.proofs.Enforcing.{all_to_come, config_ends, tape_ends, answers_so, is_second, never_tape, unfinished_so, whole_played}
-use Rattle.cmd_enforce.proofs.MomentAnswers.{answers_opened, none_judged, wrote_none}
+use Rattle.cmd_enforce.proofs.Enforcing.{all_to_come, answers_opened, answers_so, config_ends, is_second, never_tape, none_judged, tape_ends, unfinished_so, whole_played, wrote_none}
 use Rattle.cmd_enforce.proofs.AtMoments.{packet_wants_none}
 use Rattle.cmd_enforce.proofs.command.enforce.Goals as goal
 

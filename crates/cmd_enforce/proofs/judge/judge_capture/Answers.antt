@@ -1,71 +1,72 @@
-use Rattle.std.proofs.Common.{◌⊎◌, ◌∙◌, inl, inr, ap, refl, subst, sym}
+use Rattle.std.proofs.Common.{◌≡◌, ◌⊎◌, ◌∙◌, inr, ap, le_refl, refl, subst, sym}
 use Rattle.fs_base.specs.Outside.{Rose}
 use Rattle.fs_base.proofs.Grew.{Grew-refl}
 use Rattle.fs_capture.specs.Capture.{coming, recorded}
 use Rattle.cmd_stages.specs.Player.{PlayerState, Stands}
 use Rattle.cmd_stages.specs.Refusal.{Found, answered}
 use Rattle.cmd_stages.specs.declared.refusal.Refusal.TheVariants.{Memory}
-use Rattle.cmd_stages.proofs.Stages.{answered_err}
+use Rattle.cmd_stages.proofs.Stages.{answered_err, finished_by, rose_earlier}
 use Rattle.fs_compile.specs.Matcher.{admitted_in}
 use Rattle.fs_compile.specs.Mending.{AreOwn}
 use Rattle.cmd_enforce.specs.Judge.{IsOfPackets}
 use Rattle.cmd_enforce.specs.Moments.{AnswersAt, WroteJudged}
-use Rattle.cmd_enforce.proofs.MomentAnswers.{none_judged, wrote_none}
+use Rattle.cmd_enforce.proofs.Enforcing.{memory_of_packets, moments_finished, none_by_memory, outside_of_packets, rose_wider, wrote_judged, wrote_none}
+use Rattle.cmd_enforce.proofs.AtMoments.{stands_at}
 use Rattle.cmd_enforce.proofs.judge.judge_capture.Goals as goal
 
 pub returns-in_err-buffer-clause-judges : goal.returns-in_err-buffer-clause-judges
-returns-in_err-buffer-clause-judges g c = λ told items s.
-    answered_err (λ n. AnswersAt c.args.player.desk.config items (Found (recorded (coming c.args.capture.now (g.F.Files.left c.args.files.now 2))))
-    (Rose (g.F.Files.faults c.args.files.now) (g.F.Files.faults c.args.files.now) ⊎ Rose (g.S.Sink.faults c.args.sink.now) (g.S.Sink.faults c.args.sink.now)) (g.S.Sink.written c.args.sink.now) (g.S.Sink.written c.args.sink.now) n)
-    c.from_residual.result Memory c.from_residual.ensures.1
-    (none_judged _ _ _ (Rose (g.F.Files.faults c.args.files.now) (g.F.Files.faults c.args.files.now)) _ _ Memory (inr (inl refl)) (λ r. inl r))
+returns-in_err-buffer-clause-judges g c = λ told items s. none_by_memory c.from_residual.result c.from_residual.ensures.1
 
 pub returns-in_err-lines-clause-judges : goal.returns-in_err-lines-clause-judges
-returns-in_err-lines-clause-judges g c = λ told items s.
-    answered_err (λ n. AnswersAt c.args.player.desk.config items (Found (recorded (coming c.args.capture.now (g.F.Files.left c.args.files.now 2))))
-    (Rose (g.F.Files.faults c.args.files.now) (g.F.Files.faults c.args.files.now) ⊎ Rose (g.S.Sink.faults c.args.sink.now) (g.S.Sink.faults c.args.sink.now)) (g.S.Sink.written c.args.sink.now) (g.S.Sink.written c.args.sink.now) n)
-    c.from_residual-in_err-lines.result Memory c.from_residual-in_err-lines.ensures.1
-    (none_judged _ _ _ (Rose (g.F.Files.faults c.args.files.now) (g.F.Files.faults c.args.files.now)) _ _ Memory (inr (inl refl)) (λ r. inl r))
+returns-in_err-lines-clause-judges g c = λ told items s. none_by_memory c.from_residual-in_err-lines.result c.from_residual-in_err-lines.ensures.1
 
 pub returns-in_err-following-clause-judges : goal.returns-in_err-following-clause-judges
-returns-in_err-following-clause-judges g c = λ told items s.
-    answered_err (λ n. AnswersAt c.args.player.desk.config items (Found (recorded (coming c.args.capture.now (g.F.Files.left c.args.files.now 2))))
-    (Rose (g.F.Files.faults c.args.files.now) (g.F.Files.faults c.args.files.now) ⊎ Rose (g.S.Sink.faults c.args.sink.now) (g.S.Sink.faults c.args.sink.now)) (g.S.Sink.written c.args.sink.now) (g.S.Sink.written c.args.sink.now) n)
-    c.from_residual-in_err-following.result Memory c.from_residual-in_err-following.ensures.1
-    (none_judged _ _ _ (Rose (g.F.Files.faults c.args.files.now) (g.F.Files.faults c.args.files.now)) _ _ Memory (inr (inl refl)) (λ r. inl r))
+returns-in_err-following-clause-judges g c = λ told items s. none_by_memory c.from_residual-in_err-following.result c.from_residual-in_err-following.ensures.1
 
 pub returns-clause-judges : goal.returns-clause-judges
 returns-clause-judges g c = λ told items s.
     subst (λ (p : PlayerState). AnswersAt p.desk.config items (Found (recorded (coming c.args.capture.now (g.F.Files.left c.args.files.now 2))))
-    (Rose (g.F.Files.faults c.args.files.now) (g.F.Files.faults c.judge_all-judged.new.files) ⊎ Rose (g.S.Sink.faults c.args.sink.now) (g.S.Sink.faults c.judge_all-judged.new.sink))
-    (g.S.Sink.written c.args.sink.now) (g.S.Sink.written c.judge_all-judged.new.sink) (answered c.judge_all-judged.result)) c.in_ok-following.ensures.same
-    (c.judge_all-judged.ensures.judges told items
-    (subst (λ (p : PlayerState). Stands items 0 p (g.F.Files.left c.args.files.now 1)) (sym c.in_ok-following.ensures.same) s))
+    (Rose (g.F.Files.faults c.args.files.now) (g.F.Files.faults c.judge_packets-judged.new.files) ⊎ Rose (g.S.Sink.faults c.args.sink.now) (g.S.Sink.faults c.finish.new.sink))
+    (g.S.Sink.written c.args.sink.now) (g.S.Sink.written c.finish.new.sink) (answered c.finish.result)) c.in_ok-following.ensures.same
+    (moments_finished _ items (coming c.args.capture.now (g.F.Files.left c.args.files.now 2)) _ _ _ _ _ _ _ _ _ c.judge_packets-judged.result c.finish.result c.in_ok-lines.ensures.0
+    (c.judge_packets-judged.ensures.judged told items
+    (subst (λ (p : PlayerState). Stands items c.args.capture.now.moment p (g.F.Files.left c.args.files.now 1)) (sym c.in_ok-following.ensures.same)
+    (stands_at items 0 c.args.capture.now.moment c.args.player (g.F.Files.left c.args.files.now) 1 (sym c.requires.moment) refl s)))
+    c.finish.ensures.finishes
+    (rose_wider _ _ _ _ _ _ (le_refl (g.F.Files.faults c.args.files.now)) c.finish.ensures.later)
+    (λ r. inr (rose_earlier _ _ _ c.judge_packets-judged.ensures.sink_later r)))
+
+pub returns-clause-possible : goal.returns-clause-possible
+returns-clause-possible g c =
+    finished_by IsOfPackets _ _ _ _ _ c.finish.result c.finish.ensures.finishes c.judge_packets-judged.ensures.possible outside_of_packets
 
 pub returns-clause-unwritten : goal.returns-clause-unwritten
-returns-clause-unwritten g c = λ none six. c.judge_all-judged.ensures.unwritten (ap (λ (p : PlayerState). p.ahead) c.in_ok-following.ensures.same ∙ none) six
+returns-clause-unwritten g c = λ none six.
+    let due = finished_by (λ n. n ≡ 6 → answered c.judge_packets-judged.result ≡ 6) _ _ _ _ _ c.finish.result c.finish.ensures.finishes (λ e. e) (λ e. absurd cc) six in
+    let kept = c.judge_packets-judged.ensures.early (ap (λ (p : PlayerState). p.ahead) c.in_ok-following.ensures.same ∙ none) due in
+    (c.finish.ensures.idle (kept.3 ∙ c.in_ok-lines.ensures.0) ∙ kept.0, kept.1, kept.2)
 
 pub returns-in_err-buffer-clause-wanting : goal.returns-in_err-buffer-clause-wanting
-returns-in_err-buffer-clause-wanting g c = λ told six items s.
-    wrote_none c.args.player.desk.config items (coming c.args.capture.now (g.F.Files.left c.args.files.now 2)).0 _ (g.S.Sink.written c.args.sink.now) _ refl (Grew-refl (g.S.Sink.written c.args.sink.now))
+returns-in_err-buffer-clause-wanting g c = λ told six items s. wrote_none _ _ _ _ _ _ refl (Grew-refl (g.S.Sink.written c.args.sink.now))
 
 pub returns-in_err-lines-clause-wanting : goal.returns-in_err-lines-clause-wanting
-returns-in_err-lines-clause-wanting g c = λ told six items s.
-    wrote_none c.args.player.desk.config items (coming c.args.capture.now (g.F.Files.left c.args.files.now 2)).0 _ (g.S.Sink.written c.args.sink.now) _ refl (Grew-refl (g.S.Sink.written c.args.sink.now))
+returns-in_err-lines-clause-wanting g c = λ told six items s. wrote_none _ _ _ _ _ _ refl (Grew-refl (g.S.Sink.written c.args.sink.now))
 
 pub returns-in_err-following-clause-wanting : goal.returns-in_err-following-clause-wanting
-returns-in_err-following-clause-wanting g c = λ told six items s.
-    wrote_none c.args.player.desk.config items (coming c.args.capture.now (g.F.Files.left c.args.files.now 2)).0 _ (g.S.Sink.written c.args.sink.now) _ refl (Grew-refl (g.S.Sink.written c.args.sink.now))
+returns-in_err-following-clause-wanting g c = λ told six items s. wrote_none _ _ _ _ _ _ refl (Grew-refl (g.S.Sink.written c.args.sink.now))
 
 pub returns-clause-wanting : goal.returns-clause-wanting
 returns-clause-wanting g c = λ told six items s.
     subst (λ (p : PlayerState). WroteJudged p.desk.config items (coming c.args.capture.now (g.F.Files.left c.args.files.now 2)).0
-    (coming c.judge_all-judged.new.capture (g.F.Files.left c.judge_all-judged.new.files 2)).0 (g.S.Sink.written c.args.sink.now) (g.S.Sink.written c.judge_all-judged.new.sink)) c.in_ok-following.ensures.same
-    (c.judge_all-judged.ensures.wanting told six items
-    (subst (λ (p : PlayerState). Stands items 0 p (g.F.Files.left c.args.files.now 1)) (sym c.in_ok-following.ensures.same) s))
+    (coming c.judge_packets-judged.new.capture (g.F.Files.left c.judge_packets-judged.new.files 2)).0 (g.S.Sink.written c.args.sink.now) (g.S.Sink.written c.finish.new.sink)) c.in_ok-following.ensures.same
+    (wrote_judged _ items (coming c.args.capture.now (g.F.Files.left c.args.files.now 2)) _ _ _ _ _ _ _ _ c.judge_packets-judged.result c.finish.result c.in_ok-lines.ensures.0
+    (c.judge_packets-judged.ensures.judged told items
+    (subst (λ (p : PlayerState). Stands items c.args.capture.now.moment p (g.F.Files.left c.args.files.now 1)) (sym c.in_ok-following.ensures.same)
+    (stands_at items 0 c.args.capture.now.moment c.args.player (g.F.Files.left c.args.files.now) 1 (sym c.requires.moment) refl s)))
+    c.finish.ensures.finishes six)
 
-pub judge_all-judged-requires-clause-own : goal.judge_all-judged-requires-clause-own
-judge_all-judged-requires-clause-own g c = subst (λ (p : PlayerState). AreOwn (admitted_in p.desk.held)) (sym c.in_ok-following.ensures.same) c.in_ok-following.ensures.own
+pub judge_packets-judged-requires-clause-own : goal.judge_packets-judged-requires-clause-own
+judge_packets-judged-requires-clause-own g c = subst (λ (p : PlayerState). AreOwn (admitted_in p.desk.held)) (sym c.in_ok-following.ensures.same) c.in_ok-following.ensures.own
 
 pub returns-in_err-lines-clause-possible : goal.returns-in_err-lines-clause-possible
-returns-in_err-lines-clause-possible g c = answered_err IsOfPackets c.from_residual-in_err-lines.result Memory c.from_residual-in_err-lines.ensures.1 (λ e. absurd cc, λ e. absurd cc, λ e. absurd cc)
+returns-in_err-lines-clause-possible g c = answered_err IsOfPackets c.from_residual-in_err-lines.result Memory c.from_residual-in_err-lines.ensures.1 memory_of_packets

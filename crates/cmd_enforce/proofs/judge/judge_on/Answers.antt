@@ -7,8 +7,7 @@ use Rattle.cmd_stages.specs.Player.{Stands}
 use Rattle.cmd_enforce.specs.Judge.{Ceases, IsOfCapture, admitted_rules}
 use Rattle.cmd_enforce.specs.Matcher.{HasRoom}
 use Rattle.cmd_enforce.specs.Moments.{Follows}
-use Rattle.cmd_stages.proofs.LookingAhead.{match_err}
-use Rattle.cmd_stages.proofs.Stages.{answered_err}
+use Rattle.cmd_stages.proofs.Stages.{answered_err, match_err}
 use Rattle.cmd_enforce.proofs.AtMoments.{awaits, followed_ceased, followed_hand, followed_more, followed_read, followed_stopped, followed_wanting, hand_counted, hand_fits, hand_unjudged, number_fits, packet_wants_none, read_on, stopped_hand}
 use Rattle.cmd_enforce.proofs.judge.judge_on.Goals as goal
 

@@ -7,8 +7,7 @@ use Rattle.fs_input.specs.Records.{done}
 use Rattle.cmd_stages.specs.Play.{until}
 use Rattle.cmd_enforce.specs.Moments.{BreaksOff, Follows}
 use Rattle.cmd_stages.specs.Refusal.{status_of}
-use Rattle.cmd_stages.proofs.LookingAhead.{match_err}
-use Rattle.cmd_stages.proofs.Stages.{answered_err}
+use Rattle.cmd_stages.proofs.Stages.{answered_err, match_err}
 use Rattle.cmd_enforce.specs.Judge.{IsOfPackets}
 use Rattle.cmd_enforce.proofs.AtMoments.{breaks_wider, capture_apart, followed_as, followed_done, followed_first, followed_unplayed, never_due, rose_back, six_of, stands_as, stands_at}
 use Rattle.cmd_enforce.proofs.judge.judge_packets.Goals as goal

@@ -1,17 +1,20 @@
 use Rattle.std.proofs.Common.{◌≡◌, ◌∙◌, ◌+◌, ap, sym, subst, arith}
+use Rattle.fs_base.specs.declared.link.Link.TheVariants.{Raw}
+use Rattle.fs_packet.specs.Reading.{view_of}
+use Rattle.cmd_gen.specs.Command.{is_dropped, is_passed}
 use Rattle.cmd_gen.specs.Draws.{behind_pair, behind_pairs, pair_behind}
 use Rattle.cmd_gen.specs.Generator.{packet_of}
 use Rattle.cmd_enforce.specs.Matcher.{HasRoom}
 use Rattle.cmd_gen.specs.Tally.{drops, passes}
-use Rattle.cmd_gen.proofs.Generating.{dropped_after, dropped_none, few_more, packet_is, packet_state, passed_after, passed_none}
+use Rattle.cmd_gen.proofs.Generating.{counted_after, counted_none, few_more, packet_is, packet_state}
 use Rattle.cmd_gen.proofs.command.count_packets.Goals as goal
 
 pub packets-init : goal.packets-init
 packets-init c = record {
   draws = let same : c.args.count ≡ c.args.count + 0 = omega arith in c.requires.seed ∙ ap (behind_pairs c.args.count) same;
   room = c.requires.room;
-  passed = λ admitted stands. passed_none admitted c.args.count;
-  dropped = λ admitted stands. dropped_none admitted c.args.count;
+  passed = λ admitted stands. counted_none (λ octets. is_passed admitted (view_of Raw octets)) c.args.count;
+  dropped = λ admitted stands. counted_none (λ octets. is_dropped admitted (view_of Raw octets)) c.args.count;
   passed_few = omega arith;
   dropped_few = omega arith;
 }
@@ -20,9 +23,9 @@ pub packets-preserved : goal.packets-preserved
 packets-preserved c = record {
   draws = c.pair.ensures.state ∙ ap behind_pair c.packets.invariant.draws ∙ sym (packet_state c.args.count c.packets.counter);
   room = subst (HasRoom c.args.rules.now) (sym c.fate_of.ensures.room) c.packets.invariant.room;
-  passed = λ admitted stands. passed_after admitted c.args.count c.packets.counter c.packets.tally.passed c.with-tally.result.passed c.packet-packet.result (passes c.fate_of.result)
+  passed = λ admitted stands. counted_after (λ octets. is_passed admitted (view_of Raw octets)) c.args.count c.packets.counter c.packets.tally.passed c.with-tally.result.passed c.packet-packet.result (passes c.fate_of.result)
       drawn (c.packets.invariant.passed admitted stands) c.with-tally.ensures.passed (c.fate_of.ensures.passes admitted stands);
-  dropped = λ admitted stands. dropped_after admitted c.args.count c.packets.counter c.packets.tally.dropped c.with-tally.result.dropped c.packet-packet.result (drops c.fate_of.result)
+  dropped = λ admitted stands. counted_after (λ octets. is_dropped admitted (view_of Raw octets)) c.args.count c.packets.counter c.packets.tally.dropped c.with-tally.result.dropped c.packet-packet.result (drops c.fate_of.result)
       drawn (c.packets.invariant.dropped admitted stands) c.with-tally.ensures.dropped (c.fate_of.ensures.drops admitted stands);
   passed_few = few_more (passes c.fate_of.result) c.packets.tally.passed c.with-tally.result.passed c.packets.counter c.packets.invariant.passed_few c.with-tally.ensures.passed;
   dropped_few = few_more (drops c.fate_of.result) c.packets.tally.dropped c.with-tally.result.dropped c.packets.counter c.packets.invariant.dropped_few c.with-tally.ensures.dropped;

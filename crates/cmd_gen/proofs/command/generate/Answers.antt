@@ -1,20 +1,18 @@
-use Rattle.std.proofs.Common.{◌∙◌, inl, refl}
-use Rattle.fs_base.specs.Outside.{Rose}
-use Rattle.fs_base.proofs.Grew.{Grew-refl}
-use Rattle.cmd_stages.specs.declared.refusal.Refusal.TheVariants.{Memory}
-use Rattle.cmd_stages.proofs.Stages.{answered_err}
-use Rattle.cmd_gen.specs.Command.{GeneratesSo}
-use Rattle.cmd_gen.proofs.Generating.{written}
+use Rattle.std.proofs.Common.{◌≡◌, IfOk, inr, subst}
+use Rattle.fs_desk.proofs.Leaves.{played_leaves}
+use Rattle.fs_rules.specs.Table.{Held}
+use Rattle.cmd_stages.proofs.Texts.{said_so}
+use Rattle.cmd_gen.specs.Command.{gen_text}
+use Rattle.cmd_gen.specs.Configuration.{three_peers}
+use Rattle.cmd_gen.specs.Generator.{tape_of_seed}
 use Rattle.cmd_gen.proofs.command.generate.Goals as goal
 
 pub returns-clause-generates : goal.returns-clause-generates
-returns-clause-generates g c =
-    written c.args.count c.in_ok-desk.desk c.table.result.now (Rose (g.S.Sink.faults c.args.sink.now) (g.S.Sink.faults c.write_text.new.sink))
-    (g.S.Sink.written c.args.sink.now) (g.S.Sink.written c.write_text.new.sink) c.deref.result.now c.write_text.result
-    c.in_ok-desk.ensures.played c.table.ensures.table (c.deref.ensures.value ∙ c.in_ok-text.ensures) c.write_text.ensures.written
-
-pub returns-in_err-text-clause-generates : goal.returns-in_err-text-clause-generates
-returns-in_err-text-clause-generates g c =
-    answered_err (λ n. GeneratesSo c.args.count (Rose (g.S.Sink.faults c.args.sink.now) (g.S.Sink.faults c.args.sink.now))
-    (g.S.Sink.written c.args.sink.now) (g.S.Sink.written c.args.sink.now) n)
-    c.from_residual-in_err-text.result Memory c.from_residual-in_err-text.ensures.1 (inl (refl, Grew-refl (g.S.Sink.written c.args.sink.now)))
+returns-clause-generates g c = inr (record {
+  held = c.in_ok-desk.desk.held;
+  leaves = played_leaves three_peers (tape_of_seed c.args.count) c.in_ok-desk.desk c.in_ok-desk.ensures.played;
+  answers = said_so (gen_text c.args.count c.in_ok-desk.desk.held) _ _ _ _ c.write_made.result
+      (c.write_made.ensures.written (gen_text c.args.count c.in_ok-desk.desk.held)
+      (subst (λ (held : Held). IfOk c.gen_text.result (λ text. text.items ≡ gen_text c.args.count held)) c.table.ensures.table c.gen_text.ensures))
+      (λ f. f);
+})

@@ -2,12 +2,13 @@ use Rattle.std.proofs.Common.{List, ℕ, OnOk, subst}
 use Rattle.fs_desk.specs.Desk.{Plays}
 use Rattle.cmd_gen.specs.Messages.{keepalive, open_of}
 use Rattle.fs_tape.specs.Tape.{came_up, received}
-use Rattle.cmd_gen.proofs.Generating.{on_ok, opened}
+use Rattle.std.proofs.lemmas.Result.{on_ok_weaker}
+use Rattle.cmd_gen.proofs.Generating.{opened}
 use Rattle.cmd_gen.proofs.command.open_session.Goals as goal
 
 pub returns-clause-played : goal.returns-clause-played
 returns-clause-played c =
-    on_ok c.octets-2.result (λ third config items p.
+    on_ok_weaker c.octets-2.result (λ third config items p.
     opened config items (came_up c.args.peer) (received c.args.peer (open_of c.args.peer)) (received c.args.peer keepalive) c.octets-2.new.self
     (third config _ (second config _ (c.in_ok-up.ensures.played config items p))))
     (subst (λ (octets : List ℕ). OnOk c.octets-2.result (Plays (received c.args.peer octets) c.octets.new.self c.octets-2.new.self)) c.keepalive.ensures c.octets-2.ensures.played)

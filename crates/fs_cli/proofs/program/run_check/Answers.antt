@@ -1,9 +1,14 @@
-use Rattle.std.proofs.Common.{true, false}
-use Rattle.fs_cli.proofs.Checking.{says_as}
+use Rattle.std.proofs.Common.{List, ℕ, inl, inr, subst}
+use Rattle.fs_base.specs.Sink.{Grew}
+use Rattle.cmd_stages.proofs.Texts.{said_by}
+use Rattle.fs_cli.specs.Program.{checked}
 use Rattle.fs_cli.proofs.program.run_check.Goals as goal
 
-pub returns-in-Ok-true-clause-checks : goal.returns-in-Ok-true-clause-checks
-returns-in-Ok-true-clause-checks g c = says_as _ _ _ _ _ true c.in-Ok-true.field-0 c.in-Ok-true.field-0-test c.in-Ok-true.ensures.written
-
-pub returns-in-Ok-false-clause-checks : goal.returns-in-Ok-false-clause-checks
-returns-in-Ok-false-clause-checks g c = says_as _ _ _ _ _ false c.in-Ok-false.field-0 c.in-Ok-false.field-0-test c.in-Ok-false.ensures.written
+pub returns-in-Ok-write_all-clause-checks : goal.returns-in-Ok-write_all-clause-checks
+returns-in-Ok-write_all-clause-checks g c = inr (record {
+  accepted = c.in-Ok.report.accepted;
+  text = c.in-Ok.report.text.items;
+  reports = c.in-Ok.ensures;
+  answers = said_by (checked c.in-Ok.report.accepted) c.in-Ok.report.text.items _ _ _ _ (inl c.checked.ensures)
+      (subst (λ (text : List ℕ). Grew (g.S.Sink.written c.args.sink.now) (g.S.Sink.written c.write_all.new.sink) text) c.deref.ensures.value c.in-Ok-write_all.ensures.ok);
+})

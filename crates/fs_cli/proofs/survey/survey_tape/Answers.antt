@@ -1,4 +1,5 @@
 use Rattle.std.proofs.Common.{◌⊎◌, inl, inr}
+use Rattle.std.proofs.lemmas.Result.{IfOk-weaker}
 use Rattle.fs_base.specs.Outside.{Rose}
 use Rattle.fs_base.proofs.Grew.{Grew-trans}
 use Rattle.fs_cli.specs.Survey.{ListsSo, text_for}
@@ -12,19 +13,20 @@ use Rattle.fs_cli.proofs.survey.survey_tape.Goals as goal
 pub returns-in_err-config-clause-lists : goal.returns-in_err-config-clause-lists
 returns-in_err-config-clause-lists g c = λ told.
     answered_err (λ n. ListsSo (text_for c.args.survey) c.args.limit (g.F.Files.holds c.args.files.now) c.args.names.now.config.now c.args.names.now.tape.now (Rose (g.F.Files.faults c.args.files.now) (g.F.Files.faults c.load_config.new.files) ⊎ Rose (g.S.Sink.faults c.args.sink.now) (g.S.Sink.faults c.args.sink.now)) (g.S.Sink.written c.args.sink.now) (g.S.Sink.written c.args.sink.now) n) c.from_residual.result c.in_err-config.field-0.0 c.from_residual.ensures.1
-    (config_unlisted (text_for c.args.survey) c.args.limit (g.F.Files.holds c.args.files.now) c.args.names.now.config.now c.args.names.now.tape.now (Rose (g.F.Files.faults c.args.files.now) (g.F.Files.faults c.load_config.new.files)) (Rose (g.F.Files.faults c.args.files.now) (g.F.Files.faults c.load_config.new.files) ⊎ Rose (g.S.Sink.faults c.args.sink.now) (g.S.Sink.faults c.args.sink.now)) (g.S.Sink.written c.args.sink.now) c.in_err-config.field-0.0 (c.in_err-config.ensures.reaches told) (λ r. inl r))
+    (config_unlisted (text_for c.args.survey) c.args.limit (g.F.Files.holds c.args.files.now) c.args.names.now.config.now c.args.names.now.tape.now (Rose (g.F.Files.faults c.args.files.now) (g.F.Files.faults c.load_config.new.files)) (Rose (g.F.Files.faults c.args.files.now) (g.F.Files.faults c.load_config.new.files) ⊎ Rose (g.S.Sink.faults c.args.sink.now) (g.S.Sink.faults c.args.sink.now)) (g.S.Sink.written c.args.sink.now) c.in_err-config.field-0.0 (c.in_err-config.ensures.reaches told) c.in_err-config.ensures.possible.0 (λ r. inl r))
 
 pub returns-in-Ok-clause-lists : goal.returns-in-Ok-clause-lists
 returns-in-Ok-clause-lists g c = λ told.
-    desk_listed (text_for c.args.survey) c.args.limit (g.F.Files.holds c.args.files.now) (g.F.Files.holds c.load_config.new.files) c.args.names.now.config.now c.args.names.now.tape.now c.in_ok-config.config c.in-Ok.desk
-    (Rose (g.S.Sink.faults c.args.sink.now) (g.S.Sink.faults c.write_survey.new.sink)) (Rose (g.F.Files.faults c.args.files.now) (g.F.Files.faults c.play_tape.new.files) ⊎ Rose (g.S.Sink.faults c.args.sink.now) (g.S.Sink.faults c.write_survey.new.sink)) (g.S.Sink.written c.args.sink.now) (g.S.Sink.written c.write_survey.new.sink) c.write_survey.result
-    (c.in_ok-config.ensures.reaches told) (c.in_ok-config.ensures.holds told) (c.in-Ok.ensures.played told) (λ r. inr r)
-    (c.write_survey.ensures.listed c.in_ok-config.config (untimed (c.in-Ok.ensures.played told).items) (c.in-Ok.ensures.played told).played)
+    desk_listed (text_for c.args.survey) c.args.limit (g.F.Files.holds c.args.files.now) (g.F.Files.holds c.load_config.new.files) c.args.names.now.config.now c.args.names.now.tape.now c.in_ok-config.config c.in-Ok.whole.desk
+    (Rose (g.S.Sink.faults c.args.sink.now) (g.S.Sink.faults c.write_made.new.sink)) (Rose (g.F.Files.faults c.args.files.now) (g.F.Files.faults c.play_whole.new.files) ⊎ Rose (g.S.Sink.faults c.args.sink.now) (g.S.Sink.faults c.write_made.new.sink)) (g.S.Sink.written c.args.sink.now) (g.S.Sink.written c.write_made.new.sink) c.write_made.result
+    (c.in_ok-config.ensures.reaches told) (c.in_ok-config.ensures.holds told) (c.in-Ok.ensures.played told).played (λ r. inr r)
+    (c.write_made.ensures.written (text_for c.args.survey c.in_ok-config.config (untimed (c.in-Ok.ensures.played told).played.items) c.in-Ok.whole.desk.held)
+    (IfOk-weaker c.survey_text.result _ _ (λ text h. h c.in_ok-config.config (untimed (c.in-Ok.ensures.played told).played.items) (c.in-Ok.ensures.played told).played.played) c.survey_text.ensures))
 
 pub returns-clause-lists : goal.returns-clause-lists
 returns-clause-lists g c = λ told.
     tape_unlisted (text_for c.args.survey) c.args.limit (g.F.Files.holds c.args.files.now) (g.F.Files.holds c.load_config.new.files) c.args.names.now.config.now c.args.names.now.tape.now c.in_ok-config.config
-    (Rose (g.F.Files.faults c.load_config.new.files) (g.F.Files.faults c.play_tape.new.files)) (Rose (g.S.Sink.faults c.args.sink.now) (g.S.Sink.faults c.tell_refusal.new.sink)) (Rose (g.F.Files.faults c.args.files.now) (g.F.Files.faults c.play_tape.new.files) ⊎ Rose (g.S.Sink.faults c.args.sink.now) (g.S.Sink.faults c.tell_refusal.new.sink)) (g.S.Sink.written c.args.sink.now) (g.S.Sink.written c.tell_refusal.new.sink) c.in-Err.refusal c.tell_refusal.result
+    (Rose (g.F.Files.faults c.load_config.new.files) (g.F.Files.faults c.play_whole.new.files)) (Rose (g.S.Sink.faults c.args.sink.now) (g.S.Sink.faults c.tell_refusal.new.sink)) (Rose (g.F.Files.faults c.args.files.now) (g.F.Files.faults c.play_whole.new.files) ⊎ Rose (g.S.Sink.faults c.args.sink.now) (g.S.Sink.faults c.tell_refusal.new.sink)) (g.S.Sink.written c.args.sink.now) (g.S.Sink.written c.tell_refusal.new.sink) c.in-Err.refusal c.tell_refusal.result
     (c.in_ok-config.ensures.reaches told) (c.in_ok-config.ensures.holds told) (c.in-Err.ensures.played told) (λ r. inl (rose_earlier _ _ _ c.in_ok-config.ensures.later r)) (λ r. inr r)
     c.tell_refusal.ensures.said
 
@@ -35,7 +37,7 @@ returns-in_err-config-clause-opens g c =
 
 pub returns-in-Ok-clause-opens : goal.returns-in-Ok-clause-opens
 returns-in-Ok-clause-opens g c =
-    inr (c.write_survey.ensures.late.0, Grew-trans _ _ _ _ _ c.in_ok-config.ensures.opens c.in-Ok.ensures.opens)
+    inr (c.write_made.ensures.late.0, Grew-trans _ _ _ _ _ c.in_ok-config.ensures.opens c.in-Ok.ensures.opens)
 
 pub returns-clause-opens : goal.returns-clause-opens
 returns-clause-opens g c =

@@ -4,7 +4,7 @@ use Rattle.fs_mrt.specs.Dump.{said_from}
 use Rattle.fs_mrt.specs.declared.heard.What.{What}
 use Rattle.cmd_convert.specs.Lives.{lives_of}
 use Rattle.cmd_convert.specs.Making.{made_by, text_at}
-use Rattle.cmd_convert.proofs.Writing.{change_lives}
+use Rattle.cmd_convert.proofs.Converting.{change_lives}
 use Rattle.cmd_convert.proofs.making.Making.write_heard.Goals as goal
 
 pub returns-in-Change-clause-lives : goal.returns-in-Change-clause-lives

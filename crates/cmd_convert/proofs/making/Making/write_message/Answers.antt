@@ -5,7 +5,7 @@ use Rattle.fs_tape.specs.Tape.{received}
 use Rattle.fs_tape.specs.declared.magic.Version.TheVariants.{Two}
 use Rattle.cmd_convert.specs.Lives.{has_width, lives_of}
 use Rattle.cmd_convert.specs.Making.{is_taken}
-use Rattle.cmd_convert.proofs.Writing.{message_text, sends_from}
+use Rattle.cmd_convert.proofs.Converting.{message_text, sends_from}
 use Rattle.cmd_convert.proofs.making.Making.write_message.Goals as goal
 
 pub returns-in_err-open-clause-sends : goal.returns-in_err-open-clause-sends
@@ -20,4 +20,4 @@ returns-clause-sends g c =
     let taken : is_taken c.args.octets.now ≡ true = search rules in
     let other : has_width (lives_of c.args.self.now.lives c.args.stamp.peer) c.args.wide ≡ false = search rules in
     sends_as (message_text c.args.stamp.moment c.args.self.now.config c.args.stamp.peer c.args.wide c.args.octets.now (lives_of c.args.self.now.lives c.args.stamp.peer) taken other)
-    (sends_then c.in_ok-open.ensures.sends (sends_from (search rules) c.write_received-2.ensures))
+    (sends_then c.in_ok-open.ensures.sends (sends_from (search rules) c.write_record-2.ensures))

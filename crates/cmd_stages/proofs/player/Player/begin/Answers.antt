@@ -3,7 +3,8 @@ use Rattle.std.specs.Vec.{with_items}
 use Rattle.std.proofs.lemmas.List.{with_items_is}
 use Rattle.fs_tape.specs.Header.{longest_payload}
 use Rattle.cmd_stages.specs.Player.{IsReady, Stands}
-use Rattle.cmd_stages.proofs.LookingAhead.{match_err, player_with, ready_ahead, slots_then, stands_begun, unbegun, with_room}
+use Rattle.cmd_stages.proofs.Stages.{match_err}
+use Rattle.cmd_stages.proofs.LookingAhead.{player_with, ready_ahead, slots_then, stands_begun, unbegun, with_room}
 use Rattle.cmd_stages.proofs.player.Player.begin.Goals as goal
 
 pub returns-in_err-ahead-clause-begun : goal.returns-in_err-ahead-clause-begun

@@ -4,7 +4,8 @@ use Rattle.fs_desk.specs.Desk.{Desked}
 use Rattle.fs_desk.specs.Leaves.{Leaves}
 use Rattle.cmd_stages.specs.Play.{IsOpenOrDone, until}
 use Rattle.cmd_stages.specs.Player.{PlayerState, Stands, due_item}
-use Rattle.cmd_stages.proofs.LookingAhead.{covers_first, due_is, fewer_left, leaves_until, match_err, never_due, rose_on, stands_noted}
+use Rattle.cmd_stages.proofs.Stages.{match_err}
+use Rattle.cmd_stages.proofs.LookingAhead.{covers_first, due_is, fewer_left, leaves_until, never_due, rose_on, stands_noted}
 use Rattle.cmd_stages.proofs.player.Player.play_to.Goals as goal
 
 pub returns-in_err-step-clause-played : goal.returns-in_err-step-clause-played

@@ -1,26 +1,74 @@
--- A dump that is converted record by record.
-use Rattle.std.proofs.Common.{◌≡◌, ◌⊎◌, inr, ◌≤◌, ℕ, List, ◌++◌, Option, Result, Ok, Err, ap, sym, ◌∙◌, subst, append_assoc, arith}
-use Rattle.std.specs.Prelude.{flat_map}
-use Rattle.std.specs.Result.{MatchResult, IsErrAnd}
+-- A dump that is converted record by record: the texts that are written, in their parts, and what of all records they are.
+use Rattle.std.proofs.Common.{◌≡◌, ℕ, Bool, Option, Result, Ok, Err, OnOk, subst, true, false, List, [], ◌∷◌, ◌++◌, length, refl, ap, sym, ◌∙◌, append_assoc, append-nil, ◌⊎◌, inr, ◌≤◌, arith}
 use Rattle.std.proofs.lemmas.Grind.{flat_map-append}
+use Rattle.byteorder.specs.Endian.{big_bytes}
+use Rattle.fs_base.specs.declared.config.Config.{Config}
+use Rattle.fs_line.specs.Output.{Sent, Goes, Stops}
+use Rattle.fs_mrt.specs.Dump.{DumpState, coming, said_from}
+use Rattle.fs_mrt.specs.Record.{change, message, Spoken}
+use Rattle.fs_mrt.specs.declared.heard.What.{What}
+use Rattle.fs_mrt.specs.declared.heard.What.TheVariants.{Change}
+use Rattle.fs_tape.specs.Laws.{item_text_at, record_text, item_text, tape_text}
+use Rattle.fs_tape.specs.Tape.{Item, came_up, received, Timed, timed}
+use Rattle.fs_tape.specs.declared.magic.Version.TheVariants.{Two}
+use Rattle.cmd_convert.specs.Greeting.{greeting}
+use Rattle.cmd_convert.specs.Lives.{Life, Lives, has_width, with_life}
+use Rattle.cmd_convert.specs.Making.{asn_of, ended, is_taken, made_by, opening, text_at, items_from, made, timed_at}
+use Rattle.std.specs.Prelude.{flat_map}
 use Rattle.std.proofs.lemmas.List.Folds.{flat_map-map}
 use Rattle.fs_base.specs.Outside.{Rose}
 use Rattle.fs_base.specs.Parts.{with_part}
-use Rattle.fs_base.specs.declared.config.Config.{Config}
 use Rattle.fs_input.specs.Records.{End}
-use Rattle.fs_line.specs.Output.{Goes, Stops}
 use Rattle.fs_line.proofs.Outputs.{goes_then, goes_stops, stops_more, goes_as, stops_as}
-use Rattle.fs_mrt.specs.Record.{Spoken}
 use Rattle.fs_mrt.specs.declared.fault.DumpReason.{DumpReason}
 use Rattle.cmd_stages.specs.declared.refusal.Refusal.{Refusal}
 use Rattle.cmd_stages.specs.declared.refusal.Refusal.TheVariants.{Outside}
-use Rattle.fs_tape.specs.Laws.{item_text, tape_text}
 use Rattle.fs_tape.specs.Magic.{magic_of}
-use Rattle.fs_tape.specs.Tape.{Item, Timed, timed}
-use Rattle.fs_tape.specs.declared.magic.Version.TheVariants.{Two}
-use Rattle.cmd_convert.specs.Lives.{Lives, with_life}
-use Rattle.cmd_convert.specs.Making.{items_from, made, text_at, timed_at}
 use Rattle.cmd_convert.specs.Command.{Breaks}
+
+-- a head and its payload
+pub record_parts : (kind peer moment size : ℕ) (payload : List ℕ) → size ≡ length payload
+    → (kind ∷ (big_bytes 2 peer ++ (big_bytes 8 moment ++ big_bytes 4 size))) ++ payload ≡ record_text Two kind peer moment payload
+record_parts kind peer moment size payload e =
+    ap (λ (n : ℕ). (kind ∷ (big_bytes 2 peer ++ (big_bytes 8 moment ++ big_bytes 4 n))) ++ payload) e
+    ∙ ap (λ (text : List ℕ). kind ∷ text)
+    (append_assoc (big_bytes 2 peer) (big_bytes 8 moment ++ big_bytes 4 (length payload)) payload
+    ∙ ap (λ (text : List ℕ). big_bytes 2 peer ++ text) (append_assoc (big_bytes 8 moment) (big_bytes 4 (length payload)) payload))
+
+-- the items of a life that begins
+pub opening_text : (moment peer asn : ℕ) (wide : Bool) (life : Life)
+    → text_at moment (ended peer life) ++ (item_text_at Two moment (came_up peer) ++ item_text_at Two moment (received peer (greeting asn wide)))
+    ≡ text_at moment (opening peer asn wide life)
+opening_text moment peer asn wide life =
+    ap (λ (text : List ℕ). text_at moment (ended peer life) ++ (item_text_at Two moment (came_up peer) ++ text)) (sym (append-nil (item_text_at Two moment (received peer (greeting asn wide)))))
+    ∙ sym (flat_map-append (item_text_at Two moment) (ended peer life) (came_up peer ∷ received peer (greeting asn wide) ∷ []))
+
+-- one item behind others
+pub items_text : (moment : ℕ) (items : List Item) (item : Item) → text_at moment items ++ item_text_at Two moment item ≡ text_at moment (items ++ item ∷ [])
+items_text moment items item =
+    ap (λ (text : List ℕ). text_at moment items ++ text) (sym (append-nil (item_text_at Two moment item)))
+    ∙ sym (flat_map-append (item_text_at Two moment) items (item ∷ []))
+
+-- a message that begins a life
+pub message_text : (moment : ℕ) (config : Config) (peer : ℕ) (wide : Bool) (octets : List ℕ) (life : Life)
+    → is_taken octets ≡ true → has_width life wide ≡ false
+    → text_at moment (opening peer (asn_of config peer) wide life) ++ item_text_at Two moment (received peer octets)
+    ≡ text_at moment (made_by config peer wide (message octets) life).0
+message_text moment config peer wide octets life taken other =
+    items_text moment (opening peer (asn_of config peer) wide life) (received peer octets) ∙ rw (taken, other) refl
+
+-- what was pending is the same
+pub sends_from : {T E : Type 0} {f g : ℕ} {a b : Option (List ℕ)} {p p' q xs : List ℕ} {result : Result T E} → p ≡ p' → Sent f g a b p q xs result → Sent f g a b p' q xs result
+sends_from {f = f} {g = g} {a = a} {b = b} {q = q} {xs = xs} {result = result} same sent = subst (λ (pending : List ℕ). Sent f g a b pending q xs result) same sent
+
+-- the lives behind a change of state
+pub change_lives : {T E : Type 0} (result : Result T E) (now lives : Lives) (config : Config) (peer old new : ℕ) (what : What) (into : List ℕ) (wide : Bool) (life : Life)
+    → what ≡ Change old new
+    → OnOk result ((w : Bool) (other : ℕ) → now other ≡ with_life peer (made_by config peer w (change old new) life).1 lives other)
+    → OnOk result ((other : ℕ) → now other ≡ with_life peer (made_by config peer wide (said_from what into) life).1 lives other)
+change_lives (Ok value) now lives config peer old new what into wide life e h =
+    λ other. h wide other ∙ ap (λ (w : What). with_life peer (made_by config peer wide (said_from w into) life).1 lives other) (sym e)
+change_lives (Err error) now lives config peer old new what into wide life e h = tt
 
 -- the tape of some items and of others behind them
 tape_append : (xs ys : List Timed) → tape_text Two (xs ++ ys) ≡ tape_text Two xs ++ flat_map (item_text Two) ys
@@ -99,14 +147,17 @@ module _ (config : Config) (first lives : Lives) (all rest : List Spoken × End 
           ∙ tape_append (p.gone ++ timed_at heard.moment items) later
           ∙ ap (λ (text : List ℕ). text ++ flat_map (item_text Two) later) (tape_more p.gone heard.moment items)
 
+-- what a reading gives, by the configuration that the tape is made for, and from the slot as it is behind it
+pub gives_as : (config current : Config) (dump dump' : DumpState) (left left' : ℕ → List ℕ) (heard : Spoken) → current ≡ config → dump'.slot ≡ dump.slot
+    → coming current dump (left dump.slot) ≡ with_part heard (coming current dump' (left' dump.slot))
+    → coming config dump (left dump.slot) ≡ with_part heard (coming config dump' (left' dump'.slot))
+gives_as config current dump dump' left left' heard same slot e =
+    subst (λ (c : Config). coming c dump (left dump.slot) ≡ with_part heard (coming c dump' (left' dump'.slot))) same
+    (subst (λ (n : ℕ). coming current dump (left dump.slot) ≡ with_part heard (coming current dump' (left' n))) (sym slot) e)
+
 -- the sink failed within what a tape begins with
 pub begun_stopped : (end : End DumpReason) (items : List Timed) (before now : Option (List ℕ)) (pending pending_now : List ℕ) (files : Type 0) (early late : ℕ) (refusal : Refusal)
     → Stops before now pending pending_now (magic_of Two) → Rose early late → refusal ≡ Outside
     → Breaks end before now pending pending_now (tape_text Two items) (files ⊎ Rose early late) refusal
 begun_stopped end items before now pending pending_now files early late refusal stop rose s =
     inr (s, (inr rose, inr (stops_more (flat_map (item_text Two) items) stop)))
-
--- what is said of an error that a `?` hands on
-pub match_err : {T E : Type 0} {R : E → Type 0} (P : T → Type 0) (Q : E → Type 0) (r : Result T E) → IsErrAnd r R → ((e : E) → R e → Q e) → MatchResult r P Q
-match_err P Q (Ok t) h f = absurd h
-match_err P Q (Err e) h f = f e h
