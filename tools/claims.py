@@ -63,7 +63,20 @@ def exported(crate):
 FN = re.compile(r"^( *)(?:pub\([a-z]+\) )?(pub )?(?:const )?fn ([a-z_0-9]+)")
 IMPL = re.compile(r"^impl(?:<[^>]*>)? (?:([A-Z]\w*)(?:<.*>)? for )?([A-Z]\w*)")
 TRAIT = re.compile(r"^pub trait ([A-Z]\w*)")
-CLAUSE = re.compile(r"^ *(requires|ensures)(?: ([a-z_0-9]+))? \{")
+CLAUSE = re.compile(r"^ *(requires|ensures)(?: ([a-z_0-9]+))? \{(?: ([A-Z]\w*))?")
+OF_ONE = re.compile(r"^impl ([A-Z]\w*)<([A-Z]\w*)>")
+ALIAS = re.compile(r"^pub type (\w+) = (\w+)<(\w+)>;", re.M)
+
+
+def aliases():
+    """The names that public types of a parameter have for one argument, by type and argument."""
+    texts = [read("crates", crate, path) for crate in libraries() for path in sources(crate)]
+    return {(of, one): name for text in texts for name, of, one in ALIAS.findall(text)}
+
+
+def names_of(owner):
+    """A type's own name, and the others under which it is called."""
+    return {owner, *(name for (of, _), name in ALIASES.items() if of == owner)}
 
 
 def head(lines):
@@ -94,6 +107,8 @@ def functions(text):
     for number, line in enumerate(lines):
         if IMPL.match(line):
             trait, owner = IMPL.match(line).groups()
+            of_one = OF_ONE.match(line)
+            owner = ALIASES.get(of_one.groups(), owner) if of_one else owner
         elif TRAIT.match(line):
             owner, trait = TRAIT.match(line).group(1), "trait"
         elif line.startswith("}") and not line.startswith("})"):
@@ -107,7 +122,7 @@ def functions(text):
                 current["last"] = number - 1
             current = {
                 "owner": owner if inner else None, "trait": trait if inner else None, "public": bool(public),
-                "name": name, "first": number, "last": number, "clauses": [], "indent": inner,
+                "name": name, "first": number, "last": number, "clauses": [], "records": {}, "indent": inner,
                 "law": line.endswith(f"fn {name}()"),
             }
             current["answer"] = answer(lines[number:], current["owner"])
@@ -117,9 +132,10 @@ def functions(text):
             current["law"] = current["law"] or line.strip() == "{}"
             match = CLAUSE.match(line)
             if match:
-                kind, label = match.groups()
+                kind, label, record = match.groups()
                 if kind == "ensures":
                     current["clauses"].append(label or "result")
+                    current["records"][label] = record
             if line == ("    }" if current["indent"] else "}"):
                 current = None
     return found
@@ -200,6 +216,7 @@ class Program:
                 for field, types in fields[owner].items():
                     self.fields.setdefault(field, set()).update(types)
             more = set().union(*self.fields.values(), *(f["answer"] for crate, f in found if self.calls(crate, f)))
+            more |= {of for (of, _), name in ALIASES.items() if name in more | self.in_hand}
             if more <= self.in_hand:
                 break
             self.in_hand |= more
@@ -213,7 +230,7 @@ class Program:
                         and re.search(rf"(?<![.:\w]){name}\(", self.text))
         if crate not in self.imported or owner not in self.in_hand:
             return False
-        return bool(re.search(rf"\b{owner}::{name}\b", self.text)) or any(
+        return any(re.search(rf"\b{called}::{name}\b", self.text) for called in names_of(owner)) or any(
             owner in self.types_of(self.text[: match.start()].rsplit("\n", 1)[-1], name)
             for match in re.finditer(rf"\s*\.{name}\(", self.text))
 
@@ -253,7 +270,7 @@ class Text:
     def may_call(self, owner, name):
         if owner is None:
             return name in self.plain
-        return name in self.dotted or (owner, name) in self.typed or ("Self", name) in self.typed
+        return name in self.dotted or any((called, name) in self.typed for called in {"Self"} | names_of(owner))
 
 
 TYPE = re.compile(r"^(?:pub(?:\(\w+\))? )?(?:struct|enum|trait) (\w+)(.*(?:\n .*)*)", re.M)
@@ -268,6 +285,7 @@ def library_graph():
             text = read("crates", crate, path)
             lines = text.split("\n")
             codes.update({(crate, owner, ""): code for owner, code in TYPE.findall(text)})
+            codes.update({(crate, name, ""): f"{of} {one}" for name, of, one in ALIAS.findall(text)})
             for function in functions(text):
                 key = crate, function["owner"], function["name"]
                 own = lines[function["first"]: function["last"] + 1]
@@ -362,7 +380,7 @@ def tables():
                 if not seen:
                     seen = [way_to(crate, path, function, ways)]
                 rows.append((shown, path, clauses, ", ".join(f"`{n}`" for n in inside), ", ".join(seen)))
-                ensured[crate, shown] = function["clauses"] or [] if trait is None else None
+                ensured[crate, shown] = with_fields(function) if trait is None else None
         if not rows:
             continue
         out.append(f"### `{crate}`\n")
@@ -376,6 +394,22 @@ def tables():
         if hidden:
             out.append("In functions below these calls: " + ", ".join(f"`{n}`" for n in hidden) + ".\n")
     return "\n".join([*answers(ensured), "## The calls\n", *out])
+
+
+def with_fields(function):
+    """The clauses of a function, and of those that are a record of `fs_input` their fields, as `gives.again`."""
+    clauses = list(function["clauses"])
+    for clause, record in function["records"].items():
+        clauses += [f"{clause}.{field}" for field in RECORDS.get(record, ())]
+    return clauses
+
+
+def records(*path):
+    """The fields of each record of a text of definitions."""
+    found = {}
+    for name, inside in re.findall(r"^pub record (\w+)(.*?)(?=^\S|\Z)", read(*path), re.M | re.S):
+        found[name] = re.findall(r"^  pub (\w+) :", inside, re.M)
+    return found
 
 
 def promises():
@@ -420,6 +454,10 @@ def answers(ensured):
         "Of the layers:\n",
         "| after | stands | clauses |\n|---|---|---|", *of_clauses(STANDS, ensured), "",
     ]
+
+
+ALIASES = aliases()
+RECORDS = records("crates", "fs_input", "specs", "NextRecord.antt")
 
 
 def main():
