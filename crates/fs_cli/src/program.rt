@@ -174,7 +174,7 @@ fn answer_of(done: Result<(), Refusal>) -> u8
     }
 }
 
-/// Writes what is said of the word, and answers whether it is accepted.
+/// Writes what is said of the word. Answers the status: of a word that is accepted or isn't, or why it isn't said.
 fn run_check<S: Sink>(alloc: Global, sink: &mut S, subject: Subject, word: &str) -> u8
     ensures checks { Checks subject word.now (at_sink S.Sink sink.old sink.new) result }
     ensures possible { IsOneOf (0 ∷ 1 ∷ 6 ∷ 9 ∷ []) result }

@@ -51,6 +51,7 @@ abbrev pub is_over : Bool → Lined → Bool
 is_over true line = is_some line.closed
 is_over false line = is_settled line
 
+-- it is established, and takes nothing more of a piece
 abbrev pub stops_at : Bool → Lined → Bool
 stops_at hears_on line = not hears_on && is_established (state_in line)
 
@@ -59,7 +60,7 @@ abbrev pub IsListening : Point → Type 0
 IsListening now = (now.closed ≡ None) × (is_established now.phase.state ≡ false)
 
 -- It heard these pieces, and said its OPEN, what is answered to them and what the clock appended, and the UPDATEs of the
--- first rules. It was open and not established behind all pieces but the last.
+-- first rules. It was open and not established behind all pieces but the last. Where it is closed, these pieces close it.
 pub record HasHeard (end : Announcing) (started : Bool) (heard : Pieces) (said : List ℕ) : Type 0 where
   pub started_is : end.started ≡ started
   pub at : is_established (state_in end.line) ≡ false → StandsAt (machine_in end) end.line (course (machine_in end) heard).point

@@ -14,8 +14,8 @@ use fs_speaker::{Announcer, Closed, Sending};
 use std::alloc::Global;
 
 /// An announcing end: it says its OPEN, what it replies, and once established its rules. At each piece it first hears
-/// the clock. It hears octets up to and with the message that establishes its session, or all that come; those up to
-/// there are counted.
+/// the clock. Where it doesn't hear on, it takes octets up to and with the message that establishes its session, and
+/// otherwise all that come; those up to and with that message are counted.
 #[derive(Drop)]
 pub struct Teller<'a> {
     announcer: Announcer<'a>,
@@ -30,7 +30,8 @@ impl<'a> Teller<'a> {
     ghost use Rattle.fs_speaker.specs.Sending.{sender_of};
     ghost use Rattle.fs_peering.specs.Teller.{is_over};
 
-    /// The end of the peer with the lowest number, before its OPEN. Whether it hears on once it is established.
+    /// The end of the peer with the lowest number, before its OPEN. `hears_on` says whether it takes octets behind the
+    /// message that establishes its session.
     ///
     /// # Errors
     ///
@@ -104,8 +105,8 @@ fn stops(announcer: &Announcer<'_>, hears_on: bool) -> bool
 }
 
 /// Takes the piece message by message, up to what closes the end, and where it doesn't hear on up to and with the one that
-/// establishes it. Answers how many octets that were up to and with the message that settled the end: all of them where
-/// none did.
+/// establishes it. Answers how many octets come up to and with the message that establishes it: where none does, all of
+/// them, or those before the message that closes it.
 fn take(
     announcer: &mut Announcer<'_>,
     hears_on: bool,

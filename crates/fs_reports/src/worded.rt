@@ -32,10 +32,8 @@ pub fn desk_words(alloc: Global, desk: &Desk<'_>) -> Result<Vec<u8>, Memory>
 fn append_table(table: &Table<'_>, text: &mut String) -> Result<(), Memory>
     ensures { OnOk result (string_bytes text.new ≡ string_bytes text.old ++ words_of_held table.now) }
 {
-    let rules = table.admitted(Family::V4)?;
-    append_rules(&rules, text)?;
-    let rules = table.admitted(Family::V6)?;
-    append_rules(&rules, text)
+    append_rules(&table.admitted(Family::V4)?, text)?;
+    append_rules(&table.admitted(Family::V6)?, text)
 }
 
 /// Appends the lines of these rules.
