@@ -14,10 +14,10 @@ use Rattle.fs_base.specs.declared.path.Path.{Path}
 use Rattle.fs_unicast.specs.declared.unicast.Place.{Place}
 use Rattle.fs_unicast.specs.Neighbour.{neighbour}
 use Rattle.fs_unicast.specs.Unicast.{Route, place_cmp}
-use Rattle.fs_unicast.specs.Turns.{neighbour_of, is_same, lies_between, are_parted, IsPartedAfter, IsPartedBefore, IsParted, StaysParted, PartsAt, IsPartedAt, is_alike, stands_at, find_last}
+use Rattle.fs_unicast.specs.Turns.{neighbour_of, is_same, lies_between, are_parted, IsPartedFrom, IsPartedTo, IsPartedAfter, IsPartedBefore, IsParted, StaysParted, PartsAt, IsPartedAt, is_alike, stands_at, find_last}
 use Rattle.std.proofs.lemmas.Option.{same_Some}
 use Rattle.fs_base.proofs.Orderings.{equal_of_is_eq}
-use Rattle.fs_unicast.proofs.PlaceOrder.{place_total, below_upto, upto_below, upto_upto, lt_le, upto_itself, equal_upto, equal_back}
+use Rattle.fs_unicast.proofs.PlaceOrder.{place_total, lt, le, below_upto, upto_below, upto_upto, lt_le, upto_itself, equal_upto, equal_back}
 use Rattle.fs_unicast.proofs.Finding.{found_each, found_passes, none_found, find_none, find_narrower, after_found, last_each, last_passes, no_last, before_last}
 
 pub same_is : (a b : Option ℕ) → is_same a b ≡ true → a ≡ b
@@ -64,15 +64,17 @@ parts_inserted turn old new e x y h = ap (list_any (lies_between x y)) e ∙ the
     (λ t same. and_both (is_lt (place_cmp x t)) (is_le (place_cmp t y)) (below_upto x turn t (and_first (is_lt (place_cmp x turn)) (is_le (place_cmp turn y)) h) (equal_upto turn t same)) (upto_upto t turn y (equal_back turn t same) (and_second (is_lt (place_cmp x turn)) (is_le (place_cmp turn y)) h))) old
 
 stays_after : (old new : List Place) (held : List Route) (x : Place) (asn : Option ℕ) → StaysParted old new → IsPartedAfter old held x asn → IsPartedAfter new held x asn
-stays_after old new held x asn stays h = each_weaker (λ r. is_lt (place_cmp x r.0) ≡ true → is_same asn (neighbour_of r) ≡ false → are_parted old x r.0 ≡ true) (λ r. is_lt (place_cmp x r.0) ≡ true → is_same asn (neighbour_of r) ≡ false → are_parted new x r.0 ≡ true)
-    (λ r f below other. stays x r.0 (f below other)) held h
+stays_after old new held x asn stays h = each_weaker (IsPartedFrom old x asn) (IsPartedFrom new x asn) (λ r f below other. stays x r.0 (f below other)) held h
 
 pub stays_before : (old new : List Place) (held : List Route) (y : Place) (asn : Option ℕ) → StaysParted old new → IsPartedBefore old held y asn → IsPartedBefore new held y asn
-stays_before old new held y asn stays h = each_weaker (λ r. is_lt (place_cmp r.0 y) ≡ true → is_same (neighbour_of r) asn ≡ false → are_parted old r.0 y ≡ true) (λ r. is_lt (place_cmp r.0 y) ≡ true → is_same (neighbour_of r) asn ≡ false → are_parted new r.0 y ≡ true)
-    (λ r f below other. stays r.0 y (f below other)) held h
+stays_before old new held y asn stays h = each_weaker (IsPartedTo old y asn) (IsPartedTo new y asn) (λ r f below other. stays r.0 y (f below other)) held h
 
 pub stays_all : (old new : List Place) (held : List Route) → StaysParted old new → IsParted old held → IsParted new held
 stays_all old new held stays h = each_weaker (λ r. IsPartedAfter old held r.0 (neighbour_of r)) (λ r. IsPartedAfter new held r.0 (neighbour_of r)) (λ r. stays_after old new held r.0 (neighbour_of r) stays) held h
+
+-- a turn that parts at a place does so where all stays parted
+pub parts_on : (old new : List Place) (z : Place) → StaysParted old new → PartsAt old z → PartsAt new z
+parts_on old new z stays parts x y lies = stays x y (parts x y lies)
 
 -- what holds of each entry and of the new one, at each place that is equal to its own, holds after an insertion
 each_put : (P : Route → Type 0) (z : Place) (path : Path) → ((q : Place) → place_cmp z q ≡ Equal → P (q, path)) → P (z, path) → (held : List Route) → AllByRecursion P held → AllByRecursion P (insert_entry place_cmp held z path)
@@ -84,117 +86,118 @@ each_put P z path same new (r ∷ held) all = at (place_cmp z r.0) refl (each_pu
   at Greater e ih = (all.0, ih)
 
 -- a route comes, parted from those before and after it
-pub parted_put : (turns : List Place) (held : List Route) (z : Place) (path : Path) → IsParted turns held → IsPartedBefore turns held z (neighbour path.segments) → IsPartedAfter turns held z (neighbour path.segments)
-    → IsParted turns (insert_entry place_cmp held z path)
-parted_put turns held z path h before after = each_put (λ r. IsPartedAfter turns (insert_entry place_cmp held z path) r.0 (neighbour_of r)) z path at_new (at_new z (ap_itself)) held
-    (each_both (λ r. IsPartedAfter turns held r.0 (neighbour_of r)) (λ r. is_lt (place_cmp r.0 z) ≡ true → is_same (neighbour_of r) (neighbour path.segments) ≡ false → are_parted turns r.0 z ≡ true)
-    (λ r. IsPartedAfter turns (insert_entry place_cmp held z path) r.0 (neighbour_of r)) at_old held h before) where
-      ap_itself : place_cmp z z ≡ Equal
-      ap_itself = tied_itself place_total z
+module _ (turns : List Place) (held : List Route) (z : Place) (path : Path) where
+  abbrev came : List Route
+  came = insert_entry place_cmp held z path
 
-      to_equal : (r : Route) → (is_lt (place_cmp r.0 z) ≡ true → is_same (neighbour_of r) (neighbour path.segments) ≡ false → are_parted turns r.0 z ≡ true)
-          → (q : Place) → place_cmp z q ≡ Equal → is_lt (place_cmp r.0 q) ≡ true → is_same (neighbour_of r) (neighbour path.segments) ≡ false → are_parted turns r.0 q ≡ true
-      to_equal r f q same below other = wider turns r.0 r.0 z q (upto_itself r.0) (equal_upto z q same) (f (below_upto r.0 q z below (equal_back z q same)) other)
+  abbrev asn : Option ℕ
+  asn = neighbour path.segments
 
-      at_old : (r : Route) → IsPartedAfter turns held r.0 (neighbour_of r) → (is_lt (place_cmp r.0 z) ≡ true → is_same (neighbour_of r) (neighbour path.segments) ≡ false → are_parted turns r.0 z ≡ true)
-          → IsPartedAfter turns (insert_entry place_cmp held z path) r.0 (neighbour_of r)
-      at_old r all f = each_put (λ s. is_lt (place_cmp r.0 s.0) ≡ true → is_same (neighbour_of r) (neighbour_of s) ≡ false → are_parted turns r.0 s.0 ≡ true) z path (to_equal r f) f held all
+  pub parted_put : IsParted turns held → IsPartedBefore turns held z (neighbour path.segments) → IsPartedAfter turns held z (neighbour path.segments) → IsParted turns (insert_entry place_cmp held z path)
+  parted_put h before after = each_put (λ r. IsPartedAfter turns came r.0 (neighbour_of r)) z path at_new (at_new z (tied_itself place_total z)) held
+      (each_both (λ r. IsPartedAfter turns held r.0 (neighbour_of r)) (IsPartedTo turns z asn) (λ r. IsPartedAfter turns came r.0 (neighbour_of r)) at_old held h before) where
+        to_equal : (r : Route) → IsPartedTo turns z asn r → (q : Place) → place_cmp z q ≡ Equal → IsPartedTo turns q asn r
+        to_equal r f q same below other = wider turns r.0 r.0 z q (upto_itself r.0) (equal_upto z q same) (f (below_upto r.0 q z below (equal_back z q same)) other)
 
-      from_equal : (q : Place) → place_cmp z q ≡ Equal → (s : Route) → (is_lt (place_cmp z s.0) ≡ true → is_same (neighbour path.segments) (neighbour_of s) ≡ false → are_parted turns z s.0 ≡ true)
-          → is_lt (place_cmp q s.0) ≡ true → is_same (neighbour path.segments) (neighbour_of s) ≡ false → are_parted turns q s.0 ≡ true
-      from_equal q same s f below other = wider turns q z s.0 s.0 (equal_back z q same) (upto_itself s.0) (f (upto_below z q s.0 (equal_upto z q same) below) other)
+        at_old : (r : Route) → IsPartedAfter turns held r.0 (neighbour_of r) → IsPartedTo turns z asn r → IsPartedAfter turns came r.0 (neighbour_of r)
+        at_old r all f = each_put (IsPartedFrom turns r.0 (neighbour_of r)) z path (to_equal r f) f held all
 
-      alike : (q t : Place) → is_lt (place_cmp q t) ≡ true → is_same (neighbour path.segments) (neighbour path.segments) ≡ false → are_parted turns q t ≡ true
-      alike q t below other = absurd (true≢false (sym (same_itself (neighbour path.segments)) ∙ other))
+        from_equal : (q : Place) → place_cmp z q ≡ Equal → (s : Route) → IsPartedFrom turns z asn s → IsPartedFrom turns q asn s
+        from_equal q same s f below other = wider turns q z s.0 s.0 (equal_back z q same) (upto_itself s.0) (f (upto_below z q s.0 (equal_upto z q same) below) other)
 
-      at_new : (q : Place) → place_cmp z q ≡ Equal → IsPartedAfter turns (insert_entry place_cmp held z path) q (neighbour path.segments)
-      at_new q same = each_put (λ s. is_lt (place_cmp q s.0) ≡ true → is_same (neighbour path.segments) (neighbour_of s) ≡ false → are_parted turns q s.0 ≡ true) z path (λ t _. alike q t) (alike q z) held
-          (each_weaker (λ s. is_lt (place_cmp z s.0) ≡ true → is_same (neighbour path.segments) (neighbour_of s) ≡ false → are_parted turns z s.0 ≡ true) (λ s. is_lt (place_cmp q s.0) ≡ true → is_same (neighbour path.segments) (neighbour_of s) ≡ false → are_parted turns q s.0 ≡ true) (from_equal q same) held after)
+        alike : (q t : Place) → IsPartedFrom turns q asn (t, path)
+        alike q t below other = absurd (true≢false (sym (same_itself asn) ∙ other))
 
-pub turned_off : (b c : Bool) → b ≡ true → b ≡ false → c ≡ true
+        at_new : (q : Place) → place_cmp z q ≡ Equal → IsPartedAfter turns came q asn
+        at_new q same = each_put (IsPartedFrom turns q asn) z path (λ t _. alike q t) (alike q z) held (each_weaker (IsPartedFrom turns z asn) (IsPartedFrom turns q asn) (from_equal q same) held after)
+
+-- what a route before some place needs of the last one there, to stay parted from those behind it
+abbrev pub Fore : List Place → Option Route → Route → Type 0
+Fore turns None x = ⊥
+Fore turns (Some b) x = le x.0 b.0 × (is_same (neighbour_of x) (neighbour_of b) ≡ false → are_parted turns x.0 b.0 ≡ true)
+
+-- and a route behind it of the first one there
+abbrev pub Aft : List Place → Option Route → Route → Type 0
+Aft turns None y = ⊥
+Aft turns (Some a) y = le a.0 y.0 × (is_same (neighbour_of a) (neighbour_of y) ≡ false → are_parted turns a.0 y.0 ≡ true)
+
+turned_off : (b c : Bool) → b ≡ true → b ≡ false → c ≡ true
 turned_off true c h k = absurd (true≢false k)
 turned_off false c h k = absurd (true≢false (sym h))
 
--- no route stands before
-pub parted_first : (turns : List Place) (held : List Route) (z : Place) (asn : Option ℕ) → find_last (λ r. is_lt (place_cmp r.0 z)) held ≡ None → IsPartedBefore turns held z asn
-parted_first turns held z asn e = each_weaker (λ r. is_lt (place_cmp r.0 z) ≡ false) (λ r. is_lt (place_cmp r.0 z) ≡ true → is_same (neighbour_of r) asn ≡ false → are_parted turns r.0 z ≡ true)
-    (λ r no yes other. turned_off (is_lt (place_cmp r.0 z)) (are_parted turns r.0 z) yes no) held (no_last (λ r. is_lt (place_cmp r.0 z)) held e)
+abbrev IsUpto : Route → Route → Type 0
+IsUpto b x = le x.0 b.0 × (is_same (neighbour_of x) (neighbour_of b) ≡ false → lt x.0 b.0)
 
--- the route before has the same neighbouring AS
-pub parted_alike : (turns : List Place) (held : List Route) (z : Place) (asn : Option ℕ) (p : Route) → IsStrictlySortedBy place_cmp (keys_of held) → find_last (λ r. is_lt (place_cmp r.0 z)) held ≡ Some p → IsParted turns held
-    → is_same (neighbour_of p) asn ≡ true → IsPartedBefore turns held z asn
-parted_alike turns held z asn p sorted e parted same = each_both (λ r. is_lt (place_cmp r.0 z) ≡ true → is_same (neighbour_of r) asn ≡ false → is_lt (place_cmp r.0 p.0) ≡ true) (λ r. is_lt (place_cmp r.0 p.0) ≡ true → is_same (neighbour_of r) (neighbour_of p) ≡ false → are_parted turns r.0 p.0 ≡ true)
-    (λ r. is_lt (place_cmp r.0 z) ≡ true → is_same (neighbour_of r) asn ≡ false → are_parted turns r.0 z ≡ true)
-    (λ r f part below other. wider turns r.0 r.0 p.0 z (upto_itself r.0) (lt_le (place_cmp p.0 z) (last_passes (λ r. is_lt (place_cmp r.0 z)) held p e)) (part (f below other) (subst (λ a. is_same (neighbour_of r) a ≡ false) (sym (same_is (neighbour_of p) asn same)) other))) held
-    (before_last place_cmp (λ r. r.0) (λ r. is_lt (place_cmp r.0 z)) (λ r. is_same (neighbour_of r) asn ≡ false → is_lt (place_cmp r.0 p.0) ≡ true) held sorted p e (turned_off (is_same (neighbour_of p) asn) (is_lt (place_cmp p.0 p.0)) same) (λ r less other. ap is_lt less))
-    (each_weaker (λ r. IsPartedAfter turns held r.0 (neighbour_of r)) (λ r. is_lt (place_cmp r.0 p.0) ≡ true → is_same (neighbour_of r) (neighbour_of p) ≡ false → are_parted turns r.0 p.0 ≡ true)
-    (λ r. last_each (λ s. is_lt (place_cmp s.0 z)) (λ s. is_lt (place_cmp r.0 s.0) ≡ true → is_same (neighbour_of r) (neighbour_of s) ≡ false → are_parted turns r.0 s.0 ≡ true) held p e) held parted)
+abbrev IsFrom : Route → Route → Type 0
+IsFrom a y = le a.0 y.0 × (is_same (neighbour_of a) (neighbour_of y) ≡ false → lt a.0 y.0)
+
+module _ (turns : List Place) (held : List Route) (test : Route → Bool) (sorted : IsStrictlySortedBy place_cmp (keys_of held)) (parted : IsParted turns held) where
+  pub fores : (o : Option Route) → find_last test held ≡ o → AllByRecursion (λ x. test x ≡ true → Fore turns o x) held
+  fores None e = each_weaker (λ x. test x ≡ false) (λ x. test x ≡ true → ⊥) (λ x no yes. true≢false (sym yes ∙ no)) held (no_last test held e)
+  fores (Some b) e = each_both (λ x. test x ≡ true → IsUpto b x) (λ x. IsPartedFrom turns x.0 (neighbour_of x) b) (λ x. test x ≡ true → Fore turns (Some b) x) (λ x f part yes. ((f yes).0, λ other. part ((f yes).1 other) other)) held
+      (before_last place_cmp (λ r. r.0) test (IsUpto b) held sorted b e (upto_itself b.0, turned_off (is_same (neighbour_of b) (neighbour_of b)) (is_lt (place_cmp b.0 b.0)) (same_itself (neighbour_of b))) (λ x less. (ap is_le less, λ other. ap is_lt less)))
+      (each_weaker (λ x. IsPartedAfter turns held x.0 (neighbour_of x)) (λ x. IsPartedFrom turns x.0 (neighbour_of x) b) (λ x. last_each test (IsPartedFrom turns x.0 (neighbour_of x)) held b e) held parted)
+
+  pub afts : (p : Option Route) → find test held ≡ p → AllByRecursion (λ y. test y ≡ true → Aft turns p y) held
+  afts None e = each_weaker (λ y. test y ≡ false) (λ y. test y ≡ true → ⊥) (λ y no yes. true≢false (sym yes ∙ no)) held (none_found test held e)
+  afts (Some a) e = each_both (λ y. test y ≡ true → IsFrom a y) (IsPartedFrom turns a.0 (neighbour_of a)) (λ y. test y ≡ true → Aft turns (Some a) y) (λ y f part yes. ((f yes).0, λ other. part ((f yes).1 other) other)) held
+      (after_found place_cmp (λ r. r.0) test (IsFrom a) held sorted a e (upto_itself a.0, turned_off (is_same (neighbour_of a) (neighbour_of a)) (is_lt (place_cmp a.0 a.0)) (same_itself (neighbour_of a))) (λ y less. (ap is_le less, λ other. ap is_lt less)))
+      (found_each test (λ r. IsPartedAfter turns held r.0 (neighbour_of r)) held a e parted)
 
 -- a turn stands at the place itself
-pub parted_here : (turns : List Place) (held : List Route) (z : Place) (asn : Option ℕ) → ((x y : Place) → lies_between x y z ≡ true → are_parted turns x y ≡ true) → IsPartedBefore turns held z asn
-parted_here turns held z asn h = each (λ r. is_lt (place_cmp r.0 z) ≡ true → is_same (neighbour_of r) asn ≡ false → are_parted turns r.0 z ≡ true) (λ r below other. h r.0 z (and_both (is_lt (place_cmp r.0 z)) (is_le (place_cmp z z)) below (upto_itself z))) held
-
--- no route stands after
-pub parted_last : (turns : List Place) (held : List Route) (z : Place) (asn : Option ℕ) → find (λ r. is_lt (place_cmp z r.0)) held ≡ None → IsPartedAfter turns held z asn
-parted_last turns held z asn e = each_weaker (λ r. is_lt (place_cmp z r.0) ≡ false) (λ r. is_lt (place_cmp z r.0) ≡ true → is_same asn (neighbour_of r) ≡ false → are_parted turns z r.0 ≡ true)
-    (λ r no yes other. turned_off (is_lt (place_cmp z r.0)) (are_parted turns z r.0) yes no) held (none_found (λ r. is_lt (place_cmp z r.0)) held e)
-
--- the route after has the same neighbouring AS
-pub parted_on : (turns : List Place) (held : List Route) (z : Place) (asn : Option ℕ) (s : Route) → IsStrictlySortedBy place_cmp (keys_of held) → find (λ r. is_lt (place_cmp z r.0)) held ≡ Some s → IsParted turns held
-    → is_same (neighbour_of s) asn ≡ true → IsPartedAfter turns held z asn
-parted_on turns held z asn s sorted e parted same = each_both (λ r. is_lt (place_cmp z r.0) ≡ true → is_same (neighbour_of s) (neighbour_of r) ≡ false → is_lt (place_cmp s.0 r.0) ≡ true) (λ r. is_lt (place_cmp s.0 r.0) ≡ true → is_same (neighbour_of s) (neighbour_of r) ≡ false → are_parted turns s.0 r.0 ≡ true)
-    (λ r. is_lt (place_cmp z r.0) ≡ true → is_same asn (neighbour_of r) ≡ false → are_parted turns z r.0 ≡ true)
-    (λ r f part below other. joined r f part below (subst (λ a. is_same a (neighbour_of r) ≡ false) (sym (same_is (neighbour_of s) asn same)) other)) held
-    (after_found place_cmp (λ r. r.0) (λ r. is_lt (place_cmp z r.0)) (λ r. is_same (neighbour_of s) (neighbour_of r) ≡ false → is_lt (place_cmp s.0 r.0) ≡ true) held sorted s e (turned_off (is_same (neighbour_of s) (neighbour_of s)) (is_lt (place_cmp s.0 s.0)) (same_itself (neighbour_of s))) (λ r less other. ap is_lt less))
-    (found_each (λ r. is_lt (place_cmp z r.0)) (λ r. IsPartedAfter turns held r.0 (neighbour_of r)) held s e parted) where
-      joined : (r : Route) → (is_lt (place_cmp z r.0) ≡ true → is_same (neighbour_of s) (neighbour_of r) ≡ false → is_lt (place_cmp s.0 r.0) ≡ true) → (is_lt (place_cmp s.0 r.0) ≡ true → is_same (neighbour_of s) (neighbour_of r) ≡ false → are_parted turns s.0 r.0 ≡ true)
-          → is_lt (place_cmp z r.0) ≡ true → is_same (neighbour_of s) (neighbour_of r) ≡ false → are_parted turns z r.0 ≡ true
-      joined r f part below other = wider turns z s.0 r.0 r.0 (lt_le (place_cmp z s.0) (found_passes (λ r. is_lt (place_cmp z r.0)) held s e)) (upto_itself r.0) (part (f below other) other)
-
--- a turn stands at the route after
-pub parted_next : (turns : List Place) (held : List Route) (z : Place) (asn : Option ℕ) (s : Route) → IsStrictlySortedBy place_cmp (keys_of held) → find (λ r. is_lt (place_cmp z r.0)) held ≡ Some s
-    → ((x y : Place) → lies_between x y s.0 ≡ true → are_parted turns x y ≡ true) → IsPartedAfter turns held z asn
-parted_next turns held z asn s sorted e h = each_weaker (λ r. is_lt (place_cmp z r.0) ≡ true → is_le (place_cmp s.0 r.0) ≡ true) (λ r. is_lt (place_cmp z r.0) ≡ true → is_same asn (neighbour_of r) ≡ false → are_parted turns z r.0 ≡ true)
-    (λ r f below other. h z r.0 (and_both (is_lt (place_cmp z s.0)) (is_le (place_cmp s.0 r.0)) (found_passes (λ r. is_lt (place_cmp z r.0)) held s e) (f below))) held
-    (after_found place_cmp (λ r. r.0) (λ r. is_lt (place_cmp z r.0)) (λ r. is_le (place_cmp s.0 r.0) ≡ true) held sorted s e (upto_itself s.0) (λ r less. ap is_le less))
+pub parted_here : (turns : List Place) (held : List Route) (z : Place) (asn : Option ℕ) → PartsAt turns z → IsPartedBefore turns held z asn
+parted_here turns held z asn h = each (IsPartedTo turns z asn) (λ r below other. h r.0 z (and_both (is_lt (place_cmp r.0 z)) (is_le (place_cmp z z)) below (upto_itself z))) held
 
 -- no turn is wanted at the place, or one stands there
 pub parted_fore : (turns : List Place) (held : List Route) (z : Place) (asn : Option ℕ) (o : Option Route) → IsStrictlySortedBy place_cmp (keys_of held) → find_last (λ r. is_lt (place_cmp r.0 z)) held ≡ o → IsParted turns held
     → (is_alike asn o ≡ false → PartsAt turns z) → IsPartedBefore turns held z asn
-parted_fore turns held z asn None sorted e parted h = parted_first turns held z asn e
-parted_fore turns held z asn (Some p) sorted e parted h = at (is_same (neighbour_of p) asn) refl where
-  at : (b : Bool) → is_same (neighbour_of p) asn ≡ b → IsPartedBefore turns held z asn
-  at true k = parted_alike turns held z asn p sorted e parted k
-  at false k = parted_here turns held z asn (h k)
+parted_fore turns held z asn o sorted e parted h = at o e h (fores turns held (λ r. is_lt (place_cmp r.0 z)) sorted parted o e) where
+  at : (o : Option Route) → find_last (λ r. is_lt (place_cmp r.0 z)) held ≡ o → (is_alike asn o ≡ false → PartsAt turns z) → AllByRecursion (λ x. lt x.0 z → Fore turns o x) held → IsPartedBefore turns held z asn
+  at None e h all = each_weaker (λ x. lt x.0 z → ⊥) (IsPartedTo turns z asn) (λ x f below other. absurd (f below)) held all
+  at (Some b) e h all = by (is_same (neighbour_of b) asn) refl where
+    below_b : lt b.0 z
+    below_b = last_passes (λ r. is_lt (place_cmp r.0 z)) held b e
+
+    by : (c : Bool) → is_same (neighbour_of b) asn ≡ c → IsPartedBefore turns held z asn
+    by true k = each_weaker (λ x. lt x.0 z → Fore turns (Some b) x) (IsPartedTo turns z asn)
+        (λ x f below other. wider turns x.0 x.0 b.0 z (upto_itself x.0) (lt_le (place_cmp b.0 z) below_b) ((f below).1 (subst (λ n. is_same (neighbour_of x) n ≡ false) (sym (same_is (neighbour_of b) asn k)) other))) held all
+    by false k = parted_here turns held z asn (h k)
 
 -- no turn is wanted at the route after, or one stands there
-pub parted_aft : (turns : List Place) (held : List Route) (z : Place) (asn : Option ℕ) (o : Option Route) → IsStrictlySortedBy place_cmp (keys_of held) → find (λ r. is_lt (place_cmp z r.0)) held ≡ o → IsParted turns held
-    → IsPartedAt turns asn o → IsPartedAfter turns held z asn
-parted_aft turns held z asn None sorted e parted h = parted_last turns held z asn e
-parted_aft turns held z asn (Some s) sorted e parted h = at (is_same (neighbour_of s) asn) refl where
-  at : (b : Bool) → is_same (neighbour_of s) asn ≡ b → IsPartedAfter turns held z asn
-  at true k = parted_on turns held z asn s sorted e parted k
-  at false k = parted_next turns held z asn s sorted e (h k)
+pub parted_aft : (turns : List Place) (held : List Route) (z : Place) (asn : Option ℕ) (p : Option Route) → IsStrictlySortedBy place_cmp (keys_of held) → find (λ r. is_lt (place_cmp z r.0)) held ≡ p → IsParted turns held
+    → IsPartedAt turns asn p → IsPartedAfter turns held z asn
+parted_aft turns held z asn p sorted e parted h = at p e h (afts turns held (λ r. is_lt (place_cmp z r.0)) sorted parted p e) where
+  at : (p : Option Route) → find (λ r. is_lt (place_cmp z r.0)) held ≡ p → IsPartedAt turns asn p → AllByRecursion (λ y. lt z y.0 → Aft turns p y) held → IsPartedAfter turns held z asn
+  at None e h all = each_weaker (λ y. lt z y.0 → ⊥) (IsPartedFrom turns z asn) (λ y f below other. absurd (f below)) held all
+  at (Some a) e h all = by (is_same (neighbour_of a) asn) refl where
+    above_a : lt z a.0
+    above_a = found_passes (λ r. is_lt (place_cmp z r.0)) held a e
 
-module _ (turns : List Place) (held : List Route) (z : Place) (asn : Option ℕ) (g : Route) (e : find (λ r. is_le (place_cmp z r.0)) held ≡ Some g) (same : place_cmp z g.0 ≡ Equal) (alike : is_same (neighbour_of g) asn ≡ true) (parted : IsParted turns held) where
-  alike_before : IsPartedBefore turns held z asn
-  alike_before = each_weaker (λ r. IsPartedAfter turns held r.0 (neighbour_of r)) (λ r. is_lt (place_cmp r.0 z) ≡ true → is_same (neighbour_of r) asn ≡ false → are_parted turns r.0 z ≡ true)
-      (λ r part below other. wider turns r.0 r.0 g.0 z (upto_itself r.0) (equal_back z g.0 same)
-      (found_each (λ s. is_le (place_cmp z s.0)) (λ s. is_lt (place_cmp r.0 s.0) ≡ true → is_same (neighbour_of r) (neighbour_of s) ≡ false → are_parted turns r.0 s.0 ≡ true) held g e part
-      (below_upto r.0 z g.0 below (equal_upto z g.0 same)) (subst (λ a. is_same (neighbour_of r) a ≡ false) (sym (same_is (neighbour_of g) asn alike)) other))) held parted
-
-  alike_after : IsPartedAfter turns held z asn
-  alike_after = each_weaker (λ s. is_lt (place_cmp g.0 s.0) ≡ true → is_same (neighbour_of g) (neighbour_of s) ≡ false → are_parted turns g.0 s.0 ≡ true) (λ s. is_lt (place_cmp z s.0) ≡ true → is_same asn (neighbour_of s) ≡ false → are_parted turns z s.0 ≡ true)
-      (λ s part below other. wider turns z g.0 s.0 s.0 (equal_upto z g.0 same) (upto_itself s.0)
-      (part (upto_below g.0 z s.0 (equal_back z g.0 same) below) (subst (λ a. is_same a (neighbour_of s) ≡ false) (sym (same_is (neighbour_of g) asn alike)) other))) held
-      (found_each (λ r. is_le (place_cmp z r.0)) (λ r. IsPartedAfter turns held r.0 (neighbour_of r)) held g e parted)
+    by : (c : Bool) → is_same (neighbour_of a) asn ≡ c → IsPartedAfter turns held z asn
+    by true k = each_weaker (λ y. lt z y.0 → Aft turns (Some a) y) (IsPartedFrom turns z asn)
+        (λ y f below other. wider turns z a.0 y.0 y.0 (lt_le (place_cmp z a.0) above_a) (upto_itself y.0) ((f below).1 (subst (λ n. is_same n (neighbour_of y) ≡ false) (sym (same_is (neighbour_of a) asn k)) other))) held all
+    by false k = each_weaker (λ y. lt z y.0 → Aft turns (Some a) y) (IsPartedFrom turns z asn)
+        (λ y f below other. h k z y.0 (and_both (is_lt (place_cmp z a.0)) (is_le (place_cmp a.0 y.0)) above_a (f below).0)) held all
 
 -- a path comes in place of one of the same neighbouring AS
+module _ (turns : List Place) (held : List Route) (z : Place) (asn : Option ℕ) (g : Route) (e : find (λ r. is_le (place_cmp z r.0)) held ≡ Some g) (same : place_cmp z g.0 ≡ Equal) (alike : is_same (neighbour_of g) asn ≡ true) (parted : IsParted turns held) where
+  alike_before : IsPartedBefore turns held z asn
+  alike_before = each_weaker (λ r. IsPartedAfter turns held r.0 (neighbour_of r)) (IsPartedTo turns z asn)
+      (λ r part below other. wider turns r.0 r.0 g.0 z (upto_itself r.0) (equal_back z g.0 same)
+      (found_each (λ s. is_le (place_cmp z s.0)) (IsPartedFrom turns r.0 (neighbour_of r)) held g e part
+      (below_upto r.0 z g.0 below (equal_upto z g.0 same)) (subst (λ n. is_same (neighbour_of r) n ≡ false) (sym (same_is (neighbour_of g) asn alike)) other))) held parted
+
+  alike_after : IsPartedAfter turns held z asn
+  alike_after = each_weaker (IsPartedFrom turns g.0 (neighbour_of g)) (IsPartedFrom turns z asn)
+      (λ s part below other. wider turns z g.0 s.0 s.0 (equal_upto z g.0 same) (upto_itself s.0)
+      (part (upto_below g.0 z s.0 (equal_back z g.0 same) below) (subst (λ n. is_same n (neighbour_of s) ≡ false) (sym (same_is (neighbour_of g) asn alike)) other))) held
+      (found_each (λ r. is_le (place_cmp z r.0)) (λ r. IsPartedAfter turns held r.0 (neighbour_of r)) held g e parted)
+
 pub parted_replaced : (turns : List Place) (held : List Route) (z : Place) (path : Path) (o : Option Route) → find (λ r. is_le (place_cmp z r.0)) held ≡ o → stands_at z o ≡ true → is_alike (neighbour path.segments) o ≡ true → IsParted turns held
     → IsParted turns (insert_entry place_cmp held z path)
 parted_replaced turns held z path None e there alike parted = absurd (true≢false (sym there))
-parted_replaced turns held z path (Some g) e there alike parted = parted_put turns held z path parted
-    (alike_before turns held z (neighbour path.segments) g e (equal_of_is_eq (place_cmp z g.0) there) alike parted) (alike_after turns held z (neighbour path.segments) g e (equal_of_is_eq (place_cmp z g.0) there) alike parted)
+parted_replaced turns held z path (Some g) e there alike parted = let same = equal_of_is_eq (place_cmp z g.0) there in
+    parted_put turns held z path parted (alike_before turns held z (neighbour path.segments) g e same alike parted) (alike_after turns held z (neighbour path.segments) g e same alike parted)
 
 -- the first route from the place on is after it, if it doesn't stand there
 pub next_behind : (held : List Route) (z : Place) (o : Option Route) → find (λ r. is_le (place_cmp z r.0)) held ≡ o → stands_at z o ≡ false → o ≡ find (λ r. is_lt (place_cmp z r.0)) held

@@ -1,10 +1,13 @@
 -- The order of places.
-use Rattle.std.proofs.Common.{◌≡◌, refl, sym, ap, ◌∙◌, Bool, true, false, true≢false, not, Ordering, Less, Equal, Greater, is_eq, is_le, is_lt}
-use Rattle.std.specs.Ordering.{ordering_reverse}
+use Rattle.std.proofs.Common.{◌≡◌, ◌⊎◌, inl, inr, refl, sym, ap, ◌∙◌, Bool, true, false, true≢false, not, Ordering, Less, Equal, Greater, is_eq, is_le, is_lt}
+use Rattle.std.specs.Ordering.{ordering_reverse, ordering_then, nat_cmp}
 use Rattle.std.specs.Cmp.{IsTotalOrder, alike_right, tied_itself, on_total, then_total, nat_cmp_total}
 use Rattle.fs_base.proofs.Bools.{true_of_not}
-use Rattle.fs_base.specs.Prefix.{prefix_total}
-use Rattle.fs_base.proofs.Orderings.{less_of_is_lt}
+use Rattle.std.proofs.Math.Path.{ap₂}
+use Rattle.std.proofs.lemmas.Map.Lookups.{exact_unsigned}
+use Rattle.fs_base.specs.Prefix.{prefix_cmp, prefix_total}
+use Rattle.fs_base.proofs.Orderings.{equal_of_is_eq, less_of_is_lt}
+use Rattle.fs_base.proofs.SamePrefix.{same_from_cmp}
 use Rattle.fs_unicast.specs.declared.unicast.Place.{Place}
 use Rattle.fs_unicast.specs.Unicast.{place_cmp}
 
@@ -69,3 +72,27 @@ equal_upto x y e = ap is_le e
 
 pub equal_back : (x y : Place) → place_cmp x y ≡ Equal → is_le (place_cmp y x) ≡ true
 equal_back x y e = ap is_le (place_total.antisymm y x ∙ ap ordering_reverse e)
+
+-- the same as facts
+abbrev pub lt : Place → Place → Type 0
+lt a b = is_lt (place_cmp a b) ≡ true
+
+abbrev pub le : Place → Place → Type 0
+le a b = is_le (place_cmp a b) ≡ true
+
+pub apart : (a b : Place) → lt a b ⊎ le b a
+apart a b = at (is_lt (place_cmp a b)) refl where
+  at : (t : Bool) → is_lt (place_cmp a b) ≡ t → lt a b ⊎ le b a
+  at true e = inl e
+  at false e = inr (not_below a b e)
+
+pub never : (a b : Place) → lt a b → le b a → ⊥
+never a b h k = true≢false (sym (below_upto a b a h k) ∙ below_itself a)
+
+-- places that compare alike are one
+pub exact_place : (a b : Place) → is_eq (place_cmp a b) ≡ true → a ≡ b
+exact_place a b h = at (prefix_cmp a.prefix b.prefix) refl h where
+  at : (o : Ordering) → prefix_cmp a.prefix b.prefix ≡ o → is_eq (ordering_then o (nat_cmp a.peer b.peer)) ≡ true → a ≡ b
+  at Less e k = absurd (true≢false (sym k))
+  at Equal e k = ap₂ (λ p n. record { prefix = p; peer = n }) (same_from_cmp a.prefix b.prefix (ap is_eq e)) (exact_unsigned a.peer b.peer (equal_of_is_eq (nat_cmp a.peer b.peer) k))
+  at Greater e k = absurd (true≢false (sym k))

@@ -1,14 +1,11 @@
 -- Turns: places that part the routes of other neighbouring ASes.
-use Rattle.std.specs.Prelude.{ℕ, ◌≡◌, ◌==◌, Bool, not, ◌&&◌, ◌||◌, true, false, Option, Some, None, List, [], ◌∷◌, find, if◌then◌else◌}
+use Rattle.std.specs.Prelude.{ℕ, ◌≡◌, ◌==◌, Bool, not, ◌&&◌, ◌||◌, true, false, Option, Some, None, List, [], ◌∷◌, if◌then◌else◌}
 use Rattle.std.specs.Borrow.{Bor}
 use Rattle.fs_base.specs.declared.path.Path.{Path}
-use Rattle.std.specs.BTreeMap.{insert_entry, is_at}
-use Rattle.std.specs.BTreeSet.{insert_key}
+use Rattle.std.specs.BTreeMap.{is_at}
 use Rattle.std.specs.List.{AllByRecursion, list_any, list_all}
-use Rattle.std.specs.List.Sorted.{IsStrictlySortedBy}
 use Rattle.std.specs.Option.{option_eq}
 use Rattle.std.specs.Ordering.{is_eq, is_le, is_lt}
-use Rattle.std.specs.Map.{keys_of}
 use Rattle.std.specs.Set.{remove_key}
 use Rattle.fs_unicast.specs.declared.unicast.Place.{Place}
 use Rattle.fs_unicast.specs.Neighbour.{neighbour}
@@ -66,17 +63,21 @@ abbrev pub IsPartedAt : List Place → Option ℕ → Option Route → Type 0
 IsPartedAt turns asn None = Unit {0}
 IsPartedAt turns asn (Some r) = is_same (neighbour_of r) asn ≡ false → PartsAt turns r.0
 
--- a turn lies between the place and each later route whose neighbouring AS isn't this
-abbrev pub IsPartedAfter : List Place → List Route → Place → Option ℕ → Type 0
-IsPartedAfter turns held x asn =
-    AllByRecursion (λ r. is_lt (place_cmp x r.0) ≡ true → is_same asn (neighbour_of r) ≡ false
-    → are_parted turns x r.0 ≡ true) held
+-- a turn lies between the place and the route, if the route is a later one whose neighbouring AS isn't this
+abbrev pub IsPartedFrom : List Place → Place → Option ℕ → Route → Type 0
+IsPartedFrom turns x asn r =
+    is_lt (place_cmp x r.0) ≡ true → is_same asn (neighbour_of r) ≡ false → are_parted turns x r.0 ≡ true
 
--- a turn lies between the place and each earlier route whose neighbouring AS isn't this
+-- a turn lies between the route and the place, if the route is an earlier one whose neighbouring AS isn't this
+abbrev pub IsPartedTo : List Place → Place → Option ℕ → Route → Type 0
+IsPartedTo turns y asn r =
+    is_lt (place_cmp r.0 y) ≡ true → is_same (neighbour_of r) asn ≡ false → are_parted turns r.0 y ≡ true
+
+abbrev pub IsPartedAfter : List Place → List Route → Place → Option ℕ → Type 0
+IsPartedAfter turns held x asn = AllByRecursion (IsPartedFrom turns x asn) held
+
 abbrev pub IsPartedBefore : List Place → List Route → Place → Option ℕ → Type 0
-IsPartedBefore turns held y asn =
-    AllByRecursion (λ r. is_lt (place_cmp r.0 y) ≡ true → is_same (neighbour_of r) asn ≡ false
-    → are_parted turns r.0 y ≡ true) held
+IsPartedBefore turns held y asn = AllByRecursion (IsPartedTo turns y asn) held
 
 -- between two routes of other neighbouring AS lies a turn
 abbrev pub IsParted : List Place → List Route → Type 0
@@ -99,28 +100,6 @@ find_last test (x ∷ xs) = later (find_last test xs) (if test x then Some x els
 abbrev pub is_alone : List Place → Place → Place → Place → Bool
 is_alone turns x y t = list_all (λ u. not (lies_between x y u) || is_eq (place_cmp t u)) turns
 
--- the two routes have other neighbouring ASes, and are parted by t alone
-abbrev pub parts_alone : List Place → Place → Route → Route → Bool
-parts_alone turns t x y =
-    lies_between x.0 y.0 t && (not (is_same (neighbour_of x) (neighbour_of y)) && is_alone turns x.0 y.0 t)
-
--- the turns, with one at the place unless the route before it has this neighbouring AS
-abbrev pub put_before : Option ℕ → Option Route → Place → List Place → List Place
-put_before asn before z turns = if is_alike asn before then turns else insert_key place_cmp turns z
-
--- the turns, with one at the route after a place unless it has this neighbouring AS
-abbrev pub put_after : Option ℕ → Option Route → List Place → List Place
-put_after asn None turns = turns
-put_after asn (Some r) turns = if is_same (neighbour_of r) asn then turns else insert_key place_cmp turns r.0
-
--- a turn that these put is there already
-abbrev pub was_before : Option ℕ → Option Route → Place → List Place → Bool
-was_before asn before z turns = not (is_alike asn before) && list_any (is_at (place_cmp z)) turns
-
-abbrev pub was_after : Option ℕ → Option Route → List Place → Bool
-was_after asn None turns = false
-was_after asn (Some r) turns = not (is_same (neighbour_of r) asn) && list_any (is_at (place_cmp r.0)) turns
-
 -- without this turn, if there is one
 abbrev pub without : List Place → Option Place → List Place
 without turns None = turns
@@ -130,49 +109,7 @@ without turns (Some t) = remove_key (is_at (place_cmp t)) turns
 abbrev pub IsLastUpto : List Place → Place → Option Place → Type 0
 IsLastUpto turns z None = AllByRecursion (λ t. is_le (place_cmp t z) ≡ false) turns
 IsLastUpto turns z (Some t) =
-    (list_any (is_at (place_cmp t)) turns ≡ true) × (is_le (place_cmp t z) ≡ true)
-    × AllByRecursion (λ u. is_le (place_cmp u z) ≡ true → is_le (place_cmp u t) ≡ true) turns
-
--- some two routes are parted by t alone; else it is idle
-abbrev pub is_needed : List Place → List Route → Place → Bool
-is_needed turns held t = list_any (λ x. list_any (parts_alone turns t x) held) held
-
--- without this turn, where it is idle
-abbrev pub without_idle : List Route → List Place → Option Place → List Place
-without_idle held turns None = turns
-without_idle held turns (Some t) = if is_needed turns held t then turns else remove_key (is_at (place_cmp t)) turns
-
--- the idle ones of the two turns beside a place are gone: the last up to it, and then the first after it
-abbrev pub tidied : List Route → List Place → Place → List Place
-tidied held turns z =
-    let rest = without_idle held turns (find_last (λ t. is_le (place_cmp t z)) turns) in
-    without_idle held rest (find (λ t. is_lt (place_cmp z t)) rest)
-
--- no turn is idle
-abbrev pub NoneIdle : List Place → List Route → Type 0
-NoneIdle turns held = AllByRecursion (λ t. is_needed turns held t ≡ true) turns
-
--- The routes are in order, and between two of other neighbouring AS lies a turn. No turn is idle, so between two that
--- stand beside one another lies one turn at most.
-pub record AreKept (turns : List Place) (held : List Route) : Type 0 where
-  pub ordered : IsStrictlySortedBy place_cmp (keys_of held)
-  pub parted : IsParted turns held
-  pub needed : NoneIdle turns held
-
--- only turns beside the place may be idle: without the idle ones of the two beside it none is
-abbrev pub NoneIdleBut : List Place → List Route → Place → Type 0
-NoneIdleBut turns held z = IsStrictlySortedBy place_cmp turns → NoneIdle (tidied held turns z) held
-
--- no turn is idle once a path that names this neighbouring AS stands at the place
-abbrev pub IsSettled : List Place → List Route → Place → Option ℕ → Type 0
-IsSettled turns held z asn =
-    (path : Path) → neighbour path.segments ≡ asn → NoneIdle turns (insert_entry place_cmp held z path)
-
--- only turns beside the place may be idle then
-abbrev pub Settles : List Place → List Route → Place → Option ℕ → Type 0
-Settles turns held z asn =
-    (path : Path) → neighbour path.segments ≡ asn → IsStrictlySortedBy place_cmp (keys_of (insert_entry place_cmp held z path))
-    → NoneIdleBut turns (insert_entry place_cmp held z path) z
+    (is_le (place_cmp t z) ≡ true) × AllByRecursion (λ u. is_le (place_cmp u z) ≡ true → is_le (place_cmp u t) ≡ true) turns
 
 -- a route of the map, as it is lent
 abbrev pub entry_now : Bor Place × Bor Path → Route

