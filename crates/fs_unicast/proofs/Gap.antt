@@ -11,15 +11,15 @@ use Rattle.std.specs.Set.{remove_key}
 use Rattle.std.proofs.Math.Path.{ap₂}
 use Rattle.std.proofs.lemmas.Map.{none_passes_from_lookup}
 use Rattle.std.proofs.lemmas.Option.{same_Some}
-use Rattle.fs_base.proofs.Bools.{and_both, and_first, and_second, or_first, or_second, false_from}
+use Rattle.fs_base.proofs.Bools.{or_first, or_second, false_from}
 use Rattle.fs_base.proofs.Lists.{each, each_weaker, each_both, each_remove, any_each, all_on, find_on}
 use Rattle.fs_base.proofs.Orderings.{equal_of_is_eq}
 use Rattle.fs_base.specs.declared.path.Path.{Path}
 use Rattle.fs_unicast.specs.declared.unicast.Place.{Place}
 use Rattle.fs_unicast.specs.Neighbour.{neighbour}
 use Rattle.fs_unicast.specs.Unicast.{Route, place_cmp}
-use Rattle.fs_unicast.specs.Turns.{neighbour_of, is_same, lies_between, are_parted, is_alone, are_alike, names, without, find_last, PartsAt, IsPartedFrom, IsPartedTo, IsPartedAfter, IsPartedBefore, IsParted, IsLastUpto}
-use Rattle.fs_unicast.proofs.PlaceOrder.{lt, le, apart, never, exact_place, below_upto, upto_upto, lt_le, upto_itself, below_not_upto, equal_upto, equal_back}
+use Rattle.fs_unicast.specs.Turns.{neighbour_of, is_same, is_before, is_after, is_at_or_after, lies_between, are_parted, is_alone, are_alike, names, without, find_last, PartsAt, IsPartedFrom, IsPartedTo, IsPartedAfter, IsPartedBefore, IsParted, IsLastUpto}
+use Rattle.fs_unicast.proofs.PlaceOrder.{lt, le, lies_in, lies_above, lies_upto, apart, never, exact_place, below_upto, upto_upto, lt_le, upto_itself, below_not_upto, equal_upto, equal_back}
 use Rattle.fs_unicast.proofs.Finding.{found_each, found_passes, last_each, last_passes, no_last, after_found, before_last}
 use Rattle.fs_unicast.proofs.Parting.{same_is, same_itself, wider, Fore, Aft, fores, afts}
 
@@ -64,15 +64,15 @@ pub elsewhere : (turns : List Place) (t x y : Place) → (lies_between x y t ≡
 elsewhere turns t x y out = stays_removed (lies_between x y) (is_at (place_cmp t))
     (λ u lies. false_from (is_at (place_cmp t) u) (λ same. out (moved u lies (equal_of_is_eq (place_cmp t u) same)))) turns where
       moved : (u : Place) → lies_between x y u ≡ true → place_cmp t u ≡ Equal → lies_between x y t ≡ true
-      moved u lies same = and_both (is_lt (place_cmp x t)) (is_le (place_cmp t y))
-          (below_upto x u t (and_first (is_lt (place_cmp x u)) (is_le (place_cmp u y)) lies) (equal_back t u same))
-          (upto_upto t u y (equal_upto t u same) (and_second (is_lt (place_cmp x u)) (is_le (place_cmp u y)) lies))
+      moved u lies same = lies_in x y t
+          (below_upto x u t (lies_above x y u lies) (equal_back t u same))
+          (upto_upto t u y (equal_upto t u same) (lies_upto x y u lies))
 
 -- another turn at a place parts there still
 pub still_here : (turns : List Place) (z t : Place) → PartsAt turns z → lt z t → PartsAt (rest_of turns t) z
-still_here turns z t here past x y lies = wider (rest_of turns t) x x z y (upto_itself x) (and_second (is_lt (place_cmp x z)) (is_le (place_cmp z y)) lies)
-    (elsewhere turns t x z (λ k. never z t past (and_second (is_lt (place_cmp x t)) (is_le (place_cmp t z)) k))
-    (here x z (and_both (is_lt (place_cmp x z)) (is_le (place_cmp z z)) (and_first (is_lt (place_cmp x z)) (is_le (place_cmp z y)) lies) (upto_itself z))))
+still_here turns z t here past x y lies = wider (rest_of turns t) x x z y (upto_itself x) (lies_upto x y z lies)
+    (elsewhere turns t x z (λ k. never z t past (lies_upto x z t k))
+    (here x z (lies_in x z z (lies_above x y z lies) (upto_itself z))))
 
 -- two routes have the same neighbouring AS, one of them isn't there, or they are parted
 abbrev pub IsClosed : List Place → Option Route → Option Route → Type 0
@@ -82,16 +82,16 @@ IsClosed turns (Some b) (Some a) = is_same (neighbour_of b) (neighbour_of a) ≡
 
 -- A turn between the last route before a place and the first one from there on.
 module _ (turns : List Place) (held : List Route) (z t : Place) (o p : Option Route) (sorted : IsStrictlySortedBy place_cmp (keys_of held)) (parted : IsParted turns held)
-    (last : find_last (λ r. is_lt (place_cmp r.0 z)) held ≡ o) (first : find (λ r. is_le (place_cmp z r.0)) held ≡ p)
+    (last : find_last (is_before z) held ≡ o) (first : find (is_at_or_after z) held ≡ p)
     (low : IfSome o (λ b. lt b.0 t)) (high : IfSome p (λ a. le t a.0)) where
   abbrev rest : List Place
   rest = rest_of turns t
 
   fore_z : AllByRecursion (λ x. lt x.0 z → Fore turns o x) held
-  fore_z = fores turns held (λ r. is_lt (place_cmp r.0 z)) sorted parted o last
+  fore_z = fores turns held (is_before z) sorted parted o last
 
   aft_z : AllByRecursion (λ y. le z y.0 → Aft turns p y) held
-  aft_z = afts turns held (λ r. is_le (place_cmp z r.0)) sorted parted p first
+  aft_z = afts turns held (is_at_or_after z) sorted parted p first
 
   -- the routes before the turn are those before the place
   fore : AllByRecursion (λ x. lt x.0 t → Fore turns o x) held
@@ -123,9 +123,9 @@ module _ (turns : List Place) (held : List Route) (z t : Place) (o p : Option Ro
     at : (d : Bool) → is_same (neighbour_of b) (neighbour_of a) ≡ d → (e : Bool) → is_same (neighbour_of x) (neighbour_of b) ≡ e → are_parted rest x.0 y.0 ≡ true
     at false d e k = wider rest x.0 b.0 a.0 y.0 f.0 g.0 (c d)
     at true d false k = wider rest x.0 x.0 b.0 y.0 (upto_itself x.0) (lt_le (place_cmp b.0 y.0) (below_upto b.0 t y.0 l (upto_upto t a.0 y.0 h g.0)))
-        (elsewhere turns t x.0 b.0 (λ lies. never b.0 t l (and_second (is_lt (place_cmp x.0 t)) (is_le (place_cmp t b.0)) lies)) (f.1 k))
+        (elsewhere turns t x.0 b.0 (λ lies. never b.0 t l (lies_upto x.0 b.0 t lies)) (f.1 k))
     at true d true k = wider rest x.0 a.0 y.0 y.0 (upto_upto x.0 b.0 a.0 f.0 (lt_le (place_cmp b.0 a.0) (below_upto b.0 t a.0 l h))) (upto_itself y.0)
-        (elsewhere turns t a.0 y.0 (λ lies. never a.0 t (and_first (is_lt (place_cmp a.0 t)) (is_le (place_cmp t y.0)) lies) h)
+        (elsewhere turns t a.0 y.0 (λ lies. never a.0 t (lies_above a.0 y.0 t lies) h)
         (g.1 (subst (λ n. is_same n (neighbour_of y) ≡ false) (same_is (neighbour_of x) (neighbour_of b) k ∙ same_is (neighbour_of b) (neighbour_of a) d) other)))
 
   pub parted_without : IsClosed (rest_of turns t) o p → IsParted (rest_of turns t) held
@@ -134,32 +134,32 @@ module _ (turns : List Place) (held : List Route) (z t : Place) (o p : Option Ro
         at : (x y : Route) → IsPartedFrom turns x.0 (neighbour_of x) y → (lt x.0 t → Fore turns o x) → (le t y.0 → Aft turns p y) → IsPartedFrom rest x.0 (neighbour_of x) y
         at x y part f g below other = by (lies_between x.0 y.0 t) refl where
           by : (b : Bool) → lies_between x.0 y.0 t ≡ b → are_parted rest x.0 y.0 ≡ true
-          by true e = over x y other o p low high closed (f (and_first (is_lt (place_cmp x.0 t)) (is_le (place_cmp t y.0)) e)) (g (and_second (is_lt (place_cmp x.0 t)) (is_le (place_cmp t y.0)) e))
+          by true e = over x y other o p low high closed (f (lies_above x.0 y.0 t e)) (g (lies_upto x.0 y.0 t e))
           by false e = elsewhere turns t x.0 y.0 (λ lies. true≢false (sym lies ∙ e)) (part below other)
 
 -- a turn stands at the place, so the one at the first route behind it goes
 pub parted_moved : (turns : List Place) (held : List Route) (z : Place) (o : Option Route) (s : Route) → IsStrictlySortedBy place_cmp (keys_of held) → IsParted turns held
-    → find_last (λ r. is_lt (place_cmp r.0 z)) held ≡ o → find (λ r. is_le (place_cmp z r.0)) held ≡ Some s → lt z s.0 → PartsAt turns z → IsParted (rest_of turns s.0) held
+    → find_last (is_before z) held ≡ o → find (is_at_or_after z) held ≡ Some s → lt z s.0 → PartsAt turns z → IsParted (rest_of turns s.0) held
 parted_moved turns held z o s sorted parted last first past here = parted_without turns held z s.0 o (Some s) sorted parted last first (low o last) (upto_itself s.0) (closed o last) where
-  low : (o : Option Route) → find_last (λ r. is_lt (place_cmp r.0 z)) held ≡ o → IfSome o (λ b. lt b.0 s.0)
+  low : (o : Option Route) → find_last (is_before z) held ≡ o → IfSome o (λ b. lt b.0 s.0)
   low None e = tt
-  low (Some b) e = below_upto b.0 z s.0 (last_passes (λ r. is_lt (place_cmp r.0 z)) held b e) (lt_le (place_cmp z s.0) past)
+  low (Some b) e = below_upto b.0 z s.0 (last_passes (is_before z) held b e) (lt_le (place_cmp z s.0) past)
 
-  closed : (o : Option Route) → find_last (λ r. is_lt (place_cmp r.0 z)) held ≡ o → IsClosed (rest_of turns s.0) o (Some s)
+  closed : (o : Option Route) → find_last (is_before z) held ≡ o → IsClosed (rest_of turns s.0) o (Some s)
   closed None e = tt
-  closed (Some b) e = λ _. still_here turns z s.0 here past b.0 s.0 (and_both (is_lt (place_cmp b.0 z)) (is_le (place_cmp z s.0)) (last_passes (λ r. is_lt (place_cmp r.0 z)) held b e) (lt_le (place_cmp z s.0) past))
+  closed (Some b) e = λ _. still_here turns z s.0 here past b.0 s.0 (lies_in b.0 s.0 z (last_passes (is_before z) held b e) (lt_le (place_cmp z s.0) past))
 
 -- a turn of which the routes beside it need none
 pub parted_idle : (turns : List Place) (held : List Route) (t : Place) (o p : Option Route) → IsStrictlySortedBy place_cmp (keys_of held) → IsParted turns held
-    → find_last (λ r. is_lt (place_cmp r.0 t)) held ≡ o → find (λ r. is_le (place_cmp t r.0)) held ≡ p → IsClosed (rest_of turns t) o p → IsParted (rest_of turns t) held
+    → find_last (is_before t) held ≡ o → find (is_at_or_after t) held ≡ p → IsClosed (rest_of turns t) o p → IsParted (rest_of turns t) held
 parted_idle turns held t o p sorted parted last first = parted_without turns held t t o p sorted parted last first (low o last) (high p first) where
-  low : (o : Option Route) → find_last (λ r. is_lt (place_cmp r.0 t)) held ≡ o → IfSome o (λ b. lt b.0 t)
+  low : (o : Option Route) → find_last (is_before t) held ≡ o → IfSome o (λ b. lt b.0 t)
   low None e = tt
-  low (Some b) e = last_passes (λ r. is_lt (place_cmp r.0 t)) held b e
+  low (Some b) e = last_passes (is_before t) held b e
 
-  high : (p : Option Route) → find (λ r. is_le (place_cmp t r.0)) held ≡ p → IfSome p (λ a. le t a.0)
+  high : (p : Option Route) → find (is_at_or_after t) held ≡ p → IfSome p (λ a. le t a.0)
   high None e = tt
-  high (Some a) e = found_passes (λ r. is_le (place_cmp t r.0)) held a e
+  high (Some a) e = found_passes (is_at_or_after t) held a e
 
 -- the turns between two places, one after the other
 pub alone_between : (turns found : List Place) (x y t : Place) → found ≡ filter (range_contains place_cmp (Excluded x) (Included y)) turns → list_all (λ u. is_eq (place_cmp t u)) found ≡ is_alone turns x y t
@@ -217,9 +217,9 @@ module _ (turns : List Place) (held : List Route) (z : Place) (path : Path) (the
 -- No route stands at the place, where one of another neighbouring AS than those beside it stood.
 module _ (turns : List Place) (held : List Route) (z : Place) (asn : Option ℕ) (sorted : IsStrictlySortedBy place_cmp (keys_of held)) (free : lookup (is_at (place_cmp z)) held ≡ None)
     (parted : IsParted turns held) (before : IsPartedBefore turns held z asn) (after : IsPartedAfter turns held z asn)
-    (o p : Option Route) (last : find_last (λ r. is_lt (place_cmp r.0 z)) held ≡ o) (first : find (λ r. is_lt (place_cmp z r.0)) held ≡ p) (h : names asn o ≡ false) (k : names asn p ≡ false) where
-  first_from : find (λ r. is_le (place_cmp z r.0)) held ≡ p
-  first_from = find_on (λ r. is_le (place_cmp z r.0)) (λ r. is_lt (place_cmp z r.0)) held
+    (o p : Option Route) (last : find_last (is_before z) held ≡ o) (first : find (is_after z) held ≡ p) (h : names asn o ≡ false) (k : names asn p ≡ false) where
+  first_from : find (is_at_or_after z) held ≡ p
+  first_from = find_on (is_at_or_after z) (is_after z) held
       (each_weaker (λ r. is_eq (place_cmp z r.0) ≡ false) (λ r. is_le (place_cmp z r.0) ≡ is_lt (place_cmp z r.0)) (λ r. unlike (place_cmp z r.0)) held (none_passes_from_lookup (is_at (place_cmp z)) held free)) ∙ first where
         unlike : (c : Ordering) → is_eq c ≡ false → is_le c ≡ is_lt c
         unlike Less e = refl
@@ -227,33 +227,33 @@ module _ (turns : List Place) (held : List Route) (z : Place) (asn : Option ℕ)
         unlike Greater e = refl
 
   -- the last turn up to the place lies behind the route before
-  front : (o : Option Route) → find_last (λ r. is_lt (place_cmp r.0 z)) held ≡ o → names asn o ≡ false → (t : Place) → IsLastUpto turns z (Some t) → IfSome o (λ b. lt b.0 t)
+  front : (o : Option Route) → find_last (is_before z) held ≡ o → names asn o ≡ false → (t : Place) → IsLastUpto turns z (Some t) → IfSome o (λ b. lt b.0 t)
   front None e h t l = tt
   front (Some b) e h t l = any_each (lies_between b.0 z) (λ u. le u z → le u t) (lt b.0 t) turns
-      (last_each (λ r. is_lt (place_cmp r.0 z)) (IsPartedTo turns z asn) held b e before (last_passes (λ r. is_lt (place_cmp r.0 z)) held b e) h) l.1
-      (λ u lies f. below_upto b.0 u t (and_first (is_lt (place_cmp b.0 u)) (is_le (place_cmp u z)) lies) (f (and_second (is_lt (place_cmp b.0 u)) (is_le (place_cmp u z)) lies)))
+      (last_each (is_before z) (IsPartedTo turns z asn) held b e before (last_passes (is_before z) held b e) h) l.1
+      (λ u lies f. below_upto b.0 u t (lies_above b.0 z u lies) (f (lies_upto b.0 z u lies)))
 
-  below_z : (o : Option Route) → find_last (λ r. is_lt (place_cmp r.0 z)) held ≡ o → IfSome o (λ b. lt b.0 z)
+  below_z : (o : Option Route) → find_last (is_before z) held ≡ o → IfSome o (λ b. lt b.0 z)
   below_z None e = tt
-  below_z (Some b) e = last_passes (λ r. is_lt (place_cmp r.0 z)) held b e
+  below_z (Some b) e = last_passes (is_before z) held b e
 
-  above_z : (p : Option Route) → find (λ r. is_lt (place_cmp z r.0)) held ≡ p → (t : Place) → le t z → IfSome p (λ a. le t a.0)
+  above_z : (p : Option Route) → find (is_after z) held ≡ p → (t : Place) → le t z → IfSome p (λ a. le t a.0)
   above_z None e t l = tt
-  above_z (Some a) e t l = upto_upto t z a.0 l (lt_le (place_cmp z a.0) (found_passes (λ r. is_lt (place_cmp z r.0)) held a e))
+  above_z (Some a) e t l = upto_upto t z a.0 l (lt_le (place_cmp z a.0) (found_passes (is_after z) held a e))
 
   -- a turn lies between the place and the route after, also without the last one up to the place
-  behind : (a : Route) → find (λ r. is_lt (place_cmp z r.0)) held ≡ Some a → is_same (neighbour_of a) asn ≡ false → are_parted turns z a.0 ≡ true
-  behind a e k = found_each (λ r. is_lt (place_cmp z r.0)) (IsPartedFrom turns z asn) held a e after (found_passes (λ r. is_lt (place_cmp z r.0)) held a e)
+  behind : (a : Route) → find (is_after z) held ≡ Some a → is_same (neighbour_of a) asn ≡ false → are_parted turns z a.0 ≡ true
+  behind a e k = found_each (is_after z) (IsPartedFrom turns z asn) held a e after (found_passes (is_after z) held a e)
       (false_from (is_same asn (neighbour_of a)) (λ same. true≢false (sym (subst (λ n. is_same n asn ≡ true) (same_is asn (neighbour_of a) same) (same_itself asn)) ∙ k)))
 
-  behind_without : (w : Option Place) → IsLastUpto turns z w → (a : Route) → find (λ r. is_lt (place_cmp z r.0)) held ≡ Some a → is_same (neighbour_of a) asn ≡ false → are_parted (without turns w) z a.0 ≡ true
+  behind_without : (w : Option Place) → IsLastUpto turns z w → (a : Route) → find (is_after z) held ≡ Some a → is_same (neighbour_of a) asn ≡ false → are_parted (without turns w) z a.0 ≡ true
   behind_without None l a e k = behind a e k
-  behind_without (Some t) l a e k = elsewhere turns t z a.0 (λ lies. never z t (and_first (is_lt (place_cmp z t)) (is_le (place_cmp t a.0)) lies) l.0) (behind a e k)
+  behind_without (Some t) l a e k = elsewhere turns t z a.0 (λ lies. never z t (lies_above z a.0 t lies) l.0) (behind a e k)
 
   pub without_last : (w : Option Place) → IsLastUpto turns z w → IsParted (without turns w) held
   without_last None l = parted
   without_last (Some t) l = parted_without turns held z t o p sorted parted last first_from (front o last h t l) (above_z p first t l.0) (closed o p (below_z o last) first k) where
-    closed : (o p : Option Route) → IfSome o (λ b. lt b.0 z) → find (λ r. is_lt (place_cmp z r.0)) held ≡ p → names asn p ≡ false → IsClosed (rest_of turns t) o p
+    closed : (o p : Option Route) → IfSome o (λ b. lt b.0 z) → find (is_after z) held ≡ p → names asn p ≡ false → IsClosed (rest_of turns t) o p
     closed None p b e k = tt
     closed (Some b) None m e k = tt
     closed (Some b) (Some a) m e k = λ _. wider (rest_of turns t) b.0 z a.0 a.0 (lt_le (place_cmp b.0 z) m) (upto_itself a.0) (behind_without (Some t) l a e k)
@@ -270,11 +270,11 @@ module _ (turns : List Place) (held : List Route) (z : Place) (asn : Option ℕ)
     low None m = tt
     low (Some b) m = below_upto b.0 z t m (lt_le (place_cmp z t) past)
 
-    high : (p : Option Route) → find (λ r. is_lt (place_cmp z r.0)) held ≡ p → names asn p ≡ false → IfSome p (λ a. le t a.0)
+    high : (p : Option Route) → find (is_after z) held ≡ p → names asn p ≡ false → IfSome p (λ a. le t a.0)
     high None f k = tt
     high (Some a) f k = any_each (lies_between z a.0) (λ u. lt z u → le t u) (le t a.0) (without turns w) (behind_without w l a f k)
         (after_found place_cmp (λ t. t) (λ t. is_lt (place_cmp z t)) (λ u. le t u) (without turns w) (subst (IsStrictlySortedBy place_cmp) (sym (map-id (without turns w))) places) t e (upto_itself t) (λ y less. ap is_le less))
-        (λ u lies f. upto_upto t u a.0 (f (and_first (is_lt (place_cmp z u)) (is_le (place_cmp u a.0)) lies)) (and_second (is_lt (place_cmp z u)) (is_le (place_cmp u a.0)) lies))
+        (λ u lies f. upto_upto t u a.0 (f (lies_above z a.0 u lies)) (lies_upto z a.0 u lies))
 
     closed : (o p : Option Route) → are_alike o p ≡ true → IsClosed (rest_of (without turns w) t) o p
     closed None p m = tt

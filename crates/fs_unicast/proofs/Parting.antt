@@ -1,5 +1,6 @@
 -- Turns part the routes of other neighbouring ASes, after each change.
-use Rattle.std.proofs.Common.{ℕ, suc, zero, length, ◌≡◌, refl, sym, ap, subst, ◌∙◌, Bool, true, false, true≢false, ◌||◌, List, [], ◌∷◌, find, Option, Some, None, Ordering, Less, Equal, Greater, is_eq, is_le, is_lt, cond, option_map, arith}
+use Rattle.std.specs.Prelude.{◌↔◌}
+use Rattle.std.proofs.Common.{ℕ, ◌⊎◌, inl, inr, suc, zero, length, ◌≡◌, refl, sym, ap, subst, ◌∙◌, Bool, true, false, true≢false, ◌||◌, List, [], ◌∷◌, find, Option, Some, None, Ordering, Less, Equal, Greater, is_eq, is_le, is_lt, cond, option_map, arith}
 use Rattle.std.specs.List.{AllByRecursion, list_any}
 use Rattle.std.specs.List.Sorted.{IsStrictlySortedBy}
 use Rattle.std.specs.Ordering.{match_ordering}
@@ -8,16 +9,16 @@ use Rattle.std.specs.BTreeSet.{insert_key}
 use Rattle.std.specs.Cmp.{tied_itself}
 use Rattle.std.specs.Map.{keys_of}
 use Rattle.std.proofs.lemmas.Bool.Decides.{nat_tests}
-use Rattle.fs_base.proofs.Bools.{and_both, and_first, and_second, or_first, or_second}
+use Rattle.fs_base.proofs.Bools.{or_first, or_second}
 use Rattle.fs_base.proofs.Lists.{each, each_weaker, each_both, any_weaker}
 use Rattle.fs_base.specs.declared.path.Path.{Path}
 use Rattle.fs_unicast.specs.declared.unicast.Place.{Place}
 use Rattle.fs_unicast.specs.Neighbour.{neighbour}
 use Rattle.fs_unicast.specs.Unicast.{Route, place_cmp}
-use Rattle.fs_unicast.specs.Turns.{neighbour_of, is_same, lies_between, are_parted, IsPartedFrom, IsPartedTo, IsPartedAfter, IsPartedBefore, IsParted, StaysParted, PartsAt, IsPartedAt, is_alike, stands_at, find_last}
+use Rattle.fs_unicast.specs.Turns.{neighbour_of, is_same, is_before, is_after, is_at_or_after, lies_between, are_parted, IsPartedFrom, IsPartedTo, IsPartedAfter, IsPartedBefore, IsParted, StaysParted, PartsAt, IsPartedAt, is_alike, stands_at, find_last}
 use Rattle.std.proofs.lemmas.Option.{same_Some}
 use Rattle.fs_base.proofs.Orderings.{equal_of_is_eq}
-use Rattle.fs_unicast.proofs.PlaceOrder.{place_total, lt, le, below_upto, upto_below, upto_upto, lt_le, upto_itself, equal_upto, equal_back}
+use Rattle.fs_unicast.proofs.PlaceOrder.{place_total, lt, le, lies_in, lies_above, lies_upto, below_upto, upto_below, upto_upto, lt_le, upto_itself, equal_upto, equal_back}
 use Rattle.fs_unicast.proofs.Finding.{found_each, found_passes, none_found, find_none, find_narrower, after_found, last_each, last_passes, no_last, before_last}
 
 pub same_is : (a b : Option ℕ) → is_same a b ≡ true → a ≡ b
@@ -32,8 +33,8 @@ same_itself (Some n) = grind (arith, nat_tests)
 
 -- a turn between x and y lies between what is around them
 pub wider : (turns : List Place) (w x y z : Place) → is_le (place_cmp w x) ≡ true → is_le (place_cmp y z) ≡ true → are_parted turns x y ≡ true → are_parted turns w z ≡ true
-wider turns w x y z h k = any_weaker (lies_between x y) (lies_between w z) (λ t l. and_both (is_lt (place_cmp w t)) (is_le (place_cmp t z))
-    (upto_below w x t h (and_first (is_lt (place_cmp x t)) (is_le (place_cmp t y)) l)) (upto_upto t y z (and_second (is_lt (place_cmp x t)) (is_le (place_cmp t y)) l) k)) turns
+wider turns w x y z h k = any_weaker (lies_between x y) (lies_between w z) (λ t l. lies_in w z t
+    (upto_below w x t h (lies_above x y t l)) (upto_upto t y z (lies_upto x y t l) k)) turns
 
 -- what was among the keys of a set is there after an insertion
 kept_inserted : (q : Place → Bool) (k : Place) (ks : List Place) → list_any q ks ≡ true → list_any q (insert_key place_cmp ks k) ≡ true
@@ -61,7 +62,7 @@ stays_inserted turn old new e x y h = ap (list_any (lies_between x y)) e ∙ kep
 
 pub parts_inserted : (turn : Place) (old new : List Place) → new ≡ insert_key place_cmp old turn → (x y : Place) → lies_between x y turn ≡ true → are_parted new x y ≡ true
 parts_inserted turn old new e x y h = ap (list_any (lies_between x y)) e ∙ there_inserted (lies_between x y) turn h
-    (λ t same. and_both (is_lt (place_cmp x t)) (is_le (place_cmp t y)) (below_upto x turn t (and_first (is_lt (place_cmp x turn)) (is_le (place_cmp turn y)) h) (equal_upto turn t same)) (upto_upto t turn y (equal_back turn t same) (and_second (is_lt (place_cmp x turn)) (is_le (place_cmp turn y)) h))) old
+    (λ t same. lies_in x y t (below_upto x turn t (lies_above x y turn h) (equal_upto turn t same)) (upto_upto t turn y (equal_back turn t same) (lies_upto x y turn h))) old
 
 stays_after : (old new : List Place) (held : List Route) (x : Place) (asn : Option ℕ) → StaysParted old new → IsPartedAfter old held x asn → IsPartedAfter new held x asn
 stays_after old new held x asn stays h = each_weaker (IsPartedFrom old x asn) (IsPartedFrom new x asn) (λ r f below other. stays x r.0 (f below other)) held h
@@ -146,17 +147,17 @@ module _ (turns : List Place) (held : List Route) (test : Route → Bool) (sorte
 
 -- a turn stands at the place itself
 pub parted_here : (turns : List Place) (held : List Route) (z : Place) (asn : Option ℕ) → PartsAt turns z → IsPartedBefore turns held z asn
-parted_here turns held z asn h = each (IsPartedTo turns z asn) (λ r below other. h r.0 z (and_both (is_lt (place_cmp r.0 z)) (is_le (place_cmp z z)) below (upto_itself z))) held
+parted_here turns held z asn h = each (IsPartedTo turns z asn) (λ r below other. h r.0 z (lies_in r.0 z z below (upto_itself z))) held
 
 -- no turn is wanted at the place, or one stands there
-pub parted_fore : (turns : List Place) (held : List Route) (z : Place) (asn : Option ℕ) (o : Option Route) → IsStrictlySortedBy place_cmp (keys_of held) → find_last (λ r. is_lt (place_cmp r.0 z)) held ≡ o → IsParted turns held
+pub parted_fore : (turns : List Place) (held : List Route) (z : Place) (asn : Option ℕ) (o : Option Route) → IsStrictlySortedBy place_cmp (keys_of held) → find_last (is_before z) held ≡ o → IsParted turns held
     → (is_alike asn o ≡ false → PartsAt turns z) → IsPartedBefore turns held z asn
-parted_fore turns held z asn o sorted e parted h = at o e h (fores turns held (λ r. is_lt (place_cmp r.0 z)) sorted parted o e) where
-  at : (o : Option Route) → find_last (λ r. is_lt (place_cmp r.0 z)) held ≡ o → (is_alike asn o ≡ false → PartsAt turns z) → AllByRecursion (λ x. lt x.0 z → Fore turns o x) held → IsPartedBefore turns held z asn
+parted_fore turns held z asn o sorted e parted h = at o e h (fores turns held (is_before z) sorted parted o e) where
+  at : (o : Option Route) → find_last (is_before z) held ≡ o → (is_alike asn o ≡ false → PartsAt turns z) → AllByRecursion (λ x. lt x.0 z → Fore turns o x) held → IsPartedBefore turns held z asn
   at None e h all = each_weaker (λ x. lt x.0 z → ⊥) (IsPartedTo turns z asn) (λ x f below other. absurd (f below)) held all
   at (Some b) e h all = by (is_same (neighbour_of b) asn) refl where
     below_b : lt b.0 z
-    below_b = last_passes (λ r. is_lt (place_cmp r.0 z)) held b e
+    below_b = last_passes (is_before z) held b e
 
     by : (c : Bool) → is_same (neighbour_of b) asn ≡ c → IsPartedBefore turns held z asn
     by true k = each_weaker (λ x. lt x.0 z → Fore turns (Some b) x) (IsPartedTo turns z asn)
@@ -164,23 +165,23 @@ parted_fore turns held z asn o sorted e parted h = at o e h (fores turns held (�
     by false k = parted_here turns held z asn (h k)
 
 -- no turn is wanted at the route after, or one stands there
-pub parted_aft : (turns : List Place) (held : List Route) (z : Place) (asn : Option ℕ) (p : Option Route) → IsStrictlySortedBy place_cmp (keys_of held) → find (λ r. is_lt (place_cmp z r.0)) held ≡ p → IsParted turns held
+pub parted_aft : (turns : List Place) (held : List Route) (z : Place) (asn : Option ℕ) (p : Option Route) → IsStrictlySortedBy place_cmp (keys_of held) → find (is_after z) held ≡ p → IsParted turns held
     → IsPartedAt turns asn p → IsPartedAfter turns held z asn
-parted_aft turns held z asn p sorted e parted h = at p e h (afts turns held (λ r. is_lt (place_cmp z r.0)) sorted parted p e) where
-  at : (p : Option Route) → find (λ r. is_lt (place_cmp z r.0)) held ≡ p → IsPartedAt turns asn p → AllByRecursion (λ y. lt z y.0 → Aft turns p y) held → IsPartedAfter turns held z asn
+parted_aft turns held z asn p sorted e parted h = at p e h (afts turns held (is_after z) sorted parted p e) where
+  at : (p : Option Route) → find (is_after z) held ≡ p → IsPartedAt turns asn p → AllByRecursion (λ y. lt z y.0 → Aft turns p y) held → IsPartedAfter turns held z asn
   at None e h all = each_weaker (λ y. lt z y.0 → ⊥) (IsPartedFrom turns z asn) (λ y f below other. absurd (f below)) held all
   at (Some a) e h all = by (is_same (neighbour_of a) asn) refl where
     above_a : lt z a.0
-    above_a = found_passes (λ r. is_lt (place_cmp z r.0)) held a e
+    above_a = found_passes (is_after z) held a e
 
     by : (c : Bool) → is_same (neighbour_of a) asn ≡ c → IsPartedAfter turns held z asn
     by true k = each_weaker (λ y. lt z y.0 → Aft turns (Some a) y) (IsPartedFrom turns z asn)
         (λ y f below other. wider turns z a.0 y.0 y.0 (lt_le (place_cmp z a.0) above_a) (upto_itself y.0) ((f below).1 (subst (λ n. is_same n (neighbour_of y) ≡ false) (sym (same_is (neighbour_of a) asn k)) other))) held all
     by false k = each_weaker (λ y. lt z y.0 → Aft turns (Some a) y) (IsPartedFrom turns z asn)
-        (λ y f below other. h k z y.0 (and_both (is_lt (place_cmp z a.0)) (is_le (place_cmp a.0 y.0)) above_a (f below).0)) held all
+        (λ y f below other. h k z y.0 (lies_in z y.0 a.0 above_a (f below).0)) held all
 
 -- a path comes in place of one of the same neighbouring AS
-module _ (turns : List Place) (held : List Route) (z : Place) (asn : Option ℕ) (g : Route) (e : find (λ r. is_le (place_cmp z r.0)) held ≡ Some g) (same : place_cmp z g.0 ≡ Equal) (alike : is_same (neighbour_of g) asn ≡ true) (parted : IsParted turns held) where
+module _ (turns : List Place) (held : List Route) (z : Place) (asn : Option ℕ) (g : Route) (e : find (is_at_or_after z) held ≡ Some g) (same : place_cmp z g.0 ≡ Equal) (alike : is_same (neighbour_of g) asn ≡ true) (parted : IsParted turns held) where
   alike_before : IsPartedBefore turns held z asn
   alike_before = each_weaker (λ r. IsPartedAfter turns held r.0 (neighbour_of r)) (IsPartedTo turns z asn)
       (λ r part below other. wider turns r.0 r.0 g.0 z (upto_itself r.0) (equal_back z g.0 same)
@@ -191,46 +192,46 @@ module _ (turns : List Place) (held : List Route) (z : Place) (asn : Option ℕ)
   alike_after = each_weaker (IsPartedFrom turns g.0 (neighbour_of g)) (IsPartedFrom turns z asn)
       (λ s part below other. wider turns z g.0 s.0 s.0 (equal_upto z g.0 same) (upto_itself s.0)
       (part (upto_below g.0 z s.0 (equal_back z g.0 same) below) (subst (λ n. is_same n (neighbour_of s) ≡ false) (sym (same_is (neighbour_of g) asn alike)) other))) held
-      (found_each (λ r. is_le (place_cmp z r.0)) (λ r. IsPartedAfter turns held r.0 (neighbour_of r)) held g e parted)
+      (found_each (is_at_or_after z) (λ r. IsPartedAfter turns held r.0 (neighbour_of r)) held g e parted)
 
-pub parted_replaced : (turns : List Place) (held : List Route) (z : Place) (path : Path) (o : Option Route) → find (λ r. is_le (place_cmp z r.0)) held ≡ o → stands_at z o ≡ true → is_alike (neighbour path.segments) o ≡ true → IsParted turns held
+pub parted_replaced : (turns : List Place) (held : List Route) (z : Place) (path : Path) (o : Option Route) → find (is_at_or_after z) held ≡ o → stands_at z o ≡ true → is_alike (neighbour path.segments) o ≡ true → IsParted turns held
     → IsParted turns (insert_entry place_cmp held z path)
 parted_replaced turns held z path None e there alike parted = absurd (true≢false (sym there))
 parted_replaced turns held z path (Some g) e there alike parted = let same = equal_of_is_eq (place_cmp z g.0) there in
     parted_put turns held z path parted (alike_before turns held z (neighbour path.segments) g e same alike parted) (alike_after turns held z (neighbour path.segments) g e same alike parted)
 
 -- the first route from the place on is after it, if it doesn't stand there
-pub next_behind : (held : List Route) (z : Place) (o : Option Route) → find (λ r. is_le (place_cmp z r.0)) held ≡ o → stands_at z o ≡ false → o ≡ find (λ r. is_lt (place_cmp z r.0)) held
-next_behind held z None e apart = sym (find_none (λ r. is_lt (place_cmp z r.0)) held (each_weaker (λ r. is_le (place_cmp z r.0) ≡ false) (λ r. is_lt (place_cmp z r.0) ≡ false) (λ r. no_less (place_cmp z r.0)) held (none_found (λ r. is_le (place_cmp z r.0)) held e))) where
+pub next_behind : (held : List Route) (z : Place) (o : Option Route) → find (is_at_or_after z) held ≡ o → stands_at z o ≡ false → o ≡ find (is_after z) held
+next_behind held z None e apart = sym (find_none (is_after z) held (each_weaker (λ r. is_le (place_cmp z r.0) ≡ false) (λ r. is_lt (place_cmp z r.0) ≡ false) (λ r. no_less (place_cmp z r.0)) held (none_found (is_at_or_after z) held e))) where
   no_less : (o : Ordering) → is_le o ≡ false → is_lt o ≡ false
   no_less Less h = h
   no_less Equal h = refl
   no_less Greater h = refl
-next_behind held z (Some s) e apart = sym (find_narrower (λ r. is_le (place_cmp z r.0)) (λ r. is_lt (place_cmp z r.0)) (λ r. lt_le (place_cmp z r.0)) held s e
-    (less (place_cmp z s.0) (found_passes (λ r. is_le (place_cmp z r.0)) held s e) apart)) where
+next_behind held z (Some s) e apart = sym (find_narrower (is_at_or_after z) (is_after z) (λ r. lt_le (place_cmp z r.0)) held s e
+    (less (place_cmp z s.0) (found_passes (is_at_or_after z) held s e) apart)) where
       less : (o : Ordering) → is_le o ≡ true → is_eq o ≡ false → is_lt o ≡ true
       less Less h k = refl
       less Equal h k = sym k
       less Greater h k = h
 
-same_held : (held : List Route) (z : Place) (path : Path) (g : Route) → find (λ r. is_le (place_cmp z r.0)) held ≡ Some g → place_cmp z g.0 ≡ Equal → g.1 ≡ path → insert_entry place_cmp held z path ≡ held
+same_held : (held : List Route) (z : Place) (path : Path) (g : Route) → find (is_at_or_after z) held ≡ Some g → place_cmp z g.0 ≡ Equal → g.1 ≡ path → insert_entry place_cmp held z path ≡ held
 same_held [] z path g e same is = cc
 same_held (r ∷ held) z path g e same is = at (place_cmp z r.0) refl e (λ k. same_held held z path g k same is) where
-  at : (o : Ordering) → place_cmp z r.0 ≡ o → cond (is_le o) (Some r) (find (λ r. is_le (place_cmp z r.0)) held) ≡ Some g → (find (λ r. is_le (place_cmp z r.0)) held ≡ Some g → insert_entry place_cmp held z path ≡ held)
+  at : (o : Ordering) → place_cmp z r.0 ≡ o → cond (is_le o) (Some r) (find (is_at_or_after z) held) ≡ Some g → (find (is_at_or_after z) held ≡ Some g → insert_entry place_cmp held z path ≡ held)
       → match_ordering o ((z, path) ∷ r ∷ held) ((r.0, path) ∷ held) (r ∷ insert_entry place_cmp held z path) ≡ r ∷ held
   at Less l k ih = absurd (true≢false (sym (ap is_lt l) ∙ ap (λ s. is_lt (place_cmp z s.0)) (same_Some r g k) ∙ ap is_lt same))
   at Equal l k ih = ap (λ p. (r.0, p) ∷ held) (sym is ∙ ap (λ s. s.1) (sym (same_Some r g k)))
   at Greater l k ih = ap (λ rs. r ∷ rs) (ih k)
 
 -- the path that a place has comes once more
-pub put_again : (held : List Route) (z : Place) (path : Path) (o : Option Route) → find (λ r. is_le (place_cmp z r.0)) held ≡ o → stands_at z o ≡ true → option_map (λ r. r.1) o ≡ Some path → insert_entry place_cmp held z path ≡ held
+pub put_again : (held : List Route) (z : Place) (path : Path) (o : Option Route) → find (is_at_or_after z) held ≡ o → stands_at z o ≡ true → option_map (λ r. r.1) o ≡ Some path → insert_entry place_cmp held z path ≡ held
 put_again held z path None e there is = absurd (true≢false (sym there))
 put_again held z path (Some g) e there is = same_held held z path g e (equal_of_is_eq (place_cmp z g.0) there) (same_Some g.1 path is)
 
 -- a path whose insertion changes nothing is the one that the place has
-pub put_back : (held : List Route) (z : Place) (path : Path) → insert_entry place_cmp held z path ≡ held
-    → (stands_at z (find (λ r. is_le (place_cmp z r.0)) held) ≡ true)
-    × (option_map (λ r. r.1) (find (λ r. is_le (place_cmp z r.0)) held) ≡ Some path)
+put_back : (held : List Route) (z : Place) (path : Path) → insert_entry place_cmp held z path ≡ held
+    → (stands_at z (find (is_at_or_after z) held) ≡ true)
+    × (option_map (λ r. r.1) (find (is_at_or_after z) held) ≡ Some path)
 put_back [] z path same = absurd (longer (ap length same)) where
   longer : suc zero ≡ zero → ⊥
   longer e = omega (arith, e)
@@ -247,10 +248,19 @@ put_back (r ∷ held) z path same = at (place_cmp z r.0) refl same (put_back hel
   at : (o : Ordering) → place_cmp z r.0 ≡ o
       → match_ordering o ((z, path) ∷ r ∷ held) ((r.0, path) ∷ held) (r ∷ insert_entry place_cmp held z path) ≡ r ∷ held
       → (insert_entry place_cmp held z path ≡ held
-      → (stands_at z (find (λ r. is_le (place_cmp z r.0)) held) ≡ true)
-      × (option_map (λ r. r.1) (find (λ r. is_le (place_cmp z r.0)) held) ≡ Some path))
-      → (stands_at z (cond (is_le o) (Some r) (find (λ r. is_le (place_cmp z r.0)) held)) ≡ true)
-      × (option_map (λ r. r.1) (cond (is_le o) (Some r) (find (λ r. is_le (place_cmp z r.0)) held)) ≡ Some path)
+      → (stands_at z (find (is_at_or_after z) held) ≡ true)
+      × (option_map (λ r. r.1) (find (is_at_or_after z) held) ≡ Some path))
+      → (stands_at z (cond (is_le o) (Some r) (find (is_at_or_after z) held)) ≡ true)
+      × (option_map (λ r. r.1) (cond (is_le o) (Some r) (find (is_at_or_after z) held)) ≡ Some path)
   at Less l k ih = absurd (longer (length held) (ap length k))
   at Equal l k ih = (ap is_eq l, ap Some (sym (ap (λ (s : Route). s.1) (first_is (r.0, path) r k))))
   at Greater l k ih = ih (rest_is (insert_entry place_cmp held z path) held k)
+
+-- so another one, or one at a free place, changes the routes
+pub put_changes : (held made : List Route) (z : Place) (path : Path) (next : Option Route) → next ≡ find (is_at_or_after z) held → made ≡ insert_entry place_cmp held z path
+    → (stands_at z next ≡ false) ⊎ (option_map (λ r. r.1) next ≡ Some path → ⊥) → (true ≡ false) ↔ made ≡ held
+put_changes held made z path next found is other = ((λ e. absurd (true≢false e)), (λ same. absurd (at other (put_back held z path (sym is ∙ same))))) where
+  at : (stands_at z next ≡ false) ⊎ (option_map (λ r. r.1) next ≡ Some path → ⊥)
+      → (stands_at z (find (is_at_or_after z) held) ≡ true) × (option_map (λ r. r.1) (find (is_at_or_after z) held) ≡ Some path) → ⊥
+  at (inl free) back = true≢false (sym back.0 ∙ ap (stands_at z) (sym found) ∙ free)
+  at (inr apart) back = apart (ap (option_map (λ r. r.1)) found ∙ back.1)

@@ -2,7 +2,7 @@
 use Rattle.std.proofs.Common.{◌≡◌, ◌⊎◌, inl, inr, refl, sym, ap, ◌∙◌, Bool, true, false, true≢false, not, Ordering, Less, Equal, Greater, is_eq, is_le, is_lt}
 use Rattle.std.specs.Ordering.{ordering_reverse, ordering_then, nat_cmp}
 use Rattle.std.specs.Cmp.{IsTotalOrder, alike_right, tied_itself, on_total, then_total, nat_cmp_total}
-use Rattle.fs_base.proofs.Bools.{true_of_not}
+use Rattle.fs_base.proofs.Bools.{and_both, and_first, and_second, true_of_not}
 use Rattle.std.proofs.Math.Path.{ap₂}
 use Rattle.std.proofs.lemmas.Map.Lookups.{exact_unsigned}
 use Rattle.fs_base.specs.Prefix.{prefix_cmp, prefix_total}
@@ -10,6 +10,7 @@ use Rattle.fs_base.proofs.Orderings.{equal_of_is_eq, less_of_is_lt}
 use Rattle.fs_base.proofs.SamePrefix.{same_from_cmp}
 use Rattle.fs_unicast.specs.declared.unicast.Place.{Place}
 use Rattle.fs_unicast.specs.Unicast.{place_cmp}
+use Rattle.fs_unicast.specs.Turns.{lies_between}
 
 pub place_total : IsTotalOrder place_cmp
 place_total = then_total (on_total (λ p. p.prefix) prefix_total) (on_total (λ p. p.peer) nat_cmp_total)
@@ -96,3 +97,13 @@ exact_place a b h = at (prefix_cmp a.prefix b.prefix) refl h where
   at Less e k = absurd (true≢false (sym k))
   at Equal e k = ap₂ (λ p n. record { prefix = p; peer = n }) (same_from_cmp a.prefix b.prefix (ap is_eq e)) (exact_unsigned a.peer b.peer (equal_of_is_eq (nat_cmp a.peer b.peer) k))
   at Greater e k = absurd (true≢false (sym k))
+
+-- what lies between two places is after the one and not after the other
+pub lies_in : (x y t : Place) → lt x t → le t y → lies_between x y t ≡ true
+lies_in x y t h k = and_both (is_lt (place_cmp x t)) (is_le (place_cmp t y)) h k
+
+pub lies_above : (x y t : Place) → lies_between x y t ≡ true → lt x t
+lies_above x y t h = and_first (is_lt (place_cmp x t)) (is_le (place_cmp t y)) h
+
+pub lies_upto : (x y t : Place) → lies_between x y t ≡ true → le t y
+lies_upto x y t h = and_second (is_lt (place_cmp x t)) (is_le (place_cmp t y)) h

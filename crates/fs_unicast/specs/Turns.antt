@@ -18,6 +18,16 @@ neighbour_of r = neighbour r.1.segments
 abbrev pub is_same : Option ℕ → Option ℕ → Bool
 is_same a b = option_eq (λ m n. m == n) a b
 
+-- of routes, those before a place, after it, and from it on
+abbrev pub is_before : Place → Route → Bool
+is_before z r = is_lt (place_cmp r.0 z)
+
+abbrev pub is_after : Place → Route → Bool
+is_after z r = is_lt (place_cmp z r.0)
+
+abbrev pub is_at_or_after : Place → Route → Bool
+is_at_or_after z r = is_le (place_cmp z r.0)
+
 -- from low on, and before high
 abbrev pub is_within : Place → Place → Place → Bool
 is_within low high q = is_le (place_cmp low q) && is_lt (place_cmp q high)

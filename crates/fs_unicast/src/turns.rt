@@ -11,7 +11,7 @@ ghost use Rattle.std.specs.List.Sorted.{IsStrictlySortedBy};
 ghost use Rattle.fs_unicast.specs.Search.{is_other};
 ghost use Rattle.fs_unicast.specs.Neighbour.{neighbour};
 ghost use Rattle.fs_unicast.specs.Unicast.{place_cmp};
-ghost use Rattle.fs_unicast.specs.Turns.{entry_now, stands_at, is_alike, are_alike, is_same, is_within, find_last, is_alone, names, without, IsParted, IsPartedAt, IsPartedBefore, IsPartedAfter, StaysParted, PartsAt, IsLastUpto, is_inside};
+ghost use Rattle.fs_unicast.specs.Turns.{entry_now, is_before, is_after, is_at_or_after, stands_at, is_alike, are_alike, is_same, is_within, find_last, is_alone, names, without, IsParted, IsPartedAt, IsPartedBefore, IsPartedAfter, StaysParted, PartsAt, IsLastUpto, is_inside};
 
 use crate::neighbour::is_other;
 use crate::shared::SharedPath;
@@ -65,9 +65,9 @@ pub fn part(
 ) -> Result<bool, Memory>
     requires parted { IsParted turns.old.keys paths.now.entries }
     requires ordered { IsStrictlySortedBy place_cmp (keys_of paths.now.entries) }
-    requires before { option_map entry_now before ≡ find_last (λ r. is_lt (place_cmp r.0 place.now)) paths.now.entries }
-    requires next { option_map entry_now next ≡ find (λ r. is_le (place_cmp place.now r.0)) paths.now.entries }
-    requires after { option_map entry_now after ≡ find (λ r. is_lt (place_cmp place.now r.0)) paths.now.entries }
+    requires before { option_map entry_now before ≡ find_last (is_before place.now) paths.now.entries }
+    requires next { option_map entry_now next ≡ find (is_at_or_after place.now) paths.now.entries }
+    requires after { option_map entry_now after ≡ find (is_after place.now) paths.now.entries }
     ensures parted { IsParted turns.new.keys paths.now.entries }
     ensures before { OnOk result (IsPartedBefore turns.new.keys paths.now.entries place.now asn) }
     ensures after { OnOk result (IsPartedAfter turns.new.keys paths.now.entries place.now asn) }
@@ -98,8 +98,8 @@ fn part_beside(
 ) -> Result<bool, Memory>
     requires parted { IsParted turns.old.keys paths.now.entries }
     requires ordered { IsStrictlySortedBy place_cmp (keys_of paths.now.entries) }
-    requires before { option_map entry_now before ≡ find_last (λ r. is_lt (place_cmp r.0 place.now)) paths.now.entries }
-    requires after { option_map entry_now after ≡ find (λ r. is_lt (place_cmp place.now r.0)) paths.now.entries }
+    requires before { option_map entry_now before ≡ find_last (is_before place.now) paths.now.entries }
+    requires after { option_map entry_now after ≡ find (is_after place.now) paths.now.entries }
     ensures parted { IsParted turns.new.keys paths.now.entries }
     ensures before { OnOk result (IsPartedBefore turns.new.keys paths.now.entries place.now asn) }
     ensures after { OnOk result (IsPartedAfter turns.new.keys paths.now.entries place.now asn) }
@@ -192,7 +192,7 @@ pub fn last_before<'a>(
     paths: &'a BTreeMap<Place, SharedPath>,
     place: &Place,
 ) -> Option<(&'a Place, &'a SharedPath)>
-    ensures found { option_map entry_now result ≡ find_last (λ r. is_lt (place_cmp r.0 place.now)) paths.now.entries }
+    ensures found { option_map entry_now result ≡ find_last (is_before place.now) paths.now.entries }
     ensures ordered { IsStrictlySortedBy place_cmp (keys_of paths.now.entries) }
 {
     paths.range(..*place).next_back()
@@ -203,7 +203,7 @@ fn first_after<'a>(
     paths: &'a BTreeMap<Place, SharedPath>,
     place: &Place,
 ) -> Option<(&'a Place, &'a SharedPath)>
-    ensures found { option_map entry_now result ≡ find (λ r. is_lt (place_cmp place.now r.0)) paths.now.entries }
+    ensures found { option_map entry_now result ≡ find (is_after place.now) paths.now.entries }
     ensures ordered { IsStrictlySortedBy place_cmp (keys_of paths.now.entries) }
 {
     paths
@@ -217,8 +217,8 @@ pub fn first_behind<'a>(
     place: &Place,
     next: Option<(&'a Place, &'a SharedPath)>,
 ) -> Option<(&'a Place, &'a SharedPath)>
-    requires { option_map entry_now next ≡ find (λ r. is_le (place_cmp place.now r.0)) paths.now.entries }
-    ensures { option_map entry_now result ≡ find (λ r. is_lt (place_cmp place.now r.0)) paths.now.entries }
+    requires { option_map entry_now next ≡ find (is_at_or_after place.now) paths.now.entries }
+    ensures { option_map entry_now result ≡ find (is_after place.now) paths.now.entries }
 {
     if stands_at(next, place) {
         first_after(paths, place)
@@ -249,7 +249,7 @@ pub fn first_from<'a>(
     paths: &'a BTreeMap<Place, SharedPath>,
     place: &Place,
 ) -> Option<(&'a Place, &'a SharedPath)>
-    ensures found { option_map entry_now result ≡ find (λ r. is_le (place_cmp place.now r.0)) paths.now.entries }
+    ensures found { option_map entry_now result ≡ find (is_at_or_after place.now) paths.now.entries }
     ensures ordered { IsStrictlySortedBy place_cmp (keys_of paths.now.entries) }
 {
     paths.range(*place..).next()

@@ -1,15 +1,15 @@
-use Rattle.std.proofs.Common.{◌∙◌, sym, ap, Some, None, true≢false, refl, find, is_le, is_lt, option_map}
+use Rattle.std.proofs.Common.{◌∙◌, sym, ap, Some, None, true≢false, refl, find, option_map}
 use Rattle.std.specs.BTreeMap.{is_at}
 use Rattle.fs_unicast.specs.Neighbour.{neighbour}
-use Rattle.fs_unicast.specs.Unicast.{Route, place_cmp}
-use Rattle.fs_unicast.specs.Turns.{is_same, lies_between}
+use Rattle.fs_unicast.specs.Unicast.{place_cmp}
+use Rattle.fs_unicast.specs.Turns.{is_before, is_at_or_after, is_same, lies_between}
 use Rattle.fs_unicast.proofs.Finding.{found_passes, last_passes}
 use Rattle.fs_unicast.proofs.PlaceOrder.{below_upto}
 use Rattle.fs_unicast.proofs.Gap.{other_stays, parted_idle}
 use Rattle.fs_unicast.proofs.turns.is_needed.Goals as goal
 
 pub returns-in_default : goal.returns-in_default
-returns-in_default c = λ _. parted_idle c.args.turns.now.keys c.args.paths.now.entries c.args.turn.now None (find (λ r. is_le (place_cmp c.args.turn.now r.0)) c.args.paths.now.entries) c.last_before.ensures.ordered c.requires
+returns-in_default c = λ _. parted_idle c.args.turns.now.keys c.args.paths.now.entries c.args.turn.now None (find (is_at_or_after c.args.turn.now) c.args.paths.now.entries) c.last_before.ensures.ordered c.requires
     (sym c.last_before.ensures.found ∙ ap (option_map (λ r. (r.0.now, r.1.now))) c.in_default.is) refl tt
 
 pub returns-in_default-first_from : goal.returns-in_default-first_from
@@ -18,8 +18,8 @@ returns-in_default-first_from c = λ _. parted_idle c.args.turns.now.keys c.args
 
 pub is_alone-requires : goal.is_alone-requires
 is_alone-requires c = below_upto c.in-Some.before.now c.args.turn.now c.in-Some-first_from.after.now
-    (last_passes (λ (r : Route). is_lt (place_cmp r.0 c.args.turn.now)) c.args.paths.now.entries (c.in-Some.before.now, c.in-Some.path.now) (sym c.in-Some.ensures.found))
-    (found_passes (λ (r : Route). is_le (place_cmp c.args.turn.now r.0)) c.args.paths.now.entries (c.in-Some-first_from.after.now, c.in-Some-first_from.next.now) (sym c.in-Some-first_from.ensures.found))
+    (last_passes (is_before c.args.turn.now) c.args.paths.now.entries (c.in-Some.before.now, c.in-Some.path.now) (sym c.in-Some.ensures.found))
+    (found_passes (is_at_or_after c.args.turn.now) c.args.paths.now.entries (c.in-Some-first_from.after.now, c.in-Some-first_from.next.now) (sym c.in-Some-first_from.ensures.found))
 
 pub returns-then-not-has_neighbour : goal.returns-then-not-has_neighbour
 returns-then-not-has_neighbour c = λ shared. parted_idle c.args.turns.now.keys c.args.paths.now.entries c.args.turn.now (Some (c.in-Some.before.now, c.in-Some.path.now)) (Some (c.in-Some-first_from.after.now, c.in-Some-first_from.next.now))

@@ -1,6 +1,6 @@
-use Rattle.std.proofs.Common.{◌≡◌, ◌∙◌, sym, ap, option_map, Some, true≢false, find, true, is_le, is_lt}
+use Rattle.std.proofs.Common.{◌≡◌, ◌∙◌, sym, ap, option_map, Some, true≢false, find, true, is_lt}
 use Rattle.fs_unicast.specs.Unicast.{place_cmp}
-use Rattle.fs_unicast.specs.Turns.{entry_now, stands_at, PartsAt, IsParted}
+use Rattle.fs_unicast.specs.Turns.{is_after, is_at_or_after, entry_now, stands_at, PartsAt, IsParted}
 use Rattle.fs_unicast.proofs.Finding.{found_passes}
 use Rattle.fs_unicast.proofs.Gap.{rest_of, still_here, parted_moved}
 use Rattle.fs_unicast.proofs.Parting.{next_behind, parted_here, parted_aft}
@@ -8,15 +8,15 @@ use Rattle.fs_unicast.proofs.turns.part.Goals as goal
 
 -- The turn at the route after moved to the place.
 module _ (c : goal.After-remove) where
-  next_is : find (λ r. is_le (place_cmp c.args.place.now r.0)) c.args.paths.now.entries ≡ Some (c.in-Some.turn.now, c.in-Some.path.now)
+  next_is : find (is_at_or_after c.args.place.now) c.args.paths.now.entries ≡ Some (c.in-Some.turn.now, c.in-Some.path.now)
   next_is = sym c.requires.next ∙ ap (option_map entry_now) c.in-Some.is
 
-  after_is : find (λ r. is_lt (place_cmp c.args.place.now r.0)) c.args.paths.now.entries ≡ Some (c.in-Some.turn.now, c.in-Some.path.now)
+  after_is : find (is_after c.args.place.now) c.args.paths.now.entries ≡ Some (c.in-Some.turn.now, c.in-Some.path.now)
   after_is = sym (next_behind c.args.paths.now.entries c.args.place.now (Some (c.in-Some.turn.now, c.in-Some.path.now)) next_is
       (ap (λ o. stands_at c.args.place.now (option_map entry_now o)) (sym c.in-Some.is) ∙ sym c.stands_at.ensures ∙ c.if-stands_at.false))
 
   past : is_lt (place_cmp c.args.place.now c.in-Some.turn.now) ≡ true
-  past = found_passes (λ r. is_lt (place_cmp c.args.place.now r.0)) c.args.paths.now.entries (c.in-Some.turn.now, c.in-Some.path.now) after_is
+  past = found_passes (is_after c.args.place.now) c.args.paths.now.entries (c.in-Some.turn.now, c.in-Some.path.now) after_is
 
   here : PartsAt c.part_beside.new.turns.keys c.args.place.now
   here = c.in_ok-there.ensures.here (sym c.is_alike.ensures ∙ c.if-not-is_alike.true)
