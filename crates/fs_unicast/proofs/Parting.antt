@@ -132,17 +132,22 @@ IsUpto b x = le x.0 b.0 × (is_same (neighbour_of x) (neighbour_of b) ≡ false 
 abbrev IsFrom : Route → Route → Type 0
 IsFrom a y = le a.0 y.0 × (is_same (neighbour_of a) (neighbour_of y) ≡ false → lt a.0 y.0)
 
+upto_own : (r : Route) → IsUpto r r
+upto_own r = (upto_itself r.0, turned_off (is_same (neighbour_of r) (neighbour_of r)) (is_lt (place_cmp r.0 r.0)) (same_itself (neighbour_of r)))
+
 module _ (turns : List Place) (held : List Route) (test : Route → Bool) (sorted : IsStrictlySortedBy place_cmp (keys_of held)) (parted : IsParted turns held) where
   pub fores : (o : Option Route) → find_last test held ≡ o → AllByRecursion (λ x. test x ≡ true → Fore turns o x) held
   fores None e = each_weaker (λ x. test x ≡ false) (λ x. test x ≡ true → ⊥) (λ x no yes. true≢false (sym yes ∙ no)) held (no_last test held e)
-  fores (Some b) e = each_both (λ x. test x ≡ true → IsUpto b x) (λ x. IsPartedFrom turns x.0 (neighbour_of x) b) (λ x. test x ≡ true → Fore turns (Some b) x) (λ x f part yes. ((f yes).0, λ other. part ((f yes).1 other) other)) held
-      (before_last place_cmp (λ r. r.0) test (IsUpto b) held sorted b e (upto_itself b.0, turned_off (is_same (neighbour_of b) (neighbour_of b)) (is_lt (place_cmp b.0 b.0)) (same_itself (neighbour_of b))) (λ x less. (ap is_le less, λ other. ap is_lt less)))
+  fores (Some b) e = each_both (λ x. test x ≡ true → IsUpto b x) (λ x. IsPartedFrom turns x.0 (neighbour_of x) b) (λ x. test x ≡ true → Fore turns (Some b) x)
+      (λ x f part yes. ((f yes).0, λ other. part ((f yes).1 other) other)) held
+      (before_last place_cmp (λ r. r.0) test (IsUpto b) held sorted b e (upto_own b) (λ x less. (ap is_le less, λ other. ap is_lt less)))
       (each_weaker (λ x. IsPartedAfter turns held x.0 (neighbour_of x)) (λ x. IsPartedFrom turns x.0 (neighbour_of x) b) (λ x. last_each test (IsPartedFrom turns x.0 (neighbour_of x)) held b e) held parted)
 
   pub afts : (p : Option Route) → find test held ≡ p → AllByRecursion (λ y. test y ≡ true → Aft turns p y) held
   afts None e = each_weaker (λ y. test y ≡ false) (λ y. test y ≡ true → ⊥) (λ y no yes. true≢false (sym yes ∙ no)) held (none_found test held e)
-  afts (Some a) e = each_both (λ y. test y ≡ true → IsFrom a y) (IsPartedFrom turns a.0 (neighbour_of a)) (λ y. test y ≡ true → Aft turns (Some a) y) (λ y f part yes. ((f yes).0, λ other. part ((f yes).1 other) other)) held
-      (after_found place_cmp (λ r. r.0) test (IsFrom a) held sorted a e (upto_itself a.0, turned_off (is_same (neighbour_of a) (neighbour_of a)) (is_lt (place_cmp a.0 a.0)) (same_itself (neighbour_of a))) (λ y less. (ap is_le less, λ other. ap is_lt less)))
+  afts (Some a) e = each_both (λ y. test y ≡ true → IsFrom a y) (IsPartedFrom turns a.0 (neighbour_of a)) (λ y. test y ≡ true → Aft turns (Some a) y)
+      (λ y f part yes. ((f yes).0, λ other. part ((f yes).1 other) other)) held
+      (after_found place_cmp (λ r. r.0) test (IsFrom a) held sorted a e (upto_own a) (λ y less. (ap is_le less, λ other. ap is_lt less)))
       (found_each test (λ r. IsPartedAfter turns held r.0 (neighbour_of r)) held a e parted)
 
 -- a turn stands at the place itself

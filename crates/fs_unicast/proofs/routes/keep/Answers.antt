@@ -8,41 +8,48 @@ use Rattle.fs_unicast.proofs.routes.keep.Goals as goal
 
 -- The path was there.
 pub returns-then-has_path-clause-ok : goal.returns-then-has_path-clause-ok
-returns-then-has_path-clause-ok c = sym (put_again c.args.paths.now.entries c.args.place c.args.path (option_map entry_now c.first_from-next.result) (sym c.first_from-next.ensures.found) (sym c.stands_at-taken.ensures ∙ c.if-taken.true) (c.has_path.ensures.0 c.if-has_path.true))
+returns-then-has_path-clause-ok c = let held = c.args.paths.now.entries in let next = c.first_from-next.result in let z = c.args.place in
+    sym (put_again held z c.args.path (option_map entry_now next) (sym c.first_from-next.ensures.found) (sym c.stands_at-taken.ensures ∙ c.if-taken.true) (c.has_path.ensures.0 c.if-has_path.true))
 
 -- A path of the same neighbouring AS was there.
 pub returns-then-is_alike-clause-parted : goal.returns-then-is_alike-clause-parted
-returns-then-is_alike-clause-parted c = subst (IsParted c.args.turns.now.keys) (sym c.in_ok-insert.ensures.entries)
-    (parted_replaced c.args.turns.now.keys c.args.paths.now.entries c.args.place c.args.path (option_map entry_now c.first_from-next.result) (sym c.first_from-next.ensures.found) (sym c.stands_at-taken.ensures ∙ c.if-taken-2.true)
-    (ap (λ a. is_alike a (option_map entry_now c.first_from-next.result)) (sym c.neighbour-asn.ensures) ∙ sym c.is_alike.ensures ∙ c.if-is_alike.true) c.requires)
+returns-then-is_alike-clause-parted c = let held = c.args.paths.now.entries in let next = c.first_from-next.result in let z = c.args.place in
+    subst (IsParted c.args.turns.now.keys) (sym c.in_ok-insert.ensures.entries)
+    (parted_replaced c.args.turns.now.keys held z c.args.path (option_map entry_now next) (sym c.first_from-next.ensures.found) (sym c.stands_at-taken.ensures ∙ c.if-taken-2.true)
+    (ap (λ a. is_alike a (option_map entry_now next)) (sym c.neighbour-asn.ensures) ∙ sym c.is_alike.ensures ∙ c.if-is_alike.true) c.requires)
 
 pub returns-then-is_alike-clause-told : goal.returns-then-is_alike-clause-told
-returns-then-is_alike-clause-told c = put_changes c.args.paths.now.entries c.insert.new.self.entries c.args.place c.args.path (option_map entry_now c.first_from-next.result) c.first_from-next.ensures.found c.in_ok-insert.ensures.entries (elim c.else-taken.branch [
-  | else-taken-via-then-taken+else-has_path w ↦ inr (λ k. true≢false (sym (w.has_path.ensures.1 k) ∙ w.if-has_path.false))
-  | else-taken-via-else-taken w ↦ inl (sym c.stands_at-taken.ensures ∙ w.if-taken.false)
-])
+returns-then-is_alike-clause-told c = let held = c.args.paths.now.entries in let next = c.first_from-next.result in let z = c.args.place in
+    put_changes held c.insert.new.self.entries z c.args.path (option_map entry_now next) c.first_from-next.ensures.found c.in_ok-insert.ensures.entries (elim c.else-taken.branch [
+      | else-taken-via-then-taken+else-has_path w ↦ inr (λ k. true≢false (sym (w.has_path.ensures.1 k) ∙ w.if-has_path.false))
+      | else-taken-via-else-taken w ↦ inl (sym c.stands_at-taken.ensures ∙ w.if-taken.false)
+    ])
 
 pub returns-then-idle-clause-told : goal.returns-then-idle-clause-told
-returns-then-idle-clause-told c = put_changes c.args.paths.now.entries c.insert-2.new.self.entries c.args.place c.args.path (option_map entry_now c.first_from-next.result) c.first_from-next.ensures.found (c.in_ok-insert-2.ensures.entries ∙ ap (insert_entry place_cmp c.args.paths.now.entries c.args.place) c.in_ok-shared.ensures) (elim c.else-taken.branch [
-  | else-taken-via-then-taken+else-has_path w ↦ inr (λ k. true≢false (sym (w.has_path.ensures.1 k) ∙ w.if-has_path.false))
-  | else-taken-via-else-taken w ↦ inl (sym c.stands_at-taken.ensures ∙ w.if-taken.false)
-])
+returns-then-idle-clause-told c = let held = c.args.paths.now.entries in let next = c.first_from-next.result in let z = c.args.place in
+    put_changes held c.insert-2.new.self.entries z c.args.path (option_map entry_now next) c.first_from-next.ensures.found (c.in_ok-insert-2.ensures.entries ∙ ap (insert_entry place_cmp held z) c.in_ok-shared.ensures) (elim c.else-taken.branch [
+      | else-taken-via-then-taken+else-has_path w ↦ inr (λ k. true≢false (sym (w.has_path.ensures.1 k) ∙ w.if-has_path.false))
+      | else-taken-via-else-taken w ↦ inl (sym c.stands_at-taken.ensures ∙ w.if-taken.false)
+    ])
 
 pub returns-else-idle-clause-told : goal.returns-else-idle-clause-told
-returns-else-idle-clause-told c = put_changes c.args.paths.now.entries c.insert-2.new.self.entries c.args.place c.args.path (option_map entry_now c.first_from-next.result) c.first_from-next.ensures.found (c.in_ok-insert-2.ensures.entries ∙ ap (insert_entry place_cmp c.args.paths.now.entries c.args.place) c.in_ok-shared.ensures) (elim c.else-taken.branch [
-  | else-taken-via-then-taken+else-has_path w ↦ inr (λ k. true≢false (sym (w.has_path.ensures.1 k) ∙ w.if-has_path.false))
-  | else-taken-via-else-taken w ↦ inl (sym c.stands_at-taken.ensures ∙ w.if-taken.false)
-])
+returns-else-idle-clause-told c = let held = c.args.paths.now.entries in let next = c.first_from-next.result in let z = c.args.place in
+    put_changes held c.insert-2.new.self.entries z c.args.path (option_map entry_now next) c.first_from-next.ensures.found (c.in_ok-insert-2.ensures.entries ∙ ap (insert_entry place_cmp held z) c.in_ok-shared.ensures) (elim c.else-taken.branch [
+      | else-taken-via-then-taken+else-has_path w ↦ inr (λ k. true≢false (sym (w.has_path.ensures.1 k) ∙ w.if-has_path.false))
+      | else-taken-via-else-taken w ↦ inl (sym c.stands_at-taken.ensures ∙ w.if-taken.false)
+    ])
 
 -- Another path comes, with its turns.
 pub tidy-requires : goal.tidy-requires
-tidy-requires c = subst (IsParted c.part.new.turns.keys) (sym (c.in_ok-insert-2.ensures.entries ∙ ap (insert_entry place_cmp c.args.paths.now.entries c.args.place) c.in_ok-shared.ensures))
-    (parted_put c.part.new.turns.keys c.args.paths.now.entries c.args.place c.args.path c.in_ok-idle.ensures.parted
-    (subst (IsPartedBefore c.part.new.turns.keys c.args.paths.now.entries c.args.place) c.neighbour-asn.ensures c.in_ok-idle.ensures.before)
-    (subst (IsPartedAfter c.part.new.turns.keys c.args.paths.now.entries c.args.place) c.neighbour-asn.ensures c.in_ok-idle.ensures.after))
+tidy-requires c = let held = c.args.paths.now.entries in let z = c.args.place in
+    subst (IsParted c.part.new.turns.keys) (sym (c.in_ok-insert-2.ensures.entries ∙ ap (insert_entry place_cmp held z) c.in_ok-shared.ensures))
+    (parted_put c.part.new.turns.keys held z c.args.path c.in_ok-idle.ensures.parted
+    (subst (IsPartedBefore c.part.new.turns.keys held z) c.neighbour-asn.ensures c.in_ok-idle.ensures.before)
+    (subst (IsPartedAfter c.part.new.turns.keys held z) c.neighbour-asn.ensures c.in_ok-idle.ensures.after))
 
 pub returns-else-idle-clause-parted : goal.returns-else-idle-clause-parted
-returns-else-idle-clause-parted c = subst (IsParted c.part.new.turns.keys) (sym (c.in_ok-insert-2.ensures.entries ∙ ap (insert_entry place_cmp c.args.paths.now.entries c.args.place) c.in_ok-shared.ensures))
-    (parted_put c.part.new.turns.keys c.args.paths.now.entries c.args.place c.args.path c.in_ok-idle.ensures.parted
-    (subst (IsPartedBefore c.part.new.turns.keys c.args.paths.now.entries c.args.place) c.neighbour-asn.ensures c.in_ok-idle.ensures.before)
-    (subst (IsPartedAfter c.part.new.turns.keys c.args.paths.now.entries c.args.place) c.neighbour-asn.ensures c.in_ok-idle.ensures.after))
+returns-else-idle-clause-parted c = let held = c.args.paths.now.entries in let z = c.args.place in
+    subst (IsParted c.part.new.turns.keys) (sym (c.in_ok-insert-2.ensures.entries ∙ ap (insert_entry place_cmp held z) c.in_ok-shared.ensures))
+    (parted_put c.part.new.turns.keys held z c.args.path c.in_ok-idle.ensures.parted
+    (subst (IsPartedBefore c.part.new.turns.keys held z) c.neighbour-asn.ensures c.in_ok-idle.ensures.before)
+    (subst (IsPartedAfter c.part.new.turns.keys held z) c.neighbour-asn.ensures c.in_ok-idle.ensures.after))
