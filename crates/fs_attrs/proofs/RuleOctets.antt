@@ -1,6 +1,7 @@
 -- The canonical frame of a rule is octets.
 use Rattle.std.proofs.Common.{◌≡◌, ℕ, ◌+◌, ◌-◌, ◌*◌, ◌/◌, ◌%◌, ◌^◌, ◌<◌, ◌≤◌, Bool, true, false, List, [], ◌∷◌, Option, Some, None, length, nat_lt, if◌then◌else◌, refl, subst, arith, inl, inr}
-use Rattle.std.specs.Prelude.{bit_and}
+use Rattle.std.specs.Prelude.{bit_and, flat_map}
+use Rattle.std.specs.List.{AllByRecursion}
 use Rattle.std.proofs.lemmas.Bool.{cases_lt, ltb-true}
 use Rattle.std.proofs.lemmas.List.{get_or_past}
 use Rattle.std.proofs.lemmas.Nat.{and_le_r}
@@ -91,3 +92,7 @@ pub frame_are : (rule : Ruled) → IsRule rule → IsOctets (canonical_frame rul
 frame_are rule is =
     octets_append (canonical_length (length (canonical_value rule.parts))) (canonical_value rule.parts)
     (length_are (length (canonical_value rule.parts)) is.fits) (value_are rule.family 0 rule.parts is.normal)
+
+pub frames_are : (rules : List Ruled) → AllByRecursion IsRule rules → IsOctets (flat_map canonical_frame rules)
+frames_are [] all = octets_nil
+frames_are (rule ∷ rules) all = octets_append (canonical_frame rule) (flat_map canonical_frame rules) (frame_are rule all.0) (frames_are rules all.1)

@@ -1,6 +1,6 @@
 -- The body that is written is read as the update that it was written of.
 use Rattle.std.proofs.Common.{◌≡◌, ℕ, suc, ◌+◌, ◌<◌, ◌≤◌, ◌==◌, Bool, true, false, not, ◌&&◌, ◌||◌, nat_le, nat_lt, List, [], ◌∷◌, ◌++◌, length, drop, Option, Some, None, Result, Ok, Err, refl, sym, ap, subst, ◌∙◌, arith, length-append, append_assoc}
-use Rattle.std.specs.Prelude.{bit_or, option_map, if◌then◌else◌, flat_map, IfSome}
+use Rattle.std.specs.Prelude.{option_map, if◌then◌else◌, flat_map, IfSome}
 use Rattle.std.specs.Option.{is_some}
 use Rattle.std.specs.List.{AllByRecursion, list_all}
 use Rattle.std.proofs.lemmas.List.Elements.{recursion_from_All}
@@ -14,8 +14,6 @@ use Rattle.fs_base.specs.declared.prefix.Family.{Family}
 use Rattle.fs_base.specs.declared.prefix.Family.TheVariants.{V4, V6}
 use Rattle.fs_base.specs.declared.path.Path.{Path}
 use Rattle.fs_base.specs.Bits.{width_of, afi_of, cleared}
-use Rattle.fs_base.specs.Language.{IsOctets}
-use Rattle.fs_base.proofs.Octets.{octets_left, octets_right, octets_tail}
 use Rattle.fs_base.proofs.Covers.{same_family_of}
 use Rattle.fs_nlri.specs.Parts.{Ruled}
 use Rattle.fs_nlri.specs.Rule.{IsRule, canonical_frame}
@@ -27,19 +25,20 @@ use Rattle.fs_attrs.specs.declared.update.Routes.TheVariants.{Unicast, Flow}
 use Rattle.fs_attrs.specs.declared.update.Update.{Update}
 use Rattle.fs_attrs.specs.declared.update.UpdateFault.{UpdateFault}
 use Rattle.fs_attrs.specs.declared.update.UpdateFault.TheVariants.{List as ListFault}
-use Rattle.fs_attrs.specs.Attributes.{Attribute, attribute, Body, body, body_of, value_of, stands_before, routes_doubled, Valued, values_of}
+use Rattle.fs_attrs.specs.Attributes.{Attribute, Body, body, body_of, value_of, stands_before, routes_doubled, Valued, values_of}
 use Rattle.fs_attrs.specs.Prefixes.{Shown, prefixes_of}
 use Rattle.fs_attrs.specs.Paths.{withdraws}
-use Rattle.fs_attrs.specs.Routes.{Wrong, reach_of, unreach_of, routes_of, is_read, unicast_routes, if_there, both_of, optional_of, has_routes}
+use Rattle.fs_attrs.specs.Routes.{Wrong, reach_of, unreach_of, routes_of, is_read, unicast_routes, flow_routes, if_there, both_of, optional_of, has_routes}
 use Rattle.fs_attrs.specs.Update.{gives_routes, updated_with, updated, read_body}
-use Rattle.fs_attrs.specs.Texts.{flags_of, long_text, prefixes_text, rules_text, attribute_text}
-use Rattle.fs_attrs.specs.Write.{reach_in, unreach_in, path_in, hop_of, family_of, routes_text, reach_text, unreach_text, written_attributes, update_text, AreRoutes, IfRoutes, IsPath, IsSound, path_kept, keeps_numbers, ReadsBack}
+use Rattle.fs_attrs.specs.Texts.{long_text, prefixes_text, rules_text, attribute_text}
+use Rattle.fs_attrs.specs.Write.{hop_of, routes_text, reach_text, unreach_text, written_attributes, update_text, AreRoutes, IfRoutes, IsPath, IsSound, path_kept, keeps_numbers, ReadsBack}
 use Rattle.fs_attrs.specs.Writable.{are_prefixes_of, are_rules_of, are_attribute_routes, if_routes, is_path_of_session, is_written_path, announces, has_its_path, is_writable}
 use Rattle.fs_attrs.specs.Segments.{is_written_segment, are_low}
 use Rattle.fs_attrs.specs.Lists.{IsPrefix}
+use Rattle.fs_attrs.proofs.RuleOctets.{frames_are}
 use Rattle.fs_attrs.proofs.FieldOutcome.{flow_found}
 use Rattle.fs_attrs.proofs.PathReadBack.{IsGiven, path_back, none_given, actions_read}
-use Rattle.fs_attrs.proofs.TextsReadBack.{attribute_at, long_read, attributes_read, IsShown, prefixes_whole, prefixes_read}
+use Rattle.fs_attrs.proofs.TextsReadBack.{long_read, attributes_read, IsShown, prefixes_whole, prefixes_read}
 use Rattle.fs_attrs.proofs.WrittenAttributes.{reach_value, unreach_value, reach_once, unreach_once}
 
 -- the fields
@@ -91,11 +90,14 @@ abbrev afi_at : Routes → ℕ
 afi_at (Unicast family prefixes) = afi_of family
 afi_at (Flow family rules) = afi_of family
 
-routes_back : (routes : Routes) → are_attribute_routes routes ≡ true → AreRoutes routes → IsOctets (routes_text routes) → routes_of (afi_at routes) (safi_of routes) (routes_text routes) ≡ Ok (Some routes)
-routes_back (Unicast V4 prefixes) h all small = cc
-routes_back (Unicast V6 prefixes) h all small = unicast_back prefixes (and_parts (not (length prefixes == 0)) (are_prefixes_of V6 prefixes) h).1 (recursion_from_All IsPrefix prefixes all)
-routes_back (Flow V4 rules) h all small = flow_found V4 (rules_text rules) rules small (frames_of V4 rules (and_parts (not (length rules == 0)) (are_rules_of V4 rules) h).1 (recursion_from_All IsRule rules all))
-routes_back (Flow V6 rules) h all small = flow_found V6 (rules_text rules) rules small (frames_of V6 rules (and_parts (not (length rules == 0)) (are_rules_of V6 rules) h).1 (recursion_from_All IsRule rules all))
+flow_back : (family : Family) (rules : List Ruled) → are_rules_of family rules ≡ true → AllByRecursion IsRule rules → flow_routes family (rules_text rules) ≡ Ok (Some (Flow family rules))
+flow_back family rules h all = flow_found family (rules_text rules) rules (frames_are rules all) (frames_of family rules h all)
+
+routes_back : (routes : Routes) → are_attribute_routes routes ≡ true → AreRoutes routes → routes_of (afi_at routes) (safi_of routes) (routes_text routes) ≡ Ok (Some routes)
+routes_back (Unicast V4 prefixes) h all = cc
+routes_back (Unicast V6 prefixes) h all = unicast_back prefixes (and_parts (not (length prefixes == 0)) (are_prefixes_of V6 prefixes) h).1 (recursion_from_All IsPrefix prefixes all)
+routes_back (Flow V4 rules) h all = flow_back V4 rules (and_parts (not (length rules == 0)) (are_rules_of V4 rules) h).1 (recursion_from_All IsRule rules all)
+routes_back (Flow V6 rules) h all = flow_back V6 rules (and_parts (not (length rules == 0)) (are_rules_of V6 rules) h).1 (recursion_from_All IsRule rules all)
 
 abbrev head_of : ℕ → ℕ → List ℕ
 head_of afi safi = big_bytes 2 afi ++ (safi ∷ [])
@@ -123,85 +125,40 @@ reach_at afi safi hop routes small read =
     rw (three, number, read, four, hops, behind) refl
 
 -- what is written of them is read by its family and its hop
-routes_text_back : (address : Address) (routes : Routes) → are_attribute_routes routes ≡ true → AreRoutes routes → IsOctets (routes_text routes)
+routes_text_back : (address : Address) (routes : Routes) → are_attribute_routes routes ≡ true → AreRoutes routes
     → (reach_of (reach_text address routes) ≡ Ok (Some routes)) × (unreach_of (unreach_text routes) ≡ Ok (Some routes))
-routes_text_back address (Unicast V4 prefixes) h all small = cc
-routes_text_back address (Unicast V6 prefixes) h all small =
-    let back = routes_back (Unicast V6 prefixes) h all small in
+routes_text_back address (Unicast V4 prefixes) h all = cc
+routes_text_back address (Unicast V6 prefixes) h all =
+    let back = routes_back (Unicast V6 prefixes) h all in
     (reach_at 2 1 (hop_of address (Unicast V6 prefixes)) (prefixes_text prefixes) (omega arith) refl ∙ back, unreach_at 2 1 (prefixes_text prefixes) (omega arith) ∙ back)
-routes_text_back address (Flow V4 rules) h all small =
-    let back = routes_back (Flow V4 rules) h all small in
+routes_text_back address (Flow V4 rules) h all =
+    let back = routes_back (Flow V4 rules) h all in
     (reach_at 1 133 [] (rules_text rules) (omega arith) refl ∙ back, unreach_at 1 133 (rules_text rules) (omega arith) ∙ back)
-routes_text_back address (Flow V6 rules) h all small =
-    let back = routes_back (Flow V6 rules) h all small in
+routes_text_back address (Flow V6 rules) h all =
+    let back = routes_back (Flow V6 rules) h all in
     (reach_at 2 133 [] (rules_text rules) (omega arith) refl ∙ back, unreach_at 2 133 (rules_text rules) (omega arith) ∙ back)
 
-reach_there : (address : Address) (reach : Option Routes) → if_routes reach ≡ true → IfRoutes reach → IfSome reach (λ (routes : Routes). IsOctets (routes_text routes)) → if_there reach_of (option_map (reach_text address) reach) ≡ Ok reach
-reach_there address None h all small = refl
-reach_there address (Some routes) h all small = (routes_text_back address routes h all small).0
+reach_there : (address : Address) (reach : Option Routes) → if_routes reach ≡ true → IfRoutes reach → if_there reach_of (option_map (reach_text address) reach) ≡ Ok reach
+reach_there address None h all = refl
+reach_there address (Some routes) h all = (routes_text_back address routes h all).0
 
-unreach_there : (address : Address) (unreach : Option Routes) → if_routes unreach ≡ true → IfRoutes unreach → IfSome unreach (λ (routes : Routes). IsOctets (routes_text routes)) → if_there unreach_of (option_map unreach_text unreach) ≡ Ok unreach
-unreach_there address None h all small = refl
-unreach_there address (Some routes) h all small = (routes_text_back address routes h all small).1
+unreach_there : (address : Address) (unreach : Option Routes) → if_routes unreach ≡ true → IfRoutes unreach → if_there unreach_of (option_map unreach_text unreach) ≡ Ok unreach
+unreach_there address None h all = refl
+unreach_there address (Some routes) h all = (routes_text_back address routes h all).1
 
 both_ok : (reach unreach : Option Routes) (first : Bool) → both_of (Ok reach) (Ok unreach) first ≡ Ok (reach, unreach)
 both_ok reach unreach true = refl
 both_ok reach unreach false = refl
 
--- what is written of routes are octets where the body is
-
-attributes_octets : (terms : Terms) (update : Update) → IsOctets (update_text terms update) → IsOctets (flat_map attribute_text (written_attributes terms update))
-attributes_octets terms update small =
-    let out : List ℕ = long_text (prefixes_text update.classic_out) in
-    let octets : List ℕ = flat_map attribute_text (written_attributes terms update) in
-    octets_right (big_bytes 2 (length octets)) octets
-    (octets_left (long_text octets) (prefixes_text update.classic_in) (octets_right out (long_text octets ++ prefixes_text update.classic_in) small))
-
-value_octets : (wide : Bool) (given : Attribute) → IsOctets (attribute_at wide given) → IsOctets given.value
-value_octets true given small =
-    octets_right (big_bytes 2 (length given.value)) given.value (octets_right (bit_or (flags_of given.kind) 16 ∷ given.kind ∷ []) (long_text given.value) small)
-value_octets false given small = octets_right (flags_of given.kind ∷ given.kind ∷ length given.value ∷ []) given.value small
-
-reach_octets : (terms : Terms) (update : Update) → IsOctets (update_text terms update) → IfSome update.reach (λ (routes : Routes). IsOctets (routes_text routes))
-reach_octets terms update small = by update.reach (attributes_octets terms update small) where
-  rest : List Attribute
-  rest = unreach_in update.unreach ++ path_in terms update update.path
-
-  by : (reach : Option Routes) → IsOctets (flat_map attribute_text (reach_in terms reach ++ rest)) → IfSome reach (λ (routes : Routes). IsOctets (routes_text routes))
-  by None octets = tt
-  by (Some routes) octets =
-      let given : Attribute = attribute 14 (reach_text terms.address routes) in
-      let value : IsOctets (reach_text terms.address routes) =
-      value_octets (nat_lt 255 (length given.value)) given (octets_left (attribute_text given) (flat_map attribute_text rest) octets) in
-      octets_tail 0 (routes_text routes)
-      (octets_right (length (hop_of terms.address routes) ∷ hop_of terms.address routes) (0 ∷ routes_text routes)
-      (octets_right (family_of routes) ((length (hop_of terms.address routes) ∷ hop_of terms.address routes) ++ (0 ∷ routes_text routes)) value))
-
-unreach_octets : (terms : Terms) (update : Update) → IsOctets (update_text terms update) → IfSome update.unreach (λ (routes : Routes). IsOctets (routes_text routes))
-unreach_octets terms update small = by update.unreach (behind update.reach (attributes_octets terms update small)) where
-  rest : List Attribute
-  rest = path_in terms update update.path
-
-  behind : (reach : Option Routes) → IsOctets (flat_map attribute_text (reach_in terms reach ++ (unreach_in update.unreach ++ rest))) → IsOctets (flat_map attribute_text (unreach_in update.unreach ++ rest))
-  behind None octets = octets
-  behind (Some routes) octets = octets_right (attribute_text (attribute 14 (reach_text terms.address routes))) (flat_map attribute_text (unreach_in update.unreach ++ rest)) octets
-
-  by : (unreach : Option Routes) → IsOctets (flat_map attribute_text (unreach_in unreach ++ rest)) → IfSome unreach (λ (routes : Routes). IsOctets (routes_text routes))
-  by None octets = tt
-  by (Some routes) octets =
-      let given : Attribute = attribute 15 (unreach_text routes) in
-      octets_right (family_of routes) (routes_text routes)
-      (value_octets (nat_lt 255 (length given.value)) given (octets_left (attribute_text given) (flat_map attribute_text rest) octets))
-
-optional_read : (terms : Terms) (update : Update) → if_routes update.reach ≡ true → if_routes update.unreach ≡ true → IsSound update → IsOctets (update_text terms update)
+optional_read : (terms : Terms) (update : Update) → if_routes update.reach ≡ true → if_routes update.unreach ≡ true → IsSound update
     → optional_of (values_of (written_attributes terms update)) ≡ Ok (update.reach, update.unreach)
-optional_read terms update r u sound small =
+optional_read terms update r u sound =
     let attributes : List Attribute = written_attributes terms update in
     let first : Bool = stands_before 15 14 attributes in
     let reach : if_there reach_of (value_of 14 attributes) ≡ Ok update.reach =
-    ap (λ (z : Option (List ℕ)). if_there reach_of z) (reach_value terms update) ∙ reach_there terms.address update.reach r sound.reach (reach_octets terms update small) in
+    ap (λ (z : Option (List ℕ)). if_there reach_of z) (reach_value terms update) ∙ reach_there terms.address update.reach r sound.reach in
     let unreach : if_there unreach_of (value_of 15 attributes) ≡ Ok update.unreach =
-    ap (λ (z : Option (List ℕ)). if_there unreach_of z) (unreach_value terms update) ∙ unreach_there terms.address update.unreach u sound.unreach (unreach_octets terms update small) in
+    ap (λ (z : Option (List ℕ)). if_there unreach_of z) (unreach_value terms update) ∙ unreach_there terms.address update.unreach u sound.unreach in
     ap (λ (z : Result (Option Routes) Wrong). both_of z (if_there unreach_of (value_of 15 attributes)) first) reach
     ∙ ap (λ (z : Result (Option Routes) Wrong). both_of (Ok update.reach) z first) unreach
     ∙ both_ok update.reach update.unreach first
@@ -248,13 +205,13 @@ written_parts terms update h =
 routes_once : (terms : Terms) (update : Update) → routes_doubled (written_attributes terms update) ≡ false
 routes_once terms update = rw (reach_once terms update, unreach_once terms update) refl
 
-body_read : (terms : Terms) (update : Update) → IsWritten terms update → IsSound update → IsOctets (update_text terms update)
+body_read : (terms : Terms) (update : Update) → IsWritten terms update → IsSound update
     → read_body terms (fields terms update) ≡ Ok (updated terms (fields terms update) (update.reach, update.unreach))
-body_read terms update is sound small =
+body_read terms update is sound =
     rw (
       prefixes_whole V4 update.classic_out (shown_in V4 update.classic_out is.out (recursion_from_All IsPrefix update.classic_out sound.classic_out)),
       prefixes_whole V4 update.classic_in (shown_in V4 update.classic_in is.announced (recursion_from_All IsPrefix update.classic_in sound.classic_in)),
-      optional_read terms update is.reach is.unreach sound small,
+      optional_read terms update is.reach is.unreach sound,
     ) refl
 
 gives_is : (terms : Terms) (update : Update) → IsWritten terms update → IsSound update → gives_routes (fields terms update) update.reach ≡ announces update
@@ -313,8 +270,8 @@ updated_is terms update is sound kept =
 abbrev body_result : Terms → Option Body → Result Update UpdateFault
 body_result terms found = elim found [ None ↦ Err ListFault | Some fields ↦ read_body terms fields ]
 
-pub read_back : (terms : Terms) (update : Update) → is_writable terms update ≡ true → IsSound update → IsOctets (update_text terms update) → 19 + length (update_text terms update) ≤ 4096 → ReadsBack terms update
-read_back terms update h sound octets small kept =
+pub read_back : (terms : Terms) (update : Update) → is_writable terms update ≡ true → IsSound update → 19 + length (update_text terms update) ≤ 4096 → ReadsBack terms update
+read_back terms update h sound small kept =
     let is = written_parts terms update h in
     let out : List ℕ = prefixes_text update.classic_out in
     let list : List ℕ = flat_map attribute_text (written_attributes terms update) in
@@ -324,5 +281,5 @@ read_back terms update h sound octets small kept =
     let c : length (long_text out) ≡ length (big_bytes 2 (length out)) + length out = length-append (big_bytes 2 (length out)) out in
     let d : length (long_text list) ≡ length (big_bytes 2 (length list)) + length list = length-append (big_bytes 2 (length list)) list in
     ap (body_result terms) (fields_read out announced (written_attributes terms update) (omega arith) (omega arith) (routes_once terms update))
-    ∙ body_read terms update is sound octets
+    ∙ body_read terms update is sound
     ∙ ap (λ (u : Update). Ok u) (updated_is terms update is sound kept)

@@ -2,7 +2,6 @@
 
 ghost use Rattle.std.specs.Prelude.{◌≡◌, ◌^◌, ◌<◌, ◌≤◌, ◌++◌, [], ◌∷◌, Some, length, flat_map, All, OnOk, IfSome, IsTrue};
 ghost use Rattle.byteorder.specs.Endian.{big_bytes};
-ghost use Rattle.fs_base.specs.Language.{IsOctets};
 ghost use Rattle.fs_attrs.specs.Attributes.{attribute};
 ghost use Rattle.fs_attrs.specs.Segments.{segments_text, AreNumbers};
 ghost use Rattle.fs_attrs.specs.Write.{as_path_in, hop_field, hop_of, family_of, routes_text, reach_text, unreach_text, reach_in, unreach_in, next_hop_in, local_pref_in, originator_in, actions_in, path_in, written_attributes, update_text, Writes, AreRoutes, IfRoutes, IsPath, IsSound, ReadsBack};
@@ -45,8 +44,7 @@ pub fn write_update(update: &Update, terms: &Terms, out: &mut Vec<u8>) -> Result
 
 /// Appends the UPDATE with this body, unless it would be too long.
 fn append_message(body: &[u8], out: &mut Vec<u8>) -> Result<(), WriteFault>
-    ensures octets { IsOctets body.now }
-    ensures written { Writes result body.now out.old.items out.new.items }
+    ensures { Writes result body.now out.old.items out.new.items }
 {
     if body.len() > LONGEST_BODY {
         return Err(WriteFault::TooLong);

@@ -1,6 +1,5 @@
 use Rattle.std.proofs.Common.{rules, ◌≡◌, ◌≤◌, ◌+◌, ℕ, List, length, Ok, Err, OnOk, subst}
 use Rattle.std.specs.Prelude.{Result}
-use Rattle.fs_base.specs.Language.{IsOctets}
 use Rattle.fs_attrs.specs.declared.update.WriteFault.{WriteFault}
 use Rattle.fs_attrs.specs.declared.update.WriteFault.TheVariants.{TooLong, Memory}
 use Rattle.fs_attrs.specs.Write.{update_text, Writes}
@@ -16,6 +15,5 @@ where_written (Err Memory) body old new Law written law = tt
 pub returns-clause-read_back : goal.returns-clause-read_back
 returns-clause-read_back c =
     let body : c.deref.result.now ≡ update_text c.args.terms.now c.args.update.now = search rules in
-    where_written c.append_message.result c.deref.result.now _ _ _ c.append_message.ensures.written
-    (λ small. read_back c.args.terms.now c.args.update.now c.requires c.in_ok-append_body.ensures.sound
-    (subst IsOctets body c.append_message.ensures.octets) (subst (λ (z : List ℕ). 19 + length z ≤ 4096) body small))
+    where_written c.append_message.result c.deref.result.now _ _ _ c.append_message.ensures
+    (λ small. read_back c.args.terms.now c.args.update.now c.requires c.in_ok-append_body.ensures.sound (subst (λ (z : List ℕ). 19 + length z ≤ 4096) body small))
