@@ -122,9 +122,6 @@ last_each test P xs x h all = last_both test P xs x h (each_weaker P (λ y. test
 pub last_passes : {X : Type 0} (test : X → Bool) (xs : List X) (x : X) → find_last test xs ≡ Some x → test x ≡ true
 last_passes test xs x h = last_both test (λ y. test y ≡ true) xs x h (each (λ y. test y ≡ true → test y ≡ true) (λ y e. e) xs)
 
-pub any_last : {X : Type 0} (test p : X → Bool) (xs : List X) (x : X) → find_last test xs ≡ Some x → p x ≡ true → list_any p xs ≡ true
-any_last test p xs x h k = true_from (list_any p xs) (λ e. true≢false (sym k ∙ last_each test (λ y. p y ≡ false) xs x h (none_each p xs e)))
-
 pub no_last : {X : Type 0} (test : X → Bool) (xs : List X) → find_last test xs ≡ None → AllByRecursion (λ x. test x ≡ false) xs
 no_last test [] h = tt
 no_last {X} test (y ∷ ys) h = at (find_last test ys) (test y) refl (no_last test ys) h where

@@ -62,9 +62,6 @@ not_below x y h = true_of_not (is_le (place_cmp y x)) (sym (below_not_upto x y) 
 pub below_itself : (x : Place) → is_lt (place_cmp x x) ≡ false
 below_itself x = ap is_lt (tied_itself place_total x)
 
-pub equal_itself : (x : Place) → is_eq (place_cmp x x) ≡ true
-equal_itself x = ap is_eq (tied_itself place_total x)
-
 pub upto_itself : (x : Place) → is_le (place_cmp x x) ≡ true
 upto_itself x = ap is_le (tied_itself place_total x)
 
