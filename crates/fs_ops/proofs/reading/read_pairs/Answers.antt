@@ -19,7 +19,7 @@ returns-then-tail-len-clause-fault c some =
     cut_within c.args.kind c.args.widths.now c.args.octets.now rest c.loop-rest.pairs.items (get_or rest 0 0) _ some c.loop-rest.invariant
     (first_and_tail rest c.in-len1-up.len_at_least)
     (subst (Contains c.args.widths.now) c.width_code_of.ensures.value (c.allows.ensures.0 c.if-not-allows.false))
-    (rw (← c.value_len-len.ensures.value) c.if-tail-len.true)
+    (rw (← c.width_of-len.ensures.value) c.if-tail-len.true)
 
 -- the pair that was pushed
 pushed : (c : After-is_last) → NextPair c.args.kind c.args.widths.now c.args.octets.now c.split_at.result.1.now c.push.new.self.items (get_or c.loop-rest.rest.now 0 0)
@@ -29,9 +29,9 @@ pushed c =
     let tail = take (length rest - 1) (drop 1 rest) in
     let allowed = subst (Contains c.args.widths.now) c.width_code_of.ensures.value (c.allows.ensures.0 c.if-not-allows.false) in
     let read = subst (λ (l : List ℕ). HasRead c.args.kind c.args.widths.now c.args.octets.now l c.loop-rest.pairs.items) (first_and_tail rest c.in-len1-up.len_at_least) c.loop-rest.invariant in
-    let found = next_found c.args.kind c.args.widths.now c.args.octets.now c.loop-rest.pairs.items operator tail read allowed (rw (← c.value_len-len.ensures.value) c.if-tail-len.false) in
+    let found = next_found c.args.kind c.args.widths.now c.args.octets.now c.loop-rest.pairs.items operator tail read allowed (rw (← c.width_of-len.ensures.value) c.if-tail-len.false) in
     let next : drop (width_of operator) tail ≡ c.split_at.result.1.now = cc in
-    let items = rw (c.clear_ignored.ensures, c.is_empty.ensures, c.loop-rest.pairs.ok.0, c.read_number-number.ensures, c.split_at.ensures.front, c.value_len-len.ensures.value) at c.in_ok-push.ensures.items in
+    let items = rw (c.clear_ignored.ensures, c.is_empty.ensures, c.loop-rest.pairs.ok.0, c.read_number-number.ensures, c.split_at.ensures.front, c.width_of-len.ensures.value) at c.in_ok-push.ensures.items in
     rw (next, sym items) at found
 
 pub returns-then-is_last-clause-found : goal.returns-then-is_last-clause-found

@@ -11,7 +11,7 @@ returns-clause-found c =
     let whole = first_and_tail octets c.in-len1-up.len_at_least in
     let allowed = subst (Contains c.args.widths.now) c.width_code_of.ensures.value (c.allows.ensures.0 c.if-not-allows.false) in
     let read : HasRead c.args.kind c.args.widths.now octets (operator ∷ tail) [] = record { before = []; middle = tt; split = whole; means = refl } in
-    let found = next_found c.args.kind c.args.widths.now octets [] operator tail read allowed (rw (← c.value_len-len.ensures.value) c.if-tail-len.false) in
+    let found = next_found c.args.kind c.args.widths.now octets [] operator tail read allowed (rw (← c.width_of-len.ensures.value) c.if-tail-len.false) in
     let next : drop (width_of operator) tail ≡ c.split_at.result.1.now = cc in
     let said : said_at c.args.kind true operator tail ≡ (c.clear_ignored-operator.result, c.read_number-number.result) = cc in
     ends_here c.args.kind c.args.widths.now octets c.split_at.result.1.now _ operator (rw (next, said) at found) (sym c.is_last.ensures ∙ c.if-not-is_last.false)
