@@ -151,18 +151,17 @@ pairs_are kind widths octets some (suc most) (operator ∷ tail) pairs read enou
             let first : Bool = length pairs == 0 in
             let cleared : ℕ = bit_and operator (counted_bits kind first) in
             let more : List (ℕ × ℕ) = pairs ++ (cleared, big_number (width_of operator) value) ∷ [] in
-            let found = next_found kind widths octets (operator ∷ tail) tail value next pairs more operator (width_of operator) (big_number (width_of operator) value) (length pairs) cleared first
-            read refl allowed.0 refl room refl refl refl refl refl refl refl in
+            let found = next_found kind widths octets pairs operator tail read allowed.0 room in
             let e : length octets - length next ≡ length octets - length (operator ∷ tail) + (1 + width_of operator) =
             omega (arith, inside, room, length-drop (width_of operator) tail) in
             rw (le-ltb (length tail) (width_of operator) room) (elim (cases_Bool (ends operator)) [
               | inl last ↦
                   let whole : length octets - length next ≤ length octets = omega arith in
                   rw last (subst (λ (n : ℕ). (n ≤ length octets) × SpellsPairs kind widths (take n octets) more) e
-                  (whole, ends_here kind widths octets (operator ∷ tail) next more operator found last))
+                  (whole, ends_here kind widths octets next more operator found last))
               | inr going ↦
                   let less : length next < most = omega (arith, length-drop (width_of operator) tail) in
-                  let later = pairs_are kind widths octets some most next more (goes_on kind widths octets (operator ∷ tail) next more operator found going) less in
+                  let later = pairs_are kind widths octets some most next more (goes_on kind widths octets next more operator found going) less in
                   let behind : IsPairsOutcome kind widths octets (joined more (length octets - length next) (pairs_at kind widths false most next)) =
                   subst (λ (b : Bool). IsPairsOutcome kind widths octets (joined more (length octets - length next) (pairs_at kind widths b most next)))
                   (not_none pairs (cleared, big_number (width_of operator) value)) later in

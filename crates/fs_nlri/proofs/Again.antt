@@ -94,12 +94,7 @@ again_body (ListForm kind widths bits) (ListBody pairs) normal = record {
   spells = canonical_spells kind widths pairs normal.0 (are_allowed widths pairs normal.1);
   says = ap (λ (l : List (ℕ × ℕ)). ListBody l) normal.2;
 }
-again_body V4Form (V6Body len offset pattern) normal = absurd normal
-again_body V4Form (ListBody pairs) normal = absurd normal
-again_body V6Form (V4Body family len bits) normal = absurd normal
-again_body V6Form (ListBody pairs) normal = absurd normal
-again_body (ListForm kind widths bits) (V4Body family len address) normal = absurd normal
-again_body (ListForm kind widths bits) (V6Body len offset pattern) normal = absurd normal
+again_body _ _ normal = absurd normal
 
 again_at : (form : Option Form) (body : Body) → IsNormalAt form body → SpellsAt form (canonical_body body) body
 again_at None body normal = absurd normal

@@ -1,6 +1,7 @@
 -- Components that are in normal form are the family's, by rising types, and clearing changes nothing in them.
 use Rattle.std.proofs.Common.{◌≡◌, ℕ, ◌==◌, Bool, true, false, if◌then◌else◌, ◌&&◌, ◌||◌, List, [], ◌∷◌, Option, Some, None, Ok, Err, refl, ap, sym, ◌∙◌, inl, inr, ◌⊎◌, length, nat_le, nat_lt}
 use Rattle.std.proofs.lemmas.Bool.{and_from, lt-ltb, le-leb, eq-eqb}
+use Rattle.fs_base.proofs.Bools.{or_first, or_second}
 use Rattle.fs_base.specs.declared.prefix.Family.{Family}
 use Rattle.fs_base.specs.declared.prefix.Family.TheVariants.{V4, V6}
 use Rattle.fs_nlri.specs.declared.fault.RuleFault.TheVariants.{TooLong}
@@ -10,41 +11,26 @@ use Rattle.fs_nlri.specs.Spelling.{IsRange}
 use Rattle.fs_nlri.specs.Rule.{IsNormalBody, IsNormalAt, AreNormal, canonical_value}
 use Rattle.fs_nlri.specs.Making.{is_range, body_given, given_at, part_given, all_given, rises, cleared_body, cleared_at, cleared_part, cleared_parts, rule_of}
 
-either_true : (a b : Bool) → (a ≡ true) ⊎ (b ≡ true) → (a || b) ≡ true
-either_true true b h = refl
-either_true false b (inl h) = cc
-either_true false b (inr h) = h
-
 pub range_is : (len offset : ℕ) → IsRange len offset → is_range len offset ≡ true
 range_is len offset range =
     and_from (nat_le len 128) (nat_lt offset len || ((len == 0) && (offset == 0))) (le-leb len 128 range.0)
-    (either_true (nat_lt offset len) ((len == 0) && (offset == 0)) (elim range.1 [
-      | inl below ↦ inl (lt-ltb offset len below)
-      | inr zeros ↦ inr (and_from (len == 0) (offset == 0) (eq-eqb len 0 zeros.0) (eq-eqb offset 0 zeros.1))
-    ]))
+    (elim range.1 [
+      | inl below ↦ or_first (nat_lt offset len) ((len == 0) && (offset == 0)) (lt-ltb offset len below)
+      | inr zeros ↦ or_second (nat_lt offset len) ((len == 0) && (offset == 0)) (and_from (len == 0) (offset == 0) (eq-eqb len 0 zeros.0) (eq-eqb offset 0 zeros.1))
+    ])
 
 pub given_body : (form : Form) (body : Body) → IsNormalBody form body → body_given form body ≡ true
 given_body V4Form (V4Body V4 len bits) normal = refl
 given_body V4Form (V4Body V6 len bits) normal = absurd (cc (normal.0))
-given_body V4Form (V6Body len offset pattern) normal = absurd normal
-given_body V4Form (ListBody pairs) normal = absurd normal
-given_body V6Form (V4Body family len bits) normal = absurd normal
 given_body V6Form (V6Body len offset pattern) normal = range_is len offset normal.0
-given_body V6Form (ListBody pairs) normal = absurd normal
-given_body (ListForm kind widths bits) (V4Body family len address) normal = absurd normal
-given_body (ListForm kind widths bits) (V6Body len offset pattern) normal = absurd normal
 given_body (ListForm kind widths bits) (ListBody pairs) normal = normal.1
+given_body _ _ normal = absurd normal
 
 clear_body : (form : Form) (body : Body) → IsNormalBody form body → cleared_body form body ≡ body
 clear_body V4Form (V4Body family len bits) normal = refl
-clear_body V4Form (V6Body len offset pattern) normal = absurd normal
-clear_body V4Form (ListBody pairs) normal = absurd normal
-clear_body V6Form (V4Body family len bits) normal = absurd normal
 clear_body V6Form (V6Body len offset pattern) normal = ap (λ (n : ℕ). V6Body len offset n) (sym normal.1)
-clear_body V6Form (ListBody pairs) normal = absurd normal
-clear_body (ListForm kind widths bits) (V4Body family len address) normal = absurd normal
-clear_body (ListForm kind widths bits) (V6Body len offset pattern) normal = absurd normal
 clear_body (ListForm kind widths bits) (ListBody pairs) normal = ap (λ (l : List (ℕ × ℕ)). ListBody l) (sym normal.2)
+clear_body _ _ normal = absurd normal
 
 given_form : (form : Option Form) (body : Body) → IsNormalAt form body → given_at form body ≡ true
 given_form None body normal = absurd normal

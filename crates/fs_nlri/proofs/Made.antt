@@ -15,6 +15,7 @@ use Rattle.fs_nlri.specs.Parts.{Body, V4Body, V6Body, ListBody, Part, ruled}
 use Rattle.fs_nlri.specs.Spelling.{IsRange}
 use Rattle.fs_nlri.specs.Rule.{IsNormalBody, IsNormalAt, AreNormal, IsRule, canonical_value}
 use Rattle.fs_nlri.specs.Making.{is_range, body_given, given_at, part_given, all_given, rises, cleared_body, cleared_at, cleared_parts, IsTypedBody, IsTypedAt, IsTyped, fault_in}
+use Rattle.fs_nlri.proofs.NormalForm.{kept_again}
 
 range_of : (len offset : ℕ) → is_range len offset ≡ true → IsRange len offset
 range_of len offset is =
@@ -26,13 +27,6 @@ range_of len offset is =
       ],
     )
 
--- clearing the same bits again changes nothing
-kept_again : (bits : ℕ) (pairs : List (ℕ × ℕ)) → map (with_bits bits) pairs ≡ map (with_bits bits) (map (with_bits bits) pairs)
-kept_again bits [] = refl
-kept_again bits (pair ∷ pairs) =
-    ap (λ (n : ℕ). let all : List (ℕ × ℕ) = (pair.0, n) ∷ map (with_bits bits) pairs in all) (sym (and_assoc bits pair.1 bits ∙ ap (λ (n : ℕ). bit_and pair.1 n) (and_self bits)))
-    ∙ ap (λ (l : List (ℕ × ℕ)). with_bits bits (with_bits bits pair) ∷ l) (kept_again bits pairs)
-
 allowed_kept : (widths : List ℕ) (bits : ℕ) (pairs : List (ℕ × ℕ)) → all_allowed widths (map (with_bits bits) pairs) ≡ all_allowed widths pairs
 allowed_kept widths bits [] = refl
 allowed_kept widths bits (pair ∷ pairs) = ap (λ (b : Bool). list_any (λ (width : ℕ). width == width_code pair.0) widths && b) (allowed_kept widths bits pairs)
@@ -42,7 +36,7 @@ normal_list V4Form pairs given sound = absurd (false≢true given)
 normal_list V6Form pairs given sound = absurd (false≢true given)
 normal_list (ListForm kind widths None) pairs given sound = (sound, given, refl)
 normal_list (ListForm kind widths (Some bits)) pairs given sound =
-    (kept_is_normal kind bits pairs sound, allowed_kept widths bits pairs ∙ given, kept_again bits pairs)
+    (kept_is_normal kind bits pairs sound, allowed_kept widths bits pairs ∙ given, kept_again (Some bits) pairs)
 
 normal_body : (form : Form) (body : Body) → body_given form body ≡ true → IsTypedBody form body → IsNormalBody form (cleared_body form body)
 normal_body form (ListBody pairs) given sound = normal_list form pairs given sound

@@ -6,6 +6,7 @@ use Rattle.std.proofs.lemmas.Nat.{and_assoc}
 use Rattle.std.proofs.lemmas.Bool.{eq-eqb, and_from}
 use Rattle.byteorder.specs.Endian.{big_number}
 use Rattle.byteorder.specs.Numbers.{length-bytes_high_first}
+use Rattle.fs_base.proofs.Bools.{or_second}
 use Rattle.fs_base.specs.declared.prefix.Family.{Family}
 use Rattle.fs_base.specs.Language.{IsOctets}
 use Rattle.fs_base.proofs.Blocks.{cleared_again}
@@ -26,11 +27,7 @@ has_width [] code (k, inside, is) = absurd (omega arith)
 has_width (width ∷ widths) code (zero, inside, is) = let e : (width == code) ≡ true = eq-eqb width code is in rw e refl
 has_width (width ∷ widths) code (suc k, inside, is) =
     let rest : list_any (λ w. w == code) widths ≡ true = has_width widths code (k, omega arith, is) in
-    either (width == code) (list_any (λ w. w == code) widths) rest
-  where
-    either : (a b : Bool) → b ≡ true → (a || b) ≡ true
-    either true b is = refl
-    either false b is = is
+    or_second (width == code) (list_any (λ w. w == code) widths) rest
 
 pub passes_widths : (widths : List ℕ) (pairs : List (ℕ × ℕ)) → AreAllowed widths pairs → all_allowed widths pairs ≡ true
 passes_widths widths [] allowed = refl

@@ -54,19 +54,11 @@ role_at V6Form offset = if offset == 0 then PrefixLength else Offset
 role_at (ListForm kind widths bits) offset = Width
 
 role_is : (reason : Reason) (form : Form) (tail : List ℕ) (offset : ℕ) → IsRole reason form tail offset → (reason ≡ role_at form offset) × NoFront (IsBody form) (take offset tail)
-role_is Cut form tail offset role = absurd role
-role_is NoType form tail offset role = absurd role
-role_is Order form tail offset role = absurd role
-role_is Length form tail offset role = absurd role
 role_is PrefixLength V4Form tail offset role = (refl, none_at_zero V4Form tail offset role)
 role_is PrefixLength V6Form tail offset role = (sym (ap (λ (n : ℕ). role_at V6Form n) role), none_at_zero V6Form tail offset role)
-role_is PrefixLength (ListForm kind widths bits) tail offset role = absurd role
-role_is Offset V4Form tail offset role = absurd role
 role_is Offset V6Form tail offset role = (sym (ap (λ (n : ℕ). role_at V6Form n) role), none_at_one tail offset role)
-role_is Offset (ListForm kind widths bits) tail offset role = absurd role
-role_is Width V4Form tail offset role = absurd role
-role_is Width V6Form tail offset role = absurd role
 role_is Width (ListForm kind widths bits) tail offset role = (refl, none_at_operator kind widths bits tail offset role)
+role_is _ _ tail offset role = absurd role
 
 -- Whole components don't end between a type and the octet of a role behind it
 
@@ -175,10 +167,8 @@ where_is : (reason : Reason) (family : Family) (octets : List ℕ) (place : ℕ)
 where_is Cut family octets place role = absurd role
 where_is NoType family octets place role = inl (record { kind = role.0; at = role.1; is = none_reason (form_of family role.0) role.2 })
 where_is Order family octets place role = inl (record { kind = role.0; at = role.1; is = some_reason (form_of family role.0) role.2 })
-where_is PrefixLength family octets place role = inr role
-where_is Offset family octets place role = inr role
-where_is Width family octets place role = inr role
 where_is Length family octets place role = absurd role
+where_is _ family octets place role = inr role
 
 one_reason : (one other : Reason) (family : Family) (octets : List ℕ) (place : ℕ) → HasRole one family octets place → HasRole other family octets place → one ≡ other
 one_reason one other family octets place a b =
@@ -206,12 +196,8 @@ record FaultyValue (family : Family) (octets : List ℕ) (reason : Reason) (plac
 
 bad_is : (family : Family) (octets : List ℕ) (reason : Reason) (place : ℕ) → IsValueBad family octets reason place → CutValue family octets reason place ⊎ FaultyValue family octets reason place
 bad_is family octets Cut place bad = inl (record { is = refl; cut = bad.0 })
-bad_is family octets NoType place bad = inr (record { fault = bad.0; role = bad.1 })
-bad_is family octets Order place bad = inr (record { fault = bad.0; role = bad.1 })
-bad_is family octets PrefixLength place bad = inr (record { fault = bad.0; role = bad.1 })
-bad_is family octets Offset place bad = inr (record { fault = bad.0; role = bad.1 })
-bad_is family octets Width place bad = inr (record { fault = bad.0; role = bad.1 })
 bad_is family octets Length place bad = absurd bad
+bad_is family octets _ place bad = inr (record { fault = bad.0; role = bad.1 })
 
 pub record SameFault (one other : Reason) (p q : ℕ) : Type 0 where
   pub reason : one ≡ other
@@ -240,13 +226,8 @@ record OpenFrame (octets : List ℕ) (reason : Reason) (place : ℕ) : Type 0 wh
   here : place ≡ length octets
 
 frame_is : (family : Family) (octets : List ℕ) (reason : Reason) (place : ℕ) → IsFrameBad family octets reason place → OpenFrame octets reason place ⊎ IsBadFrame family octets reason place
-frame_is family octets Cut place bad = inr bad
-frame_is family octets NoType place bad = inr bad
-frame_is family octets Order place bad = inr bad
-frame_is family octets PrefixLength place bad = inr bad
-frame_is family octets Offset place bad = inr bad
-frame_is family octets Width place bad = inr bad
 frame_is family octets Length place bad = inl (record { is = refl; partial = bad.0; here = bad.1 })
+frame_is family octets _ place bad = inr bad
 
 pub one_frame_bad : (family : Family) (octets : List ℕ) (one other : Reason) (p q : ℕ) → IsOctets octets → IsFrameBad family octets one p → IsFrameBad family octets other q → SameFault one other p q
 one_frame_bad family octets one other p q are a b =

@@ -10,12 +10,7 @@ pub sound_body : (form : Form) (body : Body) → IsNormalBody form body → IsSo
 sound_body V4Form (V4Body family len bits) h = h
 sound_body V6Form (V6Body len offset pattern) h = h
 sound_body (ListForm kind widths bits) (ListBody pairs) h = (kind, h.0)
-sound_body V4Form (V6Body len offset pattern) h = absurd h
-sound_body V4Form (ListBody pairs) h = absurd h
-sound_body V6Form (V4Body family len bits) h = absurd h
-sound_body V6Form (ListBody pairs) h = absurd h
-sound_body (ListForm kind widths bits) (V4Body family len bits') h = absurd h
-sound_body (ListForm kind widths bits) (V6Body len offset pattern) h = absurd h
+sound_body _ _ h = absurd h
 
 pub sound_part : (form : Option Form) (body : Body) → IsNormalAt form body → IsSoundBody body
 sound_part None body h = absurd h

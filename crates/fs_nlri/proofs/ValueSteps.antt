@@ -127,15 +127,12 @@ cut_body family octets kind tail last parts form place read rises is none cut =
     )
 
 pub bad_at : (family : Family) (octets : List ℕ) (kind : ℕ) (tail : List ℕ) (last : ℕ) (parts : List Part) (form : Option Form) (fault : NlriFault) → HasRead family octets (kind ∷ tail) last parts → last < kind → form_of family kind ≡ form → IsFaultAt form tail fault → IsValueFault family octets (moved (length octets - length (kind ∷ tail) + 1) fault)
-bad_at family octets kind tail last parts None fault read rises is bad = absurd bad
 bad_at family octets kind tail last parts (Some form) Memory read rises is bad = tt
 bad_at family octets kind tail last parts (Some form) (Bad Cut place) read rises is bad = cut_body family octets kind tail last parts form place read rises is bad.0 bad.1
-bad_at family octets kind tail last parts (Some form) (Bad NoType place) read rises is bad = absurd bad
-bad_at family octets kind tail last parts (Some form) (Bad Order place) read rises is bad = absurd bad
-bad_at family octets kind tail last parts (Some form) (Bad Length place) read rises is bad = absurd bad
 bad_at family octets kind tail last parts (Some form) (Bad PrefixLength place) read rises is bad = role_fault PrefixLength family octets kind tail last parts form place read rises is bad.0 bad.1 bad.2
 bad_at family octets kind tail last parts (Some form) (Bad Offset place) read rises is bad = role_fault Offset family octets kind tail last parts form place read rises is bad.0 bad.1 bad.2
 bad_at family octets kind tail last parts (Some form) (Bad Width place) read rises is bad = role_fault Width family octets kind tail last parts form place read rises is bad.0 bad.1 bad.2
+bad_at family octets kind tail last parts _ _ read rises is bad = absurd bad
 
 -- a fault behind a type
 pub bad_body : (family : Family) (octets rest : List ℕ) (last : ℕ) (parts : List Part) (fault : NlriFault) → HasRead family octets rest last parts → 1 ≤ length rest → last < get_or rest 0 0 → IsFaultAt (form_of family (get_or rest 0 0)) (take (length rest - 1) (drop 1 rest)) fault → IsValueFault family octets (moved (length octets - length rest + 1) fault)

@@ -16,11 +16,8 @@ use Rattle.fs_nlri.specs.Writing.{IsWritable}
 writable_body : (form : Form) (body : Body) → IsNormalBody form body → IsWritable body
 writable_body form (ListBody pairs) normal = tt
 writable_body V4Form (V4Body family len bits) normal = (normal.1, block_below 32 len bits (block_of 32 len bits normal.1 normal.2))
-writable_body V4Form (V6Body len offset pattern) normal = absurd normal
-writable_body V6Form (V4Body family len bits) normal = absurd normal
 writable_body V6Form (V6Body len offset pattern) normal = normal.0.0
-writable_body (ListForm kind widths bits) (V4Body family len address) normal = absurd normal
-writable_body (ListForm kind widths bits) (V6Body len offset pattern) normal = absurd normal
+writable_body _ _ normal = absurd normal
 
 writable_at : (form : Option Form) (body : Body) → IsNormalAt form body → IsWritable body
 writable_at None body normal = absurd normal

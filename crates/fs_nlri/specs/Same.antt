@@ -43,12 +43,7 @@ same_body_decides (V6Body m o a) (V6Body n p b) =
     let parts = both_decide (m == n) ((o == p) && (a == b)) (unsigned_Decides m n) (both_decide (o == p) (a == b) (unsigned_Decides o p) (unsigned_Decides a b)) in
     (λ e. let s = parts.0 e in λ i. V6Body (s.0 i) (s.1.0 i) (s.1.1 i), λ e. parts.1 (cc, (cc, cc)))
 same_body_decides (ListBody xs) (ListBody ys) = (λ e. ap ListBody ((same_pairs_decides xs ys).0 e), λ e. (same_pairs_decides xs ys).1 (cc))
-same_body_decides (V4Body f m a) (V6Body n p b) = (λ e. absurd (cc), λ e. absurd (cc))
-same_body_decides (V4Body f m a) (ListBody ys) = (λ e. absurd (cc), λ e. absurd (cc))
-same_body_decides (V6Body m o a) (V4Body g n b) = (λ e. absurd (cc), λ e. absurd (cc))
-same_body_decides (V6Body m o a) (ListBody ys) = (λ e. absurd (cc), λ e. absurd (cc))
-same_body_decides (ListBody xs) (V4Body g n b) = (λ e. absurd (cc), λ e. absurd (cc))
-same_body_decides (ListBody xs) (V6Body n p b) = (λ e. absurd (cc), λ e. absurd (cc))
+same_body_decides a b = (λ e. absurd (cc), λ e. absurd (cc))
 
 pub same_part_decides : OnlySameParts
 same_part_decides a b =

@@ -126,7 +126,7 @@ pub(crate) fn bits_of_fragment(family: Family) -> u64
     }
 }
 
-/// Reads a list with values of these widths, and clears their bits that don't count.
+/// Reads a list whose values have widths of these codes. Where `bits` are given, a value's other bits are cleared.
 pub(crate) fn read_list<K: OfKind>(
     alloc: Global,
     octets: &[u8],

@@ -8,7 +8,7 @@ ghost use Rattle.fs_nlri.specs.Making.{cleared_body, cleared_part, cleared_parts
 
 use crate::body::bits_of_fragment;
 use crate::component::{Component, PrefixForm};
-use crate::given::is_given;
+use crate::given::{DSCP_BITS, is_given};
 use fs_base::{Family, Memory, Prefix};
 use std::alloc::Global;
 
@@ -50,7 +50,7 @@ fn clear(family: Family, component: Component) -> Component
         Component::Destination(form) => Component::Destination(clear_form(family, form)),
         Component::Source(form) => Component::Source(clear_form(family, form)),
         Component::Dscp(mut list) => {
-            list.keep_bits(0x3f);
+            list.keep_bits(DSCP_BITS);
             Component::Dscp(list)
         }
         Component::Fragment(mut list) => {

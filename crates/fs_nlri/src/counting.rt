@@ -4,7 +4,7 @@ ghost use Rattle.std.specs.Prelude.{◌≤◌, length};
 
 use crate::size::octets_for_bits;
 use fs_base::Family;
-use fs_ops::value_len;
+use fs_ops::width_of;
 
 /// How many types of components there are.
 const TYPES: usize = 13;
@@ -27,7 +27,7 @@ fn behind_list(octets: &[u8]) -> &[u8]
 {
     let mut rest = octets;
     while let [operator, tail @ ..] = rest {
-        rest = tail.get(value_len(*operator)..).unwrap_or(&[]);
+        rest = tail.get(width_of(*operator)..).unwrap_or(&[]);
         if *operator & 0x80 != 0 {
             return rest;
         }

@@ -90,26 +90,10 @@ impl From<OpsFault> for NlriFault {
     }
 }
 
-impl From<Memory> for RuleFault {
+impl<E: Into<Memory> + Drop> From<E> for RuleFault {
     ghost from_gives = { λ e r. r ≡ NoRuleMemory };
 
-    fn from(_error: Memory) -> RuleFault {
-        RuleFault::Memory
-    }
-}
-
-impl From<AllocError> for RuleFault {
-    ghost from_gives = { λ e r. r ≡ NoRuleMemory };
-
-    fn from(_error: AllocError) -> RuleFault {
-        RuleFault::Memory
-    }
-}
-
-impl<T: Drop> From<AllocFailed<T>> for RuleFault {
-    ghost from_gives = { λ e r. r ≡ NoRuleMemory };
-
-    fn from(_error: AllocFailed<T>) -> RuleFault {
+    fn from(_error: E) -> RuleFault {
         RuleFault::Memory
     }
 }

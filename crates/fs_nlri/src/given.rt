@@ -56,6 +56,15 @@ fn form_given(family: Family, form: &PrefixForm) -> bool
 /// The codes of all widths.
 pub(crate) const ALL_WIDTHS: [u8; 4] = [0, 1, 2, 3];
 
+/// Of TCP flags: one octet or two (RFC 8955 section 4.2.2.9).
+pub(crate) const FLAG_WIDTHS: [u8; 2] = [0, 1];
+
+/// One octet alone.
+pub(crate) const ONE_OCTET: [u8; 1] = [0];
+
+/// The bits of an octet that are the DSCP (RFC 8955 section 4.2.2.11).
+pub(crate) const DSCP_BITS: u64 = 0x3f;
+
 /// Whether the family gives the component's type, and the type its form and its widths.
 pub(crate) fn is_given(family: Family, component: &Component) -> bool
     ensures value { result ≡ part_given family (part_of component.now) }
@@ -70,9 +79,9 @@ pub(crate) fn is_given(family: Family, component: &Component) -> bool
         | Component::IcmpType(list)
         | Component::IcmpCode(list)
         | Component::PacketLength(list) => list_allowed(&ALL_WIDTHS, list),
-        Component::TcpFlags(list) => list_allowed(&[0, 1], list),
-        Component::Dscp(list) => list_allowed(&[0], list),
-        Component::Fragment(list) => list_allowed(&[0], list),
+        Component::TcpFlags(list) => list_allowed(&FLAG_WIDTHS, list),
+        Component::Dscp(list) => list_allowed(&ONE_OCTET, list),
+        Component::Fragment(list) => list_allowed(&ONE_OCTET, list),
         Component::FlowLabel(list) => family == Family::V6 && list_allowed(&ALL_WIDTHS, list),
     }
 }

@@ -11,6 +11,7 @@ use crate::body::{bits_of_fragment, read_list, read_numbers, read_prefix};
 use crate::component::Component;
 use crate::counting::count_components;
 use crate::fault::{NlriFault, Reason};
+use crate::given::{DSCP_BITS, FLAG_WIDTHS, ONE_OCTET};
 use fs_base::Family;
 use std::alloc::Global;
 
@@ -86,7 +87,7 @@ fn read_component(
             Ok((Component::IcmpCode(list), taken))
         }
         9 => {
-            let (list, taken) = read_list(alloc, octets, &[0, 1], None)?;
+            let (list, taken) = read_list(alloc, octets, &FLAG_WIDTHS, None)?;
             Ok((Component::TcpFlags(list), taken))
         }
         10 => {
@@ -94,11 +95,16 @@ fn read_component(
             Ok((Component::PacketLength(list), taken))
         }
         11 => {
-            let (list, taken) = read_list(alloc, octets, &[0], Some(0x3f))?;
+            let (list, taken) = read_list(alloc, octets, &ONE_OCTET, Some(DSCP_BITS))?;
             Ok((Component::Dscp(list), taken))
         }
         12 => {
-            let (list, taken) = read_list(alloc, octets, &[0], Some(bits_of_fragment(family)))?;
+            let (list, taken) = read_list(
+                alloc,
+                octets,
+                &ONE_OCTET,
+                Some(bits_of_fragment(family)),
+            )?;
             Ok((Component::Fragment(list), taken))
         }
         13 => {

@@ -1,7 +1,10 @@
 -- Each octet list has exactly one outcome as the front of an operator list: a list of so many octets, or a cut, or an operator of a bad width.
 use Rattle.std.proofs.Common.{◌≡◌, ℕ, zero, suc, ◌-◌, ◌<◌, ◌≤◌, ◌==◌, List, [], ◌∷◌, ◌++◌, length, get_or, take, drop, refl, ap, sym, ◌∙◌, arith, ◌⊎◌, inl, inr, Any, Contains, Result, Ok, Err, bit_and}
 use Rattle.std.proofs.lemmas.List.{take-append-drop, length-drop, length-take}
-use Rattle.std.proofs.lemmas.Bool.{cases_lt, cases_eq, cases_Bool}
+use Rattle.std.proofs.lemmas.Bool.{both_ways, cases_lt, cases_Bool}
+use Rattle.std.proofs.lemmas.Map.Made.{is_member-Decides}
+use Rattle.std.specs.Cmp.{unsigned_Decides}
+use Rattle.std.specs.Set.{is_member}
 use Rattle.byteorder.specs.Endian.{big_number}
 use Rattle.fs_base.specs.Language.{IsOctets}
 use Rattle.fs_base.proofs.Languages.{one_fault, cut_or_fault}
@@ -11,25 +14,16 @@ use Rattle.fs_ops.specs.Fault.{IsFault}
 use Rattle.fs_ops.specs.declared.fault.OpsFault.{OpsFault}
 use Rattle.fs_ops.specs.declared.fault.OpsFault.TheVariants.{Cut, Width, Memory}
 use Rattle.fs_ops.proofs.Grammar.{same_list}
-use Rattle.fs_ops.proofs.Found.{HasRead, cut_between, cut_within, bad_width, next_found, goes_on, ends_here}
+use Rattle.fs_ops.proofs.Found.{HasRead, said_at, cut_between, cut_within, bad_width, next_found, goes_on, ends_here}
 
 -- an allowed code can be told from one that isn't
 pub member : (codes : List ℕ) (code : ℕ) → Contains codes code ⊎ (Contains codes code → ⊥)
-member [] code = inr (λ found. absurd (omega (arith, found.1)))
-member (own ∷ codes) code = elim (cases_eq own code) [
-  | inl same ↦ inl (0, omega arith, same)
-  | inr other ↦ elim (member codes code) [
-    | inl found ↦ inl (later own codes code found)
-    | inr none ↦ inr (λ found. neither own codes code other none found.0 found.1 found.2)
-  ]
-]
-  where
-    later : (own : ℕ) (codes : List ℕ) (code : ℕ) → Contains codes code → Contains (own ∷ codes) code
-    later own codes code found = let inside : found.0 < length codes = found.1 in (suc found.0, omega arith, found.2)
-
-    neither : (own : ℕ) (codes : List ℕ) (code : ℕ) → (own ≡ code → ⊥) → (Contains codes code → ⊥) → (k : ℕ) → k < length (own ∷ codes) → get_or (own ∷ codes) k code ≡ code → ⊥
-    neither own codes code other none zero inside is = other is
-    neither own codes code other none (suc k) inside is = none (k, omega arith, is)
+member codes code =
+    let tested = is_member-Decides unsigned_Decides codes code in
+    elim (cases_Bool (is_member (λ a b. a == b) codes code)) [
+      | inl is ↦ inl (tested.0 is)
+      | inr isnt ↦ inr (λ found. both_ways (is_member (λ a b. a == b) codes code) isnt (tested.1 found))
+    ]
 
 -- what stands at the front, without want of memory
 abbrev pub IsOutcome : Kind → List ℕ → List ℕ → Result (List (ℕ × ℕ) × ℕ) OpsFault → Type 0
@@ -53,14 +47,11 @@ every kind widths octets some = by (suc (length octets)) octets [] (record { bef
       | inl short ↦ record { result = Err (Cut (length octets)); holds = cut_within kind widths octets (operator ∷ tail) pairs operator tail some read refl allowed short }
       | inr room ↦
           let next : List ℕ = drop (width_of operator) tail in
-          let value : List ℕ = take (width_of operator) tail in
-          let cleared : ℕ = bit_and operator (counted_bits kind (length pairs == 0)) in
-          let more : List (ℕ × ℕ) = pairs ++ (cleared, big_number (width_of operator) value) ∷ [] in
-          let found = next_found kind widths octets (operator ∷ tail) tail value next pairs more operator (width_of operator) (big_number (width_of operator) value) (length pairs) cleared (length pairs == 0)
-          read refl allowed refl room refl refl refl refl refl refl refl in
+          let more : List (ℕ × ℕ) = pairs ++ said_at kind (length pairs == 0) operator tail ∷ [] in
+          let found = next_found kind widths octets pairs operator tail read allowed room in
           elim (cases_Bool (ends operator)) [
-            | inl last ↦ record { result = Ok (more, length octets - length next); holds = (omega arith, ends_here kind widths octets (operator ∷ tail) next more operator found last) }
-            | inr going ↦ by fuel next more (goes_on kind widths octets (operator ∷ tail) next more operator found going) (omega (arith, length-drop (width_of operator) tail))
+            | inl last ↦ record { result = Ok (more, length octets - length next); holds = (omega arith, ends_here kind widths octets next more operator found last) }
+            | inr going ↦ by fuel next more (goes_on kind widths octets next more operator found going) (omega (arith, length-drop (width_of operator) tail))
           ]
     ]
   ]

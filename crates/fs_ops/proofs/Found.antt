@@ -161,8 +161,8 @@ bad_width kind widths octets rest pairs operator tail some read stands refused =
         let found = behind widths before begins.whole.written (operator ∷ begins.more) [] middle begins.whole.whole spelled in
         refused ((opening widths found.written [] operator begins.more found.whole found.spelled).allowed)
 
--- the pair that stands there, and what the list of pairs becomes with it
-pub record NextPair (kind : Kind) (widths octets rest next : List ℕ) (pairs : List (ℕ × ℕ)) (operator : ℕ) : Type 0 where
+-- the pairs that were read and one more, behind which `next` is left
+pub record NextPair (kind : Kind) (widths octets next : List ℕ) (pairs : List (ℕ × ℕ)) (operator : ℕ) : Type 0 where
   pub pair : Written
   pub is : IsPair widths pair
   pub own : pair.operator ≡ operator
@@ -171,25 +171,32 @@ pub record NextPair (kind : Kind) (widths octets rest next : List ℕ) (pairs : 
   pub split : octets ≡ text (before ++ pair ∷ []) ++ next
   pub means : pairs ≡ all_said kind (before ++ pair ∷ [])
 
+-- what an operator and the value behind it say, first in their list or not
+abbrev pub said_at : Kind → Bool → ℕ → List ℕ → ℕ × ℕ
+said_at kind first operator tail = (bit_and operator (counted_bits kind first), big_number (width_of operator) (take (width_of operator) tail))
+
 is_first : (kind : Kind) (before : List Written) (n : ℕ) → n ≡ length (all_said kind before) → (n == 0) ≡ is_none_before before
 is_first kind [] n size = rw size refl
 is_first kind (pair ∷ before) n size = ne_eqb n 0 (λ empty. omega arith)
 
-pub next_pair : (kind : Kind) (widths octets rest : List ℕ) (pairs new : List (ℕ × ℕ)) (operator : ℕ) (tail : List ℕ) (count operator' : ℕ) → HasRead kind widths octets rest pairs → rest ≡ operator ∷ tail → Contains widths (width_code operator) → width_of operator ≤ length tail → count ≡ length pairs → operator' ≡ bit_and operator (counted_bits kind (count == 0)) → new ≡ pairs ++ (operator', big_number (width_of operator) (take (width_of operator) tail)) ∷ [] → NextPair kind widths octets rest (drop (width_of operator) tail) new operator
-next_pair kind widths octets rest pairs new operator tail count operator' read stands allowed room size cleared pushed = record {
+-- an operator of an allowed width stands there, with its value
+pub next_found : (kind : Kind) (widths octets : List ℕ) (pairs : List (ℕ × ℕ)) (operator : ℕ) (tail : List ℕ)
+    → HasRead kind widths octets (operator ∷ tail) pairs → Contains widths (width_code operator) → width_of operator ≤ length tail
+    → NextPair kind widths octets (drop (width_of operator) tail) (pairs ++ said_at kind (length pairs == 0) operator tail ∷ []) operator
+next_found kind widths octets pairs operator tail read allowed room = record {
   pair = pair_of operator tail;
   is = record { allowed = allowed; size = taken };
   own = refl;
   before = read.before;
   middle = read.middle;
   split =
-      read.split ∙ ap (λ (l : List ℕ). text read.before ++ l) stands
+      read.split
       ∙ ap (λ (l : List ℕ). text read.before ++ operator ∷ l) (sym (take-append-drop (width_of operator) tail))
       ∙ ap (λ (l : List ℕ). text read.before ++ operator ∷ (l ++ drop (width_of operator) tail)) (sym (append-nil (take (width_of operator) tail)))
       ∙ sym (append_assoc (text read.before) (text (pair_of operator tail ∷ [])) (drop (width_of operator) tail))
       ∙ ap (λ (l : List ℕ). l ++ drop (width_of operator) tail) (sym (text_joined read.before (pair_of operator tail ∷ [])));
   means =
-      pushed ∙ ap (λ (l : List (ℕ × ℕ)). l ++ (operator', big_number (width_of operator) (take (width_of operator) tail)) ∷ []) read.means
+      ap (λ (l : List (ℕ × ℕ)). l ++ said_at kind (length pairs == 0) operator tail ∷ []) read.means
       ∙ ap (λ (p : ℕ × ℕ). all_said kind read.before ++ p ∷ []) said_is
       ∙ sym (said_more kind read.before (pair_of operator tail));
 }
@@ -197,44 +204,30 @@ next_pair kind widths octets rest pairs new operator tail count operator' read s
     taken : length (take (width_of operator) tail) ≡ width_of operator
     taken = length-take (width_of operator) tail ∙ (omega arith)
 
-    flag : (count == 0) ≡ is_none_before read.before
-    flag = is_first kind read.before count (size ∙ ap length read.means)
+    flag : (length pairs == 0) ≡ is_none_before read.before
+    flag = is_first kind read.before (length pairs) (ap length read.means)
 
-    said_is : (let pair : ℕ × ℕ = (operator', big_number (width_of operator) (take (width_of operator) tail)) in pair) ≡ said (counted_bits kind (is_none_before read.before)) (pair_of operator tail)
+    said_is : said_at kind (length pairs == 0) operator tail ≡ said (counted_bits kind (is_none_before read.before)) (pair_of operator tail)
     said_is =
-        ap (λ (o : ℕ). let pair : ℕ × ℕ = (o, big_number (width_of operator) (take (width_of operator) tail)) in pair) (cleared ∙ ap (λ (b : Bool). bit_and operator (counted_bits kind b)) flag)
+        ap (λ (b : Bool). said_at kind b operator tail) flag
         ∙ ap (λ (n : ℕ). let pair : ℕ × ℕ = (bit_and operator (counted_bits kind (is_none_before read.before)), big_number n (take (width_of operator) tail)) in pair) (sym taken)
 
-pub next_found : (kind : Kind) (widths octets rest tail value next : List ℕ) (pairs new : List (ℕ × ℕ)) (operator size number count cleared : ℕ) (first : Bool) → HasRead kind widths octets rest pairs → rest ≡ operator ∷ tail → Contains widths (width_code operator) → size ≡ width_of operator → size ≤ length tail → value ≡ take size tail → next ≡ drop size tail → number ≡ big_number size value → count ≡ length pairs → first ≡ (count == 0) → cleared ≡ bit_and operator (counted_bits kind first) → new ≡ pairs ++ (cleared, number) ∷ [] → NextPair kind widths octets rest next new operator
-next_found kind widths octets rest tail value next pairs new operator size number count cleared first read stands allowed sized room value_is next_is number_is counted first_is cleared_is pushed =
-    let taken : value ≡ take (width_of operator) tail = value_is ∙ ap (λ (n : ℕ). take n tail) sized in
-    let left : drop (width_of operator) tail ≡ next = ap (λ (n : ℕ). drop n tail) (sym sized) ∙ sym next_is in
-    let says : number ≡ big_number (width_of operator) (take (width_of operator) tail) =
-    number_is ∙ ap (λ (n : ℕ). big_number n value) sized ∙ ap (λ (l : List ℕ). big_number (width_of operator) l) taken in
-    let added : new ≡ pairs ++ (cleared, big_number (width_of operator) (take (width_of operator) tail)) ∷ [] =
-    pushed ∙ ap (λ (n : ℕ). pairs ++ (cleared, n) ∷ []) says in
-    let clear : cleared ≡ bit_and operator (counted_bits kind (count == 0)) = cleared_is ∙ ap (λ (b : Bool). bit_and operator (counted_bits kind b)) first_is in
-    let fits : width_of operator ≤ length tail = omega arith in
-    subst (λ (l : List ℕ). NextPair kind widths octets rest l new operator) left
-    (next_pair kind widths octets rest pairs new operator tail count cleared read stands allowed fits counted clear added)
-
-pub goes_on : (kind : Kind) (widths octets rest next : List ℕ) (pairs : List (ℕ × ℕ)) (operator : ℕ) → NextPair kind widths octets rest next pairs operator → ends operator ≡ false → HasRead kind widths octets next pairs
-goes_on kind widths octets rest next pairs operator found going = record {
+pub goes_on : (kind : Kind) (widths octets next : List ℕ) (pairs : List (ℕ × ℕ)) (operator : ℕ) → NextPair kind widths octets next pairs operator → ends operator ≡ false → HasRead kind widths octets next pairs
+goes_on kind widths octets next pairs operator found going = record {
   before = found.before ++ found.pair ∷ [];
   middle = middle_more widths found.before found.pair found.middle found.is (ap (λ (o : ℕ). ends o) found.own ∙ going);
   split = found.split;
   means = found.means;
 }
 
-pub ends_here : (kind : Kind) (widths octets rest next : List ℕ) (pairs : List (ℕ × ℕ)) (operator : ℕ) → NextPair kind widths octets rest next pairs operator → ends operator ≡ true → Spells kind widths (take (length octets - length next) octets) pairs
-ends_here kind widths octets rest next pairs operator found last = record {
-  written = found.before ++ found.pair ∷ [];
-  whole = joined_list widths found.before (found.pair ∷ []) found.middle (found.is, ap (λ (o : ℕ). ends o) found.own ∙ last);
-  spelled =
-      let sizes : length octets ≡ length (text (found.before ++ found.pair ∷ [])) + length next = ap length found.split ∙ length-append (text (found.before ++ found.pair ∷ [])) next in
-      let place : length octets - length next ≡ length (text (found.before ++ found.pair ∷ [])) = omega arith in
-      sym (ap (λ (n : ℕ). take n octets) place
-      ∙ ap (λ (l : List ℕ). take (length (text (found.before ++ found.pair ∷ []))) l) found.split
-      ∙ take_at (text (found.before ++ found.pair ∷ [])) next (length (text (found.before ++ found.pair ∷ []))) refl);
-  means = found.means;
-}
+pub ends_here : (kind : Kind) (widths octets next : List ℕ) (pairs : List (ℕ × ℕ)) (operator : ℕ) → NextPair kind widths octets next pairs operator → ends operator ≡ true → Spells kind widths (take (length octets - length next) octets) pairs
+ends_here kind widths octets next pairs operator found last =
+    let front : List ℕ = text (found.before ++ found.pair ∷ []) in
+    let sizes : length octets ≡ length front + length next = ap length found.split ∙ length-append front next in
+    let place : length octets - length next ≡ length front = omega arith in
+    record {
+      written = found.before ++ found.pair ∷ [];
+      whole = joined_list widths found.before (found.pair ∷ []) found.middle (found.is, ap (λ (o : ℕ). ends o) found.own ∙ last);
+      spelled = sym (ap (λ (n : ℕ). take n octets) place ∙ ap (λ (l : List ℕ). take (length front) l) found.split ∙ take_at front next (length front) refl);
+      means = found.means;
+    }

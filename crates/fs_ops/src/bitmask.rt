@@ -8,15 +8,16 @@ ghost use Rattle.fs_ops.specs.Evaluation.{holds, masks};
 
 use crate::evaluation;
 use crate::fault::OpsFault;
-use crate::kind::{Kind, Masks};
+use crate::kind::{Kind, MaskKind};
 use crate::list::OperatorList;
 use std::alloc::Global;
 
 /// A list of bitmask operators and values.
-pub type MaskList = OperatorList<Masks>;
+pub type MaskList = OperatorList<MaskKind>;
 
-impl OperatorList<Masks> {
-    /// `decode_within`: which widths are allowed differs from type to type.
+impl OperatorList<MaskKind> {
+    /// Reads the list that stands at the front of the octets, with values of the widths whose codes these are
+    /// (0 is one octet, 1 two, 2 four, 3 eight), and answers how many octets it takes, as `decode_within` does.
     pub fn decode(
         alloc: Global,
         octets: &[u8],

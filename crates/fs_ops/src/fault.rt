@@ -4,7 +4,6 @@ ghost use Rattle.std.specs.Prelude.{◌≡◌};
 ghost use Rattle.fs_ops.specs.declared.fault.OpsFault.TheVariants.{Memory as OutOfMemory};
 
 use fs_base::Memory;
-use std::alloc::{AllocError, AllocFailed};
 
 /// Why octets aren't the front of a list. A place counts octets from the list's first one, from 0.
 #[derive(Clone, Copy, Debug, PartialEq, Eq, Drop)]
@@ -17,26 +16,10 @@ pub enum OpsFault {
     Memory,
 }
 
-impl From<Memory> for OpsFault {
+impl<E: Into<Memory> + Drop> From<E> for OpsFault {
     ghost from_gives = { λ e fault. fault ≡ OutOfMemory };
 
-    fn from(_error: Memory) -> OpsFault {
-        OpsFault::Memory
-    }
-}
-
-impl From<AllocError> for OpsFault {
-    ghost from_gives = { λ e fault. fault ≡ OutOfMemory };
-
-    fn from(_error: AllocError) -> OpsFault {
-        OpsFault::Memory
-    }
-}
-
-impl<T: Drop> From<AllocFailed<T>> for OpsFault {
-    ghost from_gives = { λ e fault. fault ≡ OutOfMemory };
-
-    fn from(_error: AllocFailed<T>) -> OpsFault {
+    fn from(_error: E) -> OpsFault {
         OpsFault::Memory
     }
 }

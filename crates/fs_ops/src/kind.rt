@@ -8,20 +8,21 @@ pub enum Kind {
     Bitmask,
 }
 
-/// A kind of list as a type.
+/// A kind of list as a type: what the type parameter of `OperatorList` says.
 pub trait OfKind {
     ghost use Rattle.fs_ops.specs.Operator.{Kind};
 
     ghost KIND: { Kind };
 
+    /// The same as a value.
     const KIND: Kind;
 }
 
 /// The kind of `NumList`.
 #[derive(Debug, Drop)]
-pub struct Numbers;
+pub struct NumKind;
 
-impl OfKind for Numbers {
+impl OfKind for NumKind {
     ghost use Rattle.fs_ops.specs.Operator.{Numeric};
 
     ghost KIND = { Numeric };
@@ -31,9 +32,9 @@ impl OfKind for Numbers {
 
 /// The kind of `MaskList`.
 #[derive(Debug, Drop)]
-pub struct Masks;
+pub struct MaskKind;
 
-impl OfKind for Masks {
+impl OfKind for MaskKind {
     ghost use Rattle.fs_ops.specs.Operator.{Bitmask};
 
     ghost KIND = { Bitmask };

@@ -17,8 +17,8 @@ mod writing;
 
 pub use bitmask::MaskList;
 pub use fault::OpsFault;
-pub use kind::{Kind, Masks, Numbers, OfKind};
+pub use kind::{Kind, MaskKind, NumKind, OfKind};
 pub use laws::equal_where_same;
 pub use list::OperatorList;
 pub use numeric::NumList;
-pub use operator::{value_len, width_code_of};
+pub use operator::{width_code_of, width_of};

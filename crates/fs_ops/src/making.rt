@@ -5,13 +5,13 @@ ghost use Rattle.fs_ops.specs.Operator.{width_of, meant_bits};
 ghost use Rattle.fs_ops.specs.OperatorList.{IsNormalPair, AreNormal, IsNormal, first_joins};
 
 use crate::kind::Kind;
-use crate::operator::{clear_ignored, is_joined, is_last, value_len};
+use crate::operator::{clear_ignored, is_joined, is_last, width_of};
 
 /// Whether the value has no more octets than its operator says.
 fn fits(operator: u8, value: u64) -> bool
     ensures { IsTrue result ↔ value < 256 ^ width_of operator }
 {
-    let len = value_len(operator);
+    let len = width_of(operator);
     if len == 1 {
         return value <= 0xff;
     }

@@ -8,14 +8,14 @@ ghost use Rattle.fs_ops.specs.Evaluation.{holds, compares};
 
 use crate::evaluation;
 use crate::fault::OpsFault;
-use crate::kind::{Kind, Numbers};
+use crate::kind::{Kind, NumKind};
 use crate::list::OperatorList;
 use std::alloc::Global;
 
 /// A list of numeric operators and values.
-pub type NumList = OperatorList<Numbers>;
+pub type NumList = OperatorList<NumKind>;
 
-impl OperatorList<Numbers> {
+impl OperatorList<NumKind> {
     /// Reads the list that stands at the front of the octets, with values of 1, 2, 4 or 8 octets, and
     /// answers how many octets it takes.
     pub fn decode(alloc: Global, octets: &[u8]) -> Result<(NumList, usize), OpsFault>

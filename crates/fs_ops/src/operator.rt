@@ -35,7 +35,7 @@ pub fn allows(widths: &[u8], code: u8) -> bool
 }
 
 /// The value's length, 1, 2, 4 or 8 octets.
-pub fn value_len(operator: u8) -> usize
+pub fn width_of(operator: u8) -> usize
     ensures value { result ≡ width_of operator }
     ensures low { 1 ≤ result }
     ensures high { result ≤ 8 }

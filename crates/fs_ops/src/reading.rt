@@ -7,7 +7,7 @@ ghost use Rattle.fs_ops.specs.Fault.{CanBeWide, IsFault, barred_at};
 
 use crate::fault::OpsFault;
 use crate::kind::Kind;
-use crate::operator::{allows, clear_ignored, is_last, value_len, width_code_of};
+use crate::operator::{allows, clear_ignored, is_last, width_code_of, width_of};
 use crate::pairs::PairList;
 use byteorder::{BigEndian, ByteOrder};
 use std::alloc::Global;
@@ -57,7 +57,7 @@ fn read_single(kind: Kind, octets: &[u8], widths: &[u8]) -> Option<((u8, u64), u
     if !is_last(*operator) || !allows(widths, width_code_of(*operator)) {
         return None;
     }
-    let len = value_len(*operator);
+    let len = width_of(*operator);
     if tail.len() < len {
         return None;
     }
@@ -81,7 +81,7 @@ fn count_pairs(octets: &[u8], widths: &[u8]) -> usize
         if is_last(*operator) {
             return count;
         }
-        let Some(next) = tail.get(value_len(*operator)..) else {
+        let Some(next) = tail.get(width_of(*operator)..) else {
             return 0;
         };
         rest = next;
@@ -109,7 +109,7 @@ fn read_pairs(
                 place: octets.len() - rest.len(),
             });
         }
-        let len = value_len(*operator);
+        let len = width_of(*operator);
         if tail.len() < len {
             return Err(OpsFault::Cut {
                 place: octets.len(),

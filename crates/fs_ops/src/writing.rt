@@ -5,7 +5,7 @@ ghost use Rattle.std.specs.Vec.{vec_len};
 ghost use Rattle.fs_ops.specs.Operator.{width_of};
 ghost use Rattle.fs_ops.specs.OperatorList.{pair_octets, canonical};
 
-use crate::operator::value_len;
+use crate::operator::width_of;
 use byteorder::{BigEndian, ByteOrder};
 use fs_base::Memory;
 
@@ -15,7 +15,7 @@ fn append_pair(operator: u8, value: u64, out: &mut Vec<u8>) -> Result<(), Memory
     ensures ok { OnOk result (out.new.items ≡ out.old.items ++ pair_octets (operator, value)) }
     ensures err { OnErr result (out.new.items ≡ out.old.items) }
 {
-    let len = value_len(operator);
+    let len = width_of(operator);
     let mut octets = [operator, 0, 0, 0, 0, 0, 0, 0, 0];
     BigEndian::write_uint(&mut octets[1..], value, len);
     out.extend_from_slice(&octets[..1 + len])?;
@@ -55,7 +55,7 @@ pub fn encoded_len(pairs: &[(u8, u64)]) -> usize
 {
     let mut len = 0;
     for &(operator, _) in pairs {
-        len += 1 + value_len(operator);
+        len += 1 + width_of(operator);
     }
     len
 }

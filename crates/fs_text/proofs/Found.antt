@@ -37,16 +37,8 @@ pub record IsEight (a : List ℕ) : Type 0 where
   pub is : a ≡ a0 ∷ a1 ∷ a2 ∷ a3 ∷ a4 ∷ a5 ∷ a6 ∷ a7 ∷ []
 
 pub eight : (a : List ℕ) → length a ≡ 8 → IsEight a
-eight [] h = absurd (omega arith)
-eight (a ∷ []) h = absurd (omega arith)
-eight (a ∷ b ∷ []) h = absurd (omega arith)
-eight (a ∷ b ∷ c ∷ []) h = absurd (omega arith)
-eight (a ∷ b ∷ c ∷ d ∷ []) h = absurd (omega arith)
-eight (a ∷ b ∷ c ∷ d ∷ e ∷ []) h = absurd (omega arith)
-eight (a ∷ b ∷ c ∷ d ∷ e ∷ f ∷ []) h = absurd (omega arith)
-eight (a ∷ b ∷ c ∷ d ∷ e ∷ f ∷ g ∷ []) h = absurd (omega arith)
 eight (a ∷ b ∷ c ∷ d ∷ e ∷ f ∷ g ∷ i ∷ []) h = record { a0 = a; a1 = b; a2 = c; a3 = d; a4 = e; a5 = f; a6 = g; a7 = i; is = refl }
-eight (a ∷ b ∷ c ∷ d ∷ e ∷ f ∷ g ∷ i ∷ j ∷ more) h = absurd (omega arith)
+eight a h = absurd (omega arith)
 
 short_cells : (a b c d e f g i : ℕ) → IsOctets (a ∷ b ∷ c ∷ d ∷ e ∷ f ∷ g ∷ i ∷ [])
     → short_octets (big_number 2 (a ∷ b ∷ c ∷ d ∷ e ∷ f ∷ g ∷ i ∷ [])) (big_number 2 (c ∷ d ∷ e ∷ f ∷ g ∷ i ∷ [])) (big_number 4 (e ∷ f ∷ g ∷ i ∷ []))

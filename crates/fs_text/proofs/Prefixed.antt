@@ -171,13 +171,11 @@ v4_found (V4Body family len bits) parts result is p gives =
     let short : len ≤ 32 = is.1 in
     gives len bits short (block_below 32 len bits (block_of 32 len bits short is.2)) is.2 (p ∙ v4_runs len bits (omega (arith, short)))
     ∙ ap (λ (f : Family). let made : Option Body = Some (V4Body f len bits) in made) (sym is.0)
-v4_found (V6Body len offset pattern) parts result is p gives = absurd is
-v4_found (ListBody pairs) parts result is p gives = absurd is
+v4_found body parts result is p gives = absurd is
 
 pub v6_found : (body : Body) (parts : List Part) (result : Option Body) → IsNormalBody V6Form body → parts ≡ parts_of (body_text 1 body) → GivesV6 parts result → result ≡ Some body
-v6_found (V4Body family len bits) parts result is p gives = absurd is
 v6_found (V6Body len offset pattern) parts result is p gives =
     let high : len ≤ 128 = is.0.0 in
     let low : offset < 128 = range_offset len offset is.0 in
     gives len offset pattern is.0 is.1 (p ∙ v6_runs len offset pattern (omega (arith, high)) (omega (arith, low)))
-v6_found (ListBody pairs) parts result is p gives = absurd is
+v6_found body parts result is p gives = absurd is

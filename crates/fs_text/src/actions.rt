@@ -24,10 +24,7 @@ use std::alloc::Global;
 fn loose_short(word: &[u8]) -> Option<u16>
     ensures { (n : ℕ) → n < 2 ^ 16 → word.now ≡ decimal n → result ≡ Some n }
 {
-    match loose_decimal(word) {
-        Some(number) => u16::try_from(number).ok(),
-        None => None,
-    }
+    u16::try_from(loose_decimal(word)?).ok()
 }
 
 /// The octets of a community: its type, sixteen bits, and thirty-two.
@@ -49,10 +46,7 @@ fn loose_rate(kind: u16, parts: &[Piece<'_>]) -> Option<[u8; 8]>
 {
     match parts {
         [Piece::Run(id), Piece::Delimiter(b':'), Piece::Run(figure)] => {
-            match (loose_short(id), loose_figure(figure)) {
-                (Some(id), Some(figure)) => Some(octets_of(kind, id, figure)),
-                _ => None,
-            }
+            Some(octets_of(kind, loose_short(id)?, loose_figure(figure)?))
         }
         _ => None,
     }
@@ -64,10 +58,7 @@ fn loose_plain(kind: u16, parts: &[Piece<'_>]) -> Option<[u8; 8]>
         → result ≡ Some (big_bytes 2 kind ++ (big_bytes 2 0 ++ big_bytes 4 last)) }
 {
     match parts {
-        [Piece::Run(last)] => match loose_short(last) {
-            Some(last) => Some(octets_of(kind, 0, u32::from(last))),
-            None => None,
-        },
+        [Piece::Run(last)] => Some(octets_of(kind, 0, u32::from(loose_short(last)?))),
         _ => None,
     }
 }
@@ -87,10 +78,7 @@ fn octets_with(kind: u16, first: u32, last: u16) -> [u8; 8]
 fn loose_long(word: &[u8]) -> Option<u32>
     ensures { (n : ℕ) → n < 2 ^ 32 → word.now ≡ decimal n → result ≡ Some n }
 {
-    match loose_decimal(word) {
-        Some(number) => u32::try_from(number).ok(),
-        None => None,
-    }
+    u32::try_from(loose_decimal(word)?).ok()
 }
 
 /// The octets of an rt-redirect with a two-octet AS number.
@@ -99,10 +87,7 @@ fn loose_as2(parts: &[Piece<'_>]) -> Option<[u8; 8]>
 {
     match parts {
         [Piece::Run(asn), Piece::Delimiter(b':'), Piece::Run(number)] => {
-            match (loose_short(asn), loose_long(number)) {
-                (Some(asn), Some(number)) => Some(octets_of(0x8008, asn, number)),
-                _ => None,
-            }
+            Some(octets_of(0x8008, loose_short(asn)?, loose_long(number)?))
         }
         _ => None,
     }
@@ -114,10 +99,7 @@ fn loose_as4(parts: &[Piece<'_>]) -> Option<[u8; 8]>
 {
     match parts {
         [Piece::Run(asn), Piece::Delimiter(b':'), Piece::Run(number)] => {
-            match (loose_long(asn), loose_short(number)) {
-                (Some(asn), Some(number)) => Some(octets_with(0x8208, asn, number)),
-                _ => None,
-            }
+            Some(octets_with(0x8208, loose_long(asn)?, loose_short(number)?))
         }
         _ => None,
     }
@@ -138,12 +120,7 @@ fn loose_ip4(parts: &[Piece<'_>]) -> Option<[u8; 8]>
             Piece::Run(d),
             Piece::Delimiter(b':'),
             Piece::Run(number),
-        ] => {
-            match (loose_address(a, b, c, d), loose_short(number)) {
-                (Some(address), Some(number)) => Some(octets_with(0x8108, address, number)),
-                _ => None,
-            }
-        }
+        ] => { Some(octets_with(0x8108, loose_address(a, b, c, d)?, loose_short(number)?)) }
         _ => None,
     }
 }

@@ -4,7 +4,6 @@ ghost use Rattle.std.specs.Prelude.{◌≡◌};
 ghost use Rattle.fs_text.specs.declared.fault.TextFault.TheVariants.{Memory as NoMemory};
 
 use fs_base::Memory;
-use std::alloc::{AllocError, AllocFailed};
 
 /// Why a text is none of a rule and its actions.
 #[derive(Clone, Copy, Debug, PartialEq, Eq, Drop)]
@@ -18,26 +17,10 @@ pub enum TextFault {
     Memory,
 }
 
-impl From<Memory> for TextFault {
+impl<E: Into<Memory> + Drop> From<E> for TextFault {
     ghost from_gives = { λ e r. r ≡ NoMemory };
 
-    fn from(_error: Memory) -> TextFault {
-        TextFault::Memory
-    }
-}
-
-impl From<AllocError> for TextFault {
-    ghost from_gives = { λ e r. r ≡ NoMemory };
-
-    fn from(_error: AllocError) -> TextFault {
-        TextFault::Memory
-    }
-}
-
-impl<T: Drop> From<AllocFailed<T>> for TextFault {
-    ghost from_gives = { λ e r. r ≡ NoMemory };
-
-    fn from(_error: AllocFailed<T>) -> TextFault {
+    fn from(_error: E) -> TextFault {
         TextFault::Memory
     }
 }

@@ -33,10 +33,7 @@ pub(crate) fn loose_figure(word: &[u8]) -> Option<u32>
 pub(crate) fn loose_octet(word: &[u8]) -> Option<u8>
     ensures { (n : ℕ) → n < 256 → word.now ≡ decimal n → result ≡ Some n }
 {
-    match loose_decimal(word) {
-        Some(number) => u8::try_from(number).ok(),
-        None => None,
-    }
+    u8::try_from(loose_decimal(word)?).ok()
 }
 
 /// The address of four octets in decimal.
@@ -45,15 +42,13 @@ pub(crate) fn loose_address(a: &[u8], b: &[u8], c: &[u8], d: &[u8]) -> Option<u3
         → a.now ≡ decimal (n / 2 ^ 24 % 256) → b.now ≡ decimal (n / 2 ^ 16 % 256)
         → c.now ≡ decimal (n / 2 ^ 8 % 256) → d.now ≡ decimal (n % 256) → result ≡ Some n }
 {
-    match (
-        loose_octet(a),
-        loose_octet(b),
-        loose_octet(c),
-        loose_octet(d),
-    ) {
-        (Some(a), Some(b), Some(c), Some(d)) => Some(u32::from_be_bytes([a, b, c, d])),
-        _ => None,
-    }
+    let octets = [
+        loose_octet(a)?,
+        loose_octet(b)?,
+        loose_octet(c)?,
+        loose_octet(d)?,
+    ];
+    Some(u32::from_be_bytes(octets))
 }
 
 /// The number of sixteen bits that the word is in hexadecimal without leading zeros.

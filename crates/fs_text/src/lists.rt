@@ -107,13 +107,9 @@ fn loose_number(digits: &[u8], behind: &[u8]) -> Option<(u8, u64)>
     ensures loose { (code value : ℕ) → code < 4 → value < 2 ^ 64 → digits.now ≡ decimal value
         → behind.now ≡ width_word value code → result ≡ Some (code, value) }
 {
-    match loose_decimal(digits) {
-        Some(value) => match loose_width(value, behind) {
-            Some(code) => Some((code, value)),
-            None => None,
-        },
-        None => None,
-    }
+    let value = loose_decimal(digits)?;
+    let code = loose_width(value, behind)?;
+    Some((code, value))
 }
 
 /// The number of so many octets in hexadecimal.
@@ -135,10 +131,8 @@ fn loose_coded(code: u8, digits: &[u8]) -> Option<(u8, u64)>
     ensures small { IfSome result (λ pair. pair.0 < 4) }
     ensures loose { (n : ℕ) → n < 256 ^ (2 ^ code) → digits.now ≡ octets_text (2 ^ code) n → result ≡ Some (code, n) }
 {
-    match loose_octets(1 << code, digits) {
-        Some(number) => Some((code, number)),
-        None => None,
-    }
+    let number = loose_octets(1 << code, digits)?;
+    Some((code, number))
 }
 
 /// The code of the width whose octets have so many digits.

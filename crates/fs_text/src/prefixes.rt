@@ -24,10 +24,8 @@ fn v4_form(address: u32, length: u8) -> Option<PrefixForm>
     ensures { length ≤ 32 → address ≡ cleared 32 length address
         → option_map body_of result ≡ Some (V4Body Four length address) }
 {
-    match Prefix::new(Family::V4, u128::from(address), length) {
-        Some(prefix) => Some(PrefixForm::V4(prefix)),
-        None => None,
-    }
+    let prefix = Prefix::new(Family::V4, u128::from(address), length)?;
+    Some(PrefixForm::V4(prefix))
 }
 
 /// The address and the length of these parts.
@@ -46,10 +44,7 @@ fn loose_dotted(parts: &[Piece<'_>]) -> Option<(u32, u8)>
             Piece::Run(d),
             Piece::Delimiter(b'/'),
             Piece::Run(length),
-        ] => match (loose_address(a, b, c, d), loose_octet(length)) {
-            (Some(address), Some(length)) => Some((address, length)),
-            _ => None,
-        },
+        ] => Some((loose_address(a, b, c, d)?, loose_octet(length)?)),
         _ => None,
     }
 }
@@ -58,10 +53,8 @@ fn loose_dotted(parts: &[Piece<'_>]) -> Option<(u32, u8)>
 fn loose_v4(parts: &[Piece<'_>]) -> Option<PrefixForm>
     ensures { GivesV4 (map as_part parts.now) (option_map body_of result) }
 {
-    match loose_dotted(parts) {
-        Some((address, length)) => v4_form(address, length),
-        None => None,
-    }
+    let (address, length) = loose_dotted(parts)?;
+    v4_form(address, length)
 }
 
 /// The number of four groups of sixteen bits.
@@ -79,15 +72,10 @@ fn loose_groups(a: &[u8], b: &[u8], c: &[u8], d: &[u8]) -> Option<u64>
         → c.now ≡ hexadecimal (n / 2 ^ 16 % 2 ^ 16) → d.now ≡ hexadecimal (n % 2 ^ 16)
         → result ≡ Some (n % 2 ^ 64) }
 {
-    match (
-        loose_group(a),
-        loose_group(b),
-        loose_group(c),
-        loose_group(d),
-    ) {
-        (Some(a), Some(b), Some(c), Some(d)) => Some(joined(a, b, c, d)),
-        _ => None,
-    }
+    let high = loose_group(a)?;
+    let second = loose_group(b)?;
+    let third = loose_group(c)?;
+    Some(joined(high, second, third, loose_group(d)?))
 }
 
 /// A length and an offset, by the number of their parts.
@@ -174,13 +162,8 @@ fn loose_behind(parts: &[Piece<'_>]) -> Option<(u64, (u8, u8))>
         → map as_part parts.now ≡ half_parts n (range_parts len offset)
         → result ≡ Some (n % 2 ^ 64, (len, offset)) }
 {
-    match loose_half(parts) {
-        Some((low, rest)) => match loose_range(rest) {
-            Some(range) => Some((low, range)),
-            None => None,
-        },
-        None => None,
-    }
+    let (low, rest) = loose_half(parts)?;
+    Some((low, loose_range(rest)?))
 }
 
 /// The same behind a colon.

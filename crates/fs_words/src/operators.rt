@@ -8,7 +8,7 @@ ghost use Rattle.fs_words.specs.Operators.{joined_text, joiner, least_code, list
 
 use crate::pieces::{print_decimal, print_wide};
 use fs_base::Memory;
-use fs_ops::{Kind, OfKind, OperatorList, value_len, width_code_of};
+use fs_ops::{Kind, OfKind, OperatorList, width_of, width_code_of};
 
 /// The sign of the bits less, greater, equal.
 fn number_sign(relation: u8) -> &'static str
@@ -110,7 +110,7 @@ fn print_operand(kind: Kind, operator: u8, value: u64, out: &mut String) -> Resu
 {
     match kind {
         Kind::Numeric => print_number(operator, value, out),
-        Kind::Bitmask => print_wide(value_len(operator), value, out),
+        Kind::Bitmask => print_wide(width_of(operator), value, out),
     }
 }
 

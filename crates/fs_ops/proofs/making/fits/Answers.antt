@@ -15,5 +15,5 @@ fits_eight operator value small one two four = by (width_code operator) refl (an
 
 pub returns : goal.returns
 returns c =
-    let width = c.value_len-len.ensures.value in
+    let width = c.width_of-len.ensures.value in
     (λ _. fits_eight c.args.operator c.args.value c.ranges.value.fits (λ is. c.if-len-eq1.false (width ∙ is)) (λ is. c.if-len-eq2.false (width ∙ is)) (λ is. c.if-len-eq4.false (width ∙ is)), λ _. refl)

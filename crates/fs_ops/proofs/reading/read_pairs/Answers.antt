@@ -1,7 +1,9 @@
-use Rattle.std.proofs.Common.{get_or, sym, subst, ◌∙◌, arith, Contains}
+use Rattle.std.proofs.Common.{◌≡◌, ℕ, ◌-◌, ◌==◌, List, [], ◌∷◌, ◌++◌, length, take, drop, get_or, sym, subst, ◌∙◌, arith, Contains}
 use Rattle.std.proofs.lemmas.Bool.{both_ways}
 use Rattle.std.proofs.lemmas.List.{nil_from_length}
-use Rattle.fs_ops.proofs.Found.{first_and_tail, cut_between, cut_within, bad_width, next_found, goes_on, ends_here}
+use Rattle.fs_ops.proofs.Found.{HasRead, NextPair, said_at, first_and_tail, cut_between, cut_within, bad_width, next_found, goes_on, ends_here}
+use Rattle.fs_ops.specs.Operator.{width_of}
+use Rattle.fs_ops.proofs.reading.read_pairs.Goals.{After-is_last}
 use Rattle.fs_ops.proofs.reading.read_pairs.Goals as goal
 
 pub returns-then-not-allows-clause-fault : goal.returns-then-not-allows-clause-fault
@@ -17,29 +19,30 @@ returns-then-tail-len-clause-fault c some =
     cut_within c.args.kind c.args.widths.now c.args.octets.now rest c.loop-rest.pairs.items (get_or rest 0 0) _ some c.loop-rest.invariant
     (first_and_tail rest c.in-len1-up.len_at_least)
     (subst (Contains c.args.widths.now) c.width_code_of.ensures.value (c.allows.ensures.0 c.if-not-allows.false))
-    (rw (← c.value_len-len.ensures.value) c.if-tail-len.true)
+    (rw (← c.width_of-len.ensures.value) c.if-tail-len.true)
+
+-- the pair that was pushed
+pushed : (c : After-is_last) → NextPair c.args.kind c.args.widths.now c.args.octets.now c.split_at.result.1.now c.push.new.self.items (get_or c.loop-rest.rest.now 0 0)
+pushed c =
+    let rest = c.loop-rest.rest.now in
+    let operator = get_or rest 0 0 in
+    let tail = take (length rest - 1) (drop 1 rest) in
+    let allowed = subst (Contains c.args.widths.now) c.width_code_of.ensures.value (c.allows.ensures.0 c.if-not-allows.false) in
+    let read = subst (λ (l : List ℕ). HasRead c.args.kind c.args.widths.now c.args.octets.now l c.loop-rest.pairs.items) (first_and_tail rest c.in-len1-up.len_at_least) c.loop-rest.invariant in
+    let found = next_found c.args.kind c.args.widths.now c.args.octets.now c.loop-rest.pairs.items operator tail read allowed (rw (← c.width_of-len.ensures.value) c.if-tail-len.false) in
+    let next : drop (width_of operator) tail ≡ c.split_at.result.1.now = cc in
+    let items = rw (c.clear_ignored.ensures, c.is_empty.ensures, c.loop-rest.pairs.ok.0, c.read_number-number.ensures, c.split_at.ensures.front, c.width_of-len.ensures.value) at c.in_ok-push.ensures.items in
+    rw (next, sym items) at found
 
 pub returns-then-is_last-clause-found : goal.returns-then-is_last-clause-found
 returns-then-is_last-clause-found c =
-    let rest = c.loop-rest.rest.now in
-    ends_here c.args.kind c.args.widths.now c.args.octets.now rest c.split_at.result.1.now c.push.new.self.items (get_or rest 0 0)
-    (next_found c.args.kind c.args.widths.now c.args.octets.now rest _ c.split_at.result.0.now c.split_at.result.1.now c.loop-rest.pairs.items c.push.new.self.items (get_or rest 0 0)
-    c.value_len-len.result c.read_number-number.result c.loop-rest.pairs.len c.clear_ignored.result c.is_empty.result c.loop-rest.invariant
-    (first_and_tail rest c.in-len1-up.len_at_least)
-    (subst (Contains c.args.widths.now) c.width_code_of.ensures.value (c.allows.ensures.0 c.if-not-allows.false))
-    c.value_len-len.ensures.value c.if-tail-len.false c.split_at.ensures.front c.split_at.ensures.back c.read_number-number.ensures c.loop-rest.pairs.ok.0 c.is_empty.ensures c.clear_ignored.ensures c.in_ok-push.ensures.items)
-    (sym c.is_last.ensures ∙ c.if-is_last.true)
+    ends_here c.args.kind c.args.widths.now c.args.octets.now c.split_at.result.1.now c.push.new.self.items (get_or c.loop-rest.rest.now 0 0)
+    (pushed (goal.at.returns-then-is_last-clause-found c).After-is_last) (sym c.is_last.ensures ∙ c.if-is_last.true)
 
 pub loop-rest-preserved : goal.loop-rest-preserved
 loop-rest-preserved c =
-    let rest = c.loop-rest.rest.now in
-    goes_on c.args.kind c.args.widths.now c.args.octets.now rest c.split_at.result.1.now c.push.new.self.items (get_or rest 0 0)
-    (next_found c.args.kind c.args.widths.now c.args.octets.now rest _ c.split_at.result.0.now c.split_at.result.1.now c.loop-rest.pairs.items c.push.new.self.items (get_or rest 0 0)
-    c.value_len-len.result c.read_number-number.result c.loop-rest.pairs.len c.clear_ignored.result c.is_empty.result c.loop-rest.invariant
-    (first_and_tail rest c.in-len1-up.len_at_least)
-    (subst (Contains c.args.widths.now) c.width_code_of.ensures.value (c.allows.ensures.0 c.if-not-allows.false))
-    c.value_len-len.ensures.value c.if-tail-len.false c.split_at.ensures.front c.split_at.ensures.back c.read_number-number.ensures c.loop-rest.pairs.ok.0 c.is_empty.ensures c.clear_ignored.ensures c.in_ok-push.ensures.items)
-    (sym c.is_last.ensures ∙ c.if-is_last.false)
+    goes_on c.args.kind c.args.widths.now c.args.octets.now c.split_at.result.1.now c.push.new.self.items (get_or c.loop-rest.rest.now 0 0)
+    (pushed (goal.at.loop-rest-preserved c).After-is_last) (sym c.is_last.ensures ∙ c.if-is_last.false)
 
 pub returns-clause-fault : goal.returns-clause-fault
 returns-clause-fault c some =

@@ -20,6 +20,6 @@ one_more pairs index len size inside counted sized =
 
 pub loop-operator-preserved : goal.loop-operator-preserved
 loop-operator-preserved c = record {
-  value = one_more c.args.pairs.now c.loop-operator.operator-index c.loop-operator.len c.value_len.result c.loop-operator-test.true c.loop-operator.invariant.value c.value_len.ensures.value;
-  small = omega (arith, c.value_len.ensures.high);
+  value = one_more c.args.pairs.now c.loop-operator.operator-index c.loop-operator.len c.width_of.result c.loop-operator-test.true c.loop-operator.invariant.value c.width_of.ensures.value;
+  small = omega (arith, c.width_of.ensures.high);
 }

@@ -1,5 +1,5 @@
 use Rattle.std.proofs.Common.{ℕ, zero, suc, ◌*◌, ◌^◌, ◌%◌, ◌<◌, ◌≤◌, lit≤, arith}
-use Rattle.fs_ops.proofs.operator.value_len.Goals as goal
+use Rattle.fs_ops.proofs.operator.width_of.Goals as goal
 
 -- a code has two bits
 at_most_eight : (code : ℕ) → code < 4 → 1 * 2 ^ code % 2 ^ 64 ≤ 8
