@@ -1,6 +1,5 @@
 -- Octets that are put back before others.
 use Rattle.std.proofs.Common.{◌≡◌, ◌≤◌, ◌+◌, ℕ, List, ◌++◌, length, take, drop, sym, ap, ◌∙◌, arith, length-append}
-use Rattle.std.specs.Prelude.{replicate}
 use borrow.Rule.Slice.PartMut.{put_mid}
 use Rattle.std.proofs.lemmas.List.{length-drop, length-take, take-replicate, take-take}
 use Rattle.std.proofs.lemmas.Slice.{take-put_mid_below}

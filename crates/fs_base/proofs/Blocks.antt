@@ -70,14 +70,22 @@ pub first_bits_of : (w m b : ℕ) → b < 2 ^ w → cleared w m b ≡ b / 2 ^ (w
 first_bits_of w m b h = ap (λ k. k / 2 ^ (w - m) * 2 ^ (w - m)) (mod-eq_of_lt h)
 
 pub block_inside : (w m a n b : ℕ) → IsBlock w m a → IsBlock w n b → m ≤ n → cleared w m b ≡ a → (a ≤ b) × (b + 2 ^ (w - n) ≤ a + 2 ^ (w - m))
-block_inside w m a n b large small h e = inside (2 ^ (w - m)) (2 ^ (w - n)) (2 ^ (n - m)) small.count a b (sizes w m n h small.short) (pow_pos (w - n)) (pow_pos (w - m)) small.spelled (sym (first_bits_of w m b (block_below w n b small)) ∙ e)
+block_inside w m a n b large small h e =
+    let first : b / 2 ^ (w - m) * 2 ^ (w - m) ≡ a = sym (first_bits_of w m b (block_below w n b small)) ∙ e in
+    inside (2 ^ (w - m)) (2 ^ (w - n)) (2 ^ (n - m)) small.count a b (sizes w m n h small.short) (pow_pos (w - n)) (pow_pos (w - m)) small.spelled first
 
 pub block_meeting : (w m a n b : ℕ) → IsBlock w m a → IsBlock w n b → m ≤ n → a < b + 2 ^ (w - n) → b < a + 2 ^ (w - m) → cleared w m b ≡ a
-block_meeting w m a n b large small h low high = first_bits_of w m b (block_below w n b small) ∙ meeting (2 ^ (w - m)) (2 ^ (w - n)) (2 ^ (n - m)) large.count small.count a b (sizes w m n h small.short) (pow_pos (w - n)) (pow_pos (w - m)) large.spelled small.spelled low high
+block_meeting w m a n b large small h low high =
+    let even = sizes w m n h small.short in
+    first_bits_of w m b (block_below w n b small)
+    ∙ meeting (2 ^ (w - m)) (2 ^ (w - n)) (2 ^ (n - m)) large.count small.count a b even (pow_pos (w - n)) (pow_pos (w - m)) large.spelled small.spelled low high
 
 -- of two blocks that meet, the longer one doesn't end later
 pub block_ending : (w m a n b : ℕ) → IsBlock w m a → IsBlock w n b → m ≤ n → b < a + 2 ^ (w - m) → b + 2 ^ (w - n) ≤ a + 2 ^ (w - m)
-block_ending w m a n b large small h below = let e : b + 2 ^ (w - n) ≤ large.count * 2 ^ (w - m) + 2 ^ (w - m) = ends_within (2 ^ (w - m)) (2 ^ (w - n)) (2 ^ (n - m)) large.count small.count a b (sizes w m n h small.short) (pow_pos (w - n)) small.spelled (subst (λ k. b < k + 2 ^ (w - m)) large.spelled below) in
+block_ending w m a n b large small h below =
+    let even = sizes w m n h small.short in
+    let low : b < large.count * 2 ^ (w - m) + 2 ^ (w - m) = subst (λ k. b < k + 2 ^ (w - m)) large.spelled below in
+    let e = ends_within (2 ^ (w - m)) (2 ^ (w - n)) (2 ^ (n - m)) large.count small.count a b even (pow_pos (w - n)) small.spelled low in
     subst (λ k. b + 2 ^ (w - n) ≤ k + 2 ^ (w - m)) (sym large.spelled) e
 
 -- an address is a block by itself

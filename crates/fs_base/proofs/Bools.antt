@@ -1,11 +1,10 @@
 -- Laws of tests: of `&&`, `||` and `not`, and of two tests that say the same.
 use Rattle.std.proofs.Common.{◌≡◌, ◌⊎◌, inl, inr, refl, sym, Bool, true, false, not, ◌&&◌, ◌||◌, true≢false, ap, if◌then◌else◌}
+-- std's laws, by the names that are used here
+pub use Rattle.std.proofs.Math.Bool.{and-true as and_true}
+pub use Rattle.std.proofs.lemmas.Bool.{and_from as and_both, false_from_ne_true as false_from, not-false as true_of_not, not_from_true as not_of_true, or_left as or_first, or_parts as or_false, or_right as or_second}
 
--- Both parts, and each part of both.
-pub and_both : (a b : Bool) → a ≡ true → b ≡ true → (a && b) ≡ true
-and_both true b h k = k
-and_both false b h k = h
-
+-- Each part of both.
 pub and_first : (a b : Bool) → (a && b) ≡ true → a ≡ true
 and_first true b h = refl
 and_first false b h = h
@@ -22,26 +21,10 @@ pub and_false : (a b : Bool) → (a ≡ true → b ≡ false) → (a && b) ≡ f
 and_false true b h = h refl
 and_false false b h = refl
 
-pub and_true : (a : Bool) → (a && true) ≡ a
-and_true true = refl
-and_true false = refl
-
--- One part of two, and what one part of two says.
-pub or_first : (a b : Bool) → a ≡ true → (a || b) ≡ true
-or_first true b h = refl
-or_first false b h = absurd (true≢false (sym h))
-
-pub or_second : (a b : Bool) → b ≡ true → (a || b) ≡ true
-or_second true b h = refl
-or_second false b h = h
-
+-- What one part of two says.
 pub or_either : (a b : Bool) → (a || b) ≡ true → (a ≡ true) ⊎ (b ≡ true)
 or_either true b h = inl refl
 or_either false b h = inr h
-
-pub or_false : (a b : Bool) → (a || b) ≡ false → (a ≡ false) × (b ≡ false)
-or_false true b h = absurd (true≢false h)
-or_false false b h = (refl, h)
 
 -- a part that is false adds nothing
 pub or_none : (a b : Bool) → b ≡ false → (a || b) ≡ a
@@ -57,23 +40,10 @@ pub or_implied : (a b : Bool) → (not a || b) ≡ true → a ≡ true → b ≡
 or_implied true b h k = h
 or_implied false b h k = absurd (true≢false (sym k))
 
--- Ways across `not`.
-pub not_of_true : (a : Bool) → a ≡ true → not a ≡ false
-not_of_true true h = refl
-not_of_true false h = absurd (true≢false (sym h))
-
-pub true_of_not : (a : Bool) → not a ≡ false → a ≡ true
-true_of_not true h = refl
-true_of_not false h = absurd (true≢false h)
-
+-- a way across `not`
 pub false_of_not : (a : Bool) → not a ≡ true → a ≡ false
 false_of_not true h = absurd (true≢false (sym h))
 false_of_not false h = refl
-
--- a test that can't be true is false
-pub false_from : (a : Bool) → (a ≡ true → ⊥) → a ≡ false
-false_from true h = absurd (h refl)
-false_from false h = refl
 
 -- two tests that follow from each other are the same
 pub same_tests : (a b : Bool) → (a ≡ true → b ≡ true) → (b ≡ true → a ≡ true) → a ≡ b

@@ -40,24 +40,41 @@ tests_true f g m n a b h = (grind (arith, nat_tests), grind (arith, nat_tests), 
 true_tests : (f g m n a b : ℕ) → f ≡ g → m ≤ n → a ≡ b → ((f == g) && (nat_le m n && (a == b))) ≡ true
 true_tests f g m n a b d e h = grind (arith, nat_tests)
 
+-- what the tests say, where p covers q
+abbrev Tested : (p q : Prefix) → Type 0
+Tested p q = (afi_of p.family ≡ afi_of q.family) × (p.length ≤ q.length) × (cleared (width_of p.family) p.length q.bits ≡ p.bits)
+
+tested : (p q : Prefix) → covers p q ≡ true → Tested p q
+tested p q h = tests_true (afi_of p.family) (afi_of q.family) p.length q.length (cleared (width_of p.family) p.length q.bits) p.bits h
+
+covers_tested : (p q : Prefix) → Tested p q → covers p q ≡ true
+covers_tested p q t =
+    true_tests (afi_of p.family) (afi_of q.family) p.length q.length (cleared (width_of p.family) p.length q.bits) p.bits t.0 t.1 t.2
+
 pub covers_fact : (p q : Prefix) → covers p q ≡ true → Covers p q
-covers_fact p q h = let t : (afi_of p.family ≡ afi_of q.family) × (p.length ≤ q.length) × (cleared (width_of p.family) p.length q.bits ≡ p.bits) = tests_true (afi_of p.family) (afi_of q.family) p.length q.length (cleared (width_of p.family) p.length q.bits) p.bits h in
-    let inner : (p.bits ≤ q.bits) × (q.bits + 2 ^ (width_of p.family - q.length) ≤ p.bits + 2 ^ (width_of p.family - p.length)) = block_inside (width_of p.family) p.length p.bits q.length q.bits (block p) (block_along p q t.0) t.1 t.2 in
+covers_fact p q h =
+    let t = tested p q h in
+    let inner = block_inside (width_of p.family) p.length p.bits q.length q.bits (block p) (block_along p q t.0) t.1 t.2 in
     record { family = t.0; longer = t.1; starts = inner.0; ends = inner.1 }
 
 -- q has the first bits of p
 pub covers_bits : (p q : Prefix) → covers p q ≡ true → cleared (width_of p.family) p.length q.bits ≡ p.bits
-covers_bits p q h = let t : (afi_of p.family ≡ afi_of q.family) × (p.length ≤ q.length) × (cleared (width_of p.family) p.length q.bits ≡ p.bits) = tests_true (afi_of p.family) (afi_of q.family) p.length q.length (cleared (width_of p.family) p.length q.bits) p.bits h in t.2
+covers_bits p q h = (tested p q h).2
 
 pub covers_from_bits : (p q : Prefix) → p.family ≡ q.family → p.length ≤ q.length → cleared (width_of p.family) p.length q.bits ≡ p.bits → covers p q ≡ true
-covers_from_bits p q f h e = true_tests (afi_of p.family) (afi_of q.family) p.length q.length (cleared (width_of p.family) p.length q.bits) p.bits (ap afi_of f) h e
+covers_from_bits p q f h e = covers_tested p q (ap afi_of f, h, e)
 
 -- where two blocks of one family meet, the one with the shorter length covers the other
-pub meeting_covers : (p q : Prefix) → afi_of p.family ≡ afi_of q.family → p.length ≤ q.length → p.bits < q.bits + 2 ^ (width_of p.family - q.length) → q.bits < p.bits + 2 ^ (width_of p.family - p.length) → covers p q ≡ true
-meeting_covers p q f longer low high = true_tests (afi_of p.family) (afi_of q.family) p.length q.length (cleared (width_of p.family) p.length q.bits) p.bits f longer (block_meeting (width_of p.family) p.length p.bits q.length q.bits (block p) (block_along p q f) longer low high)
+pub meeting_covers : (p q : Prefix) → afi_of p.family ≡ afi_of q.family → p.length ≤ q.length
+    → p.bits < q.bits + 2 ^ (width_of p.family - q.length) → q.bits < p.bits + 2 ^ (width_of p.family - p.length) → covers p q ≡ true
+meeting_covers p q f longer low high =
+    let first = block_meeting (width_of p.family) p.length p.bits q.length q.bits (block p) (block_along p q f) longer low high in
+    covers_tested p q (f, longer, first)
 
 pub covers_test : (p q : Prefix) → Covers p q → covers p q ≡ true
-covers_test p q h = meeting_covers p q h.family h.longer (let s : 0 < 2 ^ (width_of p.family - q.length) = pow_pos (width_of p.family - q.length) in omega (arith, h.starts)) (let s : 0 < 2 ^ (width_of p.family - q.length) = pow_pos (width_of p.family - q.length) in omega (arith, h.ends))
+covers_test p q h =
+    let some : 0 < 2 ^ (width_of p.family - q.length) = pow_pos (width_of p.family - q.length) in
+    meeting_covers p q h.family h.longer (omega (arith, some, h.starts)) (omega (arith, some, h.ends))
 
 -- p isn't after q, in numbers
 pub record Comes (p q : Prefix) : Type 0 where
@@ -74,7 +91,8 @@ order_lasts f g a b m n h e = grind (arith, nat_tests)
 order_lengths : (f g a b m n : ℕ) → is_le (ordering_then (nat_cmp f g) (ordering_then (nat_cmp a b) (nat_cmp n m))) ≡ true → f ≡ g → a ≡ b → n ≤ m
 order_lengths f g a b m n h e k = grind (arith, nat_tests)
 
-order_test : (f g a b m n : ℕ) → f ≤ g → (f ≡ g → a ≤ b) → (f ≡ g → a ≡ b → n ≤ m) → is_le (ordering_then (nat_cmp f g) (ordering_then (nat_cmp a b) (nat_cmp n m))) ≡ true
+order_test : (f g a b m n : ℕ) → f ≤ g → (f ≡ g → a ≤ b) → (f ≡ g → a ≡ b → n ≤ m)
+    → is_le (ordering_then (nat_cmp f g) (ordering_then (nat_cmp a b) (nat_cmp n m))) ≡ true
 order_test f g a b m n h e k = grind (arith, nat_tests)
 
 pub comes : (p q : Prefix) → is_le (prefix_cmp p q) ≡ true → Comes p q
@@ -121,7 +139,7 @@ between_covered p low q h from to = at (cases_lt q.length p.length) where
   below = comes q p to
 
   family : afi_of p.family ≡ afi_of q.family
-  family = let a : afi_of low.family ≤ afi_of q.family = above.families in let b : afi_of q.family ≤ afi_of p.family = below.families in let c : afi_of p.family ≡ afi_of low.family = fact.family in omega arith
+  family = omega (arith, above.families, below.families, fact.family)
 
   width : width_of q.family ≡ width_of p.family
   width = sym (same_width p.family q.family family)
@@ -158,8 +176,10 @@ between_covered p low q h from to = at (cases_lt q.length p.length) where
 
   -- a longer p would end where q ends, and q would come after it
   back : q.length ≤ p.length → p.length ≤ q.length
-  back shorter = let e : p.bits + 2 ^ (width_of p.family - p.length) ≤ q.bits + 2 ^ (width_of p.family - q.length) = block_ending (width_of p.family) q.length q.bits p.length p.bits (block_along p q family) (block p) shorter starts in
-      let same : last_address q ≡ last_address p = omega (arith, size_q, size_p, q_to_p, last_q) in below.lengths (sym family) same
+  back shorter =
+      let within = block_ending (width_of p.family) q.length q.bits p.length p.bits (block_along p q family) (block p) shorter starts in
+      let same : last_address q ≡ last_address p = omega (arith, within, size_q, size_p, q_to_p, last_q) in
+      below.lengths (sym family) same
 
   at : (q.length < p.length) ⊎ (p.length ≤ q.length) → covers p q ≡ true
   at (inl shorter) = meeting_covers p q family (back (omega arith)) starts ends
@@ -173,7 +193,7 @@ range_law p f q family bits length = same_tests (covers p q) (is_le (prefix_cmp 
   width = ap width_of family
 
   last : last_address f ≡ p.bits
-  last = ap (λ w. f.bits + 2 ^ (w - f.length) - 1) width ∙ ap (λ n. f.bits + 2 ^ (width_of p.family - n) - 1) length ∙ ap (λ b. b + 2 ^ (width_of p.family - width_of p.family) - 1) bits ∙ alone (width_of p.family) p.bits where
+  last = (λ i. bits i + 2 ^ (width i - length i) - 1) ∙ alone (width_of p.family) p.bits where
     alone : (w b : ℕ) → b + 2 ^ (w - w) - 1 ≡ b
     alone w b = let e : w - w ≡ 0 = omega arith in ap (λ k. b + 2 ^ k - 1) e ∙ (let h : b + 2 ^ 0 - 1 ≡ b = omega arith in h)
 

@@ -25,37 +25,39 @@ same_digit p x a y b small small' same = elim (cases_lt x y) [
   ]
 ]
 
-big_alike : (n : ℕ) (xs ys : List ℕ) → length xs ≡ n → length ys ≡ n → IsOctets xs → IsOctets ys → big_number n xs ≡ big_number n ys → xs ≡ ys
-big_alike zero [] [] a b p q same = refl
-big_alike zero [] (y ∷ ys) a b p q same = absurd (omega arith)
-big_alike zero (x ∷ xs) ys a b p q same = absurd (omega arith)
-big_alike (suc n) [] ys a b p q same = absurd (omega arith)
-big_alike (suc n) (x ∷ xs) [] a b p q same = absurd (omega arith)
-big_alike (suc n) (x ∷ xs) (y ∷ ys) a b p q same =
+-- octets of one count that write one number are the same, where a number tells its first octet and the number of the others
+module _ (number : ℕ → List ℕ → ℕ)
+    (parted : (n x y : ℕ) (xs ys : List ℕ) → IsOctets (x ∷ xs) → IsOctets (y ∷ ys) → number (suc n) (x ∷ xs) ≡ number (suc n) (y ∷ ys)
+    → (x ≡ y) × (number n xs ≡ number n ys)) where
+  alike : (n : ℕ) (xs ys : List ℕ) → length xs ≡ n → length ys ≡ n → IsOctets xs → IsOctets ys → number n xs ≡ number n ys → xs ≡ ys
+  alike zero [] [] a b p q same = refl
+  alike zero [] (y ∷ ys) a b p q same = absurd (omega arith)
+  alike zero (x ∷ xs) ys a b p q same = absurd (omega arith)
+  alike (suc n) [] ys a b p q same = absurd (omega arith)
+  alike (suc n) (x ∷ xs) [] a b p q same = absurd (omega arith)
+  alike (suc n) (x ∷ xs) (y ∷ ys) a b p q same =
+      let parts = parted n x y xs ys p q same in
+      ap (λ d. d ∷ xs) parts.0
+      ∙ ap (λ more. y ∷ more) (alike n xs ys (omega arith) (omega arith) (octets_tail x xs p) (octets_tail y ys q) parts.1)
+
+big_parted : (n x y : ℕ) (xs ys : List ℕ) → IsOctets (x ∷ xs) → IsOctets (y ∷ ys) → big_number (suc n) (x ∷ xs) ≡ big_number (suc n) (y ∷ ys)
+    → (x ≡ y) × (big_number n xs ≡ big_number n ys)
+big_parted n x y xs ys p q same =
     let moved : x * 256 ^ n + big_number n xs ≡ y * 256 ^ n + big_number n ys =
     sym (ap (λ k. x * 256 ^ n + k) (big_from-cons 0 n x xs)) ∙ same ∙ ap (λ k. y * 256 ^ n + k) (big_from-cons 0 n y ys) in
     let first : x ≡ y =
     same_digit (256 ^ n) x (big_number n xs) y (big_number n ys)
     (big_from-lt 0 n xs (octets_at xs (octets_tail x xs p))) (big_from-lt 0 n ys (octets_at ys (octets_tail y ys q))) moved in
-    let rest : big_number n xs ≡ big_number n ys = omega (arith, ap (λ d. d * 256 ^ n) first) in
-    ap (λ d. d ∷ xs) first
-    ∙ ap (λ more. y ∷ more) (big_alike n xs ys (omega arith) (omega arith) (octets_tail x xs p) (octets_tail y ys q) rest)
+    (first, omega (arith, moved, ap (λ d. d * 256 ^ n) first))
 
-little_alike : (n : ℕ) (xs ys : List ℕ) → length xs ≡ n → length ys ≡ n → IsOctets xs → IsOctets ys → little_number n xs ≡ little_number n ys → xs ≡ ys
-little_alike zero [] [] a b p q same = refl
-little_alike zero [] (y ∷ ys) a b p q same = absurd (omega arith)
-little_alike zero (x ∷ xs) ys a b p q same = absurd (omega arith)
-little_alike (suc n) [] ys a b p q same = absurd (omega arith)
-little_alike (suc n) (x ∷ xs) [] a b p q same = absurd (omega arith)
-little_alike (suc n) (x ∷ xs) (y ∷ ys) a b p q same =
+little_parted : (n x y : ℕ) (xs ys : List ℕ) → IsOctets (x ∷ xs) → IsOctets (y ∷ ys)
+    → little_number (suc n) (x ∷ xs) ≡ little_number (suc n) (y ∷ ys) → (x ≡ y) × (little_number n xs ≡ little_number n ys)
+little_parted n x y xs ys p q same =
     let moved : x + 256 * little_number n xs ≡ y + 256 * little_number n ys =
     sym (ap (λ k. x + 256 * k) (little_from-cons 0 n x xs)) ∙ same ∙ ap (λ k. y + 256 * k) (little_from-cons 0 n y ys) in
     let low : x < 256 = octets_head x xs p in
     let low' : y < 256 = octets_head y ys q in
-    let first : x ≡ y = omega (arith, moved) in
-    let rest : little_number n xs ≡ little_number n ys = omega (arith, moved) in
-    ap (λ d. d ∷ xs) first
-    ∙ ap (λ more. y ∷ more) (little_alike n xs ys (omega arith) (omega arith) (octets_tail x xs p) (octets_tail y ys q) rest)
+    (omega arith, omega arith)
 
 octet_small : (i x : ℕ) → byte_at i x < 256
 octet_small zero x = mod-lt x (omega arith)
@@ -85,7 +87,7 @@ big_written n octets held are =
     let number = big_number n octets in
     let back : big_number n (big_bytes n number) ≡ number =
     ap (big_number n) (sym (append-nil (big_bytes n number))) ∙ big_number-reads_back n number [] (big_below n octets are) in
-    big_alike n (take n octets) (big_bytes n number) (omega (arith, length-take n octets)) (length-bytes_high_first n number)
+    alike big_number big_parted n (take n octets) (big_bytes n number) (omega (arith, length-take n octets)) (length-bytes_high_first n number)
     (octets_take n octets are) (big_octets n number) (big_from-take 0 n n octets (omega arith) ∙ sym back)
 
 pub little_written : (n : ℕ) (octets : List ℕ) → n ≤ length octets → IsOctets octets → take n octets ≡ little_bytes n (little_number n octets)
@@ -93,5 +95,5 @@ little_written n octets held are =
     let number = little_number n octets in
     let back : little_number n (little_bytes n number) ≡ number =
     ap (little_number n) (sym (append-nil (little_bytes n number))) ∙ little_number-reads_back n number [] (little_below n octets are) in
-    little_alike n (take n octets) (little_bytes n number) (omega (arith, length-take n octets)) (length-bytes_low_first 0 n number)
+    alike little_number little_parted n (take n octets) (little_bytes n number) (omega (arith, length-take n octets)) (length-bytes_low_first 0 n number)
     (octets_take n octets are) (little_octets n number) (little_from-take 0 n n octets (omega arith) ∙ sym back)

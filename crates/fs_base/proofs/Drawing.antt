@@ -2,7 +2,7 @@
 use Rattle.std.proofs.Common.{◌≡◌, ℕ, List, [], ◌++◌, ◌<◌, ◌≤◌, ◌+◌, ◌-◌, ◌⊎◌, inl, inr, subst, length, min, take, drop, refl, ap, sym, ◌∙◌, arith, append_assoc}
 use Rattle.std.proofs.Math.Seq.{drop-append-add}
 use Rattle.std.proofs.lemmas.Bool.{cases_lt}
-use Rattle.std.proofs.lemmas.List.{drop-append-le, drop-drop, drop_all, length-drop, length-take, take-append-drop}
+use Rattle.std.proofs.lemmas.List.{drop-append-le, drop-drop, drop_all, length-drop, take-append-drop}
 use Rattle.std.proofs.lemmas.Grind.{common_steps}
 use Rattle.fs_base.specs.declared.counted.Counted.{Counted}
 use Rattle.fs_base.specs.Draws.{Draws, Passed}
@@ -25,9 +25,6 @@ drop_join n xs ys = by (cases_lt (length xs) n)
 drop_none : (n : ℕ) (xs : List ℕ) → xs ≡ [] → drop n xs ≡ xs
 drop_none n xs none = grind (arith, common_steps)
 
-behind_taken : (n : ℕ) (into rest : List ℕ) → n ≤ length into → drop n (take n into ++ rest) ≡ rest
-behind_taken n into rest room = let front : length (take n into) ≡ n = length-take n into ∙ omega arith in grind (arith, common_steps)
-
 pub passed_none : (limit taken : ℕ) (left : List ℕ) → taken ≤ limit → Passed limit taken taken left left
 passed_none limit taken left within = record { count = 0; taken_is = (omega arith); within = within; left_is = refl }
 
@@ -39,40 +36,6 @@ passed_then limit taken taken' taken'' left left' left'' one more = record {
   within = more.within;
   left_is = more.left_is ∙ ap (drop more.count) one.left_is ∙ drop-drop more.count one.count left;
 }
-
--- nothing was read
-pub draws_none : (counted : Counted) (left left' : List ℕ) → counted.taken ≤ counted.limit → left' ≡ left → Draws counted counted left left'
-draws_none counted left left' within same = let none : 0 - length counted.back ≡ 0 = omega arith in record {
-  count = 0;
-  taken_is = omega arith;
-  within = within;
-  back_is = refl;
-  left_is = same ∙ ap (λ n. drop n left) (sym none);
-}
-
--- of what was put back alone
-pub draws_back : (before now : Counted) (left : List ℕ) (n : ℕ) → now.taken ≡ before.taken + n → now.taken ≤ before.limit
-    → n ≤ length before.back → now.back ≡ drop n before.back → Draws before now left left
-draws_back before now left n taken within some back = let none : n - length before.back ≡ 0 = omega arith in record {
-  count = n;
-  taken_is = taken;
-  within = within;
-  back_is = back;
-  left_is = ap (λ n. drop n left) (sym none);
-}
-
--- of the slot, where nothing was put back
-pub draws_read : (before now : Counted) (left left' into : List ℕ) (n : ℕ) → now.taken ≡ before.taken + n → now.taken ≤ before.limit
-    → before.back ≡ [] → now.back ≡ before.back → n ≤ length into → left ≡ take n into ++ left' → Draws before now left left'
-draws_read before now left left' into n taken within none same room gives =
-    let all : n - length before.back ≡ n = let size : length before.back ≡ 0 = ap length none in omega (arith, size) in
-    record {
-      count = n;
-      taken_is = taken;
-      within = within;
-      back_is = same ∙ sym (drop_none n before.back none);
-      left_is = sym (ap (λ n. drop n left) all ∙ ap (drop n) gives ∙ behind_taken n into left' room);
-    }
 
 pub draws_then : (before mid now : Counted) (left left' left'' : List ℕ) → mid.limit ≡ before.limit
     → Draws before mid left left' → Draws mid now left' left'' → Draws before now left left''

@@ -78,7 +78,8 @@ begins_as M L octets same begins =
 pub cut_as : (M L : List ℕ → Type 0) (octets : List ℕ) (place : ℕ) → ((text : List ℕ) → M text → L text) → IsCut M octets place → IsCut L octets place
 cut_as M L octets place same cut = record { at_end = cut.at_end; begins = begins_as M L octets same cut.begins }
 
-pub fault_as : (M L : List ℕ → Type 0) (octets : List ℕ) (place : ℕ) → ((text : List ℕ) → M text → L text) → ((text : List ℕ) → L text → M text) → IsFirstFault M octets place → IsFirstFault L octets place
+pub fault_as : (M L : List ℕ → Type 0) (octets : List ℕ) (place : ℕ)
+    → ((text : List ℕ) → M text → L text) → ((text : List ℕ) → L text → M text) → IsFirstFault M octets place → IsFirstFault L octets place
 fault_as M L octets place same back fault = record {
   inside = fault.inside;
   before = begins_as M L (take place octets) same fault.before;

@@ -7,6 +7,7 @@ pub mod Grew
 pub mod Writing
 pub mod Backs
 pub mod Drawing
+pub mod Passing
 pub mod Filled
 pub mod Covers
 pub mod Nesting

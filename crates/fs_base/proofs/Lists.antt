@@ -1,5 +1,6 @@
 -- Lists: what holds of each element, filters, and an ordered map's entries after a change.
 use Rattle.std.proofs.Common.{◌≡◌, refl, sym, ap, subst, ◌∙◌, Bool, true, false, cond, ◌&&◌, ◌||◌, List, [], ◌∷◌, ◌++◌, filter, map, true≢false, Some, Ordering, Less, Equal, Greater, is_eq, is_le}
+pub use Rattle.std.proofs.lemmas.List.Elements.{filter-append}
 use Rattle.std.specs.List.{AllByRecursion, list_any, list_all, find}
 use Rattle.std.specs.List.Sorted.{IsStrictlySortedBy}
 use Rattle.std.specs.Ordering.{match_ordering}
@@ -53,13 +54,6 @@ filter_all p (x ∷ xs) h = at (p x) h.0 (filter_all p xs h.1) where
   at true e ih = ap (λ ys. x ∷ ys) ih
   at false e ih = absurd (true≢false (sym e))
 
-pub filter-append : {X : Type 0} (p : X → Bool) (xs ys : List X) → filter p (xs ++ ys) ≡ filter p xs ++ filter p ys
-filter-append p [] ys = refl
-filter-append p (x ∷ xs) ys = at (p x) (filter-append p xs ys) where
-  at : (a : Bool) → filter p (xs ++ ys) ≡ filter p xs ++ filter p ys → cond a (x ∷ filter p (xs ++ ys)) (filter p (xs ++ ys)) ≡ cond a (x ∷ filter p xs) (filter p xs) ++ filter p ys
-  at true ih = ap (λ zs. x ∷ zs) ih
-  at false ih = ih
-
 -- an element that passes is one of the filtered list
 pub any_filter : {X : Type 0} (p q : X → Bool) (xs : List X) → list_any q (filter p xs) ≡ list_any (λ x. p x && q x) xs
 any_filter p q [] = refl
@@ -105,10 +99,12 @@ each_all p [] h = refl
 each_all p (x ∷ xs) h = let e : p x ≡ true = h.0 in let k : list_all p xs ≡ true = each_all p xs h.1 in cc
 
 -- The entries of an ordered map after an insertion and after a removal.
-pub each_insert : {K X : Type 0} (cmp : K → K → Ordering) (P : K → Type 0) (k : K) (v : X) → P k → (es : List (K × X)) → AllByRecursion (λ e. P e.0) es → AllByRecursion (λ e. P e.0) (insert_entry cmp es k v)
+pub each_insert : {K X : Type 0} (cmp : K → K → Ordering) (P : K → Type 0) (k : K) (v : X) → P k → (es : List (K × X))
+    → AllByRecursion (λ e. P e.0) es → AllByRecursion (λ e. P e.0) (insert_entry cmp es k v)
 each_insert cmp P k v h [] all = (h, tt)
 each_insert cmp P k v h (e ∷ es) all = at (cmp k e.0) (each_insert cmp P k v h es all.1) where
-  at : (o : Ordering) → AllByRecursion (λ e. P e.0) (insert_entry cmp es k v) → AllByRecursion (λ e. P e.0) (match_ordering o ((k, v) ∷ e ∷ es) ((e.0, v) ∷ es) (e ∷ insert_entry cmp es k v))
+  at : (o : Ordering) → AllByRecursion (λ e. P e.0) (insert_entry cmp es k v)
+      → AllByRecursion (λ e. P e.0) (match_ordering o ((k, v) ∷ e ∷ es) ((e.0, v) ∷ es) (e ∷ insert_entry cmp es k v))
   at Less ih = (h, all)
   at Equal ih = (all.0, all.1)
   at Greater ih = (all.0, ih)
@@ -145,7 +141,8 @@ filter-insert_other {K} {X} cmp test k v h same (e ∷ es) = at (cmp k e.0) refl
   at Equal f ih = over (test e.0) (same e.0 f) (e.0, v) e (filter (λ e. test e.0) es)
   at Greater f ih = on (test e.0) (filter (λ e. test e.0) (insert_entry cmp es k v)) (filter (λ e. test e.0) es) ih
 
-pub filter-remove_other : {K X : Type 0} (test out : K → Bool) → ((q : K) → out q ≡ true → test q ≡ false) → (es : List (K × X)) → filter (λ e. test e.0) (remove_entry out es) ≡ filter (λ e. test e.0) es
+pub filter-remove_other : {K X : Type 0} (test out : K → Bool) → ((q : K) → out q ≡ true → test q ≡ false) → (es : List (K × X))
+    → filter (λ e. test e.0) (remove_entry out es) ≡ filter (λ e. test e.0) es
 filter-remove_other test out h [] = refl
 filter-remove_other {K} {X} test out h (e ∷ es) = at (out e.0) refl (filter-remove_other test out h es) where
   gone : (b : Bool) → b ≡ false → (xs : List (K × X)) → xs ≡ cond b (e ∷ xs) xs
@@ -178,14 +175,21 @@ filter_first {K} {X} cmp same test (e ∷ es) sorted x rest h = at (test e.0) re
   head : (xs ys : List (K × X)) (y z : K × X) → y ∷ xs ≡ z ∷ ys → y ≡ z
   head xs ys y z k = cc
 
+  behind : AllByRecursion (λ f. cmp e.0 f.0 ≡ Less) es
+  behind = each_of_map (λ f. f.0) (λ k. cmp e.0 k ≡ Less) es (sorted_head cmp e.0 (keys_of es) sorted)
+
   here : test e.0 ≡ true → IsLeast cmp test (e ∷ es) e.0
   here passes = record {
     there = or_first (is_eq (cmp e.0 e.0)) (list_any (λ f. is_eq (cmp e.0 f.0)) es) (ap is_eq (same e.0));
     passes = passes;
-    least = ((λ _. ap is_le (same e.0)), each_weaker (λ f. cmp e.0 f.0 ≡ Less) (λ f. test f.0 ≡ true → is_le (cmp e.0 f.0) ≡ true) (λ f less _. less_is_le (cmp e.0 f.0) less) es (each_of_map (λ f. f.0) (λ k. cmp e.0 k ≡ Less) es (sorted_head cmp e.0 (keys_of es) sorted)));
+    least = (
+      λ _. ap is_le (same e.0),
+      each_weaker (λ f. cmp e.0 f.0 ≡ Less) (λ f. test f.0 ≡ true → is_le (cmp e.0 f.0) ≡ true) (λ f less _. less_is_le (cmp e.0 f.0) less) es behind,
+    );
   }
 
-  at : (b : Bool) → test e.0 ≡ b → (filter (λ e. test e.0) es ≡ x ∷ rest → IsLeast cmp test es x.0) → cond b (e ∷ filter (λ e. test e.0) es) (filter (λ e. test e.0) es) ≡ x ∷ rest → IsLeast cmp test (e ∷ es) x.0
+  at : (b : Bool) → test e.0 ≡ b → (filter (λ e. test e.0) es ≡ x ∷ rest → IsLeast cmp test es x.0)
+      → cond b (e ∷ filter (λ e. test e.0) es) (filter (λ e. test e.0) es) ≡ x ∷ rest → IsLeast cmp test (e ∷ es) x.0
   at true p ih k = subst (λ y. IsLeast cmp test (e ∷ es) y.0) (head (filter (λ e. test e.0) es) rest e x k) (here p)
   at false p ih k = let l : IsLeast cmp test es x.0 = ih k in record {
     there = or_second (is_eq (cmp x.0 e.0)) (list_any (λ f. is_eq (cmp x.0 f.0)) es) l.there;
@@ -197,7 +201,8 @@ filter_first {K} {X} cmp same test (e ∷ es) sorted x rest h = at (test e.0) re
 pub filter_empty : {X : Type 0} (p : X → Bool) (xs : List X) → filter p xs ≡ [] → AllByRecursion (λ x. p x ≡ false) xs
 filter_empty p [] h = tt
 filter_empty p (x ∷ xs) h = at (p x) refl (filter_empty p xs) h where
-  at : (b : Bool) → p x ≡ b → (filter p xs ≡ [] → AllByRecursion (λ x. p x ≡ false) xs) → cond b (x ∷ filter p xs) (filter p xs) ≡ [] → (p x ≡ false) × AllByRecursion (λ x. p x ≡ false) xs
+  at : (b : Bool) → p x ≡ b → (filter p xs ≡ [] → AllByRecursion (λ x. p x ≡ false) xs)
+      → cond b (x ∷ filter p xs) (filter p xs) ≡ [] → (p x ≡ false) × AllByRecursion (λ x. p x ≡ false) xs
   at true e ih k = cc
   at false e ih k = (e, ih k)
 
@@ -230,7 +235,8 @@ each_filtered P p (x ∷ xs) h = at (p x) (each_filtered P p xs h.1) where
 pub filter_filtered : {X : Type 0} (p q : X → Bool) → ((x : X) → p x ≡ true → q x ≡ true) → (xs : List X) → filter p (filter q xs) ≡ filter p xs
 filter_filtered p q h [] = refl
 filter_filtered {X} p q h (x ∷ xs) = at (q x) (p x) (h x) refl (filter_filtered p q h xs) where
-  at : (b c : Bool) → (c ≡ true → b ≡ true) → p x ≡ c → filter p (filter q xs) ≡ filter p xs → filter p (cond b (x ∷ filter q xs) (filter q xs)) ≡ cond c (x ∷ filter p xs) (filter p xs)
+  at : (b c : Bool) → (c ≡ true → b ≡ true) → p x ≡ c → filter p (filter q xs) ≡ filter p xs
+      → filter p (cond b (x ∷ filter q xs) (filter q xs)) ≡ cond c (x ∷ filter p xs) (filter p xs)
   at true c g e ih = ap (λ d. cond d (x ∷ filter p (filter q xs)) (filter p (filter q xs))) e ∙ ap (λ ys. cond c (x ∷ ys) ys) ih
   at false true g e ih = absurd (true≢false (sym (g refl)))
   at false false g e ih = ih

@@ -35,7 +35,12 @@ covers_nested p q r h k longer = meeting_covers p q family longer starts ends wh
   ends = omega (arith, size, outer.ends, inner.starts)
 
 pub covers_trans : (p q r : Prefix) → covers p q ≡ true → covers q r ≡ true → covers p r ≡ true
-covers_trans p q r h k = covers_test p r (record { family = outer.family ∙ inner.family; longer = omega (arith, outer.longer, inner.longer); starts = omega (arith, outer.starts, inner.starts); ends = omega (arith, outer.ends, inner_ends) }) where
+covers_trans p q r h k = covers_test p r (record {
+  family = outer.family ∙ inner.family;
+  longer = omega (arith, outer.longer, inner.longer);
+  starts = omega (arith, outer.starts, inner.starts);
+  ends = omega (arith, outer.ends, inner_ends);
+}) where
   outer : Covers p q
   outer = covers_fact p q h
 
@@ -86,7 +91,7 @@ equal_test f g a b m n h k l = grind (arith, nat_tests)
 pub alike_test : (p q : Prefix) → Alike p q → is_eq (prefix_cmp p q) ≡ true
 alike_test p q h = equal_test (afi_of p.family) (afi_of q.family) (last_address p) (last_address q) p.length q.length (ap afi_of h.family) last h.length where
   last : last_address p ≡ last_address q
-  last = ap (λ b. b + 2 ^ (width_of p.family - p.length) - 1) h.bits ∙ ap (λ w. q.bits + 2 ^ (w - p.length) - 1) (ap width_of h.family) ∙ ap (λ n. q.bits + 2 ^ (width_of q.family - n) - 1) h.length
+  last = λ i. h.bits i + 2 ^ (width_of (h.family i) - h.length i) - 1
 
 -- equal prefixes cover the same, and are covered by the same
 pub alike_covers : (p q r : Prefix) → is_eq (prefix_cmp p q) ≡ true → covers p r ≡ covers q r
@@ -97,7 +102,11 @@ covers_alike p q r h = let e : Alike p q = alike p q h in cc
 
 -- two that cover each other are equal
 pub covered_back : (p q : Prefix) → covers p q ≡ true → covers q p ≡ true → is_eq (prefix_cmp p q) ≡ true
-covered_back p q h k = alike_test p q (record { family = same_family p.family q.family outer.family; length = omega (arith, outer.longer, inner.longer); bits = omega (arith, outer.starts, inner.starts) }) where
+covered_back p q h k = alike_test p q (record {
+  family = same_family p.family q.family outer.family;
+  length = omega (arith, outer.longer, inner.longer);
+  bits = omega (arith, outer.starts, inner.starts);
+}) where
   outer : Covers p q
   outer = covers_fact p q h
 
@@ -110,7 +119,9 @@ covers_same_length p q h e = covered_back p q h (covers_nested q p q (covers_sel
 
 -- the prefix of fewer bits covers what it was made from
 pub shortened_covers : (p q : Prefix) (n : ℕ) → IsPrefixOf p.family p.bits n q → n ≤ p.length → covers q p ≡ true
-shortened_covers p q n h k = covers_from_bits q p h.same_family (subst (λ m. m ≤ p.length) (sym h.same_length) k) (ap (λ m. cleared (width_of q.family) m p.bits) h.same_length ∙ ap (λ f. cleared (width_of f) n p.bits) h.same_family ∙ sym h.first_bits)
+shortened_covers p q n h k =
+    covers_from_bits q p h.same_family (subst (λ m. m ≤ p.length) (sym h.same_length) k)
+    ((λ i. cleared (width_of (h.same_family i)) (h.same_length i) p.bits) ∙ sym h.first_bits)
 
 -- the prefix of as many bits as two have in common is under each that covers both
 pub longest_common : (p other both q : Prefix) (bits n : ℕ)

@@ -1,5 +1,6 @@
 -- Octet lists: their parts are octets, and how two splits of one list relate.
 use Rattle.std.proofs.Common.{◌≡◌, ℕ, ◌+◌, ◌<◌, ◌≤◌, List, [], ◌∷◌, ◌++◌, length, get_or, take, drop, refl, ap, sym, subst, suc, inl, inr, arith}
+pub use Rattle.std.proofs.Math.Seq.{take-append-add}
 use Rattle.std.proofs.lemmas.List.{take_at, drop_at, take-append-drop, take-take, get_or_past}
 use Rattle.std.proofs.lemmas.List.Elements.{All-from_get_or, All-append, All-take, All-drop}
 use Rattle.std.proofs.lemmas.Bool.{cases_lt}
@@ -71,12 +72,6 @@ overlap (x ∷ a) b (y ∷ c) d same small =
     let found = overlap a b c d tails shorter in
     let front : c ≡ a ++ found.between = found.front in
     record { between = found.between; front = (cc); rest = found.rest }
-
-pub take-append-add : {A : Type 0} (front rest : List A) (n : ℕ) → take (length front + n) (front ++ rest) ≡ front ++ take n rest
-take-append-add {A} [] rest n = ap (λ k. take k rest) (omega arith)
-take-append-add {A} (x ∷ front) rest n =
-    let e : suc (length front) + n ≡ suc (length front + n) = omega arith in
-    rw e (ap (λ (xs : List A). x ∷ xs) (take-append-add front rest n))
 
 -- a longer front is a shorter one and what follows it
 pub take_longer : (m n : ℕ) (octets : List ℕ) → m ≤ n → take n octets ≡ take m octets ++ drop m (take n octets)

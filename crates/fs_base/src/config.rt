@@ -4,7 +4,7 @@ ghost use Rattle.std.specs.Prelude.{◌≡◌, ◌==◌};
 ghost use Rattle.std.specs.Option.{option_copied};
 ghost use Rattle.fs_base.specs.Config.{peer_of};
 
-use std::marker::Model;
+use crate::items::Items;
 
 /// An address in host order: of IPv4 32 bits, of IPv6 128.
 #[derive(Clone, Copy, Debug, PartialEq, Eq, Drop)]
@@ -25,64 +25,7 @@ pub struct Peer {
 }
 
 /// The peers in the order of the configuration.
-#[derive(Debug, Drop)]
-pub struct Peers {
-    items: Vec<Peer>,
-}
-
-impl Model for Peers {
-    ghost use Rattle.std.specs.Prelude.{List};
-    ghost use Rattle.fs_base.specs.declared.config.Peer.{Peer};
-
-    ghost Value = { List Peer };
-
-    ghost view = { λ a. a.items.items };
-}
-
-impl Peers {
-    /// These peers, in this order.
-    pub fn new(items: Vec<Peer>) -> Peers
-        ensures { result ≡ items.items }
-    {
-        Peers { items }
-    }
-
-    /// The peers as a vector, without memory.
-    pub fn into_vec(self) -> Vec<Peer>
-        ensures { result.items ≡ self }
-    {
-        self.items
-    }
-
-    /// Lends the peers.
-    pub fn as_slice(&self) -> &[Peer]
-        ensures { result.now ≡ self.now }
-    {
-        self.items.as_slice()
-    }
-}
-
-impl PartialEq for Peers {
-    ghost use Rattle.std.specs.Cmp.Lexicographic.{pointwise, lists_equiv};
-    ghost use Rattle.std.specs.Cmp.{partial_equiv_from_equiv};
-    ghost use Rattle.fs_base.specs.contracts.config.PeerPartialEq.TheImpl.{ghosts};
-    ghost use Rattle.fs_base.specs.contracts.config.PeerEq.TheImpl.Laws.{laws-law};
-
-    ghost eq = { pointwise ghosts.eq };
-
-    ghost laws = { partial_equiv_from_equiv (lists_equiv laws-law) };
-
-    fn eq(&self, other: &Peers) -> bool {
-        self.items == other.items
-    }
-}
-
-impl Eq for Peers {
-    ghost use Rattle.std.specs.Cmp.Lexicographic.{lists_equiv};
-    ghost use Rattle.fs_base.specs.contracts.config.PeerEq.TheImpl.Laws.{laws-law};
-
-    ghost laws = { lists_equiv laws-law };
-}
+pub type Peers = Items<Peer>;
 
 /// The configuration. `local_id` is the local BGP identifier in host order. A peer is external where its
 /// AS isn't `local_as`. `allow_no_destination` takes flow routes without a destination prefix (RFC 9117

@@ -1,11 +1,10 @@
 //! Filling a buffer, whatever counts the reads give.
 
-ghost use Rattle.std.specs.Prelude.{◌≡◌, ◌≢◌, ◌≤◌, ◌+◌, ◌++◌, [], ℕ, IsTrue, IfOk, OnErr, drop, length};
-ghost use Rattle.fs_base.specs.Files.{OnlySlot};
+ghost use Rattle.std.specs.Prelude.{◌≡◌, ◌≤◌, ◌+◌, ◌++◌, [], IsTrue, IfOk, OnErr, drop, length};
 ghost use Rattle.fs_base.specs.Outside.{Rose};
 ghost use Rattle.fs_base.specs.Parts.{window};
 ghost use Rattle.fs_base.specs.Filling.{Fills};
-ghost use Rattle.fs_base.specs.Draws.{Draws};
+ghost use Rattle.fs_base.specs.Draws.{PassesIn};
 
 use super::{Counted, Failed, Files, Stop};
 
@@ -23,11 +22,8 @@ pub fn fill<F: Files>(
     into: &mut [u8],
 ) -> Result<usize, Failed>
     ensures failed { OnErr result (Rose (F.faults files.old) (F.faults files.new)) }
-    ensures later { F.faults files.old ≤ F.faults files.new }
     ensures bound { IfOk result (λ n. n ≤ length into.new) }
     ensures taken { IfOk result (λ n. counted.new.taken ≡ counted.old.taken + n) }
-    ensures kept_slot { counted.new.slot ≡ counted.old.slot }
-    ensures kept_limit { counted.new.limit ≡ counted.old.limit }
 
     ensures filled { IsTrue F.tells
         → IfOk result (Fills
@@ -37,10 +33,7 @@ pub fn fill<F: Files>(
         into.new) }
     ensures back { IfOk result (λ n. counted.new.back ≡ drop n counted.old.back) }
     ensures none { counted.old.back ≡ [] → counted.new.back ≡ [] }
-    ensures took { IsTrue F.tells
-        → Draws counted.old counted.new (F.left files.old counted.old.slot) (F.left files.new counted.old.slot) }
-    ensures opened { F.opened files.new ≡ F.opened files.old }
-    ensures others { OnlySlot F.tells F.left F.holds counted.old.slot files.old files.new }
+    ensures passes { PassesIn F.Files files.old files.new counted.old counted.new }
 {
     if into.is_empty() {
         return Ok(0);
@@ -64,11 +57,8 @@ fn fill_rest<F: Files>(
     into: &mut [u8],
 ) -> Result<usize, Failed>
     ensures failed { OnErr result (Rose (F.faults files.old) (F.faults files.new)) }
-    ensures later { F.faults files.old ≤ F.faults files.new }
     ensures bound { IfOk result (λ n. n ≤ length into.new) }
     ensures taken { IfOk result (λ n. counted.new.taken ≡ counted.old.taken + n) }
-    ensures kept_slot { counted.new.slot ≡ counted.old.slot }
-    ensures kept_limit { counted.new.limit ≡ counted.old.limit }
 
     ensures filled { IsTrue F.tells
         → IfOk result (Fills
@@ -78,10 +68,7 @@ fn fill_rest<F: Files>(
         into.new) }
     ensures back { IfOk result (λ n. counted.new.back ≡ drop n counted.old.back) }
     ensures none { counted.old.back ≡ [] → counted.new.back ≡ [] }
-    ensures took { IsTrue F.tells
-        → Draws counted.old counted.new (F.left files.old counted.old.slot) (F.left files.new counted.old.slot) }
-    ensures opened { F.opened files.new ≡ F.opened files.old }
-    ensures others { OnlySlot F.tells F.left F.holds counted.old.slot files.old files.new }
+    ensures passes { PassesIn F.Files files.old files.new counted.old counted.new }
 {
     let mut at = 0;
     while at < into.len() {

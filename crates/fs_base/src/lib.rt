@@ -6,6 +6,7 @@ mod bits;
 mod config;
 mod counted;
 mod filling;
+mod items;
 mod laws;
 mod link;
 mod path;
@@ -22,6 +23,7 @@ pub use fs_outside::{
     CalmFiles, CalmSink, CalmWire, Clock, Failed, Files, MemClock, MemFiles, MemSink, MemWire,
     Memory, Opening, RealClock, RealFiles, RealOut, RealWire, Sink, StillClock, Wire,
 };
+pub use items::Items;
 pub use laws::precedence;
 pub use link::Link;
 pub use path::{

@@ -3,73 +3,21 @@
 ghost use Rattle.std.specs.Prelude.{◌≡◌, IfOk};
 
 use crate::Memory;
+use crate::items::Items;
 use std::alloc::Global;
-use std::marker::Model;
 
 /// The AS numbers of one segment, in the order of the AS_PATH.
-#[derive(Debug, Drop)]
-pub struct Numbers {
-    items: Vec<u32>,
-}
+pub type Numbers = Items<u32>;
 
-impl Model for Numbers {
-    ghost use Rattle.std.specs.Prelude.{ℕ, List};
-
-    ghost Value = { List ℕ };
-
-    ghost view = { λ a. a.items.items };
-}
-
-impl Numbers {
-    /// These AS numbers, in this order.
-    pub fn new(items: Vec<u32>) -> Numbers
-        ensures { result ≡ items.items }
-    {
-        Numbers { items }
-    }
-
-    /// The AS numbers as a vector, without memory.
-    pub fn into_vec(self) -> Vec<u32>
-        ensures { result.items ≡ self }
-    {
-        self.items
-    }
-
-    /// Lends the AS numbers.
-    pub fn as_slice(&self) -> &[u32]
-        ensures { result.now ≡ self.now }
-    {
-        self.items.as_slice()
-    }
-
+impl Items<u32> {
     /// An equal list.
     pub fn copy(&self) -> Result<Numbers, Memory>
         ensures { IfOk result (λ copy. copy ≡ self.now) }
     {
-        Ok(Numbers {
-            items: Vec::from_slice(*self.items.allocator(), &self.items)?,
+        Ok(Items {
+            values: Vec::from_slice(*self.values.allocator(), &self.values)?,
         })
     }
-}
-
-impl PartialEq for Numbers {
-    ghost use Rattle.std.specs.Prelude.{nat_eq};
-    ghost use Rattle.std.specs.Cmp.Lexicographic.{pointwise, nat_list_eq_equiv};
-    ghost use Rattle.std.specs.Cmp.{partial_equiv_from_equiv};
-
-    ghost eq = { pointwise nat_eq };
-
-    ghost laws = { partial_equiv_from_equiv nat_list_eq_equiv };
-
-    fn eq(&self, other: &Numbers) -> bool {
-        self.items == other.items
-    }
-}
-
-impl Eq for Numbers {
-    ghost use Rattle.std.specs.Cmp.Lexicographic.{nat_list_eq_equiv};
-
-    ghost laws = { nat_list_eq_equiv };
 }
 
 /// The form of an AS_SET (RFC 4271 section 4.3).
@@ -104,72 +52,17 @@ impl Segment {
 }
 
 /// The segments of an AS_PATH, in order.
-#[derive(Debug, Drop)]
-pub struct Segments {
-    items: Vec<Segment>,
-}
+pub type Segments = Items<Segment>;
 
-impl Model for Segments {
-    ghost use Rattle.std.specs.Prelude.{List};
-    ghost use Rattle.fs_base.specs.declared.path.Segment.{Segment};
-
-    ghost Value = { List Segment };
-
-    ghost view = { λ a. a.items.items };
-}
-
-impl Segments {
-    /// These segments, in this order.
-    pub fn new(items: Vec<Segment>) -> Segments
-        ensures { result ≡ items.items }
-    {
-        Segments { items }
-    }
-
-    /// The segments as a vector, without memory.
-    pub fn into_vec(self) -> Vec<Segment>
-        ensures { result.items ≡ self }
-    {
-        self.items
-    }
-
-    /// Lends the segments.
-    pub fn as_slice(&self) -> &[Segment]
-        ensures { result.now ≡ self.now }
-    {
-        self.items.as_slice()
-    }
-
+impl Items<Segment> {
     /// An equal list.
     pub fn copy(&self) -> Result<Segments, Memory>
         ensures { IfOk result (λ copy. copy ≡ self.now) }
     {
-        Ok(Segments {
-            items: copy_segments(*self.items.allocator(), &self.items)?,
+        Ok(Items {
+            values: copy_segments(*self.values.allocator(), &self.values)?,
         })
     }
-}
-
-impl PartialEq for Segments {
-    ghost use Rattle.std.specs.Cmp.Lexicographic.{pointwise, lists_equiv};
-    ghost use Rattle.std.specs.Cmp.{partial_equiv_from_equiv};
-    ghost use Rattle.fs_base.specs.contracts.path.SegmentPartialEq.TheImpl.{ghosts};
-    ghost use Rattle.fs_base.specs.contracts.path.SegmentEq.TheImpl.Laws.{laws-law};
-
-    ghost eq = { pointwise ghosts.eq };
-
-    ghost laws = { partial_equiv_from_equiv (lists_equiv laws-law) };
-
-    fn eq(&self, other: &Segments) -> bool {
-        self.items == other.items
-    }
-}
-
-impl Eq for Segments {
-    ghost use Rattle.std.specs.Cmp.Lexicographic.{lists_equiv};
-    ghost use Rattle.fs_base.specs.contracts.path.SegmentEq.TheImpl.Laws.{laws-law};
-
-    ghost laws = { lists_equiv laws-law };
 }
 
 fn copy_segments(alloc: Global, segments: &[Segment]) -> Result<Vec<Segment>, Memory>

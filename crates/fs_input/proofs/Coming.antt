@@ -9,7 +9,7 @@ use Rattle.fs_input.specs.Records.{End, done}
 use Rattle.fs_input.proofs.PartsOfRecords.{to_come_end, to_come_step}
 use Rattle.fs_input.specs.Coming.{Chain, Placed, Takes, first_part, part_of, parts_to_come, placed, stop}
 use Rattle.fs_input.specs.Reads.{Took, end_of, ends_by}
-use Rattle.fs_input.specs.Scan.{Scan, Scanner, and, and_then, behind, fails, field, gives, got, needs, partial, skips, wrong}
+use Rattle.fs_input.specs.Scan.{Scan, behind, field, got, partial, wrong}
 
 -- how many octets the parts of a chain take
 

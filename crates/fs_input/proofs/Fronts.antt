@@ -5,6 +5,7 @@ use Rattle.std.proofs.lemmas.List.{drop_all, length-take}
 use Rattle.std.proofs.lemmas.Bool.Decides.{nat_tests}
 use Rattle.fs_base.specs.Filling.{Fills}
 use Rattle.fs_base.specs.Parts.{window}
+use Rattle.fs_base.specs.declared.counted.Counted.{Counted}
 use Rattle.fs_input.specs.Opening.{IsFrontWithin, Opens, opened_answer, opened_by, opening}
 use Rattle.fs_input.specs.declared.fault.Fault.{Fault}
 use Rattle.fs_input.specs.Records.{End, limited, bad}
@@ -75,30 +76,34 @@ front_whole cut size count taken limit (Wrong reason place) value within e = abs
 front_whole cut size count taken limit Partial value within e = absurd cc
 
 -- An input that is opened, of whose front octets may have been put back: what was answered of the octets that were filled.
-module _ {V R : Type 0} (size : ℕ) (cut : R) (limit taken taken' count : ℕ) (back back' : List ℕ) (said : Head V R)
-    (within : IsFrontWithin size count said) where
+module _ {V R : Type 0} (size : ℕ) (cut : R) (before now : Counted) (count : ℕ) (said : Head V R) (within : IsFrontWithin size count said) where
   -- an opened one has taken all that was put back
-  pub none_back : (value : V) → opened_answer cut taken' limit said ≡ Ok value → length back ≤ size → back' ≡ drop count back → back' ≡ []
+  pub none_back : (value : V) → opened_answer cut now.taken before.limit said ≡ Ok value → length before.back ≤ size
+      → now.back ≡ drop count before.back → now.back ≡ []
   none_back value is few gone =
-      let whole : size ≤ count = front_whole cut size count taken' limit said value within is in
-      gone ∙ drop_all count back (omega (arith, few, whole))
+      let whole : size ≤ count = front_whole cut size count now.taken before.limit said value within is in
+      gone ∙ drop_all count before.back (omega (arith, few, whole))
 
   module _ (front_of : List ℕ → Head V R) (left left' front : List ℕ)
-      (filled : Fills (window limit taken (back ++ left)) (back ++ left) (back' ++ left') front count) (start : taken ≡ 0)
-      (sized : length front ≡ size) (exact : said ≡ front_of (take count front)) (now : taken' ≡ taken + count) where
-    answered : (answer : Result V (Fault R)) → opened_answer cut taken' limit said ≡ answer
-        → Opens (λ v. v) (opening size front_of cut limit (back ++ left)) (drop size (back ++ left)) (back' ++ left') answer
+      (filled : Fills (window before.limit before.taken (before.back ++ left)) (before.back ++ left) (now.back ++ left') front count)
+      (start : before.taken ≡ 0) (sized : length front ≡ size) (exact : said ≡ front_of (take count front)) (counts : now.taken ≡ before.taken + count) where
+    abbrev OpensAs : {T : Type 0} → (T → V) → List ℕ → Result T (Fault R) → Type 0
+    OpensAs view rest answer = Opens view (opening size front_of cut before.limit (before.back ++ left)) (drop size (before.back ++ left)) rest answer
+
+    answered : (answer : Result V (Fault R)) → opened_answer cut now.taken before.limit said ≡ answer → OpensAs (λ v. v) (now.back ++ left') answer
     answered answer is =
-        subst (λ (a : Result V (Fault R)). Opens (λ v. v) (opening size front_of cut limit (back ++ left)) (drop size (back ++ left)) (back' ++ left') a) is
-        (opens size front_of cut limit taken (back ++ left) (back' ++ left') front count taken' said start filled sized exact within now)
+        subst (λ (a : Result V (Fault R)). OpensAs (λ v. v) (now.back ++ left') a) is
+        (opens size front_of cut before.limit before.taken (before.back ++ left) (now.back ++ left') front count now.taken said start filled sized exact within
+        counts)
 
-    pub opens_not : {T : Type 0} (view : T → V) (fault : Fault R) → opened_answer cut taken' limit said ≡ Err fault
-        → Opens view (opening size front_of cut limit (back ++ left)) (drop size (back ++ left)) left' (Err fault)
+    pub opens_not : {T : Type 0} (view : T → V) (fault : Fault R) → opened_answer cut now.taken before.limit said ≡ Err fault
+        → OpensAs view left' (Err fault)
     opens_not view fault is =
-        by_fault view (opening size front_of cut limit (back ++ left)) (drop size (back ++ left)) (back' ++ left') left' fault (answered (Err fault) is)
+        by_fault view (opening size front_of cut before.limit (before.back ++ left)) (drop size (before.back ++ left)) (now.back ++ left') left' fault
+        (answered (Err fault) is)
 
-    pub opens_so : {T : Type 0} (view : T → V) (input : T) → opened_answer cut taken' limit said ≡ Ok (view input) → back' ≡ []
-        → Opens view (opening size front_of cut limit (back ++ left)) (drop size (back ++ left)) left' (Ok input)
-    opens_so view input is none =
+    pub opens_so : {T : Type 0} (view : T → V) (input : T) → opened_answer cut now.taken before.limit said ≡ Ok (view input)
+        → length before.back ≤ size → now.back ≡ drop count before.back → OpensAs view left' (Ok input)
+    opens_so view input is few gone =
         let h = answered (Ok (view input)) is in
-        (h.0, ap (λ (b : List ℕ). b ++ left') (sym none) ∙ h.1)
+        (h.0, ap (λ (b : List ℕ). b ++ left') (sym (none_back (view input) is few gone)) ∙ h.1)

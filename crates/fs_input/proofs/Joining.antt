@@ -1,14 +1,14 @@
 -- A chain of fields that is read one by one: what the first gives and what the next gives join.
-use Rattle.std.proofs.Common.{◌≡◌, ℕ, List, Bool, true, false, Some, ◌≤◌, ◌+◌, ◌-◌, length, drop, refl, ap, sym, ◌∙◌, subst, arith}
+use Rattle.std.proofs.Common.{◌≡◌, ℕ, List, Bool, true, false, Some, ◌≤◌, ◌+◌, ◌-◌, length, drop, refl, ap, sym, ◌∙◌, arith}
 use Rattle.std.specs.Prelude.{if◌then◌else◌}
-use Rattle.std.proofs.lemmas.List.{drop-drop, length-drop, length-take}
+use Rattle.std.proofs.lemmas.List.{length-drop, length-take}
 use Rattle.fs_base.specs.Parts.{at_limit, window}
 use Rattle.fs_base.proofs.Parts.{limit_behind, window_behind}
 use Rattle.fs_input.specs.Records.{End, bad, limited}
 use Rattle.fs_input.specs.declared.fault.Fault.{Fault}
 use Rattle.fs_input.specs.declared.fault.Fault.TheVariants.{Read, Limit, Bad}
 use Rattle.fs_input.specs.Scan.{Scan, Scanner, and, and_then, behind, fails, got, needs, partial, wrong}
-use Rattle.fs_input.specs.Reads.{Fails, Took, end_of, ends_by}
+use Rattle.fs_input.specs.Reads.{Fails, Took, end_of}
 
 -- what is judged behind so many octets
 pub record IsBehind (limit taken taken' n : ℕ) (left left' : List ℕ) : Type 0 where
@@ -53,44 +53,15 @@ end_behind cut limit taken size n partial within =
     let same : taken + size ≡ taken + n + (size - n) = omega arith in
     ap (λ place. Some (if limit then limited else bad cut place)) same
 
-module _ {A B R : Type 0} (first : Scanner A R) (next : A → Scanner B R) (limit taken taken' : ℕ) (left left' : List ℕ) (value : A) where
-  -- what the chain says, where the first field was taken
-  pub chain_is : (took : Took (first taken (window limit taken left)) (length (window limit taken left)) taken taken' left left' value)
-      → and first next taken (window limit taken left) ≡ behind took.count (next value taken' (window limit taken' left'))
-  chain_is took =
-      let judged = window limit taken left in
-      let rest = behind_took limit taken taken' took.count left left' took.within took.taken_is took.left_is in
-      ap (and_then next taken judged) took.is
-      ∙ (λ i. behind took.count (next value ((sym took.taken_is) i) ((sym rest.judged) i)))
-
-  pub both_took : (taken'' : ℕ) (left'' : List ℕ) (last : B)
-      → Took (first taken (window limit taken left)) (length (window limit taken left)) taken taken' left left' value
-      → Took (next value taken' (window limit taken' left')) (length (window limit taken' left')) taken' taken'' left' left'' last
-      → Took (and first next taken (window limit taken left)) (length (window limit taken left)) taken taken'' left left'' last
-  both_took taken'' left'' last took more =
-      let rest = behind_took limit taken taken' took.count left left' took.within took.taken_is took.left_is in
-      record {
-        count = took.count + more.count;
-        is = chain_is took ∙ ap (behind took.count) more.is;
-        within = omega (arith, took.within, more.within, rest.size);
-        taken_is = omega (arith, took.taken_is, more.taken_is);
-        left_is =
-            more.left_is ∙ ap (drop more.count) took.left_is ∙ drop-drop more.count took.count left;
-      }
-
-  second_ends : (cut : R) → Took (first taken (window limit taken left)) (length (window limit taken left)) taken taken' left left' value
-      → ends_by (and first next) cut limit taken left ≡ ends_by (next value) cut limit taken' left'
-  second_ends cut took =
-      let rest = behind_took limit taken taken' took.count left left' took.within took.taken_is took.left_is in
-      let scan = next value taken' (window limit taken' left') in
-      ap (end_of cut (at_limit limit taken left) taken (length (window limit taken left))) (chain_is took)
-      ∙ end_behind cut (at_limit limit taken left) taken (length (window limit taken left)) took.count scan took.within
-      ∙ (λ i. end_of cut ((sym rest.limited) i) ((sym took.taken_is) i) ((sym rest.size) i) scan)
-
-  pub fails_second : (cut : R) (fault : Fault R)
-      → Took (first taken (window limit taken left)) (length (window limit taken left)) taken taken' left left' value
-      → Fails (ends_by (next value) cut limit taken' left') fault → Fails (ends_by (and first next) cut limit taken left) fault
-  fails_second cut fault took h = subst (λ end. Fails end fault) (sym (second_ends cut took)) h
+-- what the chain says, where its first field was taken
+pub chain_is : {A B R : Type 0} (first : Scanner A R) (next : A → Scanner B R) (limit taken taken' : ℕ) (left left' : List ℕ) (value : A)
+    (took : Took (first taken (window limit taken left)) (length (window limit taken left)) taken taken' left left' value)
+    → and first next taken (window limit taken left) ≡ behind took.count (next value taken' (window limit taken' left'))
+chain_is first next limit taken taken' left left' value took =
+    let judged = window limit taken left in
+    let rest = behind_took limit taken taken' took.count left left' took.within took.taken_is took.left_is in
+    ap (and_then next taken judged) took.is
+    ∙ (λ i. behind took.count (next value ((sym took.taken_is) i) ((sym rest.judged) i)))
 
 -- a test that holds is passed
 pub needs_true : {A R : Type 0} (test : Bool) (reason : R) (spot : ℕ) (next : Scanner A R) → test ≡ true

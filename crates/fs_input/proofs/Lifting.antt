@@ -1,97 +1,15 @@
 -- Calls that read fields one behind the other read the chain.
-use Rattle.std.proofs.Common.{◌≡◌, ℕ, List, [], Bool, true, Option, Result, Ok, Err, ◌≤◌, length, refl, ap, sym, ◌∙◌, subst, arith, le_trans}
-use Rattle.std.specs.Prelude.{IfErr}
-use Rattle.fs_base.specs.Draws.{Draws, Passed}
+use Rattle.std.proofs.Common.{◌≡◌, ℕ, List, Bool, true, Option, Result, Ok, Err, length, refl, ap, sym, subst, arith}
 use Rattle.fs_base.specs.Outside.{Rose}
 use Rattle.fs_base.specs.Parts.{at_limit, window}
 use Rattle.fs_base.specs.declared.counted.Counted.{Counted}
-use Rattle.fs_base.proofs.Drawing.{draws_more, draws_straight, passed_none, passed_then, rose_earlier}
 use Rattle.fs_input.specs.declared.fault.Fault.{Fault}
 use Rattle.fs_input.specs.declared.fault.Fault.TheVariants.{Read, Bad}
 use Rattle.fs_input.specs.Scan.{Scanner, and, fails, field, gives}
-use Rattle.fs_input.specs.Reads.{Calls, Fails, Passes, PassesOn, Reads, Scanned, Starts, Took, end_of, whole}
-use Rattle.fs_input.proofs.Joining.{both_took, fails_first, fails_second}
-
-pub failed_later : {T R : Type 0} (result : Result T (Fault R)) (early mid late : ℕ) → early ≤ mid
-    → IfErr result (λ fault. fault ≡ Read → Rose mid late) → IfErr result (λ fault. fault ≡ Read → Rose early late)
-failed_later (Ok answer) early mid late l h = h
-failed_later (Err fault) early mid late l h = λ read. rose_earlier early mid late l (h read)
-
--- what was taken, told in another way
-pub passes_as : {One Other : Type 0} {told : Bool} {calls calls' : Calls} {left left' : ℕ → List ℕ} {holds holds' : List ℕ → Option (List ℕ)}
-    {old new : Counted} → (One → Other) → Passes told calls calls' left left' holds holds' One old new
-    → Passes told calls calls' left left' holds holds' Other old new
-passes_as told_so h = record {
-  later = h.later;
-  slot = h.slot;
-  limit = h.limit;
-  others = h.others;
-  took = λ tells_so. told_so (h.took tells_so);
-  opened = h.opened;
-}
-
--- one call, and then another
-pub passes_more : {One More All : Type 0} {told : Bool} {calls mid late : Calls} {left left' left'' : ℕ → List ℕ}
-    {holds holds' holds'' : List ℕ → Option (List ℕ)} {old now new : Counted} → (One → More → All)
-    → Passes told calls mid left left' holds holds' One old now → Passes told mid late left' left'' holds' holds'' More now new
-    → Passes told calls late left left'' holds holds'' All old new
-passes_more took one more = record {
-  later = le_trans one.later more.later;
-  slot = more.slot ∙ one.slot;
-  limit = more.limit ∙ one.limit;
-  others = λ tells_so. record {
-    others = λ other apart.
-        (more.others tells_so).others other (λ same. apart (same ∙ one.slot)) ∙ (one.others tells_so).others other apart;
-    names = (more.others tells_so).names ∙ (one.others tells_so).names;
-  };
-  took = λ tells_so. took (one.took tells_so) (more.took tells_so);
-  opened = more.opened ∙ one.opened;
-}
-
-pub passes_then : {told : Bool} {calls mid late : Calls} {left left' left'' : ℕ → List ℕ} {holds holds' holds'' : List ℕ → Option (List ℕ)}
-    {old now new : Counted} → PassesOn told calls mid left left' holds holds' old now → PassesOn told mid late left' left'' holds' holds'' now new
-    → PassesOn told calls late left left'' holds holds'' old new
-passes_then {left = left} {left' = left'} {left'' = left''} {old = old} {now = now} {new = new} one more =
-    passes_more
-    (λ first last. passed_then old.limit old.taken now.taken new.taken (left old.slot) (left' old.slot) (left'' old.slot) first
-    (subst (λ slot. Passed old.limit now.taken new.taken (left' slot) (left'' slot)) one.slot
-    (subst (λ limit. Passed limit now.taken new.taken (left' now.slot) (left'' now.slot)) one.limit last)))
-    one more
-
-pub passes_in : {told : Bool} {calls mid late : Calls} {left left' left'' : ℕ → List ℕ} {holds holds' holds'' : List ℕ → Option (List ℕ)}
-    {old now new : Counted} → Passes told calls mid left left' holds holds' (Draws old now (left old.slot) (left' old.slot)) old now
-    → Passes told mid late left' left'' holds' holds'' (Draws now new (left' now.slot) (left'' now.slot)) now new
-    → Passes told calls late left left'' holds holds'' (Draws old new (left old.slot) (left'' old.slot)) old new
-passes_in {left = left} {left' = left'} {left'' = left''} one more =
-    passes_more (draws_more _ _ _ left left' left'' one.slot one.limit) one more
-
--- where nothing was put back the slot alone was read
-pub passes_straight : {told : Bool} {calls calls' : Calls} {left left' : ℕ → List ℕ} {holds holds' : List ℕ → Option (List ℕ)} {old new : Counted}
-    → old.back ≡ [] → Passes told calls calls' left left' holds holds' (Draws old new (left old.slot) (left' old.slot)) old new
-    → PassesOn told calls calls' left left' holds holds' old new
-passes_straight none h = passes_as (draws_straight _ _ _ _ none) h
-
--- nothing was done
-pub passes_none : {told : Bool} {calls : Calls} {left : ℕ → List ℕ} {holds : List ℕ → Option (List ℕ)} {now : Counted}
-    → PassesOn told calls calls left left holds holds now now
-passes_none {left = left} {now = now} = record {
-  later = omega arith;
-  slot = refl;
-  limit = refl;
-  others = λ tells_so. record { others = λ other apart. refl; names = refl };
-  took = λ tells_so. passed_none now.limit now.taken (left now.slot) now.within;
-  opened = refl;
-}
-
-module _ {T U A B R : Type 0} (first : Scanner A R) (next : A → Scanner B R) (cut : R) (tells : T → A) (tells2 : U → B) where
-  scanned_then : (limit taken taken' taken'' : ℕ) (left left' left'' : List ℕ) (answer : T) (result : Result U (Fault R))
-      → Scanned first cut limit taken taken' left left' tells (Ok answer)
-      → Scanned (next (tells answer)) cut limit taken' taken'' left' left'' tells2 result
-      → Scanned (and first next) cut limit taken taken'' left left'' tells2 result
-  scanned_then limit taken taken' taken'' left left' left'' answer (Ok last) took more =
-      both_took first next limit taken taken' left left' (tells answer) taken'' left'' (tells2 last) took more
-  scanned_then limit taken taken' taken'' left left' left'' answer (Err fault) took more =
-      fails_second first next limit taken taken' left left' (tells answer) cut fault took more
+use Rattle.fs_input.specs.Reads.{Calls, Fails, Reads, Scanned, Starts, Took, end_of, whole}
+use Rattle.fs_input.proofs.Joining.{fails_first}
+use Rattle.fs_base.proofs.Passing.{passes_none}
+use Rattle.fs_input.proofs.Stages.{going_more, going_start, going_then}
 
 -- where the first field was read, and then the next
 pub reads_then : {T U A B R : Type 0} {first : Scanner A R} {cut : R} {tells : T → A} {told : Bool} {calls mid late : Calls}
@@ -100,19 +18,7 @@ pub reads_then : {T U A B R : Type 0} {first : Scanner A R} {cut : R} {tells : T
     → Reads told calls mid left left' holds holds' first cut old now tells (Ok answer)
     → Reads told mid late left' left'' holds' holds'' (next (tells answer)) cut now new tells2 result
     → Reads told calls late left left'' holds holds'' (and first next) cut old new tells2 result
-reads_then {first = first} {cut = cut} {tells = tells} {told = told} {calls = calls} {mid = mid} {late = late}
-    {left = left} {left' = left'} {left'' = left''} {old = old} {now = now} {new = new} {answer = answer} {result = result}
-    next tells2 one more = record {
-      passes = passes_then one.passes more.passes;
-      failed = failed_later result calls.faults mid.faults late.faults one.passes.later more.failed;
-      scanned = λ tells_so.
-          scanned_then first next cut tells tells2 old.limit old.taken now.taken new.taken (left old.slot) (left' old.slot) (left'' old.slot)
-          answer result
-          (one.scanned tells_so)
-          (subst (λ slot. Scanned (next (tells answer)) cut old.limit now.taken new.taken (left' slot) (left'' slot) tells2 result) one.passes.slot
-          (subst (λ limit. Scanned (next (tells answer)) cut limit now.taken new.taken (left' now.slot) (left'' now.slot) tells2 result)
-          one.passes.limit (more.scanned tells_so)));
-    }
+reads_then {first = first} next tells2 one more = going_then (going_more next (going_start (and first next)) one) more
 
 -- where the first field could not be read
 pub reads_ends : {T U A B R : Type 0} {first : Scanner A R} {cut : R} {tells : T → A} {told : Bool} {calls late : Calls}

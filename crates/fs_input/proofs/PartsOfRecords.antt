@@ -1,86 +1,32 @@
 -- Laws of the parts that a reader reads.
-use Rattle.std.proofs.Common.{◌≡◌, ℕ, zero, suc, Bool, List, [], ◌∷◌, ◌++◌, Some, None, ◌<◌, ◌≤◌, ◌+◌, ◌-◌, inl, inr, length, take, drop, refl, ap, sym, ◌∙◌, arith, append_assoc, length-drop, subst}
+use Rattle.std.proofs.Common.{◌≡◌, ℕ, Bool, List, [], ◌∷◌, ◌++◌, Some, None, ◌≤◌, ◌+◌, ◌-◌, length, take, drop, refl, ap, sym, ◌∙◌, arith, append_assoc, length-drop, subst}
 use Rattle.std.specs.Prelude.{nat_le}
 use Rattle.std.proofs.lemmas.List.{length-take}
 use Rattle.fs_base.specs.Language.{IsOctets}
 use Rattle.fs_base.specs.Parts.{at_limit, window, with_part}
 use Rattle.fs_base.proofs.Octets.{octets_right}
-use Rattle.fs_base.proofs.Parts.{limit_behind, window_behind}
-use Rattle.fs_base.proofs.Options.{none_or_some}
-use Rattle.fs_input.specs.Parts.{AllFrom, At, Fitting, ReadsText, Reader, Shrinks, SpellsText, at, judged, parts_from, parts_within, text_from, to_come}
-
-within_end : {S A : Type 0} (next : Reader S A) (n : ℕ) (now : At S) → next now ≡ None → parts_within next n now ≡ ([], now)
-unfolding parts_within
-within_end next zero now h = refl
-within_end next (suc n) now h = rw (h, parts_within) refl
-
-within_step : {S A : Type 0} (next : Reader S A) (n : ℕ) (now : At S) (found : A × At S)
-    → next now ≡ Some found → parts_within next (suc n) now ≡ with_part found.0 (parts_within next n found.1)
-unfolding parts_within
-within_step next n now found h = rw (h, parts_within) refl
-
-no_room : {S A : Type 0} (next : Reader S A) → Shrinks next → (now : At S) (found : A × At S)
-    → next now ≡ Some found → length now.octets ≤ 0 → ⊥
-no_room next shrinks now found h none = let s : length found.1.octets < length now.octets = shrinks now found h in omega arith
-
--- a count that reaches the octets' length is enough
-enough : {S A : Type 0} (next : Reader S A) → Shrinks next → (n m : ℕ) (now : At S)
-    → length now.octets ≤ n → length now.octets ≤ m → parts_within next n now ≡ parts_within next m now
-enough next shrinks zero zero now a b = refl
-enough next shrinks zero (suc m) now a b = elim (none_or_some (next now)) [
-  | inl h ↦ within_end next zero now h ∙ sym (within_end next (suc m) now h)
-  | inr found ↦ absurd (no_room next shrinks now found.0 found.1 a)
-]
-enough next shrinks (suc n) zero now a b = elim (none_or_some (next now)) [
-  | inl h ↦ within_end next (suc n) now h ∙ sym (within_end next zero now h)
-  | inr found ↦ absurd (no_room next shrinks now found.0 found.1 b)
-]
-enough next shrinks (suc n) (suc m) now a b = elim (none_or_some (next now)) [
-  | inl h ↦ within_end next (suc n) now h ∙ sym (within_end next (suc m) now h)
-  | inr found ↦
-      let s : length found.0.1.octets < length now.octets = shrinks now found.0 found.1 in
-      within_step next n now found.0 found.1
-      ∙ ap (with_part found.0.0) (enough next shrinks n m found.0.1 (omega arith) (omega arith))
-      ∙ sym (within_step next m now found.0 found.1)
-]
+use Rattle.fs_base.proofs.Parts.{all_end, all_parts, all_step, limit_behind, window_behind}
+use Rattle.fs_input.specs.Parts.{AllFrom, At, Fitting, ReadsText, Reader, Shrinks, SpellsText, at, judged, octets_before, parts_from, text_from, to_come}
 
 -- where no part stands there are none, and the reader stays
 pub parts_end : {S A : Type 0} (next : Reader S A) (now : At S) → next now ≡ None → parts_from next now ≡ ([], now)
 unfolding parts_from
-parts_end next now h = within_end next (length now.octets) now h
+parts_end next now h = all_end octets_before next now h
 
 -- where a part stands it is the first, and the others are those behind it
 pub parts_step : {S A : Type 0} (next : Reader S A) → Shrinks next → (now : At S) (found : A × At S)
     → next now ≡ Some found → parts_from next now ≡ with_part found.0 (parts_from next found.1)
 unfolding parts_from
-parts_step next shrinks now found h =
-    let s : length found.1.octets < length now.octets = shrinks now found h in
-    enough next shrinks (length now.octets) (suc (length now.octets)) now (omega arith) (omega arith)
-    ∙ within_step next (length now.octets) now found h
-    ∙ ap (with_part found.0) (enough next shrinks (length now.octets) (length found.1.octets) found.1 (omega arith) (omega arith))
+parts_step next shrinks now found h = all_step octets_before next shrinks now found h
 
 -- what holds where no part stands, and of a part and those behind it where it holds of these, holds of all parts
-module _ {S A : Type 0} (next : Reader S A) (shrinks : Shrinks next) (P : At S → List A × At S → Type 0)
-    (none : (now : At S) → next now ≡ None → P now ([], now))
-    (more : (now : At S) (found : A × At S) → next now ≡ Some found → P found.1 (parts_from next found.1)
-    → P now (with_part found.0 (parts_from next found.1))) where
-  end_all : (now : At S) → next now ≡ None → P now (parts_from next now)
-  end_all now h = subst (P now) (sym (parts_end next now h)) (none now h)
-
-  parts_by : (n : ℕ) (now : At S) → length now.octets ≤ n → P now (parts_from next now)
-  parts_by zero now a = elim (none_or_some (next now)) [
-    | inl h ↦ end_all now h
-    | inr found ↦ absurd (no_room next shrinks now found.0 found.1 a)
-  ]
-  parts_by (suc n) now a = elim (none_or_some (next now)) [
-    | inl h ↦ end_all now h
-    | inr found ↦
-        let s : length found.0.1.octets < length now.octets = shrinks now found.0 found.1 in
-        subst (P now) (sym (parts_step next shrinks now found.0 found.1)) (more now found.0 found.1 (parts_by n found.0.1 (omega arith)))
-  ]
-
-  pub parts_all : (now : At S) → P now (parts_from next now)
-  parts_all now = parts_by (length now.octets) now (omega arith)
+pub parts_all : {S A : Type 0} (next : Reader S A) → Shrinks next → (P : At S → List A × At S → Type 0)
+    → ((now : At S) → next now ≡ None → P now ([], now))
+    → ((now : At S) (found : A × At S) → next now ≡ Some found → P found.1 (parts_from next found.1)
+    → P now (with_part found.0 (parts_from next found.1)))
+    → (now : At S) → P now (parts_from next now)
+unfolding parts_from
+parts_all next shrinks P none more now = all_parts octets_before next shrinks P none more now
 
 -- the state behind these parts
 abbrev pub state_behind : {S A : Type 0} → (S → A → S) → S → List A → S

@@ -1,16 +1,17 @@
 -- Reading the records of an input one by one: the head is filled, and then the payload.
-use Rattle.std.proofs.Common.{◌≡◌, ℕ, List, [], Some, None, Bool, true, false, ◌<◌, ◌≤◌, ◌+◌, ◌-◌, ◌==◌, min, length, take, drop, refl, ap, sym, ◌∙◌, arith}
+use Rattle.std.proofs.Common.{◌≡◌, ℕ, List, [], Some, None, Bool, true, false, ◌<◌, ◌≤◌, ◌+◌, ◌==◌, min, length, take, drop, refl, ap, sym, ◌∙◌, arith}
 use Rattle.std.specs.Prelude.{nat_le, if◌then◌else◌}
-use Rattle.std.proofs.lemmas.List.{drop-drop, length-drop, length-take}
+use Rattle.std.proofs.lemmas.List.{drop-drop, length-drop}
 use Rattle.std.proofs.lemmas.Bool.Decides.{nat_tests}
 use Rattle.std.proofs.lemmas.Grind.{common_steps}
 use Rattle.fs_base.specs.Filling.{Fills}
-use Rattle.fs_base.specs.Parts.{at_limit, window, with_part}
-use Rattle.fs_base.proofs.Parts.{window_behind}
+use Rattle.fs_base.specs.Parts.{window, with_part}
 use Rattle.fs_input.specs.Parts.{At, Shrinks, at}
 use Rattle.fs_input.specs.Records.{Format, bad, ends_short, first_record, head_at, record_in, records_to_come, stop}
 use Rattle.fs_input.specs.declared.head.Head.{Head}
 use Rattle.fs_input.specs.declared.head.Head.TheVariants.{Whole, Wrong, Partial}
+use Rattle.fs_input.proofs.CutShort.{limit_is}
+use Rattle.fs_input.proofs.Joining.{IsBehind, behind_took}
 use Rattle.fs_input.proofs.PartsOfRecords.{to_come_end, to_come_step}
 
 -- each head has octets
@@ -54,54 +55,6 @@ head_filled size judged old new head count fills len =
     let e : count ≡ min size (length judged) = fills.count_is ∙ ap (λ n. min n (length judged)) len in
     fills.filled ∙ rw e (front_of size judged)
 
--- the limit was reached where as many octets were taken
-pub limit_reached : (limit taken : ℕ) (left : List ℕ) (count : ℕ) → taken ≤ limit → count ≡ length (window limit taken left)
-    → at_limit limit taken left ≡ (taken + count == limit)
-limit_reached limit taken left count within size =
-    let s : count ≡ min (limit - taken) (length left) = size ∙ length-take (limit - taken) left in grind (arith, nat_tests)
-
--- the head is wrong
-comes_wrong : {S A B R : Type 0} (format : Format S A B R) (limit taken : ℕ) (state : S) (left : List ℕ) (reason : R) (offset : ℕ)
-    → format.head_of state (take (format.head_size state) (window limit taken left)) ≡ Wrong reason offset
-    → records_to_come format limit taken state left ≡ ([], bad reason (taken + offset))
-comes_wrong format limit taken state left reason offset h =
-    to_come_end (first_record format) (stop format) limit taken (at state left) (rw h refl) ∙ rw h refl
-
--- the octets end within the head, or before it
-comes_short : {S A B R : Type 0} (format : Format S A B R) (limit taken : ℕ) (state : S) (left : List ℕ) (count : ℕ)
-    → taken ≤ limit → count ≡ length (window limit taken left)
-    → format.head_of state (take (format.head_size state) (window limit taken left)) ≡ Partial
-    → records_to_come format limit taken state left ≡ ([], ends_short format.cut (taken + count == limit) taken count)
-comes_short format limit taken state left count within size h =
-    to_come_end (first_record format) (stop format) limit taken (at state left) (rw h refl)
-    ∙ rw (h, limit_reached limit taken left count within size, ← size) refl
-
--- the octets end within the payload
-comes_cut : {S A B R : Type 0} (format : Format S A B R) (limit taken : ℕ) (state : S) (left : List ℕ) (said : A) (payload count : ℕ)
-    → taken ≤ limit → count ≡ length (window limit taken left) → count < format.head_size state + payload
-    → format.head_of state (take (format.head_size state) (window limit taken left)) ≡ Whole said payload
-    → records_to_come format limit taken state left ≡ ([], ends_short format.cut (taken + count == limit) taken count)
-comes_cut format limit taken state left said payload count within size short h =
-    let test : nat_le (format.head_size state + payload) (length (window limit taken left)) ≡ false = grind (arith, nat_tests) in
-    to_come_end (first_record format) (stop format) limit taken (at state left) (rw (h, test) refl)
-    ∙ rw (h, limit_reached limit taken left count within size, ← size) refl
-
--- a whole record
-comes_record : {S A B R : Type 0} (format : Format S A B R) → HasHead format
-    → (limit taken : ℕ) (state : S) (left : List ℕ) (said : A) (payload : ℕ)
-    → format.head_size state + payload ≤ length (window limit taken left)
-    → format.head_of state (take (format.head_size state) (window limit taken left)) ≡ Whole said payload
-    → records_to_come format limit taken state left
-    ≡ with_part (format.item_of said (take payload (drop (format.head_size state) (window limit taken left))))
-    (records_to_come format limit (taken + (format.head_size state + payload)) (format.behind state said)
-    (drop (format.head_size state + payload) left))
-comes_record format some limit taken state left said payload within h =
-    let test : nat_le (format.head_size state + payload) (length (window limit taken left)) ≡ true = grind (arith, nat_tests) in
-    to_come_step (first_record format) (stop format) (records_shrink format some) limit taken (at state left)
-    (format.item_of said (take payload (drop (format.head_size state) (window limit taken left))))
-    (format.behind state said) (format.head_size state + payload)
-    within (rw (h, test) refl)
-
 -- what was filled into a head's buffer tells the head of what is judged
 head_tells : {S A B R : Type 0} (format : Format S A B R) (state : S) (judged old new head : List ℕ) (count : ℕ) (said : Head A R)
     → Fills judged old new head count → length head ≡ format.head_size state → said ≡ format.head_of state (take count head)
@@ -116,8 +69,8 @@ pub wrong_comes : {S A B R : Type 0} (format : Format S A B R) (limit taken : �
     → Wrong reason offset ≡ format.head_of state (take count head)
     → records_to_come format limit taken state left ≡ ([], bad reason (taken + offset))
 wrong_comes format limit taken state left left1 head count reason offset fills len h =
-    comes_wrong format limit taken state left reason offset
-    (head_tells format state (window limit taken left) left left1 head count (Wrong reason offset) fills len h)
+    let said = head_tells format state (window limit taken left) left left1 head count (Wrong reason offset) fills len h in
+    to_come_end (first_record format) (stop format) limit taken (at state left) (rw said refl) ∙ rw said refl
 
 -- a head was filled only in part, and no field in it is wrong
 pub short_comes : {S A B R : Type 0} (format : Format S A B R) (limit taken : ℕ) (state : S) (left left1 head : List ℕ) (count : ℕ)
@@ -126,32 +79,28 @@ pub short_comes : {S A B R : Type 0} (format : Format S A B R) (limit taken : �
     → records_to_come format limit taken state left ≡ ([], ends_short format.cut (taken + count == limit) taken count)
 short_comes format limit taken state left left1 head count fills len h short within =
     let e : count ≡ min (length head) (length (window limit taken left)) = fills.count_is in
-    comes_short format limit taken state left count within (omega arith)
-    (head_tells format state (window limit taken left) left left1 head count Partial fills len h)
+    let size : count ≡ length (window limit taken left) = omega arith in
+    let said = head_tells format state (window limit taken left) left left1 head count Partial fills len h in
+    to_come_end (first_record format) (stop format) limit taken (at state left) (rw said refl)
+    ∙ rw (said, limit_is limit taken (taken + count) count left within size refl, ← size) refl
 
 -- a head was filled, and then a payload: what is judged of it stands behind the head
-pub record IsBehind (head_size limit taken : ℕ) (left left1 : List ℕ) (count : ℕ) : Type 0 where
+record IsHeaded (head_size limit taken : ℕ) (left left1 : List ℕ) (count : ℕ) : Type 0 where
   pub all : count ≡ head_size
   pub had : head_size ≤ length (window limit taken left)
-  pub judged : window limit (taken + count) left1 ≡ drop head_size (window limit taken left)
-  pub size : length (window limit (taken + count) left1) ≡ length (window limit taken left) - head_size
+  pub rest : IsBehind limit taken (taken + count) head_size left left1
 
 behind_head : (head_size limit taken : ℕ) (left left1 head : List ℕ) (count : ℕ)
     → Fills (window limit taken left) left left1 head count → length head ≡ head_size → head_size ≤ count
-    → IsBehind head_size limit taken left left1 count
+    → IsHeaded head_size limit taken left left1 count
 behind_head head_size limit taken left left1 head count fills len all =
     let e : count ≡ min (length head) (length (window limit taken left)) = fills.count_is in
     let same : count ≡ head_size = omega arith in
     let had : head_size ≤ length (window limit taken left) = omega arith in
-    let room : head_size ≤ limit - taken = omega (arith, length-take (limit - taken) left) in
-    let rest : left1 ≡ drop head_size left = fills.left ∙ ap (λ n. drop n left) same in
-    let judged : window limit (taken + count) left1 ≡ drop head_size (window limit taken left) =
-    rw (rest, same) (window_behind limit taken head_size left room) in
     record {
       all = same;
       had = had;
-      judged = judged;
-      size = ap length judged ∙ length-drop head_size (window limit taken left);
+      rest = behind_took limit taken (taken + count) head_size left left1 had (omega arith) (fills.left ∙ ap (λ n. drop n left) same);
     }
 
 -- the payload was filled only in part
@@ -162,12 +111,14 @@ pub cut_comes : {S A B R : Type 0} (format : Format S A B R) (limit taken : ℕ)
     → Fills (window limit (taken + count) left1) left1 left2 payload got → length payload ≡ size → got < size
     → records_to_come format limit taken state left ≡ ([], ends_short format.cut (taken + (count + got) == limit) taken (count + got))
 cut_comes format limit taken state left left1 left2 head payload count said size got fills len h all within more room short =
-    let behind : IsBehind (format.head_size state) limit taken left left1 count =
-    behind_head (format.head_size state) limit taken left left1 head count fills len all in
+    let n = format.head_size state in
+    let behind = behind_head n limit taken left left1 head count fills len all in
     let e : got ≡ min (length payload) (length (window limit (taken + count) left1)) = more.count_is in
-    comes_cut format limit taken state left said size (count + got) within
-    (omega (arith, behind.all, behind.had, behind.size)) (omega (arith, behind.all))
-    (head_tells format state (window limit taken left) left left1 head count (Whole said size) fills len h)
+    let whole : count + got ≡ length (window limit taken left) = omega (arith, behind.all, behind.had, behind.rest.size) in
+    let test : nat_le (n + size) (length (window limit taken left)) ≡ false = grind (arith, nat_tests, behind.all) in
+    let said = head_tells format state (window limit taken left) left left1 head count (Whole said size) fills len h in
+    to_come_end (first_record format) (stop format) limit taken (at state left) (rw (said, test) refl)
+    ∙ rw (said, limit_is limit taken (taken + (count + got)) (count + got) left within whole refl, ← whole) refl
 
 -- the payload was filled
 pub record_comes : {S A B R : Type 0} (format : Format S A B R) → HasHead format
@@ -180,19 +131,22 @@ pub record_comes : {S A B R : Type 0} (format : Format S A B R) → HasHead form
     (records_to_come format limit (taken + count + got) (format.behind state said) left2)
 record_comes format some limit taken state left left1 left2 head payload count said size got fills len h all more room enough =
     let n = format.head_size state in
-    let behind : IsBehind n limit taken left left1 count = behind_head n limit taken left left1 head count fills len all in
+    let behind = behind_head n limit taken left left1 head count fills len all in
     let e : got ≡ min (length payload) (length (window limit (taken + count) left1)) = more.count_is in
     let same : got ≡ size = omega arith in
-    let within : n + size ≤ length (window limit taken left) = omega (arith, behind.had, behind.size) in
+    let within : n + size ≤ length (window limit taken left) = omega (arith, behind.had, behind.rest.size) in
+    let test : nat_le (n + size) (length (window limit taken left)) ≡ true = grind (arith, nat_tests) in
     let octets : take size payload ≡ take size (drop n (window limit taken left)) =
     ap (λ n. take n payload) (sym same) ∙ more.filled
-    ∙ ap (λ n. take n (window limit (taken + count) left1)) same ∙ ap (take size) behind.judged in
+    ∙ ap (λ n. take n (window limit (taken + count) left1)) same ∙ ap (take size) behind.rest.judged in
     let rest : left2 ≡ drop (n + size) left =
     more.left ∙ ap (drop got) fills.left ∙ drop-drop got count left
     ∙ ap (λ m. drop m left) (let m : count + got ≡ n + size = omega (arith, behind.all) in m) in
     let place : taken + count + got ≡ taken + (n + size) = omega (arith, behind.all) in
-    comes_record format some limit taken state left said size within
-    (head_tells format state (window limit taken left) left left1 head count (Whole said size) fills len h)
+    let said_is = head_tells format state (window limit taken left) left left1 head count (Whole said size) fills len h in
+    to_come_step (first_record format) (stop format) (records_shrink format some) limit taken (at state left)
+    (format.item_of said (take size (drop n (window limit taken left)))) (format.behind state said) (n + size)
+    within (rw (said_is, test) refl)
     ∙ rw (octets, rest, place) refl
 
 -- what a record that was read says: its head, its payload behind that, and what follows

@@ -2,7 +2,7 @@
 -- value give it.
 use Rattle.std.proofs.Common.{◌≡◌, ℕ, List, [], ◌++◌, Bool, true, false, ◌≤◌, ◌+◌, ◌-◌, length, take, drop, refl, ap, sym, subst, ◌∙◌, arith, append-nil, append_assoc, length-append}
 use Rattle.std.specs.Prelude.{if◌then◌else◌, nat_le}
-use Rattle.std.proofs.lemmas.List.{drop-take, drop_at, length-drop, length-take, take-append-drop, take-take, take_at}
+use Rattle.std.proofs.lemmas.List.{drop-take, drop_at, length-drop, length-take, take-append-drop, take_at}
 use Rattle.std.proofs.lemmas.Bool.Decides.{nat_tests}
 use Rattle.fs_base.proofs.Octets.{take_longer}
 use Rattle.fs_input.specs.Reads.{whole}

@@ -1,14 +1,17 @@
--- Loops that read a chain of fields: what of the chain is still to be read, behind the fields that were.
+-- Chains of fields that are read one by one: what of a chain is still to be read, behind the fields that were.
 use Rattle.std.proofs.Common.{◌≡◌, ℕ, List, Bool, Option, Result, Ok, Err, IsTrue, ◌≤◌, ◌+◌, length, drop, refl, ap, sym, ◌∙◌, subst, arith}
 use Rattle.std.proofs.lemmas.List.{drop-drop}
 use Rattle.fs_base.specs.Parts.{at_limit, window}
 use Rattle.fs_base.specs.declared.counted.Counted.{Counted}
+use Rattle.std.specs.Prelude.{IfErr}
+use Rattle.fs_base.specs.Outside.{Rose}
 use Rattle.fs_input.specs.declared.fault.Fault.{Fault}
+use Rattle.fs_input.specs.declared.fault.Fault.TheVariants.{Read}
 use Rattle.fs_input.specs.Scan.{Scan, Scanner, and, behind, got, partial, wrong}
-use Rattle.fs_input.specs.Records.{End}
 use Rattle.fs_input.specs.Reads.{Calls, Fails, PassesOn, Reads, Scanned, Took, end_of, ends_by}
 use Rattle.fs_input.proofs.Joining.{behind_took, chain_is, end_behind}
-use Rattle.fs_input.proofs.Lifting.{failed_later, passes_none, passes_then}
+use Rattle.fs_base.proofs.Drawing.{rose_earlier}
+use Rattle.fs_base.proofs.Passing.{passes_none, passes_then}
 
 -- so many octets of the chain were taken, and this rest of it is to be read
 pub record Stage {A R : Type 0} (chain rest : Scanner A R) (limit taken taken' : ℕ) (left left' : List ℕ) : Type 0 where
@@ -71,12 +74,9 @@ module _ {A R : Type 0} (chain rest : Scanner A R) (limit taken taken' taken'' :
   stage_ends cut one =
       let behind_one = behind_took limit taken taken' one.count left left' one.within one.place one.rest_is in
       let scan = rest taken' (window limit taken' left') in
-      ap (ends_of (at_limit limit taken left) taken (length (window limit taken left))) one.is
+      ap (end_of cut (at_limit limit taken left) taken (length (window limit taken left))) one.is
       ∙ end_behind cut (at_limit limit taken left) taken (length (window limit taken left)) one.count scan one.within
-      ∙ (λ i. ends_of ((sym behind_one.limited) i) ((sym one.place) i) ((sym behind_one.size) i) scan)
-    where
-      ends_of : Bool → (taken size : ℕ) → Scan A R → Option (End R)
-      ends_of limit taken size scan = end_of cut limit taken size scan
+      ∙ (λ i. end_of cut ((sym behind_one.limited) i) ((sym one.place) i) ((sym behind_one.size) i) scan)
 
 -- a field of the rest was taken
 stage_field : {A B R : Type 0} (first : Scanner B R) (next : B → Scanner A R) (limit taken taken' : ℕ) (left left' : List ℕ) (value : B)
@@ -90,7 +90,7 @@ stage_field first next limit taken taken' left left' value took = record {
   is = chain_is first next limit taken taken' left left' value took;
 }
 
--- What a loop did to the files that has read a chain up to this rest of it.
+-- What reading a chain up to this rest of it did to the files.
 module _ {A R : Type 0} (told : Bool) (calls calls' : Calls) (left left' : ℕ → List ℕ) (holds holds' : List ℕ → Option (List ℕ)) where
   pub record Going (chain rest : Scanner A R) (old now : Counted) : Type 0 where
     pub passes : PassesOn told calls calls' left left' holds holds' old now
@@ -121,6 +121,12 @@ going_more {chain = chain} {first = first} {cut = cut} {tells = tells} {left = l
           (subst (λ limit. Scanned first cut limit now.taken new.taken (left' now.slot) (left'' now.slot) tells (Ok answer)) one.passes.limit
           (more.scanned tells_so))));
     }
+
+-- faults that rose in the later of two calls rose in both
+failed_later : {T R : Type 0} (result : Result T (Fault R)) (early mid late : ℕ) → early ≤ mid
+    → IfErr result (λ fault. fault ≡ Read → Rose mid late) → IfErr result (λ fault. fault ≡ Read → Rose early late)
+failed_later (Ok answer) early mid late l h = h
+failed_later (Err fault) early mid late l h = λ read. rose_earlier early mid late l (h read)
 
 staged_reads : {T A R : Type 0} (chain rest : Scanner A R) (cut : R) (tells : T → A) (limit taken taken' taken'' : ℕ) (left left' left'' : List ℕ)
     (result : Result T (Fault R))

@@ -50,8 +50,8 @@ Grows Holds old new limit (Ok (Some found)) = (old < new) × (new ≤ limit) × 
 Grows Holds old new limit _ = ⊤
 
 -- a record's payload has no more than `most` octets, and what its head says is known
-abbrev pub IsHeld : {A : Type 0} → (A → Type 0) → (most : ℕ) → Found A → Type 0
-IsHeld Known most found = (found.size ≤ most) × Known found.said
+abbrev pub IsFoundWithin : {A : Type 0} → (A → Type 0) → (most : ℕ) → Found A → Type 0
+IsFoundWithin Known most found = (found.size ≤ most) × Known found.said
 
 -- What a call does that reads the next part of an input in a slot. `before` is what was to come, and `behind` tells what
 -- is to come behind a part.

@@ -1,7 +1,7 @@
 -- The parts of an input, read one by one, where what a part says depends on those before it: the reader has a state.
-use Rattle.std.specs.Prelude.{ℕ, suc, zero, Bool, List, [], ◌∷◌, ◌++◌, Option, Some, None, ◌≡◌, ◌<◌, ◌+◌, ◌-◌, length, ⊤}
+use Rattle.std.specs.Prelude.{ℕ, Bool, List, [], ◌∷◌, ◌++◌, Option, Some, ◌≡◌, ◌+◌, ◌-◌, length, ⊤}
 use Rattle.fs_base.specs.Language.{IsOctets}
-use Rattle.fs_base.specs.Parts.{at_limit, window, with_part}
+use Rattle.fs_base.specs.Parts.{ShrinksBy, at_limit, parts_within, window}
 
 -- where a reader stands: its state, and the octets that it has before it
 pub record At (S : Type 0) : Type 0 where
@@ -15,19 +15,16 @@ at state octets = record { state = state; octets = octets }
 abbrev pub Reader : Type 0 → Type 0 → Type 0
 Reader S A = At S → Option (A × At S)
 
--- at most so many parts, and where the reader stands behind them
-unfoldable pub parts_within : {S A : Type 0} → Reader S A → ℕ → At S → List A × At S
-parts_within next zero now = ([], now)
-parts_within next (suc n) now =
-    elim (next now) [ None ↦ ([], now) | Some found ↦ with_part found.0 (parts_within next n found.1) ]
-
 -- all parts from here on, and where the reader stands behind the last whole one
 unfoldable pub parts_from : {S A : Type 0} → Reader S A → At S → List A × At S
 parts_from next now = parts_within next (length now.octets) now
 
+abbrev pub octets_before : {S : Type 0} → At S → ℕ
+octets_before now = length now.octets
+
 -- a part has at least one octet
 abbrev pub Shrinks : {S A : Type 0} → Reader S A → Type 0
-Shrinks {S} {A} next = (now : At S) (found : A × At S) → next now ≡ Some found → length found.1.octets < length now.octets
+Shrinks next = ShrinksBy octets_before next
 
 -- The text of these parts, where `after` tells the state behind a part.
 abbrev pub text_from : {S A : Type 0} → (S → A → List ℕ) → (S → A → S) → S → List A → List ℕ

@@ -1,7 +1,6 @@
 -- What a call that reads a chain of fields does to the files and to the slot that it reads.
 use Rattle.std.specs.Prelude.{ℕ, List, ◌++◌, Option, Some, None, Result, Ok, Err, Bool, true, false, IsTrue, IfErr, ◌≡◌, ◌≢◌, ◌≤◌, ◌<◌, ◌+◌, ◌==◌, ◌⊎◌, length, drop, if◌then◌else◌, ⊤}
-use Rattle.fs_base.specs.Draws.{Draws, Passed}
-use Rattle.fs_base.specs.Files.{LeavesOthers, Opened}
+pub use Rattle.fs_base.specs.Draws.{Calls, Passes, PassesIn, PassesOn, calls_of}
 use Rattle.fs_base.specs.Outside.{Rose}
 use Rattle.fs_base.specs.Parts.{at_limit, window}
 use Rattle.fs_base.specs.declared.counted.Counted.{Counted}
@@ -43,44 +42,16 @@ Scanned scanner cut limit taken taken' left left' tells (Ok answer) =
     Took (scanner taken (window limit taken left)) (length (window limit taken left)) taken taken' left left' (tells answer)
 Scanned scanner cut limit taken taken' left left' tells (Err fault) = Fails (ends_by scanner cut limit taken left) fault
 
--- what files show of the calls so far: their faults, and their openings
-pub record Calls : Type 0 where
-  pub faults : ℕ
-  pub opened : Option (List Opened)
-
-abbrev pub calls_of : {F : Type 0} → files.Ghosts F → F → Calls
-calls_of of_files now = record { faults = of_files.faults now; opened = of_files.opened now }
-
--- What a call that reads an input does to the files, and to what counts its octets: their faults never fall, no file is
--- opened, and of files that tell their octets nothing changes but the slot. `Took` says what the slot gave.
+-- What a call that reads an input does to the files, and what it says.
 module _ (told : Bool) (calls calls' : Calls) (left left' : ℕ → List ℕ) (holds holds' : List ℕ → Option (List ℕ)) where
-  pub record Passes (Took : Type 0) (old new : Counted) : Type 0 where
-    pub later : calls.faults ≤ calls'.faults
-    pub slot : new.slot ≡ old.slot
-    pub limit : new.limit ≡ old.limit
-    pub others : IsTrue told → LeavesOthers old.slot left left' holds holds'
-    pub took : IsTrue told → Took
-    pub opened : calls'.opened ≡ calls.opened
-
-  -- none past the limit, whatever is answered
-  abbrev pub PassesOn : (old new : Counted) → Type 0
-  PassesOn old new = Passes (Passed old.limit old.taken new.taken (left old.slot) (left' old.slot)) old new
-
   -- The octets are those of the chain. The faults rose where `Read` is answered.
   pub record Reads {T A R : Type 0} (scanner : Scanner A R) (cut : R) (old new : Counted) (tells : T → A)
       (result : Result T (Fault R)) : Type 0 where
-    pub passes : PassesOn old new
+    pub passes : PassesOn told calls calls' left left' holds holds' old new
     pub failed : IfErr result (λ fault. fault ≡ Read → Rose calls.faults calls'.faults)
     pub scanned :
         IsTrue told
         → Scanned scanner cut old.limit old.taken new.taken (left old.slot) (left' old.slot) tells result
-
--- so of files before and behind a call, where octets may have been put back
-abbrev pub PassesIn : {F : Type 0} → files.Ghosts F → (old new : F) → (before now : Counted) → Type 0
-PassesIn of_files old new before now =
-    Passes of_files.tells (calls_of of_files old) (calls_of of_files new) (of_files.left old) (of_files.left new)
-    (of_files.holds old) (of_files.holds new)
-    (Draws before now (of_files.left old before.slot) (of_files.left new before.slot)) before now
 
 -- what is left of an input, where octets of it were put back
 abbrev pub ahead : Counted → (ℕ → List ℕ) → ℕ → List ℕ

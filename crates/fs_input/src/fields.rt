@@ -68,7 +68,7 @@ fn is_over(counted: &Counted, count: usize) -> bool
     count == 0 && counted.taken != counted.limit
 }
 
-/// Takes the first octets of an input, those that were put back first.
+/// Takes as many octets as `into` has room for, those that were put back first.
 ///
 /// # Errors
 ///

@@ -4,7 +4,7 @@ ghost use Rattle.std.specs.Result.{IsErrOf};
 ghost use Rattle.fs_base.specs.Draws.{Draws};
 ghost use Rattle.fs_base.specs.Outside.{Rose};
 ghost use Rattle.fs_base.specs.Parts.{with_part};
-ghost use Rattle.fs_input.specs.NextRecord.{Advances, GivesNext, Grows, IsHeld, answer_of, ended_after, short_answer, short_fault};
+ghost use Rattle.fs_input.specs.NextRecord.{Advances, GivesNext, Grows, IsFoundWithin, answer_of, ended_after, short_answer, short_fault};
 ghost use Rattle.fs_input.specs.Reads.{PassesIn};
 ghost use Rattle.fs_input.specs.Records.{records_to_come};
 
@@ -44,7 +44,7 @@ pub fn next_record<F: Files, H: Heads>(
         (F.left files.new counted.old.slot)))
         result }
     ensures grows { end.old ≡ None
-        → Grows (IsHeld (H.Known heads.now) H.most) counted.old.taken counted.new.taken counted.new.limit result }
+        → Grows (IsFoundWithin (H.Known heads.now) H.most) counted.old.taken counted.new.taken counted.new.limit result }
     ensures took { IsTrue F.tells
         → Draws counted.old counted.new (F.left files.old counted.old.slot) (F.left files.new counted.old.slot) }
 {
@@ -121,7 +121,7 @@ fn advance<F: Files, H: Heads>(
     ensures none { counted.new.back ≡ [] }
     ensures read { IsErrOf result Fault.Read → Rose (F.faults files.old) (F.faults files.new) }
     ensures passes { PassesIn F.Files files.old files.new counted.old counted.new }
-    ensures grows { Grows (IsHeld (H.Known heads.now) H.most) counted.old.taken counted.new.taken counted.new.limit
+    ensures grows { Grows (IsFoundWithin (H.Known heads.now) H.most) counted.old.taken counted.new.taken counted.new.limit
         result }
 
     ensures advances { IsTrue F.tells

@@ -17,7 +17,7 @@ use Rattle.fs_mrt.specs.declared.fault.DumpReason.{DumpReason}
 use Rattle.fs_mrt.specs.declared.fault.DumpReason.TheVariants.{Cut}
 use Rattle.fs_mrt.specs.declared.record.Front.{Front}
 use Rattle.fs_mrt.specs.declared.record.Head.{Head}
-use Rattle.fs_mrt.specs.declared.shape.Family.{Family}
+use Rattle.fs_base.specs.declared.prefix.Family.{Family}
 use Rattle.fs_mrt.specs.declared.shape.Shape.{Shape as RecordShape}
 
 time_same : (timed : Bool) (seconds n : ℕ) (octets : List ℕ) → 4 ≤ n

@@ -2,9 +2,9 @@
 use Rattle.std.specs.Prelude.{ℕ, List, Option, Some, None, Bool, true, false, ◌+◌, ◌==◌, if◌then◌else◌}
 use Rattle.byteorder.specs.Endian.{big_number}
 use Rattle.fs_base.specs.declared.config.Address.{Address}
-use Rattle.fs_base.specs.declared.config.Address.TheVariants.{V4, V6}
-use Rattle.fs_mrt.specs.declared.shape.Family.{Family}
-use Rattle.fs_mrt.specs.declared.shape.Family.TheVariants.{Four, Six}
+use Rattle.fs_base.specs.declared.config.Address.TheVariants.{V4 as V4Address, V6 as V6Address}
+use Rattle.fs_base.specs.declared.prefix.Family.{Family}
+use Rattle.fs_base.specs.declared.prefix.Family.TheVariants.{V4, V6}
 use Rattle.fs_mrt.specs.declared.shape.Shape.{Shape as RecordShape}
 
 -- subtypes: a change of state or a message, with AS numbers of two octets (0, 1) or of four (5, 4)
@@ -30,12 +30,13 @@ abbrev pub states_size : RecordShape → ℕ
 states_size shape = if shape.change then 4 else 0
 
 abbrev pub family_of : ℕ → Option Family
-family_of number = if number == 1 then Some Four else if number == 2 then Some Six else None
+family_of number = if number == 1 then Some V4 else if number == 2 then Some V6 else None
 
+-- the octets of an address
 abbrev pub address_size : Family → ℕ
-address_size Four = 4
-address_size Six = 16
+address_size V4 = 4
+address_size V6 = 16
 
 abbrev pub address_of : Family → List ℕ → Address
-address_of Four octets = V4 (big_number 4 octets)
-address_of Six octets = V6 (big_number 16 octets)
+address_of V4 octets = V4Address (big_number 4 octets)
+address_of V6 octets = V6Address (big_number 16 octets)

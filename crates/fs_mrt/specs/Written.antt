@@ -5,7 +5,7 @@ use Rattle.fs_base.specs.declared.config.Peer.{Peer}
 use Rattle.fs_mrt.specs.Peers.{number_at}
 use Rattle.fs_mrt.specs.Record.{Said, Spoken, change, message, moment_behind, spoken, time_of}
 use Rattle.fs_mrt.specs.Shape.{address_of, address_size, family_of, shape_of, states_size}
-use Rattle.fs_mrt.specs.declared.shape.Family.{Family}
+use Rattle.fs_base.specs.declared.prefix.Family.{Family}
 use Rattle.fs_mrt.specs.declared.shape.Shape.{Shape as RecordShape}
 
 -- seconds, type, subtype, and the length of the body

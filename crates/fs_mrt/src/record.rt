@@ -13,9 +13,9 @@ use crate::fault::{DumpFault, DumpReason};
 use crate::fields::{take_part, take_said};
 use crate::heard::Heard;
 use crate::peers::number_at;
-use crate::shape::{Family, Shape, family_of};
+use crate::shape::{Shape, address_of, address_size, family_of};
 use byteorder::{BigEndian, ByteOrder};
-use fs_base::{Address, Counted, Files, Peer};
+use fs_base::{Address, Counted, Family, Files, Peer};
 use fs_input::skip_octets;
 
 /// What the fields before a record's addresses tell: its time, in nanoseconds since the start of 1970, and the family
@@ -48,7 +48,7 @@ fn ends_size(shape: Shape, family: Family) -> usize
     ensures exact { result ≡ ends_size shape family }
     ensures few { result ≤ 48 }
 {
-    shape.front_size() + 2 + 2 * family.size()
+    shape.front_size() + 2 + 2 * address_size(family)
 }
 
 /// The time of a record.
@@ -122,10 +122,10 @@ fn take_address<F: Files>(
         counted.old counted.new (λ address. address) result }
 {
     let mut octets = [0u8; 32];
-    if let Err(fault) = take_part(0, 2 * family.size(), counted, files, &mut octets) {
+    if let Err(fault) = take_part(0, 2 * address_size(family), counted, files, &mut octets) {
         return Err(fault);
     }
-    Ok(family.address(&octets))
+    Ok(address_of(family, &octets))
 }
 
 /// Reads what stands behind the addresses; skips it where the peer isn't configured.

@@ -1,9 +1,9 @@
 //! Which records are read, and how they are laid out.
-ghost use Rattle.std.specs.Prelude.{◌≡◌};
+ghost use Rattle.std.specs.Prelude.{◌≡◌, ◌≤◌, length};
 ghost use Rattle.fs_mrt.specs.Shape.{address_of, address_size, family_of, front_size, shape_of, states_size, subtype_of};
 
 use byteorder::{BigEndian, ByteOrder};
-use fs_base::Address;
+use fs_base::{Address, Family};
 
 /// How a record that is read is laid out: whether microseconds stand first, whether AS numbers have four octets, and
 /// whether it tells a change of state or has a message.
@@ -12,13 +12,6 @@ pub(crate) struct Shape {
     pub(crate) timed: bool,
     pub(crate) wide: bool,
     pub(crate) change: bool,
-}
-
-/// The family of a record's two addresses.
-#[derive(Clone, Copy, Debug, PartialEq, Eq, Drop)]
-pub(crate) enum Family {
-    Four,
-    Six,
 }
 
 /// The shape of the records of this type and subtype, or None where they aren't read.
@@ -61,8 +54,6 @@ fn subtype_of(timed: bool, subtype: u16) -> Option<Shape>
 }
 
 impl Shape {
-    ghost use Rattle.std.specs.Prelude.{◌≤◌};
-
     /// How many octets stand before the address family.
     pub(crate) fn front_size(self) -> usize
         ensures exact { result ≡ front_size self }
@@ -82,39 +73,35 @@ impl Shape {
     }
 }
 
-/// The family of this number.
+/// The family of a record's two addresses, by its number.
 pub(crate) fn family_of(number: u16) -> Option<Family>
     ensures { result ≡ family_of number }
 {
     match number {
-        1 => Some(Family::Four),
-        2 => Some(Family::Six),
+        1 => Some(Family::V4),
+        2 => Some(Family::V6),
         _ => None,
     }
 }
 
-impl Family {
-    ghost use Rattle.std.specs.Prelude.{◌≤◌, length};
-
-    /// The octets of an address.
-    pub(crate) fn size(self) -> usize
-        ensures exact { result ≡ address_size self }
-        ensures few { result ≤ 16 }
-    {
-        match self {
-            Family::Four => 4,
-            Family::Six => 16,
-        }
+/// The octets of an address.
+pub(crate) fn address_size(family: Family) -> usize
+    ensures exact { result ≡ address_size family }
+    ensures few { result ≤ 16 }
+{
+    match family {
+        Family::V4 => 4,
+        Family::V6 => 16,
     }
+}
 
-    /// The address in the first octets.
-    pub(crate) fn address(self, octets: &[u8]) -> Address
-        requires { address_size self ≤ length octets.now }
-        ensures { result ≡ address_of self octets.now }
-    {
-        match self {
-            Family::Four => Address::V4(BigEndian::read_u32(octets)),
-            Family::Six => Address::V6(BigEndian::read_u128(octets)),
-        }
+/// The address in the first octets.
+pub(crate) fn address_of(family: Family, octets: &[u8]) -> Address
+    requires { address_size family ≤ length octets.now }
+    ensures { result ≡ address_of family octets.now }
+{
+    match family {
+        Family::V4 => Address::V4(BigEndian::read_u32(octets)),
+        Family::V6 => Address::V6(BigEndian::read_u128(octets)),
     }
 }

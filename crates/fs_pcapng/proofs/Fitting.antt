@@ -1,7 +1,7 @@
 -- What a packet's block tells, passed field by field.
 use Rattle.std.proofs.Common.{◌≡◌, ℕ, List, ◌≤◌, ◌<◌, ◌+◌, take, drop, length, refl, subst, arith}
 use Rattle.std.proofs.lemmas.List.{length-drop, take_all}
-use Rattle.fs_base.proofs.NumberTests.{le_false, le_true}
+use Rattle.fs_base.proofs.NumberTests.{le_true}
 use Rattle.fs_pcap.specs.Order.{number}
 use Rattle.fs_pcap.specs.declared.order.Endian.{Endian}
 use Rattle.fs_input.specs.Scan.{Scanner, fails}
@@ -16,16 +16,11 @@ use Rattle.fs_pcapng.specs.declared.options.Cursor.{Cursor}
 pub behind_all : (n m : ℕ) (octets : List ℕ) → length octets ≤ n + m → take m (drop n octets) ≡ drop n octets
 behind_all n m octets most = take_all m (drop n octets) (let l = length-drop n octets in omega (arith, l, most))
 
-module _ {A : Type 0} (frame : Frame) (fixed captured place : ℕ) (next : Scanner A NgReason) where
-  -- a captured length that fits
-  pub fits : captured ≤ 262144 → fixed + padded captured ≤ frame.total → (at : ℕ) (octets : List ℕ)
-      → next at octets ≡ fitting frame fixed captured place next at octets
-  fits few room at octets = rw (le_true captured 262144 few, le_true (fixed + padded captured) frame.total room) refl
-
-  -- one that the block has no room for
-  pub no_room : captured ≤ 262144 → frame.total < fixed + padded captured → (spot : ℕ) → spot ≡ frame.start + 4 → (at : ℕ) (octets : List ℕ)
-      → fails {A = A} Length spot at octets ≡ fitting frame fixed captured place next at octets
-  no_room few none spot is at octets = rw (is, le_true captured 262144 few, le_false (fixed + padded captured) frame.total none) refl
+-- a captured length that fits
+pub fits : {A : Type 0} (frame : Frame) (fixed captured place : ℕ) (next : Scanner A NgReason)
+    → captured ≤ 262144 → fixed + padded captured ≤ frame.total → (at : ℕ) (octets : List ℕ)
+    → next at octets ≡ fitting frame fixed captured place next at octets
+fits frame fixed captured place next few room at octets = rw (le_true captured 262144 few, le_true (fixed + padded captured) frame.total room) refl
 
 module _ (order : Endian) (now : Cursor) (place code size : ℕ) (head : List ℕ) (code_is : code ≡ number order 2 head)
     (size_is : size ≡ number order 2 (drop 2 head)) where

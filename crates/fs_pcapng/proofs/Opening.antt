@@ -2,6 +2,7 @@
 use Rattle.std.proofs.Common.{◌≡◌, ◌≢◌, inl, inr, ℕ, List, [], ◌++◌, Bool, true, false, Option, Some, None, Result, Ok, Err, IsTrue, ◌<◌, ◌≤◌, ◌==◌, ◌&&◌, not, length, take, refl, ap, sym, ◌∙◌, subst, arith}
 use Rattle.std.specs.Prelude.{if◌then◌else◌, nat_le, unwrap_or}
 use Rattle.std.proofs.lemmas.Bool.Decides.{nat_tests}
+use Rattle.fs_base.specs.Files.{LeavesOthers}
 use Rattle.fs_base.specs.Parts.{at_limit, window}
 use Rattle.fs_base.specs.declared.counted.Counted.{Counted}
 use Rattle.fs_input.specs.Records.{End, bad, done, limited}
@@ -93,9 +94,13 @@ module _ {told : Bool} {calls calls' : Calls} (left left' : ℕ → List ℕ) {h
 
   pub opens_others : {result : Result T (Fault NgReason)} → IsTrue told
       → Reads told calls calls' (ahead old left) (ahead new left') holds holds' (block_in nothing) Cut old new (λ (_ : T). (None, now)) result
-      → (other : ℕ) → other ≢ old.slot → left' other ≡ left other
-  opens_others tells_so h other apart =
-      sym (ahead_other new left' other (λ e. apart (e ∙ h.passes.slot))) ∙ (h.passes.others tells_so).others other apart ∙ ahead_other old left other apart
+      → LeavesOthers old.slot left left' holds holds'
+  opens_others tells_so h = record {
+    others = λ other apart.
+        sym (ahead_other new left' other (λ e. apart (e ∙ h.passes.slot))) ∙ (h.passes.others tells_so).others other apart
+        ∙ ahead_other old left other apart;
+    names = (h.passes.others tells_so).names;
+  }
 
 module _ {T U : Type 0} {told : Bool} {calls mid late : Calls} (left : ℕ → List ℕ) {left' left'' : ℕ → List ℕ} {holds holds' holds'' : List ℕ → Option (List ℕ)}
     {old now new : Counted} {answer : T} (later : Stands) (kind : List ℕ) (start : old.taken ≡ 0) (is : big_number 4 kind ≡ 0x0a0d0d0a) where

@@ -283,12 +283,15 @@ ordered_spells start total magic (Some order) m told_so =
     let second = both.1 in
     version_spells start order total magic m told_so (grind (arith, nat_tests, first)) (grind (arith, nat_tests, second)))
 
-section_spells : (start : ℕ) → Spells (λ order octets. (total : List ℕ) × (more : List ℕ) × (octets ≡ total ++ more) × (length total ≡ 4) × SectionRead total order more) (section_in start)
+-- a total length, and the section behind it
+abbrev SectionAt : Endian → List ℕ → Type 0
+SectionAt order octets = (total : List ℕ) × (more : List ℕ) × (octets ≡ total ++ more) × (length total ≡ 4) × SectionRead total order more
+
+section_spells : (start : ℕ) → Spells SectionAt (section_in start)
 section_spells start =
-    let P : Endian → List ℕ → Type 0 = λ order octets. (total : List ℕ) × (more : List ℕ) × (octets ≡ total ++ more) × (length total ≡ 4) × SectionRead total order more in
-    and_spells (Part 4) P (field 4 whole) (magic_behind start) (part_spells 4)
+    and_spells (Part 4) SectionAt (field 4 whole) (magic_behind start) (part_spells 4)
     (λ total part p.
-    weaker_spells (λ order more. SectionRead part order more) (λ order more. P order (part ++ more)) (magic_behind start total)
+    weaker_spells (λ order more. SectionRead part order more) (λ order more. SectionAt order (part ++ more)) (magic_behind start total)
     (λ order more r. (part, more, refl, p.long, r))
     (subst (λ (l : List ℕ). Spells (λ order more. SectionRead part order more) (magic_behind start l)) (sym p.is)
     (and_spells (λ n magic. (n ≡ big_number 4 magic) × (length magic ≡ 4)) (λ order more. SectionRead part order more) (field 4 (big_number 4))
@@ -670,8 +673,7 @@ kind_spells now start kind long = by (big_number 4 kind == section_header) refl
         → Spells (λ value more. Given now value (kind ++ more)) (if test then and (section_in start) (λ order. gives (None, opened order now.moment)) else plain_in start now now.order kind)
     by true t =
         let is : big_number 4 kind ≡ section_header = grind (arith, nat_tests, t) in
-        map_spells (λ order octets. (total : List ℕ) × (more : List ℕ) × (octets ≡ total ++ more) × (length total ≡ 4) × SectionRead total order more)
-        (λ value more. Given now value (kind ++ more)) (section_in start) (λ order. (None, opened order now.moment)) (section_spells start)
+        map_spells SectionAt (λ value more. Given now value (kind ++ more)) (section_in start) (λ order. (None, opened order now.moment)) (section_spells start)
         (λ order octets s. subst (λ l. Given now (None, opened order now.moment) (kind ++ l)) (sym s.2) (section_given now kind s.0 s.1 order long is s.3 s.4))
     by false t = plain_spells start now now.order kind refl long t
 

@@ -251,8 +251,10 @@ behind_read order now start outer (section s) f is =
     let is_kind = is.kind_is in
     let header : (big_number 4 outer.kind == section_header) ≡ true = grind (arith, nat_tests, is_kind) in
     let octets = body_text (section s) ++ outer.again in
-    subst (λ (b : Bool). Reads (if b then and (section_in start) (λ order. gives (None, opened order now.moment)) else plain_in start now now.order outer.kind) (outer.total ++ octets) (None, opened order now.moment))
-    (sym header)
+    let by_kind : Bool → Type 0 = λ b.
+    Reads (if b then and (section_in start) (λ order. gives (None, opened order now.moment)) else plain_in start now now.order outer.kind)
+    (outer.total ++ octets) (None, opened order now.moment) in
+    subst by_kind (sym header)
     (map_reads (section_in start) (λ order. (None, opened order now.moment)) (outer.total ++ octets) order
     (and_reads (field 4 whole) (magic_behind start) outer.total octets outer.total order (field_reads 4 whole outer.total f.total)
     (section_read order now start total outer.again c outer s is refl f.groups outer.total f.total_is)))
@@ -261,7 +263,15 @@ behind_read order now start outer (described d) f is =
     let c : Closing order (12 + length body) outer.again = record { long = f.again; is = f.again_is } in
     let h = is.1 in
     plain_read order now start outer Described body (gives_by order now (described d)) f is.0
-    (omega (arith, length-append (d.link ++ (d.reserved ++ d.snap)) (flat_map choice_text d.choices), length-append d.link (d.reserved ++ d.snap), length-append d.reserved d.snap, h.link, h.reserved, h.snap))
+    (omega (
+      arith,
+      length-append (d.link ++ (d.reserved ++ d.snap)) (flat_map choice_text d.choices),
+      length-append d.link (d.reserved ++ d.snap),
+      length-append d.reserved d.snap,
+      h.link,
+      h.reserved,
+      h.snap,
+    ))
     (described_read order now start (12 + length body) outer.again c d h refl)
 behind_read order now start outer (enhanced interface r) f is =
     let body = body_text (enhanced interface r) in

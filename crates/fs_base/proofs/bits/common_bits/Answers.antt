@@ -8,4 +8,7 @@ pub overflow_sub-result-2 : goal.overflow_sub-result-2
 overflow_sub-result-2 c = rw c.width.ensures (zeros_enough (width_of c.args.family) _ (width_least c.args.family) (xor_lt (width_of c.args.family) c.args.a c.args.b c.requires.a c.requires.b))
 
 pub returns-clause-same : goal.returns-clause-same
-returns-clause-same c = rw c.width.ensures (λ n h. (common_there (width_of c.args.family) n c.args.a c.args.b (width_least c.args.family) c.requires.a c.requires.b h, common_back (width_of c.args.family) n c.args.a c.args.b (width_least c.args.family) c.requires.a c.requires.b h))
+returns-clause-same c = rw c.width.ensures (λ n h. (
+  common_there (width_of c.args.family) n c.args.a c.args.b (width_least c.args.family) c.requires.a c.requires.b h,
+  common_back (width_of c.args.family) n c.args.a c.args.b (width_least c.args.family) c.requires.a c.requires.b h,
+))

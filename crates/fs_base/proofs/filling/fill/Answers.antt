@@ -1,6 +1,7 @@
 use Rattle.std.proofs.Common.{rules, arith}
-use Rattle.fs_base.proofs.Drawing.{draws_more}
+use Rattle.fs_base.specs.Draws.{PassesIn}
 use Rattle.fs_base.proofs.Filled.{fills_more}
+use Rattle.fs_base.proofs.Passing.{passes_in}
 use Rattle.fs_base.proofs.filling.fill.Goals as goal
 
 pub returns-in-Ok-fill_rest-clause-filled : goal.returns-in-Ok-fill_rest-clause-filled
@@ -10,12 +11,12 @@ returns-in-Ok-fill_rest-clause-filled g c = λ told.
     fills_more _ _ _ _ _ _ _ _ _ (record { room = search rules; split = (read.left told).0 }) (search rules)
     (omega (arith, read.taken, read.kept_limit, c.read.new.self.within)) more
 
-pub returns-in-Ok-fill_rest-clause-took : goal.returns-in-Ok-fill_rest-clause-took
-returns-in-Ok-fill_rest-clause-took g c = λ told.
-    draws_more _ _ _ (g.F.Files.left c.args.files.now) (g.F.Files.left c.read.new.files) (g.F.Files.left c.fill_rest.new.files)
-    c.in-Ok.ensures.kept_slot c.in-Ok.ensures.kept_limit (c.in-Ok.ensures.took told) (c.in-Ok-fill_rest.ensures.took told)
+pub returns-in-Ok-fill_rest-clause-passes : goal.returns-in-Ok-fill_rest-clause-passes
+returns-in-Ok-fill_rest-clause-passes g c =
+    let one : PassesIn g.F.Files c.args.files.now c.read.new.files c.args.counted.now c.read.new.self = search rules in
+    passes_in one c.fill_rest.ensures.passes
 
-pub returns-in-Err-clause-took : goal.returns-in-Err-clause-took
-returns-in-Err-clause-took g c = λ told.
-    draws_more _ _ _ (g.F.Files.left c.args.files.now) (g.F.Files.left c.read.new.files) (g.F.Files.left c.fill_rest.new.files)
-    c.in-Ok.ensures.kept_slot c.in-Ok.ensures.kept_limit (c.in-Ok.ensures.took told) (c.in-Err.ensures.took told)
+pub returns-in-Err-clause-passes : goal.returns-in-Err-clause-passes
+returns-in-Err-clause-passes g c =
+    let one : PassesIn g.F.Files c.args.files.now c.read.new.files c.args.counted.now c.read.new.self = search rules in
+    passes_in one c.fill_rest.ensures.passes

@@ -1,6 +1,5 @@
 use Rattle.std.proofs.Common.{◌≡◌, ◌≤◌, ◌+◌, ◌-◌, ◌++◌, [], drop, length, IsTrue}
-use Rattle.fs_base.specs.Draws.{Draws}
-use Rattle.fs_base.specs.Files.{OnlySlot}
+use Rattle.fs_base.specs.Draws.{PassesIn}
 use Rattle.fs_base.proofs.Filled.{Filled}
 use Rattle.fs_base.proofs.filling.fill_rest.Given as goal
 
@@ -8,10 +7,7 @@ abbrev pub invariant-loop-at : goal.invariant-loop-at
 invariant-loop-at g l = record {
   within : l.at ≤ length l.into;
   size : length l.into ≡ length l.initial.into;
-  slot : l.counted.slot ≡ l.fn.counted.slot;
-  limit : l.counted.limit ≡ l.fn.counted.limit;
   taken : l.counted.taken ≡ l.fn.counted.taken + l.at;
-  later : g.F.Files.faults l.fn.files ≤ g.F.Files.faults l.files;
   filled :
       IsTrue g.F.Files.tells
       → Filled
@@ -21,11 +17,7 @@ invariant-loop-at g l = record {
       l.at;
   again : l.counted.back ≡ drop l.at l.fn.counted.back;
   none : l.fn.counted.back ≡ [] → l.counted.back ≡ [];
-  took :
-      IsTrue g.F.Files.tells
-      → Draws l.fn.counted l.counted (g.F.Files.left l.fn.files l.fn.counted.slot) (g.F.Files.left l.files l.fn.counted.slot);
-  opened : g.F.Files.opened l.files ≡ g.F.Files.opened l.fn.files;
-  others : OnlySlot g.F.Files.tells g.F.Files.left g.F.Files.holds l.fn.counted.slot l.fn.files l.files;
+  passes : PassesIn g.F.Files l.fn.files l.files l.fn.counted l.counted;
 }
 
 abbrev pub decreases-loop-at : goal.decreases-loop-at

@@ -7,7 +7,8 @@ use Rattle.fs_input.specs.Coming.{part_in, parts_to_come}
 use Rattle.fs_input.specs.Reads.{IsOver, ahead}
 use Rattle.fs_input.proofs.Advancing.{first_advances, later_advances, over_advances, part_advances, part_reads, some_taken}
 use Rattle.fs_input.proofs.Again.{ahead_here, reads_ahead}
-use Rattle.fs_input.proofs.Lifting.{passes_as, passes_in, starts_as}
+use Rattle.fs_input.proofs.Lifting.{starts_as}
+use Rattle.fs_base.proofs.Passing.{passes_as, passes_in}
 use Rattle.fs_input.proofs.reading.advance.Goals as goal
 
 pub returns-in-Ok-clause-advances : goal.returns-in-Ok-clause-advances

@@ -2,11 +2,10 @@ use Rattle.std.proofs.Common.{rules, arith, ◌≡◌, ◌∙◌, refl, ◌+◌,
 use Rattle.std.proofs.lemmas.List.{take-append-le, length-take}
 use Rattle.fs_base.specs.Parts.{with_part}
 use Rattle.fs_base.proofs.Filled.{fills_straight, none_left}
-use Rattle.fs_input.specs.Reads.{PassesIn}
 use Rattle.fs_input.specs.Records.{records_to_come}
 use Rattle.fs_input.specs.declared.head.Found.{Found}
 use Rattle.fs_input.proofs.AdvancingRecords.{short_advances, cut_advances}
-use Rattle.fs_input.proofs.Lifting.{passes_in}
+use Rattle.fs_base.proofs.Passing.{passes_in}
 use Rattle.fs_input.proofs.Records.{wrong_comes, short_comes, cut_comes, record_comes}
 use Rattle.fs_input.proofs.record.advance.Goals as goal
 
@@ -29,7 +28,7 @@ returns-in-Partial-clause-advances g c = λ told.
       c.head_size-size.ensures.exact,
       length-take c.in-Ok.count c.fill.new.into,
     ) in
-    rw (c.stopped.ensures, c.cut.ensures, c.in-Ok.ensures.kept_limit)
+    rw (c.stopped.ensures, c.cut.ensures, c.in-Ok.ensures.passes.limit)
     (short_advances g.H.Heads.format.cut _ _ c.args.counted.now.taken c.in-Ok.count c.fill.new.counted.taken c.args.counted.now.limit
     (short_comes g.H.Heads.format c.args.counted.now.limit c.args.counted.now.taken c.args.heads.now
     (g.F.Files.left c.args.files.now c.args.counted.now.slot) _ _ c.in-Ok.count
@@ -48,9 +47,9 @@ returns-then-count-size-clause-advances g c = λ told.
     ) in
     let some : 0 < format.head_size c.args.heads.now = g.met.H.Heads.some c.args.heads.now in
     let none = none_left _ _ _ c.requires.none c.in-Ok.ensures.back in
-    let more = rw (c.in-Ok.ensures.kept_limit, c.in-Ok.ensures.taken, c.in-Ok.ensures.kept_slot)
+    let more = rw (c.in-Ok.ensures.passes.limit, c.in-Ok.ensures.taken, c.in-Ok.ensures.passes.slot)
     at (fills_straight _ _ _ _ _ _ _ _ none c.in-Ok-fill.ensures.back (c.in-Ok-fill.ensures.filled told)) in
-    rw (c.short.ensures, c.cut-then-count-size.ensures, c.in-Ok-fill.ensures.kept_limit, c.in-Ok.ensures.kept_limit)
+    rw (c.short.ensures, c.cut-then-count-size.ensures, c.in-Ok-fill.ensures.passes.limit, c.in-Ok.ensures.passes.limit)
     (cut_advances format.cut _
     (λ (found : Found g.row.H-Said.Denot). with_part
     (format.item_of found.said (take found.size (c.fill-in-Whole.new.into ++ drop c.in-Whole.size c.args.into.now)))
@@ -74,7 +73,7 @@ returns-else-count-size-clause-advances g c = λ told.
       c.in-Ok.ensures.bound,
     ) in
     let none = none_left _ _ _ c.requires.none c.in-Ok.ensures.back in
-    let more = rw (c.in-Ok.ensures.kept_limit, c.in-Ok.ensures.taken, c.in-Ok.ensures.kept_slot)
+    let more = rw (c.in-Ok.ensures.passes.limit, c.in-Ok.ensures.taken, c.in-Ok.ensures.passes.slot)
     at (fills_straight _ _ _ _ _ _ _ _ none c.in-Ok-fill.ensures.back (c.in-Ok-fill.ensures.filled told)) in
     let size : length c.fill-in-Whole.new.into ≡ c.in-Whole.size = search rules in
     let octets : take c.in-Whole.size (c.fill-in-Whole.new.into ++ drop c.in-Whole.size c.args.into.now) ≡ take c.in-Whole.size c.fill-in-Whole.new.into =
@@ -84,27 +83,18 @@ returns-else-count-size-clause-advances g c = λ told.
     c.in-Whole.said c.in-Whole.size c.in-Ok-fill.count
     filled (search rules) c.in-Whole.ensures.exact all more size c.if-count-size.false
     ∙ rw (
-      c.in-Ok-fill.ensures.kept_limit,
-      c.in-Ok.ensures.kept_limit,
+      c.in-Ok-fill.ensures.passes.limit,
+      c.in-Ok.ensures.passes.limit,
       c.in-Ok-fill.ensures.taken,
       c.in-Ok.ensures.taken,
       octets,
     ) refl
 
 pub returns-then-count-size-clause-passes : goal.returns-then-count-size-clause-passes
-returns-then-count-size-clause-passes g c =
-    let one : PassesIn g.F.Files c.args.files.now c.fill.new.files c.args.counted.now c.fill.new.counted = search rules in
-    let more : PassesIn g.F.Files c.fill.new.files c.fill-in-Whole.new.files c.fill.new.counted c.fill-in-Whole.new.counted = search rules in
-    passes_in one more
+returns-then-count-size-clause-passes g c = passes_in c.fill.ensures.passes c.fill-in-Whole.ensures.passes
 
 pub returns-else-count-size-clause-passes : goal.returns-else-count-size-clause-passes
-returns-else-count-size-clause-passes g c =
-    let one : PassesIn g.F.Files c.args.files.now c.fill.new.files c.args.counted.now c.fill.new.counted = search rules in
-    let more : PassesIn g.F.Files c.fill.new.files c.fill-in-Whole.new.files c.fill.new.counted c.fill-in-Whole.new.counted = search rules in
-    passes_in one more
+returns-else-count-size-clause-passes g c = passes_in c.fill.ensures.passes c.fill-in-Whole.ensures.passes
 
 pub returns-in_default-fill-clause-passes : goal.returns-in_default-fill-clause-passes
-returns-in_default-fill-clause-passes g c =
-    let one : PassesIn g.F.Files c.args.files.now c.fill.new.files c.args.counted.now c.fill.new.counted = search rules in
-    let more : PassesIn g.F.Files c.fill.new.files c.fill-in-Whole.new.files c.fill.new.counted c.fill-in-Whole.new.counted = search rules in
-    passes_in one more
+returns-in_default-fill-clause-passes g c = passes_in c.fill.ensures.passes c.fill-in-Whole.ensures.passes

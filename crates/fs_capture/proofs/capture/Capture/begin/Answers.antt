@@ -22,5 +22,5 @@ returns-clause-begins g c = λ told.
     (g.F.Files.left c.args.files.now) (g.F.Files.left c.fill.new.files) c.args.counted.back c.fill.new.counted.back c.put_back.new.self.back
     c.fill.new.into c.in-Ok.count c.is_section.result
     (λ slot (capture : CaptureState). coming capture (g.F.Files.left c.open.new.files slot)) c.open.result
-    (c.put_back.ensures.limit ∙ c.in-Ok.ensures.kept_limit) (c.put_back.ensures.slot ∙ c.in-Ok.ensures.kept_slot) c.requires.start
+    (c.put_back.ensures.limit ∙ c.in-Ok.ensures.passes.limit) (c.put_back.ensures.slot ∙ c.in-Ok.ensures.passes.slot) c.requires.start
     (c.in-Ok.ensures.filled told) (search rules) c.put_back.ensures.back (sym c.is_section.ensures) (c.open.ensures.begins told)
