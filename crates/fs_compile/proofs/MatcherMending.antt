@@ -18,9 +18,9 @@ use Rattle.fs_order.specs.Laws.{destination_cmp, last_shown, shown_cmp}
 use Rattle.fs_rules.specs.Changes.{AdmitsElsewhere, IsOwn, is_to, touched_by}
 use Rattle.fs_rules.specs.Lent.{Listed, listed}
 use Rattle.fs_rules.specs.Table.{Held, IsAdmitted, IsRuleOf, admitted}
-use Rattle.fs_rules.specs.declared.noted.Change.{Change}
+use Rattle.fs_rules.specs.declared.Change.{Change}
 use Rattle.fs_validate.specs.declared.route.FlowRoute.{FlowRoute}
-use Rattle.fs_rules.proofs.Elsewhere.{family_of_destination}
+use Rattle.fs_rules.proofs.Noting.{family_of_destination}
 use Rattle.fs_compile.specs.declared.compiled.Compiled.{Compiled}
 use Rattle.fs_compile.specs.Index.{IsIndexOf, IsOfFamily, span_by, span_of, spans_of}
 use Rattle.fs_compile.specs.Matcher.{StandsForLists, admitted_in}

@@ -20,7 +20,7 @@ use Rattle.fs_order.proofs.First.{destinations_first}
 use Rattle.fs_rules.specs.Lent.{listed}
 use Rattle.fs_rules.specs.Table.{AreOrdered, IsRuleOf}
 use Rattle.fs_validate.specs.declared.route.FlowRoute.{FlowRoute}
-use Rattle.fs_rules.proofs.Elsewhere.{family_of_destination}
+use Rattle.fs_rules.proofs.Noting.{family_of_destination}
 use Rattle.fs_compile.specs.Index.{IsOfFamily, span_by, span_of, spans_of}
 use Rattle.fs_compile.specs.Runs.{AreNesting}
 use Rattle.fs_compile.proofs.Reaching.{HasDestination, from_span, made_destination}

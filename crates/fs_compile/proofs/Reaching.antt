@@ -19,7 +19,7 @@ use Rattle.fs_nlri.proofs.Destination.{IsMade, destination_first, made_parts}
 use Rattle.fs_order.specs.Laws.{last_shown}
 use Rattle.fs_packet.specs.Fields.{Viewed, family_of}
 use Rattle.fs_packet.specs.Matching.{is_match, is_prefix_of, body_matches, part_matches}
-use Rattle.fs_rules.proofs.Elsewhere.{family_of_destination}
+use Rattle.fs_rules.proofs.Noting.{family_of_destination}
 use Rattle.fs_compile.specs.Facts.{IsSmallAddress}
 use Rattle.fs_compile.specs.Index.{span_by, span_of}
 use Rattle.fs_compile.specs.Reach.{number_of, covers_address, reaches}

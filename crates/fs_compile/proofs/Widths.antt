@@ -7,7 +7,7 @@ use Rattle.fs_base.specs.Bits.{IsBlock, width_of, block_of}
 use Rattle.fs_nlri.proofs.Destination.{IsMade}
 use Rattle.fs_order.specs.Laws.{last_shown}
 use Rattle.fs_rules.specs.Lent.{Listed}
-use Rattle.fs_rules.proofs.Elsewhere.{family_of_destination}
+use Rattle.fs_rules.proofs.Noting.{family_of_destination}
 use Rattle.fs_compile.specs.Buckets.{IsSubnet}
 use Rattle.fs_compile.specs.Index.{IsOfFamily, span_of, spans_of}
 use Rattle.fs_compile.specs.Mending.{AreNarrow}

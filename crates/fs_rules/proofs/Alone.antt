@@ -10,11 +10,13 @@ use Rattle.fs_base.proofs.Lists.{each_of_map, each_weaker}
 use Rattle.fs_order.specs.Ranked.{rule_total}
 use Rattle.fs_unicast.specs.Preference.{preferred}
 use Rattle.fs_unicast.proofs.Best.{preference_total}
-use Rattle.fs_rules.specs.Kept.{Kept}
-use Rattle.fs_rules.specs.Table.{key_cmp, is_valid, same_rule, beats}
-use Rattle.fs_rules.specs.Group.{routes_of, AreSorted, place_in, is_apart, is_beaten, is_before_rule}
+use Rattle.fs_flows.specs.Kept.{Kept}
+use Rattle.fs_flows.specs.Table.{key_cmp, is_valid, same_rule, beats}
+use Rattle.fs_flows.specs.Group.{routes_of, AreSorted, place_in, is_beaten}
+use Rattle.fs_rules.specs.Rivals.{is_apart, is_before_rule}
 use Rattle.fs_rules.proofs.Stepping.{rest_is}
-use Rattle.fs_rules.proofs.Runs.{NotBefore, not_after_later, run_ends, beaten_from, sorted-drop, starts_at, starts_first}
+use Rattle.fs_flows.proofs.KeyPlaces.{NotBefore, not_after_later}
+use Rattle.fs_rules.proofs.Runs.{run_ends, beaten_from, sorted-drop, starts_at, starts_first}
 
 -- no route is preferred to itself
 itself : (k : Kept) (rest : Bool) → ((is_valid k.validity && beats k.route k.route) || rest) ≡ rest

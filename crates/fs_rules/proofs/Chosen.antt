@@ -1,23 +1,29 @@
 -- What the kept validities tell is what is defined over all held routes.
-use Rattle.std.proofs.Common.{ℕ, zero, suc, ◌≡◌, refl, sym, ap, ap₂, subst, ◌∙◌, Bool, true, false, not, ◌&&◌, ◌||◌, cond, List, [], ◌∷◌, length, filter, map, slice_get, option_map, Result, Ok, Err, IfOk}
-use Rattle.std.specs.List.{list_any}
+use Rattle.std.proofs.Common.{ℕ, zero, suc, ◌≡◌, refl, sym, ap, ap₂, subst, ◌∙◌, Bool, true, false, not, ◌&&◌, ◌||◌, cond, List, [], ◌∷◌, filter, map, slice_get, option_map, Option}
+use Rattle.std.specs.List.{list_any, AllByRecursion}
 use Rattle.fs_base.specs.declared.config.Config.{Config}
 use Rattle.fs_base.specs.declared.prefix.Family.{Family}
-use Rattle.fs_base.proofs.Lists.{each_weaker, filter_on}
+use Rattle.fs_base.proofs.Lists.{each_weaker, filter_on, each_mapped}
 use Rattle.fs_unicast.specs.Unicast.{Route, place_cmp}
 use Rattle.fs_validate.specs.Validity.{validity}
 use Rattle.fs_validate.specs.declared.route.FlowRoute.{FlowRoute}
-use Rattle.fs_rules.specs.Kept.{Kept}
-use Rattle.fs_rules.specs.Table.{Held, is_of_family, is_valid, beats, is_most_preferred, admitted}
+use Rattle.fs_flows.specs.Kept.{Kept}
+use Rattle.fs_flows.specs.Table.{Held, is_of_family, is_valid, beats, is_most_preferred, admitted, IsRuleOf}
 use Rattle.fs_rules.specs.Lent.{Judged, judged, listed, held_flows}
 use Rattle.fs_rules.specs.Lists.{judgement, listing}
-use Rattle.fs_rules.specs.Group.{routes_of, AreRight, Keeps, is_chosen, chosen, mended}
-use Rattle.fs_rules.proofs.Changed.{routes-filter, AgreeOff, keeps-mended, agree_insert, agree_remove}
+use Rattle.fs_flows.specs.Group.{routes_of, AreRight, Keeps, is_chosen, chosen, mended, AreSorted, of_family}
+use Rattle.fs_flows.proofs.Changed.{routes-filter, AgreeOff, keeps-mended, agree_insert, agree_remove}
 use Rattle.std.specs.BTreeMap.{insert_entry, is_at}
 use Rattle.std.specs.Map.{remove_entry}
 use Rattle.fs_base.specs.declared.prefix.Prefix.{Prefix}
 use Rattle.fs_base.specs.declared.path.Path.{Path}
 use Rattle.fs_unicast.specs.declared.unicast.Place.{Place}
+use Rattle.fs_flows.specs.Changes.{is_to}
+use Rattle.fs_flows.specs.Groups.{Entry, IsSound}
+use Rattle.fs_flows.specs.Lending.{AreLent}
+use Rattle.fs_rules.specs.Reading.{AreTold}
+use Rattle.fs_rules.proofs.Complete.{held_rising, is_admitted_list}
+use Rattle.fs_flows.proofs.Places.{stands_here}
 
 abbrev pub held_of : Config → List Route → List FlowRoute → Held
 held_of config unicast flows = record { config = config; unicast = unicast; flows = flows }
@@ -86,7 +92,24 @@ agree_put place path old new e = subst (AgreeOff place.prefix old) (sym e) (agre
 pub agree_taken : (place : Place) (old new : List Route) → new ≡ remove_entry (is_at (place_cmp place)) old → AgreeOff place.prefix old new
 agree_taken place old new e = subst (AgreeOff place.prefix old) (sym e) (agree_remove place old)
 
--- what an answer says that isn't for want of memory
-pub ok_along : {T E A : Type 0} (f : T → A) (a b : A) (r : Result T E) → a ≡ b → IfOk r (λ t. f t ≡ a) → IfOk r (λ t. f t ≡ b)
-ok_along f a b (Ok t) e h = h ∙ e
-ok_along f a b (Err x) e h = tt
+listed_to : (family : Family) (destination : Option Prefix) (config : Config) (unicast : List Route) (ks : List Kept) (now : Held) → Keeps config unicast ks → held_of config unicast (routes_of ks) ≡ now
+    → map listing (filter (stands_here family destination) (chosen family ks)) ≡ map listed (filter (λ r. is_to family destination r.rule) (admitted family now))
+listed_to family destination config unicast ks now keeps v = map-map (λ k. k.route) listed (filter (stands_here family destination) (chosen family ks))
+    ∙ ap (map listed) (routes-filter (λ r. is_to family destination r.rule) (chosen family ks) ∙ ap (filter (λ r. is_to family destination r.rule)) (admitted_is family config unicast ks now keeps v))
+
+pub told_now : (family : Family) (config : Config) (unicast : List Route) (ks : List Kept) (es : List Entry) (rest : List Kept) (now : Held) → Keeps config unicast ks → held_of config unicast (routes_of ks) ≡ now
+    → AreLent family (chosen family ks) (of_family family ks) es rest → ((f : Family) → AllByRecursion (IsSound f) (chosen f ks)) → AreTold family now es rest
+told_now family config unicast ks es rest now keeps v lent rules = record {
+  sorted = lent.sorted;
+  bare = lent.bare;
+  few = lent.few;
+  admits = ap routes_of lent.whole ∙ admitted_is family config unicast ks now keeps v;
+  lists = ap (map listing) lent.whole ∙ map-map (λ k. k.route) listed (chosen family ks) ∙ ap (map listed) (admitted_is family config unicast ks now keeps v);
+  to = λ d. ap (map listing) (lent.to d) ∙ listed_to family d config unicast ks now keeps v;
+  judges = ap (map judgement) lent.routes ∙ held_is family config unicast ks now keeps v;
+  list = λ f. is_admitted_list f now sorted;
+  rules = λ f. subst (AllByRecursion (IsRuleOf f)) (admitted_is f config unicast ks now keeps v) (each_mapped (λ k. k.route) (IsRuleOf f) (chosen f ks) (rules f));
+  rising = held_rising family now sorted;
+} where
+  sorted : AreSorted now.flows
+  sorted = subst AreSorted (ap (λ (held : Held). held.flows) v) keeps.sorted

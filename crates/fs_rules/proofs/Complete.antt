@@ -13,10 +13,10 @@ use Rattle.fs_order.specs.Comparison.{rule_cmp}
 use Rattle.fs_order.specs.Ranked.{rule_total}
 use Rattle.fs_unicast.specs.Preference.{preference_cmp, preferred}
 use Rattle.fs_validate.specs.declared.route.FlowRoute.{FlowRoute}
-use Rattle.fs_rules.specs.Table.{Held, is_of_family, stands, same_rule, beats, is_most_preferred, admitted, IsAdmitted}
-use Rattle.fs_rules.specs.Group.{AreSorted}
+use Rattle.fs_flows.specs.Table.{Held, is_of_family, stands, same_rule, beats, is_most_preferred, admitted, IsAdmitted}
+use Rattle.fs_flows.specs.Group.{AreSorted}
 use Rattle.fs_rules.specs.Lent.{judged, judged_cmp, AreRising, held_flows}
-use Rattle.fs_rules.proofs.Changed.{sorted-filter}
+use Rattle.fs_flows.proofs.Changed.{sorted-filter}
 use Rattle.fs_order.proofs.Same.{first_equal}
 use Rattle.fs_unicast.proofs.Best.{preference_total}
 use Rattle.fs_rules.proofs.Orders.{admitted_ordered}

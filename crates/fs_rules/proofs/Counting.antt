@@ -19,10 +19,10 @@ use Rattle.fs_nlri.specs.Parts.{Ruled}
 use Rattle.fs_unicast.proofs.PlaceOrder.{place_total}
 use Rattle.fs_unicast.specs.Unicast.{Route, place_cmp, put_path, take_path, has_path}
 use Rattle.fs_validate.specs.declared.route.FlowRoute.{FlowRoute}
-use Rattle.fs_rules.specs.Table.{Held, held_count, without_peer, key_cmp, is_key, put_route, without_route, has_route, without_peer_unicast, without_peer_flows, count_in}
-use Rattle.fs_rules.specs.Group.{AreSorted}
+use Rattle.fs_flows.specs.Table.{Held, held_count, without_peer, key_cmp, is_key, put_route, without_route, has_route, without_peer_unicast, without_peer_flows, count_in}
+use Rattle.fs_flows.specs.Group.{AreSorted}
 use Rattle.fs_rules.specs.Counts.{Counts, count_of}
-use Rattle.fs_rules.proofs.Changed.{flow_total}
+use Rattle.fs_flows.proofs.Changed.{flow_total}
 use Rattle.fs_rules.proofs.Chosen.{held_of, with_flows}
 
 above : {K : Type 0} {cmp : K → K → Ordering} (total : IsTotalOrder cmp) (k p : K) (qs : List K) → cmp k p ≡ Less → AllByRecursion (λ q. cmp p q ≡ Less) qs → AllByRecursion (λ q. cmp k q ≡ Less) qs

@@ -19,7 +19,7 @@ use Rattle.fs_unicast.specs.declared.unicast.Place.{Place}
 use Rattle.fs_unicast.specs.Search.{held_by, is_from}
 use Rattle.fs_unicast.proofs.Ranges.{place, place_itself}
 use Rattle.fs_validate.specs.declared.route.FlowRoute.{FlowRoute}
-use Rattle.fs_rules.specs.Table.{Held, without_peer_unicast, related_count, related_sum}
+use Rattle.fs_flows.specs.Table.{Held, without_peer_unicast, related_count, related_sum}
 use Rattle.fs_rules.proofs.Chosen.{with_unicast}
 
 -- the removed place is the peer's, and at the prefix

@@ -12,9 +12,9 @@ use Rattle.fs_order.specs.Ranked.{rule_total}
 use Rattle.fs_unicast.proofs.Best.{preference_total}
 use Rattle.fs_unicast.specs.Preference.{preference_cmp, preferred, path_length}
 use Rattle.fs_validate.specs.declared.route.FlowRoute.{FlowRoute}
-use Rattle.fs_rules.specs.Table.{Held, key_cmp, is_of_family, stands, same_rule, beats, is_most_preferred, admitted, AreOrdered}
-use Rattle.fs_rules.specs.Group.{AreSorted}
-use Rattle.fs_rules.proofs.Changed.{each-filtered}
+use Rattle.fs_flows.specs.Table.{Held, key_cmp, is_of_family, stands, same_rule, beats, is_most_preferred, admitted, AreOrdered}
+use Rattle.fs_flows.specs.Group.{AreSorted}
+use Rattle.fs_flows.proofs.Changed.{each-filtered}
 
 -- two routes of different peers are never equally preferred
 apart_peers : (a b c d : Ordering) (m n : ℕ) → nat_cmp m n ≡ Less → ordering_then a (ordering_then b (ordering_then c (ordering_then d (nat_cmp m n)))) ≡ Equal → ⊥

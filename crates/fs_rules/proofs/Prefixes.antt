@@ -19,11 +19,11 @@ use Rattle.fs_unicast.specs.Unicast.{Route, place_cmp, put_path, has_path}
 use Rattle.fs_unicast.proofs.PlaceOrder.{place_total}
 use Rattle.fs_unicast.proofs.Ranges.{place}
 use Rattle.fs_rules.specs.Counts.{Counts, count_of, may_hold, StaysHeld, AreHeld, AreAmong, IsKept}
-use Rattle.fs_rules.specs.Group.{routes_of}
-use Rattle.fs_rules.specs.Kept.{Kept}
-use Rattle.fs_rules.specs.Listed.{is_among}
-use Rattle.fs_rules.specs.Table.{Held, without_peer_unicast, related_count}
-use Rattle.fs_rules.proofs.Changed.{remove_nothing}
+use Rattle.fs_flows.specs.Group.{routes_of}
+use Rattle.fs_flows.specs.Kept.{Kept}
+use Rattle.fs_flows.specs.Listed.{is_among}
+use Rattle.fs_flows.specs.Table.{Held, without_peer_unicast, related_count}
+use Rattle.fs_flows.proofs.Changed.{remove_nothing}
 use Rattle.fs_rules.proofs.Chosen.{with_unicast}
 use Rattle.fs_rules.proofs.Counting.{counted_as, fresh_put}
 use Rattle.fs_rules.proofs.Losing.{is_place, peers_equal, Hit, hit_at, IsLosing, losing_more}

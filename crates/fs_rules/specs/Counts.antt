@@ -8,10 +8,10 @@ use Rattle.std.specs.Ordering.{nat_cmp}
 use Rattle.fs_base.specs.declared.config.Config.{Config}
 use Rattle.fs_base.specs.declared.prefix.Prefix.{Prefix}
 use Rattle.fs_unicast.specs.Unicast.{Route, place_cmp}
-use Rattle.fs_rules.specs.Kept.{Kept}
-use Rattle.fs_rules.specs.Group.{Keeps, routes_of}
-use Rattle.fs_rules.specs.Listed.{Prefixes, has, is_among}
-use Rattle.fs_rules.specs.Table.{count_in}
+use Rattle.fs_flows.specs.Kept.{Kept}
+use Rattle.fs_flows.specs.Group.{Keeps, routes_of}
+use Rattle.fs_flows.specs.Listed.{Prefixes, has, is_among}
+use Rattle.fs_flows.specs.Table.{count_in}
 
 -- how many routes a peer holds, and the prefixes at which it gave unicast routes
 pub record Holding : Type 0 where

@@ -10,7 +10,7 @@ use Rattle.fs_order.specs.Comparison.{rule_cmp}
 use Rattle.fs_validate.specs.Validity.{validity}
 use Rattle.fs_validate.specs.declared.route.FlowRoute.{FlowRoute}
 use Rattle.fs_validate.specs.declared.validity.Validity.{Validity}
-use Rattle.fs_rules.specs.Table.{Held, is_of_family}
+use Rattle.fs_flows.specs.Table.{Held, is_of_family}
 use Rattle.fs_rules.specs.declared.lent.Admitted.{Admitted}
 use Rattle.fs_rules.specs.declared.lent.HeldFlow.{HeldFlow}
 use Rattle.fs_rules.specs.declared.lent.LentRule.{LentRule}

@@ -1,16 +1,16 @@
 //! What the kept validities tell, read one block of a group after the other.
 
 ghost use Rattle.std.specs.Prelude.{◌≡◌, ◌≤◌, ◌<◌, ◌+◌, ◌^◌, ◌++◌, OnOk, map, filter, length, option_map, slice_get, nat_le, find};
-ghost use Rattle.fs_rules.specs.Blocks.{flat, AreCut, AreEachSorted};
-ghost use Rattle.fs_rules.specs.Group.{chosen, AreSorted, routes_of};
+ghost use Rattle.fs_flows.specs.Blocks.{flat, AreCut, AreEachSorted};
+ghost use Rattle.fs_flows.specs.Group.{chosen, AreSorted, routes_of};
 ghost use Rattle.fs_rules.specs.Lent.{listed, shown_admitted, shown_held, shown_lent, all_admitted, all_held, AddsRules, AddsHeld};
 ghost use Rattle.fs_rules.specs.Lists.{judgement, routes_chosen, listing, listings, judgements, nth_listing};
 ghost use Rattle.fs_rules.specs.Walk.{matching_from};
 
-use crate::block::Block;
 use crate::lent::{Admitted, HeldFlow, LentRule};
 use crate::lists;
 use fs_base::{Family, Memory};
+use fs_flows::Block;
 use fs_packet::View;
 
 /// Adds the admitted rules of the family to the list, in order.

@@ -2,8 +2,8 @@
 
 ghost use Rattle.std.specs.Prelude.{◌+◌, ◌<◌, ◌^◌, OnOk};
 
-use crate::listed::Prefixes;
 use fs_base::{Memory, Prefix};
+use fs_flows::Prefixes;
 use fs_unicast::PrefixKey;
 use std::alloc::Global;
 use std::collections::BTreeMap;
@@ -52,7 +52,7 @@ fn can_rise(count: usize) -> Result<(), Memory>
 impl Counts {
     ghost use Rattle.std.specs.Prelude.{◌≡◌, ℕ, ◌+◌, ◌-◌, ◌==◌, ◌&&◌, true, false, [], OnOk, IfSome, if◌then◌else◌};
     ghost use Rattle.fs_base.specs.declared.prefix.Prefix.{Prefix};
-    ghost use Rattle.fs_rules.specs.Listed.{is_among};
+    ghost use Rattle.fs_flows.specs.Listed.{is_among};
     ghost use Rattle.fs_rules.specs.Counts.{count_of, may_hold, HasRoom, StaysHeld};
 
     /// No peer holds a route.

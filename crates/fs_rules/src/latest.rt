@@ -2,9 +2,9 @@
 
 ghost use Rattle.std.specs.Prelude.{◌≡◌, IfOk};
 
-use crate::actions::SharedActions;
 use fs_actions::Actions;
 use fs_base::{Memory, Path};
+use fs_flows::SharedActions;
 use fs_unicast::SharedPath;
 use std::alloc::Global;
 

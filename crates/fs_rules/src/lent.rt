@@ -1,7 +1,7 @@
 //! What the table lends of its routes.
 
-use crate::actions::SharedActions;
 use fs_actions::Actions;
+use fs_flows::SharedActions;
 use fs_nlri::Rule;
 use fs_validate::Validity;
 

@@ -1,17 +1,18 @@
 //! What the kept validities tell, read one group after the other.
 
 ghost use Rattle.std.specs.Prelude.{◌≡◌, ◌≤◌, ◌+◌, ◌<◌, ◌^◌, ◌++◌, OnOk, map, filter, length, option_map, slice_get};
-ghost use Rattle.fs_rules.specs.Group.{AreSorted, routes_of};
-ghost use Rattle.fs_rules.specs.Groups.{kept_in, HasSortedGroups};
+ghost use Rattle.fs_flows.specs.Group.{AreSorted, routes_of};
+ghost use Rattle.fs_flows.specs.Groups.{kept_in, HasSortedGroups};
 ghost use Rattle.fs_rules.specs.Lent.{listed, shown_admitted, shown_held, shown_lent, all_admitted, all_held, AddsRules, AddsHeld};
 ghost use Rattle.fs_rules.specs.Lists.{judgement, listing, listings};
-ghost use Rattle.fs_rules.specs.Reading.{group_at, chosen_in, listings_in, judgements_in, nth_listing_in, nth_judgement_in};
+ghost use Rattle.fs_flows.specs.Lending.{group_at, chosen_in};
+ghost use Rattle.fs_rules.specs.Reading.{listings_in, judgements_in, nth_listing_in, nth_judgement_in};
 ghost use Rattle.fs_rules.specs.Walk.{next_match};
 
 use crate::blocks;
-use crate::group::Group;
 use crate::lent::{Admitted, HeldFlow, LentRule};
 use fs_base::{Family, Memory, Prefix};
+use fs_flows::Group;
 use fs_packet::View;
 use fs_unicast::PrefixKey;
 use std::collections::BTreeMap;

@@ -6,10 +6,10 @@ ghost use Rattle.std.specs.List.{AllByRecursion};
 ghost use Rattle.std.specs.List.Sorted.{IsStrictlySortedBy};
 ghost use Rattle.std.specs.Map.{keys_of, remove_entry, lookup};
 ghost use Rattle.fs_unicast.specs.Unicast.{place_cmp, has_path};
-ghost use Rattle.fs_rules.specs.Table.{put_route, without_route, has_route, without_peer_unicast, without_peer_flows, related_count, related_sum, admitted, IsAdmitted, IsRuleOf, with_flow, with_path, without_path, without_peer, held_count, Held};
+ghost use Rattle.fs_flows.specs.Table.{put_route, without_route, has_route, without_peer_unicast, without_peer_flows, related_count, related_sum, admitted, IsAdmitted, IsRuleOf, with_flow, with_path, without_path, without_peer, held_count, Held};
 ghost use Rattle.fs_base.specs.declared.prefix.Family.{Family};
 ghost use Rattle.fs_nlri.specs.Parts.{Ruled};
-ghost use Rattle.fs_rules.specs.Changes.{AdmitsElsewhere, Covers, is_to};
+ghost use Rattle.fs_flows.specs.Changes.{AdmitsElsewhere, Covers, is_to};
 ghost use Rattle.fs_rules.specs.Lent.{listed, shown_admitted, shown_held, shown_lent, held_flows, AreRising};
 ghost use Rattle.fs_rules.specs.Reading.{AreTold};
 ghost use Rattle.fs_rules.specs.Walk.{next_match};
@@ -17,16 +17,12 @@ ghost use Rattle.fs_unicast.specs.Search.{held_by};
 ghost use Rattle.fs_rules.specs.Counts.{AreAmong};
 
 use crate::counts::Counts;
-use crate::flows::Flows;
-use crate::groups::LentGroups;
-use crate::kept::Kept;
 use crate::latest::Latest;
 use crate::lent::{Admitted, HeldFlow, LentRule};
-use crate::noted::Changes;
 use crate::reading::{self, push_admitted, push_admitted_to, push_held};
-use crate::route::{SharedRoute, validate};
 use fs_actions::Actions;
 use fs_base::{Config, Family, Memory, Path, Prefix, Steps};
+use fs_flows::{Changes, Flows, Kept, LentGroups, SharedRoute, validate};
 use fs_nlri::Rule;
 use fs_order::Ranked;
 use fs_packet::View;
@@ -49,8 +45,8 @@ pub struct Table<'a> {
 }
 
 impl<'a> Model for Table<'a> {
-    ghost use Rattle.fs_rules.specs.Table.{Held};
-    ghost use Rattle.fs_rules.specs.Group.{routes_of};
+    ghost use Rattle.fs_flows.specs.Table.{Held};
+    ghost use Rattle.fs_flows.specs.Group.{routes_of};
     ghost use Rattle.fs_rules.specs.Counts.{IsKept};
 
     ghost Value = { Held };

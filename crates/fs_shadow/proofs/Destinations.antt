@@ -14,7 +14,7 @@ use Rattle.fs_nlri.specs.Rule.{AreNormal, IsNormalAt, destination_body, destinat
 use Rattle.fs_nlri.proofs.Destination.{IsMade, destination_first}
 use Rattle.fs_order.specs.Laws.{last_shown}
 use Rattle.fs_rules.specs.Lent.{Listed}
-use Rattle.fs_rules.proofs.Elsewhere.{family_of_destination}
+use Rattle.fs_rules.proofs.Noting.{family_of_destination}
 use Rattle.fs_compile.specs.Index.{IsOfFamily, span_by, span_of, spans_of}
 use Rattle.fs_compile.proofs.Reaching.{HasDestination, from_span, made_destination}
 use Rattle.fs_compile.proofs.Splicing.{each_got}

@@ -1,5 +1,6 @@
 use Rattle.std.proofs.Common.{ap, ◌∙◌, length, zero-add}
-use Rattle.fs_rules.proofs.Cutting.{chosen_whole, sorted_each}
+use Rattle.fs_rules.proofs.InParts.{chosen_whole}
+use Rattle.fs_flows.proofs.Cutting.{sorted_each}
 use Rattle.fs_rules.proofs.blocks.count_admitted.Goals as goal
 
 pub loop-block-init : goal.loop-block-init

@@ -1,5 +1,5 @@
 use Rattle.std.proofs.Common.{◌≡◌, ◌≤◌, ◌+◌, ◌++◌, sym, ap, subst, ◌∙◌, drop, option_map, slice_get}
-use Rattle.fs_rules.specs.Blocks.{flat}
+use Rattle.fs_flows.specs.Blocks.{flat}
 use Rattle.fs_rules.specs.Lent.{shown_held}
 use Rattle.fs_rules.specs.Lists.{judgement}
 use Rattle.fs_rules.proofs.InParts.{found_front, found_behind, found_back}

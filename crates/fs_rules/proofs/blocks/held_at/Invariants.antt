@@ -1,5 +1,5 @@
 use Rattle.std.proofs.Common.{◌≡◌, slice_get, drop}
-use Rattle.fs_rules.specs.Blocks.{flat}
+use Rattle.fs_flows.specs.Blocks.{flat}
 use Rattle.fs_rules.proofs.blocks.held_at.Given as goal
 
 abbrev pub invariant-loop-block : goal.invariant-loop-block

@@ -1,6 +1,7 @@
 use Rattle.std.proofs.Common.{◌≡◌, ◌+◌, length, drop}
-use Rattle.fs_rules.specs.Blocks.{flat, chosen_flat, AreEachSorted}
-use Rattle.fs_rules.specs.Group.{chosen}
+use Rattle.fs_flows.specs.Blocks.{flat, AreEachSorted}
+use Rattle.fs_rules.specs.Reading.{chosen_flat}
+use Rattle.fs_flows.specs.Group.{chosen}
 use Rattle.fs_rules.proofs.InParts.{next_in}
 use Rattle.fs_rules.proofs.blocks.next_match.Given as goal
 

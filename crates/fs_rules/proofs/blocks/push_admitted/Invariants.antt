@@ -1,6 +1,7 @@
 use Rattle.std.proofs.Common.{◌≡◌, ◌++◌, map, drop}
-use Rattle.fs_rules.specs.Blocks.{flat, chosen_flat, AreEachSorted}
-use Rattle.fs_rules.specs.Group.{chosen}
+use Rattle.fs_flows.specs.Blocks.{flat, AreEachSorted}
+use Rattle.fs_rules.specs.Reading.{chosen_flat}
+use Rattle.fs_flows.specs.Group.{chosen}
 use Rattle.fs_rules.specs.Lent.{listed, shown_lent}
 use Rattle.fs_rules.proofs.blocks.push_admitted.Given as goal
 

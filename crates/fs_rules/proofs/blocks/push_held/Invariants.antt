@@ -1,5 +1,5 @@
 use Rattle.std.proofs.Common.{◌≡◌, ◌++◌, map, drop}
-use Rattle.fs_rules.specs.Blocks.{flat}
+use Rattle.fs_flows.specs.Blocks.{flat}
 use Rattle.fs_rules.specs.Lent.{shown_held}
 use Rattle.fs_rules.specs.Lists.{judgement}
 use Rattle.fs_rules.proofs.blocks.push_held.Given as goal

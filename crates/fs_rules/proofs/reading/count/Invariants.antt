@@ -1,6 +1,6 @@
 use Rattle.std.proofs.Common.{◌≡◌, ◌+◌, length}
-use Rattle.fs_rules.specs.Groups.{HasSortedGroups}
-use Rattle.fs_rules.specs.Reading.{chosen_in}
+use Rattle.fs_flows.specs.Groups.{HasSortedGroups}
+use Rattle.fs_flows.specs.Lending.{chosen_in}
 use Rattle.fs_rules.proofs.reading.count.Given as goal
 
 abbrev pub invariant-loop-group : goal.invariant-loop-group

@@ -1,7 +1,7 @@
 use Rattle.std.proofs.Common.{◌≡◌, ◌+◌, length}
-use Rattle.fs_rules.specs.Group.{routes_of}
-use Rattle.fs_rules.specs.Groups.{HasSortedGroups}
-use Rattle.fs_rules.specs.Reading.{chosen_in}
+use Rattle.fs_flows.specs.Group.{routes_of}
+use Rattle.fs_flows.specs.Groups.{HasSortedGroups}
+use Rattle.fs_flows.specs.Lending.{chosen_in}
 use Rattle.fs_rules.specs.Walk.{next_match}
 use Rattle.fs_rules.proofs.InParts.{next_in}
 use Rattle.fs_rules.proofs.reading.next_match.Given as goal

@@ -1,5 +1,5 @@
 use Rattle.std.proofs.Common.{◌≡◌, ◌++◌, map}
-use Rattle.fs_rules.specs.Groups.{kept_in}
+use Rattle.fs_flows.specs.Groups.{kept_in}
 use Rattle.fs_rules.specs.Lent.{shown_held}
 use Rattle.fs_rules.specs.Lists.{judgement}
 use Rattle.fs_rules.proofs.reading.push_held.Given as goal

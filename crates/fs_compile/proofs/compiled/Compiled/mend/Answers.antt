@@ -3,7 +3,7 @@ use Rattle.std.proofs.lemmas.List.{drop_all, drop_more}
 use Rattle.std.specs.List.{AllByRecursion}
 use Rattle.fs_rules.specs.Lent.{Listed, all_admitted}
 use Rattle.fs_rules.specs.Table.{admitted}
-use Rattle.fs_rules.specs.declared.noted.Change.{Change}
+use Rattle.fs_rules.specs.declared.Change.{Change}
 use Rattle.fs_compile.specs.Index.{IsOfFamily, spans_of}
 use Rattle.fs_compile.specs.Matcher.{admitted_in}
 use Rattle.fs_compile.specs.Mending.{AreTo, target_of}

@@ -2,7 +2,7 @@ use Rattle.std.proofs.Common.{◌+◌, ◌<◌, ◌^◌, sym, ap, subst, ◌∙�
 use Rattle.std.specs.BTreeMap.{is_at}
 use Rattle.std.specs.Map.{lookup}
 use Rattle.fs_rules.specs.Counts.{Holding}
-use Rattle.fs_rules.proofs.Apart.{ok_weaker}
+use Rattle.fs_flows.proofs.Apart.{ok_weaker}
 use Rattle.fs_rules.proofs.counts.Counts.reserve.Goals as goal
 
 pub returns-in-Some-clause-room : goal.returns-in-Some-clause-room

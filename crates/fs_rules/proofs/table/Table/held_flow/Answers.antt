@@ -1,6 +1,6 @@
 use Rattle.std.proofs.Common.{ap, sym, ◌∙◌, slice_get}
 use Rattle.std.proofs.lemmas.Option.{slice_get-map}
-use Rattle.fs_rules.specs.Groups.{kept_in}
+use Rattle.fs_flows.specs.Groups.{kept_in}
 use Rattle.fs_rules.specs.Lists.{judgement}
 use Rattle.fs_rules.proofs.table.Table.held_flow.Goals as goal
 

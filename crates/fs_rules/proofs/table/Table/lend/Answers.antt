@@ -1,4 +1,4 @@
-use Rattle.fs_rules.proofs.Places.{told_now}
+use Rattle.fs_rules.proofs.Chosen.{told_now}
 use Rattle.fs_rules.proofs.table.Table.lend.Goals as goal
 
 pub returns : goal.returns

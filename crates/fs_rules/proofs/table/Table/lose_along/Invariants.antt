@@ -3,8 +3,8 @@ use Rattle.std.specs.List.Sorted.{IsStrictlySortedBy}
 use Rattle.std.specs.Map.{keys_of}
 use Rattle.fs_unicast.specs.Unicast.{place_cmp}
 use Rattle.fs_rules.specs.Counts.{AreAmong}
-use Rattle.fs_rules.specs.Changes.{Covers}
-use Rattle.fs_rules.specs.Table.{Held}
+use Rattle.fs_flows.specs.Changes.{Covers}
+use Rattle.fs_flows.specs.Table.{Held}
 use Rattle.fs_rules.proofs.Losing.{IsLosing}
 use Rattle.fs_rules.proofs.table.Table.lose_along.Given as goal
 

@@ -2,8 +2,8 @@ use Rattle.std.proofs.Common.{rules, of_calls, refl, sym, ap, subst, ◌∙◌, 
 use Rattle.std.specs.BTreeMap.{insert_entry}
 use Rattle.fs_unicast.specs.Unicast.{place_cmp, Route}
 use Rattle.fs_rules.specs.Counts.{IsKept}
-use Rattle.fs_rules.specs.Group.{routes_of}
-use Rattle.fs_rules.proofs.Changed.{routes_mended}
+use Rattle.fs_flows.specs.Group.{routes_of}
+use Rattle.fs_flows.proofs.Changed.{routes_mended}
 use Rattle.fs_rules.proofs.Chosen.{held_of, unicast_changed, keeps_after, agree_put}
 use Rattle.fs_rules.proofs.Counting.{counted_as, counted_put}
 use Rattle.fs_rules.proofs.Elsewhere.{covers_noted, related_elsewhere}

@@ -1,5 +1,5 @@
 use Rattle.std.proofs.Common.{ap, ◌∙◌}
-use Rattle.fs_rules.specs.Table.{admitted}
+use Rattle.fs_flows.specs.Table.{admitted}
 use Rattle.fs_rules.specs.Walk.{next_match}
 use Rattle.fs_rules.proofs.table.Table.walk.Goals as goal
 

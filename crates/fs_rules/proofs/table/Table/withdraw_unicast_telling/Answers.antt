@@ -2,13 +2,13 @@ use Rattle.std.proofs.Common.{◌≡◌, refl, sym, ap, ◌∙◌, subst, List, 
 use Rattle.std.specs.BTreeMap.{is_at}
 use Rattle.std.specs.Map.{remove_entry, keys_of}
 use Rattle.fs_unicast.specs.Unicast.{place_cmp, Route}
-use Rattle.fs_rules.specs.Changes.{Covers}
+use Rattle.fs_flows.specs.Changes.{Covers}
 use Rattle.std.specs.List.Sorted.{IsStrictlySortedBy}
 use Rattle.fs_unicast.proofs.PlaceOrder.{place_total}
 use Rattle.fs_rules.specs.Counts.{IsKept}
-use Rattle.fs_rules.specs.Group.{routes_of}
-use Rattle.fs_rules.specs.Table.{Held}
-use Rattle.fs_rules.proofs.Changed.{routes_mended, remove_nothing, removes_one}
+use Rattle.fs_flows.specs.Group.{routes_of}
+use Rattle.fs_flows.specs.Table.{Held}
+use Rattle.fs_flows.proofs.Changed.{routes_mended, remove_nothing, removes_one}
 use Rattle.fs_rules.proofs.Chosen.{held_of, unicast_changed, keeps_after, agree_taken}
 use Rattle.fs_rules.proofs.Counting.{counted_taken}
 use Rattle.fs_rules.proofs.Elsewhere.{covers_noted, related_elsewhere}

@@ -1,0 +1,16 @@
+pub mod Along
+pub mod Apart
+pub mod Begun
+pub mod BothFamilies
+pub mod Changed
+pub mod ChosenParts
+pub mod Cutting
+pub mod Grouping
+pub mod KeyPlaces
+pub mod Mending
+pub mod Noting
+pub mod Places
+pub mod Placing
+pub mod Puts
+pub mod Searching
+pub mod Takes

@@ -1,0 +1,296 @@
+-- Validating anew the groups whose destination passes a test, and noting those in which a validity changed.
+use Rattle.std.proofs.Common.{ℕ, zero, suc, ◌≡◌, ◌↔◌, ◌⊎◌, inl, inr, ◌+◌, ◌<◌, ◌≤◌, refl, sym, ap, ap₂, subst, ◌∙◌, Bool, true, false, true≢false, ◌&&◌, ◌||◌, cond, List, [], ◌∷◌, ◌++◌, map, length, take, drop, get_or, Option, Some, None, Less, is_eq, arith}
+use Rattle.std.proofs.lemmas.List.{length-map, map-append, take_more}
+use Rattle.std.proofs.lemmas.Option.{same_Some}
+use Rattle.std.specs.List.{AllByRecursion}
+use Rattle.std.specs.List.Sorted.{IsStrictlySortedBy}
+use Rattle.std.specs.BTreeMap.{is_at}
+use Rattle.std.specs.Map.{keys_of, lookup, set_value}
+use Rattle.std.proofs.lemmas.Map.Keys.{sorted_head, sorted_tail}
+use Rattle.fs_base.specs.declared.config.Config.{Config}
+use Rattle.fs_base.specs.declared.prefix.Prefix.{Prefix}
+use Rattle.fs_base.specs.Prefix.{prefix_cmp}
+use Rattle.fs_base.proofs.Bools.{false_from, or_false, or_none}
+use Rattle.fs_base.proofs.SamePrefix.{same_from_cmp}
+use Rattle.fs_base.proofs.Lists.{each_append, each_both, each_mapped, each_of_map, each_weaker}
+use Rattle.fs_unicast.specs.Unicast.{Route}
+use Rattle.fs_validate.specs.Laws.{is_related}
+use Rattle.fs_validate.specs.Validity.{validity_to}
+use Rattle.fs_flows.specs.Kept.{Kept}
+use Rattle.fs_flows.specs.Changes.{Noted, StaysNoted, IsNotedAt, is_noted}
+use Rattle.fs_flows.specs.Group.{AreRight, AreRightTo, IsMarked, IsRightAt, retested, retested_to, mended, routes_of}
+use Rattle.fs_flows.specs.Table.{has_related, related_count}
+use Rattle.fs_flows.specs.Groups.{Entry, kept_in, IsTo, ArePlaced, AreInOrder}
+use Rattle.fs_flows.specs.Search.{touched, size, Marks, Mends, MendsKept}
+use Rattle.fs_flows.proofs.Apart.{each_front, each_back}
+use Rattle.fs_flows.proofs.Placing.{related-append}
+use Rattle.fs_flows.proofs.Takes.{other_keys}
+
+-- a flag is down exactly where one fact holds, and so another
+pub told_as : {P Q : Type 0} (b : Bool) → (P → Q) → (Q → P) → (b ≡ false) ↔ P → (b ≡ false) ↔ Q
+told_as b f g t = ((λ e. f (t.0 e)), (λ q. t.1 (g q)))
+
+module _ {X : Type 0} (f : X → X) (P : X → Type 0) where
+  -- one after another is validated anew
+  right_next : (xs : List X) (x : X) (a b : Bool) → (a ≡ false) ↔ AllByRecursion P xs → (b ≡ false) ↔ P x → ((a || b) ≡ false) ↔ AllByRecursion P (xs ++ x ∷ [])
+  right_next xs x a b s t = (
+    (λ h. let both = or_false a b h in each_append P xs (x ∷ []) (s.0 both.0) (t.0 both.1, tt)),
+    (λ r. or_none a b (t.1 (each_back P xs (x ∷ []) r).0) ∙ s.1 (each_front P xs (x ∷ []) r)),
+  )
+
+  pub told_next : (xs ys : List X) (i : ℕ) (d x : X) (a b : Bool) → i < length xs → ys ≡ map f (take i xs) ++ drop i xs → x ≡ get_or ys i d
+      → (a ≡ false) ↔ AllByRecursion P (take i xs) → (b ≡ false) ↔ P x → ((a || b) ≡ false) ↔ AllByRecursion P (take (i + 1) xs)
+  told_next xs ys i d x a b inside e at s t =
+      subst (λ ks. ((a || b) ≡ false) ↔ AllByRecursion P ks) (sym (take_more xs i d inside))
+      (right_next (take i xs) (get_or xs i d) a b s (subst (λ (k : X). (b ≡ false) ↔ P k) (at ∙ ap (λ zs. get_or zs i d) e ∙ same xs i inside) t))
+    where
+      same : (zs : List X) (n : ℕ) → n < length zs → get_or (map f (take n zs) ++ drop n zs) n d ≡ get_or zs n d
+      same [] n h = absurd (omega arith)
+      same (z ∷ zs) zero h = refl
+      same (z ∷ zs) (suc n) h = same zs n (omega arith)
+
+abbrev pub Same : (t u : Prefix → Bool) → Entry → Type 0
+Same t u e = t e.0 ≡ u e.0
+
+module _ (unicast : List Route) (config : Config) where
+  abbrev touches : (Prefix → Bool) → List Entry → List Entry
+  touches t es = map (touched unicast config t) es
+
+  touched_on : (t u : Prefix → Bool) (es : List Entry) → AllByRecursion (Same t u) es → touches t es ≡ touches u es
+  touched_on t u [] h = refl
+  touched_on t u (e ∷ es) h = ap₂ (λ x xs. x ∷ xs) (ap (λ b. cond b (e.0, map (retested_to unicast config e.0) e.1) e) h.0) (touched_on t u es h.1)
+
+  size_on : (t u : Prefix → Bool) (es : List Entry) → AllByRecursion (Same t u) es → size t es ≡ size u es
+  size_on t u [] h = refl
+  size_on t u (e ∷ es) h = ap₂ (λ m n. m + n) (ap (λ b. cond b (length e.1) 0) h.0) (size_on t u es h.1)
+
+  -- what is known of a group: that it is noted, or that its validities are right
+  abbrev IsKnown : Noted → Prefix → List Kept → Type 0
+  IsKnown noted d ks = IsNotedAt noted d ⊎ AreRightTo unicast config d ks
+
+  abbrev IsKnownOf : (Prefix → Bool) → Noted → Entry → Type 0
+  IsKnownOf t noted e = t e.0 ≡ true → IsKnown noted e.0 e.1
+
+  -- by tests that agree on the keys
+  pub mends_on : (t u : Prefix → Bool) (old new : List Entry) (noted more : Noted) (before after : ℕ) → AllByRecursion (Same t u) old → Mends unicast config t old new noted more before after → Mends unicast config u old new noted more before after
+  mends_on t u old new noted more before after h m = record {
+    entries = m.entries ∙ touched_on t u old h;
+    stays = m.stays;
+    marks = each_both (Same t u) (IsKnownOf t more) (IsKnownOf u more) (λ e s d k. d (s ∙ k)) old h m.marks;
+    later = m.later;
+    steps = subst (λ n. after ≤ before + n) (size_on t u old h) m.steps;
+  }
+
+  touched_none : (t : Prefix → Bool) (es : List Entry) → AllByRecursion (λ e. t e.0 ≡ false) es → touches t es ≡ es
+  touched_none t [] h = refl
+  touched_none t (e ∷ es) h = ap₂ (λ x xs. x ∷ xs) (ap (λ b. cond b (e.0, map (retested_to unicast config e.0) e.1) e) h.0) (touched_none t es h.1)
+
+  none_known : (t : Prefix → Bool) (noted : Noted) (es : List Entry) → AllByRecursion (λ e. t e.0 ≡ false) es → AllByRecursion (IsKnownOf t noted) es
+  none_known t noted es h = each_weaker (λ e. t e.0 ≡ false) (IsKnownOf t noted) (λ e f k. absurd (true≢false (sym k ∙ f))) es h
+
+  -- where no key passes nothing is done
+  pub mends_none : (t : Prefix → Bool) (es : List Entry) (noted : Noted) (steps : ℕ) → AllByRecursion (λ e. t e.0 ≡ false) es → Mends unicast config t es es noted noted steps steps
+  mends_none t es noted steps h = record { entries = sym (touched_none t es h); stays = λ rule k. k; marks = none_known t noted es h; later = omega arith; steps = omega arith }
+
+  key_stays : (t : Prefix → Bool) (e : Entry) → (touched unicast config t e).0 ≡ e.0
+  key_stays t e = at (t e.0) where
+    at : (b : Bool) → (cond b (e.0, map (retested_to unicast config e.0) e.1) e).0 ≡ e.0
+    at true = refl
+    at false = refl
+
+  keys_touched : (t : Prefix → Bool) (es : List Entry) → keys_of (touches t es) ≡ keys_of es
+  keys_touched t [] = refl
+  keys_touched t (e ∷ es) = ap₂ (λ x xs. x ∷ xs) (key_stays t e) (keys_touched t es)
+
+  -- the keys stay
+  pub mends_keys : (t : Prefix → Bool) (old new : List Entry) (noted more : Noted) (before after : ℕ) → Mends unicast config t old new noted more before after → keys_of new ≡ keys_of old
+  mends_keys t old new noted more before after m = ap keys_of m.entries ∙ keys_touched t old
+
+  pub along_keys : (P : Prefix → Type 0) (old new : List Entry) → keys_of new ≡ keys_of old → AllByRecursion (λ e. P e.0) new → AllByRecursion (λ e. P e.0) old
+  along_keys P old new same h = each_of_map (λ e. e.0) P old (subst (AllByRecursion P) same (each_mapped (λ e. e.0) P new h))
+
+  -- one test after another, of which no key passes both
+  again : (t u : Prefix → Bool) (e : Entry) → (t e.0 && u e.0) ≡ false → touched unicast config u (touched unicast config t e) ≡ touched unicast config (λ q. t q || u q) e
+  again t u e h = at (t e.0) (u e.0) refl h where
+    at : (a b : Bool) → u e.0 ≡ b → (a && b) ≡ false → touched unicast config u (cond a (e.0, map (retested_to unicast config e.0) e.1) e) ≡ cond (a || b) (e.0, map (retested_to unicast config e.0) e.1) e
+    at true true f g = absurd (true≢false g)
+    at true false f g = ap (λ c. cond c (e.0, map (retested_to unicast config e.0) (map (retested_to unicast config e.0) e.1)) (e.0, map (retested_to unicast config e.0) e.1)) f
+    at false b f g = ap (λ c. cond c (e.0, map (retested_to unicast config e.0) e.1) e) f
+
+  both_touched : (t u : Prefix → Bool) (es : List Entry) → AllByRecursion (λ e. (t e.0 && u e.0) ≡ false) es → touches u (touches t es) ≡ touches (λ q. t q || u q) es
+  both_touched t u [] h = refl
+  both_touched t u (e ∷ es) h = ap₂ (λ x xs. x ∷ xs) (again t u e h.0) (both_touched t u es h.1)
+
+  size_touched : (t u : Prefix → Bool) (es : List Entry) → size u (touches t es) ≡ size u es
+  size_touched t u [] = refl
+  size_touched t u (e ∷ es) = ap₂ (λ m n. m + n) (at (t e.0)) (size_touched t u es) where
+    at : (b : Bool) → cond (u (cond b (e.0, map (retested_to unicast config e.0) e.1) e).0) (length (cond b (e.0, map (retested_to unicast config e.0) e.1) e).1) 0 ≡ cond (u e.0) (length e.1) 0
+    at true = ap (λ n. cond (u e.0) n 0) (length-map e.1 (retested_to unicast config e.0))
+    at false = refl
+
+  size_both : (t u : Prefix → Bool) (es : List Entry) → AllByRecursion (λ e. (t e.0 && u e.0) ≡ false) es → size t es + size u es ≡ size (λ q. t q || u q) es
+  size_both t u [] h = refl
+  size_both t u (e ∷ es) h = let one : cond (t e.0) (length e.1) 0 + cond (u e.0) (length e.1) 0 ≡ cond (t e.0 || u e.0) (length e.1) 0 = at (t e.0) (u e.0) h.0 in
+      let more : size t es + size u es ≡ size (λ q. t q || u q) es = size_both t u es h.1 in omega arith where
+        at : (a b : Bool) → (a && b) ≡ false → cond a (length e.1) 0 + cond b (length e.1) 0 ≡ cond (a || b) (length e.1) 0
+        at true true g = absurd (true≢false g)
+        at true false g = omega arith
+        at false b g = omega arith
+
+  known_more : (t : Prefix → Bool) (es : List Entry) (noted more : Noted) → StaysNoted noted more → AllByRecursion (IsKnownOf t noted) es → AllByRecursion (IsKnownOf t more) es
+  known_more t es noted more stays m = each_weaker (IsKnownOf t noted) (IsKnownOf t more) (λ e f k. at e (f k)) es m where
+    at : (e : Entry) → IsKnown noted e.0 e.1 → IsKnown more e.0 e.1
+    at e (inl n) = inl (λ rule h d. stays rule (n rule h d))
+    at e (inr r) = inr r
+
+  known_both : (t u : Prefix → Bool) (es : List Entry) (noted : Noted) → AllByRecursion (λ e. (t e.0 && u e.0) ≡ false) es → AllByRecursion (IsKnownOf t noted) es → AllByRecursion (IsKnownOf u noted) (touches t es)
+      → AllByRecursion (IsKnownOf (λ q. t q || u q) noted) es
+  known_both t u [] noted h c d = tt
+  known_both t u (e ∷ es) noted h c d = (at (t e.0) h.0 c.0 d.0, known_both t u es noted h.1 c.1 d.1) where
+    at : (b : Bool) → (b && u e.0) ≡ false → (b ≡ true → IsKnown noted e.0 e.1) → IsKnownOf u noted (cond b (e.0, map (retested_to unicast config e.0) e.1) e) → (b || u e.0) ≡ true → IsKnown noted e.0 e.1
+    at true g f k p = f refl
+    at false g f k p = k p
+
+  pub mends_both : (t u : Prefix → Bool) (old mid new : List Entry) (noted between more : Noted) (before amid after : ℕ) → AllByRecursion (λ e. (t e.0 && u e.0) ≡ false) old
+      → Mends unicast config t old mid noted between before amid → Mends unicast config u mid new between more amid after → Mends unicast config (λ q. t q || u q) old new noted more before after
+  mends_both t u old mid new noted between more before amid after h m n = record {
+    entries = n.entries ∙ ap (touches u) m.entries ∙ both_touched t u old h;
+    stays = λ rule k. n.stays rule (m.stays rule k);
+    marks = known_both t u old more h (known_more t old between more n.stays m.marks) (subst (AllByRecursion (IsKnownOf u more)) m.entries n.marks);
+    later = omega (arith, m.later, n.later);
+    steps = let a : size u mid ≡ size u old = ap (size u) m.entries ∙ size_touched t u old in let b : size t old + size u old ≡ size (λ q. t q || u q) old = size_both t u old h in omega (arith, m.steps, n.steps);
+  }
+
+  others : (p : Prefix) (e : Entry) (es : List Entry) → is_eq (prefix_cmp p e.0) ≡ true → AreInOrder (e ∷ es) → AllByRecursion (λ e. is_eq (prefix_cmp p e.0) ≡ false) es
+  others p e es t ordered = each_of_map (λ e. e.0) (λ q. is_eq (prefix_cmp p q) ≡ false) es (other_keys p e.0 (keys_of es) t (sorted_head prefix_cmp e.0 (keys_of es) ordered))
+
+  -- the group at one key
+  set_is : (p : Prefix) (es : List Entry) (group : List Kept) → AreInOrder es → lookup (is_at (prefix_cmp p)) es ≡ Some group → set_value (is_at (prefix_cmp p)) es (map (retested_to unicast config p) group) ≡ touches (is_at (prefix_cmp p)) es
+  set_is p [] group ordered h = refl
+  set_is p (e ∷ es) group ordered h = at (is_eq (prefix_cmp p e.0)) refl h (set_is p es group (sorted_tail prefix_cmp e.0 (keys_of es) ordered)) where
+    at : (b : Bool) → is_eq (prefix_cmp p e.0) ≡ b → cond b (Some e.1) (lookup (is_at (prefix_cmp p)) es) ≡ Some group
+        → (lookup (is_at (prefix_cmp p)) es ≡ Some group → set_value (is_at (prefix_cmp p)) es (map (retested_to unicast config p) group) ≡ touches (is_at (prefix_cmp p)) es)
+        → cond b ((e.0, map (retested_to unicast config p) group) ∷ es) (e ∷ set_value (is_at (prefix_cmp p)) es (map (retested_to unicast config p) group)) ≡ cond b (e.0, map (retested_to unicast config e.0) e.1) e ∷ touches (is_at (prefix_cmp p)) es
+    at true t g ih = ap₂ (λ x xs. x ∷ xs) (ap₂ (λ q ks. (e.0, map (retested_to unicast config q) ks)) (same_from_cmp p e.0 t) (sym (same_Some e.1 group g)))
+        (sym (touched_none (is_at (prefix_cmp p)) es (others p e es t ordered)))
+    at false t g ih = ap (λ fs. e ∷ fs) (ih g)
+
+  size_found : (p : Prefix) (es : List Entry) (group : List Kept) → lookup (is_at (prefix_cmp p)) es ≡ Some group → length group ≤ size (is_at (prefix_cmp p)) es
+  size_found p [] group h = cc
+  size_found p (e ∷ es) group h = at (is_eq (prefix_cmp p e.0)) h (size_found p es group) where
+    at : (b : Bool) → cond b (Some e.1) (lookup (is_at (prefix_cmp p)) es) ≡ Some group → (lookup (is_at (prefix_cmp p)) es ≡ Some group → length group ≤ size (is_at (prefix_cmp p)) es)
+        → length group ≤ cond b (length e.1) 0 + size (is_at (prefix_cmp p)) es
+    at true g ih = let f : length e.1 ≡ length group = ap length (same_Some e.1 group g) in omega arith
+    at false g ih = let f : length group ≤ size (is_at (prefix_cmp p)) es = ih g in omega arith
+
+  found_known : (p : Prefix) (es : List Entry) (group : List Kept) (noted : Noted) → AreInOrder es → lookup (is_at (prefix_cmp p)) es ≡ Some group → IsKnown noted p group → AllByRecursion (IsKnownOf (is_at (prefix_cmp p)) noted) es
+  found_known p [] group noted ordered h r = tt
+  found_known p (e ∷ es) group noted ordered h r = at (is_eq (prefix_cmp p e.0)) refl h (found_known p es group noted (sorted_tail prefix_cmp e.0 (keys_of es) ordered)) where
+    at : (b : Bool) → is_eq (prefix_cmp p e.0) ≡ b → cond b (Some e.1) (lookup (is_at (prefix_cmp p)) es) ≡ Some group
+        → (lookup (is_at (prefix_cmp p)) es ≡ Some group → IsKnown noted p group → AllByRecursion (IsKnownOf (is_at (prefix_cmp p)) noted) es)
+        → AllByRecursion (IsKnownOf (is_at (prefix_cmp p)) noted) (e ∷ es)
+    at true t g ih = ((λ k. subst (λ q. IsKnown noted q e.1) (same_from_cmp p e.0 t) (subst (IsKnown noted p) (sym (same_Some e.1 group g)) r)), none_known (is_at (prefix_cmp p)) noted es (others p e es t ordered))
+    at false t g ih = ((λ k. absurd (true≢false (sym k ∙ t))), ih g r)
+
+  pub mends_found : (p : Prefix) (old new : List Entry) (group changed : List Kept) (noted more : Noted) (before after : ℕ) → AreInOrder old → lookup (is_at (prefix_cmp p)) old ≡ Some group → changed ≡ map (retested_to unicast config p) group
+      → new ≡ set_value (is_at (prefix_cmp p)) old changed → StaysNoted noted more → IsNotedAt more p ⊎ AreRightTo unicast config p group → before ≤ after → after ≤ before + length group → Mends unicast config (is_at (prefix_cmp p)) old new noted more before after
+  mends_found p old new group changed noted more before after ordered h e s stays known later steps = record {
+    entries = s ∙ ap (set_value (is_at (prefix_cmp p)) old) e ∙ set_is p old group ordered h;
+    stays = stays;
+    marks = found_known p old group more ordered h known;
+    later = later;
+    steps = let f : length group ≤ size (is_at (prefix_cmp p)) old = size_found p old group h in omega arith;
+  }
+
+  pub none_found : (p : Prefix) (es : List Entry) → lookup (is_at (prefix_cmp p)) es ≡ None → AllByRecursion (λ e. is_eq (prefix_cmp p e.0) ≡ false) es
+  none_found p [] h = tt
+  none_found p (e ∷ es) h = at (is_eq (prefix_cmp p e.0)) refl h (none_found p es) where
+    at : (b : Bool) → is_eq (prefix_cmp p e.0) ≡ b → cond b (Some e.1) (lookup (is_at (prefix_cmp p)) es) ≡ None → (lookup (is_at (prefix_cmp p)) es ≡ None → AllByRecursion (λ e. is_eq (prefix_cmp p e.0) ≡ false) es) → AllByRecursion (λ e. is_eq (prefix_cmp p e.0) ≡ false) (e ∷ es)
+    at true t g ih = cc
+    at false t g ih = (t, ih g)
+
+  pub mends_missing : (p : Prefix) (old new : List Entry) (noted : Noted) (steps : ℕ) → lookup (is_at (prefix_cmp p)) old ≡ None → new ≡ old → Mends unicast config (is_at (prefix_cmp p)) old new noted noted steps steps
+  mends_missing p old new noted steps h e = subst (λ es. Mends unicast config (is_at (prefix_cmp p)) old es noted noted steps steps) (sym e) (mends_none (is_at (prefix_cmp p)) old noted steps (none_found p old h))
+
+  -- From the entries to all routes.
+  mended_all : (p : Prefix) (destination : Option Prefix) (b : Bool) → has_related p destination ≡ b → (ks : List Kept) → AllByRecursion (IsTo destination) ks → map (mended p unicast config) ks ≡ cond b (map (retested unicast config) ks) ks
+  mended_all p destination true h [] to = refl
+  mended_all p destination false h [] to = refl
+  mended_all p destination true h (k ∷ ks) to = ap₂ (λ x xs. x ∷ xs) (ap (λ b. cond b (retested unicast config k) k) (ap (has_related p) to.0 ∙ h)) (mended_all p destination true h ks to.1)
+  mended_all p destination false h (k ∷ ks) to = ap₂ (λ x xs. x ∷ xs) (ap (λ b. cond b (retested unicast config k) k) (ap (has_related p) to.0 ∙ h)) (mended_all p destination false h ks to.1)
+
+  all_to : (destination : Prefix) (ks : List Kept) → AllByRecursion (IsTo (Some destination)) ks → map (retested_to unicast config destination) ks ≡ map (retested unicast config) ks
+  all_to destination [] to = refl
+  all_to destination (k ∷ ks) to = ap₂ (λ d xs. record { route = k.route; validity = validity_to unicast config k.route d } ∷ xs) (sym to.0) (all_to destination ks to.1)
+
+  pub mended_in : (p : Prefix) (es : List Entry) (rest : List Kept) → ArePlaced es → AllByRecursion (IsTo None) rest → kept_in (touches (is_related p) es) rest ≡ map (mended p unicast config) (kept_in es rest)
+  mended_in p [] rest placed bare = sym (mended_all p None false refl rest bare)
+  mended_in p (e ∷ es) rest placed bare = ap₂ (λ xs ys. xs ++ ys) (group (is_related p e.0) refl ∙ sym (mended_all p (Some e.0) (is_related p e.0) refl e.1 placed.0)) (mended_in p es rest placed.1 bare) ∙ sym (map-append (mended p unicast config) e.1 (kept_in es rest)) where
+    group : (b : Bool) → is_related p e.0 ≡ b → (cond b (e.0, map (retested_to unicast config e.0) e.1) e).1 ≡ cond b (map (retested unicast config) e.1) e.1
+    group true t = all_to e.0 e.1 placed.0
+    group false t = refl
+
+  related_all : (p : Prefix) (destination : Option Prefix) (b : Bool) → has_related p destination ≡ b → (ks : List Kept) → AllByRecursion (IsTo destination) ks → related_count p (routes_of ks) ≡ cond b (length ks) 0
+  related_all p destination true h [] to = refl
+  related_all p destination false h [] to = refl
+  related_all p destination true h (k ∷ ks) to = ap₂ (λ m n. m + n) (ap (λ b. cond b 1 0) (ap (has_related p) to.0 ∙ h)) (related_all p destination true h ks to.1) ∙ omega arith
+  related_all p destination false h (k ∷ ks) to = ap₂ (λ m n. m + n) (ap (λ b. cond b 1 0) (ap (has_related p) to.0 ∙ h)) (related_all p destination false h ks to.1) ∙ omega arith
+
+  pub size_related : (p : Prefix) (es : List Entry) (rest : List Kept) → ArePlaced es → size (is_related p) es ≤ related_count p (routes_of (kept_in es rest))
+  size_related p [] rest placed = omega arith
+  size_related p (e ∷ es) rest placed = let a : related_count p (routes_of e.1) ≡ cond (is_related p e.0) (length e.1) 0 = related_all p (Some e.0) (is_related p e.0) refl e.1 placed.0 in
+      let b : size (is_related p) es ≤ related_count p (routes_of (kept_in es rest)) = size_related p es rest placed.1 in
+      let c : related_count p (routes_of (e.1 ++ kept_in es rest)) ≡ related_count p (routes_of e.1) + related_count p (routes_of (kept_in es rest)) = related-append p e.1 (kept_in es rest) in omega arith
+
+  placed_touched : (t : Prefix → Bool) (es : List Entry) → ArePlaced es → ArePlaced (touches t es)
+  placed_touched t [] h = tt
+  placed_touched t (e ∷ es) h = (at (t e.0), placed_touched t es h.1) where
+    mapped : (ks : List Kept) → AllByRecursion (IsTo (Some e.0)) ks → AllByRecursion (IsTo (Some e.0)) (map (retested_to unicast config e.0) ks)
+    mapped [] g = tt
+    mapped (k ∷ ks) g = (g.0, mapped ks g.1)
+
+    at : (b : Bool) → AllByRecursion (IsTo (Some (cond b (e.0, map (retested_to unicast config e.0) e.1) e).0)) (cond b (e.0, map (retested_to unicast config e.0) e.1) e).1
+    at true = mapped e.1 h.0
+    at false = h.0
+
+  pub mends_placed : (t : Prefix → Bool) (old new : List Entry) (noted more : Noted) (before after : ℕ) → Mends unicast config t old new noted more before after → ArePlaced old → ArePlaced new
+  mends_placed t old new noted more before after m h = subst ArePlaced (sym m.entries) (placed_touched t old h)
+
+  pub mends_ordered : (t : Prefix → Bool) (old new : List Entry) (noted more : Noted) (before after : ℕ) → Mends unicast config t old new noted more before after → AreInOrder old → AreInOrder new
+  mends_ordered t old new noted more before after m h = subst (IsStrictlySortedBy prefix_cmp) (sym (mends_keys t old new noted more before after m)) h
+
+  -- From the entries to all routes: those without a destination are related to no prefix.
+  pub right_all : (p : Prefix) (destination : Option Prefix) (ks : List Kept) → AllByRecursion (IsTo destination) ks → (has_related p destination ≡ true → AreRight unicast config ks) → AllByRecursion (IsRightAt p unicast config) ks
+  right_all p destination [] to r = tt
+  right_all p destination (k ∷ ks) to r = (
+    (λ h. (r (sym (ap (has_related p) to.0) ∙ h)).0),
+    right_all p destination ks to.1 (λ h. (r h).1),
+  )
+
+  pub right_here : (destination : Prefix) (ks : List Kept) → AllByRecursion (IsTo (Some destination)) ks → AreRightTo unicast config destination ks → AreRight unicast config ks
+  right_here destination [] to r = tt
+  right_here destination (k ∷ ks) to r = (r.0 ∙ ap (validity_to unicast config k.route) (sym to.0), right_here destination ks to.1 r.1)
+
+  -- From the entries to all routes.
+  group_marked : (p d : Prefix) (ks : List Kept) (noted : Noted) → AllByRecursion (IsTo (Some d)) ks → (is_related p d ≡ true → IsKnown noted d ks) → AllByRecursion (IsMarked noted p unicast config) ks
+  group_marked p d ks noted to m = at (is_related p d) refl where
+    weaker : AllByRecursion (IsRightAt p unicast config) ks → AllByRecursion (IsMarked noted p unicast config) ks
+    weaker r = each_weaker (IsRightAt p unicast config) (IsMarked noted p unicast config) (λ k f _ _. f) ks r
+
+    known : IsKnown noted d ks → AllByRecursion (IsMarked noted p unicast config) ks
+    known (inl n) = each_weaker (IsTo (Some d)) (IsMarked noted p unicast config) (λ k e rule none. absurd (true≢false (sym (n k.route.rule rule e) ∙ none))) ks to
+    known (inr r) = weaker (right_all p (Some d) ks to (λ _. right_here d ks to r))
+
+    at : (b : Bool) → is_related p d ≡ b → AllByRecursion (IsMarked noted p unicast config) ks
+    at true e = known (m e)
+    at false e = weaker (right_all p (Some d) ks to (λ h. absurd (true≢false (sym h ∙ e))))
+
+  pub marks_kept : (p : Prefix) (es : List Entry) (rest : List Kept) (noted : Noted) → ArePlaced es → AllByRecursion (IsTo None) rest → Marks unicast config (is_related p) es noted → AllByRecursion (IsMarked noted p unicast config) (kept_in es rest)
+  marks_kept p [] rest noted placed bare m = each_weaker (IsRightAt p unicast config) (IsMarked noted p unicast config) (λ k f _ _. f) rest (right_all p None rest bare (λ h. absurd (true≢false (sym h))))
+  marks_kept p (e ∷ es) rest noted placed bare m = each_append (IsMarked noted p unicast config) e.1 (kept_in es rest) (group_marked p e.0 e.1 noted placed.0 m.0) (marks_kept p es rest noted placed.1 bare m.1)
+
+  -- of the routes of both families
+  pub marked_families : (p : Prefix) (xs ys : List Kept) (noted more : Noted) → StaysNoted noted more → AllByRecursion (IsMarked noted p unicast config) xs → AllByRecursion (IsMarked more p unicast config) ys
+      → AllByRecursion (IsMarked more p unicast config) (xs ++ ys)
+  marked_families p xs ys noted more stays h k = each_append (IsMarked more p unicast config) xs ys
+      (each_weaker (IsMarked noted p unicast config) (IsMarked more p unicast config) (λ x f rule none. f rule (false_from (is_noted noted x.route.rule) (λ t. true≢false (sym (stays x.route.rule t) ∙ none)))) xs h) k

@@ -1,0 +1,18 @@
+use Rattle.std.proofs.Common.{ap, inl, inr, map, subst, sym, ◌∙◌}
+use Rattle.fs_flows.specs.Changes.{IsNotedAt}
+use Rattle.fs_flows.specs.Group.{AreRightTo, retested_to}
+use Rattle.fs_flows.proofs.Mending.{mends_found, mends_missing}
+use Rattle.fs_flows.proofs.search.mark_group.Goals as goal
+
+pub returns-in_default : goal.returns-in_default
+returns-in_default g c = mends_missing c.args.unicast.now c.args.config.now c.args.destination.now c.args.groups.now.entries _ c.args.changes.now c.args.steps.now (sym c.in_default.ensures.value) (ap (λ m. m.entries) c.get_mut.follows.holds-at-none)
+
+pub returns-then-retest : goal.returns-then-retest
+returns-then-retest g c = mends_found c.args.unicast.now c.args.config.now c.args.destination.now c.args.groups.now.entries _ c.in-Some.group.now c.retest.new.self c.args.changes.now c.note.new.self c.args.steps.now c.retest.new.steps c.in-Some.ensures.ordered (sym c.in-Some.ensures.value)
+    (c.retest.ensures.retested ∙ ap (λ d. map (retested_to c.args.unicast.now c.args.config.now d) c.in-Some.group.now) c.prefix-prefix.ensures) (c.get_mut.follows.holds c.retest.new.self).0
+    c.note.ensures.stays (inl (subst (IsNotedAt c.note.new.self) c.prefix-prefix.ensures (λ rule h d. c.note.ensures.noted rule (c.at.ensures.place rule h d)))) c.retest.ensures.later c.retest.ensures.steps
+
+pub returns-else-retest : goal.returns-else-retest
+returns-else-retest g c = mends_found c.args.unicast.now c.args.config.now c.args.destination.now c.args.groups.now.entries _ c.in-Some.group.now c.retest.new.self c.args.changes.now c.args.changes.now c.args.steps.now c.retest.new.steps c.in-Some.ensures.ordered (sym c.in-Some.ensures.value)
+    (c.retest.ensures.retested ∙ ap (λ d. map (retested_to c.args.unicast.now c.args.config.now d) c.in-Some.group.now) c.prefix-prefix.ensures) (c.get_mut.follows.holds c.retest.new.self).0
+    (λ rule h. h) (inr (subst (λ d. AreRightTo c.args.unicast.now c.args.config.now d c.in-Some.group.now) c.prefix-prefix.ensures (c.retest.ensures.told.0 c.if-retest.false))) c.retest.ensures.later c.retest.ensures.steps

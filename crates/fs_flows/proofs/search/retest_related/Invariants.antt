@@ -1,0 +1,14 @@
+use Rattle.std.specs.Map.{keys_of}
+use Rattle.fs_flows.specs.Search.{Mends}
+use Rattle.fs_flows.proofs.Searching.{done, IsFrom, IsThere, left}
+use Rattle.fs_flows.proofs.search.retest_related.Given as goal
+
+abbrev pub invariant-loop-next : goal.invariant-loop-next
+invariant-loop-next g l = record {
+  mends : Mends l.unicast l.config (done l.prefix l.next) l.fn.groups.entries l.groups.entries l.fn.changes l.changes l.fn.steps l.steps;
+  from : IsFrom l.prefix l.next;
+  there : IsThere (keys_of l.groups.entries) l.next;
+}
+
+abbrev pub decreases-loop-next : goal.decreases-loop-next
+decreases-loop-next g l = left l.next (keys_of l.groups.entries)

@@ -1,0 +1,70 @@
+-- Groups found by their destination, and what validating their routes anew does.
+use Rattle.std.specs.Prelude.{◌≡◌, ℕ, ◌+◌, ◌≤◌, ◌⊎◌, Bool, true, false, Option, Some, None, List, [], ◌∷◌, map, length, MatchOption, if◌then◌else◌}
+use Rattle.std.specs.BTreeMap.{BTreeMap}
+use Rattle.std.specs.List.{list_any, AllByRecursion}
+use Rattle.std.specs.Ordering.{is_eq, is_lt, is_le}
+use Rattle.fs_base.specs.declared.config.Config.{Config}
+use Rattle.fs_base.specs.declared.prefix.Prefix.{Prefix}
+use Rattle.fs_base.specs.Prefix.{prefix_cmp}
+use Rattle.fs_unicast.specs.Unicast.{Route}
+use Rattle.fs_validate.specs.Laws.{is_related}
+use Rattle.fs_flows.specs.Changes.{Noted, StaysNoted, IsNotedAt}
+use Rattle.fs_flows.specs.Kept.{Kept}
+use Rattle.fs_flows.specs.Group.{AreRightTo, IsMarked, mended, retested_to, routes_of}
+use Rattle.fs_flows.specs.Table.{related_count}
+use Rattle.fs_flows.specs.Groups.{Entry}
+
+-- the groups whose destination passes are validated anew, as routes to it
+abbrev pub touched : List Route → Config → (Prefix → Bool) → Entry → Entry
+touched unicast config test e = if test e.0 then (e.0, map (retested_to unicast config e.0) e.1) else e
+
+-- how many routes have a destination that passes
+abbrev pub size : (Prefix → Bool) → List Entry → ℕ
+size test [] = 0
+size test (e ∷ es) = (if test e.0 then length e.1 else 0) + size test es
+
+module _ (unicast : List Route) (config : Config) where
+  -- of these groups those are noted in which a validity changed
+  abbrev pub Marks : (Prefix → Bool) → List Entry → Noted → Type 0
+  Marks test old noted =
+      AllByRecursion (λ e. test e.0 ≡ true → IsNotedAt noted e.0 ⊎ AreRightTo unicast config e.0 e.1) old
+
+  pub record Mends (test : Prefix → Bool) (old new : List Entry) (noted more : Noted) (before after : ℕ) : Type 0 where
+    pub entries : new ≡ map (touched unicast config test) old
+    pub stays : StaysNoted noted more
+    pub marks : Marks test old more
+    pub later : before ≤ after
+    pub steps : after ≤ before + size test old
+
+abbrev pub GroupMap : Type 0
+GroupMap = BTreeMap Prefix (List Kept)
+
+-- of two maps
+abbrev pub Mended : List Route → Config → (Prefix → Bool) → GroupMap → GroupMap → Noted → Noted → ℕ → ℕ → Type 0
+Mended unicast config test old new noted more before after =
+    Mends unicast config test old.entries new.entries noted more before after
+
+-- the routes that are related to the prefix are validated anew, and where a validity changed that is noted
+pub record MendsKept (p : Prefix) (unicast : List Route) (config : Config) (old new : List Kept) (noted more : Noted) (before after : ℕ) : Type 0 where
+  pub kept : new ≡ map (mended p unicast config) old
+  pub stays : StaysNoted noted more
+  pub marked : AllByRecursion (IsMarked more p unicast config) old
+  pub later : before ≤ after
+  pub steps : after ≤ before + related_count p (routes_of old)
+
+-- before the next key, if there is one
+abbrev pub is_before : Option Prefix → Prefix → Bool
+is_before None q = true
+is_before (Some n) q = is_lt (prefix_cmp q n)
+
+-- the next key after `low`: the keys before it are those up to `low`
+pub record IsNextAfter (groups : List Entry) (low : Prefix) (next : Option Prefix) : Type 0 where
+  pub there : MatchOption next (Unit {0}) (λ n. list_any (λ e. is_eq (prefix_cmp n e.0)) groups ≡ true)
+  pub from : MatchOption next (Unit {0}) (λ n. is_lt (prefix_cmp low n) ≡ true)
+  pub before : AllByRecursion (λ e. is_before next e.0 ≡ is_le (prefix_cmp e.0 low)) groups
+
+-- the next key after `low`, as far as those go that are related to the prefix
+pub record IsNextRelated (groups : List Entry) (prefix low : Prefix) (next : Option Prefix) : Type 0 where
+  pub there : MatchOption next (Unit {0}) (λ n. list_any (λ e. is_eq (prefix_cmp n e.0)) groups ≡ true)
+  pub from : MatchOption next (Unit {0}) (λ n. is_lt (prefix_cmp low n) ≡ true)
+  pub before : AllByRecursion (λ e. is_related prefix e.0 ≡ true → is_before next e.0 ≡ is_le (prefix_cmp e.0 low)) groups

@@ -1,0 +1,23 @@
+//! The ordered list of flow routes with their validities, and where the rules that are admitted may have changed.
+#![tactic(auto)]
+
+mod actions;
+mod block;
+mod flows;
+mod group;
+mod groups;
+mod kept;
+mod listed;
+mod noted;
+mod route;
+mod search;
+
+pub use actions::SharedActions;
+pub use block::{Block, compare_key, place_of};
+pub use flows::Flows;
+pub use group::Group;
+pub use groups::LentGroups;
+pub use kept::Kept;
+pub use listed::Prefixes;
+pub use noted::{Change, Changes};
+pub use route::{SharedRoute, seen, validate};

@@ -1,8 +1,0 @@
-use Rattle.fs_rules.proofs.Elsewhere.{own_place, stands_at}
-use Rattle.fs_rules.proofs.noted.Change.of.Goals as goal
-
-pub returns-clause-place : goal.returns-clause-place
-returns-clause-place c = stands_at c.family.result c.destination.result c.args.rule.now c.family.ensures c.destination.ensures.value c.destination.ensures.rule
-
-pub returns-clause-own : goal.returns-clause-own
-returns-clause-own c = own_place c.family.result c.destination.result c.args.rule.now c.family.ensures c.destination.ensures.value c.destination.ensures.rule
