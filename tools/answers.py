@@ -375,7 +375,7 @@ ANSWERS = [
         [
             "fs_shadow report result",
             "fs_shadow confirm result",
-            "fs_compile Spans::within result",
+            "fs_ranges Spans::within result",
         ],
     ),
 ]

@@ -4,10 +4,11 @@ use Rattle.std.proofs.lemmas.Bool.{cases_lt}
 use Rattle.std.proofs.lemmas.List.{get_or-map}
 use Rattle.std.proofs.lemmas.List.Sums.{sum_by-take-le}
 use Rattle.fs_base.proofs.Bools.{false_from}
-use Rattle.fs_compile.specs.declared.nodes.Node.{Node}
-use Rattle.fs_compile.specs.Buckets.{AreBuckets, node_at}
+use Rattle.fs_buckets.specs.declared.Node.{Node}
+use Rattle.fs_buckets.specs.Buckets.{AreBuckets, node_at}
 use Rattle.fs_compile.specs.Search.{AreNear, Found, Missed, Within, marked, tested_to}
 use Rattle.fs_compile.proofs.Counts.{marked_all, marked_later, marked_tested}
+use Rattle.fs_buckets.proofs.Homes.{home_before, home_from}
 
 -- Stretches joined.
 pub missed_join : (hits : List Bool) (lo start low to : ℕ) → low ≡ max lo start → Missed hits lo start → Missed hits low to → Missed hits lo to
@@ -23,36 +24,6 @@ found_join hits lo start low to count k e most first f = record {
   hit = f.hit;
   before = missed_join hits lo start low k e first f.before;
 }
-
--- A rule before the start of a bucket that has one is in an earlier bucket.
-pub home_before : (lasts : List ℕ) (nodes : List (Node ℕ)) (homes : List ℕ) (count j k : ℕ) → AreBuckets lasts nodes homes count
-    → j ≤ length lasts → k < (node_at nodes j).start → (k < length homes) × (get_or homes k 0 < j)
-home_before lasts nodes homes count j k s lj high = (within, at (cases_lt (get_or homes k 0) j)) where
-  within : k < length homes
-  within =
-      let a : (node_at nodes j).start ≤ (node_at nodes (length lasts)).start = s.starts j (length lasts) lj (omega arith) in
-      let t : (node_at nodes (length lasts)).start ≡ length homes = s.tail in
-      omega (arith, high, a, t)
-
-  at : (get_or homes k 0 < j) ⊎ (j ≤ get_or homes k 0) → get_or homes k 0 < j
-  at (inl less) = less
-  at (inr over) =
-      let h : get_or homes k 0 < length lasts = s.home k within in
-      let a : (node_at nodes j).start ≤ (node_at nodes (get_or homes k 0)).start = s.starts j (get_or homes k 0) over (omega (arith, h)) in
-      let b : (node_at nodes (get_or homes k 0)).start ≤ k = s.begins k within in
-      omega (arith, high, a, b)
-
--- one from the start of a bucket on is in that or a later one
-pub home_from : (lasts : List ℕ) (nodes : List (Node ℕ)) (homes : List ℕ) (count i k : ℕ) → AreBuckets lasts nodes homes count
-    → i ≤ length lasts → k < length homes → (node_at nodes i).start ≤ k → i ≤ get_or homes k 0
-home_from lasts nodes homes count i k s li within low = at (cases_lt (get_or homes k 0) i) where
-  at : (get_or homes k 0 < i) ⊎ (i ≤ get_or homes k 0) → i ≤ get_or homes k 0
-  at (inl less) =
-      let next : get_or homes k 0 + 1 ≤ i = omega (arith, less) in
-      let a : (node_at nodes (get_or homes k 0 + 1)).start ≤ (node_at nodes i).start = s.starts (get_or homes k 0 + 1) i next li in
-      let b : k < (node_at nodes (get_or homes k 0 + 1)).start = s.ends k within in
-      omega (arith, low, a, b)
-  at (inr h) = h
 
 -- where a bucket begins above the address, none up to its parent holds that
 above_it : (lasts : List ℕ) (nodes : List (Node ℕ)) (homes : List ℕ) (count d at k : ℕ) (near : List Bool) → AreBuckets lasts nodes homes count

@@ -4,17 +4,18 @@ use Rattle.std.specs.List.{splice}
 use Rattle.std.proofs.lemmas.List.{length-map}
 use Rattle.fs_compile.specs.declared.columns.Column.{Column}
 use Rattle.fs_compile.specs.declared.columns.PortRows.{PortRows}
-use Rattle.fs_compile.specs.declared.fast.Fast.{Fast}
+use Rattle.fs_ranges.specs.declared.Fast.{Fast}
 use Rattle.fs_compile.specs.declared.filters.Filter.{Filter}
 use Rattle.fs_compile.specs.Columns.{ArePortRows, AreRowsOf, IsColumn, bit_in, words_for}
-use Rattle.fs_compile.specs.Facts.{Facts}
-use Rattle.fs_compile.specs.Fast.{facts_hold}
+use Rattle.fs_ranges.specs.Facts.{Facts}
+use Rattle.fs_ranges.specs.Fast.{facts_hold}
 use Rattle.fs_compile.specs.Filters.{IsFilter}
 use Rattle.fs_compile.specs.Search.{hits}
-use Rattle.fs_compile.proofs.Splicing.{at_back, at_front, map_spliced, spliced_size}
+use Rattle.fs_buckets.proofs.Splicing.{at_back, at_front, map_spliced, spliced_size}
 
 column_moved : (before after : List Fast) (first end first' end' : ℕ) (column : Column) → first ≤ end → end' ≡ first' + (end - first)
-    → ((facts : Facts) (i : ℕ) → first + i < end → get_or (hits facts after) (first' + i) false ≡ get_or (hits facts before) (first + i) false) → IsColumn before first end column → IsColumn after first' end' column
+    → ((facts : Facts) (i : ℕ) → first + i < end → get_or (hits facts after) (first' + i) false ≡ get_or (hits facts before) (first + i) false)
+    → IsColumn before first end column → IsColumn after first' end' column
 column_moved before after first end first' end' column le is same h = record {
   shaped = subst (λ n. AreRowsOf column.bounds.items column.rows.items (words_for n)) size h.shaped;
   few = h.few;
@@ -44,7 +45,8 @@ ports_moved before after first end first' end' destination source rows le is sam
   size : end - first ≡ end' - first'
   size = omega (arith, is, le)
 
-filter_at : (before after : List Fast) (f g : Filter) → g.source ≡ f.source → g.protocol ≡ f.protocol → g.destination_port ≡ f.destination_port → g.source_port ≡ f.source_port → g.length ≡ f.length → g.ports ≡ f.ports
+filter_at : (before after : List Fast) (f g : Filter) → g.source ≡ f.source → g.protocol ≡ f.protocol → g.destination_port ≡ f.destination_port
+    → g.source_port ≡ f.source_port → g.length ≡ f.length → g.ports ≡ f.ports
     → g.end ≡ g.first + (f.end - f.first) → g.end ≤ length after
     → ((facts : Facts) (i : ℕ) → f.first + i < f.end → get_or (hits facts after) (g.first + i) false ≡ get_or (hits facts before) (f.first + i) false) → IsFilter before f → IsFilter after g
 filter_at before after f g a b c d e p is within same h = record {
@@ -87,7 +89,8 @@ filter_moved before news from to count f g le within late counted is h = subst (
       size : length (splice before from to news) + to ≡ from + length news + length before
       size = spliced_size before news from to le within
 
-      same : (facts : Facts) (i : ℕ) → f.first + i < f.end → get_or (hits facts (splice before from to news)) (f.first - to + from + length news + i) false ≡ get_or (hits facts before) (f.first + i) false
+      same : (facts : Facts) (i : ℕ) → f.first + i < f.end
+          → get_or (hits facts (splice before from to news)) (f.first - to + from + length news + i) false ≡ get_or (hits facts before) (f.first + i) false
       same facts i below =
           let news_size : length (hits facts news) ≡ length news = length-map news (facts_hold facts) in
           ap (λ bs. get_or bs (f.first - to + from + length news + i) false) (hits_spliced facts before news from to)

@@ -1,94 +1,22 @@
 -- An index with the rules of one destination put anew.
-use Rattle.std.proofs.Common.{◌≡◌, ℕ, ◌+◌, ◌-◌, ◌<◌, ◌≤◌, ◌⊎◌, inl, inr, sym, ap, subst, ◌∙◌, Option, Some, None, List, [], length, get_or, arith}
+use Rattle.std.proofs.Common.{◌≡◌, ℕ, ◌-◌, ◌≤◌, sym, ap, subst, ◌∙◌, Option, List, ◌++◌, take, drop, length, arith}
 use Rattle.std.specs.List.{AllByRecursion, splice}
-use Rattle.std.proofs.lemmas.Bool.{cases_lt}
 use Rattle.std.proofs.lemmas.List.{length-map}
 use Rattle.fs_base.specs.declared.prefix.Family.{Family}
-use Rattle.fs_base.specs.Bits.{width_of}
-use Rattle.fs_rules.specs.Lent.{Listed, all_admitted, shown_lent}
-use Rattle.fs_rules.specs.declared.lent.LentRule.{LentRule}
-use Rattle.fs_compile.specs.declared.buckets.Buckets.{Buckets}
-use Rattle.fs_compile.specs.Buckets.{IsSubnet}
-use Rattle.fs_compile.specs.Index.{AreHoused, Indexed, IsIndexOf, IsOfFamily, StandForEach, actions_of, span_of, spans_of}
-use Rattle.fs_compile.specs.Mending.{AreBucketsOf, AreNarrow, AreTo, HasStretch, IsStretch, Mends, place_by}
-use Rattle.fs_compile.specs.Runs.{AreNesting}
-use Rattle.fs_compile.specs.Search.{AreSound}
+use Rattle.fs_rules.specs.Lent.{Listed}
+use Rattle.fs_ranges.specs.declared.Fast.{Fast}
+use Rattle.fs_ranges.specs.Fast.{StandsFor}
+use Rattle.fs_buckets.specs.Housed.{AreHoused, HasStretch}
+use Rattle.fs_compile.specs.Index.{Indexed, IsIndexOf, StandForEach, actions_of}
+use Rattle.fs_buckets.specs.Destinations.{IsOfFamily, span_of, spans_of, IsStretch}
 use Rattle.fs_compile.proofs.Indexing.{stand_size}
-use Rattle.fs_compile.proofs.Splicing.{each_spliced, map_spliced}
-use Rattle.fs_compile.proofs.Stretching.{bare_behind, housed_same, mends_spliced, nesting_housed, less_equal, nesting_spliced, none_count, same_count}
-use Rattle.fs_compile.proofs.Widths.{narrow}
-use Rattle.fs_compile.proofs.Nesting.{nesting_from}
-
-pub spans_size : (list : List LentRule) → length (spans_of (all_admitted list)) ≡ length list
-spans_size list = length-map (all_admitted list) (λ r. span_of r.rule) ∙ length-map list shown_lent
-
-pub rules_size : (rules : List Listed) → length (spans_of rules) ≡ length rules
-rules_size rules = length-map rules (λ r. span_of r.rule)
-
--- buckets of another count of rules
-pub sound_more : (b : Buckets) (n m : ℕ) → AreSound b n → length b.homes.items ≤ m → AreSound b m
-sound_more b n m s le = record {
-  size = s.size;
-  rising = s.rising;
-  subnets = s.subnets;
-  nested = s.nested;
-  after = s.after;
-  within = s.within;
-  least = s.least;
-  starts = s.starts;
-  tail = s.tail;
-  few = le;
-  home = s.home;
-  begins = s.begins;
-  ends = s.ends;
-}
-
--- The rules without a destination stand behind the others.
-pub bare_from : (xs : List (Option (ℕ × ℕ))) (b : Buckets) (from to : ℕ) → AreHoused xs b → length b.homes.items ≤ length xs → IsStretch xs None from to → length b.homes.items ≤ from
-bare_from xs b from to h whole s = at (cases_lt from (length b.homes.items)) (cases_lt from to) where
-  at : (from < length b.homes.items) ⊎ (length b.homes.items ≤ from) → (from < to) ⊎ (to ≤ from) → length b.homes.items ≤ from
-  at (inr le) c = le
-  at (inl less) (inl below) = absurd (less_equal (sym (ap (place_by None) (h.homed from less)) ∙ s.at from (omega arith) below))
-  at (inl less) (inr le) = absurd (bare_behind (get_or xs from None) (s.behind from le (omega (arith, less, whole))))
-
--- Where the rules have no destination, or are as many as before, the buckets stay.
-pub none_stay : (family : Family) (rules : List Listed) (b : Buckets) (from to n : ℕ) (news : List (Option (ℕ × ℕ))) → HasStretch family rules b None from to → AreSound b (length b.homes.items) → AreTo None news
-    → AreBucketsOf (splice (spans_of rules) from to news) b (from + n + (length rules - to))
-none_stay family rules b from to n news h sound each = record {
-  sound = sound_more b (length b.homes.items) _ sound (omega (arith, front));
-  housed = housed_same (spans_of rules) (splice (spans_of rules) from to news) b (none_count (spans_of rules) news from to h.stretch each) h.housed;
-} where
-  front : length b.homes.items ≤ from
-  front = bare_from (spans_of rules) b from to h.housed (omega (arith, h.whole, rules_size rules)) h.stretch
-
-pub same_stay : (family : Family) (rules : List Listed) (b : Buckets) (target : Option (ℕ × ℕ)) (from to n : ℕ) (news : List (Option (ℕ × ℕ))) → HasStretch family rules b target from to → AreSound b (length b.homes.items)
-    → AreTo target news → n ≡ to - from → length news ≡ n → AreBucketsOf (splice (spans_of rules) from to news) b (from + n + (length rules - to))
-same_stay family rules b target from to n news h sound each count size = record {
-  sound = sound_more b (length b.homes.items) _ sound (let w = h.whole in let o = h.stretch.ordered in let i = h.stretch.within in omega (arith, w, o, i, count, rules_size rules));
-  housed = housed_same (spans_of rules) (splice (spans_of rules) from to news) b (same_count (spans_of rules) news target from to h.stretch each (size ∙ count)) h.housed;
-}
-
--- what the runs of the rules with a stretch put anew are made of
-pub mends : (family : Family) (rules : List Listed) (b : Buckets) (target : Option (ℕ × ℕ)) (from to : ℕ) (news : List Listed) → HasStretch family rules b target from to → to ≤ length b.homes.items → Mends b from to (spans_of news) (splice (spans_of rules) from to (spans_of news))
-mends family rules b target from to news h homes = mends_spliced (spans_of rules) (spans_of news) b from to h.housed h.stretch.ordered homes (let w = h.whole in omega (arith, w, rules_size rules))
-
-pub narrow_spliced : (family : Family) (rules news : List Listed) (from to : ℕ) → AllByRecursion (IsOfFamily family) rules → AllByRecursion (IsOfFamily family) news
-    → AreNarrow (width_of family) (splice (spans_of rules) from to (spans_of news))
-narrow_spliced family rules news from to each own =
-    subst (AreNarrow (width_of family)) (map_spliced (λ r. span_of r.rule) rules news from to) (narrow family (splice rules from to news) (each_spliced (IsOfFamily family) rules news from to each own))
-
--- the rules of a destination are of a prefix
-pub subnet_to : (family : Family) (news : List Listed) (p : ℕ × ℕ) → AllByRecursion (IsOfFamily family) news → AreTo (Some p) (spans_of news) → 0 < length (spans_of news) → IsSubnet p.0 p.1
-subnet_to family news p own each some = (narrow family news own 0 p (each 0 some)).2
-
-pub nests : (family : Family) (rules : List Listed) (b : Buckets) (target : Option (ℕ × ℕ)) (from to : ℕ) (news : List Listed) → HasStretch family rules b target from to → AreSound b (length b.homes.items) → AllByRecursion (IsOfFamily family) news
-    → AreTo target (spans_of news) → AreNesting (splice (spans_of rules) from to (spans_of news))
-nests family rules b target from to news h sound own each =
-    subst AreNesting (map_spliced (λ r. span_of r.rule) rules news from to)
-    (nesting_spliced family rules news target from to h.each own (nesting_housed (spans_of rules) b (length b.homes.items) sound h.housed) h.stretch each)
+use Rattle.fs_compile.proofs.Pairing.{each_append as pairs_append, each_dropped as pairs_dropped, each_taken as pairs_taken}
+use Rattle.fs_buckets.proofs.Splicing.{each_spliced, map_spliced}
+use Rattle.fs_buckets.proofs.Replacing.{rules_size}
 
 -- the index stands for the rules with the stretch put anew
-pub index_spliced : (family : Family) (rules news : List Listed) (from to : ℕ) (new : Indexed) → AllByRecursion (IsOfFamily family) rules → AllByRecursion (IsOfFamily family) news → StandForEach (splice rules from to news) new.rules
+pub index_spliced : (family : Family) (rules news : List Listed) (from to : ℕ) (new : Indexed) → AllByRecursion (IsOfFamily family) rules
+    → AllByRecursion (IsOfFamily family) news → StandForEach (splice rules from to news) new.rules
     → new.actions ≡ actions_of (splice rules from to news) → AreHoused (splice (spans_of rules) from to (spans_of news)) new.buckets → IsIndexOf family (splice rules from to news) new
 index_spliced family rules news from to new each own stand actions housed = record {
   stands = stand;
@@ -98,7 +26,8 @@ index_spliced family rules news from to new each own stand actions housed = reco
 }
 
 -- the stretch of an index's rules is one of those of its buckets
-pub has_stretch : (family : Family) (rules : List Listed) (inside index : Indexed) (target : Option (ℕ × ℕ)) (from to : ℕ) → inside ≡ index → length inside.buckets.homes.items ≤ length inside.rules → IsIndexOf family rules index
+pub has_stretch : (family : Family) (rules : List Listed) (inside index : Indexed) (target : Option (ℕ × ℕ)) (from to : ℕ) → inside ≡ index
+    → length inside.buckets.homes.items ≤ length inside.rules → IsIndexOf family rules index
     → IsStretch (spans_of rules) target from to → HasStretch family rules inside.buckets target from to
 has_stretch family rules inside index target from to is few h s = record {
   whole = let z : length inside.rules ≡ length rules = stand_size rules inside.rules inner.stands in omega (arith, few, z);
@@ -109,11 +38,9 @@ has_stretch family rules inside index target from to is few h s = record {
   inner : IsIndexOf family rules inside
   inner = subst (IsIndexOf family rules) (sym is) h
 
-pub stretch_bounds : (family : Family) (rules : List Listed) (index : Indexed) (target : Option (ℕ × ℕ)) (from to : ℕ) → IsIndexOf family rules index → IsStretch (spans_of rules) target from to → (from ≤ to) × (to ≤ length index.rules)
+pub stretch_bounds : (family : Family) (rules : List Listed) (index : Indexed) (target : Option (ℕ × ℕ)) (from to : ℕ) → IsIndexOf family rules index
+    → IsStretch (spans_of rules) target from to → (from ≤ to) × (to ≤ length index.rules)
 stretch_bounds family rules index target from to h s = (s.ordered, let z : length index.rules ≡ length rules = stand_size rules index.rules h.stands in omega (arith, s.within, rules_size rules, z))
-
-pub nothing_nests : AreNesting []
-nothing_nests = nesting_from [] (λ i j less. tt)
 
 -- there are actions for each rule
 pub all_shared : (family : Family) (rules : List Listed) (index : Indexed) (to : ℕ) → IsIndexOf family rules index → to ≤ length index.rules → to ≤ length index.actions
@@ -121,3 +48,12 @@ all_shared family rules index to h le =
     let z : length index.rules ≡ length rules = stand_size rules index.rules h.stands in
     let a : length index.actions ≡ length rules = ap length h.actions_are ∙ length-map rules (λ r. r.actions) in
     omega (arith, le, z, a)
+
+-- the compiled rules with a stretch put anew stand for the rules with it
+pub stand_spliced : (rules news : List Listed) (fasts others : List Fast) (from to : ℕ) → StandForEach rules fasts → StandForEach news others
+    → StandForEach (splice rules from to news) (splice fasts from to others)
+stand_spliced rules news fasts others from to h k =
+    pairs_append R (take from rules) (news ++ drop to rules) (take from fasts) (others ++ drop to fasts) (pairs_taken R from rules fasts h)
+    (pairs_append R news (drop to rules) others (drop to fasts) k (pairs_dropped R to rules fasts h)) where
+      R : Listed → Fast → Type 0
+      R r f = StandsFor r.rule f

@@ -11,22 +11,19 @@ use Rattle.fs_packet.specs.Fields.{Viewed, family_of}
 use Rattle.fs_packet.specs.Matching.{is_match}
 use Rattle.fs_rules.specs.Lent.{Listed}
 use Rattle.fs_rules.specs.Walk.{first_from}
-use Rattle.fs_compile.specs.declared.buckets.Buckets.{Buckets}
 use Rattle.fs_compile.specs.declared.compiled.Compiled.{Compiled}
-use Rattle.fs_compile.specs.declared.fast.Fast.{Fast}
-use Rattle.fs_compile.specs.declared.nodes.Node.{Node}
+use Rattle.fs_ranges.specs.declared.Fast.{Fast}
 use Rattle.fs_compile.specs.declared.search.Hit.{Hit}
-use Rattle.fs_compile.specs.Addresses.{numbers_in, nodes_in}
-use Rattle.fs_compile.specs.Buckets.{node_at}
-use Rattle.fs_compile.specs.Facts.{AreFacts, Facts, IsSmall}
-use Rattle.fs_compile.specs.Fast.{StandsFor}
-use Rattle.fs_compile.specs.Index.{AreHoused, Indexed, IsIndexOf, IsOfFamily, StandForEach, spans_of}
+use Rattle.fs_ranges.specs.Facts.{AreFacts, Facts, IsSmall}
+use Rattle.fs_ranges.specs.Fast.{StandsFor}
+use Rattle.fs_compile.specs.Index.{Indexed, IsIndexOf, StandForEach}
+use Rattle.fs_buckets.specs.Destinations.{IsOfFamily, spans_of}
 use Rattle.fs_compile.specs.Matcher.{StandsForLists, next_from}
-use Rattle.fs_compile.specs.Reach.{number_of, reaches, reaching, reaching_behind, reaching_from}
-use Rattle.fs_compile.specs.Runs.{AreNesting, AreNodes, AreRuns}
+use Rattle.fs_buckets.specs.Addresses.{number_of}
+use Rattle.fs_compile.specs.Reach.{reaches, reaching, reaching_behind, reaching_from}
 use Rattle.fs_compile.specs.Search.{Found, IsNear, Missed, Within, hit_number, hits, marked, tested_to}
 use Rattle.fs_compile.proofs.Climbing.{marked_most}
-use Rattle.fs_compile.proofs.Placing.{held_of}
+use Rattle.fs_ranges.proofs.Placing.{held_of}
 use Rattle.fs_compile.proofs.Reaching.{bare_reaches, match_reaches, span_reaches}
 use Rattle.fs_compile.proofs.Pairing.{each_size}
 
@@ -70,7 +67,8 @@ near_bare view [] k below s = absurd (omega (arith, below))
 near_bare view (r ∷ rs) zero below s = bare_reaches r.rule view s
 near_bare view (r ∷ rs) (suc k) below s = near_bare view rs k (omega (arith, below)) s
 
-near_matched : (view : Viewed) (rules : List Listed) → AllByRecursion (IsOfFamily view.family) rules → (k : ℕ) → get_or (matches_of view rules) k false ≡ true → get_or (near_of view rules) k false ≡ true
+near_matched : (view : Viewed) (rules : List Listed) → AllByRecursion (IsOfFamily view.family) rules → (k : ℕ)
+    → get_or (matches_of view rules) k false ≡ true → get_or (near_of view rules) k false ≡ true
 near_matched view [] each k m = absurd (true≢false (sym m))
 near_matched view (r ∷ rs) each zero m = match_reaches r.rule view each.0.rule m
 near_matched view (r ∷ rs) each (suc k) m = near_matched view rs each.1 k m
@@ -85,7 +83,8 @@ are_near view rules index h small f = record {
 }
 
 -- the first of a list that matches
-from_some : (view : Viewed) (xs : List Listed) (m k : ℕ) → get_or (matches_of view xs) k false ≡ true → ((i : ℕ) → i < k → get_or (matches_of view xs) i false ≡ false) → first_from m view xs ≡ Some (m + k)
+from_some : (view : Viewed) (xs : List Listed) (m k : ℕ) → get_or (matches_of view xs) k false ≡ true
+    → ((i : ℕ) → i < k → get_or (matches_of view xs) i false ≡ false) → first_from m view xs ≡ Some (m + k)
 from_some view [] m k hit before = absurd (true≢false (sym hit))
 from_some view (x ∷ xs) m zero hit before = ap (λ (b : Bool). if b then Some m else first_from (m + 1) view xs) hit ∙ ap Some whole where
   whole : m ≡ m + 0
@@ -112,7 +111,8 @@ behind view rules n i =
     ap (λ (bs : List Bool). get_or bs i false) (sym (drop-map (λ (r : Listed). is_match r.rule view) n rules))
     ∙ get_or-drop n (matches_of view rules) i false
 
-next_is : (view : Viewed) (rules : List Listed) (n : ℕ) (r : Option ℕ) → MatchOption r (Missed (matches_of view rules) n (length rules)) (Found (matches_of view rules) n (length rules)) → r ≡ next_from n view rules
+next_is : (view : Viewed) (rules : List Listed) (n : ℕ) (r : Option ℕ)
+    → MatchOption r (Missed (matches_of view rules) n (length rules)) (Found (matches_of view rules) n (length rules)) → r ≡ next_from n view rules
 next_is view rules n None missed = sym (from_none view (drop n rules) n (λ i. behind view rules n i ∙ at i (cases_lt (n + i) (length rules)))) where
   at : (i : ℕ) → (n + i < length rules) ⊎ (length rules ≤ n + i) → get_or (matches_of view rules) (n + i) false ≡ false
   at i (inl below) = missed (n + i) (omega arith) below
@@ -188,7 +188,8 @@ steps_are view facts rules index lent address from before after r e are at h bou
     ahead view rules from (length lent) before after r (bound (near_of view rules) (near_at view facts rules index lent address e are at h))
 
 -- no more are ahead than there are
-pub no_more_steps : (view : Viewed) (rules : List Listed) (from before after : ℕ) (r : Option ℕ) → after + reaching_behind r view rules ≤ before + reaching_from from view rules → after ≤ before + reaching view rules
+pub no_more_steps : (view : Viewed) (rules : List Listed) (from before after : ℕ) (r : Option ℕ)
+    → after + reaching_behind r view rules ≤ before + reaching_from from view rules → after ≤ before + reaching view rules
 no_more_steps view rules from before after r h =
     let a : marked from (near_of view rules) + reaching_from from view rules ≡ reaching view rules = near_rest view rules from in
     omega (arith, h, a)
@@ -204,17 +205,3 @@ pub none_behind : (view : Viewed) (rules : List Listed) (index : Indexed) (famil
 none_behind view rules index family n h past = sym (ap (first_from n view) (drop_of_length-le rules short)) where
   short : length rules ≤ n
   short = subst (λ m. m ≤ n) (stand_size rules index.rules h.stands) past
-
--- the rules are housed in the buckets of their runs
-pub housed_from : (spans : List (Option (ℕ × ℕ))) (b : Buckets) (fs ls ss hs ps : List ℕ) → AreNesting spans → AreRuns spans fs ls ss hs → AreNodes fs ss ps (length hs) (nodes_in b.nodes)
-    → numbers_in b.lasts ≡ ls → b.homes.items ≡ hs → get_or spans (length hs) None ≡ None → AreHoused spans b
-housed_from spans b fs ls ss hs ps nesting s made l h rest = record {
-  homed = λ k below.
-      let inside : k < length hs = subst (λ (xs : List ℕ). k < length xs) h below in
-      subst (λ (xs : List ℕ). get_or spans k None ≡ Some ((node_at (nodes_in b.nodes) (get_or xs k 0)).first, get_or (numbers_in b.lasts) (get_or xs k 0) 0)) (sym h)
-      (subst (λ (xs : List ℕ). get_or spans k None ≡ Some ((node_at (nodes_in b.nodes) (get_or hs k 0)).first, get_or xs (get_or hs k 0) 0)) (sym l)
-      (s.span k inside ∙ ap (λ (x : ℕ). Some (x, get_or ls (get_or hs k 0) 0)) (sym (ap (λ (x : Node ℕ). x.first) (made.each (get_or hs k 0) (inner k inside))))));
-  bare = λ k above. nesting.bare (length hs) k (subst (λ (xs : List ℕ). length xs ≤ k) h above) rest;
-} where
-  inner : (k : ℕ) → k < length hs → get_or hs k 0 < length fs
-  inner k inside = let a : get_or hs k 0 < length ls = s.home k inside in let z : length fs ≡ length ls = s.firsts_size in omega (arith, a, z)

@@ -5,13 +5,14 @@ use Rattle.std.proofs.lemmas.Bool.{cases_lt, cases_order}
 use Rattle.std.proofs.lemmas.List.{get_or-map, get_or-set_other, get_or-set_same, length-set}
 use Rattle.std.proofs.lemmas.List.Folds.{list_any_more}
 use Rattle.std.proofs.lemmas.Nat.Bits.{bit_at-lt, bit_at_or, bit_at_set_same}
-use Rattle.fs_compile.specs.declared.fast.Fast.{Fast}
-use Rattle.fs_compile.specs.declared.limits.Limit.{Limit}
-use Rattle.fs_compile.specs.Columns.{AreMarked, ArePortsMarked, Grown, IsClass, allows, allows_port, bit_in}
-use Rattle.fs_compile.specs.Facts.{Facts, key_of, number_of}
-use Rattle.fs_compile.specs.Fast.{facts_hold}
+use Rattle.fs_ranges.specs.declared.Fast.{Fast}
+use Rattle.fs_ranges.specs.declared.Limit.{Limit}
+use Rattle.fs_compile.specs.Columns.{AreMarked, ArePortsMarked, Grown, IsClass, bit_in}
+use Rattle.fs_ranges.specs.Limits.{allows, allows_port}
+use Rattle.fs_ranges.specs.Facts.{Facts, key_of, number_of}
+use Rattle.fs_ranges.specs.Fast.{facts_hold}
 use Rattle.fs_compile.specs.Search.{hits}
-use Rattle.fs_compile.specs.Spans.{contains, is_in}
+use Rattle.fs_ranges.specs.Spans.{contains, is_in}
 
 abbrev pub with_bit : ℕ → ℕ → ℕ
 with_bit n bit = bit_or n (1 * 2 ^ bit % 18446744073709551616)
@@ -84,7 +85,8 @@ either_on a b c d small less f g h = by (cases_lt b a) where
   by (inr second) = let e : d ≡ 1 = g (omega (arith, second, h)) in omega (arith, e, small)
 
 -- Of a run's rules one more is marked by its ports.
-pub ports_more : (rules : List Fast) (first number words : ℕ) (destination source to from to_new from_new : List ℕ) (fast : Fast) (limit : Limit) → number < length rules → fast ≡ get_or rules number fast → Grown to to_new → Grown from from_new
+pub ports_more : (rules : List Fast) (first number words : ℕ) (destination source to from to_new from_new : List ℕ) (fast : Fast) (limit : Limit)
+    → number < length rules → fast ≡ get_or rules number fast → Grown to to_new → Grown from from_new
     → ArePortsMarked rules first number destination source to from words
     → ((facts : Facts) → facts_hold facts fast ≡ true → allows_port limit facts ≡ true)
     → ((n class : ℕ) → allows limit n ≡ true → IsClass destination n class → bit_in to_new words class (number - first) ≡ 1)
@@ -102,7 +104,8 @@ ports_more rules first number words destination source to from to_new from_new f
           (sym (get_or-map (facts_hold facts) rules number fast false inside) ∙ subst (λ (n : ℕ). get_or (hits facts rules) n false ≡ true) (sym here) hit) in
           subst (λ (n : ℕ). max (bit_in to_new words class (n - first)) (bit_in from_new words other (n - first)) ≡ 1) here
           (set (allows limit (number_of facts 6)) (allows limit (number_of facts 5)) refl refl (within facts holds)) where
-            set : (a b : Bool) → allows limit (number_of facts 6) ≡ a → allows limit (number_of facts 5) ≡ b → (a || b) ≡ true → max (bit_in to_new words class (number - first)) (bit_in from_new words other (number - first)) ≡ 1
+            set : (a b : Bool) → allows limit (number_of facts 6) ≡ a → allows limit (number_of facts 5) ≡ b → (a || b) ≡ true
+                → max (bit_in to_new words class (number - first)) (bit_in from_new words other (number - first)) ≡ 1
             set true b e f t = let s : bit_in from_new words other (number - first) ≡ 1 = again (number_of facts 6) other e others in let l : bit_in to_new words class (number - first) < 2 = bit_at-lt _ _ in omega (arith, s, l)
             set false true e f t = let s : bit_in to_new words class (number - first) ≡ 1 = marked (number_of facts 5) class f classed in let l : bit_in from_new words other (number - first) < 2 = bit_at-lt _ _ in omega (arith, s, l)
             set false false e f t = absurd (true≢false (sym t))

@@ -22,14 +22,28 @@ use Rattle.fs_rules.specs.declared.Change.{Change}
 use Rattle.fs_validate.specs.declared.route.FlowRoute.{FlowRoute}
 use Rattle.fs_rules.proofs.Noting.{family_of_destination}
 use Rattle.fs_compile.specs.declared.compiled.Compiled.{Compiled}
-use Rattle.fs_compile.specs.Index.{IsIndexOf, IsOfFamily, span_by, span_of, spans_of}
+use Rattle.fs_compile.specs.Index.{IsIndexOf}
+use Rattle.fs_buckets.specs.Destinations.{IsOfFamily, span_by, span_of, spans_of, AreTo, place_by, span_cmp, target_of}
 use Rattle.fs_compile.specs.Matcher.{StandsForLists, admitted_in}
-use Rattle.fs_compile.specs.Mending.{AreOwn, AreTo, place_by, put_in, replaced, span_cmp, target_of}
-use Rattle.fs_compile.specs.Runs.{AreNesting}
-use Rattle.fs_compile.proofs.Nesting.{all_of_family, nesting}
-use Rattle.fs_compile.proofs.Reaching.{made_destination}
-use Rattle.fs_compile.proofs.Splicing.{each_got, one_fewer}
-use Rattle.fs_compile.proofs.Stretching.{placed, same_place}
+use Rattle.fs_compile.specs.Mending.{AreOwn, put_in, replaced}
+use Rattle.fs_buckets.specs.Runs.{AreNesting}
+use Rattle.fs_buckets.proofs.Nesting.{all_of_family, nesting}
+use Rattle.fs_buckets.proofs.Destinations.{made_destination}
+use Rattle.fs_buckets.proofs.Splicing.{each_got}
+use Rattle.fs_compile.proofs.Parting.{one_fewer}
+use Rattle.fs_compile.proofs.Replacing.{placed}
+use Rattle.fs_buckets.proofs.Stretching.{same_place}
+
+-- the rules are of the family
+abbrev pub AreOf : Family → List Listed → Type 0
+AreOf family rules = AllByRecursion (IsOfFamily family) rules
+
+-- of these rules those that have the destination, and those that no place touches
+abbrev pub rules_to : Family → Option Prefix → List Listed → List Listed
+rules_to family destination rules = filter (λ r. is_to family destination r.rule) rules
+
+abbrev pub untouched : List Change → List Listed → List Listed
+untouched places rules = filter (λ r. not (touched_by places r.rule)) rules
 
 -- two destinations of a family are the same where their addresses are
 shown_is : (s d : Family × ℕ × ℕ) → IsMade (Some s) → IsMade (Some d) → s.0 ≡ d.0 → shown_cmp s d ≡ span_cmp (s.1, last_shown s) (d.1, last_shown d)
@@ -66,8 +80,8 @@ shown_is s d made other same =
       at : (last_shown s ≡ last_shown d) ⊎ ((last_shown s < last_shown d) ⊎ (last_shown d < last_shown s))
           → ordering_then (nat_cmp (last_shown s) (last_shown d)) (nat_cmp d.2 s.2) ≡ ordering_then (nat_cmp (last_shown s) (last_shown d)) (nat_cmp d.1 s.1)
       at (inl e) = ap (ordering_then (nat_cmp (last_shown s) (last_shown d))) (lengths e (cases_order d.2 s.2))
-      at (inr (inl less)) = ap (λ o. ordering_then o (nat_cmp d.2 s.2)) (sym (nat_cmp_is (last_shown s) (last_shown d) Less less)) ∙ ap (λ o. ordering_then o (nat_cmp d.1 s.1)) (nat_cmp_is (last_shown s) (last_shown d) Less less)
-      at (inr (inr more)) = ap (λ o. ordering_then o (nat_cmp d.2 s.2)) (sym (nat_cmp_is (last_shown s) (last_shown d) Greater more)) ∙ ap (λ o. ordering_then o (nat_cmp d.1 s.1)) (nat_cmp_is (last_shown s) (last_shown d) Greater more)
+      at (inr (inl less)) = subst (λ o. ordering_then o (nat_cmp d.2 s.2) ≡ ordering_then o (nat_cmp d.1 s.1)) (nat_cmp_is (last_shown s) (last_shown d) Less less) refl
+      at (inr (inr more)) = subst (λ o. ordering_then o (nat_cmp d.2 s.2) ≡ ordering_then o (nat_cmp d.1 s.1)) (nat_cmp_is (last_shown s) (last_shown d) Greater more) refl
 
 -- Whether a rule has a destination is told by its addresses.
 to_is : (family : Family) (destination : Option Prefix) (r : Listed) → IfSome destination (λ p. p.family ≡ family) → IsOfFamily family r
@@ -75,7 +89,8 @@ to_is : (family : Family) (destination : Option Prefix) (r : Listed) → IfSome 
 to_is family destination r here own =
     ap (λ b. b && is_eq (destination_cmp (destination_of r.rule) (option_map shown destination))) (eq-eqb (afi_of r.rule.family) (afi_of family) (ap afi_of own.same))
     ∙ at (destination_of r.rule) destination refl here where
-      at : (o : Option (Family × ℕ × ℕ)) (p : Option Prefix) → destination_of r.rule ≡ o → IfSome p (λ q. q.family ≡ family) → is_eq (destination_cmp o (option_map shown p)) ≡ is_eq (place_by (target_of p) (span_by o))
+      at : (o : Option (Family × ℕ × ℕ)) (p : Option Prefix) → destination_of r.rule ≡ o → IfSome p (λ q. q.family ≡ family)
+          → is_eq (destination_cmp o (option_map shown p)) ≡ is_eq (place_by (target_of p) (span_by o))
       at None None e h = refl
       at None (Some p) e h = refl
       at (Some s) None e h = refl
@@ -90,7 +105,7 @@ to_other family own destination rule apart e = at (afi_of rule.family == afi_of 
 
 -- but at these places the rules are those that the table admits
 abbrev pub AreLeft : List Change → Held → (Family → List Listed) → Type 0
-AreLeft places held rules = (family : Family) → filter (λ r. not (touched_by places r.rule)) (admitted_in held family) ≡ filter (λ r. not (touched_by places r.rule)) (rules family)
+AreLeft places held rules = (family : Family) → untouched places (admitted_in held family) ≡ untouched places (rules family)
 
 pub listed_filter : (p : Ruled → Bool) (rs : List FlowRoute) → filter (λ r. p r.rule) (map listed rs) ≡ map listed (filter (λ r. p r.rule) rs)
 listed_filter p [] = refl
@@ -105,44 +120,53 @@ left_first places base held h family =
     listed_filter (λ rule. not (touched_by places rule)) (admitted family held) ∙ ap (map listed) (h family) ∙ sym (listed_filter (λ rule. not (touched_by places rule)) (admitted family base))
 
 -- One place fewer is left.
-here_fewer : (place : Change) (rest : List Change) (family : Family) (ys xs : List Listed) → place.family ≡ family → IsOwn place → AllByRecursion (IsOfFamily family) ys → AllByRecursion (IsOfFamily family) xs → AreNesting (spans_of ys)
-    → filter (λ r. not (touched_by (place ∷ rest) r.rule)) ys ≡ filter (λ r. not (touched_by (place ∷ rest) r.rule)) xs
-    → filter (λ r. not (touched_by rest r.rule)) ys ≡ filter (λ r. not (touched_by rest r.rule)) (replaced (target_of place.destination) (filter (λ r. is_to place.family place.destination r.rule) ys) xs)
+here_fewer : (place : Change) (rest : List Change) (family : Family) (ys xs : List Listed) → place.family ≡ family → IsOwn place → AreOf family ys → AreOf family xs → AreNesting (spans_of ys)
+    → untouched (place ∷ rest) ys ≡ untouched (place ∷ rest) xs
+    → untouched rest ys ≡ untouched rest (replaced (target_of place.destination) (rules_to place.family place.destination ys) xs)
 here_fewer place rest family ys xs f here each own nesting same =
-    one_fewer (λ r. span_of r.rule) (place_by (target_of place.destination)) None (λ r. touched_by rest r.rule) ys xs (placed family ys (target_of place.destination) each nesting) (sym (told ys each) ∙ same ∙ told xs own)
-    ∙ ap (λ news. filter (λ r. not (touched_by rest r.rule)) (replaced (target_of place.destination) news xs)) (sym found) where
-      is : (r : Listed) → IsOfFamily family r → is_to place.family place.destination r.rule ≡ is_eq (place_by (target_of place.destination) (span_of r.rule))
-      is r k = subst (λ g. (IfSome place.destination (λ p. p.family ≡ g)) → is_to g place.destination r.rule ≡ is_eq (place_by (target_of place.destination) (span_of r.rule))) (sym f) (λ h. to_is family place.destination r h k) here
+    one_fewer (λ r. span_of r.rule) (place_by target) None (λ r. touched_by rest r.rule) ys xs (placed family ys target each nesting) (sym (told ys each) ∙ same ∙ told xs own)
+    ∙ ap (λ news. untouched rest (replaced target news xs)) (sym found) where
+      target : Option (ℕ × ℕ)
+      target = target_of place.destination
 
-      told : (zs : List Listed) → AllByRecursion (IsOfFamily family) zs
-          → filter (λ r. not (touched_by (place ∷ rest) r.rule)) zs ≡ filter (λ r. not (is_eq (place_by (target_of place.destination) (span_of r.rule)) || touched_by rest r.rule)) zs
-      told zs all = filter_on (λ r. not (touched_by (place ∷ rest) r.rule)) (λ r. not (is_eq (place_by (target_of place.destination) (span_of r.rule)) || touched_by rest r.rule)) zs
+      is_there : Listed → Bool
+      is_there r = is_eq (place_by target (span_of r.rule))
+
+      is : (r : Listed) → IsOfFamily family r → is_to place.family place.destination r.rule ≡ is_there r
+      is r k = subst (λ g. (IfSome place.destination (λ p. p.family ≡ g)) → is_to g place.destination r.rule ≡ is_there r) (sym f) (λ h. to_is family place.destination r h k) here
+
+      told : (zs : List Listed) → AreOf family zs
+          → untouched (place ∷ rest) zs ≡ filter (λ r. not (is_there r || touched_by rest r.rule)) zs
+      told zs all = filter_on (λ r. not (touched_by (place ∷ rest) r.rule)) (λ r. not (is_there r || touched_by rest r.rule)) zs
           (each_weaker (IsOfFamily family) _ (λ r k. ap (λ b. not (b || touched_by rest r.rule)) (is r k)) zs all)
 
-      found : filter (λ r. is_to place.family place.destination r.rule) ys ≡ filter (λ r. is_eq (place_by (target_of place.destination) (span_of r.rule))) ys
-      found = filter_on (λ r. is_to place.family place.destination r.rule) (λ r. is_eq (place_by (target_of place.destination) (span_of r.rule))) ys (each_weaker (IsOfFamily family) _ is ys each)
+      found : rules_to place.family place.destination ys ≡ filter is_there ys
+      found = filter_on (λ r. is_to place.family place.destination r.rule) is_there ys (each_weaker (IsOfFamily family) _ is ys each)
 
-other_fewer : (place : Change) (rest : List Change) (family : Family) (ys xs : List Listed) → (afi_of family ≡ afi_of place.family → ⊥) → AllByRecursion (IsOfFamily family) ys → AllByRecursion (IsOfFamily family) xs
-    → filter (λ r. not (touched_by (place ∷ rest) r.rule)) ys ≡ filter (λ r. not (touched_by (place ∷ rest) r.rule)) xs
-    → filter (λ r. not (touched_by rest r.rule)) ys ≡ filter (λ r. not (touched_by rest r.rule)) xs
+other_fewer : (place : Change) (rest : List Change) (family : Family) (ys xs : List Listed) → (afi_of family ≡ afi_of place.family → ⊥) → AreOf family ys → AreOf family xs
+    → untouched (place ∷ rest) ys ≡ untouched (place ∷ rest) xs
+    → untouched rest ys ≡ untouched rest xs
 other_fewer place rest family ys xs apart each own same = sym (told ys each) ∙ same ∙ told xs own where
-  told : (zs : List Listed) → AllByRecursion (IsOfFamily family) zs → filter (λ r. not (touched_by (place ∷ rest) r.rule)) zs ≡ filter (λ r. not (touched_by rest r.rule)) zs
+  told : (zs : List Listed) → AreOf family zs → untouched (place ∷ rest) zs ≡ untouched rest zs
   told zs all = filter_on (λ r. not (touched_by (place ∷ rest) r.rule)) (λ r. not (touched_by rest r.rule)) zs
       (each_weaker (IsOfFamily family) _ (λ r k. ap (λ b. not (b || touched_by rest r.rule)) (to_other place.family family place.destination r.rule apart k.same)) zs all)
 
-pub left_fewer : (place : Change) (rest : List Change) (held : Held) (rules : Family → List Listed) → IsOwn place → ((family : Family) → AllByRecursion (IsOfFamily family) (admitted_in held family))
-    → ((family : Family) → AllByRecursion (IsOfFamily family) (rules family)) → ((family : Family) → AreNesting (spans_of (admitted_in held family))) → AreLeft (place ∷ rest) held rules
-    → AreLeft rest held (put_in place.family (replaced (target_of place.destination) (filter (λ r. is_to place.family place.destination r.rule) (admitted_in held place.family)) (rules place.family)) rules)
+pub left_fewer : (place : Change) (rest : List Change) (held : Held) (rules : Family → List Listed) → IsOwn place → ((family : Family) → AreOf family (admitted_in held family))
+    → ((family : Family) → AreOf family (rules family)) → ((family : Family) → AreNesting (spans_of (admitted_in held family))) → AreLeft (place ∷ rest) held rules
+    → AreLeft rest held (put_in place.family (replaced (target_of place.destination) (rules_to place.family place.destination (admitted_in held place.family)) (rules place.family)) rules)
 left_fewer place rest held rules here each own nesting left family = at place.family family refl where
+  anew : Family → List Listed
+  anew f = replaced (target_of place.destination) (rules_to place.family place.destination (admitted_in held f)) (rules f)
+
   v4_v6 : afi_of V4 ≡ afi_of V6 → ⊥
   v4_v6 e = omega (arith, e)
 
   at : (f g : Family) → place.family ≡ f
-      → filter (λ r. not (touched_by rest r.rule)) (admitted_in held g)
-      ≡ filter (λ r. not (touched_by rest r.rule)) (put_in f (replaced (target_of place.destination) (filter (λ r. is_to place.family place.destination r.rule) (admitted_in held place.family)) (rules place.family)) rules g)
-  at V4 V4 e = subst (λ f. filter (λ r. not (touched_by rest r.rule)) (admitted_in held V4) ≡ filter (λ r. not (touched_by rest r.rule)) (replaced (target_of place.destination) (filter (λ r. is_to place.family place.destination r.rule) (admitted_in held f)) (rules f))) (sym e)
+      → untouched rest (admitted_in held g)
+      ≡ untouched rest (put_in f (anew place.family) rules g)
+  at V4 V4 e = subst (λ f. untouched rest (admitted_in held V4) ≡ untouched rest (anew f)) (sym e)
       (here_fewer place rest V4 (admitted_in held V4) (rules V4) e here (each V4) (own V4) (nesting V4) (left V4))
-  at V6 V6 e = subst (λ f. filter (λ r. not (touched_by rest r.rule)) (admitted_in held V6) ≡ filter (λ r. not (touched_by rest r.rule)) (replaced (target_of place.destination) (filter (λ r. is_to place.family place.destination r.rule) (admitted_in held f)) (rules f))) (sym e)
+  at V6 V6 e = subst (λ f. untouched rest (admitted_in held V6) ≡ untouched rest (anew f)) (sym e)
       (here_fewer place rest V6 (admitted_in held V6) (rules V6) e here (each V6) (own V6) (nesting V6) (left V6))
   at V4 V6 e = other_fewer place rest V6 (admitted_in held V6) (rules V6) (λ x. v4_v6 (sym (x ∙ ap afi_of e))) (each V6) (own V6) (left V6)
   at V6 V4 e = other_fewer place rest V4 (admitted_in held V4) (rules V4) (λ x. v4_v6 (x ∙ ap afi_of e)) (each V4) (own V4) (left V4)
@@ -150,7 +174,7 @@ left_fewer place rest held rules here each own nesting left family = at place.fa
 -- Where no place is left the rules are those that the table admits.
 pub left_none : (held : Held) (rules : Family → List Listed) → AreLeft [] held rules → (family : Family) → rules family ≡ admitted_in held family
 left_none held rules left family = sym (all (rules family)) ∙ sym (left family) ∙ all (admitted_in held family) where
-  all : (zs : List Listed) → filter (λ r. not (touched_by [] r.rule)) zs ≡ zs
+  all : (zs : List Listed) → untouched [] zs ≡ zs
   all zs = filter_all (λ r. not (touched_by [] r.rule)) zs (each_of zs) where
     each_of : (ys : List Listed) → AllByRecursion (λ r. not (touched_by [] r.rule) ≡ true) ys
     each_of [] = tt
@@ -165,11 +189,11 @@ stands_mended held rules compiled left h = record {
 pub own_last : (held : Held) (rules : Family → List Listed) → AreLeft [] held rules → AreOwn rules → AreOwn (admitted_in held)
 own_last held rules left own family = subst (AllByRecursion (IsOfFamily family)) (left_none held rules left family) (own family)
 
-pub own_here : (family : Family) (destination : Option Prefix) (ys : List Listed) → AllByRecursion (IsOfFamily family) ys → AllByRecursion (IsOfFamily family) (filter (λ r. is_to family destination r.rule) ys)
+pub own_here : (family : Family) (destination : Option Prefix) (ys : List Listed) → AreOf family ys → AreOf family (rules_to family destination ys)
 own_here family destination ys each = each_filtered (IsOfFamily family) (λ r. is_to family destination r.rule) ys each
 
-each_to : (family : Family) (destination : Option Prefix) (ys : List Listed) → IfSome destination (λ p. p.family ≡ family) → AllByRecursion (IsOfFamily family) ys
-    → AllByRecursion (λ r. span_of r.rule ≡ target_of destination) (filter (λ r. is_to family destination r.rule) ys)
+each_to : (family : Family) (destination : Option Prefix) (ys : List Listed) → IfSome destination (λ p. p.family ≡ family) → AreOf family ys
+    → AllByRecursion (λ r. span_of r.rule ≡ target_of destination) (rules_to family destination ys)
 each_to family destination [] here each = tt
 each_to family destination (y ∷ ys) here each = at (is_to family destination y.rule) refl (each_to family destination ys here each.1) where
   equal_is : (o : Ordering) → is_eq o ≡ true → o ≡ Equal
@@ -177,8 +201,8 @@ each_to family destination (y ∷ ys) here each = at (is_to family destination y
   equal_is Equal e = refl
   equal_is Greater e = absurd (true≢false (sym e))
 
-  at : (b : Bool) → is_to family destination y.rule ≡ b → AllByRecursion (λ r. span_of r.rule ≡ target_of destination) (filter (λ r. is_to family destination r.rule) ys)
-      → AllByRecursion (λ r. span_of r.rule ≡ target_of destination) (cond b (y ∷ filter (λ r. is_to family destination r.rule) ys) (filter (λ r. is_to family destination r.rule) ys))
+  at : (b : Bool) → is_to family destination y.rule ≡ b → AllByRecursion (λ r. span_of r.rule ≡ target_of destination) (rules_to family destination ys)
+      → AllByRecursion (λ r. span_of r.rule ≡ target_of destination) (cond b (y ∷ rules_to family destination ys) (rules_to family destination ys))
   at true e ih = (same_place (target_of destination) (span_of y.rule) (equal_is (place_by (target_of destination) (span_of y.rule)) (sym (to_is family destination y here each.0) ∙ e)), ih)
   at false e ih = ih
 
@@ -187,15 +211,16 @@ are_to target [] h k below = absurd (omega arith)
 are_to target (r ∷ rs) h zero below = h.0
 are_to target (r ∷ rs) h (suc k) below = are_to target rs h.1 k (omega arith)
 
-pub to_here : (family : Family) (destination : Option Prefix) (ys : List Listed) → IfSome destination (λ p. p.family ≡ family) → AllByRecursion (IsOfFamily family) ys
-    → AreTo (target_of destination) (spans_of (filter (λ r. is_to family destination r.rule) ys))
-to_here family destination ys here each = are_to (target_of destination) (filter (λ r. is_to family destination r.rule) ys) (each_to family destination ys here each)
+pub to_here : (family : Family) (destination : Option Prefix) (ys : List Listed) → IfSome destination (λ p. p.family ≡ family) → AreOf family ys
+    → AreTo (target_of destination) (spans_of (rules_to family destination ys))
+to_here family destination ys here each = are_to (target_of destination) (rules_to family destination ys) (each_to family destination ys here each)
 
-own_replaced : (family : Family) (target : Option (ℕ × ℕ)) (news rules : List Listed) → AllByRecursion (IsOfFamily family) news → AllByRecursion (IsOfFamily family) rules → AllByRecursion (IsOfFamily family) (replaced target news rules)
+own_replaced : (family : Family) (target : Option (ℕ × ℕ)) (news rules : List Listed) → AreOf family news → AreOf family rules → AreOf family (replaced target news rules)
 own_replaced family target news rules h k = each_append (IsOfFamily family) _ _ (each_filtered (IsOfFamily family) (λ r. is_lt (place_by target (span_of r.rule))) rules k)
     (each_append (IsOfFamily family) news _ h (each_filtered (IsOfFamily family) (λ r. is_gt (place_by target (span_of r.rule))) rules k))
 
-pub own_put : (family : Family) (target : Option (ℕ × ℕ)) (news : List Listed) (rules : Family → List Listed) → AllByRecursion (IsOfFamily family) news → AreOwn rules → AreOwn (put_in family (replaced target news (rules family)) rules)
+pub own_put : (family : Family) (target : Option (ℕ × ℕ)) (news : List Listed) (rules : Family → List Listed) → AreOf family news → AreOwn rules
+    → AreOwn (put_in family (replaced target news (rules family)) rules)
 own_put V4 target news rules h own V4 = own_replaced V4 target news (rules V4) h (own V4)
 own_put V4 target news rules h own V6 = own V6
 own_put V6 target news rules h own V4 = own V4
@@ -205,14 +230,16 @@ pub if_ok : {T E P : Type 0} (r : Result T E) → P → IfOk r (λ _. P)
 if_ok (Ok t) p = p
 if_ok (Err e) p = tt
 
-pub listed_to : (family : Family) (destination : Option Prefix) (held : Held) → map listed (filter (λ r. is_to family destination r.rule) (admitted family held)) ≡ filter (λ r. is_to family destination r.rule) (admitted_in held family)
+pub listed_to : (family : Family) (destination : Option Prefix) (held : Held)
+    → map listed (filter (λ r. is_to family destination r.rule) (admitted family held)) ≡ rules_to family destination (admitted_in held family)
 listed_to family destination held = sym (listed_filter (is_to family destination) (admitted family held))
 
 -- All that is known of the rules behind some of the places.
 abbrev pub Mends : List Change → Held → Compiled → Type 0
 Mends places held compiled = (rules : Family → List Listed) × StandsForLists rules compiled × AreOwn rules × AreLeft places held rules
 
-pub mends_first : (places : List Change) (base held : Held) (compiled : Compiled) → StandsForLists (admitted_in base) compiled → AreOwn (admitted_in base) → AdmitsElsewhere (touched_by places) base held → Mends places held compiled
+pub mends_first : (places : List Change) (base held : Held) (compiled : Compiled) → StandsForLists (admitted_in base) compiled → AreOwn (admitted_in base)
+    → AdmitsElsewhere (touched_by places) base held → Mends places held compiled
 mends_first places base held compiled stands own elsewhere = (admitted_in base, stands, own, left_first places base held elsewhere)
 
 pub mends_next : (place : Change) (rest : List Change) (held : Held) (old new : Compiled) (list : List Listed) → IsOwn place
@@ -230,7 +257,7 @@ mends_next place rest held old new list here own admits is puts m = (
   each f = all_of_family f (admitted f held) (own f)
 
   news : List Listed
-  news = filter (λ r. is_to place.family place.destination r.rule) (admitted_in held place.family)
+  news = rules_to place.family place.destination (admitted_in held place.family)
 
   same : list ≡ news
   same = is ∙ listed_to place.family place.destination held
@@ -241,7 +268,7 @@ mends_stand held compiled m = stands_mended held m.0 compiled m.3 m.1
 pub mends_own : (held : Held) (compiled : Compiled) → Mends [] held compiled → AreOwn (admitted_in held)
 mends_own held compiled m = own_last held m.0 m.3 m.2
 
-pub own_both : (rules : Family → List Listed) → AllByRecursion (IsOfFamily V4) (rules V4) → AllByRecursion (IsOfFamily V6) (rules V6) → AreOwn rules
+pub own_both : (rules : Family → List Listed) → AreOf V4 (rules V4) → AreOf V6 (rules V6) → AreOwn rules
 own_both rules h k V4 = h
 own_both rules h k V6 = k
 

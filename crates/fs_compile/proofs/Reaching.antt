@@ -3,7 +3,7 @@
 use Rattle.std.proofs.Common.{◌≡◌, ℕ, ◌-◌, ◌*◌, ◌^◌, ◌<◌, ◌≤◌, ◌==◌, ◌↔◌, refl, sym, ap, ap₂, subst, ◌∙◌, Bool, true, false, true≢false, cond, Option, Some, None, List, [], ◌∷◌, arith}
 use Rattle.std.specs.List.{list_all}
 use Rattle.std.proofs.lemmas.Bool.{eqb-true, eq-eqb}
-use Rattle.std.proofs.lemmas.Option.{none-some, same_Some}
+use Rattle.std.proofs.lemmas.Option.{none-some}
 use Rattle.fs_base.proofs.Bools.{and_first, and_second}
 use Rattle.fs_base.specs.declared.prefix.Family.{Family}
 use Rattle.fs_base.specs.declared.prefix.Family.TheVariants.{V4, V6}
@@ -15,14 +15,16 @@ use Rattle.fs_base.proofs.Addresses.{address_range}
 use Rattle.fs_nlri.specs.Forms.{form_of}
 use Rattle.fs_nlri.specs.Parts.{Body, V4Body, V6Body, ListBody, Part, Ruled}
 use Rattle.fs_nlri.specs.Rule.{IsRule, IsNormalAt, AreNormal, destination_body, destination_in, destination_of}
-use Rattle.fs_nlri.proofs.Destination.{IsMade, destination_first, made_parts}
+use Rattle.fs_nlri.proofs.Destination.{IsMade, destination_first}
 use Rattle.fs_order.specs.Laws.{last_shown}
 use Rattle.fs_packet.specs.Fields.{Viewed, family_of}
 use Rattle.fs_packet.specs.Matching.{is_match, is_prefix_of, body_matches, part_matches}
 use Rattle.fs_rules.proofs.Noting.{family_of_destination}
-use Rattle.fs_compile.specs.Facts.{IsSmallAddress}
-use Rattle.fs_compile.specs.Index.{span_by, span_of}
-use Rattle.fs_compile.specs.Reach.{number_of, covers_address, reaches}
+use Rattle.fs_ranges.specs.Facts.{IsSmallAddress}
+use Rattle.fs_buckets.specs.Destinations.{span_by, span_of}
+use Rattle.fs_buckets.specs.Addresses.{number_of}
+use Rattle.fs_compile.specs.Reach.{covers_address, reaches}
+use Rattle.fs_buckets.proofs.Destinations.{made_destination, HasDestination, from_span}
 
 -- the addresses with the first bits of a destination are those from its first to its last
 destination_range : (d : Family × ℕ × ℕ) (n : ℕ) → IsMade (Some d) → n < 2 ^ width_of d.0
@@ -31,24 +33,10 @@ destination_range d n h below =
     let prefix : Prefix = record { family = d.0; bits = d.1; length = d.2; short = h.0; clear = h.1 } in
     address_range prefix n below
 
-pub made_destination : (rule : Ruled) (d : Family × ℕ × ℕ) → IsRule rule → destination_of rule ≡ Some d → IsMade (Some d)
-made_destination rule d h e = subst IsMade e (made_parts rule.family rule.parts h.normal)
-
 -- an address of a family has its width
 number_below : (address : Address) → IsSmallAddress address → number_of address < 2 ^ width_of (family_of address)
 number_below (V4Address a) h = h
 number_below (V6Address a) h = h
-
-pub record HasDestination (rule : Ruled) (p : ℕ × ℕ) : Type 0 where
-  pub d : Family × ℕ × ℕ
-  pub is : destination_of rule ≡ Some d
-  pub span : p ≡ (d.1, last_shown d)
-
-pub from_span : (rule : Ruled) (p : ℕ × ℕ) → span_of rule ≡ Some p → HasDestination rule p
-from_span rule p s = at (destination_of rule) refl s where
-  at : (o : Option (Family × ℕ × ℕ)) → destination_of rule ≡ o → span_by o ≡ Some p → HasDestination rule p
-  at None e g = absurd (none-some p g)
-  at (Some d) e g = record { d = d; is = e; span = sym (same_Some (d.1, last_shown d) p g) }
 
 -- A rule with a destination reaches those packets of its family whose destination is one of its addresses.
 pub span_reaches : (rule : Ruled) (view : Viewed) (p : ℕ × ℕ) → IsRule rule → rule.family ≡ view.family → family_of view.destination ≡ view.family → IsSmallAddress view.destination

@@ -9,9 +9,9 @@ use Rattle.std.proofs.lemmas.Nat.Bits.{bit_at-trailing_zeros, bit_at-zero, bit_a
 use Rattle.fs_base.proofs.Bools.{false_from}
 use Rattle.fs_compile.specs.declared.filters.Rows.{Rows}
 use Rattle.fs_compile.specs.declared.columns.PortRows.{PortRows}
-use Rattle.fs_compile.specs.declared.fast.Fast.{Fast}
+use Rattle.fs_ranges.specs.declared.Fast.{Fast}
 use Rattle.fs_compile.specs.Columns.{ArePortRows, IsClass, IsRow, bit_in, words_for}
-use Rattle.fs_compile.specs.Facts.{Facts, number_of}
+use Rattle.fs_ranges.specs.Facts.{Facts, number_of}
 use Rattle.fs_compile.specs.Filters.{AreRows, front_of, word_of}
 use Rattle.fs_compile.specs.Search.{Missed, hits}
 
@@ -66,7 +66,8 @@ set_in_all tests rows first to place k are from within before hit =
       bit = omega (arith, from, within)
 
 -- a word that has no bit in front has no rule that matches
-pub none_marked : (tests : List Bool) (rows : Rows) (place start from end : ℕ) → front_of rows place ≡ 0 → ((k : ℕ) → from ≤ k → k < end → get_or tests k false ≡ true → bit_at (word_of rows place) (k - start) ≡ 1)
+pub none_marked : (tests : List Bool) (rows : Rows) (place start from end : ℕ) → front_of rows place ≡ 0
+    → ((k : ℕ) → from ≤ k → k < end → get_or tests k false ≡ true → bit_at (word_of rows place) (k - start) ≡ 1)
     → Missed tests from end
 none_marked tests rows place start from end none marked k above below = false_from (get_or tests k false) (λ hit.
     not_both (bit_at (word_of rows place) (k - start)) (marked k above below hit) (none_in_front (front_of rows place) _ _ _ (k - start) none))
@@ -75,7 +76,8 @@ none_marked tests rows place start from end none marked k above below = false_fr
 abbrev pub AreLeft : (tests : List Bool) → (rest number end : ℕ) → Type 0
 AreLeft tests rest number end = (k : ℕ) → number ≤ k → k < end → get_or tests k false ≡ true → bit_at rest (k - number) ≡ 1
 
-pub left_first : (tests : List Bool) (word start from end : ℕ) → start ≤ from → ((k : ℕ) → from ≤ k → k < end → get_or tests k false ≡ true → bit_at word (k - start) ≡ 1) → AreLeft tests (word / 2 ^ (from - start)) from end
+pub left_first : (tests : List Bool) (word start from end : ℕ) → start ≤ from
+    → ((k : ℕ) → from ≤ k → k < end → get_or tests k false ≡ true → bit_at word (k - start) ≡ 1) → AreLeft tests (word / 2 ^ (from - start)) from end
 left_first tests word start from end begins marked k above below hit =
     shifted word (from - start) (k - from) ∙ ap (λ (i : ℕ). bit_at word i) (let e : from - start + (k - from) ≡ k - start = omega (arith, begins, above) in e) ∙ marked k above below hit
 
@@ -85,7 +87,8 @@ left_next tests rest number clear end left k above below hit =
     ∙ ap (λ (i : ℕ). bit_at rest i) (let e : clear + (1 + (k - (number + clear + 1))) ≡ k - number = omega (arith, above) in e) ∙ left k (omega (arith, above)) below hit
 
 -- What has no bit doesn't match.
-pub missed_on : (tests : List Bool) (rest from end number clear : ℕ) → AreLeft tests rest number end → ((j : ℕ) → j < clear → bit_at rest j ≡ 0) → Missed tests from (min number end) → Missed tests from (min (number + clear) end)
+pub missed_on : (tests : List Bool) (rest from end number clear : ℕ) → AreLeft tests rest number end → ((j : ℕ) → j < clear → bit_at rest j ≡ 0)
+    → Missed tests from (min number end) → Missed tests from (min (number + clear) end)
 missed_on tests rest from end number clear left none missed k above below = by (cases_lt k number) where
   by : (k < number) ⊎ (number ≤ k) → get_or tests k false ≡ false
   by (inl earlier) = missed k above (omega (arith, earlier, below))
@@ -116,7 +119,8 @@ fewer_rows tests first end to rows least are = record {
 }
 
 -- where a rule matches, its bit is set in the row of one port or the other
-pub port_set : (rules : List Fast) (facts : Facts) (first end words class other : ℕ) (destination source to from : List ℕ) (rows : PortRows) → words ≡ words_for (end - first) → ArePortRows rules first end destination source rows
+pub port_set : (rules : List Fast) (facts : Facts) (first end words class other : ℕ) (destination source to from : List ℕ) (rows : PortRows)
+    → words ≡ words_for (end - first) → ArePortRows rules first end destination source rows
     → IsClass destination (number_of facts 5) class → IsClass source (number_of facts 6) other
     → ((k : ℕ) → k < words → get_or to k 0 ≡ get_or rows.to.items (class * words + k) 0) → ((k : ℕ) → k < words → get_or from k 0 ≡ get_or rows.from.items (other * words + k) 0)
     → (number : ℕ) → first ≤ number → number < end → get_or (hits facts rules) number false ≡ true

@@ -3,24 +3,16 @@ use Rattle.std.specs.Prelude.{◌≡◌, ℕ, ◌+◌, ◌-◌, ◌*◌, ◌/◌
 use Rattle.std.specs.Int.{bit_at}
 use Rattle.fs_compile.specs.declared.columns.Column.{Column}
 use Rattle.fs_compile.specs.declared.columns.PortRows.{PortRows}
-use Rattle.fs_compile.specs.declared.fast.Fast.{Fast}
-use Rattle.fs_compile.specs.declared.limits.Limit.{Limit}
-use Rattle.fs_compile.specs.declared.limits.Limit.TheVariants.{Any, Range, Ranges}
-use Rattle.fs_compile.specs.Buckets.{AreRising}
-use Rattle.fs_compile.specs.Facts.{Facts, key_of, number_of}
+use Rattle.fs_ranges.specs.declared.Fast.{Fast}
+use Rattle.fs_buckets.specs.Buckets.{AreRising}
+use Rattle.fs_ranges.specs.Facts.{Facts, key_of, number_of}
 use Rattle.fs_compile.specs.Search.{hits}
-use Rattle.fs_compile.specs.Spans.{contains, is_in}
-use Rattle.fs_compile.specs.Between.{IsPlaced}
-
--- the number is one of these
-abbrev pub allows : Limit → ℕ → Bool
-allows Any number = true
-allows (Range low high) number = is_in number (low, high)
-allows (Ranges ranges) number = contains ranges.now number
+use Rattle.fs_ranges.specs.Spans.{contains, is_in}
+use Rattle.fs_buckets.specs.Between.{IsPlaceOf}
 
 -- the class of a number: classes before it end below the number, and it and those behind don't
 abbrev pub IsClass : (bounds : List ℕ) → (number class : ℕ) → Type 0
-IsClass bounds number class = IsPlaced bounds number (length bounds) class
+IsClass bounds number class = IsPlaceOf bounds number (length bounds) class
 
 -- so many words have a bit for each of so many rules
 abbrev pub words_for : ℕ → ℕ
@@ -47,10 +39,6 @@ AreMarked rules first end field bounds rows words =
     → get_or (hits facts rules) number false ≡ true
     → IsClass bounds (key_of facts field) class
     → bit_in rows words class (number - first) ≡ 1
-
--- either port is one of these
-abbrev pub allows_port : Limit → Facts → Bool
-allows_port limit facts = allows limit (number_of facts 6) || allows limit (number_of facts 5)
 
 -- where a packet matches a rule of the run, the rule's bit is set in the row of the class of its destination port, or in
 -- that of the class of its source port

@@ -3,7 +3,7 @@ use Rattle.std.specs.Prelude.{◌≡◌, ℕ, ◌+◌, ◌-◌, ◌*◌, ◌/◌
 use Rattle.std.specs.Int.RustNames.{bit_and, bit_or}
 use Rattle.std.specs.Int.{bit_at}
 use Rattle.std.specs.List.{All}
-use Rattle.fs_compile.specs.declared.fast.Fast.{Fast}
+use Rattle.fs_ranges.specs.declared.Fast.{Fast}
 use Rattle.fs_compile.specs.declared.filters.Filter.{Filter}
 use Rattle.fs_compile.specs.declared.filters.Filters.{Filters}
 use Rattle.fs_compile.specs.declared.filters.Rows.{Rows}

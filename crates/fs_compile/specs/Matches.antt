@@ -2,7 +2,7 @@
 use Rattle.std.specs.Prelude.{ℕ, ◌+◌, Option, Some, None, List}
 use Rattle.fs_packet.specs.Fields.{Viewed}
 use Rattle.fs_rules.specs.Lent.{Listed}
-use Rattle.fs_compile.specs.Facts.{AreFacts, Facts}
+use Rattle.fs_ranges.specs.Facts.{AreFacts, Facts}
 use Rattle.fs_compile.specs.Index.{Indexed, IsIndexOf}
 
 -- among these rules, of a packet with these fields, from this number on

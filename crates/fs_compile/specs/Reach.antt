@@ -3,17 +3,12 @@ use Rattle.std.specs.Prelude.{ℕ, ◌==◌, ◌+◌, Bool, true, Option, Some, 
 use Rattle.std.specs.List.{count_by}
 use Rattle.fs_base.specs.declared.prefix.Family.{Family}
 use Rattle.fs_base.specs.declared.config.Address.{Address}
-use Rattle.fs_base.specs.declared.config.Address.TheVariants.{V4, V6}
 use Rattle.fs_base.specs.Bits.{width_of, cleared}
 use Rattle.fs_nlri.specs.Parts.{Ruled}
 use Rattle.fs_nlri.specs.Rule.{destination_of}
 use Rattle.fs_packet.specs.Fields.{Viewed}
 use Rattle.fs_rules.specs.Lent.{Listed}
-
--- an address as a number
-abbrev pub number_of : Address → ℕ
-number_of (V4 address) = address
-number_of (V6 address) = address
+use Rattle.fs_buckets.specs.Addresses.{number_of}
 
 -- The address begins with the bits of the destination, which is a family, bits and a length. Without one each does.
 abbrev pub covers_address : Option (Family × ℕ × ℕ) → Address → Bool

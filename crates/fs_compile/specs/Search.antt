@@ -1,15 +1,15 @@
 -- The search for an address through buckets.
 use Rattle.std.specs.Prelude.{◌≡◌, ℕ, ◌+◌, ◌-◌, ◌<◌, ◌≤◌, Bool, true, false, Option, Some, None, MatchOption, option_map, List, length, take, get_or, map}
 use Rattle.std.specs.List.{count_by}
-use Rattle.fs_compile.specs.declared.buckets.Buckets.{Buckets}
-use Rattle.fs_compile.specs.declared.fast.Fast.{Fast}
-use Rattle.fs_compile.specs.declared.nodes.Node.{Node}
+use Rattle.fs_buckets.specs.declared.Buckets.{Buckets}
+use Rattle.fs_ranges.specs.declared.Fast.{Fast}
+use Rattle.fs_buckets.specs.declared.Node.{Node}
 use Rattle.fs_compile.specs.declared.search.Hit.{Hit}
 use Rattle.fs_compile.specs.declared.search.Cursor.{Cursor}
-use Rattle.fs_compile.specs.Addresses.{numbers_in, nodes_in}
-use Rattle.fs_compile.specs.Buckets.{AreBuckets, node_at}
-use Rattle.fs_compile.specs.Facts.{Facts}
-use Rattle.fs_compile.specs.Fast.{facts_hold}
+use Rattle.fs_buckets.specs.Addresses.{numbers_in, nodes_in}
+use Rattle.fs_buckets.specs.Buckets.{node_at}
+use Rattle.fs_ranges.specs.Facts.{Facts}
+use Rattle.fs_ranges.specs.Fast.{facts_hold}
 
 abbrev pub hits : Facts → List Fast → List Bool
 hits facts rules = map (facts_hold facts) rules
@@ -24,10 +24,6 @@ pub record Found (tests : List Bool) (lo to k : ℕ) : Type 0 where
   pub below : k < to
   pub hit : get_or tests k false ≡ true
   pub before : Missed tests lo k
-
--- these are buckets of so many rules
-abbrev pub AreSound : Buckets → ℕ → Type 0
-AreSound b count = AreBuckets (numbers_in b.lasts) (nodes_in b.nodes) b.homes.items count
 
 -- of each rule, whether its bucket holds the address, or it has none
 pub record AreNear (lasts : List ℕ) (nodes : List (Node ℕ)) (homes : List ℕ) (address count : ℕ) (near : List Bool)
@@ -70,7 +66,8 @@ abbrev pub tested_to : Option ℕ → ℕ → ℕ
 tested_to None to = to
 tested_to (Some n) to = n + 1
 
--- what a search of a stretch finds, of numbers before an end, in as many steps at most as there are rules up to that one
+-- What a search of the rules from one number on before another finds: none, where none of these matches, or the first that
+-- does, which stands before `end`. It takes at most a step for each rule up to that one, or for each of these.
 pub record Scanned (tests : List Bool) (from to end before after : ℕ) (result : Option ℕ) : Type 0 where
   pub found : MatchOption result (Missed tests from to) (Found tests from end)
   pub later : before ≤ after

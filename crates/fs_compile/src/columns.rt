@@ -2,15 +2,15 @@
 
 ghost use Rattle.std.specs.Prelude.{◌≡◌, ℕ, ◌+◌, ◌-◌, ◌*◌, ◌/◌, ◌^◌, ◌<◌, ◌≤◌, true, IfOk, List, get_or, length};
 ghost use Rattle.std.specs.Int.{bit_at};
-ghost use Rattle.fs_compile.specs.Buckets.{AreRising};
-ghost use Rattle.fs_compile.specs.Columns.{AreMarked, ArePortRows, ArePortsMarked, AreRowsOf, Grown, IsClass, IsColumn, IsRow, allows, bit_in, words_for};
-ghost use Rattle.fs_compile.specs.Facts.{Facts, key_of};
+ghost use Rattle.fs_buckets.specs.Buckets.{AreRising};
+ghost use Rattle.fs_compile.specs.Columns.{AreMarked, ArePortRows, ArePortsMarked, AreRowsOf, Grown, IsClass, IsColumn, IsRow, bit_in, words_for};
+ghost use Rattle.fs_ranges.specs.Limits.{allows};
+ghost use Rattle.fs_ranges.specs.Facts.{Facts, key_of};
 ghost use Rattle.fs_compile.specs.Search.{hits};
-ghost use Rattle.fs_compile.specs.Spans.{contains, is_in};
+ghost use Rattle.fs_ranges.specs.Spans.{contains, is_in};
 
-use crate::fast::Fast;
-use crate::limits::Limit;
 use fs_base::Memory;
+use fs_ranges::{Fast, Limit};
 use std::alloc::Global;
 
 /// The most classes but the last.

@@ -6,9 +6,8 @@ ghost use Rattle.fs_compile.specs.Filters.{AreFilters, AreRows, IsFilter, IsInsi
 ghost use Rattle.fs_compile.specs.Search.{Scanned, hits};
 
 use crate::columns::{Column, PortRows, row_of, words_of};
-use crate::facts::Facts;
-use crate::fast::Fast;
 use fs_base::{Memory, Steps};
+use fs_ranges::{Facts, Fast};
 use std::alloc::Global;
 use std::sync::ledger::Ledger;
 

@@ -1,27 +1,28 @@
 //! The rules of a family, compiled, and found by the destination of a packet.
 
-ghost use Rattle.std.specs.Prelude.{◌≡◌, ◌≤◌, ◌+◌, ◌-◌, ◌<◌, ◌^◌, ℕ, true, IfOk, IfSome, OnOk, List, is_some, length};
+ghost use Rattle.std.specs.Prelude.{◌≡◌, ◌≤◌, ◌+◌, ◌<◌, ◌^◌, ℕ, true, IfOk, IfSome, OnOk, List, is_some, length};
 ghost use Rattle.std.specs.List.{All, AllByRecursion, splice};
 ghost use Rattle.fs_base.specs.declared.prefix.Family.{Family};
 ghost use Rattle.fs_packet.specs.Fields.{Viewed};
 ghost use Rattle.fs_rules.specs.Lent.{Listed, all_admitted};
-ghost use Rattle.fs_compile.specs.Addresses.{nodes_in, numbers_in};
-ghost use Rattle.fs_compile.specs.Facts.{AreFacts};
+ghost use Rattle.fs_buckets.specs.Addresses.{number_of};
+ghost use Rattle.fs_ranges.specs.Facts.{AreFacts};
 ghost use Rattle.fs_compile.specs.Filters.{AreFilters, IsFilter};
-ghost use Rattle.fs_compile.specs.declared.fast.Fast.{Fast};
-ghost use Rattle.fs_compile.specs.Index.{AreHoused, IsIndexOf, IsOfFamily, StandForEach, actions_of, spans_of};
-ghost use Rattle.fs_compile.specs.Mending.{AreBucketsOf, AreTo, HasStretch, IsStretch, replaced, target_of};
+ghost use Rattle.fs_ranges.specs.declared.Fast.{Fast};
+ghost use Rattle.fs_buckets.specs.Housed.{AreSound};
+ghost use Rattle.fs_compile.specs.Index.{IsIndexOf, StandForEach, actions_of};
+ghost use Rattle.fs_buckets.specs.Destinations.{AreTo, IsOfFamily, IsStretch, spans_of, target_of};
+ghost use Rattle.fs_compile.specs.Mending.{replaced};
 ghost use Rattle.fs_compile.specs.Matcher.{next_from};
-ghost use Rattle.fs_compile.specs.Reach.{number_of, reaching_behind, reaching_from};
-ghost use Rattle.fs_compile.specs.Runs.{AreNesting};
-ghost use Rattle.fs_compile.specs.Search.{AreSound, Starts, behind_hit, hit_number};
+ghost use Rattle.fs_compile.specs.Reach.{reaching_behind, reaching_from};
+ghost use Rattle.fs_buckets.specs.Runs.{AreNesting};
+ghost use Rattle.fs_compile.specs.Search.{Starts, behind_hit, hit_number};
 
-use crate::buckets::{Buckets, buckets_of, mended_buckets, put_between};
-use crate::facts::Facts;
-use crate::fast::Fast;
 use crate::filters::{FEW_RULES, Filter, Filters};
 use crate::search::{Cursor, Hit, climb, place_behind, place_from};
 use fs_base::{Address, Family, Memory, Prefix, Steps};
+use fs_buckets::{Buckets, buckets_of, mended, put_between};
+use fs_ranges::{Facts, Fast};
 use fs_rules::{LentRule, SharedActions};
 use std::alloc::Global;
 use std::marker::Model;
@@ -44,7 +45,7 @@ impl Model for Index {
     ghost use Rattle.std.specs.Prelude.{◌<◌, ◌^◌, length};
     ghost use Rattle.fs_compile.specs.Filters.{AreFilters};
     ghost use Rattle.fs_compile.specs.Index.{Indexed};
-    ghost use Rattle.fs_compile.specs.Search.{AreSound};
+    ghost use Rattle.fs_buckets.specs.Housed.{AreSound};
 
     ghost Value = { Indexed };
 
@@ -234,70 +235,12 @@ impl Index {
             ≤ steps.old + reaching_from start.from view rules }
     {
         // two copies, so that where no run is long no bucket pays for the others
-        let filters = &self.filters;
+        let (buckets, rules, filters) = (&self.buckets, &self.rules, &self.filters);
         if filters.runs.is_empty() {
-            climb(
-                &self.buckets,
-                &self.rules,
-                filters,
-                facts,
-                start,
-                false,
-                steps,
-            )
+            climb(buckets, rules, filters, facts, start, false, steps)
         } else {
-            climb(
-                &self.buckets,
-                &self.rules,
-                filters,
-                facts,
-                start,
-                true,
-                steps,
-            )
+            climb(buckets, rules, filters, facts, start, true, steps)
         }
-    }
-}
-
-/// The buckets with the rules of the list in the place of those of the destination, or of those without one, which are
-/// those from the number `from` on before `to`.
-fn mended(
-    alloc: Global,
-    family: Family,
-    old: Buckets,
-    destination: Option<Prefix>,
-    from: usize,
-    to: usize,
-    list: &[LentRule<'_>],
-) -> Result<Buckets, Memory>
-    requires sound { AreSound old (length old.homes.items) }
-    requires whole { length old.homes.items < 2 ^ 32 }
-    requires each { AllByRecursion (IsOfFamily family) (all_admitted list.now) }
-    requires there { AreTo (target_of destination) (spans_of (all_admitted list.now)) }
-    requires fits { from + length list.now + length old.homes.items < 2 ^ 32 + to }
-    requires homes { is_some destination ≡ true → to ≤ length old.homes.items }
-    requires some { (rules : List Listed) × HasStretch family rules old (target_of destination) from to }
-    ensures { IfOk result (λ new.
-        (rules : List Listed)
-        → HasStretch family rules old (target_of destination) from to
-        → AreBucketsOf
-        (splice (spans_of rules) from to (spans_of (all_admitted list.now)))
-        new
-        (from + length list.now + (length rules - to))) }
-{
-    let Some(destination) = destination else {
-        return Ok(old);
-    };
-    if list.len() == to - from {
-        return Ok(old);
-    }
-    let (first, last) = (destination.bits, destination.last());
-    if let Some(bucket) = old.holder(first, last, from, to) {
-        return old.resized(alloc, bucket, from, to, list.len());
-    }
-    match old.gap(first, last, from, to) {
-        Some(bucket) => old.opened(alloc, bucket, (first, last), from, list.len()),
-        None => mended_buckets(alloc, family, &old, from, to, list),
     }
 }
 

@@ -1,31 +1,14 @@
-//! Rules compiled for packets: lists of numbers as ranges, a rule as ranges of a packet's fields, and the rules of a
-//! table in buckets of one destination, so that a packet is tried against those alone whose destination holds it.
+//! The admitted rules of a table compiled for packets: in buckets of one destination, so that a packet is tried against
+//! those alone whose destination holds it, and of many with one those alone whose numbers it may have.
 #![tactic(auto)]
 
-mod addresses;
-mod buckets;
 mod columns;
 mod compiled;
-mod components;
-mod facts;
-mod fast;
 mod filters;
-mod gaps;
-mod groups;
 mod index;
-mod limits;
-mod marks;
 mod matches;
-mod nodes;
-mod pattern;
-mod ranges;
-mod runs;
 mod search;
-mod singles;
-mod spans;
-mod tests;
 
 pub use compiled::{Compiled, walks_by_next};
-pub use fast::Fast;
+pub use fs_ranges::{Fast, Spans};
 pub use matches::Matches;
-pub use spans::Spans;

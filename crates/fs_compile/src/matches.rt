@@ -3,16 +3,17 @@
 ghost use Rattle.std.specs.Prelude.{◌≡◌, ◌≤◌, ◌+◌, ◌<◌, IfSome, List, length};
 ghost use Rattle.fs_packet.specs.Fields.{Viewed};
 ghost use Rattle.fs_rules.specs.Lent.{Listed};
-ghost use Rattle.fs_compile.specs.Facts.{AreFacts};
+ghost use Rattle.fs_ranges.specs.Facts.{AreFacts};
 ghost use Rattle.fs_compile.specs.Matcher.{next_from};
 ghost use Rattle.fs_compile.specs.Matches.{AreMatchesOf, behind};
-ghost use Rattle.fs_compile.specs.Reach.{number_of, reaching, reaching_behind, reaching_from};
+ghost use Rattle.fs_buckets.specs.Addresses.{number_of};
+ghost use Rattle.fs_compile.specs.Reach.{reaching, reaching_behind, reaching_from};
 
-use crate::facts::Facts;
 use crate::index::Index;
 use crate::search::Cursor;
 use fs_base::Steps;
 use fs_packet::View;
+use fs_ranges::Facts;
 use std::marker::Model;
 use std::sync::ledger::Ledger;
 
@@ -28,7 +29,7 @@ pub struct Matches<'a> {
 impl<'a> Model for Matches<'a> {
     ghost use Rattle.std.specs.Prelude.{◌≡◌};
     ghost use Rattle.fs_compile.specs.Matches.{Matching};
-    ghost use Rattle.fs_compile.specs.Reach.{number_of};
+    ghost use Rattle.fs_buckets.specs.Addresses.{number_of};
     ghost use Rattle.fs_compile.specs.Search.{Starts};
 
     ghost Value = { Matching };

@@ -2,17 +2,16 @@
 //! without a destination.
 
 ghost use Rattle.std.specs.Prelude.{◌≡◌, ◌<◌, ◌≤◌, ◌+◌, ◌-◌, ◌^◌, List, Bool, ℕ, get_or, length, max, take, IfSome, MatchOption};
-ghost use Rattle.fs_compile.specs.Addresses.{numbers_in, nodes_in};
-ghost use Rattle.fs_compile.specs.Buckets.{node_at};
+ghost use Rattle.fs_buckets.specs.Addresses.{numbers_in, nodes_in, number_of};
+ghost use Rattle.fs_buckets.specs.Buckets.{node_at};
 ghost use Rattle.fs_compile.specs.Filters.{AreFilters};
-ghost use Rattle.fs_compile.specs.Reach.{number_of};
-ghost use Rattle.fs_compile.specs.Search.{AreSound, Found, IsNear, Missed, Scanned, Starts, Within, behind_hit, hit_number, hits, marked, parent_at, start_at, tested_to};
+ghost use Rattle.fs_buckets.specs.Housed.{AreSound};
+ghost use Rattle.fs_compile.specs.Search.{Found, IsNear, Missed, Scanned, Starts, Within, behind_hit, hit_number, hits, marked, parent_at, start_at, tested_to};
 
-use crate::buckets::Buckets;
-use crate::facts::Facts;
-use crate::fast::Fast;
 use crate::filters::{FEW_RULES, Filters};
 use fs_base::{Address, Steps};
+use fs_buckets::Buckets;
+use fs_ranges::{Facts, Fast};
 use std::sync::ledger::Ledger;
 
 /// Where a search for an address goes on: at a bucket, among the rules from a number on.

@@ -49,7 +49,8 @@ around inner outer v h =
     let p = and_parts (implied_at inner outer v && implied_at inner outer (v - 1)) (implied_at inner outer (min (v + 1) (2 ^ 64 - 1))) h in
     ((and_parts (implied_at inner outer v) (implied_at inner outer (v - 1)) p.0).0, p.1)
 
-at_mark : (inner outer pairs : List (ℕ × ℕ)) (n : ℕ) → list_all (λ pair. implied_around inner outer pair.1) pairs ≡ true → list_any (is_mark n) pairs ≡ true → n < 2 ^ 64 → implied_at inner outer n ≡ true
+at_mark : (inner outer pairs : List (ℕ × ℕ)) (n : ℕ) → list_all (λ pair. implied_around inner outer pair.1) pairs ≡ true
+    → list_any (is_mark n) pairs ≡ true → n < 2 ^ 64 → implied_at inner outer n ≡ true
 at_mark inner outer [] n all some below = absurd cc
 at_mark inner outer (pair ∷ pairs) n all some below =
     elim (or_cases (is_mark n pair) (list_any (is_mark n) pairs) some) [
@@ -70,7 +71,8 @@ same_at : (inner outer : List (ℕ × ℕ)) (n : ℕ) → list_any (is_mark (n +
 unfolding implied_at
 same_at inner outer n one other = λ i. implies (same_list n inner one i) (same_list n outer other i)
 
-everywhere : (inner outer : List (ℕ × ℕ)) → implied_at inner outer 0 ≡ true → list_all (λ pair. implied_around inner outer pair.1) inner ≡ true → list_all (λ pair. implied_around inner outer pair.1) outer ≡ true
+everywhere : (inner outer : List (ℕ × ℕ)) → implied_at inner outer 0 ≡ true → list_all (λ pair. implied_around inner outer pair.1) inner ≡ true
+    → list_all (λ pair. implied_around inner outer pair.1) outer ≡ true
     → (n : ℕ) → n < 2 ^ 64 → implied_at inner outer n ≡ true
 everywhere inner outer first one other zero below = first
 everywhere inner outer first one other (suc n) below = let more : n + 1 ≡ suc n = omega arith in subst (λ j. implied_at inner outer j ≡ true) more (at (everywhere inner outer first one other n (omega arith)))

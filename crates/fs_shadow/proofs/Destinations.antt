@@ -15,9 +15,9 @@ use Rattle.fs_nlri.proofs.Destination.{IsMade, destination_first}
 use Rattle.fs_order.specs.Laws.{last_shown}
 use Rattle.fs_rules.specs.Lent.{Listed}
 use Rattle.fs_rules.proofs.Noting.{family_of_destination}
-use Rattle.fs_compile.specs.Index.{IsOfFamily, span_by, span_of, spans_of}
-use Rattle.fs_compile.proofs.Reaching.{HasDestination, from_span, made_destination}
-use Rattle.fs_compile.proofs.Splicing.{each_got}
+use Rattle.fs_buckets.specs.Destinations.{IsOfFamily, span_by, span_of, spans_of}
+use Rattle.fs_buckets.proofs.Destinations.{HasDestination, from_span, made_destination}
+use Rattle.fs_buckets.proofs.Splicing.{each_got}
 use Rattle.fs_shadow.specs.Contains.{body_lies_in, contains, may_lie_in, part_lies_in}
 use Rattle.fs_shadow.specs.Outlines.{AreInOrder, begins_anew, lie_apart}
 use Rattle.fs_shadow.specs.Reporting.{takes_all}
@@ -323,7 +323,8 @@ module _ (rules : List Listed) (order : AreInOrder rules) where
         within : (s : ℕ × ℕ) → span_of a.rule ≡ Some s → Within (span_of b.rule) s (2 ^ width_of order.family)
         within s e = rule_within order.family a b s (each_got (IsOfFamily order.family) rules i a order.each at_i) (each_got (IsOfFamily order.family) rules j b order.each at_j) holds e
 
-        by_both : (s p q : ℕ × ℕ) → span_of a.rule ≡ Some s → get_or spans (n - 1) None ≡ Some p → get_or spans n None ≡ Some q → (o : Option (ℕ × ℕ)) → span_of b.rule ≡ o → Within o s (2 ^ width_of order.family)
+        by_both : (s p q : ℕ × ℕ) → span_of a.rule ≡ Some s → get_or spans (n - 1) None ≡ Some p → get_or spans n None ≡ Some q → (o : Option (ℕ × ℕ))
+            → span_of b.rule ≡ o → Within o s (2 ^ width_of order.family)
             → lie_apart (Some p) (Some q) ≡ true → ⊥
         by_both s p q e g h (Some t) f w apart = let same : (p.0 ≡ q.0) × (p.1 ≡ q.1) = same_ends s t p q e f g h w in differ p q same.0 same.1 apart
         by_both s p q e g h None f w apart = let same : (p.0 ≡ q.0) × (p.1 ≡ q.1) = all_ends s p q e g h w in differ p q same.0 same.1 apart

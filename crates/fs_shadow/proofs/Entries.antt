@@ -21,7 +21,8 @@ entry_in p (x ∷ xs) (suc i) o e =
     or_second (is_entry (key_of o.measures.items) (p + suc i) (key_of x.measures.items, p)) (list_any (is_entry (key_of o.measures.items) (p + suc i)) (entries_from (p + 1) xs))
     (subst (λ k. list_any (is_entry (key_of o.measures.items) k) (entries_from (p + 1) xs) ≡ true) (let e : p + 1 + i ≡ p + suc i = omega arith in e) (entry_in (p + 1) xs i o e))
 
-pub has_entry : (outlines : List Outline) (index : List (ℕ × ℕ)) (i : ℕ) (o : Outline) → IsIndexOf outlines index → slice_get outlines i ≡ Some o → list_any (is_entry (key_of o.measures.items) i) index ≡ true
+pub has_entry : (outlines : List Outline) (index : List (ℕ × ℕ)) (i : ℕ) (o : Outline) → IsIndexOf outlines index → slice_get outlines i ≡ Some o
+    → list_any (is_entry (key_of o.measures.items) i) index ≡ true
 has_entry outlines index i o is e = is.has (key_of o.measures.items) i ∙ subst (λ k. list_any (is_entry (key_of o.measures.items) k) (entries_from 0 outlines) ≡ true) (let z : 0 + i ≡ i = omega arith in z) (entry_in 0 outlines i o e)
 
 -- entries in order, from a rank on
@@ -35,7 +36,8 @@ rising low (e ∷ es) from rises =
     (from 0 e (omega arith), rising (rank e.0 e.1) es (λ k d below. rises 0 (suc k) d (omega arith) (omega (arith, below))) (λ i j d order below. rises (suc i) (suc j) d (omega (arith, order)) (omega (arith, below))))
 
 -- entries behind those whose rank is lower
-pub rising_from : (low from : ℕ) (es : List (ℕ × ℕ)) → IsNonDecreasingBy (λ e. rank e.0 e.1) es → ((k : ℕ) (d : ℕ × ℕ) → from ≤ k → k < length es → low ≤ rank (get_or es k d).0 (get_or es k d).1) → AreRising low (drop from es)
+pub rising_from : (low from : ℕ) (es : List (ℕ × ℕ)) → IsNonDecreasingBy (λ e. rank e.0 e.1) es
+    → ((k : ℕ) (d : ℕ × ℕ) → from ≤ k → k < length es → low ≤ rank (get_or es k d).0 (get_or es k d).1) → AreRising low (drop from es)
 rising_from low zero es rises over = rising low es (λ k d below. over k d (omega arith) below) rises
 rising_from low (suc from) [] rises over = tt
 rising_from low (suc from) (e ∷ es) rises over =
@@ -142,7 +144,8 @@ module _ (outlines : List Outline) (later : Outline) (key end : ℕ) where
       within_end f true h = here h
       within_end f false h = behind h f
 
-      over : IsFound outlines later key end es rest → (b : Bool) → nat_le (rank key end) (rank e.0 e.1) ≡ b → IsFound outlines later key end (e ∷ es) (if b then end else (if taking then e.1 else rest))
+      over : IsFound outlines later key end es rest → (b : Bool) → nat_le (rank key end) (rank e.0 e.1) ≡ b
+          → IsFound outlines later key end (e ∷ es) (if b then end else (if taking then e.1 else rest))
       over f true h = over_end h
       over f false h = within_end f taking refl
 
@@ -182,7 +185,8 @@ first_of outlines index later key start end from is order parted = record {
         sym (ap (λ x. takes_as x later) at) ∙ f.none q less still
 
 -- the rule of an entry, where it is one of the key and before the end
-pub taken_at : (outlines : List Outline) (later : Outline) (key end : ℕ) (e : ℕ × ℕ) (o : Outline) (r : Bool) → e.0 ≡ key → e.1 < end → slice_get outlines e.1 ≡ Some o → r ≡ outline_takes_all o later → r ≡ takes_before outlines later key end e
+pub taken_at : (outlines : List Outline) (later : Outline) (key end : ℕ) (e : ℕ × ℕ) (o : Outline) (r : Bool) → e.0 ≡ key → e.1 < end
+    → slice_get outlines e.1 ≡ Some o → r ≡ outline_takes_all o later → r ≡ takes_before outlines later key end e
 taken_at outlines later key end e o r same less at is =
     is
     ∙ sym (ap (λ x. takes_as x later) at)

@@ -11,7 +11,7 @@ use Rattle.fs_ops.specs.Evaluation.{compares, holds}
 use Rattle.fs_nlri.specs.Parts.{Body, V4Body, V6Body, ListBody, Part}
 use Rattle.fs_packet.specs.Fields.{Viewed}
 use Rattle.fs_packet.specs.Matching.{body_matches, holds_of, is_prefix_of, list_matches, part_matches}
-use Rattle.fs_compile.specs.Facts.{IsSmall, IsSmallAddress, IsSmallField}
+use Rattle.fs_ranges.specs.Facts.{IsSmall, IsSmallAddress, IsSmallField}
 use Rattle.fs_shadow.specs.Contains.{are_same_pairs, body_lies_in, implies, is_same_pair, list_lies_in, may_lie_in, numbers_lie_in, part_lies_in, tests_bits}
 use Rattle.fs_shadow.specs.Laws.{ContainedMatches}
 use Rattle.fs_shadow.proofs.Below.{each_below, follows}

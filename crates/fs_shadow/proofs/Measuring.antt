@@ -13,7 +13,7 @@ use Rattle.fs_nlri.specs.Component.{part_of, parts_of}
 use Rattle.fs_nlri.specs.Sound.{AreSound, IsSoundBody}
 use Rattle.fs_nlri.specs.Parts.{Body, V4Body, V6Body, ListBody, Part}
 use Rattle.fs_rules.specs.Lent.{Listed}
-use Rattle.fs_compile.specs.Spans.{contains}
+use Rattle.fs_ranges.specs.Spans.{contains}
 use Rattle.fs_shadow.specs.declared.extents.Extent.{Extent}
 use Rattle.fs_shadow.specs.declared.extents.Extent.TheVariants.{V4, V6, Numbers, Bits}
 use Rattle.fs_shadow.specs.declared.extents.Measure.{Measure}

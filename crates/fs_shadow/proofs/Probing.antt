@@ -6,7 +6,7 @@ use Rattle.std.proofs.lemmas.Option.{none-some}
 use Rattle.fs_base.specs.Bits.{afi_of}
 use Rattle.fs_base.proofs.Bools.{and_parts, or_first, or_second}
 use Rattle.fs_ops.specs.Evaluation.{compares, holds}
-use Rattle.fs_compile.specs.Spans.{contains}
+use Rattle.fs_ranges.specs.Spans.{contains}
 use Rattle.fs_shadow.specs.declared.extents.Extent.{Extent}
 use Rattle.fs_shadow.specs.declared.extents.Extent.TheVariants.{V4, V6, Numbers, Bits}
 use Rattle.fs_shadow.specs.declared.extents.Measure.{Measure}
@@ -14,7 +14,7 @@ use Rattle.fs_shadow.specs.declared.outlines.Outline.{Outline}
 use Rattle.fs_shadow.specs.Contains.{implies, may_lie_in}
 use Rattle.fs_nlri.specs.Parts.{Part}
 use Rattle.fs_rules.specs.Lent.{Listed}
-use Rattle.fs_compile.proofs.Splicing.{each_got}
+use Rattle.fs_buckets.proofs.Splicing.{each_got}
 use Rattle.fs_shadow.specs.Extents.{AreMeasuresOf, IsMeasureOf, IsTold, TakesIn, TakesOne, extent_lies_in, has_probe, is_probed, key_in, measure_lies_in, number_or_none}
 use Rattle.fs_shadow.specs.Outlines.{AreOutlinesOf, IsFirst, IsOutlineOf, first_taker, is_asked, is_number, key_of, outline_takes_all, probes, takes_as}
 use Rattle.fs_shadow.proofs.Below.{each_below, follows}
@@ -52,7 +52,8 @@ one_holds k (p ∷ []) least below h = elim (or_cases (compares k p && true) fal
 ]
 
 -- a measure that lies in one with one number probes it
-measure_probes : (inner outer : Measure) (n : ℕ) → IsTold inner → IsTold outer → outer.single ≡ true → outer.held ≡ Some n → is_probed inner ≡ true → measure_lies_in inner outer ≡ true → probes n inner ≡ true
+measure_probes : (inner outer : Measure) (n : ℕ) → IsTold inner → IsTold outer → outer.single ≡ true → outer.held ≡ Some n → is_probed inner ≡ true
+    → measure_lies_in inner outer ≡ true → probes n inner ≡ true
 measure_probes inner outer n told also single has probed lies = at inner.held refl
   where
     p : (may_lie_in inner.kind outer.kind ≡ true) × (extent_lies_in inner.extent outer.extent ≡ true)
@@ -74,7 +75,8 @@ any_probes outer n (m ∷ ms) told also single has probed lies =
       | inr later ↦ or_second (probes n m) (list_any (probes n) ms) (any_probes outer n ms told.1 also single has p.1 later)
     ]
 
-one_asked : (m : Measure) (inner : List Measure) → AllByRecursion IsTold inner → IsTold m → list_all is_probed inner ≡ true → list_any (λ q. measure_lies_in q m) inner ≡ true → is_asked inner (key_in m) ≡ true
+one_asked : (m : Measure) (inner : List Measure) → AllByRecursion IsTold inner → IsTold m → list_all is_probed inner ≡ true
+    → list_any (λ q. measure_lies_in q m) inner ≡ true → is_asked inner (key_in m) ≡ true
 one_asked m inner told also probed lies = at m.single refl m.held refl
   where
     none : is_asked inner 0 ≡ true

@@ -4,7 +4,7 @@ use Rattle.std.specs.List.{slice_get}
 use Rattle.std.proofs.lemmas.Option.{get_or_from_slice_get, none-some, same_Some, slice_get_within}
 use Rattle.std.proofs.lemmas.List.{append-nil, append_assoc, drop_all, drop_more, length-take-le, take_all, take_more}
 use Rattle.fs_rules.specs.Lent.{Listed}
-use Rattle.fs_compile.specs.Index.{spans_of}
+use Rattle.fs_buckets.specs.Destinations.{spans_of}
 use Rattle.fs_compile.proofs.Pairing.{each_dropped, each_taken}
 use Rattle.fs_shadow.specs.declared.outlines.Outline.{Outline}
 use Rattle.fs_shadow.specs.Outlines.{AreInOrder, AreOutlinesOf, IsOutlineOf, begins_anew, first_taker}

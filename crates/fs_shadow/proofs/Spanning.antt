@@ -3,7 +3,7 @@ use Rattle.std.proofs.Common.{◌≡◌, ℕ, ◌<◌, None, List, length, get_o
 use Rattle.std.proofs.lemmas.List.{get_or-map, length-map}
 use Rattle.fs_rules.specs.Lent.{Listed, all_admitted, shown_lent}
 use Rattle.fs_rules.specs.declared.lent.LentRule.{LentRule}
-use Rattle.fs_compile.specs.Index.{span_of, spans_of}
+use Rattle.fs_buckets.specs.Destinations.{span_of, spans_of}
 
 pub span_of_item : (list : List LentRule) (i : ℕ) (a : LentRule) → i < length list → get_or (spans_of (all_admitted list)) i None ≡ span_of (get_or list i a).rule.now
 span_of_item list i a below =

@@ -1,12 +1,12 @@
 -- What a component takes in, as it is compared with many others, and which component it stands for.
 use Rattle.std.specs.Prelude.{◌≡◌, ℕ, ◌-◌, ◌*◌, ◌%◌, ◌^◌, ◌<◌, ◌==◌, Bool, true, false, ◌&&◌, ◌||◌, nat_lt, Option, Some, None, List, if◌then◌else◌}
+use Rattle.std.specs.List.{AllZip}
 use Rattle.fs_ops.specs.Evaluation.{compares, holds}
 use Rattle.fs_base.specs.Bits.{cleared}
 use Rattle.fs_base.specs.Prefix.{covers}
 use Rattle.fs_nlri.specs.Parts.{Body, V4Body, V6Body, ListBody, Part}
 use Rattle.fs_nlri.specs.Sound.{IsSoundBody}
-use Rattle.fs_compile.specs.Spans.{contains}
-use Rattle.fs_compile.specs.Index.{EachWith}
+use Rattle.fs_ranges.specs.Spans.{contains}
 use Rattle.fs_shadow.specs.declared.extents.Extent.{Extent}
 use Rattle.fs_shadow.specs.declared.extents.Extent.TheVariants.{V4, V6, Numbers, Bits}
 use Rattle.fs_shadow.specs.declared.extents.Measure.{Measure}
@@ -81,4 +81,4 @@ pub record IsMeasureOf (part : Part) (measure : Measure) : Type 0 where
 
 -- each of its component
 abbrev pub AreMeasuresOf : List Part → List Measure → Type 0
-AreMeasuresOf parts measures = EachWith IsMeasureOf parts measures
+AreMeasuresOf parts measures = AllZip IsMeasureOf parts measures

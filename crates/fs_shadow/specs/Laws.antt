@@ -6,7 +6,7 @@ use Rattle.fs_packet.specs.Fields.{Viewed}
 use Rattle.fs_packet.specs.Matching.{is_match}
 use Rattle.fs_rules.specs.Lent.{Listed}
 use Rattle.fs_rules.specs.Walk.{goes_on, walk_of}
-use Rattle.fs_compile.specs.Facts.{IsSmall}
+use Rattle.fs_ranges.specs.Facts.{IsSmall}
 use Rattle.fs_shadow.specs.Contains.{contains}
 use Rattle.fs_shadow.specs.Reporting.{report_of}
 

@@ -1,14 +1,14 @@
 -- Rules as they are compared with many others, and which of them may contain a later one by their destinations,
 -- or by single numbers that they ask for.
 use Rattle.std.specs.Prelude.{◌≡◌, ℕ, ◌+◌, ◌-◌, ◌*◌, ◌^◌, ◌<◌, ◌≤◌, ◌==◌, Bool, true, false, not, ◌&&◌, ◌||◌, max, nat_le, nat_lt, Option, Some, None, List, [], ◌∷◌, get_or, if◌then◌else◌}
-use Rattle.std.specs.List.{AllByRecursion, list_all, list_any, slice_get}
+use Rattle.std.specs.List.{AllByRecursion, list_all, list_any, slice_get, AllZip}
 use Rattle.std.specs.List.Sorted.{IsNonDecreasingBy}
 use Rattle.fs_base.specs.declared.prefix.Family.{Family}
 use Rattle.fs_base.specs.Bits.{afi_of}
 use Rattle.fs_rules.specs.Lent.{Listed}
 use Rattle.fs_rules.specs.Walk.{goes_on}
-use Rattle.fs_compile.specs.Index.{EachWith, IsOfFamily, spans_of}
-use Rattle.fs_compile.specs.Runs.{AreNesting}
+use Rattle.fs_buckets.specs.Destinations.{IsOfFamily, spans_of}
+use Rattle.fs_buckets.specs.Runs.{AreNesting}
 use Rattle.fs_shadow.specs.declared.outlines.Outline.{Outline}
 use Rattle.fs_shadow.specs.Extents.{AreMeasuresOf, IsTold, key_in, measure_lies_in}
 use Rattle.fs_shadow.specs.declared.extents.Measure.{Measure}
@@ -34,7 +34,7 @@ pub record IsOutlineOf (rule : Listed) (outline : Outline) : Type 0 where
 
 -- each of its rule
 abbrev pub AreOutlinesOf : List Listed → List Outline → Type 0
-AreOutlinesOf rules outlines = EachWith IsOutlineOf rules outlines
+AreOutlinesOf rules outlines = AllZip IsOutlineOf rules outlines
 
 -- rules of a family by their destinations
 pub record AreInOrder (rules : List Listed) : Type 0 where

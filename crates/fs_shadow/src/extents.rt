@@ -2,7 +2,7 @@
 
 ghost use Rattle.std.specs.Prelude.{◌≡◌, ◌^◌, ◌<◌, ℕ, IfOk, Some, false, true};
 ghost use Rattle.fs_ops.specs.Evaluation.{compares, holds};
-ghost use Rattle.fs_compile.specs.Spans.{contains};
+ghost use Rattle.fs_ranges.specs.Spans.{contains};
 ghost use Rattle.fs_nlri.specs.Component.{body_of, part_of};
 ghost use Rattle.fs_nlri.specs.Parts.{ListBody, part};
 ghost use Rattle.fs_nlri.specs.Sound.{IsSoundBody};
@@ -11,9 +11,9 @@ ghost use Rattle.fs_shadow.specs.Extents.{IsMeasureOf, bits_lie_in, extent_lies_
 
 use crate::prefixes::Known;
 use fs_base::{Family, Memory, Prefix};
-use fs_compile::Spans;
 use fs_nlri::{Component, PrefixForm};
 use fs_ops::{MaskList, NumList};
+use fs_ranges::Spans;
 use std::alloc::Global;
 
 /// What a component takes in.

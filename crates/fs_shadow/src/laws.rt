@@ -1,6 +1,6 @@
 //! What it means for packets that a rule contains another.
 
-ghost use Rattle.fs_compile.specs.Facts.{IsSmall};
+ghost use Rattle.fs_ranges.specs.Facts.{IsSmall};
 ghost use Rattle.fs_shadow.specs.Laws.{ConfirmedNeverWalks, ContainedMatches, CoveredNeverWalks};
 
 use fs_packet::View;

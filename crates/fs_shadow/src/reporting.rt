@@ -8,7 +8,7 @@
 ghost use Rattle.std.specs.Prelude.{◌≡◌, ◌≤◌, ◌<◌, ◌+◌, ◌-◌, ◌++◌, ◌^◌, IfOk, None, OnOk, if◌then◌else◌, true};
 ghost use Rattle.std.specs.Prelude.{drop, get_or, length, map, take};
 ghost use Rattle.std.specs.List.{AllByRecursion, list_all};
-ghost use Rattle.fs_compile.specs.Index.{span_of, spans_of};
+ghost use Rattle.fs_buckets.specs.Destinations.{span_of, spans_of};
 ghost use Rattle.fs_rules.specs.Lent.{all_admitted, listed};
 ghost use Rattle.fs_rules.specs.Table.{admitted};
 ghost use Rattle.fs_shadow.specs.Extents.{IsTold, is_probed};

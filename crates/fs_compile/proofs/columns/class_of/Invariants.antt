@@ -1,5 +1,5 @@
 use Rattle.std.proofs.Common.{◌+◌}
-use Rattle.fs_compile.specs.Between.{IsBetween}
+use Rattle.fs_buckets.specs.Between.{IsBetween}
 use Rattle.fs_compile.proofs.columns.class_of.Given as goal
 
 abbrev pub invariant-halves : goal.invariant-halves

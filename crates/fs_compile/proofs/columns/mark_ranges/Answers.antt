@@ -1,6 +1,6 @@
 use Rattle.std.proofs.Common.{◌≡◌, ℕ, true, List, take, sym, ap, subst, ◌∙◌, arith}
 use Rattle.std.proofs.Math.Seq.{take-length}
-use Rattle.fs_compile.specs.Spans.{contains}
+use Rattle.fs_ranges.specs.Spans.{contains}
 use Rattle.fs_compile.proofs.Marking.{grown_on, range_more}
 use Rattle.fs_compile.proofs.columns.mark_ranges.Goals as goal
 

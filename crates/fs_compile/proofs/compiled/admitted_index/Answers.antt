@@ -2,9 +2,10 @@ use Rattle.std.proofs.Common.{List, IfOk, sym, ap, subst, ◌∙◌}
 use Rattle.std.specs.List.{AllByRecursion}
 use Rattle.fs_rules.specs.Lent.{Listed, all_admitted}
 use Rattle.fs_rules.specs.Table.{admitted}
-use Rattle.fs_compile.specs.Index.{IsIndexOf, IsOfFamily, spans_of}
-use Rattle.fs_compile.specs.Runs.{AreNesting}
-use Rattle.fs_compile.proofs.Nesting.{all_of_family, nesting}
+use Rattle.fs_compile.specs.Index.{IsIndexOf}
+use Rattle.fs_buckets.specs.Destinations.{IsOfFamily, spans_of}
+use Rattle.fs_buckets.specs.Runs.{AreNesting}
+use Rattle.fs_buckets.proofs.Nesting.{all_of_family, nesting}
 use Rattle.fs_compile.proofs.MatcherMending.{if_ok}
 use Rattle.fs_compile.proofs.compiled.admitted_index.Goals as goal
 

@@ -47,7 +47,8 @@ returns-in-Some g c = record {
   found : Found (hits c.args.facts.now c.args.rules.now) c.max.result c.args.to c.in-Some.number
   found = c.in-Some.ensures.found
 
-  by : (k : ℕ) → c.args.from ≤ k → k < c.in-Some.number → (k < c.args.first + c.words.place * 64) ⊎ (c.args.first + c.words.place * 64 ≤ k) → get_or (hits c.args.facts.now c.args.rules.now) k false ≡ false
+  by : (k : ℕ) → c.args.from ≤ k → k < c.in-Some.number → (k < c.args.first + c.words.place * 64) ⊎ (c.args.first + c.words.place * 64 ≤ k)
+      → get_or (hits c.args.facts.now c.args.rules.now) k false ≡ false
   by k above below (inl earlier) = c.words.invariant.missed k above (omega (arith, earlier, c.words-test.true))
   by k above below (inr here) = found.before k (omega (arith, above, here, c.max.ensures)) below
 

@@ -1,7 +1,7 @@
 use Rattle.std.proofs.Common.{◌≡◌, IfOk, List, sym, ap, subst, ◌∙◌}
 use Rattle.fs_rules.specs.Lent.{Listed, all_admitted}
 use Rattle.fs_rules.specs.Table.{admitted}
-use Rattle.fs_compile.proofs.Nesting.{all_of_family, nesting}
+use Rattle.fs_buckets.proofs.Nesting.{all_of_family, nesting}
 use Rattle.fs_shadow.specs.Outlines.{AreInOrder}
 use Rattle.fs_shadow.specs.Reporting.{report_of}
 use Rattle.fs_shadow.proofs.reporting.report.Goals as goal

@@ -4,11 +4,10 @@ use Rattle.std.specs.List.{AllByRecursion}
 use Rattle.fs_rules.specs.Lent.{Listed, all_admitted}
 use Rattle.fs_rules.specs.Table.{admitted}
 use Rattle.fs_rules.specs.declared.Change.{Change}
-use Rattle.fs_compile.specs.Index.{IsOfFamily, spans_of}
+use Rattle.fs_buckets.specs.Destinations.{IsOfFamily, spans_of, AreTo, target_of}
 use Rattle.fs_compile.specs.Matcher.{admitted_in}
-use Rattle.fs_compile.specs.Mending.{AreTo, target_of}
 use Rattle.fs_compile.proofs.MatcherMending.{Mends, listed_to, mends_first, mends_next, mends_own, mends_stand, own_here, own_item, to_here}
-use Rattle.fs_compile.proofs.Nesting.{all_of_family}
+use Rattle.fs_buckets.proofs.Nesting.{all_of_family}
 use Rattle.fs_compile.proofs.compiled.Compiled.mend.Goals as goal
 
 pub loop-place-init : goal.loop-place-init

@@ -2,9 +2,10 @@ use Rattle.std.proofs.Common.{List, sym, subst, ◌∙◌}
 use Rattle.std.specs.List.{AllByRecursion}
 use Rattle.fs_rules.specs.Lent.{all_admitted}
 use Rattle.fs_rules.specs.declared.lent.LentRule.{LentRule}
-use Rattle.fs_compile.specs.Index.{IsIndexOf, IsOfFamily, spans_of}
-use Rattle.fs_compile.specs.Runs.{AreNesting}
-use Rattle.fs_compile.proofs.IndexMending.{nothing_nests}
+use Rattle.fs_compile.specs.Index.{IsIndexOf}
+use Rattle.fs_buckets.specs.Destinations.{IsOfFamily, spans_of}
+use Rattle.fs_buckets.specs.Runs.{AreNesting}
+use Rattle.fs_buckets.proofs.Replacing.{nothing_nests}
 use Rattle.fs_compile.proofs.index.Index.replace.Goals as goal
 
 pub of-requires-clause-each : goal.of-requires-clause-each

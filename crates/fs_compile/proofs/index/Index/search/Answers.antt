@@ -1,25 +1,31 @@
 use Rattle.std.proofs.Common.{subst, sym}
-use Rattle.fs_compile.specs.Index.{IsIndexOf}
+use Rattle.fs_compile.specs.Index.{Indexed, IsIndexOf}
 use Rattle.fs_compile.specs.Search.{hit_number}
 use Rattle.fs_compile.proofs.Indexing.{search_is, steps_are}
 use Rattle.fs_compile.proofs.index.Index.search.Goals as goal
 
 pub returns-then-is_empty-clause-found : goal.returns-then-is_empty-clause-found
 returns-then-is_empty-clause-found g c = λ view rules are h.
-    search_is view c.args.facts.now rules (record { buckets = c.self.inside.buckets; rules = c.self.inside.rules.items; actions = c.self.inside.actions.items }) c.deref.result.now c.args.start.address c.args.start.from c.climb.result c.deref.ensures.value are c.requires.address
-    (subst (IsIndexOf view.family rules) (sym c.self.view_is) h) c.climb.ensures.found
+    let inside : Indexed = record { buckets = c.self.inside.buckets; rules = c.self.inside.rules.items; actions = c.self.inside.actions.items } in
+    search_is view c.args.facts.now rules inside c.deref.result.now c.args.start.address c.args.start.from c.climb.result
+    c.deref.ensures.value are c.requires.address (subst (IsIndexOf view.family rules) (sym c.self.view_is) h) c.climb.ensures.found
 
 pub returns-then-is_empty-clause-steps : goal.returns-then-is_empty-clause-steps
 returns-then-is_empty-clause-steps g c = λ view rules are h.
-    steps_are view c.args.facts.now rules (record { buckets = c.self.inside.buckets; rules = c.self.inside.rules.items; actions = c.self.inside.actions.items }) c.deref.result.now c.args.start.address c.args.start.from c.args.steps.now c.climb.new.steps (hit_number c.climb.result) c.deref.ensures.value are c.requires.address
-    (subst (IsIndexOf view.family rules) (sym c.self.view_is) h) c.climb.ensures.steps
+    let inside : Indexed = record { buckets = c.self.inside.buckets; rules = c.self.inside.rules.items; actions = c.self.inside.actions.items } in
+    steps_are view c.args.facts.now rules inside c.deref.result.now c.args.start.address c.args.start.from
+    c.args.steps.now c.climb.new.steps (hit_number c.climb.result)
+    c.deref.ensures.value are c.requires.address (subst (IsIndexOf view.family rules) (sym c.self.view_is) h) c.climb.ensures.steps
 
 pub returns-else-is_empty-clause-found : goal.returns-else-is_empty-clause-found
 returns-else-is_empty-clause-found g c = λ view rules are h.
-    search_is view c.args.facts.now rules (record { buckets = c.self.inside.buckets; rules = c.self.inside.rules.items; actions = c.self.inside.actions.items }) c.deref-else-is_empty.result.now c.args.start.address c.args.start.from c.climb-else-is_empty.result c.deref-else-is_empty.ensures.value are c.requires.address
-    (subst (IsIndexOf view.family rules) (sym c.self.view_is) h) c.climb-else-is_empty.ensures.found
+    let inside : Indexed = record { buckets = c.self.inside.buckets; rules = c.self.inside.rules.items; actions = c.self.inside.actions.items } in
+    search_is view c.args.facts.now rules inside c.deref-else-is_empty.result.now c.args.start.address c.args.start.from c.climb-else-is_empty.result
+    c.deref-else-is_empty.ensures.value are c.requires.address (subst (IsIndexOf view.family rules) (sym c.self.view_is) h) c.climb-else-is_empty.ensures.found
 
 pub returns-else-is_empty-clause-steps : goal.returns-else-is_empty-clause-steps
 returns-else-is_empty-clause-steps g c = λ view rules are h.
-    steps_are view c.args.facts.now rules (record { buckets = c.self.inside.buckets; rules = c.self.inside.rules.items; actions = c.self.inside.actions.items }) c.deref-else-is_empty.result.now c.args.start.address c.args.start.from c.args.steps.now c.climb-else-is_empty.new.steps (hit_number c.climb-else-is_empty.result) c.deref-else-is_empty.ensures.value are c.requires.address
-    (subst (IsIndexOf view.family rules) (sym c.self.view_is) h) c.climb-else-is_empty.ensures.steps
+    let inside : Indexed = record { buckets = c.self.inside.buckets; rules = c.self.inside.rules.items; actions = c.self.inside.actions.items } in
+    steps_are view c.args.facts.now rules inside c.deref-else-is_empty.result.now c.args.start.address c.args.start.from
+    c.args.steps.now c.climb-else-is_empty.new.steps (hit_number c.climb-else-is_empty.result)
+    c.deref-else-is_empty.ensures.value are c.requires.address (subst (IsIndexOf view.family rules) (sym c.self.view_is) h) c.climb-else-is_empty.ensures.steps

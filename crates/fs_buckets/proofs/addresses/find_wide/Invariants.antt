@@ -1,0 +1,9 @@
+use Rattle.std.proofs.Common.{◌+◌}
+use Rattle.fs_buckets.specs.Between.{IsBetween}
+use Rattle.fs_buckets.proofs.addresses.find_wide.Given as goal
+
+abbrev pub invariant-halves : goal.invariant-halves
+invariant-halves l = IsBetween l.items l.address l.place (l.place + l.size)
+
+abbrev pub decreases-halves : goal.decreases-halves
+decreases-halves l = l.size

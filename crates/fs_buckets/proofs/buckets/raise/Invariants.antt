@@ -1,0 +1,6 @@
+use Rattle.std.proofs.Common.{◌+◌}
+use Rattle.fs_buckets.specs.Buckets.{AreChanged}
+use Rattle.fs_buckets.proofs.buckets.raise.Given as goal
+
+abbrev pub invariant-loop-place : goal.invariant-loop-place
+invariant-loop-place l = AreChanged l.from l.place (λ _ n. n + 1) l.initial.numbers l.numbers

@@ -1,9 +1,0 @@
-use Rattle.std.proofs.Common.{◌+◌}
-use Rattle.fs_compile.specs.Between.{IsBetween}
-use Rattle.fs_compile.proofs.addresses.find_in_width.Given as goal
-
-abbrev pub invariant-halves : goal.invariant-halves
-invariant-halves l = IsBetween l.items l.address l.place (l.place + l.size)
-
-abbrev pub decreases-halves : goal.decreases-halves
-decreases-halves l = l.size

@@ -1,6 +1,0 @@
-use Rattle.std.proofs.Common.{◌+◌}
-use Rattle.fs_compile.specs.Buckets.{AreChanged}
-use Rattle.fs_compile.proofs.buckets.raise.Given as goal
-
-abbrev pub invariant-loop-place : goal.invariant-loop-place
-invariant-loop-place l = AreChanged l.from l.place (λ _ n. n + 1) l.initial.numbers l.numbers

@@ -1,5 +1,0 @@
-use Rattle.std.proofs.Common.{◌-◌, length}
-use Rattle.fs_compile.proofs.marks.put_before.Given as goal
-
-abbrev pub decreases-stretches : goal.decreases-stretches
-decreases-stretches l = l.stretch - length l.places.items

@@ -1,6 +1,0 @@
-use Rattle.std.proofs.Common.{◌≡◌, drop}
-use Rattle.fs_compile.specs.Numbers.{are_singles}
-use Rattle.fs_compile.proofs.singles.are_singles.Given as goal
-
-abbrev pub invariant-loop-operator : goal.invariant-loop-operator
-invariant-loop-operator l = are_singles l.low (drop l.operator-index l.pairs) ≡ are_singles 0 l.pairs

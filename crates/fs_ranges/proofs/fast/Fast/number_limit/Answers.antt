@@ -1,0 +1,13 @@
+use Rattle.std.proofs.Common.{◌≡◌, true, List, sym, subst}
+use Rattle.std.specs.List.{list_all}
+use Rattle.fs_ranges.specs.declared.tests.Test.{Test}
+use Rattle.fs_ranges.specs.Tests.{passes}
+use Rattle.fs_ranges.proofs.Placing.{ranges_held, tests_held}
+use Rattle.fs_ranges.proofs.fast.Fast.number_limit.Goals as goal
+
+pub returns-in-Any : goal.returns-in-Any
+returns-in-Any c = λ facts h. c.limit.ensures facts (ranges_held facts c.args.self.now h)
+
+pub returns-in_default : goal.returns-in_default
+returns-in_default c = λ facts h.
+    c.limit_of.ensures facts (subst (λ (tests : List Test). list_all (passes facts) tests ≡ true) (sym c.deref.ensures.value) (tests_held facts c.args.self.now h))

@@ -1,0 +1,10 @@
+use Rattle.std.proofs.Common.{◌≡◌, true, List, sym, subst}
+use Rattle.std.specs.List.{list_all}
+use Rattle.fs_ranges.specs.declared.tests.Test.{Test}
+use Rattle.fs_ranges.specs.Tests.{passes}
+use Rattle.fs_ranges.proofs.Placing.{tests_held}
+use Rattle.fs_ranges.proofs.fast.Fast.ports_limit.Goals as goal
+
+pub returns : goal.returns
+returns c = λ facts h.
+    c.ports_limit_of.ensures facts (subst (λ (tests : List Test). list_all (passes facts) tests ≡ true) (sym c.deref.ensures.value) (tests_held facts c.args.self.now h))

@@ -1,0 +1,6 @@
+use Rattle.std.proofs.Common.{◌≡◌, ℕ, true, take}
+use Rattle.fs_ranges.specs.Spans.{contains, is_in}
+use Rattle.fs_ranges.proofs.spans.hull_of.Given as goal
+
+abbrev pub invariant-loop-range : goal.invariant-loop-range
+invariant-loop-range l = (n : ℕ) → contains (take l.range-index l.ranges) n ≡ true → is_in n (l.low, l.high) ≡ true

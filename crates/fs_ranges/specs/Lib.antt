@@ -1,0 +1,10 @@
+pub mod Facts
+pub mod Fast
+pub mod Flags
+pub mod Gaps
+pub mod Groups
+pub mod Limits
+pub mod Numbers
+pub mod Ranges
+pub mod Spans
+pub mod Tests

@@ -1,0 +1,16 @@
+-- What a limit of a field allows.
+use Rattle.std.specs.Prelude.{ℕ, Bool, ◌||◌, true}
+use Rattle.fs_ranges.specs.declared.limits.Limit.{Limit}
+use Rattle.fs_ranges.specs.declared.limits.Limit.TheVariants.{Any, Range, Ranges}
+use Rattle.fs_ranges.specs.Facts.{Facts, number_of}
+use Rattle.fs_ranges.specs.Spans.{contains, is_in}
+
+-- the number is one of these
+abbrev pub allows : Limit → ℕ → Bool
+allows Any number = true
+allows (Range low high) number = is_in number (low, high)
+allows (Ranges ranges) number = contains ranges.now number
+
+-- either port is one of these
+abbrev pub allows_port : Limit → Facts → Bool
+allows_port limit facts = allows limit (number_of facts 6) || allows limit (number_of facts 5)
