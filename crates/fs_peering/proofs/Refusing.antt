@@ -11,7 +11,7 @@ use Rattle.fs_speaker.specs.World.{World, at_first, happens, next_said, run, run
 use Rattle.fs_speaker.specs.declared.event.Event.{Event}
 use Rattle.fs_speaker.specs.declared.event.Event.TheVariants.{Send, Deliver, Tick as TickEvent, Cut}
 use Rattle.fs_speaker.proofs.Arriving.{open_fits}
-use Rattle.fs_speaker.proofs.Handing.{runs_stops, runs_waits}
+use Rattle.fs_speaker.proofs.MessageRuns.{runs_stops, runs_waits}
 use Rattle.fs_speaker.proofs.Handover.{closed_hand, open_hand}
 use Rattle.fs_speaker.proofs.Waking.{ticked_by}
 use Rattle.fs_speaker.proofs.ReplySteps.{Shows, told}

@@ -14,8 +14,8 @@ use Rattle.fs_session.specs.Side.{at_fault}
 use Rattle.fs_session.specs.Times.{times, at_moment, taken_in}
 use Rattle.fs_session.specs.declared.transition.Phase.{Phase}
 use Rattle.fs_session.specs.Transition.{Machine}
-use Rattle.fs_session.proofs.Handing.{runs_takes, runs_stops, runs_waits}
-pub use Rattle.fs_session.proofs.Handing.{open_hand, closed_hand}
+use Rattle.fs_session.proofs.MessageRuns.{runs_takes, runs_stops, runs_waits}
+pub use Rattle.fs_session.proofs.MessageRuns.{open_hand, closed_hand}
 use Rattle.fs_speaker.specs.End.{StandsAt, HandsOver}
 
 -- what was taken and answered before, and what is to come

@@ -1,4 +1,4 @@
-use Rattle.fs_session.proofs.Joining.{both_hands, both_answers, front_first}
+use Rattle.fs_session.proofs.TwoPieces.{both_hands, both_answers, front_first}
 use Rattle.fs_session.proofs.laws.pieces_join.Goals as goal
 
 pub returns : goal.returns
