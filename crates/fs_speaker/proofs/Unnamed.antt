@@ -39,7 +39,7 @@ none_front : (xs rest : List Update) → xs ++ rest ≡ [] → xs ≡ []
 none_front [] rest e = refl
 none_front (x ∷ xs) rest e = absurd cc
 
-same_why : (a b : Closed) → closed a ≡ closed b → a ≡ b
+pub same_why : (a b : Closed) → closed a ≡ closed b → a ≡ b
 same_why a b e = cc
 
 module _ (config : Config) (peer : Peer) (sending : Sending) where
