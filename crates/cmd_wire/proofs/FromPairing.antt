@@ -1,18 +1,17 @@
 -- How what `pair` answers follows from its stages.
 use Rattle.std.proofs.Common.{◌≡◌, ◌⊎◌, inl, inr, ◌∙◌, ℕ, List, ◌++◌, Bool, false, Option, Some, None, IfSome, Result, Ok, Err, refl, ap, sym, subst}
-use Rattle.cmd_wire.proofs.Words.{Announcing, Arrives, AtLimit, CanSend, Desked, Done, EndCloses, Ended, Ending, Found, HasReason, Names, Pairs, PairsOver, PairsSo, Peer, Played, Refusal, Sending, Told, WireEnds, and_then, announcing, answered, begins_with, config_stage, joined_end, octets_in, or_stop, peer_of, rules_stage, sender_of, status_of, tape_of}
+use Rattle.cmd_wire.proofs.Words.{Announcing, Arrives, AtLimit, CanSend, Desked, Done, EndCloses, Ended, Ending, FilesFailed, Found, Happened, HasReason, Names, Pairs, PairsOver, PairsSo, Peer, Played, Refusal, Sending, SinkFailed, Told, WireEnds, WireFailed, and_then, announcing, begins_with, joined_end, octets_in, or_stop, peer_of, sender_of, sending_stage, tape_of}
 use Rattle.fs_base.specs.declared.config.Config.{Config}
 use Rattle.fs_speaker.specs.Line.{fresh}
-use Rattle.fs_peering.proofs.WrittenInParts.{told_and}
 use Rattle.fs_peering.specs.Joined.{AreJoined, of_first, of_second}
 use Rattle.fs_desk.proofs.Leaves.{played_leaves}
 use Rattle.fs_peering.specs.declared.tell.Ending.TheVariants.{Closed as HasClosed}
 use Rattle.cmd_stages.proofs.Stages.{answers_for}
-use Rattle.cmd_wire.specs.Announcing.{IsBrokenOff, IsOfSession}
+use Rattle.cmd_wire.specs.Announcing.{IsBrokenOff}
 use Rattle.cmd_wire.specs.Conversation.{Conversation}
 use Rattle.cmd_wire.specs.Listed.{IsListing, ListsDesk, TellsListing, verdict_by}
-use Rattle.cmd_wire.specs.Pairing.{BothBegin, Joined, JoinsSo, Meets}
-use Rattle.cmd_wire.proofs.FromStages.{sending_found}
+use Rattle.cmd_wire.specs.Pairing.{BothBegin, Joined, Joins, Meets}
+use Rattle.cmd_wire.proofs.FromStages.{told_through}
 use Rattle.fs_speaker.proofs.Lowest.{sender_told}
 use Rattle.cmd_wire.specs.Listening.{Begins}
 use Rattle.std.specs.Result.{IfErr, IsErrAnd}
@@ -34,14 +33,6 @@ never_three {A} ending desk failed before now answer (inr told) three = by told.
     by (inl h) = absurd (not_three ending told.0 (sym h ∙ three))
     by (inr (inl h)) = let at : ◌≡◌ {A = ℕ} 6 3 = sym h ∙ three in absurd cc
     by (inr (inr h)) = let at : ◌≡◌ {A = ℕ} 1 3 = sym h.0 ∙ three in absurd cc
-
-pub broken_three : {A : Type 0} (failed : Type 0) (refusal : Refusal) → IsBrokenOff failed refusal → status_of refusal ≡ 3 → A
-broken_three failed refusal (inl h) three = let at : ◌≡◌ {A = ℕ} 6 3 = ap status_of (sym h) ∙ three in absurd cc
-broken_three failed refusal (inr h) three = let at : ◌≡◌ {A = ℕ} 1 3 = ap status_of (sym h.0) ∙ three in absurd cc
-
-pub broken_session : (failed : Type 0) (refusal : Refusal) → IsBrokenOff failed refusal → IsOfSession (status_of refusal)
-broken_session failed refusal (inl h) = subst (λ (r : Refusal). IsOfSession (status_of r)) (sym h) ((λ e. absurd cc), (λ e. absurd cc), λ e. absurd cc)
-broken_session failed refusal (inr h) = subst (λ (r : Refusal). IsOfSession (status_of r)) (sym h.0) ((λ e. absurd cc), (λ e. absurd cc), λ e. absurd cc)
 
 -- what was told of both ends that were opened, spoken through, and closed
 
@@ -92,42 +83,27 @@ met ending config peer sending desk limit given text lists a b c d f =
       lists = lists_for config peer sending desk limit given text ending b c p lists;
     }
 
-closed_so : (ending : Ending) (config : Config) (peer : Peer) (sending : Sending) (desk : Desked) (limit : ℕ) (given text : List ℕ) (a b c : WireEnds)
-    → Meets ending config peer sending desk limit given text a b → EndCloses b c → Meets ending config peer sending desk limit given text a c
-closed_so ending config peer sending desk limit given text a b c m e = subst (Meets ending config peer sending desk limit given text a) (sym e) m
-
-pub joined : (ending : Ending) (config : Config) (peer : Peer) (sending : Sending) (desk : Desked) (limit : ℕ) (text : List ℕ) (t0 t1 t2 t3 : Option WireEnds) (answers answers' : Option (List ℕ))
-    → ListsDesk ending desk text → sender_of config.peers ≡ Some peer → Told coupled t0 t1
-    → PairsOver ending config peer sending desk peer.number limit t1 t2 answers answers' → Told EndCloses t2 t3
-    → Joined ending config sending limit text (record { ends = t0; ends_now = t3; answers = answers; answers_now = answers' })
-joined ending config peer sending desk limit text t0 t1 t2 t3 answers answers' lists p opens pairs closes = record {
-  peer = peer;
-  peer_is = p;
-  desk = desk;
-  given = pairs.given;
-  grew = pairs.grew;
-  told = told_and (Meets ending config peer sending desk limit pairs.given text) EndCloses (Meets ending config peer sending desk limit pairs.given text)
-      (closed_so ending config peer sending desk limit pairs.given text) t0 t2 t3
-      (told_and coupled (λ b n. AreJoined b → Pairs ending config peer sending desk peer.number limit pairs.given b n) (Meets ending config peer sending desk limit pairs.given text)
-      (met ending config peer sending desk limit pairs.given text lists) t0 t1 t2 opens pairs.told)
-      closes;
-}
-
 -- as the peer that the rules are sent for
-pub joined_from : (ending : Ending) (config : Config) (sending : Sending) (begun desk : Desked) (number limit : ℕ) (text : List ℕ) (sender : Announcing) (started : Bool)
-    (t0 t1 t2 t3 : Option WireEnds) (answers answers' : Option (List ℕ))
-    → BothBegin config sending begun number sender started
-    → ListsDesk ending desk text
-    → Told coupled t0 t1
-    → ((config : Config) (whose : Peer) (sending : Sending) → begun.config ≡ config → peer_of number config.peers ≡ Some whose
-    → sender ≡ begins_with config whose sending → started ≡ false → PairsOver ending config whose sending desk number limit t1 t2 answers answers')
-    → Told EndCloses t2 t3
-    → Joined ending config sending limit text (record { ends = t0; ends_now = t3; answers = answers; answers_now = answers' })
-joined_from ending config sending begun desk number limit text sender started t0 t1 t2 t3 answers answers' b lists opens pairs closes =
-    joined ending config b.peer sending desk limit text t0 t1 t2 t3 answers answers' lists b.peer_is opens
-    (subst (λ (n : ℕ). PairsOver ending config b.peer sending desk n limit t1 t2 answers answers') b.number_is
-    (pairs config b.peer sending b.config_is b.known b.sender_is b.unstarted))
-    closes
+module _ {config : Config} {sending : Sending} {begun : Desked} {number : ℕ} {sender : Announcing} {started : Bool} (b : BothBegin config sending begun number sender started) where
+  pub joined_from : (ending : Ending) (desk : Desked) (limit : ℕ) (text : List ℕ) (t1 t2 : Option WireEnds) (talk : Conversation)
+      → ListsDesk ending desk text → Told coupled talk.ends t1
+      → ((config : Config) (whose : Peer) (sending : Sending) → begun.config ≡ config → peer_of number config.peers ≡ Some whose
+      → sender ≡ begins_with config whose sending → started ≡ false → PairsOver ending config whose sending desk number limit t1 t2 talk.answers talk.answers_now)
+      → Told EndCloses t2 talk.ends_now → Joined ending config sending limit text talk
+  joined_from ending desk limit text t1 t2 talk lists opens pairs closes =
+      let over : PairsOver ending config b.peer sending desk b.peer.number limit t1 t2 talk.answers talk.answers_now =
+      subst (λ (n : ℕ). PairsOver ending config b.peer sending desk n limit t1 t2 talk.answers talk.answers_now) b.number_is
+      (pairs config b.peer sending b.config_is b.known b.sender_is b.unstarted) in
+      record {
+        peer = b.peer;
+        peer_is = b.peer_is;
+        desk = desk;
+        given = over.given;
+        grew = over.grew;
+        told = told_through coupled (λ before now. AreJoined before → Pairs ending config b.peer sending desk b.peer.number limit over.given before now)
+            (Meets ending config b.peer sending desk limit over.given text) (met ending config b.peer sending desk limit over.given text lists)
+            talk.ends t1 t2 talk.ends_now opens over.told closes;
+      }
 
 abbrev Made : Config → Sending → Option Peer → Announcing → Bool → Type 0
 Made config sending o teller started =
@@ -158,24 +134,17 @@ lowest_broken config (Some peer) sending (Err other) refusal can (inl h) e = abs
 lowest_broken config (Some peer) sending (Err other) refusal can (inr h) e = subst (IsBrokenOff ⊥) (sym e) h
 
 -- or the session ended
-
-pub pair_told : {T : Type 0} (limit : ℕ) (holds holds' : Names) (config rules : List ℕ) (accepted : Config) (sending : Sending) (ending : Ending)
-    (begun desk : Desked) (number : ℕ) (sender : Announcing) (started : Bool) (failed failed' : Type 0)
-    (before now : Option (List ℕ)) (talk : Conversation) (result : Result T Refusal)
-    → config_stage limit holds config ≡ Found accepted → holds' ≡ holds → rules_stage accepted limit holds' rules ≡ Found sending
-    → BothBegin accepted sending begun number sender started
-    → ((config : Config) (sending : Sending) (text : List ℕ) → BothBegin config sending begun number sender started → ListsDesk ending desk text → Joined ending config sending limit text talk)
-    → TellsListing ending desk failed before now (answered result) → (failed → failed')
-    → JoinsSo limit holds config rules failed' before now talk (answered result)
-pair_told limit holds holds' config rules accepted sending ending begun desk number sender started failed failed' before now talk result e same r b speaks (inl none) f =
-    inl (record { reason = inr (inl none.0); nothing = none.1 })
-pair_told limit holds holds' config rules accepted sending ending begun desk number sender started failed failed' before now talk result e same r b speaks (inr told) f =
-    inr (record {
-      accepted = accepted;
-      sending = sending;
-      found = sending_found limit holds holds' config rules accepted sending e same r;
-      ending = ending;
-      text = told.0;
-      speaks = speaks accepted sending told.0 b told.1.0;
-      answers = answers_for (verdict_by ending told.0) failed failed' before now (answered result) told.1.1 f;
-    })
+pub pair_told : (limit : ℕ) (holds : Names) (config rules : List ℕ) (call : Happened) (talk : Conversation) (answer : ℕ) (accepted : Config) (sending : Sending) (desk : Desked) (ending : Ending)
+    → sending_stage limit holds config rules ≡ Found (accepted, sending) → ((text : List ℕ) → ListsDesk ending desk text → Joined ending accepted sending limit text talk)
+    → TellsListing ending desk (SinkFailed call) call.before.written call.now.written answer → Joins limit holds config rules call talk answer
+pair_told limit holds config rules call talk answer accepted sending desk ending found speaks (inl none) = inl (record { reason = inr (inl none.0); nothing = none.1 })
+pair_told limit holds config rules call talk answer accepted sending desk ending found speaks (inr told) = inr (record {
+  accepted = accepted;
+  sending = sending;
+  found = found;
+  ending = ending;
+  text = told.0;
+  speaks = speaks told.0 told.1.0;
+  answers = answers_for (verdict_by ending told.0) (SinkFailed call) (FilesFailed call ⊎ (SinkFailed call ⊎ WireFailed call)) call.before.written call.now.written answer told.1.1
+      (λ r. inr (inl r));
+})

@@ -1,6 +1,6 @@
 -- How what `announce` answers follows from its stages.
-use Rattle.std.proofs.Common.{◌≡◌, inl, inr, ◌<◌, ◌∙◌, ℕ, ◌+◌, List, [], ◌++◌, length, nat_le, Bool, true, false, if◌then◌else◌, Option, Some, None, IfSome, append-nil, arith, refl, ap, sym, subst}
-use Rattle.cmd_wire.proofs.Words.{Announcing, AtLimit, CanSend, Done, EndCloses, Ended, Ending, EndsBefore, EndsEarly, Found, HasReason, Machine, MetLimit, Names, Peer, Phase, Pieces, Refusal, SaidAll, Sending, Stage, Tells, TellsOver, TellsSo, Told, WireEnds, and_then, announcing, at_start, begins_with, config_stage, is_established, moments_in, needs_of, octets_in, opened_end, rules_stage, sender_of, sending_stage, status_of, still}
+use Rattle.std.proofs.Common.{◌≡◌, inl, inr, ◌<◌, ◌∙◌, ℕ, ◌+◌, List, [], ◌++◌, length, nat_le, Bool, true, false, if◌then◌else◌, Option, Some, None, IfSome, Result, append-nil, arith, refl, ap, sym, subst}
+use Rattle.cmd_wire.proofs.Words.{Announcing, AtLimit, CanSend, Done, EndCloses, Ended, Ending, EndsBefore, EndsEarly, Found, HasReason, Machine, MetLimit, Names, Peer, Phase, Pieces, Refusal, SaidAll, Sending, Stage, Tells, TellsOver, TellsSo, Told, WireEnds, and_then, announcing, answered, at_start, begins_with, config_stage, is_established, moments_in, needs_of, octets_in, opened_end, rules_stage, sender_of, sending_stage, status_of, still}
 use Rattle.fs_base.specs.declared.config.Config.{Config}
 use Rattle.fs_base.proofs.NumberTests.{le_false, le_true}
 use Rattle.fs_speaker.specs.declared.Closed.{Closed}
@@ -10,8 +10,10 @@ use Rattle.fs_peering.proofs.WrittenInParts.{told_and}
 use Rattle.fs_peering.specs.declared.tell.Ending.TheVariants.{Closed as HasClosed}
 use Rattle.fs_peering.specs.Opening.{opened_by}
 use Rattle.fs_peering.specs.Teller.{ClosesSo}
-use Rattle.cmd_stages.proofs.Stages.{ends_early, reason_then}
-use Rattle.cmd_wire.specs.Announcing.{Connected, IsBrokenOff, IsDue, Speaks, ending_by, ending_of}
+use Rattle.std.specs.Result.{IsErrAnd}
+use Rattle.cmd_stages.proofs.Stages.{answered_err, ends_early, reason_then}
+use Rattle.cmd_wire.specs.Announcing.{Connected, IsBrokenOff, IsDue, IsOfSession, Speaks, ending_by, ending_of}
+use Rattle.cmd_wire.specs.Conversation.{Conversation}
 
 -- the end that is due
 
@@ -76,68 +78,72 @@ spoken ending config peer sending limit given a b c d t = record {
       (due_of config peer sending limit t.heard t.said c.second.left ending t.ends);
 }
 
-closed_so : (ending : Ending) (config : Config) (peer : Peer) (sending : Sending) (limit : ℕ) (given : List ℕ) (a b c : WireEnds)
-    → Speaks ending config peer sending limit given a b → EndCloses b c → Speaks ending config peer sending limit given a c
-closed_so ending config peer sending limit given a b c s e = subst (Speaks ending config peer sending limit given a) (sym e) s
-
-pub connected : (ending : Ending) (config : Config) (peer : Peer) (sending : Sending) (limit : ℕ) (t0 t1 t2 t3 : Option WireEnds) (answers answers' : Option (List ℕ))
-    → sender_of config.peers ≡ Some peer → Told dialled t0 t1 → TellsOver ending config peer sending limit t1 t2 answers answers' → Told EndCloses t2 t3
-    → Connected ending config sending limit (record { ends = t0; ends_now = t3; answers = answers; answers_now = answers' })
-connected ending config peer sending limit t0 t1 t2 t3 answers answers' p opens tells closes = record {
-  peer = peer;
-  peer_is = p;
-  given = tells.given;
-  grew = tells.grew;
-  told = told_and (Speaks ending config peer sending limit tells.given) EndCloses (Speaks ending config peer sending limit tells.given)
-      (closed_so ending config peer sending limit tells.given) t0 t2 t3
-      (told_and dialled (Tells ending config peer sending limit tells.given) (Speaks ending config peer sending limit tells.given)
-      (spoken ending config peer sending limit tells.given) t0 t1 t2 opens tells.told)
-      closes;
-}
+-- a connection that was opened, spoken through, and closed
+pub told_through : (opened spoke whole : WireEnds → WireEnds → Type 0) → ((a b c : WireEnds) → opened a b → spoke b c → whole a c) → (t0 t1 t2 t3 : Option WireEnds)
+    → Told opened t0 t1 → Told spoke t1 t2 → Told EndCloses t2 t3 → Told whole t0 t3
+told_through opened spoke whole join t0 t1 t2 t3 opens speaks closes =
+    told_and whole EndCloses whole (λ a b c w e. subst (whole a) (sym e) w) t0 t2 t3 (told_and opened spoke whole join t0 t1 t2 opens speaks) closes
 
 -- as the peer that the rules are sent for
-pub connected_as : (ending : Ending) (config : Config) (sending : Sending) (limit : ℕ) (teller : Announcing) (started : Bool) (t0 t1 t2 t3 : Option WireEnds) (answers answers' : Option (List ℕ))
+pub connected_as : (ending : Ending) (config : Config) (sending : Sending) (limit : ℕ) (teller : Announcing) (started : Bool) (t1 t2 : Option WireEnds) (talk : Conversation)
     → CanSend config (sender_of config.peers) sending
     → IfSome (sender_of config.peers) (λ peer. (teller ≡ announcing config peer sending fresh false 0) × (started ≡ false))
-    → Told dialled t0 t1
-    → ((config : Config) (peer : Peer) (sending : Sending) → teller ≡ begins_with config peer sending → started ≡ false → TellsOver ending config peer sending limit t1 t2 answers answers')
-    → Told EndCloses t2 t3
-    → Connected ending config sending limit (record { ends = t0; ends_now = t3; answers = answers; answers_now = answers' })
-connected_as ending config sending limit teller started t0 t1 t2 t3 answers answers' can made opens tells closes = by (sender_of config.peers) refl can made
+    → Told dialled talk.ends t1
+    → ((config : Config) (peer : Peer) (sending : Sending) → teller ≡ begins_with config peer sending → started ≡ false
+    → TellsOver ending config peer sending limit t1 t2 talk.answers talk.answers_now)
+    → Told EndCloses t2 talk.ends_now → Connected ending config sending limit talk
+connected_as ending config sending limit teller started t1 t2 talk can made opens tells closes = by (sender_of config.peers) refl can made
   where
     by : (o : Option Peer) → sender_of config.peers ≡ o → CanSend config o sending
-        → IfSome o (λ peer. (teller ≡ announcing config peer sending fresh false 0) × (started ≡ false))
-        → Connected ending config sending limit (record { ends = t0; ends_now = t3; answers = answers; answers_now = answers' })
+        → IfSome o (λ peer. (teller ≡ announcing config peer sending fresh false 0) × (started ≡ false)) → Connected ending config sending limit talk
     by None e c m = absurd c
-    by (Some peer) e c m = connected ending config peer sending limit t0 t1 t2 t3 answers answers' e opens (tells config peer sending m.0 m.1) closes
+    by (Some peer) e c m =
+        let over : TellsOver ending config peer sending limit t1 t2 talk.answers talk.answers_now = tells config peer sending m.0 m.1 in
+        record {
+          peer = peer;
+          peer_is = e;
+          given = over.given;
+          grew = over.grew;
+          told = told_through dialled (Tells ending config peer sending limit over.given) (Speaks ending config peer sending limit over.given)
+              (spoken ending config peer sending limit over.given) talk.ends t1 t2 talk.ends_now opens over.told closes;
+        }
 
--- the run ended before anything was written
+-- the run ended before anything was written, for what a `?` hands on
+pub ends_handed : {T A : Type 0} (stage : Stage A) (failed failed' : Type 0) (a : Option (List ℕ)) (r : Result T Refusal) (cause : Refusal) → IsErrAnd r (λ e. e ≡ cause)
+    → HasReason stage failed cause → (failed → failed') → EndsEarly stage failed' a a (answered r)
+ends_handed stage failed failed' a r cause h reason f = answered_err (EndsEarly stage failed' a a) r cause h (ends_early stage failed failed' a cause reason f)
 
+-- a session that was broken off answers a status of a session, and not that of the files
+pub broken_session : {T : Type 0} (failed : Type 0) (r : Result T Refusal) (cause : Refusal) → IsErrAnd r (λ e. e ≡ cause) → IsBrokenOff failed cause → IsOfSession (answered r)
+broken_session failed r cause h broken = answered_err IsOfSession r cause h (by broken)
+  where
+    by : IsBrokenOff failed cause → IsOfSession (status_of cause)
+    by (inl e) = subst (λ (c : Refusal). IsOfSession (status_of c)) (sym e) ((λ k. absurd cc), (λ k. absurd cc), λ k. absurd cc)
+    by (inr e) = subst (λ (c : Refusal). IsOfSession (status_of c)) (sym e.0) ((λ k. absurd cc), (λ k. absurd cc), λ k. absurd cc)
+
+pub broken_three : {T A : Type 0} (failed : Type 0) (r : Result T Refusal) (cause : Refusal) → IsErrAnd r (λ e. e ≡ cause) → IsBrokenOff failed cause → answered r ≡ 3 → A
+broken_three {T} {A} failed r cause h broken = answered_err (λ n. n ≡ 3 → A) r cause h (by broken)
+  where
+    by : IsBrokenOff failed cause → status_of cause ≡ 3 → A
+    by (inl e) three = let at : ◌≡◌ {A = ℕ} 6 3 = ap status_of (sym e) ∙ three in absurd cc
+    by (inr e) three = let at : ◌≡◌ {A = ℕ} 1 3 = ap status_of (sym e.0) ∙ three in absurd cc
+
+-- a stage that gives a value passes on what ends the next
+pub next_reason : {A B : Type 0} (stage : Stage A) (next : A → Stage B) (a : A) (failed : Type 0) (refusal : Refusal) → stage ≡ Found a → HasReason (next a) failed refusal
+    → HasReason (and_then stage next) failed refusal
+next_reason stage next a failed refusal e h = subst (λ s. HasReason (and_then s next) failed refusal) (sym e) h
+
+-- the rules file ends it
 abbrev then_rules : ℕ → Names → List ℕ → Config → Stage (Config × Sending)
 then_rules limit holds rules accepted = and_then (rules_stage accepted limit holds rules) (λ sending. Found (accepted, sending))
 
-pub config_early : (limit : ℕ) (holds : Names) (config rules : List ℕ) (failed failed' : Type 0) (a : Option (List ℕ)) (refusal : Refusal)
-    → HasReason (config_stage limit holds config) failed refusal → (failed → failed')
-    → EndsEarly (sending_stage limit holds config rules) failed' a a (status_of refusal)
-config_early limit holds config rules failed failed' a refusal h f =
-    ends_early (sending_stage limit holds config rules) failed failed' a refusal (reason_then (config_stage limit holds config) (then_rules limit holds rules) failed refusal h) f
-
-rules_in : (limit : ℕ) (holds : Names) (config rules : List ℕ) (accepted : Config) → config_stage limit holds config ≡ Found accepted
-    → sending_stage limit holds config rules ≡ then_rules limit holds rules accepted
-rules_in limit holds config rules accepted e = ap (λ (s : Stage Config). and_then s (then_rules limit holds rules)) e
-
-pub rules_early : (limit : ℕ) (holds holds' : Names) (config rules : List ℕ) (accepted : Config) (failed failed' : Type 0) (a : Option (List ℕ)) (refusal : Refusal)
-    → config_stage limit holds config ≡ Found accepted → holds' ≡ holds → HasReason (rules_stage accepted limit holds' rules) failed refusal → (failed → failed')
-    → EndsEarly (sending_stage limit holds config rules) failed' a a (status_of refusal)
-rules_early limit holds holds' config rules accepted failed failed' a refusal e same h f =
+pub rules_reason : (limit : ℕ) (holds holds' : Names) (config rules : List ℕ) (accepted : Config) (failed : Type 0) (refusal : Refusal)
+    → config_stage limit holds config ≡ Found accepted → holds' ≡ holds → HasReason (rules_stage accepted limit holds' rules) failed refusal
+    → HasReason (sending_stage limit holds config rules) failed refusal
+rules_reason limit holds holds' config rules accepted failed refusal e same h =
     let here : HasReason (rules_stage accepted limit holds rules) failed refusal = subst (λ (names : Names). HasReason (rules_stage accepted limit names rules) failed refusal) same h in
-    ends_early (sending_stage limit holds config rules) failed failed' a refusal
-    (subst (λ (s : Stage (Config × Sending)). HasReason s failed refusal) (sym (rules_in limit holds config rules accepted e))
-    (reason_then (rules_stage accepted limit holds rules) (λ sending. Found (accepted, sending)) failed refusal here)) f
-
-pub wire_early : (limit : ℕ) (holds : Names) (config rules : List ℕ) (failed failed' : Type 0) (a : Option (List ℕ)) (refusal : Refusal)
-    → IsBrokenOff failed refusal → (failed → failed') → EndsEarly (sending_stage limit holds config rules) failed' a a (status_of refusal)
-wire_early limit holds config rules failed failed' a refusal h f = ends_early (sending_stage limit holds config rules) failed failed' a refusal (inr h) f
+    next_reason (config_stage limit holds config) (then_rules limit holds rules) accepted failed refusal e
+    (reason_then (rules_stage accepted limit holds rules) (λ sending. Found (accepted, sending)) failed refusal here)
 
 -- both files are accepted
 pub sending_found : (limit : ℕ) (holds holds' : Names) (config rules : List ℕ) (accepted : Config) (sending : Sending)
@@ -145,6 +151,4 @@ pub sending_found : (limit : ℕ) (holds holds' : Names) (config rules : List �
     → sending_stage limit holds config rules ≡ Found (accepted, sending)
 sending_found limit holds holds' config rules accepted sending e same r =
     let here : rules_stage accepted limit holds rules ≡ Found sending = subst (λ (names : Names). rules_stage accepted limit names rules ≡ Found sending) same r in
-    rules_in limit holds config rules accepted e ∙ ap (λ (s : Stage Sending). and_then s (λ sending. Found (accepted, sending))) here
-
--- or the session ended
+    ap (λ (s : Stage Config). and_then s (then_rules limit holds rules)) e ∙ ap (λ (s : Stage Sending). and_then s (λ sending. Found (accepted, sending))) here

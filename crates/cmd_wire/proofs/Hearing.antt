@@ -1,24 +1,24 @@
 -- How what `listen` answers follows from its stages.
 use Rattle.std.proofs.Common.{◌≡◌, ◌⊎◌, inl, inr, ◌∙◌, ℕ, List, [], ◌∷◌, ◌++◌, length, nat_le, Bool, true, false, if◌then◌else◌, Option, Some, None, append-nil, refl, ap, sym, subst}
 use Rattle.std.proofs.lemmas.Option.{same_Some}
-use Rattle.cmd_wire.proofs.Words.{AtLimit, ClosesIn, Desked, Done, EndCloses, Ended, Ending, ExpiresAt, Found, HasReason, Last, Names, Peer, Phase, Pieces, Played, Refusal, Stage, Told, WireEnds, and_then, at_start, bounded_from, bounded_session, closed, config_stage, is_established, octets_in, or_stop, peer_of, sender_of, status_of, still, tape_of}
+use Rattle.cmd_wire.proofs.Words.{AtLimit, ClosesIn, Desked, Done, EndCloses, Ended, Ending, ExpiresAt, FilesFailed, Found, Happened, Last, Names, Peer, Phase, Pieces, Played, SinkFailed, Stage, Told, WireEnds, WireFailed, and_then, at_start, bounded_from, bounded_session, closed, config_stage, is_established, octets_in, or_stop, peer_of, sender_of, still, tape_of}
 use Rattle.fs_base.specs.declared.config.Config.{Config}
 use Rattle.fs_base.proofs.NumberTests.{le_false, le_true}
 use Rattle.fs_attrs.specs.declared.update.Update.{Update}
 use Rattle.fs_speaker.specs.declared.Closed.{Closed}
 use Rattle.fs_desk.proofs.Leaves.{played_leaves}
-use Rattle.fs_peering.proofs.WrittenInParts.{told_and, told_as}
+use Rattle.fs_peering.proofs.WrittenInParts.{told_as}
 use Rattle.fs_peering.specs.declared.tell.Ending.TheVariants.{Closed as HasClosed}
 use Rattle.fs_peering.specs.Hearer.{HasClosed as ClosesOnce}
 use Rattle.fs_peering.specs.Listen.{EndsSo, Listens, ListensOver, ListensSo}
 use Rattle.cmd_stages.specs.declared.refusal.Refusal.TheVariants.{Files as Refused}
-use Rattle.cmd_stages.proofs.Stages.{answers_for, ends_early, reason_then}
-use Rattle.cmd_wire.specs.Announcing.{IsBrokenOff}
+use Rattle.cmd_stages.proofs.Stages.{answers_for}
 use Rattle.fs_peering.proofs.Courses.{octets_more}
 use Rattle.cmd_wire.specs.Conversation.{Conversation}
-use Rattle.cmd_wire.specs.Listening.{Begins, HasExpired, Heard, Hears, IsHeard, ListenedSo, ListensThrough, ending_by, ending_of, hearing_stage, listening, with_peer}
+use Rattle.cmd_wire.specs.Listening.{Begins, HasExpired, Heard, Hears, IsHeard, ListensThrough, ListensTo, ending_by, ending_of, hearing_stage, listening, with_peer}
 use Rattle.cmd_wire.specs.Listed.{ListsDesk, TellsListing, verdict_by}
 use Rattle.fs_speaker.proofs.Lowest.{sender_told}
+use Rattle.cmd_wire.proofs.FromStages.{told_through}
 
 pub closes_behind : (config : Config) (peer : Peer) (heard earlier : Pieces) (moment : ℕ) (piece said more : List ℕ) (why : Closed)
     → heard ≡ earlier ++ (moment, piece) ∷ [] → ClosesIn config peer.number peer earlier moment piece said why
@@ -76,30 +76,17 @@ module _ (desk : Desked) (peer : Peer) (limit : ℕ) (heard : Pieces) (said left
 
 -- what was told of a connection that was taken, heard, and closed
 
-module _ (ending : Ending) (config : Config) (desk : Desked) (number limit : ℕ) (given : List ℕ) where
-  abbrev Taken : WireEnds → WireEnds → Type 0
-  Taken before now = Listens ending config desk number limit given (listening before) now
-
-  taken : (a b c : WireEnds) → b ≡ listening a → Listens ending config desk number limit given b c → Taken a c
-  taken a b c d l = subst (λ (e : WireEnds). Listens ending config desk number limit given e c) d l
-
-  closed_so : (a b c : WireEnds) → Taken a b → EndCloses b c → Taken a c
-  closed_so a b c l e = subst (λ (x : WireEnds). Taken a x) (sym e) l
-
 abbrev listened : WireEnds → WireEnds → Type 0
 listened before now = now ≡ listening before
 
-pub through : (ending : Ending) (config : Config) (desk : Desked) (number limit : ℕ) (t0 t1 t2 t3 : Option WireEnds) (answers answers' : Option (List ℕ))
-    → Told listened t0 t1 → ListensOver ending config desk number limit t1 t2 answers answers' → Told EndCloses t2 t3
-    → ListensThrough ending config desk number limit (record { ends = t0; ends_now = t3; answers = answers; answers_now = answers' })
-through ending config desk number limit t0 t1 t2 t3 answers answers' opens l closes = record {
+pub through : (ending : Ending) (config : Config) (desk : Desked) (number limit : ℕ) (t1 t2 : Option WireEnds) (talk : Conversation)
+    → Told listened talk.ends t1 → ListensOver ending config desk number limit t1 t2 talk.answers talk.answers_now → Told EndCloses t2 talk.ends_now
+    → ListensThrough ending config desk number limit talk
+through ending config desk number limit t1 t2 talk opens l closes = record {
   given = l.given;
   grew = l.grew;
-  told = told_and (Taken ending config desk number limit l.given) EndCloses (Taken ending config desk number limit l.given)
-      (closed_so ending config desk number limit l.given) t0 t2 t3
-      (told_and listened (Listens ending config desk number limit l.given) (Taken ending config desk number limit l.given)
-      (taken ending config desk number limit l.given) t0 t1 t2 opens l.told)
-      closes;
+  told = told_through listened (Listens ending config desk number limit l.given) (λ before now. Listens ending config desk number limit l.given (listening before) now)
+      (λ a b c d h. subst (λ (e : WireEnds). Listens ending config desk number limit l.given e c) d h) talk.ends t1 t2 talk.ends_now opens l.told closes;
 }
 
 -- as the peer with the lowest number
@@ -147,50 +134,33 @@ module _ (ending : Ending) (config : Config) (desk : Desked) (peer : Peer) (text
         (hears_of l.given) talk.ends talk.ends_now l.told;
   }
 
--- the run ended before anything was written
+-- as the one with which the session began
+pub heard_as : {accepted : Config} {desk : Desked} {number count : ℕ} (b : Begins accepted desk number count) (ending : Ending) (desk' : Desked) (limit : ℕ) (talk : Conversation)
+    → ListensThrough ending desk.config desk' number limit talk → (text : List ℕ) → ListsDesk ending desk' text → Heard ending accepted b.peer text limit talk
+heard_as {accepted} {desk} {number} b ending desk' limit talk l text lists =
+    heard_of ending accepted desk' b.peer text limit b.peer_is lists talk
+    (subst (λ (n : ℕ). ListensThrough ending accepted desk' n limit talk) b.number_is
+    (subst (λ (c : Config). ListensThrough ending c desk' number limit talk) b.config_is l))
 
-pub config_unheard : (limit : ℕ) (holds : Names) (config : List ℕ) (failed failed' : Type 0) (a : Option (List ℕ)) (talk : Conversation) (refusal : Refusal)
-    → HasReason (config_stage limit holds config) failed refusal → (failed → failed')
-    → ListenedSo limit holds config failed' a a talk (status_of refusal)
-config_unheard limit holds config failed failed' a talk refusal h f =
-    inl (ends_early (hearing_stage limit holds config) failed failed' a refusal (reason_then (config_stage limit holds config) with_peer failed refusal h) f)
+-- the configuration is accepted, and has peers
+pub hearing_found : (limit : ℕ) (holds : Names) (config : List ℕ) (accepted : Config) (peer : Peer) → config_stage limit holds config ≡ Found accepted
+    → sender_of accepted.peers ≡ Some peer → hearing_stage limit holds config ≡ Found (accepted, peer)
+hearing_found limit holds config accepted peer e p =
+    ap (λ (s : Stage Config). and_then s with_peer) e
+    ∙ ap (λ (o : Option Peer). and_then {B = Config × Peer} (or_stop Refused o) (λ peer. Found (accepted, peer))) p
 
-peer_in : (limit : ℕ) (holds : Names) (config : List ℕ) (accepted : Config) → config_stage limit holds config ≡ Found accepted
-    → hearing_stage limit holds config ≡ with_peer accepted
-peer_in limit holds config accepted e = ap (λ (s : Stage Config). and_then s with_peer) e
-
-pub peer_unheard : (limit : ℕ) (holds : Names) (config : List ℕ) (accepted : Config) (failed : Type 0) (a : Option (List ℕ)) (talk : Conversation) (refusal : Refusal)
-    → config_stage limit holds config ≡ Found accepted → HasReason (with_peer accepted) ⊥ refusal
-    → ListenedSo limit holds config failed a a talk (status_of refusal)
-peer_unheard limit holds config accepted failed a talk refusal e h =
-    inl (ends_early (hearing_stage limit holds config) ⊥ failed a refusal
-    (subst (λ (s : Stage (Config × Peer)). HasReason s ⊥ refusal) (sym (peer_in limit holds config accepted e)) h) (λ never. absurd never))
-
-pub wire_unheard : (limit : ℕ) (holds : Names) (config : List ℕ) (failed failed' : Type 0) (a : Option (List ℕ)) (talk : Conversation) (refusal : Refusal)
-    → IsBrokenOff failed refusal → (failed → failed') → ListenedSo limit holds config failed' a a talk (status_of refusal)
-wire_unheard limit holds config failed failed' a talk refusal h f =
-    inl (ends_early (hearing_stage limit holds config) failed failed' a refusal (inr h) f)
-
--- or the session ended
-
-pub session_heard : (limit : ℕ) (holds : Names) (config : List ℕ) (accepted : Config) (desk desk' : Desked) (number count : ℕ) (ending : Ending) (failed failed' : Type 0)
-    (before now : Option (List ℕ)) (talk : Conversation) (answer : ℕ)
-    → config_stage limit holds config ≡ Found accepted → Begins accepted desk number count
-    → ListensThrough ending desk.config desk' number limit talk
-    → TellsListing ending desk' failed before now answer → (failed → failed')
-    → ListenedSo limit holds config failed' before now talk answer
-session_heard limit holds config accepted desk desk' number count ending failed failed' before now talk answer e b l (inl none) f =
-    inl (record { reason = inr (inl none.0); nothing = none.1 })
-session_heard limit holds config accepted desk desk' number count ending failed failed' before now talk answer e b l (inr t) f =
-    let here : ListensThrough ending accepted desk' b.peer.number limit talk =
-    subst (λ (n : ℕ). ListensThrough ending accepted desk' n limit talk) b.number_is
-    (subst (λ (c : Config). ListensThrough ending c desk' number limit talk) b.config_is l) in
-    inr (record {
-      accepted = accepted;
-      peer = b.peer;
-      found = peer_in limit holds config accepted e ∙ ap (λ (o : Option Peer). and_then {B = Config × Peer} (or_stop Refused o) (λ peer. Found (accepted, peer))) b.peer_is;
-      ending = ending;
-      text = t.0;
-      hears = heard_of ending accepted desk' b.peer t.0 limit b.peer_is t.1.0 talk here;
-      answers = answers_for (verdict_by ending t.0) failed failed' before now answer t.1.1 f;
-    })
+-- the session ended
+pub session_heard : (limit : ℕ) (holds : Names) (config : List ℕ) (call : Happened) (talk : Conversation) (answer : ℕ) (accepted : Config) (peer : Peer) (desk : Desked) (ending : Ending)
+    → hearing_stage limit holds config ≡ Found (accepted, peer) → ((text : List ℕ) → ListsDesk ending desk text → Heard ending accepted peer text limit talk)
+    → TellsListing ending desk (SinkFailed call) call.before.written call.now.written answer → ListensTo limit holds config call talk answer
+session_heard limit holds config call talk answer accepted peer desk ending found hears (inl none) = inl (record { reason = inr (inl none.0); nothing = none.1 })
+session_heard limit holds config call talk answer accepted peer desk ending found hears (inr t) = inr (record {
+  accepted = accepted;
+  peer = peer;
+  found = found;
+  ending = ending;
+  text = t.0;
+  hears = hears t.0 t.1.0;
+  answers = answers_for (verdict_by ending t.0) (SinkFailed call) (FilesFailed call ⊎ (SinkFailed call ⊎ WireFailed call)) call.before.written call.now.written answer t.1.1
+      (λ r. inr (inl r));
+})

@@ -1,13 +1,13 @@
 -- An announcing end that the other end stayed open for named an identifier other than 0.0.0.0.
 use Rattle.std.proofs.Common.{◌≡◌, ℕ, zero, suc, ◌<◌, List, [], Option, None, Some, refl, ap, sym, ◌∙◌, arith}
-use Rattle.cmd_wire.proofs.Words.{Arrives, CanArrive, Desked, Found, IsUnnamed, Last, Names, Peer, Phase, Pieces, Sending, at_start, bounded, bounded_from, bounded_session, closed, is_lowest, octets_in, peer_of, sender_of, sending_stage, session_from, still}
+use Rattle.cmd_wire.proofs.Words.{Arrives, CanArrive, Desked, Found, IsUnnamed, Last, Names, Peer, Pieces, Sending, at_start, bounded, bounded_from, bounded_session, closed, is_lowest, octets_in, peer_of, sender_of, sending_stage, session_from, still}
 use Rattle.fs_base.specs.declared.config.Config.{Config}
 use Rattle.fs_attrs.specs.declared.update.Update.{Update}
 use Rattle.fs_conf.specs.Laws.{HasPeerNumbers}
 use Rattle.fs_conf.proofs.Accepted.{accepts_numbers}
 use Rattle.fs_conf.proofs.Found.{found_each}
-use Rattle.fs_speaker.specs.declared.Closed.{Closed}
 use Rattle.fs_speaker.specs.declared.Closed.TheVariants.{Fault}
+use Rattle.fs_peering.proofs.Phases.{closed_still}
 use Rattle.fs_speaker.proofs.Lowest.{sender_told}
 use Rattle.fs_speaker.proofs.Unnamed.{refused}
 use Rattle.cmd_wire.proofs.Accepted.{accepted_files, arrivable}
@@ -15,9 +15,6 @@ use Rattle.cmd_wire.proofs.Accepted.{accepted_files, arrivable}
 -- a limit of routes leaves a session without updates as it is
 bounded_none : (most : Option ℕ) (last : Last) → bounded most ([], last) ≡ ([], last)
 bounded_none most last = refl
-
-same_last : (why : Closed) (now : Phase) → closed why ≡ still now → ⊥
-same_last why now e = absurd cc
 
 module _ (config : Config) (peer : Peer) (sending : Sending) (desk : Desked) (limit : ℕ) (heard told : Pieces)
     (announced replied : List ℕ) (known : peer_of peer.number config.peers ≡ Some peer) (config_is : desk.config ≡ config)
@@ -35,7 +32,7 @@ module _ (config : Config) (peer : Peer) (sending : Sending) (desk : Desked) (li
       ap (session_from config peer at_start) a.said_is ∙ refused config peer sending un _ in
       let closes : bounded_from config peer announced ≡ ([], closed (Fault 2 3)) =
       ap (bounded peer.max_routes) refuses ∙ bounded_none peer.max_routes (closed (Fault 2 3)) in
-      same_last (Fault 2 3) a.receives.phase (sym (ap (λ (x : List Update × Last). x.1) closes) ∙ took_open)
+      closed_still (Fault 2 3) a.receives.phase (sym (ap (λ (x : List Update × Last). x.1) closes) ∙ took_open)
 
 -- rules that arrived could arrive
 pub arrived : (limit : ℕ) (holds : Names) (config rules : List ℕ) (accepted : Config) (sending : Sending) (peer : Peer)

@@ -6,6 +6,7 @@ use Rattle.fs_speaker.specs.declared.Closed.{Closed}
 use Rattle.fs_peering.specs.declared.tell.Ending.TheVariants.{Closed as HasClosed}
 use Rattle.fs_peering.specs.Hearer.{HasClosed as ClosesOnce}
 use Rattle.fs_peering.specs.Listen.{EndsSo, MeetsLimit}
+use Rattle.fs_peering.proofs.Phases.{closed_still, same_still}
 use Rattle.cmd_stages.specs.declared.refusal.Refusal.TheVariants.{Files as Refused}
 use Rattle.cmd_wire.specs.Conversation.{Conversation}
 use Rattle.cmd_wire.specs.Listed.{verdict_by}
@@ -81,12 +82,6 @@ module _ (limit : ℕ) (holds : Names) (config : List ℕ) (call : Happened) (ta
 
 -- another end that leaves the session established
 
-never_both : (why : Closed) (phase : Phase) → closed why ≡ still phase → ⊥
-never_both why phase e = absurd cc
-
-same_phase : (phase other : Phase) → still phase ≡ still other → phase ≡ other
-same_phase phase other e = cc
-
 too_many : (limit size all left : ℕ) → limit ≤ size → all ≡ size + left → all < limit → ⊥
 too_many limit size all left m e l = omega (arith, m, e, l)
 
@@ -105,7 +100,7 @@ module _ (config : Config) (peer : Peer) (text : List ℕ) (limit : ℕ) (given 
       at : ExpiresAt config peer closed_there.earlier closed_there.moment s.said why
           ⊎ ClosesIn config peer.number peer closed_there.earlier closed_there.moment closed_there.piece s.said why → ⊥
       at (inl x) = timely s.heard now.first.left s.read s.asked (expired_so config peer s.heard s.said why closed_there x)
-      at (inr c) = never_both why phase
+      at (inr c) = closed_still why phase
           (sym (closes_behind config peer s.heard closed_there.earlier closed_there.moment closed_there.piece s.said now.first.left why closed_there.split c)
           ∙ ap (λ (z : List ℕ). (bounded_from config peer z).1) (sym s.read) ∙ stays)
   only_done_so Ended s = absurd (at s.ends)
@@ -116,7 +111,7 @@ module _ (config : Config) (peer : Peer) (text : List ℕ) (limit : ℕ) (given 
           let found : (bounded_from config peer (octets_in s.heard)).1 ≡ still e.receives.phase =
           sym (session_is config peer.number peer (octets_in s.heard) is_of)
           ∙ ap (λ (c : Config). (bounded_session c peer.number (octets_in s.heard)).1) (sym s.config_is) ∙ e.receives.found in
-          let same : phase ≡ e.receives.phase = same_phase phase e.receives.phase (sym stays ∙ ap (λ (z : List ℕ). (bounded_from config peer z).1) all ∙ found) in
+          let same : phase ≡ e.receives.phase = same_still phase e.receives.phase (sym stays ∙ ap (λ (z : List ℕ). (bounded_from config peer z).1) all ∙ found) in
           true≢false (sym (subst (λ (p : Phase). is_established p.state ≡ true) same up) ∙ e.settled)
   only_done_so AtLimit s = absurd (at s.ends)
     where

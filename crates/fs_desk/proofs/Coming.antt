@@ -16,7 +16,7 @@ use Rattle.fs_speaker.specs.Session.{Live, Does, reply_of, step_with}
 use Rattle.fs_speaker.specs.Side.{receiver}
 use Rattle.fs_speaker.specs.Times.{at_moment, taken_in}
 use Rattle.fs_speaker.specs.Transition.{Machine}
-use Rattle.fs_speaker.proofs.Handing.{runs_takes}
+use Rattle.fs_speaker.proofs.MessageRuns.{runs_takes}
 use Rattle.fs_desk.specs.Receive.{Comes, MessageComes, TakesUpdate, comes_to}
 use Rattle.fs_desk.proofs.Follows.{all_gone}
 

@@ -18,7 +18,7 @@ use Rattle.fs_speaker.specs.Line.{waits}
 use Rattle.fs_speaker.specs.Session.{Live, step_of}
 use Rattle.fs_speaker.specs.Side.{receiver}
 use Rattle.fs_speaker.specs.Times.{at_moment}
-use Rattle.fs_speaker.proofs.Handing.{runs_waits}
+use Rattle.fs_speaker.proofs.MessageRuns.{runs_waits}
 use Rattle.fs_tape.specs.Tape.{Item, received}
 use Rattle.fs_desk.specs.Desk.{Desked, HandsPeer, IsHanded, PeerIs, Played, session_at}
 use Rattle.fs_desk.specs.Life.{life}

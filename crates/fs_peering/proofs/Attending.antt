@@ -27,29 +27,34 @@ listened_more s0 s1 s2 place given moment count said a b c l round = record {
   asked = map-append (λ piece. piece.0) l.heard ((moment, round.got) ∷ []) ∙ ap (λ (moments : List ℕ). moments ++ moment ∷ []) l.asked;
 }
 
-pub listens_more : (s0 s1 s2 : Stance) (place moment count said : ℕ) (before now later : Option WireEnds) (answers asked last : Option (List ℕ))
-    → Listens s0 s1 place before now answers asked → Told (Round s1 s2 place moment count said) now later → Grew asked last (moment ∷ [])
-    → Listens s0 s2 place before later answers last
-listens_more s0 s1 s2 place moment count said before now later answers asked last l round grew = record {
-  given = l.given ++ moment ∷ [];
-  grew = Grew-trans answers asked last l.given (moment ∷ []) l.grew grew;
-  told = told_and (Listened s0 s1 place l.given) (Round s1 s2 place moment count said) (Listened s0 s2 place (l.given ++ moment ∷ []))
-      (listened_more s0 s1 s2 place l.given moment count said) before now later l.told round;
-}
+-- One round more.
+module _ {s0 s1 : Stance} {place : ℕ} {before now : Option WireEnds} {answers asked : Option (List ℕ)} (l : Listens s0 s1 place before now answers asked)
+    (s2 : Stance) (moment count said : ℕ) (later : Option WireEnds) (last : Option (List ℕ)) (round : Told (Round s1 s2 place moment count said) now later)
+    (grew : Grew asked last (moment ∷ [])) where
+  abbrev given : List ℕ
+  given = l.given ++ moment ∷ []
 
--- the last round, and why it is the last
-pub hears_out : (heard : Stopped) (s0 s1 s2 : Stance) (over : Bool) (heard_so_far place limit moment count said : ℕ) (before now later : Option WireEnds)
-    (answers asked last : Option (List ℕ)) → Listens s0 s1 place before now answers asked → Told (Round s1 s2 place moment count said) now later
-    → Grew asked last (moment ∷ []) → ((left : List ℕ) → (count ≡ 0 → left ≡ []) → EndsSo heard over heard_so_far limit left)
-    → HearsOut heard s0 s2 over heard_so_far place limit before later answers last
-hears_out heard s0 s1 s2 over heard_so_far place limit moment count said before now later answers asked last l round grew ends = let given : List ℕ = l.given in record {
-  given = given ++ moment ∷ [];
-  grew = Grew-trans answers asked last l.given (moment ∷ []) l.grew grew;
-  told = told_and (Listened s0 s1 place l.given) (Round s1 s2 place moment count said)
-      (HeardOut heard s0 s2 over heard_so_far place limit (given ++ moment ∷ []))
-      (λ a b c so_far t. record {
-        listened = listened_more s0 s1 s2 place given moment count said a b c so_far t;
-        some = let one : length (given ++ moment ∷ []) ≡ length given + 1 = length-append given (moment ∷ []) in omega (arith, one);
-        ends = ends (end_at place c).left t.none;
-      }) before now later l.told round;
-}
+  all_grew : Grew answers last given
+  all_grew = Grew-trans answers asked last l.given (moment ∷ []) l.grew grew
+
+  pub listens_more : Listens s0 s2 place before later answers last
+  listens_more = record {
+    given = given;
+    grew = all_grew;
+    told = told_and (Listened s0 s1 place l.given) (Round s1 s2 place moment count said) (Listened s0 s2 place given)
+        (listened_more s0 s1 s2 place l.given moment count said) before now later l.told round;
+  }
+
+  -- the last one, and why it is the last
+  pub hears_out : (heard : Stopped) (over : Bool) (heard_so_far limit : ℕ) → ((left : List ℕ) → (count ≡ 0 → left ≡ []) → EndsSo heard over heard_so_far limit left)
+      → HearsOut heard s0 s2 over heard_so_far place limit before later answers last
+  hears_out heard over heard_so_far limit ends = record {
+    given = given;
+    grew = all_grew;
+    told = told_and (Listened s0 s1 place l.given) (Round s1 s2 place moment count said) (HeardOut heard s0 s2 over heard_so_far place limit given)
+        (λ a b c so_far t. record {
+          listened = listened_more s0 s1 s2 place l.given moment count said a b c so_far t;
+          some = let one : length given ≡ length l.given + 1 = length-append l.given (moment ∷ []) in omega (arith, one);
+          ends = ends (end_at place c).left t.none;
+        }) before now later l.told round;
+  }

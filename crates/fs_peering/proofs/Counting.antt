@@ -3,10 +3,11 @@ use Rattle.std.proofs.Common.{◌≡◌, ℕ, ◌+◌, ◌-◌, ◌≤◌, ◌<�
 use Rattle.std.proofs.lemmas.Bool.{true≢false as never}
 use Rattle.std.proofs.lemmas.List.{drop_all}
 use Rattle.std.proofs.lemmas.Option.{none-some, same_Some}
+use Rattle.fs_speaker.proofs.Handover.{close_is}
 use Rattle.fs_peering.specs.Opening.{opened_by}
 use Rattle.fs_peering.proofs.Ahead.{alive_on}
 use Rattle.fs_peering.proofs.OpenSteps.{opened_stops, opened_takes, opened_waits}
-use Rattle.fs_peering.proofs.Words.{Advanced, Announcing, CloseIs, Closed, Fault, FeedsEnd, Framing, IsAt, Lined, Machine, Memory, NoFamily, Notified, Phase, Point, SaysText, StaysEnded, Step, TicksEnd, at_start, closed, closed_after, is_established, machine_in, moved, pending, step_by, still, stops, takes, waits, with_line}
+use Rattle.fs_peering.proofs.Words.{Advanced, Announcing, Closed, FeedsEnd, Framing, IsAt, Lined, Machine, Memory, Phase, Point, SaysText, StaysEnded, Step, TicksEnd, at_start, closed, closed_after, is_established, machine_in, moved, pending, step_by, still, stops, takes, waits, with_line}
 use Rattle.fs_peering.specs.Sender.{CountsBy, CountsOn, CountsTo, CountsUp, KeepsHand, KeepsSettled}
 use Rattle.fs_peering.specs.Tell.{EndsBefore, MetLimit}
 use Rattle.fs_peering.specs.Teller.{ShutsBy, is_settled}
@@ -133,12 +134,6 @@ counts_fed on a b c moment piece rest o1 o2 result was needed needed' count same
     (subst (λ (m : Machine). Advanced (step_by m b.line.phase (pending b.line.framing ++ rest)) (moved moment b.line) c.line rest count None) (ap machine_in same.0) fed.0)
     (λ h. sym (open_settled c.line open_c) ∙ settles.1 (up ∙ h))
     (λ h. added (w ∙ up ∙ h)) (λ h. kept (w ∙ up ∙ h)) off
-
-close_is : (step : Step) (why : Closed) → (why ≡ Memory → ⊥) → CloseIs step why → step ≡ stops why
-close_is step Memory other h = absurd (other refl)
-close_is step (Fault code subcode) other h = h
-close_is step (Notified code subcode) other h = h
-close_is step NoFamily other h = h
 
 -- a call that closes an end which isn't established
 pub shuts_fed : (on : Bool) (a b c : Announcing) (moment : ℕ) (piece rest o1 o2 : List ℕ) (result : Result ℕ Closed) (why : Closed) (needed : ℕ) → b ≡ with_line a b.line

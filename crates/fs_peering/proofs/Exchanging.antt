@@ -3,14 +3,14 @@ use Rattle.std.proofs.Common.{◌≡◌, ℕ, ◌+◌, ◌-◌, ◌<◌, List, [
 use Rattle.std.proofs.lemmas.Grind.{flat_map-append}
 use Rattle.std.proofs.lemmas.List.{map-append}
 use Rattle.fs_base.specs.Sink.{Grew}
-use Rattle.fs_peering.proofs.Words.{Told, WireEnd, WireEnds, heard_end}
+use Rattle.fs_peering.proofs.Words.{Told, WireEnd, WireEnds, end_at, heard_end}
 use Rattle.fs_base.proofs.Grew.{Grew-refl, Grew-trans}
 use Rattle.fs_peering.specs.declared.joined.InFlight.{InFlight}
 use Rattle.fs_peering.specs.declared.joined.Talk.{Talk}
 use Rattle.fs_peering.specs.declared.joined.Talk.TheVariants.{Broken, Done}
 use Rattle.fs_peering.specs.Joined.{AreJoined, Ended, Exchanged, ExchangedOut, Exchanges, Heard, Side, StopsSo, heard_by, moments_of, of_first, of_second}
 use Rattle.fs_peering.specs.InFlight.{no_flow, first_heard, second_heard, second_said}
-use Rattle.fs_peering.specs.Round.{Pieces, Speech, Stance, Round, octets_in}
+use Rattle.fs_peering.specs.Round.{Part, Pieces, Speech, Stance, Round, octets_in}
 use Rattle.fs_peering.proofs.Composing.{octets_then, same_stance}
 use Rattle.fs_peering.proofs.WrittenInParts.{told_and, told_same}
 
@@ -23,16 +23,15 @@ side_none stance end tied empty = record {
 }
 
 -- an end heard more and said more
-side_more : (s0 s1 s2 : Stance) (heard more : Pieces) (said out others : List ℕ) (b m n : WireEnd) → Side s0 s1 heard said others b m
-    → ((earlier : Pieces) (spoken : List ℕ) → s1 earlier spoken → s2 (earlier ++ more) (spoken ++ out)) → m.left ≡ octets_in more ++ n.left
-    → n.written ≡ m.written ++ out → n.joined ≡ m.joined → Side s0 s2 (heard ++ more) (said ++ out) others b n
-side_more s0 s1 s2 heard more said out others b m n s stands read wrote tied = record {
+side_more : (s0 s1 s2 : Stance) (place : ℕ) (heard more : Pieces) (said out others : List ℕ) (b : WireEnd) (m n : WireEnds) → Side s0 s1 heard said others b (end_at place m)
+    → Part s1 s2 place more out m n → Side s0 s2 (heard ++ more) (said ++ out) others b (end_at place n)
+side_more s0 s1 s2 place heard more said out others b m n s part = record {
   stands = λ earlier spoken e. same_stance s2 _ _ _ _ (append_assoc earlier heard more) (append_assoc spoken said out)
-      (stands (earlier ++ heard) (spoken ++ said) (s.stands earlier spoken e));
-  read = s.read ∙ ap (λ (octets : List ℕ). octets_in heard ++ octets) read ∙ sym (append_assoc (octets_in heard) (octets_in more) n.left)
-      ∙ ap (λ (octets : List ℕ). octets ++ n.left) (sym (octets_then heard more));
-  wrote = wrote ∙ ap (λ (octets : List ℕ). octets ++ out) s.wrote ∙ append_assoc b.written said out;
-  tied = tied ∙ s.tied;
+      (part.stands (earlier ++ heard) (spoken ++ said) (s.stands earlier spoken e));
+  read = s.read ∙ ap (λ (octets : List ℕ). octets_in heard ++ octets) part.read ∙ sym (append_assoc (octets_in heard) (octets_in more) (end_at place n).left)
+      ∙ ap (λ (octets : List ℕ). octets ++ (end_at place n).left) (sym (octets_then heard more));
+  wrote = part.wrote ∙ ap (λ (octets : List ℕ). octets ++ out) s.wrote ∙ append_assoc b.written said out;
+  tied = part.tied ∙ s.tied;
 }
 
 joined_left : (end : WireEnd) (out : List ℕ) → end.joined ≡ true → (heard_end out end).left ≡ end.left ++ out
@@ -126,8 +125,7 @@ exchanging_first r r1 r2 a a1 given flow moment count said b m n x round =
         replied = x.exchanged.replied ++ round.out;
         announced = x.exchanged.announced;
         one = side_same r r2 _ _ _ _ _ _ b.first n.first (sym more.0) refl refl
-            (side_more r r1 r2 (of_first x.events) ((moment, round.got) ∷ []) x.exchanged.replied round.out x.exchanged.announced b.first m.first n.first
-            x.exchanged.one round.part.stands round.part.read round.part.wrote round.part.tied);
+            (side_more r r1 r2 0 (of_first x.events) ((moment, round.got) ∷ []) x.exchanged.replied round.out x.exchanged.announced b.first m n x.exchanged.one round.part);
         other = side_same a a1 _ _ _ _ _ _ b.second n.second (sym more.1) refl refl
             (side_told a a1 (of_second x.events) x.exchanged.announced x.exchanged.replied round.out b.second m.second n.second x.exchanged.other round.part.other);
       };
@@ -150,8 +148,7 @@ exchanging_second r r1 a a1 a2 given flow moment count said b m n x round =
         one = side_same r r1 _ _ _ _ _ _ b.first n.first (sym more.0) refl refl
             (side_told r r1 (of_first x.events) x.exchanged.replied x.exchanged.announced round.out b.first m.first n.first x.exchanged.one round.part.other);
         other = side_same a a2 _ _ _ _ _ _ b.second n.second (sym more.1) refl refl
-            (side_more a a1 a2 (of_second x.events) ((moment, round.got) ∷ []) x.exchanged.announced round.out x.exchanged.replied b.second m.second n.second
-            x.exchanged.other round.part.stands round.part.read round.part.wrote round.part.tied);
+            (side_more a a1 a2 1 (of_second x.events) ((moment, round.got) ∷ []) x.exchanged.announced round.out x.exchanged.replied b.second m n x.exchanged.other round.part);
       };
       asked = moments_more x.events given false moment round.got x.asked;
       to_first = left_grown m.first n.first round.out flow.to_first said round.part.other x.exchanged.one.tied x.to_first round.sized;
@@ -161,7 +158,7 @@ exchanging_second r r1 a a1 a2 given flow moment count said b m n x round =
     }
 
 exchanging_said : (r r1 a a1 a2 : Stance) (given : List ℕ) (flow : InFlight) (said : ℕ) (b m n : WireEnds) → Exchanging r r1 a a1 given flow b m
-    → Speech a1 a2 1 said m n → Exchanging r r1 a a2 given (second_said said flow) b n
+    → Speech a1 a2 1 said m n → Exchanging r r1 a a2 (given ++ []) (second_said said flow) b n
 exchanging_said r r1 a a1 a2 given flow said b m n x speech = record {
   events = x.events;
   exchanged = record {
@@ -169,10 +166,9 @@ exchanging_said r r1 a a1 a2 given flow said b m n x speech = record {
     announced = x.exchanged.announced ++ speech.out;
     one = side_told r r1 (of_first x.events) x.exchanged.replied x.exchanged.announced speech.out b.first m.first n.first x.exchanged.one speech.part.other;
     other = side_same a a2 _ _ _ _ _ _ b.second n.second (append-nil (of_second x.events)) refl refl
-        (side_more a a1 a2 (of_second x.events) [] x.exchanged.announced speech.out x.exchanged.replied b.second m.second n.second
-        x.exchanged.other speech.part.stands speech.part.read speech.part.wrote speech.part.tied);
+        (side_more a a1 a2 1 (of_second x.events) [] x.exchanged.announced speech.out x.exchanged.replied b.second m n x.exchanged.other speech.part);
   };
-  asked = x.asked;
+  asked = x.asked ∙ sym (append-nil given);
   to_first = left_grown m.first n.first speech.out flow.to_first said speech.part.other x.exchanged.one.tied x.to_first speech.sized;
   to_second = x.to_second ∙ ap length (speech.part.read);
   first_read = x.first_read;
@@ -190,42 +186,6 @@ talking_none r a told answers = record {
   given = [];
   grew = Grew-refl answers;
   told = told_same (λ b n. AreJoined b → Exchanging r r a a [] no_flow b n) (λ ends j. exchanging_none r a ends j) told;
-}
-
-pub talking_first : (r r1 r2 a a1 : Stance) (flow flow' : InFlight) (moment count said : ℕ) (before now later : Option WireEnds) (answers asked last : Option (List ℕ))
-    → Talking r r1 a a1 flow before now answers asked → flow' ≡ first_heard count said flow → Told (Round r1 r2 0 moment count said) now later → Grew asked last (moment ∷ [])
-    → Talking r r2 a a1 flow' before later answers last
-talking_first r r1 r2 a a1 flow flow' moment count said before now later answers asked last t e round grew = record {
-  given = t.given ++ moment ∷ [];
-  grew = Grew-trans answers asked last t.given (moment ∷ []) t.grew grew;
-  told = subst (λ (f : InFlight). Told (λ b n. AreJoined b → Exchanging r r2 a a1 (t.given ++ moment ∷ []) f b n) before later) (sym e)
-      (told_and (λ b n. AreJoined b → Exchanging r r1 a a1 t.given flow b n) (Round r1 r2 0 moment count said)
-      (λ b n. AreJoined b → Exchanging r r2 a a1 (t.given ++ moment ∷ []) (first_heard count said flow) b n)
-      (λ b m n x turned j. exchanging_first r r1 r2 a a1 t.given flow moment count said b m n (x j) turned) before now later t.told round);
-}
-
-pub talking_second : (r r1 a a1 a2 : Stance) (flow flow' : InFlight) (moment count said : ℕ) (before now later : Option WireEnds) (answers asked last : Option (List ℕ))
-    → Talking r r1 a a1 flow before now answers asked → flow' ≡ second_heard count said flow → Told (Round a1 a2 1 moment count said) now later → Grew asked last (moment ∷ [])
-    → Talking r r1 a a2 flow' before later answers last
-talking_second r r1 a a1 a2 flow flow' moment count said before now later answers asked last t e round grew = record {
-  given = t.given ++ moment ∷ [];
-  grew = Grew-trans answers asked last t.given (moment ∷ []) t.grew grew;
-  told = subst (λ (f : InFlight). Told (λ b n. AreJoined b → Exchanging r r1 a a2 (t.given ++ moment ∷ []) f b n) before later) (sym e)
-      (told_and (λ b n. AreJoined b → Exchanging r r1 a a1 t.given flow b n) (Round a1 a2 1 moment count said)
-      (λ b n. AreJoined b → Exchanging r r1 a a2 (t.given ++ moment ∷ []) (second_heard count said flow) b n)
-      (λ b m n x turned j. exchanging_second r r1 a a1 a2 t.given flow moment count said b m n (x j) turned) before now later t.told round);
-}
-
-pub talking_said : (r r1 a a1 a2 : Stance) (flow flow' : InFlight) (said : ℕ) (before now later : Option WireEnds) (answers asked : Option (List ℕ))
-    → Talking r r1 a a1 flow before now answers asked → flow' ≡ second_said said flow → Told (Speech a1 a2 1 said) now later
-    → Talking r r1 a a2 flow' before later answers asked
-talking_said r r1 a a1 a2 flow flow' said before now later answers asked t e speech = record {
-  given = t.given;
-  grew = t.grew;
-  told = subst (λ (f : InFlight). Told (λ b n. AreJoined b → Exchanging r r1 a a2 t.given f b n) before later) (sym e)
-      (told_and (λ b n. AreJoined b → Exchanging r r1 a a1 t.given flow b n) (Speech a1 a2 1 said)
-      (λ b n. AreJoined b → Exchanging r r1 a a2 t.given (second_said said flow) b n)
-      (λ b m n x spoke j. exchanging_said r r1 a a1 a2 t.given flow said b m n (x j) spoke) before now later t.told speech);
 }
 
 -- What the counts say of octets when no more is heard.
@@ -257,49 +217,77 @@ never_arrives left left' got flying count e h some k none empty =
     let whole : length left ≡ length got + length left' = ap length (e ∙ ap (λ (octets : List ℕ). octets ++ left') (append-nil got)) ∙ length-append got left' in
     absurd (omega (arith, h, some, k, none, whole, ap length empty))
 
-pub never_first : (r r1 r2 a a1 : Stance) (end : Ended) (limit : ℕ) (flow : InFlight) (moment count said : ℕ) (before now later : Option WireEnds) (answers asked last : Option (List ℕ))
-    → Talking r r1 a a1 flow before now answers asked → Told (Round r1 r2 0 moment count said) now later → Grew asked last (moment ∷ []) → 0 < flow.to_first → count ≡ 0
-    → Exchanges Broken r r2 a a1 end limit before later answers last
-never_first r r1 r2 a a1 end limit flow moment count said before now later answers asked last t round grew some none = record {
-  given = t.given ++ moment ∷ [];
-  grew = Grew-trans answers asked last t.given (moment ∷ []) t.grew grew;
-  told = told_and (λ b n. AreJoined b → Exchanging r r1 a a1 t.given flow b n) (Round r1 r2 0 moment count said)
-      (λ b n. AreJoined b → ExchangedOut Broken r r2 a a1 end limit (t.given ++ moment ∷ []) b n)
-      (λ b m n x turned j. absurd (never_arrives m.first.left n.first.left turned.got flow.to_first count turned.part.read (x j).to_first some turned.counted none (turned.none none)))
-      before now later t.told round;
-}
-
-pub never_second : (r r1 a a1 a2 : Stance) (end : Ended) (limit : ℕ) (flow : InFlight) (moment count said : ℕ) (before now later : Option WireEnds) (answers asked last : Option (List ℕ))
-    → Talking r r1 a a1 flow before now answers asked → Told (Round a1 a2 1 moment count said) now later → Grew asked last (moment ∷ []) → 0 < flow.to_second → count ≡ 0
-    → Exchanges Broken r r1 a a2 end limit before later answers last
-never_second r r1 a a1 a2 end limit flow moment count said before now later answers asked last t round grew some none = record {
-  given = t.given ++ moment ∷ [];
-  grew = Grew-trans answers asked last t.given (moment ∷ []) t.grew grew;
-  told = told_and (λ b n. AreJoined b → Exchanging r r1 a a1 t.given flow b n) (Round a1 a2 1 moment count said)
-      (λ b n. AreJoined b → ExchangedOut Broken r r1 a a2 end limit (t.given ++ moment ∷ []) b n)
-      (λ b m n x turned j. absurd (never_arrives m.second.left n.second.left turned.got flow.to_second count turned.part.read (x j).to_second some turned.counted none (turned.none none)))
-      before now later t.told round;
-}
-
 pub no_octets : (octets : List ℕ) → 0 ≡ length octets → octets ≡ []
 no_octets [] h = refl
 no_octets (octet ∷ octets) h = absurd (omega (arith, h))
 
--- the second end said no more
-pub talked_done : (r r1 a a1 a2 : Stance) (end : Ended) (limit : ℕ) (flow : InFlight) (before now later : Option WireEnds) (answers asked : Option (List ℕ))
-    → Talking r r1 a a1 flow before now answers asked → Told (Speech a1 a2 1 0) now later → end.over_first ≡ false → end.over_second ≡ false → flow.first_read < limit
-    → end.count < limit → flow.to_first ≡ 0 → IsTrue end.begun → (end.ready ≡ false → flow.to_second ≡ 0) → (IsTrue end.ready → end.ahead ≡ 0)
-    → Exchanges Done r r1 a a2 end limit before later answers asked
-talked_done r r1 a a1 a2 end limit flow before now later answers asked t speech one other within counted none begun rest all =
-    talked Done r r1 a a2 end limit (second_said 0 flow) before later answers asked
-    (talking_said r r1 a a1 a2 flow (second_said 0 flow) 0 before now later answers asked t refl speech)
-    (λ events ends first second read. record {
-      open_first = one;
-      open_second = other;
-      within_first = subst (λ (n : ℕ). n < limit) read within;
-      within_second = counted;
-      heard_first = no_octets ends.first.left (omega (arith, first, none));
-      begun = begun;
-      heard_second = λ waits. no_octets ends.second.left (omega (arith, second, rest waits));
-      all = all;
-    })
+-- One step more.
+module _ {r r1 a a1 : Stance} {flow : InFlight} {before now : Option WireEnds} {answers asked : Option (List ℕ)} (t : Talking r r1 a a1 flow before now answers asked)
+    (later : Option WireEnds) where
+  -- in which the clock answered these moments
+  stepped : (r2 a2 : Stance) (flow' : InFlight) (step : WireEnds → WireEnds → Type 0) (more : List ℕ) (last : Option (List ℕ))
+      → ((b m n : WireEnds) → Exchanging r r1 a a1 t.given flow b m → step m n → Exchanging r r2 a a2 (t.given ++ more) flow' b n)
+      → Told step now later → Grew asked last more → Talking r r2 a a2 flow' before later answers last
+  stepped r2 a2 flow' step more last join told grew = record {
+    given = t.given ++ more;
+    grew = Grew-trans answers asked last t.given more t.grew grew;
+    told = told_and (λ b n. AreJoined b → Exchanging r r1 a a1 t.given flow b n) step (λ b n. AreJoined b → Exchanging r r2 a a2 (t.given ++ more) flow' b n)
+        (λ b m n x taken j. join b m n (x j) taken) before now later t.told told;
+  }
+
+  pub talking_first : (r2 : Stance) (flow' : InFlight) (moment count said : ℕ) (last : Option (List ℕ)) → flow' ≡ first_heard count said flow
+      → Told (Round r1 r2 0 moment count said) now later → Grew asked last (moment ∷ []) → Talking r r2 a a1 flow' before later answers last
+  talking_first r2 flow' moment count said last e round grew =
+      subst (λ (f : InFlight). Talking r r2 a a1 f before later answers last) (sym e)
+      (stepped r2 a1 (first_heard count said flow) (Round r1 r2 0 moment count said) (moment ∷ []) last (exchanging_first r r1 r2 a a1 t.given flow moment count said) round grew)
+
+  pub talking_second : (a2 : Stance) (flow' : InFlight) (moment count said : ℕ) (last : Option (List ℕ)) → flow' ≡ second_heard count said flow
+      → Told (Round a1 a2 1 moment count said) now later → Grew asked last (moment ∷ []) → Talking r r1 a a2 flow' before later answers last
+  talking_second a2 flow' moment count said last e round grew =
+      subst (λ (f : InFlight). Talking r r1 a a2 f before later answers last) (sym e)
+      (stepped r1 a2 (second_heard count said flow) (Round a1 a2 1 moment count said) (moment ∷ []) last (exchanging_second r r1 a a1 a2 t.given flow moment count said) round grew)
+
+  pub talking_said : (a2 : Stance) (flow' : InFlight) (said : ℕ) → flow' ≡ second_said said flow → Told (Speech a1 a2 1 said) now later → Talking r r1 a a2 flow' before later answers asked
+  talking_said a2 flow' said e speech =
+      subst (λ (f : InFlight). Talking r r1 a a2 f before later answers asked) (sym e)
+      (stepped r1 a2 (second_said said flow) (Speech a1 a2 1 said) [] asked (exchanging_said r r1 a a1 a2 t.given flow said) speech (Grew-refl asked))
+
+  -- or octets that were in flight didn't arrive
+  never : (r2 a2 : Stance) (end : Ended) (limit : ℕ) (step : WireEnds → WireEnds → Type 0) (more : List ℕ) (last : Option (List ℕ))
+      → ((b m n : WireEnds) → Exchanging r r1 a a1 t.given flow b m → step m n → ⊥) → Told step now later → Grew asked last more
+      → Exchanges Broken r r2 a a2 end limit before later answers last
+  never r2 a2 end limit step more last arrives told grew = record {
+    given = t.given ++ more;
+    grew = Grew-trans answers asked last t.given more t.grew grew;
+    told = told_and (λ b n. AreJoined b → Exchanging r r1 a a1 t.given flow b n) step (λ b n. AreJoined b → ExchangedOut Broken r r2 a a2 end limit (t.given ++ more) b n)
+        (λ b m n x taken j. absurd (arrives b m n (x j) taken)) before now later t.told told;
+  }
+
+  pub never_first : (r2 : Stance) (end : Ended) (limit moment count said : ℕ) (last : Option (List ℕ)) → Told (Round r1 r2 0 moment count said) now later → Grew asked last (moment ∷ [])
+      → 0 < flow.to_first → count ≡ 0 → Exchanges Broken r r2 a a1 end limit before later answers last
+  never_first r2 end limit moment count said last round grew some none =
+      never r2 a1 end limit (Round r1 r2 0 moment count said) (moment ∷ []) last
+      (λ b m n x turned. never_arrives m.first.left n.first.left turned.got flow.to_first count turned.part.read x.to_first some turned.counted none (turned.none none)) round grew
+
+  pub never_second : (a2 : Stance) (end : Ended) (limit moment count said : ℕ) (last : Option (List ℕ)) → Told (Round a1 a2 1 moment count said) now later → Grew asked last (moment ∷ [])
+      → 0 < flow.to_second → count ≡ 0 → Exchanges Broken r r1 a a2 end limit before later answers last
+  never_second a2 end limit moment count said last round grew some none =
+      never r1 a2 end limit (Round a1 a2 1 moment count said) (moment ∷ []) last
+      (λ b m n x turned. never_arrives m.second.left n.second.left turned.got flow.to_second count turned.part.read x.to_second some turned.counted none (turned.none none)) round grew
+
+  -- or the second end said no more
+  pub talked_done : (a2 : Stance) (end : Ended) (limit : ℕ) → Told (Speech a1 a2 1 0) now later → end.over_first ≡ false → end.over_second ≡ false → flow.first_read < limit
+      → end.count < limit → flow.to_first ≡ 0 → IsTrue end.begun → (end.ready ≡ false → flow.to_second ≡ 0) → (IsTrue end.ready → end.ahead ≡ 0)
+      → Exchanges Done r r1 a a2 end limit before later answers asked
+  talked_done a2 end limit speech one other within counted none begun rest all =
+      talked Done r r1 a a2 end limit (second_said 0 flow) before later answers asked (talking_said a2 (second_said 0 flow) 0 refl speech)
+      (λ events ends first second read. record {
+        open_first = one;
+        open_second = other;
+        within_first = subst (λ (n : ℕ). n < limit) read within;
+        within_second = counted;
+        heard_first = no_octets ends.first.left (omega (arith, first, none));
+        begun = begun;
+        heard_second = λ waits. no_octets ends.second.left (omega (arith, second, rest waits));
+        all = all;
+      })

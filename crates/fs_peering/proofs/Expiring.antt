@@ -9,12 +9,12 @@ use Rattle.fs_message.specs.Header.{allows, fault, header_fault, kind_at, kind_w
 use Rattle.fs_message.specs.Open.{opened as reads_open}
 use Rattle.fs_attrs.specs.declared.update.UpdateFault.TheVariants.{List as ListFault, Network, Optional, Memory as NoMemory}
 use Rattle.fs_speaker.specs.declared.State.TheVariants.{Closed as IsClosed}
-use Rattle.fs_speaker.proofs.Handing.{ran, runs_none, runs_step}
+use Rattle.fs_speaker.proofs.MessageRuns.{ran, runs_none, runs_step}
 use Rattle.fs_speaker.proofs.SessionSteps.{going, plays_none, plays_step}
 use Rattle.fs_peering.specs.Opening.{opened_by, opens, front_message}
 use Rattle.fs_peering.specs.Round.{Pieces}
 use Rattle.fs_peering.specs.Course.{hears, course}
-use Rattle.fs_speaker.proofs.Lasting.{last_update}
+use Rattle.fs_speaker.proofs.SessionInPieces.{last_update}
 use Rattle.fs_peering.proofs.Courses.{Steps, by_pieces, course_more, stays_shut, steps}
 use Rattle.fs_peering.proofs.OpenSteps.{Opened, going as made_open, opens_none, opens_step}
 

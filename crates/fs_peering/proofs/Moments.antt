@@ -6,7 +6,7 @@ use Rattle.fs_peering.proofs.Words.{Expires, Keeps, Quiet, Times, tick_at, Close
 use Rattle.std.proofs.lemmas.Option.{none-some}
 use Rattle.fs_peering.proofs.Courses.{Steps, lived}
 use Rattle.fs_speaker.specs.declared.State.TheVariants.{Closed as IsClosed}
-use Rattle.fs_speaker.proofs.Handing.{ran, runs_none, runs_step}
+use Rattle.fs_speaker.proofs.MessageRuns.{ran, runs_none, runs_step}
 use Rattle.fs_peering.specs.Round.{Pieces, moments_in}
 use Rattle.fs_peering.specs.Course.{after, hears, course, course_from}
 

@@ -4,10 +4,10 @@ use Rattle.std.proofs.Common.{◌≡◌, ◌==◌, ℕ, List, [], ◌∷◌, ◌
 use Rattle.std.proofs.lemmas.Bool.{true≢false as never}
 use Rattle.fs_peering.proofs.Words.{Closed, Config, Established, Fault, Handed, Machine, Memory, Message, MessageFault, Needs, NoFamily, Notified, Open, Phase, State, Times, Update, UpdateFault, WaitKeep, WaitOpen, announcer, at_fault, faulted, first_message, is_established, keepalive_to, no_farewell, not_taken, notice_of, notified, open_of, opened, parts_of, phase, runs, runs_by, shuts, step_by, taken, taken_in, takes, transition_at, transition_by, updates, wrong_at, Last, closed, plays, session_by, still}
 use Rattle.fs_speaker.specs.declared.State.TheVariants.{Closed as IsClosed}
-use Rattle.fs_speaker.proofs.Handing.{ran, runs_none, runs_step}
+use Rattle.fs_speaker.proofs.MessageRuns.{ran, runs_none, runs_step}
 use Rattle.fs_speaker.proofs.ReplySteps.{Shows, told}
 use Rattle.fs_speaker.proofs.SessionSteps.{going, plays_none, plays_step}
-use Rattle.fs_speaker.proofs.Lasting.{last_update}
+use Rattle.fs_speaker.proofs.SessionInPieces.{last_update}
 
 abbrev Made : Type 0
 Made = Result (Phase × Option Update) Closed

@@ -4,6 +4,7 @@ use Rattle.std.proofs.lemmas.Bool.{true≢false as never}
 use Rattle.std.specs.Prelude.{IsSome, option_map}
 use Rattle.fs_base.proofs.NumberTests.{eq_itself}
 use Rattle.fs_peering.proofs.Words.{Closed, Config, Desked, Down, Ended, Expires, Fault, Handed, HandsPeer, Keeps, Machine, Peer, PeerIs, Played, Plays, Point, Quiet, Replied, RepliesBehind, StaysPlayed, Tick, TicksPeer, Times, at_moment, begins, fresh, hand, handed, live, notice_text, peer_of, pending, point, receiver, runs_by, session_at, standing_at_desk, tick_at, ticked, ticks, times, written_now}
+use Rattle.fs_speaker.proofs.Handover.{moment_stays}
 use Rattle.fs_speaker.proofs.Waking.{ticked_by}
 use Rattle.fs_speaker.specs.Session.{Live}
 use Rattle.fs_speaker.specs.State.{standing_by}
@@ -108,11 +109,6 @@ ended_there (LiveIn state) e = absurd cc
 ended_there (Ended why) e = (why, refl)
 
 -- the moments of a session that heard the clock
-moved_stays : (moment : ℕ) (now : Times) → at_moment moment (at_moment moment now) ≡ at_moment moment now
-moved_stays moment now =
-    let same : max (max now.greatest moment) moment ≡ max now.greatest moment = omega arith in
-    ap (λ (g : ℕ). times g now.taken now.written) same
-
 wrote_stays : (moment : ℕ) (now : Times) → at_moment moment (written_now (at_moment moment now)) ≡ written_now (at_moment moment now)
 wrote_stays moment now =
     let same : max (max now.greatest moment) moment ≡ max now.greatest moment = omega arith in
@@ -182,7 +178,7 @@ module _ (old new : Desked) (peer moment : ℕ) (whose : Peer) (heard : Pieces) 
     made : (tick : Tick) → tick_at h.session.phase.hold (at_moment moment h.session.times) ≡ tick
         → TickMakes tick peer (at_moment moment h.session.times) h.session now old.held new.held out out'
         → Woke old new peer moment whose heard out out' ⊎ Slept old new peer moment whose heard out out'
-    made Quiet t k = inl (woke (at_moment moment h.session.times) Quiet k.0 (moved_stays moment h.session.times) t refl (k.1.1 ∙ sym (append-nil out)))
+    made Quiet t k = inl (woke (at_moment moment h.session.times) Quiet k.0 (moment_stays moment h.session.times) t refl (k.1.1 ∙ sym (append-nil out)))
     made Keeps t k = inl (woke (written_now (at_moment moment h.session.times)) Keeps k.0 (wrote_stays moment h.session.times) t refl k.1.1)
     made Expires t k = inr (record { due = due_here t; ended = stands_ended new peer now (Fault 4 0) there k.0; said_is = k.1.1 })
 

@@ -11,15 +11,13 @@ use Rattle.fs_speaker.specs.World.{World, at_first, happens, next_said, run, run
 use Rattle.fs_speaker.specs.declared.event.Event.{Event}
 use Rattle.fs_speaker.specs.declared.event.Event.TheVariants.{Send, Deliver, Tick as TickEvent, Cut}
 use Rattle.fs_speaker.proofs.Arriving.{open_fits}
-use Rattle.fs_speaker.proofs.Handing.{runs_stops, runs_waits}
+use Rattle.fs_speaker.proofs.Unnamed.{same_why}
+use Rattle.fs_speaker.proofs.MessageRuns.{runs_stops, runs_waits}
 use Rattle.fs_speaker.proofs.Handover.{closed_hand, open_hand}
 use Rattle.fs_speaker.proofs.Waking.{ticked_by}
 use Rattle.fs_speaker.proofs.ReplySteps.{Shows, told}
 use Rattle.fs_speaker.proofs.SessionSteps.{machine_stops, step_found}
 use Rattle.fs_peering.specs.Laws.{ClosesUnnamed}
-
-same_why : (a b : Closed) → closed a ≡ closed b → a ≡ b
-same_why a b e = cc
 
 -- An end at which one message closes, wherever more follows: of the octets up to it the end waits for more, or closes so.
 module _ (machine : Machine) (why : Closed) (text : List ℕ) (message : Message)

@@ -3,7 +3,7 @@ use Rattle.std.proofs.Common.{◌≡◌, ◌⊎◌, inl, inr, ℕ, zero, suc, �
 use Rattle.std.proofs.lemmas.Option.{none-some}
 use Rattle.fs_peering.proofs.Words.{Closed, Config, Established, Handed, Machine, Message, MessageFault, Peer, Phase, Point, State, Times, Update, WaitKeep, WaitOpen, faulted, first_message, message_text, parts_of, receiver, reply_to, runs, runs_by, shuts, taken_in, transition_by, wrong_at}
 use Rattle.fs_speaker.specs.declared.State.TheVariants.{Closed as IsClosed}
-use Rattle.fs_speaker.proofs.Handing.{ran, runs_none, runs_step}
+use Rattle.fs_speaker.proofs.MessageRuns.{ran, runs_none, runs_step}
 use Rattle.fs_peering.proofs.Courses.{keepalives}
 use Rattle.fs_peering.specs.Round.{Pieces}
 use Rattle.fs_peering.specs.Hearer.{course_of}

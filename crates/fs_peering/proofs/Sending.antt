@@ -17,7 +17,7 @@ use Rattle.fs_peering.specs.Sender.{Began, CountsTo, SaysOn, SaysUpTo, Speaks, T
 use Rattle.fs_peering.specs.Course.{course}
 use Rattle.fs_peering.specs.Tell.{begins_with}
 use Rattle.fs_peering.proofs.Answering.{Opens, opens_by}
-use Rattle.fs_peering.proofs.Phases.{Goes, awaits_open, quiet_by, Quiet as IsQuiet}
+use Rattle.fs_peering.proofs.Phases.{Goes, awaits_open, quiet_by, unawaited, Quiet as IsQuiet}
 use Rattle.fs_peering.proofs.Courses.{Steps, but_last, course_more, keepalives, octets_more, steps, woke_is}
 
 -- the parts that are said behind others
@@ -362,7 +362,7 @@ says_next a new started had out out' go alive says heard said s = by (is_establi
           lived = s.lived;
           unended = λ g. refl;
           began = λ g.
-              of_past a.line.phase.state (one_sent a) s.four heard (s.parts ++ Some sent ∷ []) unawaited
+              of_past a.line.phase.state (one_sent a) s.four heard (s.parts ++ Some sent ∷ []) waits_not
               ((past.0.0 ++ Some sent ∷ [], ap (λ (z : List (Option Sent)). z ++ Some sent ∷ []) past.0.1), past.1);
           unstarted = λ g. absurd (never (sym go ∙ g));
         }),
@@ -379,17 +379,11 @@ says_next a new started had out out' go alive says heard said s = by (is_establi
         sent : Sent
         sent = found.0
 
-        unawaited : awaits_open a.line.phase.state ≡ false
-        unawaited = at a.line.phase.state up
-          where
-            at : (state : State) → is_established state ≡ true → awaits_open state ≡ false
-            at WaitOpen h = absurd cc
-            at WaitKeep h = absurd cc
-            at Established h = refl
-            at IsClosed h = absurd cc
+        waits_not : awaits_open a.line.phase.state ≡ false
+        waits_not = unawaited a.line.phase.state up
 
         past : Past a s.four heard s.parts
-        past = past_of a.line.phase.state a s.four heard s.parts unawaited (s.began alive)
+        past = past_of a.line.phase.state a s.four heard s.parts waits_not (s.began alive)
 
     by_text : (o : Option (List ℕ)) → is_established a.line.phase.state ≡ true → texts ≡ o → SaysText o had a new out out'
         → (more : List ℕ) × ((out' ≡ out ++ more) × Speaks new started heard (said ++ more))

@@ -6,7 +6,7 @@ use Rattle.fs_peering.proofs.Words.{CanArrive, Closed, Config, Established, Expi
 use Rattle.fs_message.proofs.OpenReadBack.{open_read}
 use Rattle.fs_message.proofs.StreamLaws.{message_stable}
 use Rattle.fs_message.proofs.TextFirst.{text_first}
-use Rattle.fs_speaker.proofs.Handing.{ran, runs_none, runs_step}
+use Rattle.fs_speaker.proofs.MessageRuns.{ran, runs_none, runs_step}
 use Rattle.fs_speaker.proofs.SessionSteps.{going, machine_takes, machine_waits, plays_none, plays_step, session_rest, step_found}
 use Rattle.fs_peering.specs.HoldTime.{Spans, most}
 use Rattle.fs_peering.proofs.Courses.{keepalives, octets_more}
@@ -15,7 +15,7 @@ use Rattle.fs_peering.specs.Hearer.{course_of}
 use Rattle.fs_peering.specs.Pair.{IsTimely, told_by}
 use Rattle.fs_peering.specs.Course.{course}
 use Rattle.fs_peering.proofs.Phases.{Unheld, awaits_open, closed_still, hold_is, runs_unheld, same_still, session_on}
-use Rattle.fs_speaker.proofs.Lasting.{goes_by, goes_on, last_by, last_update}
+use Rattle.fs_speaker.proofs.SessionInPieces.{goes_by, goes_on, last_by, last_update}
 use Rattle.fs_peering.proofs.Moments.{expires_late, positive}
 use Rattle.fs_speaker.proofs.Arriving.{one_message, open_fits}
 use Rattle.fs_peering.proofs.BothEnds.{least, peer_opens}

@@ -3,7 +3,7 @@ use Rattle.std.proofs.Common.{◌≡◌, ◌<◌, ◌≤◌, ℕ, zero, suc, Lis
 use Rattle.std.proofs.lemmas.List.{take-append-drop}
 use Rattle.fs_peering.proofs.Words.{Closed, Last, Machine, Message, MessageFault, Phase, Update, closed, first_message, is_established, rest_closes, session_by, size_of, step_at, step_by, still, transition_by, wrong_at}
 use Rattle.fs_message.proofs.StreamLaws.{is_first, message_shrinks}
-use Rattle.fs_speaker.proofs.Lasting.{last_update}
+use Rattle.fs_speaker.proofs.SessionInPieces.{last_update}
 use Rattle.fs_speaker.proofs.SessionSteps.{machine_stops, machine_takes, session_rest, step_found}
 use Rattle.fs_peering.specs.Opening.{opened_by}
 use Rattle.fs_peering.proofs.OpenSteps.{going, opened_first, opened_rest}

@@ -1,4 +1,4 @@
-pub mod Handing
+pub mod MessageRuns
 pub mod SessionSteps
 pub mod ReplySteps
 pub mod Transitions
@@ -7,5 +7,5 @@ mod Quiet
 mod Ends
 mod Fitting
 pub mod Arriving
-pub mod Joining
+pub mod TwoPieces
 pub mod Returning

@@ -10,7 +10,7 @@ use Rattle.fs_session.specs.Transition.{Phase, transition_by}
 use Rattle.fs_session.specs.Side.{announcer, skips_update}
 use Rattle.fs_session.specs.Line.{Lined, Step, waits, takes, stops, step_by, step_in, DoesAt, FeedsAt}
 use Rattle.fs_session.specs.Announcer.{counted, without_update}
-use Rattle.fs_session.proofs.Handing.{Transition, Shows, told}
+use Rattle.fs_session.proofs.MessageRuns.{Transition, Shows, told}
 use Rattle.fs_session.proofs.Transitions.{each_transition}
 
 abbrev NoUpdate : Transition → Type 0

@@ -14,9 +14,9 @@ use Rattle.fs_session.specs.Handed.{Handed}
 use Rattle.fs_session.specs.Side.{reply_to, reply_at, receiver}
 use Rattle.fs_session.specs.Session.{step_of}
 use Rattle.fs_session.specs.Replies.{reply_rest, replies, replies_by, replies_from}
-use Rattle.fs_session.proofs.Handing.{runs_takes, runs_stops, runs_waits}
+use Rattle.fs_session.proofs.MessageRuns.{runs_takes, runs_stops, runs_waits}
 use Rattle.fs_session.proofs.SessionSteps.{replies_none, replies_seen}
-pub use Rattle.fs_session.proofs.Handing.{Shows, told, wrong_first}
+pub use Rattle.fs_session.proofs.MessageRuns.{Shows, told, wrong_first}
 
 pub replies_rest : (machine : Machine) (now : Phase) (octets : List ℕ) → first_message octets ≡ None
     → replies_by machine now octets ≡ reply_rest machine (wrong_at octets)

@@ -17,8 +17,8 @@ use Rattle.fs_session.specs.Side.{receiver, at_fault}
 use Rattle.fs_session.specs.Handed.{Handed, Point, rests, runs, runs_by, with_taken}
 use Rattle.fs_session.specs.Replies.{reply_rest, replies, replies_by}
 use Rattle.fs_session.specs.Session.{Last, still, closed, with_update, rest_closes, plays, session_by, session_from, step_of}
-use Rattle.fs_session.proofs.Handing.{runs_each, runs_takes, runs_stops, runs_waits}
-pub use Rattle.fs_session.proofs.Handing.{Transition}
+use Rattle.fs_session.proofs.MessageRuns.{runs_each, runs_takes, runs_stops, runs_waits}
+pub use Rattle.fs_session.proofs.MessageRuns.{Transition}
 
 abbrev pub going : Transition → (Phase → List Update × Last) → List Update × Last
 going (Ok next) rest = with_update next.1 (rest next.0)

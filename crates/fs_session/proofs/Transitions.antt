@@ -12,7 +12,7 @@ use Rattle.fs_session.specs.declared.state.State.TheVariants.{WaitOpen, WaitKeep
 use Rattle.fs_session.specs.declared.state.Closed.{Closed}
 use Rattle.fs_session.specs.declared.state.Closed.TheVariants.{Fault, NoFamily}
 use Rattle.fs_session.specs.Transition.{Machine, Phase, phase, taken, not_taken, faulted, notified, closing_of, opened, updates, transition_at, transition_by}
-use Rattle.fs_session.proofs.Handing.{Transition}
+use Rattle.fs_session.proofs.MessageRuns.{Transition}
 
 either : (P : Transition → Type 0) (b : Bool) (x y : Transition) → P x → P y → P (if b then x else y)
 either P true x y p q = p

@@ -18,10 +18,10 @@ use Rattle.fs_speaker.specs.JointLaws.{CanArrive, ClosesSo, IsDue, handed_over, 
 use Rattle.fs_speaker.specs.World.{World, sent, taker_of, teller_of, taker_comes, teller_comes, happens, at_first, runs_on, run}
 use Rattle.fs_speaker.proofs.Events.{each_event, told_over}
 use Rattle.fs_speaker.proofs.Fronting.{Holds, Lines, holds_first, holds_on, lines_cut, lines_delivered, lines_same, lines_spoken}
-use Rattle.fs_speaker.proofs.Lasting.{Follows, closes_by, follows_first, follows_none, follows_piece, follows_tick}
+use Rattle.fs_speaker.proofs.SessionInPieces.{Follows, closes_by, follows_first, follows_none, follows_piece, follows_tick}
 use Rattle.fs_speaker.proofs.Reading.{IsCalm}
 use Rattle.fs_speaker.proofs.Running.{run_more}
-use Rattle.fs_speaker.proofs.Telling.{Says, says_first, says_piece, says_tick}
+use Rattle.fs_speaker.proofs.ReceiverReplies.{Says, says_first, says_piece, says_tick}
 use Rattle.fs_speaker.proofs.Waking.{hand_opens, hand_stays, tick_each, tick_opens, tick_stays, ticked_by}
 
 module _ (config : Config) (peer : Peer) (sending : Sending) where

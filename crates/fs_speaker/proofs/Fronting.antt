@@ -21,8 +21,8 @@ use Rattle.fs_session.specs.Sending.{needs_of, text_sent, update_sent}
 use Rattle.fs_session.specs.Session.{at_start, session_by}
 use Rattle.fs_session.specs.Times.{at_moment, tick_at}
 use Rattle.fs_session.specs.Transition.{Machine}
-use Rattle.fs_session.proofs.Handing.{hand_each}
-use Rattle.fs_session.proofs.Joining.{front_first}
+use Rattle.fs_session.proofs.MessageRuns.{hand_each}
+use Rattle.fs_session.proofs.TwoPieces.{front_first}
 use Rattle.fs_speaker.specs.declared.event.Event.{Event}
 use Rattle.fs_speaker.specs.declared.event.Event.TheVariants.{Cut}
 use Rattle.fs_speaker.specs.End.{ticks, ticked}

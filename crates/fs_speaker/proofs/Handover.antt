@@ -14,8 +14,8 @@ use Rattle.fs_session.specs.Side.{at_fault}
 use Rattle.fs_session.specs.Times.{times, at_moment, taken_in}
 use Rattle.fs_session.specs.declared.transition.Phase.{Phase}
 use Rattle.fs_session.specs.Transition.{Machine}
-use Rattle.fs_session.proofs.Handing.{runs_takes, runs_stops, runs_waits}
-pub use Rattle.fs_session.proofs.Handing.{open_hand, closed_hand}
+use Rattle.fs_session.proofs.MessageRuns.{runs_takes, runs_stops, runs_waits}
+pub use Rattle.fs_session.proofs.MessageRuns.{open_hand, closed_hand}
 use Rattle.fs_speaker.specs.End.{StandsAt, HandsOver}
 
 -- what was taken and answered before, and what is to come
@@ -23,7 +23,7 @@ abbrev pub behind : List Update → List ℕ → Handed → Handed
 behind updates text later = handed later.point (updates ++ later.updates) (text ++ later.text)
 
 -- a moment that was handed in already moves nothing
-moment_stays : (moment : ℕ) (now : Times) → at_moment moment (at_moment moment now) ≡ at_moment moment now
+pub moment_stays : (moment : ℕ) (now : Times) → at_moment moment (at_moment moment now) ≡ at_moment moment now
 moment_stays moment now =
     let same : max (max now.greatest moment) moment ≡ max now.greatest moment = omega arith in
     ap (λ (g : ℕ). times g now.taken now.written) same
@@ -246,7 +246,7 @@ hands_all machine moment old line new piece rest taken taken' out out' out2 coun
     (came_all machine moment (runs_by machine now.phase (at_moment moment now.times) (now.waiting ++ piece)) taken out (taken' ++ updates_with update []) out2 new (drop count rest) w.1 none
     (closed ∙ ap closed_after e))
 
-close_is : (step : Step) (why : Closed) → (why ≡ Memory → ⊥) → CloseIs step why → step ≡ stops why
+pub close_is : (step : Step) (why : Closed) → (why ≡ Memory → ⊥) → CloseIs step why → step ≡ stops why
 close_is step Memory other h = absurd (other refl)
 close_is step (Fault code subcode) other h = h
 close_is step (Notified code subcode) other h = h

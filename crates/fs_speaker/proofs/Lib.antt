@@ -2,8 +2,8 @@ pub use Rattle.fs_session.proofs.Transitions
 pub use Rattle.fs_session.proofs.SessionSteps
 pub use Rattle.fs_session.proofs.ReplySteps
 pub use Rattle.fs_session.proofs.Arriving
-pub use Rattle.fs_session.proofs.Handing
-pub use Rattle.fs_session.proofs.Joining
+pub use Rattle.fs_session.proofs.MessageRuns
+pub use Rattle.fs_session.proofs.TwoPieces
 pub use Rattle.fs_session.proofs.Returning
 pub mod Handover
 pub mod Waking
@@ -15,7 +15,7 @@ mod Taking
 mod Reading
 mod Opening
 mod Fronting
-pub mod Lasting
-mod Telling
+pub mod SessionInPieces
+mod ReceiverReplies
 mod Closing
 pub mod Unnamed

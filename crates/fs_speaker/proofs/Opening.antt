@@ -27,7 +27,7 @@ use Rattle.fs_session.specs.declared.state.State.{State}
 use Rattle.fs_session.specs.declared.state.State.TheVariants.{WaitOpen, WaitKeep, Established, Closed as IsClosed}
 use Rattle.fs_session.specs.declared.times.Times.{Times}
 use Rattle.fs_session.specs.declared.transition.Phase.{Phase}
-use Rattle.fs_session.proofs.Handing.{runs_begun, runs_each}
+use Rattle.fs_session.proofs.MessageRuns.{runs_begun, runs_each}
 use Rattle.fs_session.proofs.Transitions.{each_transition}
 use Rattle.fs_speaker.specs.JointLaws.{CanArrive}
 use Rattle.fs_session.proofs.Arriving.{open_fits}

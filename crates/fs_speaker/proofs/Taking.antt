@@ -11,7 +11,7 @@ use Rattle.fs_session.specs.Handed.{Point, Handed, handed, hand}
 use Rattle.fs_session.specs.Session.{Last, at_start, session_by}
 use Rattle.fs_session.specs.Times.{at_moment, tick_at}
 use Rattle.fs_session.specs.Transition.{Machine}
-use Rattle.fs_session.proofs.Joining.{both_hands}
+use Rattle.fs_session.proofs.TwoPieces.{both_hands}
 use Rattle.fs_session.proofs.SessionSteps.{machine_waits, runs_updates}
 use Rattle.fs_speaker.specs.declared.event.Event.{Event}
 use Rattle.fs_speaker.specs.End.{ticks, ticked}

@@ -16,7 +16,7 @@ use Rattle.fs_session.specs.Transition.{Machine, opened}
 use Rattle.fs_session.specs.declared.sending.Sending.{Sending}
 use Rattle.fs_session.specs.declared.state.Closed.{Closed}
 use Rattle.fs_session.specs.declared.state.Closed.TheVariants.{Fault}
-use Rattle.fs_session.proofs.Joining.{front_first}
+use Rattle.fs_session.proofs.TwoPieces.{front_first}
 use Rattle.fs_session.proofs.SessionSteps.{machine_stops, step_found}
 use Rattle.fs_speaker.specs.declared.event.Event.{Event}
 use Rattle.fs_speaker.specs.declared.event.Event.TheVariants.{Send, Deliver, Tick as TickEvent, Cut}
@@ -26,7 +26,7 @@ use Rattle.fs_speaker.specs.World.{World, sent, taker_of, teller_of, happens, at
 use Rattle.fs_speaker.proofs.Closing.{so_later, so_tick, takes_on}
 use Rattle.fs_speaker.proofs.Events.{each_event}
 use Rattle.fs_speaker.proofs.Fronting.{Lines, lines_cut, lines_delivered, lines_same, lines_spoken}
-use Rattle.fs_speaker.proofs.Lasting.{Follows, closes_by, follows_first}
+use Rattle.fs_speaker.proofs.SessionInPieces.{Follows, closes_by, follows_first}
 use Rattle.fs_session.proofs.Arriving.{open_fits}
 use Rattle.fs_speaker.proofs.Running.{run_more}
 use Rattle.fs_speaker.proofs.Taking.{takes_delivered}
@@ -39,7 +39,7 @@ none_front : (xs rest : List Update) → xs ++ rest ≡ [] → xs ≡ []
 none_front [] rest e = refl
 none_front (x ∷ xs) rest e = absurd cc
 
-same_why : (a b : Closed) → closed a ≡ closed b → a ≡ b
+pub same_why : (a b : Closed) → closed a ≡ closed b → a ≡ b
 same_why a b e = cc
 
 module _ (config : Config) (peer : Peer) (sending : Sending) where

@@ -12,7 +12,7 @@ use Rattle.fs_session.specs.Line.{Lined, Refuses, TickDoes, TickCloses, Ticks, T
 use Rattle.fs_session.specs.Side.{notice_text}
 use Rattle.fs_session.specs.Times.{at_moment, written_now, tick_at}
 use Rattle.fs_session.specs.Transition.{Machine}
-use Rattle.fs_session.proofs.Handing.{closed_hand, hand_each}
+use Rattle.fs_session.proofs.MessageRuns.{closed_hand, hand_each}
 use Rattle.fs_speaker.specs.End.{ticks, ticked, IsAt, StandsAt, TicksOver}
 
 abbrev Came : Machine → Lined → (out out' : List ℕ) → Handed → Type 0

@@ -21,26 +21,12 @@ append-bodied-requires-clause-room c =
     let high : c.read_u16-size.result ≤ 4096 = (size_fits _ _ _ _ s).1 in
     omega arith
 
-pub returns-clause-kept : goal.returns-clause-kept
-returns-clause-kept c =
+pub returns : goal.returns
+returns c =
     let h = headed_of c.args.held.now c.args.count.now c.args.piece.now _ _ c.requires.begun (omega arith) c.append-headed.ensures.taken c.append-headed.ensures.held in
     let s : Sized c.append-headed.new.held c.append-headed.new.count c.min.result c.read_u16-size.result =
     record { within = omega arith; long = omega arith; judged_is = c.min.ensures; fits = c.in_default.ensures.sized; read = c.read_u16-size.ensures } in
-    (fed_of _ _ _ _ s _ c.args.piece.now c.append-bodied.new.held c.append-headed.result c.append-bodied.result c.append-bodied.new.count h
-    c.in_default.ensures.exact c.append-bodied.ensures.taken c.append-bodied.ensures.held c.append-bodied.ensures.count (omega arith) (omega arith)).kept
-
-pub returns-clause-some : goal.returns-clause-some
-returns-clause-some c =
-    let h = headed_of c.args.held.now c.args.count.now c.args.piece.now _ _ c.requires.begun (omega arith) c.append-headed.ensures.taken c.append-headed.ensures.held in
-    let s : Sized c.append-headed.new.held c.append-headed.new.count c.min.result c.read_u16-size.result =
-    record { within = omega arith; long = omega arith; judged_is = c.min.ensures; fits = c.in_default.ensures.sized; read = c.read_u16-size.ensures } in
-    (fed_of _ _ _ _ s _ c.args.piece.now c.append-bodied.new.held c.append-headed.result c.append-bodied.result c.append-bodied.new.count h
-    c.in_default.ensures.exact c.append-bodied.ensures.taken c.append-bodied.ensures.held c.append-bodied.ensures.count (omega arith) (omega arith)).some
-
-pub returns-clause-exact : goal.returns-clause-exact
-returns-clause-exact c =
-    let h = headed_of c.args.held.now c.args.count.now c.args.piece.now _ _ c.requires.begun (omega arith) c.append-headed.ensures.taken c.append-headed.ensures.held in
-    let s : Sized c.append-headed.new.held c.append-headed.new.count c.min.result c.read_u16-size.result =
-    record { within = omega arith; long = omega arith; judged_is = c.min.ensures; fits = c.in_default.ensures.sized; read = c.read_u16-size.ensures } in
-    (fed_of _ _ _ _ s _ c.args.piece.now c.append-bodied.new.held c.append-headed.result c.append-bodied.result c.append-bodied.new.count h
-    c.in_default.ensures.exact c.append-bodied.ensures.taken c.append-bodied.ensures.held c.append-bodied.ensures.count (omega arith) (omega arith)).exact
+    let f = fed_of _ _ _ _ s _ c.args.piece.now c.append-bodied.new.held c.append-headed.result c.append-bodied.result c.append-bodied.new.count h
+    c.in_default.ensures.exact c.append-bodied.ensures.taken c.append-bodied.ensures.held c.append-bodied.ensures.count (omega arith) (omega arith) in
+    let high : c.read_u16-size.result ≤ 4096 = (size_fits _ _ _ _ s).1 in
+    record { within = omega arith; kept = f.kept; some = f.some; exact = f.exact }

@@ -26,7 +26,7 @@ loop-flow-preserved-else-round-eq0 g c = record {
   counted = search rules;
   own_first = c.in_ok-round.ensures.own ∙ c.loop-flow.invariant.own_first;
   own_second = c.loop-flow.invariant.own_second;
-  talking = talking_first _ _ _ _ _ _ _ _ _ _ _ _ _ _ _ _ c.loop-flow.invariant.talking c.in_ok-flow.ensures c.in_ok-round.ensures.round c.in_ok-round.ensures.moment;
+  talking = talking_first c.loop-flow.invariant.talking _ _ _ _ _ _ _ c.in_ok-flow.ensures c.in_ok-round.ensures.round c.in_ok-round.ensures.moment;
 }
 
 pub loop-flow-preserved-then-flow-limit : goal.loop-flow-preserved-then-flow-limit
@@ -39,7 +39,7 @@ loop-flow-preserved-then-flow-limit g c = record {
   counted = search rules;
   own_first = c.loop-flow.invariant.own_first;
   own_second = c.in_ok-round-2.ensures.own ∙ c.loop-flow.invariant.own_second;
-  talking = talking_second _ _ _ _ _ _ _ _ _ _ _ _ _ _ _ _ c.loop-flow.invariant.talking c.in_ok-flow-2.ensures c.in_ok-round-2.ensures.round c.in_ok-round-2.ensures.moment;
+  talking = talking_second c.loop-flow.invariant.talking _ _ _ _ _ _ _ c.in_ok-flow-2.ensures c.in_ok-round-2.ensures.round c.in_ok-round-2.ensures.moment;
 }
 
 pub loop-flow-preserved : goal.loop-flow-preserved
@@ -52,40 +52,40 @@ loop-flow-preserved g c = record {
   counted = search rules;
   own_first = c.loop-flow.invariant.own_first;
   own_second = c.in_ok-said.ensures.own ∙ c.loop-flow.invariant.own_second;
-  talking = talking_said _ _ _ _ _ _ _ _ _ _ _ _ _ c.loop-flow.invariant.talking c.in_ok-flow-3.ensures (rw c.in-Some.is at c.in_ok-said.ensures.spoke);
+  talking = talking_said c.loop-flow.invariant.talking _ _ _ _ c.in_ok-flow-3.ensures (rw c.in-Some.is at c.in_ok-said.ensures.spoke);
 }
 
 pub returns-then-is_over-clause-talked : goal.returns-then-is_over-clause-talked
 returns-then-is_over-clause-talked g c =
-    talked _ _ _ _ _ _ _ _ _ _ _ _ (talking_first _ _ _ _ _ _ _ _ _ _ _ _ _ _ _ _ c.loop-flow.invariant.talking c.in_ok-flow.ensures c.in_ok-round.ensures.round c.in_ok-round.ensures.moment)
+    talked _ _ _ _ _ _ _ _ _ _ _ _ (talking_first c.loop-flow.invariant.talking _ _ _ _ _ _ _ c.in_ok-flow.ensures c.in_ok-round.ensures.round c.in_ok-round.ensures.moment)
     (λ events now first second read. (search rules, c.loop-flow.invariant.open_second))
 
 pub returns-then-limit-flow-clause-talked : goal.returns-then-limit-flow-clause-talked
 returns-then-limit-flow-clause-talked g c =
-    talked _ _ _ _ _ _ _ _ _ _ _ _ (talking_first _ _ _ _ _ _ _ _ _ _ _ _ _ _ _ _ c.loop-flow.invariant.talking c.in_ok-flow.ensures c.in_ok-round.ensures.round c.in_ok-round.ensures.moment)
+    talked _ _ _ _ _ _ _ _ _ _ _ _ (talking_first c.loop-flow.invariant.talking _ _ _ _ _ _ _ c.in_ok-flow.ensures c.in_ok-round.ensures.round c.in_ok-round.ensures.moment)
     (λ events now first second read. (search rules, (c.loop-flow.invariant.open_second, inl (search rules))))
 
 pub returns-then-round-eq0-clause-talked : goal.returns-then-round-eq0-clause-talked
 returns-then-round-eq0-clause-talked g c =
-    never_first _ _ _ _ _ _ _ _ _ _ _ _ _ _ _ _ _ c.loop-flow.invariant.talking c.in_ok-round.ensures.round c.in_ok-round.ensures.moment (search rules) (search rules)
+    never_first c.loop-flow.invariant.talking _ _ _ _ _ _ _ _ c.in_ok-round.ensures.round c.in_ok-round.ensures.moment (search rules) (search rules)
 
 pub returns-then-is_over-2-clause-talked : goal.returns-then-is_over-2-clause-talked
 returns-then-is_over-2-clause-talked g c =
-    talked _ _ _ _ _ _ _ _ _ _ _ _ (talking_second _ _ _ _ _ _ _ _ _ _ _ _ _ _ _ _ c.loop-flow.invariant.talking c.in_ok-flow-2.ensures c.in_ok-round-2.ensures.round c.in_ok-round-2.ensures.moment)
+    talked _ _ _ _ _ _ _ _ _ _ _ _ (talking_second c.loop-flow.invariant.talking _ _ _ _ _ _ _ c.in_ok-flow-2.ensures c.in_ok-round-2.ensures.round c.in_ok-round-2.ensures.moment)
     (λ events now first second read. (c.loop-flow.invariant.open_first, search rules))
 
 pub returns-then-limit-count-clause-talked : goal.returns-then-limit-count-clause-talked
 returns-then-limit-count-clause-talked g c =
-    talked _ _ _ _ _ _ _ _ _ _ _ _ (talking_second _ _ _ _ _ _ _ _ _ _ _ _ _ _ _ _ c.loop-flow.invariant.talking c.in_ok-flow-2.ensures c.in_ok-round-2.ensures.round c.in_ok-round-2.ensures.moment)
+    talked _ _ _ _ _ _ _ _ _ _ _ _ (talking_second c.loop-flow.invariant.talking _ _ _ _ _ _ _ c.in_ok-flow-2.ensures c.in_ok-round-2.ensures.round c.in_ok-round-2.ensures.moment)
     (λ events now first second read. (c.loop-flow.invariant.open_first, (search rules, inr (search rules))))
 
 pub returns-then-round-eq0-2-clause-talked : goal.returns-then-round-eq0-2-clause-talked
 returns-then-round-eq0-2-clause-talked g c =
-    never_second _ _ _ _ _ _ _ _ _ _ _ _ _ _ _ _ _ c.loop-flow.invariant.talking c.in_ok-round-2.ensures.round c.in_ok-round-2.ensures.moment (search rules) (search rules)
+    never_second c.loop-flow.invariant.talking _ _ _ _ _ _ _ _ c.in_ok-round-2.ensures.round c.in_ok-round-2.ensures.moment (search rules) (search rules)
 
 pub returns-in_default-clause-talked : goal.returns-in_default-clause-talked
 returns-in_default-clause-talked g c =
-    talked_done _ _ _ _ _ _ _ _ _ _ _ _ _ c.loop-flow.invariant.talking (rw c.in_default.is at c.in_ok-said.ensures.spoke) c.loop-flow.invariant.open_first
+    talked_done c.loop-flow.invariant.talking _ _ _ _ (rw c.in_default.is at c.in_ok-said.ensures.spoke) c.loop-flow.invariant.open_first
     (c.in_ok-said.ensures.over ∙ c.loop-flow.invariant.open_second) c.loop-flow.invariant.within_first (search rules) (omega (arith, c.if-flow-gt0.false))
     (c.in_ok-said.ensures.begun c.in_default.is c.loop-flow.invariant.open_second)
     (λ waits.

@@ -12,20 +12,20 @@ loop-round-preserved g c = record {
   opened = search rules;
   sent = c.in_ok-round.ensures.sent ∙ c.loop-round.invariant.sent;
   own = c.in_ok-round.ensures.own ∙ c.loop-round.invariant.own;
-  listens = listens_more _ _ _ _ _ _ _ _ _ _ _ _ _ c.loop-round.invariant.listens c.in_ok-round.ensures.round c.in_ok-round.ensures.moment;
+  listens = listens_more c.loop-round.invariant.listens _ _ _ _ _ _ c.in_ok-round.ensures.round c.in_ok-round.ensures.moment;
 }
 
 pub returns-then-is_over-clause-heard : goal.returns-then-is_over-clause-heard
 returns-then-is_over-clause-heard g c =
-    hears_out _ _ _ _ _ _ _ _ _ _ _ _ _ _ _ _ _ c.loop-round.invariant.listens c.in_ok-round.ensures.round c.in_ok-round.ensures.moment
+    hears_out c.loop-round.invariant.listens _ _ _ _ _ _ c.in_ok-round.ensures.round c.in_ok-round.ensures.moment _ _ _ _
     (λ left none. search rules)
 
 pub returns-then-limit-count-clause-heard : goal.returns-then-limit-count-clause-heard
 returns-then-limit-count-clause-heard g c =
-    hears_out _ _ _ _ _ _ _ _ _ _ _ _ _ _ _ _ _ c.loop-round.invariant.listens c.in_ok-round.ensures.round c.in_ok-round.ensures.moment
+    hears_out c.loop-round.invariant.listens _ _ _ _ _ _ c.in_ok-round.ensures.round c.in_ok-round.ensures.moment _ _ _ _
     (λ left none. (search rules, search rules))
 
 pub returns-then-round-eq0-clause-heard : goal.returns-then-round-eq0-clause-heard
 returns-then-round-eq0-clause-heard g c =
-    hears_out _ _ _ _ _ _ _ _ _ _ _ _ _ _ _ _ _ c.loop-round.invariant.listens c.in_ok-round.ensures.round c.in_ok-round.ensures.moment
+    hears_out c.loop-round.invariant.listens _ _ _ _ _ _ c.in_ok-round.ensures.round c.in_ok-round.ensures.moment _ _ _ _
     (λ left none. (search rules, (search rules, none (search rules))))

@@ -13,7 +13,7 @@ use Rattle.fs_session.specs.Side.{at_fault}
 use Rattle.fs_session.specs.Session.{Last, rest_closes, with_update, plays, session_by}
 use Rattle.fs_session.specs.Replies.{reply_rest, replies, replies_by}
 use Rattle.fs_session.specs.Handed.{Handed, Point, point, rests, runs, runs_by, with_taken, hand}
-use Rattle.fs_session.proofs.Handing.{Transition, open_hand, runs_each, wrong_first}
+use Rattle.fs_session.proofs.MessageRuns.{Transition, open_hand, runs_each, wrong_first}
 use Rattle.fs_session.proofs.SessionSteps.{going, plays_step, session_rest, answered, replies_step, last_of, session_seen, replies_seen, runs_updates}
 use Rattle.fs_session.proofs.ReplySteps.{replies_rest}
 

@@ -10,8 +10,8 @@ use Rattle.fs_session.specs.declared.times.Tick.{Tick}
 use Rattle.fs_session.specs.declared.times.Tick.TheVariants.{Quiet, Keeps, Expires}
 use Rattle.fs_session.specs.declared.times.Times.{Times}
 use Rattle.fs_session.specs.declared.transition.Phase.{Phase}
-use Rattle.fs_session.proofs.Handing.{hand_each, open_hand}
-use Rattle.fs_session.proofs.Joining.{both_by}
+use Rattle.fs_session.proofs.MessageRuns.{hand_each, open_hand}
+use Rattle.fs_session.proofs.TwoPieces.{both_by}
 use Rattle.fs_session.proofs.SessionSteps.{last_of, session_seen}
 use Rattle.fs_speaker.specs.End.{ticked, ticks}
 use Rattle.fs_speaker.specs.JointLaws.{taken_in as octets_in}

@@ -24,7 +24,7 @@ use Rattle.fs_session.specs.declared.times.Tick.{Tick}
 use Rattle.fs_session.specs.declared.times.Tick.TheVariants.{Quiet, Keeps, Expires}
 use Rattle.fs_session.specs.declared.times.Times.{Times}
 use Rattle.fs_session.specs.declared.transition.Phase.{Phase}
-use Rattle.fs_session.proofs.Handing.{hand_each, runs_begun, runs_each}
+use Rattle.fs_session.proofs.MessageRuns.{hand_each, runs_begun, runs_each}
 use Rattle.fs_speaker.specs.End.{ticked, ticks}
 use Rattle.fs_speaker.specs.JointLaws.{CanArrive}
 use Rattle.fs_speaker.proofs.Opening.{awaits, Past, past}
