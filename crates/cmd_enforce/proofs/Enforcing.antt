@@ -168,11 +168,18 @@ module _ {T : Type 0} (work : Judging) (mid : Outcome) (now : Option (List ℕ))
       by came (inr (inr h)) (inl done_so) = let one : answered result ≡ 1 = ap answered done_so.0 ∙ h.0 in absurd cc
       by came behind (inr h) = let one : answered result ≡ 1 = outside_one result h.0 in absurd cc
 
+-- the same under an equal configuration
+pub answers_under : {config config' : Config} {items : List Timed} {stage : Stage Recorded} {failed : Type 0} {before now : Option (List ℕ)} {answer : ℕ}
+    → config' ≡ config → AnswersAt config' items stage failed before now answer → AnswersAt config items stage failed before now answer
+answers_under {items = items} {stage = stage} {failed = failed} {before = before} {now = now} {answer = answer} e a =
+    subst (λ (c : Config). AnswersAt c items stage failed before now answer) e a
+
 -- of a capture that was opened so
-pub answers_opened : (config : Config) (items : List Timed) (stage : Stage Recorded) (found : Recorded) (failed failed' : Type 0) (before now : Option (List ℕ)) (answer : ℕ)
-    → stage ≡ Found found → AnswersAt config items (Found found) failed before now answer → (failed → failed') → AnswersAt config items stage failed' before now answer
-answers_opened config items stage found failed failed' before now answer e a f =
-    subst (λ (s : Stage Recorded). AnswersAt config items s failed' before now answer) (sym e) (at_for config items (Found found) failed failed' before now answer a f)
+pub answers_opened : {config config' : Config} {items : List Timed} {stage : Stage Recorded} {found : Recorded} {failed failed' : Type 0} {before now : Option (List ℕ)} {answer : ℕ}
+    → stage ≡ Found found → config' ≡ config → AnswersAt config' items (Found found) failed before now answer → (failed → failed')
+    → AnswersAt config items stage failed' before now answer
+answers_opened {config} {items = items} {stage = stage} {found = found} {failed = failed} {failed' = failed'} {before = before} {now = now} {answer = answer} e same a f =
+    subst (λ (s : Stage Recorded). AnswersAt config items s failed' before now answer) (sym e) (at_for config items (Found found) failed failed' before now answer (answers_under same a) f)
 
 -- a count that rose in a part rose in the whole
 pub rose_wider : (f f1 f2 s s1 s2 : ℕ) → f ≤ f1 → s1 ≤ s2 → Rose f1 f2 ⊎ Rose s s1 → Rose f f2 ⊎ Rose s s2
@@ -186,6 +193,12 @@ abbrev pub wrote_none : (config : Config) (items : List Timed) (packets left : L
     → WroteJudged config items packets left before now
 wrote_none config items packets left before now e g = record { came = came_to_none config items packets; unjudged = inl e; wrote = g }
 
+-- the same under an equal configuration, of equal packets
+pub wrote_under : {config config' : Config} {items : List Timed} {packets packets' left : List Captured} {before now : Option (List ℕ)}
+    → config' ≡ config → packets' ≡ packets → WroteJudged config' items packets' left before now → WroteJudged config items packets left before now
+wrote_under {config} {items = items} {packets' = packets'} {left = left} {before = before} {now = now} e p w =
+    subst (λ (l : List Captured). WroteJudged config items l left before now) p (subst (λ (c : Config). WroteJudged c items packets' left before now) e w)
+
 -- the configuration ended the run
 pub config_ends : {T : Type 0} (limit : ℕ) (holds : Names) (config tape capture : List ℕ) (failed failed' : Type 0) (a : Option (List ℕ)) (result : Result T Refusal) (refusal : Refusal)
     → IsErrAnd result (λ e. e ≡ refusal) → HasReason (config_stage limit holds config) failed refusal → (failed → failed')
@@ -196,7 +209,8 @@ config_ends limit holds config tape capture failed failed' a result refusal is h
     (reason_then (config_stage limit holds config) (λ accepted. and_then (tape_stage accepted limit holds tape) (λ items. Found (accepted, items))) failed refusal h) f))
 
 -- the tape ended the run
-pub tape_ends : {T : Type 0} (limit : ℕ) (holds holds' : Names) (config tape capture : List ℕ) (accepted : Config) (failed failed' : Type 0) (a : Option (List ℕ)) (result : Result T Refusal) (refusal : Refusal)
+pub tape_ends : {T : Type 0} (limit : ℕ) (holds holds' : Names) (config tape capture : List ℕ) (accepted : Config) (failed failed' : Type 0)
+    (a : Option (List ℕ)) (result : Result T Refusal) (refusal : Refusal)
     → IsErrAnd result (λ e. e ≡ refusal) → config_stage limit holds config ≡ Found accepted → holds' ≡ holds → HasReason (tape_stage accepted limit holds' tape) failed refusal
     → (failed → failed') → EnforcesSo limit holds config tape capture failed' a a (answered result)
 tape_ends limit holds holds' config tape capture accepted failed failed' a result refusal is e same h f =
@@ -206,12 +220,13 @@ tape_ends limit holds holds' config tape capture accepted failed failed' a resul
     (reason_then (tape_stage accepted limit holds tape) (λ items. Found (accepted, items)) failed refusal told) in
     answered_err (EnforcesSo limit holds config tape capture failed' a a) result refusal is (inl (ends_early (accepted_stage limit holds config tape) failed failed' a refusal whole f))
 
-found_in : {limit : ℕ} {holds tape_holds : Names} {tape : List ℕ} {accepted : Config} {version : Version} {desk : Desked} → tape_holds ≡ holds
+pub found_in : {limit : ℕ} {holds tape_holds : Names} {tape : List ℕ} {accepted : Config} {version : Version} {desk : Desked} → tape_holds ≡ holds
     → (w : IsWhole accepted limit tape_holds tape version desk) → tape_stage accepted limit holds tape ≡ Found w.played.items
 found_in {limit} {tape = tape} {accepted = accepted} same w = subst (λ (names : Names). tape_stage accepted limit names tape ≡ Found w.played.items) same w.played.found
 
 -- the capture was judged, by what the tape holds at the packets' moments
-pub answers_so : {tape_holds : Names} {accepted : Config} {version : Version} {desk : Desked} (limit : ℕ) (holds capture_holds : Names) (config tape capture : List ℕ) (failed : Type 0) (before now : Option (List ℕ)) (answer : ℕ)
+pub answers_so : {tape_holds : Names} {accepted : Config} {version : Version} {desk : Desked}
+    (limit : ℕ) (holds capture_holds : Names) (config tape capture : List ℕ) (failed : Type 0) (before now : Option (List ℕ)) (answer : ℕ)
     → config_stage limit holds config ≡ Found accepted → tape_holds ≡ holds → capture_holds ≡ tape_holds
     → (w : IsWhole accepted limit tape_holds tape version desk)
     → AnswersAt accepted w.played.items (capture_stage limit capture_holds capture) failed before now answer
@@ -225,7 +240,8 @@ answers_so {tape_holds} {accepted} limit holds capture_holds config tape capture
     })
 
 -- at want of memory behind configuration and tape
-pub unfinished_so : {tape_holds : Names} {accepted : Config} {version : Version} {desk : Desked} (limit : ℕ) (holds capture_holds : Names) (config tape capture left : List ℕ) (before now : Option (List ℕ)) (reader : CaptureState)
+pub unfinished_so : {tape_holds : Names} {accepted : Config} {version : Version} {desk : Desked}
+    (limit : ℕ) (holds capture_holds : Names) (config tape capture left : List ℕ) (before now : Option (List ℕ)) (reader : CaptureState)
     → config_stage limit holds config ≡ Found accepted → tape_holds ≡ holds → capture_holds ≡ tape_holds
     → (w : IsWhole accepted limit tape_holds tape version desk)
     → (judged : WroteJudged accepted w.played.items (packets_of (capture_stage limit capture_holds capture)) (coming reader left).0 before now)

@@ -47,14 +47,16 @@ packets-preserved g c =
       judged = λ told work s f same_config.
           let player = c.args.following.now.player in
           let packet = packet_from c.in-Some.caught c.next_packet.new.buffer in
+          let left = g.F.Files.left c.packets.files in
+          let behind = g.F.Files.left c.next_packet.new.files in
           let before = c.packets.invariant.judged told work s f same_config in
-          let waits = awaits work.items player c.packets.capture.moment c.next_packet.new.capture.moment c.packets.capture.slot 1 (g.F.Files.left c.packets.files) (g.F.Files.left c.next_packet.new.files)
+          let waits = awaits work.items player c.packets.capture.moment c.next_packet.new.capture.moment c.packets.capture.slot 1 left behind
           c.packets.invariant.slot refl (c.in_ok-caught.ensures.others told).others times.1 before.0 in
-          let later = subst (λ (n : ℕ). Stands work.items n player (g.F.Files.left c.next_packet.new.files 1)) times.0 waits in (
+          let later = subst (λ (n : ℕ). Stands work.items n player (behind 1)) times.0 waits in (
             waits,
             followed_more c.same_routes.ensures _ packet player.desk.held before.1
-                (read_on c.packets.capture c.next_packet.new.capture packet c.packets.capture.slot (g.F.Files.left c.packets.files) (g.F.Files.left c.next_packet.new.files) c.packets.invariant.slot (rw c.in-Some.is at (c.in_ok-caught.ensures.gives told)))
-                (leaves_as _ _ (until c.in-Some.caught.moment work.items) player.desk.held same_config (c.is_due.ensures.still c.if-is_due.false work.items (g.F.Files.left c.next_packet.new.files 1) later))
+                (read_on c.packets.capture c.next_packet.new.capture packet c.packets.capture.slot left behind c.packets.invariant.slot (rw c.in-Some.is at (c.in_ok-caught.ensures.gives told)))
+                (leaves_as _ _ (until c.in-Some.caught.moment work.items) player.desk.held same_config (c.is_due.ensures.still c.if-is_due.false work.items (behind 1) later))
                 (c.in_ok-judge_packet.ensures.sends (admitted_rules player.desk.held) c.requires.stands).ok c.in_ok-judge_packet.ensures.number,
           );
     }
@@ -74,9 +76,10 @@ returns-in_err-caught-clause-early g c = packet_wants_none c.from_residual-in_er
 
 pub returns-in_err-caught-clause-judged : goal.returns-in_err-caught-clause-judged
 returns-in_err-caught-clause-judged g c = λ told work same_config s f.
+    let failed = Rose (g.F.Files.faults c.packets.files) (g.F.Files.faults c.next_packet.new.files) in
     match_err _ _ c.from_residual-in_err-caught.result c.from_residual-in_err-caught.ensures.1 (λ refusal same.
     rw same (followed_ceased _ _ _ _ _ c.in_err-caught.field-0.0 (c.packets.invariant.judged told work s f same_config).1 c.packets.invariant.files_later
-    (subst (λ (n : ℕ). Ceases (coming c.packets.capture (g.F.Files.left c.packets.files n)) (Rose (g.F.Files.faults c.packets.files) (g.F.Files.faults c.next_packet.new.files)) c.in_err-caught.field-0.0)
+    (subst (λ (n : ℕ). Ceases (coming c.packets.capture (g.F.Files.left c.packets.files n)) failed c.in_err-caught.field-0.0)
     c.packets.invariant.slot (c.in_err-caught.ensures.gives told))))
 
 pub returns-then-is_due-clause-found : goal.returns-then-is_due-clause-found
@@ -94,12 +97,15 @@ returns-then-is_due-clause-found g c =
 
 pub returns-then-is_due-clause-judged : goal.returns-then-is_due-clause-judged
 returns-then-is_due-clause-judged g c = λ told work same_config s f.
+    let packet = packet_from c.in-Some.caught c.next_packet.new.buffer in
+    let left = g.F.Files.left c.packets.files in
+    let behind = g.F.Files.left c.next_packet.new.files in
     let before = c.packets.invariant.judged told work s f same_config in
     let times = rw c.in-Some.is at c.in_ok-caught.ensures.times in (
-      awaits work.items c.args.following.now.player c.packets.capture.moment c.next_packet.new.capture.moment c.packets.capture.slot 1 (g.F.Files.left c.packets.files) (g.F.Files.left c.next_packet.new.files)
+      awaits work.items c.args.following.now.player c.packets.capture.moment c.next_packet.new.capture.moment c.packets.capture.slot 1 left behind
           c.packets.invariant.slot refl (c.in_ok-caught.ensures.others told).others times.1 before.0,
       followed_read _
-          (read_on c.packets.capture c.next_packet.new.capture (packet_from c.in-Some.caught c.next_packet.new.buffer) c.packets.capture.slot (g.F.Files.left c.packets.files) (g.F.Files.left c.next_packet.new.files) c.packets.invariant.slot (rw c.in-Some.is at (c.in_ok-caught.ensures.gives told)))
+          (read_on c.packets.capture c.next_packet.new.capture packet c.packets.capture.slot left behind c.packets.invariant.slot (rw c.in-Some.is at (c.in_ok-caught.ensures.gives told)))
           before.1,
     )
 
@@ -107,16 +113,18 @@ pub returns-in_err-judge_packet-clause-judged : goal.returns-in_err-judge_packet
 returns-in_err-judge_packet-clause-judged g c = λ told work same_config s f.
     let player = c.args.following.now.player in
     let packet = packet_from c.in-Some.caught c.next_packet.new.buffer in
+    let left = g.F.Files.left c.packets.files in
+    let behind = g.F.Files.left c.next_packet.new.files in
     let before = c.packets.invariant.judged told work s f same_config in
     let times = rw c.in-Some.is at c.in_ok-caught.ensures.times in
-    let waits = awaits work.items player c.packets.capture.moment c.next_packet.new.capture.moment c.packets.capture.slot 1 (g.F.Files.left c.packets.files) (g.F.Files.left c.next_packet.new.files)
+    let waits = awaits work.items player c.packets.capture.moment c.next_packet.new.capture.moment c.packets.capture.slot 1 left behind
     c.packets.invariant.slot refl (c.in_ok-caught.ensures.others told).others times.1 before.0 in
-    let later = subst (λ (n : ℕ). Stands work.items n player (g.F.Files.left c.next_packet.new.files 1)) times.0 waits in
+    let later = subst (λ (n : ℕ). Stands work.items n player (behind 1)) times.0 waits in
     let sent = c.in_err-judge_packet.ensures.sends (admitted_rules player.desk.held) c.requires.stands in
     match_err _ _ c.from_residual-in_err-judge_packet.result c.from_residual-in_err-judge_packet.ensures.1 (λ refusal same.
     rw same (followed_stopped c.same_routes.ensures _ _ _ packet player.desk.held _ _ _ before.1
-    (read_on c.packets.capture c.next_packet.new.capture packet c.packets.capture.slot (g.F.Files.left c.packets.files) (g.F.Files.left c.next_packet.new.files) c.packets.invariant.slot (rw c.in-Some.is at (c.in_ok-caught.ensures.gives told)))
-    (leaves_as _ _ (until c.in-Some.caught.moment work.items) player.desk.held same_config (c.is_due.ensures.still c.if-is_due.false work.items (g.F.Files.left c.next_packet.new.files 1) later))
+    (read_on c.packets.capture c.next_packet.new.capture packet c.packets.capture.slot left behind c.packets.invariant.slot (rw c.in-Some.is at (c.in_ok-caught.ensures.gives told)))
+    (leaves_as _ _ (until c.in-Some.caught.moment work.items) player.desk.held same_config (c.is_due.ensures.still c.if-is_due.false work.items (behind 1) later))
     sent.err.0 (rose_earlier _ _ _ c.packets.invariant.sink_later sent.err.1)))
 
 pub returns-clause-judged : goal.returns-clause-judged

@@ -49,14 +49,16 @@ changes-preserved g c =
       judged = λ told items s.
           let player = c.changes.following.player in
           let caught = c.in-Some.caught in
+          let packet = packet_from caught c.judge_on.new.buffer in
+          let stays = (c.in_ok-follow.ensures.others told).others 2 (capture_apart player.tape.slot c.changes.invariant.tape) in
           let work = judging c.args.following.now.player.desk.config items (coming c.args.capture.now (g.F.Files.left c.args.files.now 2)) (g.S.Sink.written c.args.sink.now) c.args.lines.now.output in
           let before = c.changes.invariant.judged told items s in
           let on = rw c.in-Some.is at (c.in_ok-caught.ensures.judged told work (sym c.changes.invariant.config) before.0 before.1) in
           let played = c.in_ok-follow.ensures.played told items
           (stands_at items c.judge_on.new.capture.moment caught.moment player (g.F.Files.left c.judge_on.new.files) 1 player.tape.slot found.5 (sym c.changes.invariant.tape) on.0) in (
             stands_at items caught.moment c.judge_on.new.capture.moment c.follow.new.self.player (g.F.Files.left c.follow.new.files) player.tape.slot 1 (sym found.5) c.changes.invariant.tape played.0,
-            followed_more c.same_routes.ensures _ (packet_from caught c.judge_on.new.buffer) c.follow.new.self.player.desk.held on.1
-                (ap (λ octets. with_part (packet_from caught c.judge_on.new.buffer) (coming c.judge_on.new.capture octets)) (sym ((c.in_ok-follow.ensures.others told).others 2 (capture_apart player.tape.slot c.changes.invariant.tape))))
+            followed_more c.same_routes.ensures _ packet c.follow.new.self.player.desk.held on.1
+                (ap (λ octets. with_part packet (coming c.judge_on.new.capture octets)) (sym stays))
                 (leaves_as _ _ (until caught.moment items) c.follow.new.self.player.desk.held (sym c.changes.invariant.config) played.1)
                 (c.in_ok-judge_packet.ensures.sends (admitted_rules c.follow.new.self.player.desk.held) c.in_ok-follow.ensures.stands).ok c.in_ok-judge_packet.ensures.number,
           );
@@ -148,6 +150,8 @@ returns-in_err-judge_packet-clause-judged g c = λ told items s.
     let work = judging c.args.following.now.player.desk.config items (coming c.args.capture.now (g.F.Files.left c.args.files.now 2)) (g.S.Sink.written c.args.sink.now) c.args.lines.now.output in
     let player = c.changes.following.player in
     let caught = c.in-Some.caught in
+    let packet = packet_from caught c.judge_on.new.buffer in
+    let stays = (c.in_ok-follow.ensures.others told).others 2 (capture_apart player.tape.slot c.changes.invariant.tape) in
     let found = rw c.in-Some.is at c.in_ok-caught.ensures.found in
     let before = c.changes.invariant.judged told items s in
     let on = rw c.in-Some.is at (c.in_ok-caught.ensures.judged told work (sym c.changes.invariant.config) before.0 before.1) in
@@ -155,8 +159,8 @@ returns-in_err-judge_packet-clause-judged g c = λ told items s.
     (stands_at items c.judge_on.new.capture.moment caught.moment player (g.F.Files.left c.judge_on.new.files) 1 player.tape.slot found.5 (sym c.changes.invariant.tape) on.0) in
     let sent = c.in_err-judge_packet.ensures.sends (admitted_rules c.follow.new.self.player.desk.held) c.in_ok-follow.ensures.stands in
     match_err _ _ c.from_residual-in_err-judge_packet.result c.from_residual-in_err-judge_packet.ensures.1 (λ refusal same.
-    rw same (followed_stopped c.same_routes.ensures _ _ _ (packet_from caught c.judge_on.new.buffer) c.follow.new.self.player.desk.held _ _ _ on.1
-    (ap (λ octets. with_part (packet_from caught c.judge_on.new.buffer) (coming c.judge_on.new.capture octets)) (sym ((c.in_ok-follow.ensures.others told).others 2 (capture_apart player.tape.slot c.changes.invariant.tape))))
+    rw same (followed_stopped c.same_routes.ensures _ _ _ packet c.follow.new.self.player.desk.held _ _ _ on.1
+    (ap (λ octets. with_part packet (coming c.judge_on.new.capture octets)) (sym stays))
     (leaves_as _ _ (until caught.moment items) c.follow.new.self.player.desk.held (sym c.changes.invariant.config) played.1)
     sent.err.0 (rose_earlier _ _ _ (le_trans c.changes.invariant.sink_later c.in_ok-caught.ensures.sink_later) sent.err.1)))
 
