@@ -26,8 +26,8 @@ use Rattle.fs_tape.specs.declared.item.TapeItem.{TapeItem}
 use Rattle.cmd_stages.specs.Refusal.{answered, status_of}
 use Rattle.cmd_stages.proofs.LookingAhead.{stands_later}
 use Rattle.cmd_stages.proofs.Stages.{rose_earlier}
-use Rattle.cmd_enforce.specs.Judge.{AdmittedRules, Ceases, IsAtPacket, admitted_rules, always, hand_text, in_hand, lines_from, output_of, packet_text, rules_by, status_at}
-use Rattle.cmd_enforce.specs.Moments.{BreaksBehind, BreaksOff, CameTo, Follows, HoldAt, IsUnjudged, LeaveSameAt, came_lines}
+use Rattle.cmd_enforce.specs.Judge.{AdmittedRules, Ceases, IsAtPacket, admitted_rules, always, lines_from, output_of, packet_text, rules_by, status_at}
+use Rattle.cmd_enforce.specs.Moments.{BreaksBehind, BreaksOff, CameTo, Follows, HoldAt, IsUnjudged, Judging, LeaveSameAt, Outcome, Reached, came_lines, outcome, reached}
 
 -- tapes that leave the same routes leave one list of held routes
 abbrev pub OneList : Type 0
@@ -109,56 +109,51 @@ extend one config items held gone packet table a l =
     }
 
 -- no packet was judged
-pub followed_first : (config : Config) (items : List Timed) (all : List Captured × End CaptureReason) (now : Option (List ℕ)) (pending : List ℕ) (number : ℕ) (table : Held)
-    → number ≡ 0 → Follows config items all all now now pending pending number
-followed_first config items all now pending number table zero = record {
+pub followed_first : (work : Judging) (table : Held) (number : ℕ) → number ≡ 0 → Follows work (reached work.all work.before work.pending number)
+followed_first work table number zero = record {
   held = always table;
   gone = [];
   parts = refl;
   end_is = refl;
   count = zero;
   leaves = tt;
-  goes = goes_none now pending;
+  goes = goes_none work.before work.pending;
 }
 
-pub followed_more : OneList → (config : Config) (items : List Timed) (all rest rest' : List Captured × End CaptureReason) (before now now' : Option (List ℕ)) (pending pending_now pending' : List ℕ) (number : ℕ) (packet : Captured) (table : Held)
-    → Follows config items all rest before now pending pending_now number → rest ≡ with_part packet rest'
-    → Leaves config (until packet.moment items) table
-    → Goes now now' pending_now pending' (packet_text (number + 1) (admitted_rules table) packet.link packet.octets)
-    → Follows config items all rest' before now' pending pending' (number + 1)
-followed_more one config items all rest rest' before now now' pending pending_now pending' number packet table f e l g =
-    let more : Extended config items f.held f.gone packet table = extend one config items f.held f.gone packet table f.leaves l in
+-- one more packet was
+pub followed_more : OneList → {work : Judging} {now : Reached} (next : Reached) (packet : Captured) (table : Held)
+    → Follows work now → now.rest ≡ with_part packet next.rest → Leaves work.config (until packet.moment work.items) table
+    → Goes now.written next.written now.pending next.pending (packet_text (now.number + 1) (admitted_rules table) packet.link packet.octets)
+    → next.number ≡ now.number + 1 → Follows work next
+followed_more one {work} {now} next packet table f e l g n =
+    let more : Extended work.config work.items f.held f.gone packet table = extend one work.config work.items f.held f.gone packet table f.leaves l in
     record {
       held = more.kept;
       gone = f.gone ++ packet ∷ [];
-      parts = f.parts ∙ ap (λ (r : List Captured × End CaptureReason). f.gone ++ r.0) e ∙ sym (append_assoc f.gone (packet ∷ []) rest'.0);
+      parts = f.parts ∙ ap (λ (r : List Captured × End CaptureReason). f.gone ++ r.0) e ∙ sym (append_assoc f.gone (packet ∷ []) next.rest.0);
       end_is = f.end_is ∙ ap (λ (r : List Captured × End CaptureReason). r.1) e;
-      count = ap (λ (n : ℕ). n + 1) f.count ∙ sym (length-append f.gone (packet ∷ []));
+      count = n ∙ ap (λ (k : ℕ). k + 1) f.count ∙ sym (length-append f.gone (packet ∷ []));
       leaves = more.leaves;
       goes = goes_as
-          (ap (λ (n : ℕ). lines_from 0 (rules_by f.held) f.gone ++ packet_text (n + 1) (admitted_rules table) packet.link packet.octets) f.count ∙ sym more.lines)
+          (ap (λ (k : ℕ). lines_from 0 (rules_by f.held) f.gone ++ packet_text (k + 1) (admitted_rules table) packet.link packet.octets) f.count ∙ sym more.lines)
           (goes_then f.goes g);
     }
 
 -- the packets that judging came to
-abbrev came_of : {config : Config} {items : List Timed} {all rest : List Captured × End CaptureReason} {before now : Option (List ℕ)} {pending pending_now : List ℕ} {number : ℕ}
-    → Follows config items all rest before now pending pending_now number → CameTo config items all.0
-came_of {rest = rest} f = record { held = f.held; judged = f.gone; rest = rest.0; parts = f.parts; leaves = f.leaves }
+abbrev came_of : {work : Judging} {now : Reached} → Follows work now → CameTo work.config work.items work.all.0
+came_of {now = now} f = record { held = f.held; judged = f.gone; rest = now.rest.0; parts = f.parts; leaves = f.leaves }
 
-pub followed_done : (config : Config) (items : List Timed) (all rest : List Captured × End CaptureReason) (before now : Option (List ℕ)) (pending pending_now : List ℕ) (number : ℕ)
-    → Follows config items all rest before now pending pending_now number → rest ≡ ([], done)
-    → (came : CameTo config items all.0) × (came.rest ≡ []) × (all.1 ≡ done) × Goes before now pending pending_now (came_lines came)
-followed_done config items all rest before now pending pending_now number f e =
-    (came_of f, ap (λ (r : List Captured × End CaptureReason). r.0) e, f.end_is ∙ ap (λ (r : List Captured × End CaptureReason). r.1) e, f.goes)
+pub followed_done : {work : Judging} {now : Reached} → Follows work now → now.rest ≡ ([], done)
+    → (came : CameTo work.config work.items work.all.0) × (came.rest ≡ []) × (work.all.1 ≡ done) × Goes work.before now.written work.pending now.pending (came_lines came)
+followed_done f e = (came_of f, ap (λ (r : List Captured × End CaptureReason). r.0) e, f.end_is ∙ ap (λ (r : List Captured × End CaptureReason). r.1) e, f.goes)
 
 -- a call on the files failed
-files_failed : (config : Config) (items : List Timed) (all rest : List Captured × End CaptureReason) (left : List Captured) (before now : Option (List ℕ)) (pending pending_now : List ℕ) (number : ℕ) (failed : Type 0) (refusal : Refusal)
-    → Follows config items all rest before now pending pending_now number → refusal ≡ Outside → failed
-    → BreaksOff config items all left before now pending pending_now failed refusal
-files_failed config items all rest left before now pending pending_now number failed refusal f s h = (
+files_failed : {work : Judging} {now : Reached} (left : List Captured) (failed : Type 0)
+    → Follows work now → failed → BreaksOff work (outcome left now.written now.pending) failed Outside
+files_failed left failed f h = (
   came_of f,
   inr (inr (
-    s,
+    refl,
     h,
     inl (record {
       front = lines_from 0 (rules_by f.held) f.gone;
@@ -169,109 +164,73 @@ files_failed config items all rest left before now pending pending_now number fa
   )),
 )
 
-pub followed_ceased : (config : Config) (items : List Timed) (all rest : List Captured × End CaptureReason) (left : List Captured) (before now : Option (List ℕ)) (pending pending_now : List ℕ) (number early mid after : ℕ) (other : Type 0) (cause refusal : Refusal)
-    → Follows config items all rest before now pending pending_now number → early ≤ mid → refusal ≡ cause → Ceases rest (Rose mid after) cause
-    → BreaksOff config items all left before now pending pending_now (Rose early after ⊎ other) refusal
-followed_ceased config items all rest left before now pending pending_now number early mid after other cause refusal f l s (inl h) =
-    (came_of f, inl (ap status_at f.end_is ∙ h.1 ∙ ap status_of (sym s), h.0, f.goes))
-followed_ceased config items all rest left before now pending pending_now number early mid after other cause refusal f l s (inr h) =
-    files_failed config items all rest left before now pending pending_now number (Rose early after ⊎ other) refusal f (s ∙ h.0) (inl (rose_earlier early mid after l h.1))
+pub followed_ceased : {work : Judging} {now : Reached} (left : List Captured) (early mid after : ℕ) (other : Type 0) (cause : Refusal)
+    → Follows work now → early ≤ mid → Ceases now.rest (Rose mid after) cause
+    → BreaksOff work (outcome left now.written now.pending) (Rose early after ⊎ other) cause
+followed_ceased left early mid after other cause f l (inl h) = (came_of f, inl (ap status_at f.end_is ∙ h.1, h.0, f.goes))
+followed_ceased {work} {now} left early mid after other cause f l (inr h) =
+    subst (BreaksOff work (outcome left now.written now.pending) (Rose early after ⊎ other)) (sym h.0)
+    (files_failed left (Rose early after ⊎ other) f (inl (rose_earlier early mid after l h.1)))
 
--- memory was wanting, and these packets are left
-pub followed_wanting : (config : Config) (items : List Timed) (all rest : List Captured × End CaptureReason) (left : List Captured) (before now : Option (List ℕ)) (pending pending_now : List ℕ) (number : ℕ) (failed : Type 0) (refusal : Refusal)
-    → Follows config items all rest before now pending pending_now number → IsUnjudged rest.0 left → refusal ≡ Memory
-    → BreaksOff config items all left before now pending pending_now failed refusal
-followed_wanting config items all rest left before now pending pending_now number failed refusal f u s = (came_of f, inr (inl (s, u, f.goes)))
+-- memory was wanting
+pub followed_wanting : {work : Judging} {now : Reached} (left : List Captured) (failed : Type 0)
+    → Follows work now → IsUnjudged now.rest.0 left → BreaksOff work (outcome left now.written now.pending) failed Memory
+followed_wanting left failed f u = (came_of f, inr (inl (refl, u, f.goes)))
 
--- so where the tape couldn't be played on
-pub followed_unplayed : (config : Config) (items : List Timed) (all rest : List Captured × End CaptureReason) (left : List Captured) (before now : Option (List ℕ)) (pending pending_now : List ℕ) (number early mid after : ℕ) (other : Type 0) (cause refusal : Refusal)
-    → Follows config items all rest before now pending pending_now number → IsUnjudged rest.0 left → early ≤ mid → refusal ≡ cause → IsUnplayed (Rose mid after) cause
-    → BreaksOff config items all left before now pending pending_now (Rose early after ⊎ other) refusal
-followed_unplayed config items all rest left before now pending pending_now number early mid after other cause refusal f u l s (inl h) =
-    followed_wanting config items all rest left before now pending pending_now number (Rose early after ⊎ other) refusal f u (s ∙ h)
-followed_unplayed config items all rest left before now pending pending_now number early mid after other cause refusal f u l s (inr h) =
-    files_failed config items all rest left before now pending pending_now number (Rose early after ⊎ other) refusal f (s ∙ h.0) (inl (rose_earlier early mid after l h.1))
+-- the tape couldn't be played on
+pub followed_unplayed : {work : Judging} {now : Reached} (left : List Captured) (early mid after : ℕ) (other : Type 0) (cause : Refusal)
+    → Follows work now → IsUnjudged now.rest.0 left → early ≤ mid → IsUnplayed (Rose mid after) cause
+    → BreaksOff work (outcome left now.written now.pending) (Rose early after ⊎ other) cause
+followed_unplayed {work} {now} left early mid after other cause f u l (inl h) =
+    subst (BreaksOff work (outcome left now.written now.pending) (Rose early after ⊎ other)) (sym h)
+    (followed_wanting left (Rose early after ⊎ other) f u)
+followed_unplayed {work} {now} left early mid after other cause f u l (inr h) =
+    subst (BreaksOff work (outcome left now.written now.pending) (Rose early after ⊎ other)) (sym h.0)
+    (files_failed left (Rose early after ⊎ other) f (inl (rose_earlier early mid after l h.1)))
 
 -- the sink failed within the line of a packet
-pub followed_stopped : OneList → (config : Config) (items : List Timed) (all rest rest' : List Captured × End CaptureReason) (left : List Captured) (before now now' : Option (List ℕ)) (pending pending_now pending' : List ℕ) (number : ℕ) (packet : Captured) (table : Held) (files : Type 0) (first mid after : ℕ) (refusal : Refusal)
-    → Follows config items all rest before now pending pending_now number → rest ≡ with_part packet rest' → Leaves config (until packet.moment items) table
-    → Stops now now' pending_now pending' (packet_text (number + 1) (admitted_rules table) packet.link packet.octets)
-    → first ≤ mid → Rose mid after → refusal ≡ Outside
-    → BreaksOff config items all left before now' pending pending' (files ⊎ Rose first after) refusal
-followed_stopped one config items all rest rest' left before now now' pending pending_now pending' number packet table files first mid after refusal f e l stop later rose s =
-    let more : Extended config items f.held f.gone packet table = extend one config items f.held f.gone packet table f.leaves l in (
+pub followed_stopped : OneList → {work : Judging} {now : Reached} (rest : List Captured × End CaptureReason) (written : Option (List ℕ)) (pending : List ℕ) (packet : Captured) (table : Held)
+    (files : Type 0) (first after : ℕ) → Follows work now → now.rest ≡ with_part packet rest → Leaves work.config (until packet.moment work.items) table
+    → Stops now.written written now.pending pending (packet_text (now.number + 1) (admitted_rules table) packet.link packet.octets)
+    → Rose first after → BreaksOff work (outcome rest.0 written pending) (files ⊎ Rose first after) Outside
+followed_stopped one {work} {now} rest written pending packet table files first after f e l stop rose =
+    let more : Extended work.config work.items f.held f.gone packet table = extend one work.config work.items f.held f.gone packet table f.leaves l in (
       record {
         held = more.kept;
         judged = f.gone ++ packet ∷ [];
-        rest = rest'.0;
-        parts = f.parts ∙ ap (λ (r : List Captured × End CaptureReason). f.gone ++ r.0) e ∙ sym (append_assoc f.gone (packet ∷ []) rest'.0);
+        rest = rest.0;
+        parts = f.parts ∙ ap (λ (r : List Captured × End CaptureReason). f.gone ++ r.0) e ∙ sym (append_assoc f.gone (packet ∷ []) rest.0);
         leaves = more.leaves;
       },
       inr (inr (
-        s,
-        inr (rose_earlier first mid after later rose),
+        refl,
+        inr rose,
         inr (stops_as
-            (ap (λ (n : ℕ). lines_from 0 (rules_by f.held) f.gone ++ packet_text (n + 1) (admitted_rules table) packet.link packet.octets) f.count ∙ sym more.lines)
+            (ap (λ (k : ℕ). lines_from 0 (rules_by f.held) f.gone ++ packet_text (k + 1) (admitted_rules table) packet.link packet.octets) f.count ∙ sym more.lines)
             (goes_stops f.goes stop)),
       )),
     )
 
--- the packet in hand, if there is one
+-- what is to come was read on, or stands as it stood
+pub followed_read : {work : Judging} {now : Reached} (rest : List Captured × End CaptureReason)
+    → now.rest ≡ rest → Follows work now → Follows work (reached rest now.written now.pending now.number)
+followed_read {work} {now} rest e f = subst (λ (r : List Captured × End CaptureReason). Follows work (reached r now.written now.pending now.number)) e f
 
-pub followed_hand : OneList → (config : Config) (items : List Timed) (all rest : List Captured × End CaptureReason) (before now now' : Option (List ℕ)) (pending pending_now pending' : List ℕ) (number number' : ℕ) (hand : Option Caught) (into : List ℕ) (table : Held)
-    → Follows config items all (in_hand hand into rest) before now pending pending_now number → IfSome hand (λ caught. Leaves config (until caught.moment items) table)
-    → Goes now now' pending_now pending' (hand_text (number + 1) (admitted_rules table) hand into) → number' ≡ number + (if is_some hand then 1 else 0)
-    → Follows config items all rest before now' pending pending' number'
-followed_hand one config items all rest before now now' pending pending_now pending' number number' None into table f l g n = record {
-  held = f.held;
-  gone = f.gone;
-  parts = f.parts;
-  end_is = f.end_is;
-  count = let same : number' ≡ number = omega (arith, n) in same ∙ f.count;
-  leaves = f.leaves;
-  goes = goes_as (append-nil (lines_from 0 (rules_by f.held) f.gone)) (goes_then f.goes g);
-}
-followed_hand one config items all rest before now now' pending pending_now pending' number number' (Some caught) into table f l g n =
-    subst (λ (k : ℕ). Follows config items all rest before now' pending pending' k) (sym n)
-    (followed_more one config items all (with_part (packet_from caught into) rest) rest before now now' pending pending_now pending' number (packet_from caught into) table f refl l g)
+-- the same routes are left under the same configuration
+pub leaves_as : (config config' : Config) (items : List Item) (held : Held) → config ≡ config' → Leaves config' items held → Leaves config items held
+leaves_as config config' items held e l = subst (λ (c : Config). Leaves c items held) (sym e) l
 
-pub stopped_hand : OneList → (config : Config) (items : List Timed) (all rest : List Captured × End CaptureReason) (left : List Captured) (before now now' : Option (List ℕ)) (pending pending_now pending' : List ℕ) (number : ℕ) (hand : Option Caught) (into : List ℕ) (table : Held) (files : Type 0) (first after : ℕ) (refusal : Refusal)
-    → Follows config items all (in_hand hand into rest) before now pending pending_now number → IfSome hand (λ caught. Leaves config (until caught.moment items) table)
-    → Stops now now' pending_now pending' (hand_text (number + 1) (admitted_rules table) hand into)
-    → Rose first after → refusal ≡ Outside
-    → BreaksOff config items all left before now' pending pending' (files ⊎ Rose first after) refusal
-stopped_hand one config items all rest left before now now' pending pending_now pending' number None into table files first after refusal f l stop rose s =
-    (came_of f, inr (inr (s, inr rose, inr (stops_as (append-nil (lines_from 0 (rules_by f.held) f.gone)) (goes_stops f.goes stop)))))
-stopped_hand one config items all rest left before now now' pending pending_now pending' number (Some caught) into table files first after refusal f l stop rose s =
-    followed_stopped one config items all (with_part (packet_from caught into) rest) rest left before now now' pending pending_now pending' number (packet_from caught into) table files first first after refusal
-    f refl l stop (omega arith) rose s
-
--- it is what judging awaits
-pub hand_unjudged : (hand : Option Caught) (into : List ℕ) (rest : List Captured × End CaptureReason) → IsUnjudged (in_hand hand into rest).0 rest.0
-hand_unjudged None into rest = inl refl
-hand_unjudged (Some caught) into rest = inr (packet_from caught into, refl)
-
-pub hand_counted : (hand : Option Caught) (longest number number' place : ℕ) → number ≤ place → IfSome hand (λ caught. (caught.taken ≤ longest) × (number < place))
-    → number' ≡ number + (if is_some hand then 1 else 0) → number' ≤ place
-hand_counted None longest number number' place l h e = omega (arith, l, e)
-hand_counted (Some caught) longest number number' place l h e = omega (arith, h.1, e)
-
--- it fits
-pub hand_fits : (hand : Option Caught) (longest room number place limit : ℕ) → longest ≤ room → place ≤ limit → limit < 2 ^ 64
-    → IfSome hand (λ caught. (caught.taken ≤ longest) × (number < place)) → IfSome hand (λ caught. (caught.taken ≤ room) × (number + 1 < 2 ^ 64))
-hand_fits None longest room number place limit r w f h = tt
-hand_fits (Some caught) longest room number place limit r w f h = (omega (arith, h.0, r), below number place limit h.1 w f)
-  where
-    below : (number place limit : ℕ) → number < place → place ≤ limit → limit < 2 ^ 64 → number + 1 < 2 ^ 64
-    below number place limit a b d = omega (arith, a, b, d)
+-- the number of one line more fits
+pub number_fits : (number place limit whole : ℕ) → number < place → place ≤ limit → limit ≡ whole → whole < 2 ^ 64 → number + 1 < 2 ^ 64
+number_fits number place limit whole a b e f = omega (arith, a, b, e, f)
 
 -- what failed in a part failed in the whole
 
-pub breaks_wider : (config : Config) (items : List Timed) (all : List Captured × End CaptureReason) (left : List Captured) (before now : Option (List ℕ)) (pending pending_now : List ℕ) (failed other : Type 0) (refusal : Refusal)
-    → (failed → other) → BreaksOff config items all left before now pending pending_now failed refusal → BreaksOff config items all left before now pending pending_now other refusal
-breaks_wider config items all left before now pending pending_now failed other refusal f b = (b.0, by b.1)
+pub breaks_wider : (work : Judging) (now : Outcome) (failed other : Type 0) (refusal : Refusal)
+    → (failed → other) → BreaksOff work now failed refusal → BreaksOff work now other refusal
+breaks_wider work now failed other refusal f b = (b.0, by b.1)
   where
-    by : BreaksBehind all.1 left b.0 before now pending pending_now failed refusal → BreaksBehind all.1 left b.0 before now pending pending_now other refusal
+    by : BreaksBehind work now b.0 failed refusal → BreaksBehind work now b.0 other refusal
     by (inl h) = inl h
     by (inr (inl h)) = inr (inl h)
     by (inr (inr h)) = inr (inr (h.0, f h.1, h.2))
@@ -303,36 +262,14 @@ pub read_on : (capture capture' : CaptureState) (packet : Captured) (slot : ℕ)
 read_on capture capture' packet slot left left' two e =
     subst (λ (n : ℕ). coming capture (left n) ≡ with_part packet (coming capture' (left' n))) two e
 
--- the same of equal moments, players and slots
-pub stands_as : (items : List Timed) (t t' : ℕ) (player player' : PlayerState) (left : ℕ → List ℕ) (slot : ℕ)
-    → t' ≡ t → player' ≡ player → slot ≡ 1 → Stands items t player (left slot) → Stands items t' player' (left 1)
-stands_as items t t' player player' left slot e f one s =
-    subst (λ (n : ℕ). Stands items n player' (left 1)) (sym e)
-    (subst (λ (p : PlayerState). Stands items t p (left 1)) (sym f) (subst (λ (n : ℕ). Stands items t player (left n)) one s))
-
-pub stands_at : (items : List Timed) (t t' : ℕ) (player : PlayerState) (left : ℕ → List ℕ) (slot : ℕ)
-    → t ≡ t' → slot ≡ 1 → Stands items t player (left 1) → Stands items t' player (left slot)
-stands_at items t t' player left slot e one s =
-    subst (λ (n : ℕ). Stands items n player (left slot)) e (subst (λ (n : ℕ). Stands items t player (left n)) (sym one) s)
-
--- behind the items of a packet's moment the configuration and the capture are as they were
-pub followed_as : (config config' : Config) (items : List Timed) (all : List Captured × End CaptureReason) (packet : Captured) (capture : CaptureState) (octets octets' : List ℕ) (before now : Option (List ℕ)) (pending pending_now : List ℕ) (number : ℕ)
-    → config' ≡ config → octets' ≡ octets → Follows config items all (with_part packet (coming capture octets)) before now pending pending_now number
-    → Follows config' items all (with_part packet (coming capture octets')) before now pending pending_now number
-followed_as config config' items all packet capture octets octets' before now pending pending_now number e o f =
-    subst (λ (c : Config). Follows c items all (with_part packet (coming capture octets')) before now pending pending_now number) (sym e)
-    (subst (λ (left : List ℕ). Follows config items all (with_part packet (coming capture left)) before now pending pending_now number) (sym o) f)
+-- the same of equal moments and slots
+pub stands_at : (items : List Timed) (t t' : ℕ) (player : PlayerState) (left : ℕ → List ℕ) (slot slot' : ℕ)
+    → t ≡ t' → slot ≡ slot' → Stands items t player (left slot) → Stands items t' player (left slot')
+stands_at items t t' player left slot slot' e one s =
+    subst (λ (n : ℕ). Stands items n player (left slot')) e (subst (λ (n : ℕ). Stands items t player (left n)) one s)
 
 pub capture_apart : (tape : ℕ) → tape ≡ 1 → 2 ≢ tape
 capture_apart tape one same = not_same tape 2 one refl (sym same)
-
-pub followed_read : (config : Config) (items : List Timed) (all rest rest' : List Captured × End CaptureReason) (before now : Option (List ℕ)) (pending pending_now : List ℕ) (number : ℕ)
-    → rest ≡ rest' → Follows config items all rest before now pending pending_now number → Follows config items all rest' before now pending pending_now number
-followed_read config items all rest rest' before now pending pending_now number e f =
-    subst (λ (r : List Captured × End CaptureReason). Follows config items all r before now pending pending_now number) e f
-
-pub number_fits : (number place next limit whole : ℕ) → number ≤ place → place < next → next ≤ limit → limit ≡ whole → whole < 2 ^ 64 → number + 1 < 2 ^ 64
-number_fits number place next limit whole a b d e f = omega (arith, a, b, d, e, f)
 
 -- an error that a `?` hands on
 

@@ -15,11 +15,11 @@ use Rattle.fs_tape.specs.Tape.{Timed}
 use Rattle.cmd_stages.specs.Refusal.{Stage, Found, Stopped, answered, status_of, and_then, HasReason}
 use Rattle.cmd_stages.specs.declared.refusal.Refusal.{Refusal}
 use Rattle.cmd_stages.specs.declared.refusal.Refusal.TheVariants.{Memory}
-use Rattle.cmd_stages.proofs.Stages.{answers_for, outside_one, rose_earlier, rose_later, accepted_with, ends_early, reason_then}
+use Rattle.cmd_stages.proofs.Stages.{answered_err, answers_for, outside_one, rose_earlier, rose_later, accepted_with, ends_early, reason_then}
 use Rattle.cmd_stages.specs.Writing.{Finishes}
 use Rattle.cmd_stages.proofs.Texts.{said_by, said_front}
 use Rattle.cmd_enforce.specs.Judge.{IsOfPackets, always, status_at, capture_stage}
-use Rattle.cmd_enforce.specs.Moments.{AnswersAt, CameTo, EndsBefore, IsUnjudged, JudgesSo, WroteJudged, came_lines, packets_of, verdict_at}
+use Rattle.cmd_enforce.specs.Moments.{AnswersAt, CameTo, EndsBefore, IsUnjudged, Judged, Judging, Outcome, WroteJudged, came_lines, judging, packets_of, verdict_at}
 use Rattle.fs_tape.specs.declared.magic.Version.{Version}
 use Rattle.fs_tape.specs.declared.magic.Version.TheVariants.{One, Two}
 use Rattle.fs_desk.specs.Desk.{Desked, Played}
@@ -89,21 +89,19 @@ at_for config items stage failed failed' before now answer a f = record {
 -- what judging the packets did and what writing out did, as the answer of the whole
 
 -- Behind these packets judging ended as is due, or memory was wanting, or a call on the outside failed.
-abbrev EndsBehind : {config : Config} {items : List Timed} {packets : List Captured}
-    → End CaptureReason → (left : List Captured) → CameTo config items packets → (before now : Option (List ℕ)) → (pending : List ℕ) → Type 0 → (answer : ℕ) → Type 0
-EndsBehind end left came before now pending failed answer =
-    ((answer ≡ status_at end) × (came.rest ≡ []) × Goes before now [] pending (came_lines came))
-    ⊎ ((answer ≡ 6) × IsUnjudged came.rest left × Goes before now [] pending (came_lines came))
-    ⊎ ((answer ≡ 1) × failed × Partly before now [] pending (came_lines came))
+abbrev EndsBehind : (work : Judging) → Outcome → CameTo work.config work.items work.all.0 → Type 0 → (answer : ℕ) → Type 0
+EndsBehind work now came failed answer =
+    ((answer ≡ status_at work.all.1) × (came.rest ≡ []) × Goes work.before now.written [] now.pending (came_lines came))
+    ⊎ ((answer ≡ 6) × IsUnjudged came.rest now.left × Goes work.before now.written [] now.pending (came_lines came))
+    ⊎ ((answer ≡ 1) × failed × Partly work.before now.written [] now.pending (came_lines came))
 
-ends_behind : {T : Type 0} (config : Config) (items : List Timed) (found : List Captured × End CaptureReason) (left : List Captured) (before mid : Option (List ℕ)) (first pending : List ℕ) (failed : Type 0) (result : Result T Refusal)
-    → first ≡ [] → JudgesSo config items found left before mid first pending failed result
-    → (came : CameTo config items found.0) × EndsBehind found.1 left came before mid pending failed (answered result)
-ends_behind {T} config items found left before mid first pending failed result e judged =
-    by result (subst (λ (p : List ℕ). JudgesSo config items found left before mid p pending failed result) e judged)
+ends_behind : {T : Type 0} (work : Judging) (now : Outcome) (failed : Type 0) (result : Result T Refusal) → work.pending ≡ [] → Judged work now failed result
+    → (came : CameTo work.config work.items work.all.0) × EndsBehind work now came failed (answered result)
+ends_behind {T} work now failed result e judged =
+    by result (subst (λ (p : List ℕ). Judged (judging work.config work.items work.all work.before p) now failed result) e judged)
   where
-    by : (r : Result T Refusal) → JudgesSo config items found left before mid [] pending failed r
-        → (came : CameTo config items found.0) × EndsBehind found.1 left came before mid pending failed (answered r)
+    by : (r : Result T Refusal) → Judged (judging work.config work.items work.all work.before []) now failed r
+        → (came : CameTo work.config work.items work.all.0) × EndsBehind work now came failed (answered r)
     by (Ok value) w = (w.0, inl (sym (ap status_at w.2), w.1, w.3))
     by (Err refusal) (came, inl h) = (came, inl (sym h.0, h.1, h.2))
     by (Err refusal) (came, inr (inl h)) = (came, inr (inl (ap status_of h.0, h.1, h.2)))
@@ -118,42 +116,70 @@ part_lines config items found failed before now answer came e f part = record {
   all = λ six one. absurd (one e);
 }
 
-pub moments_finished : {T : Type 0} (config : Config) (items : List Timed) (found : List Captured × End CaptureReason) (left : List Captured) (before mid now : Option (List ℕ)) (first pending : List ℕ) (failed rose other : Type 0) (judged result : Result T Refusal)
-    → first ≡ [] → JudgesSo config items found left before mid first pending failed judged → Finishes pending rose mid now judged result → (failed → other) → (rose → other)
-    → AnswersAt config items (Found (recorded found)) other before now (answered result)
-moments_finished {T} config items found left before mid now first pending failed rose other judged result e w finishes f g =
-    let b = ends_behind config items found left before mid first pending failed judged e w in by b.0 b.1 finishes
-  where
-    whole : (came : CameTo config items found.0) → EndsBehind found.1 left came before mid pending failed (answered judged) → Grew mid now pending
-        → AnswersAt config items (Found (recorded found)) other before now (answered judged)
-    whole came (inl h) grew = record {
-      came = came;
-      answers = said_by (status_at found.1) (came_lines came) other before now (answered judged) (inl h.0) (goes_flush now h.2 grew);
-      all = λ six one. h.1;
-    }
-    whole came (inr (inl h)) grew = record {
-      came = came;
-      answers = said_by (status_at found.1) (came_lines came) other before now (answered judged) (inr (inl h.0)) (goes_flush now h.2 grew);
-      all = λ six one. absurd (six h.0);
-    }
-    whole came (inr (inr h)) grew =
-        part_lines config items found other before now (answered judged) came h.0 (f h.1) (partly_flushed before mid now pending (came_lines came) h.2 (part_whole mid now pending grew))
+module _ {T : Type 0} (work : Judging) (mid : Outcome) (now : Option (List ℕ)) (failed rose : Type 0) (judged result : Result T Refusal)
+    (e : work.pending ≡ []) (w : Judged work mid failed judged) (finishes : Finishes mid.pending rose mid.written now judged result) where
+  -- the packets that were judged have their lines, and the answer is as it is due
+  pub moments_finished : (other : Type 0) → (failed → other) → (rose → other)
+      → AnswersAt work.config work.items (Found (recorded work.all)) other work.before now (answered result)
+  moments_finished other f g = let b = ends_behind work mid failed judged e w in by b.0 b.1 finishes
+    where
+      whole : (came : CameTo work.config work.items work.all.0) → EndsBehind work mid came failed (answered judged) → Grew mid.written now mid.pending
+          → AnswersAt work.config work.items (Found (recorded work.all)) other work.before now (answered judged)
+      whole came (inl h) grew = record {
+        came = came;
+        answers = said_by (status_at work.all.1) (came_lines came) other work.before now (answered judged) (inl h.0) (goes_flush now h.2 grew);
+        all = λ six one. h.1;
+      }
+      whole came (inr (inl h)) grew = record {
+        came = came;
+        answers = said_by (status_at work.all.1) (came_lines came) other work.before now (answered judged) (inr (inl h.0)) (goes_flush now h.2 grew);
+        all = λ six one. absurd (six h.0);
+      }
+      whole came (inr (inr h)) grew =
+          part_lines work.config work.items work.all other work.before now (answered judged) came h.0 (f h.1)
+          (partly_flushed work.before mid.written now mid.pending (came_lines came) h.2 (part_whole mid.written now mid.pending grew))
 
-    front : (came : CameTo config items found.0) → EndsBehind found.1 left came before mid pending failed (answered judged) → GrewPart mid now pending → GrewPart before now (came_lines came)
-    front came (inl h) part = goes_flush_part now h.2 part
-    front came (inr (inl h)) part = goes_flush_part now h.2 part
-    front came (inr (inr h)) part = partly_flushed before mid now pending (came_lines came) h.2 part
+      front : (came : CameTo work.config work.items work.all.0) → EndsBehind work mid came failed (answered judged) → GrewPart mid.written now mid.pending
+          → GrewPart work.before now (came_lines came)
+      front came (inl h) part = goes_flush_part now h.2 part
+      front came (inr (inl h)) part = goes_flush_part now h.2 part
+      front came (inr (inr h)) part = partly_flushed work.before mid.written now mid.pending (came_lines came) h.2 part
 
-    by : (came : CameTo config items found.0) → EndsBehind found.1 left came before mid pending failed (answered judged) → Finishes pending rose mid now judged result
-        → AnswersAt config items (Found (recorded found)) other before now (answered result)
-    by came behind (inl h) = subst (λ (r : Result T Refusal). AnswersAt config items (Found (recorded found)) other before now (answered r)) (sym h.0) (whole came behind h.1)
-    by came behind (inr h) = part_lines config items found other before now (answered result) came (outside_one result h.0) (g h.1) (front came behind h.2)
+      by : (came : CameTo work.config work.items work.all.0) → EndsBehind work mid came failed (answered judged) → Finishes mid.pending rose mid.written now judged result
+          → AnswersAt work.config work.items (Found (recorded work.all)) other work.before now (answered result)
+      by came behind (inl h) =
+          subst (λ (r : Result T Refusal). AnswersAt work.config work.items (Found (recorded work.all)) other work.before now (answered r)) (sym h.0) (whole came behind h.1)
+      by came behind (inr h) =
+          part_lines work.config work.items work.all other work.before now (answered result) came (outside_one result h.0) (g h.1) (front came behind h.2)
+
+  -- at want of memory those that were judged were written out
+  pub wrote_judged : answered result ≡ 6 → WroteJudged work.config work.items work.all.0 mid.left work.before now
+  wrote_judged six = let b = ends_behind work mid failed judged e w in by b.0 b.1 finishes
+    where
+      of_end : (end : End CaptureReason) → 6 ≡ status_at end → ⊥
+      of_end done h = absurd cc
+      of_end limited h = absurd cc
+      of_end (bad reason place) h = absurd cc
+
+      by : (came : CameTo work.config work.items work.all.0) → EndsBehind work mid came failed (answered judged) → Finishes mid.pending rose mid.written now judged result
+          → WroteJudged work.config work.items work.all.0 mid.left work.before now
+      by came (inl h) (inl done_so) = absurd (of_end work.all.1 (sym six ∙ ap answered done_so.0 ∙ h.0))
+      by came (inr (inl h)) (inl done_so) = record { came = came; unjudged = h.1; wrote = goes_flush now h.2 done_so.1 }
+      by came (inr (inr h)) (inl done_so) = let one : answered result ≡ 1 = ap answered done_so.0 ∙ h.0 in absurd cc
+      by came behind (inr h) = let one : answered result ≡ 1 = outside_one result h.0 in absurd cc
+
+-- the same under an equal configuration
+pub answers_under : {config config' : Config} {items : List Timed} {stage : Stage Recorded} {failed : Type 0} {before now : Option (List ℕ)} {answer : ℕ}
+    → config' ≡ config → AnswersAt config' items stage failed before now answer → AnswersAt config items stage failed before now answer
+answers_under {items = items} {stage = stage} {failed = failed} {before = before} {now = now} {answer = answer} e a =
+    subst (λ (c : Config). AnswersAt c items stage failed before now answer) e a
 
 -- of a capture that was opened so
-pub answers_opened : (config : Config) (items : List Timed) (stage : Stage Recorded) (found : Recorded) (failed failed' : Type 0) (before now : Option (List ℕ)) (answer : ℕ)
-    → stage ≡ Found found → AnswersAt config items (Found found) failed before now answer → (failed → failed') → AnswersAt config items stage failed' before now answer
-answers_opened config items stage found failed failed' before now answer e a f =
-    subst (λ (s : Stage Recorded). AnswersAt config items s failed' before now answer) (sym e) (at_for config items (Found found) failed failed' before now answer a f)
+pub answers_opened : {config config' : Config} {items : List Timed} {stage : Stage Recorded} {found : Recorded} {failed failed' : Type 0} {before now : Option (List ℕ)} {answer : ℕ}
+    → stage ≡ Found found → config' ≡ config → AnswersAt config' items (Found found) failed before now answer → (failed → failed')
+    → AnswersAt config items stage failed' before now answer
+answers_opened {config} {items = items} {stage = stage} {found = found} {failed = failed} {failed' = failed'} {before = before} {now = now} {answer = answer} e same a f =
+    subst (λ (s : Stage Recorded). AnswersAt config items s failed' before now answer) (sym e) (at_for config items (Found found) failed failed' before now answer (answers_under same a) f)
 
 -- a count that rose in a part rose in the whole
 pub rose_wider : (f f1 f2 s s1 s2 : ℕ) → f ≤ f1 → s1 ≤ s2 → Rose f1 f2 ⊎ Rose s s1 → Rose f f2 ⊎ Rose s s2
@@ -167,54 +193,45 @@ abbrev pub wrote_none : (config : Config) (items : List Timed) (packets left : L
     → WroteJudged config items packets left before now
 wrote_none config items packets left before now e g = record { came = came_to_none config items packets; unjudged = inl e; wrote = g }
 
--- those that were judged were written out
-pub wrote_judged : {T : Type 0} (config : Config) (items : List Timed) (found : List Captured × End CaptureReason) (left : List Captured) (before mid now : Option (List ℕ)) (first pending : List ℕ) (failed rose : Type 0) (judged result : Result T Refusal)
-    → first ≡ [] → JudgesSo config items found left before mid first pending failed judged → Finishes pending rose mid now judged result → answered result ≡ 6
-    → WroteJudged config items found.0 left before now
-wrote_judged config items found left before mid now first pending failed rose judged result e w finishes six =
-    let b = ends_behind config items found left before mid first pending failed judged e w in by b.0 b.1 finishes
-  where
-    of_end : (end : End CaptureReason) → 6 ≡ status_at end → ⊥
-    of_end done h = absurd cc
-    of_end limited h = absurd cc
-    of_end (bad reason place) h = absurd cc
-
-    by : (came : CameTo config items found.0) → EndsBehind found.1 left came before mid pending failed (answered judged) → Finishes pending rose mid now judged result
-        → WroteJudged config items found.0 left before now
-    by came (inl h) (inl done_so) = absurd (of_end found.1 (sym six ∙ ap answered done_so.0 ∙ h.0))
-    by came (inr (inl h)) (inl done_so) = record { came = came; unjudged = h.1; wrote = goes_flush now h.2 done_so.1 }
-    by came (inr (inr h)) (inl done_so) = let one : answered result ≡ 1 = ap answered done_so.0 ∙ h.0 in absurd cc
-    by came behind (inr h) = let one : answered result ≡ 1 = outside_one result h.0 in absurd cc
+-- the same under an equal configuration, of equal packets
+pub wrote_under : {config config' : Config} {items : List Timed} {packets packets' left : List Captured} {before now : Option (List ℕ)}
+    → config' ≡ config → packets' ≡ packets → WroteJudged config' items packets' left before now → WroteJudged config items packets left before now
+wrote_under {config} {items = items} {packets' = packets'} {left = left} {before = before} {now = now} e p w =
+    subst (λ (l : List Captured). WroteJudged config items l left before now) p (subst (λ (c : Config). WroteJudged c items packets' left before now) e w)
 
 -- the configuration ended the run
-pub config_ends : (limit : ℕ) (holds : Names) (config tape capture : List ℕ) (failed failed' : Type 0) (a : Option (List ℕ)) (refusal : Refusal)
-    → HasReason (config_stage limit holds config) failed refusal → (failed → failed') → EnforcesSo limit holds config tape capture failed' a a (status_of refusal)
-config_ends limit holds config tape capture failed failed' a refusal h f =
-    inl (ends_early (accepted_stage limit holds config tape) failed failed' a refusal
-    (reason_then (config_stage limit holds config) (λ accepted. and_then (tape_stage accepted limit holds tape) (λ items. Found (accepted, items))) failed refusal h) f)
+pub config_ends : {T : Type 0} (limit : ℕ) (holds : Names) (config tape capture : List ℕ) (failed failed' : Type 0) (a : Option (List ℕ)) (result : Result T Refusal) (refusal : Refusal)
+    → IsErrAnd result (λ e. e ≡ refusal) → HasReason (config_stage limit holds config) failed refusal → (failed → failed')
+    → EnforcesSo limit holds config tape capture failed' a a (answered result)
+config_ends limit holds config tape capture failed failed' a result refusal is h f =
+    answered_err (EnforcesSo limit holds config tape capture failed' a a) result refusal is
+    (inl (ends_early (accepted_stage limit holds config tape) failed failed' a refusal
+    (reason_then (config_stage limit holds config) (λ accepted. and_then (tape_stage accepted limit holds tape) (λ items. Found (accepted, items))) failed refusal h) f))
 
 -- the tape ended the run
-pub tape_ends : (limit : ℕ) (holds holds' : Names) (config tape capture : List ℕ) (accepted : Config) (failed failed' : Type 0) (a : Option (List ℕ)) (refusal : Refusal)
-    → config_stage limit holds config ≡ Found accepted → holds' ≡ holds → HasReason (tape_stage accepted limit holds' tape) failed refusal → (failed → failed')
-    → EnforcesSo limit holds config tape capture failed' a a (status_of refusal)
-tape_ends limit holds holds' config tape capture accepted failed failed' a refusal e same h f =
+pub tape_ends : {T : Type 0} (limit : ℕ) (holds holds' : Names) (config tape capture : List ℕ) (accepted : Config) (failed failed' : Type 0)
+    (a : Option (List ℕ)) (result : Result T Refusal) (refusal : Refusal)
+    → IsErrAnd result (λ e. e ≡ refusal) → config_stage limit holds config ≡ Found accepted → holds' ≡ holds → HasReason (tape_stage accepted limit holds' tape) failed refusal
+    → (failed → failed') → EnforcesSo limit holds config tape capture failed' a a (answered result)
+tape_ends limit holds holds' config tape capture accepted failed failed' a result refusal is e same h f =
     let told : HasReason (tape_stage accepted limit holds tape) failed refusal = subst (λ (names : Names). HasReason (tape_stage accepted limit names tape) failed refusal) same h in
     let whole : HasReason (accepted_stage limit holds config tape) failed refusal =
     subst (λ (s : Stage (Config × List Timed)). HasReason s failed refusal) (sym (accepted_with limit holds config tape accepted e))
     (reason_then (tape_stage accepted limit holds tape) (λ items. Found (accepted, items)) failed refusal told) in
-    inl (ends_early (accepted_stage limit holds config tape) failed failed' a refusal whole f)
+    answered_err (EnforcesSo limit holds config tape capture failed' a a) result refusal is (inl (ends_early (accepted_stage limit holds config tape) failed failed' a refusal whole f))
 
-found_in : {limit : ℕ} {holds tape_holds : Names} {tape : List ℕ} {accepted : Config} {version : Version} {desk : Desked} → tape_holds ≡ holds
+pub found_in : {limit : ℕ} {holds tape_holds : Names} {tape : List ℕ} {accepted : Config} {version : Version} {desk : Desked} → tape_holds ≡ holds
     → (w : IsWhole accepted limit tape_holds tape version desk) → tape_stage accepted limit holds tape ≡ Found w.played.items
 found_in {limit} {tape = tape} {accepted = accepted} same w = subst (λ (names : Names). tape_stage accepted limit names tape ≡ Found w.played.items) same w.played.found
 
 -- the capture was judged, by what the tape holds at the packets' moments
-pub answers_so : (limit : ℕ) (holds tape_holds capture_holds : Names) (config tape capture : List ℕ) (accepted : Config) (version : Version) (desk : Desked) (failed : Type 0) (before now : Option (List ℕ)) (answer : ℕ)
+pub answers_so : {tape_holds : Names} {accepted : Config} {version : Version} {desk : Desked}
+    (limit : ℕ) (holds capture_holds : Names) (config tape capture : List ℕ) (failed : Type 0) (before now : Option (List ℕ)) (answer : ℕ)
     → config_stage limit holds config ≡ Found accepted → tape_holds ≡ holds → capture_holds ≡ tape_holds
     → (w : IsWhole accepted limit tape_holds tape version desk)
     → AnswersAt accepted w.played.items (capture_stage limit capture_holds capture) failed before now answer
     → EnforcesSo limit holds config tape capture failed before now answer
-answers_so limit holds tape_holds capture_holds config tape capture accepted version desk failed before now answer e same same' w a =
+answers_so {tape_holds} {accepted} limit holds capture_holds config tape capture failed before now answer e same same' w a =
     inr (record {
       accepted = accepted;
       items = w.played.items;
@@ -223,13 +240,14 @@ answers_so limit holds tape_holds capture_holds config tape capture accepted ver
     })
 
 -- at want of memory behind configuration and tape
-pub unfinished_so : (limit : ℕ) (holds tape_holds capture_holds : Names) (config tape capture left : List ℕ) (accepted : Config) (version : Version) (desk : Desked) (before now : Option (List ℕ)) (reader : CaptureState)
+pub unfinished_so : {tape_holds : Names} {accepted : Config} {version : Version} {desk : Desked}
+    (limit : ℕ) (holds capture_holds : Names) (config tape capture left : List ℕ) (before now : Option (List ℕ)) (reader : CaptureState)
     → config_stage limit holds config ≡ Found accepted → tape_holds ≡ holds → capture_holds ≡ tape_holds
     → (w : IsWhole accepted limit tape_holds tape version desk)
     → (judged : WroteJudged accepted w.played.items (packets_of (capture_stage limit capture_holds capture)) (coming reader left).0 before now)
     → ((HasVersion limit holds tape Two → ⊥) → judged.came.judged ≡ [])
     → Unfinished limit holds config tape capture left before now
-unfinished_so limit holds tape_holds capture_holds config tape capture left accepted version desk before now reader e same same' w judged none =
+unfinished_so {tape_holds} {accepted} limit holds capture_holds config tape capture left before now reader e same same' w judged none =
     let both = subst (λ (names : Names).
     (judged : WroteJudged accepted w.played.items (packets_of (capture_stage limit names capture)) (coming reader left).0 before now)
     × ((HasVersion limit holds tape Two → ⊥) → judged.came.judged ≡ [])) (same' ∙ same) (judged, none) in
@@ -263,17 +281,17 @@ never_tape {A} config items found failed before now answer a four = by a.answers
     by (inr (inr h)) = let one : answer ≡ 1 = h.0 in absurd cc
 
 -- a tape of the second version is one
-pub is_second : (limit : ℕ) (holds holds' : Names) (config : Config) (tape : List ℕ) (version : Version) (desk : Desked)
+pub is_second : {limit : ℕ} {holds holds' : Names} {config : Config} {tape : List ℕ} {version : Version} {desk : Desked}
     → holds' ≡ holds → IsWhole config limit holds' tape version desk → version ≡ Two → HasVersion limit holds tape Two
-is_second limit holds holds' config tape version desk same w v =
+is_second {limit} {holds} {holds'} {config} {tape} same w v =
     subst (λ (names : Names). HasVersion limit names tape Two) same (subst (HasVersion limit holds' tape) v w.has_version)
 
 -- a tape of the first version that was played whole is a player with nothing ahead
-pub whole_played : (limit : ℕ) (holds : Names) (config : Config) (tape : List ℕ) (version : Version) (desk : Desked) (player : PlayerState) (left : List ℕ)
+pub whole_played : {limit : ℕ} {holds : Names} {config : Config} {tape : List ℕ} {version : Version} {desk : Desked} (player : PlayerState) (left : List ℕ)
     → (w : IsWhole config limit holds tape version desk) → version ≡ One
     → ((items : List Timed) (left : List ℕ) → Played desk.config (untimed items) desk → HaveNoMoments One items → Stands items 0 player left)
     → Stands w.played.items 0 player left
-whole_played limit holds config tape version desk player left w v stands =
+whole_played {desk = desk} player left w v stands =
     stands w.played.items left
     (subst (λ (c : Config). Played c (untimed w.played.items) desk) (sym w.played.played.config_is) w.played.played)
     (subst (λ (z : Version). HaveNoMoments z w.played.items) v w.moments)

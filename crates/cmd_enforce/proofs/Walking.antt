@@ -31,10 +31,6 @@ abbrev pub FindsFrom : ℕ → Viewed → List Listed → Option ℕ → Type 0
 FindsFrom from view rules found =
     (found ≡ first_from from view (drop from rules)) × IfSome found (λ place. (from ≤ place) × (place < length rules))
 
-pub finds : (view : Viewed) (rules : List Listed) (place : ℕ) (found : Option ℕ) → found ≡ first_from place view (drop place rules) → IfSome found (λ k. (place ≤ k) × (k < length rules))
-    → FindsFrom place view rules found
-finds view rules place found e inside = (e, inside)
-
 -- behind a rule that was found they are the same matches
 pub matches_on : (view : Viewed) (rules : List Listed) (old new : Matching) (n : ℕ) → new ≡ behind (Some n) old → AreMatchesOf view rules old → AreMatchesOf view rules new
 matches_on view rules old new n e m = subst (AreMatchesOf view rules) (sym e) (record { facts = m.facts; rules_are = m.rules_are })

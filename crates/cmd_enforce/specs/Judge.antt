@@ -1,5 +1,5 @@
 -- The lines of a capture's packets under the rules that are admitted, and what becomes of them.
-use Rattle.std.specs.Prelude.{ℕ, ◌+◌, List, [], ◌∷◌, ◌++◌, map, Option, Some, None, Result, Ok, Err, MatchResult, ◌≡◌, ◌≢◌, ◌⊎◌, take}
+use Rattle.std.specs.Prelude.{ℕ, ◌+◌, List, [], ◌∷◌, ◌++◌, map, Option, Some, None, Result, Ok, Err, MatchResult, ◌≡◌, ◌≢◌, ◌⊎◌}
 use Rattle.fs_base.specs.declared.prefix.Family.{Family}
 use Rattle.fs_base.specs.declared.prefix.Family.TheVariants.{V4, V6}
 use Rattle.fs_line.specs.Line.{line_of, unread_line_of}
@@ -110,17 +110,7 @@ Yields before now into None = before ≡ ([], done)
 abbrev pub Ceases : List Captured × End CaptureReason → Type 0 → Refusal → Type 0
 Ceases before failed refusal = ((before.0 ≡ []) × (status_at before.1 ≡ status_of refusal)) ⊎ ((refusal ≡ Outside) × failed)
 
--- the packet in hand, if there is one, and those to come behind it; its octets stand at the front of the buffer
-abbrev pub in_hand : Option Caught → List ℕ → List Captured × End CaptureReason → List Captured × End CaptureReason
-in_hand None into rest = rest
-in_hand (Some caught) into rest = with_part (packet_from caught into) rest
-
 -- the packet that was found, and those to come behind it; where none was the capture is done
 abbrev pub found_behind : Option Caught → List ℕ → List Captured × End CaptureReason → List Captured × End CaptureReason
 found_behind None into rest = ([], done)
 found_behind (Some caught) into rest = with_part (packet_from caught into) rest
-
--- the line of the packet in hand, if there is one
-abbrev pub hand_text : ℕ → AdmittedRules → Option Caught → List ℕ → List ℕ
-hand_text number rules None into = []
-hand_text number rules (Some caught) into = packet_text number rules caught.link (take caught.taken into)

@@ -1,7 +1,6 @@
 -- The lines of a capture's packets, each under the routes that a tape holds at its moment, and what becomes of them.
 use Rattle.std.specs.Prelude.{ℕ, List, [], ◌∷◌, ◌++◌, Option, Result, ◌≡◌, ◌≢◌, ◌⊎◌, MatchResult, length}
 use Rattle.std.specs.List.{AllByRecursion}
-use Rattle.fs_base.specs.Happened.{Happened, FilesFailed, SinkFailed}
 use Rattle.fs_base.specs.Sink.{Grew}
 use Rattle.fs_base.specs.declared.config.Config.{Config}
 use Rattle.fs_input.specs.Records.{End, done}
@@ -41,44 +40,69 @@ pub record CameTo (config : Config) (items : List Timed) (packets : List Capture
 abbrev pub came_lines : {config : Config} {items : List Timed} {packets : List Captured} → CameTo config items packets → List ℕ
 came_lines came = lines_from 0 (rules_by came.held) came.judged
 
+-- What is judged: packets, under the items of a tape; and what the sink and the output held before the first line.
+pub record Judging : Type 0 where
+  pub config : Config
+  pub items : List Timed
+  pub all : List Captured × End CaptureReason
+  pub before : Option (List ℕ)
+  pub pending : List ℕ
+
+abbrev pub judging : Config → List Timed → List Captured × End CaptureReason → (before : Option (List ℕ)) → (pending : List ℕ) → Judging
+judging config items all before pending = record { config = config; items = items; all = all; before = before; pending = pending }
+
+-- How far it is: what is to come, what the sink and the output hold, and the number of the last line.
+pub record Reached : Type 0 where
+  pub rest : List Captured × End CaptureReason
+  pub written : Option (List ℕ)
+  pub pending : List ℕ
+  pub number : ℕ
+
+abbrev pub reached : List Captured × End CaptureReason → (written : Option (List ℕ)) → (pending : List ℕ) → (number : ℕ) → Reached
+reached rest written pending number = record { rest = rest; written = written; pending = pending; number = number }
+
 -- Of all packets some were judged, under the routes that are held at their moments, and the rest is to come.
-pub record Follows (config : Config) (items : List Timed) (all rest : List Captured × End CaptureReason) (before now : Option (List ℕ)) (pending pending_now : List ℕ) (number : ℕ) : Type 0 where
+pub record Follows (work : Judging) (now : Reached) : Type 0 where
   pub held : ℕ → Held
   pub gone : List Captured
-  pub parts : all.0 ≡ gone ++ rest.0
-  pub end_is : all.1 ≡ rest.1
-  pub count : number ≡ length gone
-  pub leaves : HoldAt config items held gone
-  pub goes : Goes before now pending pending_now (lines_from 0 (rules_by held) gone)
+  pub parts : work.all.0 ≡ gone ++ now.rest.0
+  pub end_is : work.all.1 ≡ now.rest.1
+  pub count : now.number ≡ length gone
+  pub leaves : HoldAt work.config work.items held gone
+  pub goes : Goes work.before now.written work.pending now.pending (lines_from 0 (rules_by held) gone)
 
 -- nothing but what is left, or one packet before it, which was read
 abbrev pub IsUnjudged : (rest left : List Captured) → Type 0
 IsUnjudged rest left = (rest ≡ left) ⊎ ((packet : Captured) × (rest ≡ packet ∷ left))
 
+-- What judging leaves: the packets that the capture is still to give, and what the sink and the output hold.
+pub record Outcome : Type 0 where
+  pub left : List Captured
+  pub written : Option (List ℕ)
+  pub pending : List ℕ
+
+abbrev pub outcome : (left : List Captured) → (written : Option (List ℕ)) → (pending : List ℕ) → Outcome
+outcome left written pending = record { left = left; written = written; pending = pending }
+
 -- Why judging ended early: the capture ends so, behind all its packets; or memory was wanting, behind the lines of all
 -- packets that were judged, and the rest is what the capture is still to give, with the packet that was read last; or a
 -- call on the outside failed, and a front of these lines went on.
-abbrev pub BreaksBehind : {config : Config} {items : List Timed} {packets : List Captured}
-    → End CaptureReason → (left : List Captured) → CameTo config items packets → (before now : Option (List ℕ)) → (pending pending_now : List ℕ) → Type 0 → Refusal → Type 0
-BreaksBehind end left came before now pending pending_now failed refusal =
-    ((status_at end ≡ status_of refusal) × (came.rest ≡ []) × Goes before now pending pending_now (came_lines came))
-    ⊎ ((refusal ≡ Memory) × IsUnjudged came.rest left × Goes before now pending pending_now (came_lines came))
-    ⊎ ((refusal ≡ Outside) × failed × Partly before now pending pending_now (came_lines came))
+abbrev pub BreaksBehind : (work : Judging) → Outcome → CameTo work.config work.items work.all.0 → Type 0 → Refusal → Type 0
+BreaksBehind work now came failed refusal =
+    ((status_at work.all.1 ≡ status_of refusal) × (came.rest ≡ []) × Goes work.before now.written work.pending now.pending (came_lines came))
+    ⊎ ((refusal ≡ Memory) × IsUnjudged came.rest now.left × Goes work.before now.written work.pending now.pending (came_lines came))
+    ⊎ ((refusal ≡ Outside) × failed × Partly work.before now.written work.pending now.pending (came_lines came))
 
-abbrev pub BreaksOff : Config → List Timed → List Captured × End CaptureReason → (left : List Captured) → (before now : Option (List ℕ)) → (pending pending_now : List ℕ) → Type 0 → Refusal → Type 0
-BreaksOff config items coming left before now pending pending_now failed refusal =
-    (came : CameTo config items coming.0) × BreaksBehind coming.1 left came before now pending pending_now failed refusal
+abbrev pub BreaksOff : Judging → Outcome → Type 0 → Refusal → Type 0
+BreaksOff work now failed refusal = (came : CameTo work.config work.items work.all.0) × BreaksBehind work now came failed refusal
 
-abbrev pub JudgesSo : {T : Type 0} → Config → List Timed → List Captured × End CaptureReason → (left : List Captured) → (before now : Option (List ℕ)) → (pending pending_now : List ℕ) → Type 0 → Result T Refusal → Type 0
-JudgesSo config items coming left before now pending pending_now failed result =
+-- The packets to come were all judged, up to the capture's end; or judging broke off.
+abbrev pub Judged : {T : Type 0} → Judging → Outcome → Type 0 → Result T Refusal → Type 0
+Judged work now failed result =
     MatchResult result
-    (λ _. (came : CameTo config items coming.0) × (came.rest ≡ []) × (coming.1 ≡ done) × Goes before now pending pending_now (came_lines came))
-    (BreaksOff config items coming left before now pending pending_now failed)
-
--- The packets to come were all judged, up to the capture's end; or judging broke off, and these packets are left in it.
-abbrev pub JudgesMoments : {T : Type 0} → Config → List Timed → List Captured × End CaptureReason → (left : List Captured) → Happened → (pending pending_now : List ℕ) → Result T Refusal → Type 0
-JudgesMoments config items coming left call pending pending_now result =
-    JudgesSo config items coming left call.before.written call.now.written pending pending_now (FilesFailed call ⊎ SinkFailed call) result
+    (λ _. (came : CameTo work.config work.items work.all.0) × (came.rest ≡ []) × (work.all.1 ≡ done)
+    × Goes work.before now.written work.pending now.pending (came_lines came))
+    (BreaksOff work now failed)
 
 abbrev pub packets_of : Stage Recorded → List Captured
 packets_of (Found capture) = capture.packets

@@ -1,27 +1,23 @@
 //! The packets of a capture, each judged by the rules that the tape admits at its moment.
 
-ghost use Rattle.std.specs.Prelude.{◌≡◌, ◌≤◌, ◌<◌, ◌^◌, ◌⊎◌, ℕ, List, [], Option, None, true, IsTrue, IfOk, IfSome, MatchResult, length};
+ghost use Rattle.std.specs.Prelude.{◌≡◌, ◌≤◌, ◌<◌, ◌^◌, ◌⊎◌, List, None, true, IsTrue, IfOk, IfSome, MatchResult, length};
 ghost use Rattle.std.specs.Option.{is_some};
-ghost use Rattle.fs_base.specs.Happened.{happened};
 ghost use Rattle.fs_base.specs.Outside.{Rose};
-ghost use Rattle.fs_capture.specs.Capture.{Captured, coming, recorded};
-ghost use Rattle.fs_capture.specs.declared.fault.CaptureReason.{CaptureReason};
-ghost use Rattle.fs_desk.specs.Leaves.{Leaves};
+ghost use Rattle.fs_capture.specs.Capture.{coming, recorded};
 ghost use Rattle.fs_pcap.specs.Head.{longest_record};
-ghost use Rattle.fs_input.specs.Records.{End};
-ghost use Rattle.cmd_stages.specs.Play.{IsOpenOrDone, until};
+ghost use Rattle.cmd_stages.specs.Play.{IsOpenOrDone};
 ghost use Rattle.cmd_stages.specs.Player.{Stands, due_item};
 ghost use Rattle.cmd_stages.specs.Refusal.{Found, answered};
 ghost use Rattle.fs_tape.specs.Tape.{Timed};
-ghost use Rattle.cmd_enforce.specs.Judge.{admitted_rules, EndsTape, found_behind, in_hand, IsOfCapture, IsOfPackets};
+ghost use Rattle.cmd_enforce.specs.Judge.{admitted_rules, EndsTape, found_behind, IsOfCapture, IsOfPackets};
 ghost use Rattle.fs_compile.specs.Matcher.{admitted_in};
 ghost use Rattle.fs_compile.specs.Mending.{AreOwn};
 ghost use Rattle.cmd_enforce.specs.Matcher.{StandsFor};
-ghost use Rattle.cmd_enforce.specs.Moments.{AnswersAt, BreaksOff, Follows, JudgesMoments, WroteJudged};
+ghost use Rattle.cmd_enforce.specs.Moments.{AnswersAt, BreaksOff, Follows, Judged, Judging, WroteJudged, judging, outcome, reached};
 
 use crate::capture::next_packet;
 use crate::following::Following;
-use crate::lines::{Lines, judge_hand, judge_packet};
+use crate::lines::{Lines, judge_packet};
 use cmd_stages::{Player, Refusal};
 use fs_base::{Files, Sink};
 use fs_capture::{Capture, Caught};
@@ -93,8 +89,8 @@ pub(crate) fn judge_capture<F: Files, S: Sink>(
     lines.finish(judged, sink)
 }
 
-/// Judges the packets of the capture. Memory is taken between the items of a packet's moment and that packet, and before
-/// the first one.
+/// Judges the packets of the capture. Memory is taken before the first one, and around each one before which items of the
+/// tape are played.
 fn judge_packets<F: Files, S: Sink>(
     files: &mut F,
     capture: &mut Capture,
@@ -127,26 +123,25 @@ fn judge_packets<F: Files, S: Sink>(
     ensures judged { IsTrue F.tells
         → (items : List Timed)
         → Stands items capture.old.moment following.old.player (F.left files.old 1)
-        → JudgesMoments following.old.player.desk.config items
-        (coming capture.old (F.left files.old 2))
-        (coming capture.new (F.left files.new 2)).0
-        (happened F.Files S.Sink files.old files.new sink.old sink.new)
-        lines.old.output lines.new.output result }
+        → Judged (judging following.old.player.desk.config items
+        (coming capture.old (F.left files.old 2)) (S.written sink.old) lines.old.output)
+        (outcome (coming capture.new (F.left files.new 2)).0 (S.written sink.new) lines.new.output)
+        (Rose (F.faults files.old) (F.faults files.new) ⊎ Rose (S.faults sink.old) (S.faults sink.new))
+        result }
 {
     same_routes(); // what is held at one moment is one list
-    let mut hand = None;
-    'changes: while let Some(caught) = judge_on(
-        files, capture, following, buffer, lines, sink, hand,
-    )? {
+    'changes: while let Some(caught) = judge_on(files, capture, following, buffer, lines, sink)? {
         following.follow(files, caught.moment)?;
-        hand = Some(caught);
+        let rules = &following.rules;
+        let mut walked = Vec::with_capacity(following.alloc, rules.most())?;
+        let octets = &buffer[..caught.taken];
+        judge_packet(rules, caught.link, octets, &mut walked, lines, sink)?;
     }
     Ok(())
 }
 
-/// Judges packets while the tape stands still: the one in hand, if there is one, and those of the capture up to the first
-/// before which an item is to be played, which is handed back. `None` at the capture's end. All memory is taken before
-/// the first of them.
+/// Judges packets while the tape stands still: those of the capture up to the first before which an item is to be
+/// played, which is handed back. `None` at the capture's end. All memory is taken before the first of them.
 fn judge_on<F: Files, S: Sink>(
     files: &mut F,
     capture: &mut Capture,
@@ -154,7 +149,6 @@ fn judge_on<F: Files, S: Sink>(
     buffer: &mut [u8],
     lines: &mut Lines,
     sink: &mut S,
-    hand: Option<Caught>,
 ) -> Result<Option<Caught>, Refusal>
     requires room { longest_record ≤ length buffer.old }
     requires slot { capture.old.slot ≡ 2 }
@@ -163,8 +157,6 @@ fn judge_on<F: Files, S: Sink>(
     requires fits { capture.old.limit < 2 ^ 64 }
     requires stands { StandsFor (admitted_rules following.now.player.desk.held) following.now.rules }
     requires number { lines.old.number ≤ capture.old.place }
-    requires hand { IfSome hand (λ caught.
-        (caught.taken ≤ longest_record) × (lines.old.number < capture.old.place)) }
     ensures files_later { F.faults files.old ≤ F.faults files.new }
     ensures sink_later { S.faults sink.old ≤ S.faults sink.new }
     ensures possible { IsOfCapture (answered result) }
@@ -185,31 +177,22 @@ fn judge_on<F: Files, S: Sink>(
         × (is_some (due_item following.now.player.ahead following.now.player.tape.moment caught.moment) ≡ true))) }
 
     ensures judged { IsTrue F.tells
-        → (items : List Timed)
-        → (all : List Captured × End CaptureReason)
-        → (first : Option (List ℕ))
-        → (pending : List ℕ)
-        → Stands items capture.old.moment following.now.player (F.left files.old 1)
-        → IfSome hand (λ caught.
-        Leaves following.now.player.desk.config (until caught.moment items) following.now.player.desk.held)
-        → Follows following.now.player.desk.config items all
-        (in_hand hand buffer.old (coming capture.old (F.left files.old 2)))
-        first (S.written sink.old) pending lines.old.output lines.old.number
+        → (work : Judging)
+        → work.config ≡ following.now.player.desk.config
+        → Stands work.items capture.old.moment following.now.player (F.left files.old 1)
+        → Follows work (reached (coming capture.old (F.left files.old 2))
+        (S.written sink.old) lines.old.output lines.old.number)
         → MatchResult result
         (λ found.
-        IfSome found (λ _. Stands items capture.new.moment following.now.player (F.left files.new 1))
-        × Follows following.now.player.desk.config items all
-        (found_behind found buffer.new (coming capture.new (F.left files.new 2)))
-        first (S.written sink.new) pending lines.new.output lines.new.number)
-        (BreaksOff following.now.player.desk.config items all
-        (coming capture.new (F.left files.new 2)).0
-        first (S.written sink.new) pending lines.new.output
+        IfSome found (λ _. Stands work.items capture.new.moment following.now.player (F.left files.new 1))
+        × Follows work (reached (found_behind found buffer.new (coming capture.new (F.left files.new 2)))
+        (S.written sink.new) lines.new.output lines.new.number))
+        (BreaksOff work (outcome (coming capture.new (F.left files.new 2)).0 (S.written sink.new) lines.new.output)
         (Rose (F.faults files.old) (F.faults files.new) ⊎ Rose (S.faults sink.old) (S.faults sink.new))) }
 {
     same_routes(); // what is held at one moment is one list
     let rules = &following.rules;
     let mut walked = Vec::with_capacity(following.alloc, rules.most())?;
-    judge_hand(rules, hand, buffer, &mut walked, lines, sink)?;
     'packets: while let Some(caught) = next_packet(files, capture, buffer)? {
         if following.player.is_due(caught.moment) {
             return Ok(Some(caught));

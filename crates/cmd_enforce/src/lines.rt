@@ -1,8 +1,7 @@
 //! The lines of packets.
 
-ghost use Rattle.std.specs.Prelude.{◌≡◌, ◌≤◌, ◌<◌, ◌+◌, ◌^◌, [], IfOk, IfSome, if◌then◌else◌, length, vec_capacity};
-ghost use Rattle.std.specs.Option.{is_some};
-ghost use Rattle.cmd_enforce.specs.Judge.{AdmittedRules, hand_text, packet_text, rules_for, seen_of};
+ghost use Rattle.std.specs.Prelude.{◌≡◌, ◌≤◌, ◌<◌, ◌+◌, ◌^◌, [], IfOk, vec_capacity};
+ghost use Rattle.cmd_enforce.specs.Judge.{AdmittedRules, packet_text, rules_for, seen_of};
 ghost use Rattle.cmd_enforce.specs.Matcher.{HasRoom, IsSound, StandsFor};
 ghost use Rattle.cmd_stages.specs.Writing.{Finishes};
 ghost use Rattle.fs_base.specs.Outside.{Rose};
@@ -13,7 +12,6 @@ ghost use Rattle.fs_rules.specs.Walk.{walk_of};
 use crate::walk::walk_packet;
 use cmd_stages::Refusal;
 use fs_base::{Failed, Link, Memory, Sink};
-use fs_capture::Caught;
 use fs_compile::Compiled;
 use fs_line::{Output, Walked, write_packet_line, write_unread_line};
 use fs_packet::{Unread, View, view};
@@ -49,40 +47,6 @@ impl Lines {
     {
         self.output.flush(sink)?;
         judged
-    }
-}
-
-/// Judges the packet in hand, where there is one: its octets stand at the front of the buffer.
-pub(crate) fn judge_hand<'r, S: Sink>(
-    rules: &'r Compiled,
-    hand: Option<Caught>,
-    buffer: &[u8],
-    walked: &mut Vec<Walked<'r>>,
-    lines: &mut Lines,
-    sink: &mut S,
-) -> Result<(), Failed>
-    requires sound { IsSound rules.now }
-    requires room { HasRoom rules.now (vec_capacity walked.old) }
-    requires hand { IfSome hand (λ caught.
-        (caught.taken ≤ length buffer.now) × (lines.old.number + 1 < 2 ^ 64)) }
-    ensures room { vec_capacity walked.new ≡ vec_capacity walked.old }
-    ensures number { lines.new.number ≡ lines.old.number + (if is_some hand then 1 else 0) }
-    ensures later { S.faults sink.old ≤ S.faults sink.new }
-    ensures sends { (admitted : AdmittedRules)
-        → StandsFor admitted rules.now
-        → Sends S.Sink sink.old sink.new lines.old.output lines.new.output
-        (hand_text (lines.old.number + 1) admitted hand buffer.now) result }
-{
-    match hand {
-        Some(caught) => judge_packet(
-            rules,
-            caught.link,
-            &buffer[..caught.taken],
-            walked,
-            lines,
-            sink,
-        ),
-        None => Ok(()),
     }
 }
 

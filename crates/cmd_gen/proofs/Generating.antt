@@ -64,12 +64,12 @@ packet_is pair octets state seed count o d s = o ∙ ap packet_of (d ∙ ap pair
 pub counted_none : (p : List ℕ → Bool) (seed : ℕ) → 0 ≡ count_by p (packets seed 0)
 counted_none p seed = sym (ap (count_by p) (packets_none seed))
 
-pub counted_after : (p : List ℕ → Bool) (seed count before after : ℕ) (octets : List ℕ) (counts : Bool) → octets ≡ packet_of (pair_behind seed (seed + count))
-    → before ≡ count_by p (packets seed count) → after ≡ before + one_if counts → counts ≡ p octets → after ≡ count_by p (packets seed (count + 1))
-counted_after p seed count before after octets counts o b a c =
+pub counted_after : (p : List ℕ → Bool) (seed count before after : ℕ) (octets : List ℕ) → octets ≡ packet_of (pair_behind seed (seed + count))
+    → before ≡ count_by p (packets seed count) → after ≡ before + one_if (p octets) → after ≡ count_by p (packets seed (count + 1))
+counted_after p seed count before after octets o b a =
     a
-    ∙ ap (λ (m : ℕ). m + one_if counts) b
-    ∙ ap (λ (t : Bool). count_by p (packets seed count) + one_if t) (c ∙ ap p o)
+    ∙ ap (λ (m : ℕ). m + one_if (p octets)) b
+    ∙ ap (λ (t : List ℕ). count_by p (packets seed count) + one_if (p t)) o
     ∙ sym (ap (count_by p) (packets_more seed count) ∙ counted_more p (packets seed count) (packet_of (pair_behind seed (seed + count))))
 
 pub few_more : (b : Bool) (before now counter : ℕ) → before ≤ counter → now ≡ before + one_if b → now ≤ counter + 1

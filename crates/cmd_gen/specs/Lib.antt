@@ -3,4 +3,3 @@ pub mod Draws
 pub mod Generator
 pub mod Messages
 pub mod Command
-pub mod Tally

@@ -6,28 +6,23 @@ ghost use Rattle.fs_base.specs.Outside.{Rose};
 ghost use Rattle.fs_base.specs.declared.config.Config.{Config};
 ghost use Rattle.cmd_enforce.specs.Judge.{AdmittedRules};
 ghost use Rattle.cmd_enforce.specs.Matcher.{HasRoom, IsSound, StandsFor};
-ghost use Rattle.cmd_gen.specs.Command.{GeneratesSo, dropped_of, gen_line, gen_text, is_dropped, is_passed, passed_of};
-ghost use Rattle.cmd_gen.specs.Tally.{drops, passes};
+ghost use Rattle.cmd_gen.specs.Command.{GeneratesSo, dropped_of, gen_line, gen_text, passed_of};
 ghost use Rattle.cmd_stages.specs.Refusal.{IsLate, answered};
 ghost use Rattle.fs_desk.specs.Desk.{Played};
 ghost use Rattle.cmd_gen.specs.Configuration.{three_peers};
 ghost use Rattle.cmd_gen.specs.Draws.{behind_pairs};
-ghost use Rattle.cmd_gen.specs.Generator.{opening, packets, packets_of_seed, step_of, steps, tape_of_seed};
-ghost use Rattle.fs_packet.specs.Reading.{view_of};
-ghost use Rattle.fs_base.specs.declared.link.Link.TheVariants.{Raw};
+ghost use Rattle.cmd_gen.specs.Generator.{opening, packets_of_seed, steps, tape_of_seed};
 ghost use Rattle.fs_tape.specs.Tape.{Item};
 
 use crate::configuration::three_peers;
 use crate::draws::Draws;
 use crate::message::{keepalive, open_message};
-use crate::tally::{Fate, Tally};
-use cmd_enforce::drops;
+use crate::tally::Tally;
 use cmd_stages::{Refusal, write_made};
-use fs_base::{Config, Family, Link, Memory, Sink};
+use fs_base::{Config, Family, Memory, Sink};
 use fs_compile::Compiled;
 use fs_desk::Desk;
 use fs_line::{Walked, append, append_decimal};
-use fs_packet::view;
 use fs_rules::Table;
 use itoa::Integer;
 use std::alloc::Global;
@@ -147,28 +142,9 @@ fn count_packets<'r>(
     };
     'packets: for _ in 0..count {
         let packet = draws.pair().packet();
-        tally = tally.with(fate_of(rules, &packet, walked));
+        tally = tally.with(rules, &packet, walked);
     }
     tally
-}
-
-/// What becomes of a packet that has no link header.
-fn fate_of<'r>(rules: &'r Compiled, octets: &[u8], walked: &mut Vec<Walked<'r>>) -> Fate
-    requires sound { IsSound rules.now }
-    requires room { HasRoom rules.now (vec_capacity walked.old) }
-    ensures room { vec_capacity walked.new ≡ vec_capacity walked.old }
-    ensures passes { (admitted : AdmittedRules)
-        → StandsFor admitted rules.now
-        → passes result ≡ is_passed admitted (view_of Raw octets.now) }
-    ensures drops { (admitted : AdmittedRules)
-        → StandsFor admitted rules.now
-        → drops result ≡ is_dropped admitted (view_of Raw octets.now) }
-{
-    match view(Link::Raw, octets) {
-        Ok(view) if drops(rules, &view, walked) => Fate::Dropped,
-        Ok(_) => Fate::Passed,
-        Err(_) => Fate::Unread,
-    }
 }
 
 /// The line of these counts.

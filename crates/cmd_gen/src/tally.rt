@@ -1,16 +1,17 @@
 //! What becomes of packets, counted.
 
-ghost use Rattle.std.specs.Prelude.{◌≡◌, ◌<◌, ◌+◌, ◌-◌, ◌^◌};
-ghost use Rattle.cmd_gen.specs.Command.{one_if};
-ghost use Rattle.cmd_gen.specs.Tally.{drops, passes};
+ghost use Rattle.std.specs.Prelude.{◌≡◌, ◌<◌, ◌+◌, ◌-◌, ◌^◌, vec_capacity};
+ghost use Rattle.cmd_enforce.specs.Judge.{AdmittedRules};
+ghost use Rattle.cmd_enforce.specs.Matcher.{HasRoom, IsSound, StandsFor};
+ghost use Rattle.cmd_gen.specs.Command.{is_dropped, is_passed, one_if};
+ghost use Rattle.fs_base.specs.declared.link.Link.TheVariants.{Raw};
+ghost use Rattle.fs_packet.specs.Reading.{view_of};
 
-/// What becomes of a packet.
-#[derive(Clone, Copy, Drop)]
-pub(crate) enum Fate {
-    Unread,
-    Dropped,
-    Passed,
-}
+use cmd_enforce::drops;
+use fs_base::Link;
+use fs_compile::Compiled;
+use fs_line::Walked;
+use fs_packet::view;
 
 /// How many packets pass, and how many are dropped.
 #[derive(Clone, Copy, Drop)]
@@ -20,23 +21,35 @@ pub(crate) struct Tally {
 }
 
 impl Tally {
-    /// With one packet more. One that can't be read neither passes nor is dropped.
-    pub(crate) fn with(self, fate: Fate) -> Tally
+    /// With one packet more, which has no link header. One that can't be read neither passes nor is dropped.
+    pub(crate) fn with<'r>(
+        self,
+        rules: &'r Compiled,
+        octets: &[u8],
+        walked: &mut Vec<Walked<'r>>,
+    ) -> Tally
+        requires sound { IsSound rules.now }
+        requires room { HasRoom rules.now (vec_capacity walked.old) }
         requires passed { self.passed < 2 ^ 32 - 1 }
         requires dropped { self.dropped < 2 ^ 32 - 1 }
-        ensures passed { result.passed ≡ self.passed + one_if (passes fate) }
-        ensures dropped { result.dropped ≡ self.dropped + one_if (drops fate) }
+        ensures room { vec_capacity walked.new ≡ vec_capacity walked.old }
+        ensures passed { (admitted : AdmittedRules)
+            → StandsFor admitted rules.now
+            → result.passed ≡ self.passed + one_if (is_passed admitted (view_of Raw octets.now)) }
+        ensures dropped { (admitted : AdmittedRules)
+            → StandsFor admitted rules.now
+            → result.dropped ≡ self.dropped + one_if (is_dropped admitted (view_of Raw octets.now)) }
     {
-        match fate {
-            Fate::Unread => self,
-            Fate::Dropped => Tally {
+        match view(Link::Raw, octets) {
+            Ok(view) if drops(rules, &view, walked) => Tally {
                 dropped: self.dropped + 1,
                 ..self
             },
-            Fate::Passed => Tally {
+            Ok(_) => Tally {
                 passed: self.passed + 1,
                 ..self
             },
+            Err(_) => self,
         }
     }
 }

@@ -6,7 +6,7 @@ use Rattle.fs_base.specs.declared.config.Config.{Config}
 use Rattle.fs_conf.specs.Config.{config_of}
 use Rattle.fs_conf.specs.Rules.{rules_of}
 use Rattle.fs_speaker.specs.declared.Sending.{Sending}
-use Rattle.cmd_stages.specs.declared.refusal.Refusal.TheVariants.{Outside, Files as Refused, Limit}
+use Rattle.cmd_stages.specs.declared.refusal.Refusal.TheVariants.{Outside, Refused, Limit}
 use Rattle.cmd_stages.specs.Refusal.{Stage, Found, Stopped, and_then, or_stop}
 
 -- what each name holds

@@ -1,4 +1,4 @@
--- What becomes of a text that is written in one piece.
+-- What becomes of a text that is written: in one piece, or the rest of one that a buffer kept back.
 use Rattle.std.specs.Prelude.{◌≡◌, ◌⊎◌, ℕ, List, [], Option, Result, MatchResult}
 use Rattle.std.specs.Result.{IsErrAnd}
 use Rattle.fs_base.specs.Sink.{Grew, GrewPart}

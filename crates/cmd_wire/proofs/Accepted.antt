@@ -4,7 +4,7 @@ use Rattle.fs_base.specs.declared.config.Config.{Config}
 use Rattle.cmd_wire.proofs.Words.{CanArrive, Found, Names, Peer, Refusal, Sending, Stage, Stopped, and_then, config_stage, fetch, or_stop, rules_stage, sender_of, sending_stage}
 use Rattle.fs_conf.specs.Config.{config_of}
 use Rattle.fs_conf.specs.Rules.{rules_of}
-use Rattle.cmd_stages.specs.declared.refusal.Refusal.TheVariants.{Files as Refused}
+use Rattle.cmd_stages.specs.declared.refusal.Refusal.TheVariants.{Refused}
 use Rattle.cmd_wire.proofs.Arrivable.{can_arrive}
 use Rattle.cmd_wire.proofs.Statuses.{same_found}
 

@@ -15,7 +15,7 @@ use Rattle.cmd_wire.proofs.FromStages.{told_through}
 use Rattle.fs_speaker.proofs.Lowest.{sender_told}
 use Rattle.cmd_wire.specs.Listening.{Begins}
 use Rattle.std.specs.Result.{IfErr, IsErrAnd}
-use Rattle.cmd_stages.specs.declared.refusal.Refusal.TheVariants.{Files as Refused}
+use Rattle.cmd_stages.specs.declared.refusal.Refusal.TheVariants.{Refused}
 
 -- neither is answered with 3
 not_three : (ending : Ending) (text : List ℕ) → (verdict_by ending text).status ≡ 3 → ⊥

@@ -11,7 +11,7 @@ use Rattle.fs_peering.proofs.WrittenInParts.{told_as}
 use Rattle.fs_peering.specs.declared.tell.Ending.TheVariants.{Closed as HasClosed}
 use Rattle.fs_peering.specs.Hearer.{HasClosed as ClosesOnce}
 use Rattle.fs_peering.specs.Listen.{EndsSo, Listens, ListensOver, ListensSo}
-use Rattle.cmd_stages.specs.declared.refusal.Refusal.TheVariants.{Files as Refused}
+use Rattle.cmd_stages.specs.declared.refusal.Refusal.TheVariants.{Refused}
 use Rattle.cmd_stages.proofs.Stages.{answers_for}
 use Rattle.fs_peering.proofs.Courses.{octets_more}
 use Rattle.cmd_wire.specs.Conversation.{Conversation}

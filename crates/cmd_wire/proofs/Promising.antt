@@ -9,7 +9,7 @@ use Rattle.fs_peering.specs.Opening.{opened_by}
 use Rattle.fs_peering.specs.Teller.{ClosesSo, HasExpired}
 use Rattle.fs_conf.specs.Config.{config_of}
 use Rattle.fs_conf.specs.Rules.{rules_of}
-use Rattle.cmd_stages.specs.declared.refusal.Refusal.TheVariants.{Files as Refused}
+use Rattle.cmd_stages.specs.declared.refusal.Refusal.TheVariants.{Refused}
 use Rattle.cmd_wire.specs.Announcing.{Announces, AnnouncesSo, Connected, Speaks, verdict_of}
 use Rattle.cmd_wire.specs.Conversation.{Conversation}
 use Rattle.cmd_wire.specs.Promised.{AnnouncePromises, EndsSo, HasAnnounceStatus, HasStatusBy, IsServed, Sent}

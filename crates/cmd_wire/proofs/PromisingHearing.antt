@@ -7,7 +7,7 @@ use Rattle.fs_peering.specs.declared.tell.Ending.TheVariants.{Closed as HasClose
 use Rattle.fs_peering.specs.Hearer.{HasClosed as ClosesOnce}
 use Rattle.fs_peering.specs.Listen.{EndsSo, MeetsLimit}
 use Rattle.fs_peering.proofs.Phases.{closed_still, same_still}
-use Rattle.cmd_stages.specs.declared.refusal.Refusal.TheVariants.{Files as Refused}
+use Rattle.cmd_stages.specs.declared.refusal.Refusal.TheVariants.{Refused}
 use Rattle.cmd_wire.specs.Conversation.{Conversation}
 use Rattle.cmd_wire.specs.Listed.{verdict_by}
 use Rattle.cmd_wire.specs.Listening.{HasExpired, Heard, Hears, ListenedSo, ListensTo, hearing_stage, with_peer}

@@ -20,7 +20,7 @@ use Rattle.fs_peering.specs.Hearer.{Receives, tape_of, course_of}
 use Rattle.fs_peering.specs.Listen.{Listens, ListensSo}
 use Rattle.cmd_stages.specs.Load.{Names, config_stage}
 use Rattle.cmd_stages.specs.Refusal.{Answers, EndsEarly, Found, Stage, and_then, or_stop}
-use Rattle.cmd_stages.specs.declared.refusal.Refusal.TheVariants.{Files as Refused}
+use Rattle.cmd_stages.specs.declared.refusal.Refusal.TheVariants.{Refused}
 use Rattle.cmd_wire.specs.Conversation.{Conversation}
 use Rattle.cmd_wire.specs.Listed.{IsListing, verdict_by}
 

@@ -5,28 +5,20 @@ use Rattle.std.specs.Str.Parse.{ParsesUnsigned, digits_value}
 use Rattle.std.proofs.lemmas.Bool.{and_parts, le-leb, leb-true}
 use Rattle.std.proofs.lemmas.Fmt.{decimal_is_IsNumeral, parse-decimal}
 use Rattle.std.proofs.lemmas.Slice.Eq.{bytes_eq-Decides}
+use Rattle.fs_base.proofs.Bools.{and_both}
 use Rattle.fs_cli.specs.Command.{count_of}
-
-some_if : (b : Bool) (n : ℕ) → b ≡ true → Some n ≡ (if b then Some n else None)
-some_if true n h = refl
-some_if false n h = absurd cc
 
 none_if : (b : Bool) (n : ℕ) → (b ≡ true → ⊥) → None ≡ (if b then Some n else None)
 none_if true n h = absurd (h refl)
 none_if false n h = refl
-
-both : (a b : Bool) → a ≡ true → b ≡ true → (a && b) ≡ true
-both true true h i = refl
-both true false h i = i
-both false b h i = h
 
 -- of the decimal text of such a number it is that number
 pub count_found : (word : List ℕ) (n : ℕ) → bytes_eq word (decimal n) ≡ true → 1 ≤ n → n ≤ 1000000 → Some n ≡ count_of word
 count_found word n same low high =
     let spelled : word ≡ decimal n = (bytes_eq-Decides word (decimal n)).0 same in
     let value : digits_value 10 word ≡ n = ap (digits_value 10) spelled ∙ (decimal_is_IsNumeral n (omega (arith, high))).1 in
-    some_if (bytes_eq word (decimal n) && (nat_le 1 n && nat_le n 1000000)) n
-    (both (bytes_eq word (decimal n)) (nat_le 1 n && nat_le n 1000000) same (both (nat_le 1 n) (nat_le n 1000000) (le-leb 1 n low) (le-leb n 1000000 high)))
+    let within = and_both (nat_le 1 n) (nat_le n 1000000) (le-leb 1 n low) (le-leb n 1000000 high) in
+    ap (λ (b : Bool). if b then Some n else None) (sym (and_both (bytes_eq word (decimal n)) (nat_le 1 n && nat_le n 1000000) same within))
     ∙ ap (λ (m : ℕ). if bytes_eq word (decimal m) && (nat_le 1 m && nat_le m 1000000) then Some m else None) (sym value)
 
 -- of any other text there is none

@@ -44,7 +44,7 @@ use Rattle.cmd_enforce.specs.Judge.{capture_stage, lines_from, output_of, rules_
 use Rattle.cmd_enforce.specs.Moments.{AnswersAt, HoldAt, verdict_at}
 use Rattle.cmd_stages.specs.Refusal.{Answers, answered, Stage, Found, Stopped, Verdict, and_then, or_stop, status_of}
 use Rattle.cmd_stages.specs.declared.refusal.Refusal.{Refusal}
-use Rattle.cmd_stages.specs.declared.refusal.Refusal.TheVariants.{Outside, Files as Refused, Tape, Capture, Dump, Memory, Limit, Session}
+use Rattle.cmd_stages.specs.declared.refusal.Refusal.TheVariants.{Outside, Refused, Tape, Capture, Dump, Memory, Limit, Session}
 use Rattle.cmd_wire.proofs.Statuses.{Caused, due_status, early_status, late_status, never_early, never_zero, not_rose, same_found}
 use Rattle.cmd_wire.proofs.Accepted.{some_found, then_found}
 

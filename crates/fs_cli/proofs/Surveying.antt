@@ -12,7 +12,7 @@ use Rattle.cmd_stages.specs.Play.{tape_stage, IsPlayed, untimed}
 use Rattle.cmd_stages.specs.Refusal.{answered, Answers, verdict_with, Stage, Found, and_then, status_of, HasReason}
 use Rattle.cmd_stages.specs.Writing.{Fails, Writes}
 use Rattle.cmd_stages.specs.declared.refusal.Refusal.{Refusal}
-use Rattle.cmd_stages.specs.declared.refusal.Refusal.TheVariants.{Outside, Files as Refused, Tape, Capture, Dump, Memory, Limit, Session}
+use Rattle.cmd_stages.specs.declared.refusal.Refusal.TheVariants.{Outside, Refused, Tape, Capture, Dump, Memory, Limit, Session}
 use Rattle.cmd_stages.proofs.Stages.{take_nothing, accepted_with}
 use Rattle.cmd_stages.proofs.Texts.{fails_for, said_by, said_partly, said_so, said_whole}
 use Rattle.fs_cli.specs.Survey.{Text, stopped_text, ListsSo, SaysOf}

@@ -12,28 +12,35 @@ use Rattle.cmd_stages.specs.Refusal.{Found, answered}
 use Rattle.cmd_enforce.specs.Command.{EnforcesSo}
 use Rattle.cmd_enforce.specs.Judge.{capture_stage}
 use Rattle.cmd_stages.proofs.Stages.{answered_err, either_rose, rose_earlier}
-use Rattle.cmd_enforce.proofs.Enforcing.{all_to_come, answers_opened, answers_so, config_ends, is_second, never_tape, none_judged, tape_ends, unfinished_so, whole_played, wrote_none}
+use Rattle.cmd_enforce.proofs.Enforcing.{all_to_come, answers_opened, answers_so, config_ends, found_in, is_second, never_tape, none_judged, tape_ends, unfinished_so, whole_played, wrote_none, wrote_under}
 use Rattle.cmd_enforce.proofs.AtMoments.{packet_wants_none}
 use Rattle.cmd_enforce.proofs.command.enforce.Goals as goal
 
 pub returns-in_err-config-clause-enforces : goal.returns-in_err-config-clause-enforces
 returns-in_err-config-clause-enforces g c = λ told.
-    answered_err (λ n. EnforcesSo c.args.limit (g.F.Files.holds c.args.files.now) c.args.names.now.config.now c.args.names.now.tape.now c.args.names.now.capture.now (Rose (g.F.Files.faults c.args.files.now) (g.F.Files.faults c.load_config.new.files) ⊎ Rose (g.S.Sink.faults c.args.sink.now) (g.S.Sink.faults c.args.sink.now)) (g.S.Sink.written c.args.sink.now) (g.S.Sink.written c.args.sink.now) n) c.from_residual.result c.in_err-config.field-0.0 c.from_residual.ensures.1
-    (config_ends c.args.limit (g.F.Files.holds c.args.files.now) c.args.names.now.config.now c.args.names.now.tape.now c.args.names.now.capture.now (Rose (g.F.Files.faults c.args.files.now) (g.F.Files.faults c.load_config.new.files)) (Rose (g.F.Files.faults c.args.files.now) (g.F.Files.faults c.load_config.new.files) ⊎ Rose (g.S.Sink.faults c.args.sink.now) (g.S.Sink.faults c.args.sink.now)) (g.S.Sink.written c.args.sink.now) c.in_err-config.field-0.0 (c.in_err-config.ensures.reaches told) (λ r. inl r))
+    let words = c.args.names.now in
+    config_ends c.args.limit (g.F.Files.holds c.args.files.now) words.config.now words.tape.now words.capture.now _ _ _ c.from_residual.result c.in_err-config.field-0.0
+    c.from_residual.ensures.1 (c.in_err-config.ensures.reaches told) (λ r. inl r)
 
 pub returns-in_err-whole-clause-enforces : goal.returns-in_err-whole-clause-enforces
 returns-in_err-whole-clause-enforces g c = λ told.
-    answered_err (λ n. EnforcesSo c.args.limit (g.F.Files.holds c.args.files.now) c.args.names.now.config.now c.args.names.now.tape.now c.args.names.now.capture.now (Rose (g.F.Files.faults c.args.files.now) (g.F.Files.faults c.play_whole.new.files) ⊎ Rose (g.S.Sink.faults c.args.sink.now) (g.S.Sink.faults c.args.sink.now)) (g.S.Sink.written c.args.sink.now) (g.S.Sink.written c.args.sink.now) n) c.from_residual-in_err-whole.result c.in_err-whole.field-0.0 c.from_residual-in_err-whole.ensures.1
-    (tape_ends c.args.limit (g.F.Files.holds c.args.files.now) (g.F.Files.holds c.load_config.new.files) c.args.names.now.config.now c.args.names.now.tape.now c.args.names.now.capture.now _ (Rose (g.F.Files.faults c.load_config.new.files) (g.F.Files.faults c.play_whole.new.files)) (Rose (g.F.Files.faults c.args.files.now) (g.F.Files.faults c.play_whole.new.files) ⊎ Rose (g.S.Sink.faults c.args.sink.now) (g.S.Sink.faults c.args.sink.now)) (g.S.Sink.written c.args.sink.now) c.in_err-whole.field-0.0
-    (c.in_ok-config.ensures.reaches told) (c.in_ok-config.ensures.holds told) (c.in_err-whole.ensures.played told) (λ r. inl (rose_earlier _ _ _ c.in_ok-config.ensures.later r)))
+    let words = c.args.names.now in
+    tape_ends c.args.limit (g.F.Files.holds c.args.files.now) (g.F.Files.holds c.load_config.new.files) words.config.now words.tape.now words.capture.now _ _ _ _
+    c.from_residual-in_err-whole.result c.in_err-whole.field-0.0 c.from_residual-in_err-whole.ensures.1
+    (c.in_ok-config.ensures.reaches told) (c.in_ok-config.ensures.holds told) (c.in_err-whole.ensures.played told) (λ r. inl (rose_earlier _ _ _ c.in_ok-config.ensures.later r))
 
 pub returns-in_err-capture-clause-enforces : goal.returns-in_err-capture-clause-enforces
 returns-in_err-capture-clause-enforces g c = λ told.
+    let words = c.args.names.now in
     let w = c.in_ok-whole.ensures.played told in
-    answered_err (λ n. EnforcesSo c.args.limit (g.F.Files.holds c.args.files.now) c.args.names.now.config.now c.args.names.now.tape.now c.args.names.now.capture.now (Rose (g.F.Files.faults c.args.files.now) (g.F.Files.faults c.open_capture.new.files) ⊎ Rose (g.S.Sink.faults c.args.sink.now) (g.S.Sink.faults c.args.sink.now)) (g.S.Sink.written c.args.sink.now) (g.S.Sink.written c.args.sink.now) n) c.from_residual-in_err-capture.result c.in_err-capture.field-0.0 c.from_residual-in_err-capture.ensures.1
-    (answers_so c.args.limit (g.F.Files.holds c.args.files.now) (g.F.Files.holds c.load_config.new.files) (g.F.Files.holds c.play_whole.new.files) c.args.names.now.config.now c.args.names.now.tape.now c.args.names.now.capture.now _ c.in_ok-whole.whole.version c.in_ok-whole.whole.desk _ _ _ _
+    let files = (Rose (g.F.Files.faults c.args.files.now) (g.F.Files.faults c.open_capture.new.files)) in
+    let sink = (Rose (g.S.Sink.faults c.args.sink.now) (g.S.Sink.faults c.args.sink.now)) in
+    let written = g.S.Sink.written c.args.sink.now in
+    answered_err (EnforcesSo c.args.limit (g.F.Files.holds c.args.files.now) words.config.now words.tape.now words.capture.now (files ⊎ sink) written written)
+    c.from_residual-in_err-capture.result c.in_err-capture.field-0.0 c.from_residual-in_err-capture.ensures.1
+    (answers_so c.args.limit (g.F.Files.holds c.args.files.now) (g.F.Files.holds c.play_whole.new.files) words.config.now words.tape.now words.capture.now _ _ _ _
     (c.in_ok-config.ensures.reaches told) (c.in_ok-config.ensures.holds told) (c.in_ok-whole.ensures.holds told) w
-    (none_judged c.in_ok-config.config w.played.items (capture_stage c.args.limit (g.F.Files.holds c.play_whole.new.files) c.args.names.now.capture.now) _ _ (g.S.Sink.written c.args.sink.now) c.in_err-capture.field-0.0 (c.in_err-capture.ensures.opened told)
+    (none_judged _ _ _ _ _ _ c.in_err-capture.field-0.0 (c.in_err-capture.ensures.opened told)
     (λ r. inl (rose_earlier _ _ _ (le_trans c.in_ok-config.ensures.later c.in_ok-whole.ensures.later) r))))
 
 pub judge_capture-requires-clause-tape : goal.judge_capture-requires-clause-tape
@@ -44,16 +51,12 @@ judge_capture-requires-clause-ends g c = c.ended.ensures.ends c.in_ok-whole.ensu
 
 pub returns-in-One-clause-enforces : goal.returns-in-One-clause-enforces
 returns-in-One-clause-enforces g c = λ told.
+    let words = c.args.names.now in
     let w = c.in_ok-whole.ensures.played told in
-    answers_so c.args.limit (g.F.Files.holds c.args.files.now) (g.F.Files.holds c.load_config.new.files) (g.F.Files.holds c.play_whole.new.files) c.args.names.now.config.now c.args.names.now.tape.now c.args.names.now.capture.now _ c.in_ok-whole.whole.version c.in_ok-whole.whole.desk _ _ _ _
+    answers_so c.args.limit (g.F.Files.holds c.args.files.now) (g.F.Files.holds c.play_whole.new.files) words.config.now words.tape.now words.capture.now _ _ _ _
     (c.in_ok-config.ensures.reaches told) (c.in_ok-config.ensures.holds told) (c.in_ok-whole.ensures.holds told) w
-    (answers_opened c.in_ok-config.config w.played.items (capture_stage c.args.limit (g.F.Files.holds c.play_whole.new.files) c.args.names.now.capture.now)
-    (recorded (coming c.in_ok-capture.capture (g.F.Files.left c.open_capture.new.files 2))) _ _ _ _ _ (c.in_ok-capture.ensures.opened told)
-    (subst (λ (config : Config). AnswersAt config w.played.items (Found (recorded (coming c.in_ok-capture.capture (g.F.Files.left c.open_capture.new.files 2))))
-    (Rose (g.F.Files.faults c.open_capture.new.files) (g.F.Files.faults c.judge_capture.new.files) ⊎ Rose (g.S.Sink.faults c.args.sink.now) (g.S.Sink.faults c.judge_capture.new.sink)) (g.S.Sink.written c.args.sink.now) (g.S.Sink.written c.judge_capture.new.sink) (answered c.judge_capture.result))
-    (ap (λ (d : Desked). d.config) c.ended.ensures.desk ∙ w.played.played.config_is)
-    (c.judge_capture.ensures.judges told w.played.items
-    (whole_played c.args.limit (g.F.Files.holds c.load_config.new.files) c.in_ok-config.config c.args.names.now.tape.now c.in_ok-whole.whole.version c.in_ok-whole.whole.desk c.ended.result (g.F.Files.left c.open_capture.new.files 1) w c.in-One.is c.ended.ensures.stands)))
+    (answers_opened (c.in_ok-capture.ensures.opened told) (ap (λ (d : Desked). d.config) c.ended.ensures.desk ∙ w.played.played.config_is)
+    (c.judge_capture.ensures.judges told w.played.items (whole_played c.ended.result (g.F.Files.left c.open_capture.new.files 1) w c.in-One.is c.ended.ensures.stands))
     (either_rose _ _ _ _ (le_trans (le_trans c.in_ok-config.ensures.later c.in_ok-whole.ensures.later) c.in_ok-capture.ensures.later)))
 
 pub returns-in-One-clause-still : goal.returns-in-One-clause-still
@@ -61,35 +64,27 @@ returns-in-One-clause-still g c = λ told four.
     let w = c.in_ok-whole.ensures.played told in
     never_tape _ w.played.items (recorded (coming c.in_ok-capture.capture (g.F.Files.left c.open_capture.new.files 2))) _ _ _ _
     (c.judge_capture.ensures.judges told w.played.items
-    (whole_played c.args.limit (g.F.Files.holds c.load_config.new.files) c.in_ok-config.config c.args.names.now.tape.now c.in_ok-whole.whole.version c.in_ok-whole.whole.desk c.ended.result (g.F.Files.left c.open_capture.new.files 1) w c.in-One.is c.ended.ensures.stands)) four
+    (whole_played c.ended.result (g.F.Files.left c.open_capture.new.files 1) w c.in-One.is c.ended.ensures.stands)) four
 
 pub returns-in-One-clause-unwritten : goal.returns-in-One-clause-unwritten
 returns-in-One-clause-unwritten g c = λ told six none. (c.judge_capture.ensures.unwritten c.ended.ensures.ahead six).0
 
 pub returns-clause-enforces : goal.returns-clause-enforces
 returns-clause-enforces g c = λ told.
+    let words = c.args.names.now in
     let w = c.in_ok-whole.ensures.played told in
     let holds = (c.in_ok-capture.ensures.others told).names ∙ c.in_ok-whole.ensures.holds told in
-    answers_so c.args.limit (g.F.Files.holds c.args.files.now) (g.F.Files.holds c.load_config.new.files) (g.F.Files.holds c.play_whole.new.files) c.args.names.now.config.now c.args.names.now.tape.now c.args.names.now.capture.now _ c.in_ok-whole.whole.version c.in_ok-whole.whole.desk _ _ _ _
+    let still : g.F.Files.left c.begin.new.files 2 ≡ g.F.Files.left c.open_capture.new.files 2 = (c.in_ok-player-in-Two.ensures.others told).others 2 (λ same. absurd cc) in
+    answers_so c.args.limit (g.F.Files.holds c.args.files.now) (g.F.Files.holds c.play_whole.new.files) words.config.now words.tape.now words.capture.now _ _ _ _
     (c.in_ok-config.ensures.reaches told) (c.in_ok-config.ensures.holds told) (c.in_ok-whole.ensures.holds told) w
-    (answers_opened c.in_ok-config.config w.played.items (capture_stage c.args.limit (g.F.Files.holds c.play_whole.new.files) c.args.names.now.capture.now)
-    (recorded (coming c.in_ok-capture.capture (g.F.Files.left c.open_capture.new.files 2))) _ _ _ _ _ (c.in_ok-capture.ensures.opened told)
-    (subst (λ (config : Config). AnswersAt config w.played.items (Found (recorded (coming c.in_ok-capture.capture (g.F.Files.left c.open_capture.new.files 2))))
-    (Rose (g.F.Files.faults c.begin.new.files) (g.F.Files.faults c.judge_capture-in-Two.new.files) ⊎ Rose (g.S.Sink.faults c.args.sink.now) (g.S.Sink.faults c.judge_capture-in-Two.new.sink)) (g.S.Sink.written c.args.sink.now) (g.S.Sink.written c.judge_capture-in-Two.new.sink) (answered c.judge_capture-in-Two.result))
-    c.in_ok-player-in-Two.ensures.config
-    (subst (λ (octets : List ℕ). AnswersAt c.in_ok-player-in-Two.player.desk.config w.played.items (Found (recorded (coming c.in_ok-capture.capture octets)))
-    (Rose (g.F.Files.faults c.begin.new.files) (g.F.Files.faults c.judge_capture-in-Two.new.files) ⊎ Rose (g.S.Sink.faults c.args.sink.now) (g.S.Sink.faults c.judge_capture-in-Two.new.sink)) (g.S.Sink.written c.args.sink.now) (g.S.Sink.written c.judge_capture-in-Two.new.sink) (answered c.judge_capture-in-Two.result))
-    ((c.in_ok-player-in-Two.ensures.others told).others 2 (λ same. absurd cc))
+    (answers_opened (c.in_ok-capture.ensures.opened told ∙ ap (λ (octets : List ℕ). Found (recorded (coming c.in_ok-capture.capture octets))) (sym still)) c.in_ok-player-in-Two.ensures.config
     (c.judge_capture-in-Two.ensures.judges told w.played.items
-    (c.in_ok-player-in-Two.ensures.begun told w.played.items
-    (subst (λ (names : Names). tape_stage c.in_ok-config.config c.args.limit names c.args.names.now.tape.now ≡ Found w.played.items) (sym holds) w.played.found)
-    (is_second c.args.limit (g.F.Files.holds c.open_capture.new.files) (g.F.Files.holds c.load_config.new.files) c.in_ok-config.config c.args.names.now.tape.now c.in_ok-whole.whole.version c.in_ok-whole.whole.desk (sym holds) w c.in-Two.is)))))
+    (c.in_ok-player-in-Two.ensures.begun told w.played.items (found_in (sym holds) w) (is_second (sym holds) w c.in-Two.is)))
     (either_rose _ _ _ _ (le_trans (le_trans (le_trans c.in_ok-config.ensures.later c.in_ok-whole.ensures.later) c.in_ok-capture.ensures.later) c.in_ok-player-in-Two.ensures.later)))
 
 pub returns-clause-unwritten : goal.returns-clause-unwritten
 returns-clause-unwritten g c = λ told six none.
-    absurd (none (is_second c.args.limit (g.F.Files.holds c.args.files.now) (g.F.Files.holds c.load_config.new.files) c.in_ok-config.config c.args.names.now.tape.now c.in_ok-whole.whole.version c.in_ok-whole.whole.desk
-    (c.in_ok-config.ensures.holds told) (c.in_ok-whole.ensures.played told) c.in-Two.is))
+    absurd (none (is_second (c.in_ok-config.ensures.holds told) (c.in_ok-whole.ensures.played told) c.in-Two.is))
 
 pub returns-clause-still : goal.returns-clause-still
 returns-clause-still g c = λ told four.
@@ -98,8 +93,7 @@ returns-clause-still g c = λ told four.
     never_tape _ w.played.items (recorded (coming c.in_ok-capture.capture (g.F.Files.left c.begin.new.files 2))) _ _ _ _
     (c.judge_capture-in-Two.ensures.judges told w.played.items
     (c.in_ok-player-in-Two.ensures.begun told w.played.items
-    (subst (λ (names : Names). tape_stage c.in_ok-config.config c.args.limit names c.args.names.now.tape.now ≡ Found w.played.items) (sym holds) w.played.found)
-    (is_second c.args.limit (g.F.Files.holds c.open_capture.new.files) (g.F.Files.holds c.load_config.new.files) c.in_ok-config.config c.args.names.now.tape.now c.in_ok-whole.whole.version c.in_ok-whole.whole.desk (sym holds) w c.in-Two.is))) four
+    (found_in (sym holds) w) (is_second (sym holds) w c.in-Two.is))) four
 
 pub returns-in_err-config-clause-wanting : goal.returns-in_err-config-clause-wanting
 returns-in_err-config-clause-wanting g c = λ told six. inl ((c.in_err-config.ensures.others told).others 2 (λ same. absurd cc), Grew-refl (g.S.Sink.written c.args.sink.now))
@@ -114,42 +108,40 @@ returns-in_err-capture-clause-wanting g c = λ told six.
 
 pub returns-in-One-clause-wanting : goal.returns-in-One-clause-wanting
 returns-in-One-clause-wanting g c = λ told six.
+    let words = c.args.names.now in
+    let stage = capture_stage c.args.limit (g.F.Files.holds c.play_whole.new.files) words.capture.now in
     let w = c.in_ok-whole.ensures.played told in
-    let same : g.F.Files.left c.judge_capture.new.files 2 ≡ g.F.Files.left c.open_capture.new.files 2 = ap (λ f. g.F.Files.left f 2) (c.judge_capture.ensures.unwritten c.ended.ensures.ahead six).1 in
-    inr (unfinished_so c.args.limit (g.F.Files.holds c.args.files.now) (g.F.Files.holds c.load_config.new.files) (g.F.Files.holds c.play_whole.new.files) c.args.names.now.config.now c.args.names.now.tape.now c.args.names.now.capture.now _ c.in_ok-config.config c.in_ok-whole.whole.version c.in_ok-whole.whole.desk _ _ c.in_ok-capture.capture
+    let kept = c.judge_capture.ensures.unwritten c.ended.ensures.ahead six in
+    let same : g.F.Files.left c.judge_capture.new.files 2 ≡ g.F.Files.left c.open_capture.new.files 2 =
+    ap (λ f. g.F.Files.left f 2) kept.1 in
+    inr (unfinished_so c.args.limit (g.F.Files.holds c.args.files.now) (g.F.Files.holds c.play_whole.new.files) words.config.now words.tape.now words.capture.now _ _ _ c.in_ok-capture.capture
     (c.in_ok-config.ensures.reaches told) (c.in_ok-config.ensures.holds told) (c.in_ok-whole.ensures.holds told) w
-    (wrote_none c.in_ok-config.config w.played.items (packets_of (capture_stage c.args.limit (g.F.Files.holds c.play_whole.new.files) c.args.names.now.capture.now)) (coming c.in_ok-capture.capture (g.F.Files.left c.judge_capture.new.files 2)).0 (g.S.Sink.written c.args.sink.now) _
-    (all_to_come (capture_stage c.args.limit (g.F.Files.holds c.play_whole.new.files) c.args.names.now.capture.now) c.in_ok-capture.capture _ _ (c.in_ok-capture.ensures.opened told) same)
-    (subst (λ s. Grew (g.S.Sink.written c.args.sink.now) (g.S.Sink.written s) []) (sym (c.judge_capture.ensures.unwritten c.ended.ensures.ahead six).0) (Grew-refl (g.S.Sink.written c.args.sink.now))))
+    (wrote_none _ _ _ _ _ _ (all_to_come stage c.in_ok-capture.capture _ _ (c.in_ok-capture.ensures.opened told) same)
+    (subst (λ s. Grew (g.S.Sink.written c.args.sink.now) (g.S.Sink.written s) []) (sym kept.0) (Grew-refl (g.S.Sink.written c.args.sink.now))))
     (λ first. refl))
 
 pub returns-in_err-player-in-Two-clause-wanting : goal.returns-in_err-player-in-Two-clause-wanting
 returns-in_err-player-in-Two-clause-wanting g c = λ told six.
+    let words = c.args.names.now in
+    let stage = capture_stage c.args.limit (g.F.Files.holds c.play_whole.new.files) words.capture.now in
     let w = c.in_ok-whole.ensures.played told in
     let same : g.F.Files.left c.begin.new.files 2 ≡ g.F.Files.left c.open_capture.new.files 2 = (c.in_err-player-in-Two.ensures.others told).others 2 (λ same. absurd cc) in
-    inr (unfinished_so c.args.limit (g.F.Files.holds c.args.files.now) (g.F.Files.holds c.load_config.new.files) (g.F.Files.holds c.play_whole.new.files) c.args.names.now.config.now c.args.names.now.tape.now c.args.names.now.capture.now _ c.in_ok-config.config c.in_ok-whole.whole.version c.in_ok-whole.whole.desk _ _ c.in_ok-capture.capture
+    inr (unfinished_so c.args.limit (g.F.Files.holds c.args.files.now) (g.F.Files.holds c.play_whole.new.files) words.config.now words.tape.now words.capture.now _ _ _ c.in_ok-capture.capture
     (c.in_ok-config.ensures.reaches told) (c.in_ok-config.ensures.holds told) (c.in_ok-whole.ensures.holds told) w
-    (wrote_none c.in_ok-config.config w.played.items (packets_of (capture_stage c.args.limit (g.F.Files.holds c.play_whole.new.files) c.args.names.now.capture.now)) (coming c.in_ok-capture.capture (g.F.Files.left c.begin.new.files 2)).0 (g.S.Sink.written c.args.sink.now) _
-    (all_to_come (capture_stage c.args.limit (g.F.Files.holds c.play_whole.new.files) c.args.names.now.capture.now) c.in_ok-capture.capture _ _ (c.in_ok-capture.ensures.opened told) same)
+    (wrote_none _ _ _ _ _ _ (all_to_come stage c.in_ok-capture.capture _ _ (c.in_ok-capture.ensures.opened told) same)
     (Grew-refl (g.S.Sink.written c.args.sink.now)))
     (λ first. refl))
 
 pub returns-clause-wanting : goal.returns-clause-wanting
 returns-clause-wanting g c = λ told six.
+    let words = c.args.names.now in
+    let stage = capture_stage c.args.limit (g.F.Files.holds c.play_whole.new.files) words.capture.now in
     let w = c.in_ok-whole.ensures.played told in
     let holds = (c.in_ok-capture.ensures.others told).names ∙ c.in_ok-whole.ensures.holds told in
     let still : g.F.Files.left c.begin.new.files 2 ≡ g.F.Files.left c.open_capture.new.files 2 = (c.in_ok-player-in-Two.ensures.others told).others 2 (λ same. absurd cc) in
-    inr (unfinished_so c.args.limit (g.F.Files.holds c.args.files.now) (g.F.Files.holds c.load_config.new.files) (g.F.Files.holds c.play_whole.new.files) c.args.names.now.config.now c.args.names.now.tape.now c.args.names.now.capture.now _ c.in_ok-config.config c.in_ok-whole.whole.version c.in_ok-whole.whole.desk _ _ c.judge_capture-in-Two.new.capture
+    inr (unfinished_so c.args.limit (g.F.Files.holds c.args.files.now) (g.F.Files.holds c.play_whole.new.files) words.config.now words.tape.now words.capture.now _ _ _ c.judge_capture-in-Two.new.capture
     (c.in_ok-config.ensures.reaches told) (c.in_ok-config.ensures.holds told) (c.in_ok-whole.ensures.holds told) w
-    (subst (λ (packets : List Captured). WroteJudged c.in_ok-config.config w.played.items packets (coming c.judge_capture-in-Two.new.capture (g.F.Files.left c.judge_capture-in-Two.new.files 2)).0
-    (g.S.Sink.written c.args.sink.now) (g.S.Sink.written c.judge_capture-in-Two.new.sink))
-    (sym (all_to_come (capture_stage c.args.limit (g.F.Files.holds c.play_whole.new.files) c.args.names.now.capture.now) c.in_ok-capture.capture _ _ (c.in_ok-capture.ensures.opened told) still))
-    (subst (λ (config : Config). WroteJudged config w.played.items (coming c.in_ok-capture.capture (g.F.Files.left c.begin.new.files 2)).0
-    (coming c.judge_capture-in-Two.new.capture (g.F.Files.left c.judge_capture-in-Two.new.files 2)).0 (g.S.Sink.written c.args.sink.now) (g.S.Sink.written c.judge_capture-in-Two.new.sink))
-    c.in_ok-player-in-Two.ensures.config
+    (wrote_under c.in_ok-player-in-Two.ensures.config (sym (all_to_come stage c.in_ok-capture.capture _ _ (c.in_ok-capture.ensures.opened told) still))
     (c.judge_capture-in-Two.ensures.wanting told six w.played.items
-    (c.in_ok-player-in-Two.ensures.begun told w.played.items
-    (subst (λ (names : Names). tape_stage c.in_ok-config.config c.args.limit names c.args.names.now.tape.now ≡ Found w.played.items) (sym holds) w.played.found)
-    (is_second c.args.limit (g.F.Files.holds c.open_capture.new.files) (g.F.Files.holds c.load_config.new.files) c.in_ok-config.config c.args.names.now.tape.now c.in_ok-whole.whole.version c.in_ok-whole.whole.desk (sym holds) w c.in-Two.is)))))
-    (λ first. absurd (first (is_second c.args.limit (g.F.Files.holds c.args.files.now) (g.F.Files.holds c.load_config.new.files) c.in_ok-config.config c.args.names.now.tape.now c.in_ok-whole.whole.version c.in_ok-whole.whole.desk
-    (c.in_ok-config.ensures.holds told) w c.in-Two.is))))
+    (c.in_ok-player-in-Two.ensures.begun told w.played.items (found_in (sym holds) w) (is_second (sym holds) w c.in-Two.is))))
+    (λ first. absurd (first (is_second (c.in_ok-config.ensures.holds told) w c.in-Two.is))))

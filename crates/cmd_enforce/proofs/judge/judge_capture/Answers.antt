@@ -10,7 +10,7 @@ use Rattle.fs_compile.specs.Matcher.{admitted_in}
 use Rattle.fs_compile.specs.Mending.{AreOwn}
 use Rattle.cmd_enforce.specs.Judge.{IsOfPackets}
 use Rattle.cmd_enforce.specs.Moments.{AnswersAt, WroteJudged}
-use Rattle.cmd_enforce.proofs.Enforcing.{memory_of_packets, moments_finished, none_by_memory, outside_of_packets, rose_wider, wrote_judged, wrote_none}
+use Rattle.cmd_enforce.proofs.Enforcing.{answers_under, memory_of_packets, moments_finished, none_by_memory, outside_of_packets, rose_wider, wrote_judged, wrote_none, wrote_under}
 use Rattle.cmd_enforce.proofs.AtMoments.{stands_at}
 use Rattle.cmd_enforce.proofs.judge.judge_capture.Goals as goal
 
@@ -25,14 +25,11 @@ returns-in_err-following-clause-judges g c = λ told items s. none_by_memory c.f
 
 pub returns-clause-judges : goal.returns-clause-judges
 returns-clause-judges g c = λ told items s.
-    subst (λ (p : PlayerState). AnswersAt p.desk.config items (Found (recorded (coming c.args.capture.now (g.F.Files.left c.args.files.now 2))))
-    (Rose (g.F.Files.faults c.args.files.now) (g.F.Files.faults c.judge_packets-judged.new.files) ⊎ Rose (g.S.Sink.faults c.args.sink.now) (g.S.Sink.faults c.finish.new.sink))
-    (g.S.Sink.written c.args.sink.now) (g.S.Sink.written c.finish.new.sink) (answered c.finish.result)) c.in_ok-following.ensures.same
-    (moments_finished _ items (coming c.args.capture.now (g.F.Files.left c.args.files.now 2)) _ _ _ _ _ _ _ _ _ c.judge_packets-judged.result c.finish.result c.in_ok-lines.ensures.0
-    (c.judge_packets-judged.ensures.judged told items
+    let begun = c.judge_packets-judged.ensures.judged told items
     (subst (λ (p : PlayerState). Stands items c.args.capture.now.moment p (g.F.Files.left c.args.files.now 1)) (sym c.in_ok-following.ensures.same)
-    (stands_at items 0 c.args.capture.now.moment c.args.player (g.F.Files.left c.args.files.now) 1 (sym c.requires.moment) refl s)))
-    c.finish.ensures.finishes
+    (stands_at items 0 c.args.capture.now.moment c.args.player (g.F.Files.left c.args.files.now) 1 1 (sym c.requires.moment) refl s)) in
+    answers_under (ap (λ (p : PlayerState). p.desk.config) c.in_ok-following.ensures.same)
+    (moments_finished _ _ _ _ _ c.judge_packets-judged.result c.finish.result c.in_ok-lines.ensures.0 begun c.finish.ensures.finishes _
     (rose_wider _ _ _ _ _ _ (le_refl (g.F.Files.faults c.args.files.now)) c.finish.ensures.later)
     (λ r. inr (rose_earlier _ _ _ c.judge_packets-judged.ensures.sink_later r)))
 
@@ -57,13 +54,11 @@ returns-in_err-following-clause-wanting g c = λ told six items s. wrote_none _ 
 
 pub returns-clause-wanting : goal.returns-clause-wanting
 returns-clause-wanting g c = λ told six items s.
-    subst (λ (p : PlayerState). WroteJudged p.desk.config items (coming c.args.capture.now (g.F.Files.left c.args.files.now 2)).0
-    (coming c.judge_packets-judged.new.capture (g.F.Files.left c.judge_packets-judged.new.files 2)).0 (g.S.Sink.written c.args.sink.now) (g.S.Sink.written c.finish.new.sink)) c.in_ok-following.ensures.same
-    (wrote_judged _ items (coming c.args.capture.now (g.F.Files.left c.args.files.now 2)) _ _ _ _ _ _ _ _ c.judge_packets-judged.result c.finish.result c.in_ok-lines.ensures.0
-    (c.judge_packets-judged.ensures.judged told items
+    let begun = c.judge_packets-judged.ensures.judged told items
     (subst (λ (p : PlayerState). Stands items c.args.capture.now.moment p (g.F.Files.left c.args.files.now 1)) (sym c.in_ok-following.ensures.same)
-    (stands_at items 0 c.args.capture.now.moment c.args.player (g.F.Files.left c.args.files.now) 1 (sym c.requires.moment) refl s)))
-    c.finish.ensures.finishes six)
+    (stands_at items 0 c.args.capture.now.moment c.args.player (g.F.Files.left c.args.files.now) 1 1 (sym c.requires.moment) refl s)) in
+    wrote_under (ap (λ (p : PlayerState). p.desk.config) c.in_ok-following.ensures.same) refl
+    (wrote_judged _ _ _ _ _ c.judge_packets-judged.result c.finish.result c.in_ok-lines.ensures.0 begun c.finish.ensures.finishes six)
 
 pub judge_packets-judged-requires-clause-own : goal.judge_packets-judged-requires-clause-own
 judge_packets-judged-requires-clause-own g c = subst (λ (p : PlayerState). AreOwn (admitted_in p.desk.held)) (sym c.in_ok-following.ensures.same) c.in_ok-following.ensures.own

@@ -1,16 +1,10 @@
-use Rattle.std.proofs.Common.{◌≡◌, ◌≤◌, ◌-◌, ℕ, length, List, Option, IfSome, IsTrue, None}
+use Rattle.std.proofs.Common.{◌≡◌, ◌≤◌, ◌-◌, length, IsTrue, None}
 use Rattle.std.specs.Prelude.{vec_capacity}
-use Rattle.fs_capture.specs.Capture.{Captured, coming}
-use Rattle.fs_capture.specs.declared.fault.CaptureReason.{CaptureReason}
-use Rattle.fs_desk.specs.Leaves.{Leaves}
+use Rattle.fs_capture.specs.Capture.{coming}
 use Rattle.fs_pcap.specs.Head.{longest_record}
-use Rattle.fs_input.specs.Records.{End}
-use Rattle.fs_tape.specs.Tape.{Timed}
-use Rattle.cmd_stages.specs.Play.{until}
 use Rattle.cmd_stages.specs.Player.{Stands}
-use Rattle.cmd_enforce.specs.Judge.{in_hand}
 use Rattle.cmd_enforce.specs.Matcher.{HasRoom}
-use Rattle.cmd_enforce.specs.Moments.{Follows}
+use Rattle.cmd_enforce.specs.Moments.{Follows, Judging, reached}
 use Rattle.cmd_enforce.proofs.judge.judge_on.Given as goal
 
 abbrev pub invariant-packets : goal.invariant-packets
@@ -25,12 +19,11 @@ invariant-packets g l = record {
   walks : HasRoom l.rules (vec_capacity l.walked);
   files_later : g.F.Files.faults l.fn.files ≤ g.F.Files.faults l.files;
   sink_later : g.S.Sink.faults l.fn.sink ≤ g.S.Sink.faults l.sink;
-  judging : IsTrue g.F.Files.tells → (items : List Timed) → (all : List Captured × End CaptureReason) → (first : Option (List ℕ)) → (pending : List ℕ)
-      → Stands items l.fn.capture.moment l.following.player (g.F.Files.left l.fn.files 1)
-      → IfSome l.fn.hand (λ caught. Leaves l.following.player.desk.config (until caught.moment items) l.following.player.desk.held)
-      → Follows l.following.player.desk.config items all (in_hand l.fn.hand l.fn.buffer (coming l.fn.capture (g.F.Files.left l.fn.files 2))) first (g.S.Sink.written l.fn.sink) pending l.fn.lines.output l.fn.lines.number
-      → Stands items l.capture.moment l.following.player (g.F.Files.left l.files 1)
-      × Follows l.following.player.desk.config items all (coming l.capture (g.F.Files.left l.files 2)) first (g.S.Sink.written l.sink) pending l.lines.output l.lines.number;
+  judged : IsTrue g.F.Files.tells → (work : Judging) → Stands work.items l.fn.capture.moment l.following.player (g.F.Files.left l.fn.files 1)
+      → Follows work (reached (coming l.fn.capture (g.F.Files.left l.fn.files 2)) (g.S.Sink.written l.fn.sink) l.fn.lines.output l.fn.lines.number)
+      → work.config ≡ l.following.player.desk.config
+      → Stands work.items l.capture.moment l.following.player (g.F.Files.left l.files 1)
+      × Follows work (reached (coming l.capture (g.F.Files.left l.files 2)) (g.S.Sink.written l.sink) l.lines.output l.lines.number);
 }
 
 abbrev pub decreases-packets : goal.decreases-packets

@@ -1,15 +1,14 @@
-use Rattle.std.proofs.Common.{◌≡◌, ◌≤◌, ◌<◌, ◌-◌, length, List, IfSome, IsTrue, None}
+use Rattle.std.proofs.Common.{◌≡◌, ◌≤◌, ◌-◌, length, List, IsTrue, None}
 use Rattle.fs_capture.specs.Capture.{coming}
-use Rattle.fs_desk.specs.Leaves.{Leaves}
 use Rattle.fs_pcap.specs.Head.{longest_record}
 use Rattle.fs_tape.specs.Tape.{Timed}
-use Rattle.cmd_stages.specs.Play.{IsOpenOrDone, until}
+use Rattle.cmd_stages.specs.Play.{IsOpenOrDone}
 use Rattle.cmd_stages.specs.Player.{Stands}
 use Rattle.fs_compile.specs.Matcher.{admitted_in}
 use Rattle.fs_compile.specs.Mending.{AreOwn}
-use Rattle.cmd_enforce.specs.Judge.{admitted_rules, in_hand}
+use Rattle.cmd_enforce.specs.Judge.{admitted_rules}
 use Rattle.cmd_enforce.specs.Matcher.{StandsFor}
-use Rattle.cmd_enforce.specs.Moments.{Follows}
+use Rattle.cmd_enforce.specs.Moments.{Follows, judging, reached}
 use Rattle.cmd_enforce.proofs.judge.judge_packets.Given as goal
 
 abbrev pub invariant-changes : goal.invariant-changes
@@ -20,7 +19,6 @@ invariant-changes g l = record {
   limit : l.capture.limit ≡ l.fn.capture.limit;
   within : l.capture.place ≤ l.capture.limit;
   number : l.lines.number ≤ l.capture.place;
-  hand : IfSome l.hand (λ caught. (caught.taken ≤ longest_record) × (l.lines.number < l.capture.place));
   tape : l.following.player.tape.slot ≡ 1;
   ends : IsOpenOrDone l.following.player.tape l.following.player.ahead;
   config : l.following.player.desk.config ≡ l.fn.following.player.desk.config;
@@ -30,11 +28,10 @@ invariant-changes g l = record {
       → (l.sink ≡ l.fn.sink) × (l.files ≡ l.fn.files) × (l.capture ≡ l.fn.capture) × (l.lines.output ≡ l.fn.lines.output) × (l.following.player.ahead ≡ None);
   files_later : g.F.Files.faults l.fn.files ≤ g.F.Files.faults l.files;
   sink_later : g.S.Sink.faults l.fn.sink ≤ g.S.Sink.faults l.sink;
-  judging : IsTrue g.F.Files.tells → (items : List Timed) → Stands items l.fn.capture.moment l.fn.following.player (g.F.Files.left l.fn.files 1)
+  judged : IsTrue g.F.Files.tells → (items : List Timed) → Stands items l.fn.capture.moment l.fn.following.player (g.F.Files.left l.fn.files 1)
       → Stands items l.capture.moment l.following.player (g.F.Files.left l.files 1)
-      × IfSome l.hand (λ caught. Leaves l.following.player.desk.config (until caught.moment items) l.following.player.desk.held)
-      × Follows l.following.player.desk.config items (coming l.fn.capture (g.F.Files.left l.fn.files 2)) (in_hand l.hand l.buffer (coming l.capture (g.F.Files.left l.files 2)))
-      (g.S.Sink.written l.fn.sink) (g.S.Sink.written l.sink) l.fn.lines.output l.lines.output l.lines.number;
+      × Follows (judging l.fn.following.player.desk.config items (coming l.fn.capture (g.F.Files.left l.fn.files 2)) (g.S.Sink.written l.fn.sink) l.fn.lines.output)
+      (reached (coming l.capture (g.F.Files.left l.files 2)) (g.S.Sink.written l.sink) l.lines.output l.lines.number);
 }
 
 abbrev pub decreases-changes : goal.decreases-changes

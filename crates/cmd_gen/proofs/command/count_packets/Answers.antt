@@ -5,7 +5,6 @@ use Rattle.cmd_gen.specs.Command.{is_dropped, is_passed}
 use Rattle.cmd_gen.specs.Draws.{behind_pair, behind_pairs, pair_behind}
 use Rattle.cmd_gen.specs.Generator.{packet_of}
 use Rattle.cmd_enforce.specs.Matcher.{HasRoom}
-use Rattle.cmd_gen.specs.Tally.{drops, passes}
 use Rattle.cmd_gen.proofs.Generating.{counted_after, counted_none, few_more, packet_is, packet_state}
 use Rattle.cmd_gen.proofs.command.count_packets.Goals as goal
 
@@ -20,16 +19,20 @@ packets-init c = record {
 }
 
 pub packets-preserved : goal.packets-preserved
-packets-preserved c = record {
-  draws = c.pair.ensures.state ∙ ap behind_pair c.packets.invariant.draws ∙ sym (packet_state c.args.count c.packets.counter);
-  room = subst (HasRoom c.args.rules.now) (sym c.fate_of.ensures.room) c.packets.invariant.room;
-  passed = λ admitted stands. counted_after (λ octets. is_passed admitted (view_of Raw octets)) c.args.count c.packets.counter c.packets.tally.passed c.with-tally.result.passed c.packet-packet.result (passes c.fate_of.result)
-      drawn (c.packets.invariant.passed admitted stands) c.with-tally.ensures.passed (c.fate_of.ensures.passes admitted stands);
-  dropped = λ admitted stands. counted_after (λ octets. is_dropped admitted (view_of Raw octets)) c.args.count c.packets.counter c.packets.tally.dropped c.with-tally.result.dropped c.packet-packet.result (drops c.fate_of.result)
-      drawn (c.packets.invariant.dropped admitted stands) c.with-tally.ensures.dropped (c.fate_of.ensures.drops admitted stands);
-  passed_few = few_more (passes c.fate_of.result) c.packets.tally.passed c.with-tally.result.passed c.packets.counter c.packets.invariant.passed_few c.with-tally.ensures.passed;
-  dropped_few = few_more (drops c.fate_of.result) c.packets.tally.dropped c.with-tally.result.dropped c.packets.counter c.packets.invariant.dropped_few c.with-tally.ensures.dropped;
-}
+packets-preserved c =
+    let some = c.requires.sound in
+    record {
+      draws = c.pair.ensures.state ∙ ap behind_pair c.packets.invariant.draws ∙ sym (packet_state c.args.count c.packets.counter);
+      room = subst (HasRoom c.args.rules.now) (sym c.with-tally.ensures.room) c.packets.invariant.room;
+      passed = λ admitted stands.
+          counted_after (λ octets. is_passed admitted (view_of Raw octets)) c.args.count c.packets.counter _ _ _ drawn
+          (c.packets.invariant.passed admitted stands) (c.with-tally.ensures.passed admitted stands);
+      dropped = λ admitted stands.
+          counted_after (λ octets. is_dropped admitted (view_of Raw octets)) c.args.count c.packets.counter _ _ _ drawn
+          (c.packets.invariant.dropped admitted stands) (c.with-tally.ensures.dropped admitted stands);
+      passed_few = few_more _ _ _ _ c.packets.invariant.passed_few (c.with-tally.ensures.passed some.0 some.1);
+      dropped_few = few_more _ _ _ _ c.packets.invariant.dropped_few (c.with-tally.ensures.dropped some.0 some.1);
+    }
   where
     drawn : c.packet-packet.result ≡ packet_of (pair_behind c.args.count (c.args.count + c.packets.counter))
     drawn = packet_is c.pair.result c.packet-packet.result c.packets.draws c.args.count c.packets.counter c.packet-packet.ensures c.pair.ensures.pair c.packets.invariant.draws
