@@ -276,8 +276,8 @@ ANSWERS = [
             "fs_pcapng Ng::next gives.advances gives.again gives.unread",
             "fs_mrt Dump::begin never",
             "fs_mrt Dump::next gives.advances gives.again gives.unread",
-            "fs_capture Capture::begin begins",
-            "fs_capture Capture::next gives.advances gives.again gives.unread",
+            "cmd_enforce Capture::begin begins",
+            "cmd_enforce Capture::next gives.advances gives.again gives.unread",
         ],
     ),
     (
@@ -291,8 +291,8 @@ ANSWERS = [
             "fs_pcapng Ng::begin read",
             "fs_pcapng Ng::next gives.read",
             "fs_mrt Dump::next gives.read",
-            "fs_capture Capture::begin read",
-            "fs_capture Capture::next gives.read",
+            "cmd_enforce Capture::begin read",
+            "cmd_enforce Capture::next gives.read",
         ],
     ),
     (
@@ -303,7 +303,7 @@ ANSWERS = [
             "fs_pcap Capture::next gives.advances gives.ended",
             "fs_pcapng Ng::next gives.advances gives.ended",
             "fs_mrt Dump::next gives.advances gives.ended",
-            "fs_capture Capture::next gives.advances gives.ended",
+            "cmd_enforce Capture::next gives.advances gives.ended",
         ],
     ),
     (
@@ -511,7 +511,7 @@ STANDS = [
             "fs_pcap Capture::next gives.again gives.stays gives.unread",
             "fs_pcapng Ng::next gives.again gives.stays gives.unread",
             "fs_mrt Dump::next gives.again gives.stays gives.unread",
-            "fs_capture Capture::next gives.again gives.stays gives.unread",
+            "cmd_enforce Capture::next gives.again gives.stays gives.unread",
         ],
     ),
     (

@@ -13,9 +13,9 @@ use Rattle.fs_desk.specs.Laws.{LeaveSame}
 use Rattle.fs_desk.specs.Leaves.{Leaves}
 use Rattle.fs_line.specs.Output.{Goes, Stops}
 use Rattle.fs_line.proofs.Outputs.{goes_none, goes_then, goes_stops, goes_as, stops_as}
-use Rattle.fs_capture.specs.Capture.{Captured, CaptureState, Recorded, coming, packet_from}
-use Rattle.fs_capture.specs.declared.caught.Caught.{Caught}
-use Rattle.fs_capture.specs.declared.fault.CaptureReason.{CaptureReason}
+use Rattle.cmd_enforce.specs.Capture.{Captured, CaptureState, Recorded, coming, packet_from}
+use Rattle.cmd_enforce.specs.declared.caught.Caught.{Caught}
+use Rattle.cmd_enforce.specs.declared.fault.CaptureReason.{CaptureReason}
 use Rattle.fs_rules.specs.Table.{Held}
 use Rattle.fs_tape.specs.Tape.{Item, Timed}
 use Rattle.cmd_stages.specs.declared.refusal.Refusal.{Refusal}

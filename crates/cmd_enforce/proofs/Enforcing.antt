@@ -8,8 +8,8 @@ use Rattle.fs_input.specs.Records.{End, done, limited, bad}
 use Rattle.fs_base.specs.Outside.{Rose}
 use Rattle.fs_line.specs.Output.{Goes, Partly}
 use Rattle.fs_line.proofs.Outputs.{partly_flushed, goes_flush, goes_flush_part}
-use Rattle.fs_capture.specs.Capture.{Captured, Recorded, recorded, CaptureState, coming}
-use Rattle.fs_capture.specs.declared.fault.CaptureReason.{CaptureReason}
+use Rattle.cmd_enforce.specs.Capture.{Captured, Recorded, recorded, CaptureState, coming}
+use Rattle.cmd_enforce.specs.declared.fault.CaptureReason.{CaptureReason}
 use Rattle.fs_rules.specs.Table.{Held}
 use Rattle.fs_tape.specs.Tape.{Timed}
 use Rattle.cmd_stages.specs.Refusal.{Stage, Found, Stopped, answered, status_of, and_then, HasReason}

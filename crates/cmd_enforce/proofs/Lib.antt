@@ -1,3 +1,4 @@
+pub mod Opened
 pub mod AtMoments
 pub mod Enforcing
 pub mod Walking

@@ -3,7 +3,7 @@ use Rattle.std.specs.Prelude.{ℕ, List, [], ◌≡◌, ◌⊎◌, Option, Some}
 use Rattle.fs_input.specs.Records.{done}
 use Rattle.fs_base.specs.declared.config.Config.{Config}
 use Rattle.fs_tape.specs.Tape.{Timed}
-use Rattle.fs_capture.specs.Capture.{CaptureState, Recorded, capture_of, coming}
+use Rattle.cmd_enforce.specs.Capture.{CaptureState, Recorded, capture_of, coming}
 use Rattle.cmd_stages.specs.Refusal.{Stage, Found, Stopped, and_then, status_of, EndsEarly}
 use Rattle.cmd_stages.specs.Load.{HoldsConfig, Names}
 use Rattle.fs_base.specs.Happened.{Happened, FilesFailed, SinkFailed, Wrote}

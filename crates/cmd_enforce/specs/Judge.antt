@@ -8,12 +8,12 @@ use Rattle.fs_packet.specs.Reading.{view_of}
 use Rattle.fs_base.specs.declared.link.Link.{Link}
 use Rattle.fs_packet.specs.declared.fields.Unread.{Unread}
 use Rattle.fs_packet.specs.declared.fields.Unread.TheVariants.{Foreign}
-use Rattle.fs_capture.specs.Capture.{Captured, Recorded, capture_of, packet_from}
+use Rattle.cmd_enforce.specs.Capture.{Captured, Recorded, capture_of, packet_from}
 use Rattle.fs_rules.specs.Table.{admitted, Held}
 use Rattle.fs_rules.specs.Lent.{Listed, listed}
 use Rattle.fs_rules.specs.Walk.{walk_of}
 use Rattle.fs_input.specs.Records.{End, done, limited, bad}
-use Rattle.fs_capture.specs.declared.fault.CaptureReason.{CaptureReason}
+use Rattle.cmd_enforce.specs.declared.fault.CaptureReason.{CaptureReason}
 use Rattle.cmd_stages.specs.Refusal.{Stage, Found, and_then, or_stop, status_of}
 use Rattle.cmd_stages.specs.declared.refusal.Refusal.TheVariants.{Outside, Capture as CaptureRefusal, Limit as AtLimit}
 use Rattle.cmd_stages.specs.Load.{Names}
@@ -21,7 +21,7 @@ use Rattle.cmd_stages.specs.Play.{EndsBy, IsOpenOrDone}
 use Rattle.cmd_stages.specs.Player.{PlayerState}
 use Rattle.cmd_stages.specs.declared.refusal.Refusal.{Refusal}
 use Rattle.fs_base.specs.Parts.{with_part}
-use Rattle.fs_capture.specs.declared.caught.Caught.{Caught}
+use Rattle.cmd_enforce.specs.declared.caught.Caught.{Caught}
 use Rattle.fs_input.specs.declared.fault.Fault.{Fault}
 use Rattle.fs_input.specs.declared.fault.Fault.TheVariants.{Read, Limit, Bad}
 

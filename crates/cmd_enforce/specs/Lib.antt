@@ -1,3 +1,6 @@
+pub mod Answer
+pub mod Capture
+pub mod Reader
 pub mod Judge
 pub mod Matcher
 pub mod Moments

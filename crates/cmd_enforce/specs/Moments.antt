@@ -4,8 +4,8 @@ use Rattle.std.specs.List.{AllByRecursion}
 use Rattle.fs_base.specs.Sink.{Grew}
 use Rattle.fs_base.specs.declared.config.Config.{Config}
 use Rattle.fs_input.specs.Records.{End, done}
-use Rattle.fs_capture.specs.Capture.{Captured, CaptureState, Recorded, coming, recorded}
-use Rattle.fs_capture.specs.declared.fault.CaptureReason.{CaptureReason}
+use Rattle.cmd_enforce.specs.Capture.{Captured, CaptureState, Recorded, coming, recorded}
+use Rattle.cmd_enforce.specs.declared.fault.CaptureReason.{CaptureReason}
 use Rattle.fs_rules.specs.Table.{Held}
 use Rattle.fs_tape.specs.Tape.{Timed}
 use Rattle.fs_desk.specs.Laws.{LeaveSame}

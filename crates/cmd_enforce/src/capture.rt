@@ -1,97 +1,154 @@
-//! The capture that is judged: opened, and read packet by packet.
-
-ghost use Rattle.std.specs.Prelude.{◌≡◌, ◌≤◌, ◌<◌, ◌^◌, None, IsTrue, IfOk, IfSome, MatchResult, length};
+//! A capture, read packet by packet.
+ghost use Rattle.std.specs.Prelude.{◌≡◌, ◌≤◌, ◌++◌, None, IsTrue, IfOk, length};
+ghost use Rattle.std.specs.Result.{IsErrOf};
 ghost use Rattle.fs_base.specs.Files.{OnlySlot};
 ghost use Rattle.fs_base.specs.Outside.{Rose};
-ghost use Rattle.fs_capture.specs.Capture.{coming};
+ghost use Rattle.fs_base.specs.Parts.{with_part};
 ghost use Rattle.fs_pcap.specs.Head.{longest_record};
-ghost use Rattle.cmd_enforce.specs.Judge.{capture_stage, Ceases, IsAtPacket, refused_by, Yields};
-ghost use Rattle.cmd_enforce.specs.Moments.{EndsBefore, IsCaptureOpened};
-ghost use Rattle.cmd_stages.specs.Refusal.{answered, status_of};
+ghost use Rattle.fs_input.specs.NextRecord.{GivesNext};
+ghost use Rattle.fs_input.specs.declared.fault.Fault.TheVariants.{Read};
+ghost use Rattle.fs_input.specs.Opening.{Begins};
+ghost use Rattle.cmd_enforce.specs.Capture.{Grows, Times, captured_by, captured_in, coming, is_section, packet_from};
 
-use cmd_stages::{CAPTURE_SLOT, Refusal, open};
-use fs_base::{Counted, Files};
-use fs_capture::{Capture, CaptureFault, Caught};
+use crate::answer::{block_answer, block_fault, record_answer, record_fault};
+use crate::caught::Caught;
+use crate::fault::CaptureFault;
+use crate::reader::Reader;
+use byteorder::{BigEndian, ByteOrder};
+use fs_base::{Counted, Files, fill};
+use fs_pcap::Capture as Pcap;
+use fs_pcapng::{Ng, SECTION_HEADER};
+use std::marker::Model;
 
-/// Opens the capture, up to its first packet.
-///
-/// # Errors
-///
-/// `Outside` where the file isn't there, or the files failed; `Capture` where its front has a fault; `Limit` where the
-/// limit is reached within it.
-pub(crate) fn open_capture<F: Files>(
-    files: &mut F,
-    name: &str,
-    limit: u64,
-) -> Result<Capture, Refusal>
+/// A capture of either format that is read from a slot.
+#[derive(Drop)]
+pub struct Capture {
+    reader: Reader,
+}
+
+impl Model for Capture {
+    ghost use Rattle.cmd_enforce.specs.Capture.{CaptureState};
+
+    ghost Value = { CaptureState };
+
+    ghost use Rattle.cmd_enforce.specs.Reader.{state_of};
+
+    ghost view = { λ capture. state_of capture.reader };
+}
+
+impl Capture {
+    /// Begins to read, up to the limit. A capture whose first four octets are `0a 0d 0d 0a` is of the pcapng format,
+    /// every other of the libpcap format; these octets are put back, and read again by what reads the format. Octets of
+    /// its front may have been put back before.
+    ///
+    /// # Errors
+    ///
+    /// The first field of the header, or of the first block, that stands whole and is wrong; `Cut` where the capture
+    /// ends within it; `Limit` where the limit is reached in it; `Read` where the files failed.
+    pub fn begin<F: Files>(mut counted: Counted, files: &mut F) -> Result<Capture, CaptureFault>
+        requires start { counted.taken ≡ 0 }
+        ensures later { F.faults files.old ≤ F.faults files.new }
+        ensures read { IsErrOf result Read → Rose (F.faults files.old) (F.faults files.new) }
+        ensures slot { IfOk result (λ capture. capture.slot ≡ counted.slot) }
+        ensures limit { IfOk result (λ capture. capture.limit ≡ counted.limit) }
+        ensures end { IfOk result (λ capture. capture.end ≡ None) }
+        ensures moment { IfOk result (λ capture. capture.moment ≡ 0) }
+        ensures within { IfOk result (λ capture. capture.place ≤ capture.limit) }
+
+        ensures begins { IsTrue F.tells
+            → Begins
+            (captured_in counted.limit (counted.back ++ F.left files.old counted.slot))
+            (λ capture. coming capture (F.left files.new counted.slot))
+            result }
+        ensures opened { F.opened files.new ≡ F.opened files.old }
+        ensures others { OnlySlot F.tells F.left F.holds counted.slot files.old files.new }
+    {
+        let mut front = [0u8; 4];
+        let Ok(count) = fill(&mut counted, files, &mut front) else {
+            return Err(CaptureFault::Read);
+        };
+        let front = &front[..count];
+        counted.put_back(front);
+        open(is_section(front), counted, files)
+    }
+
+    /// Reads the next packet. Its octets stand at the front of `into`. `None`: the capture ended behind its last
+    /// record or block. After that, and after any fault, each call answers the same again and reads nothing.
+    ///
+    /// # Errors
+    ///
+    /// The first field that stands whole and is wrong, as soon as it is read; `Cut` where the capture ends within a
+    /// record or block; `Limit` where the limit is reached and no field before it is wrong; `Read` where the files
+    /// failed.
+    #[inline(always)]
+    pub fn next<F: Files>(
+        &mut self,
+        files: &mut F,
+        into: &mut [u8],
+    ) -> Result<Option<Caught>, CaptureFault>
+        requires { longest_record ≤ length into.old }
+        ensures gives { GivesNext F.Files files.old files.new self.old.slot self.new.slot self.old.limit self.new.limit
+            self.old.end self.new.end (self.new ≡ self.old)
+            (coming self.old (F.left files.old self.old.slot))
+            (λ caught. with_part
+            (packet_from caught into.new)
+            (coming self.new (F.left files.new self.old.slot)))
+            result }
+        ensures grows { self.old.end ≡ None → Grows self.old.place self.new.place self.new.limit result }
+        ensures times { self.old.end ≡ None → Times self.old.moment self.new.moment result }
+    {
+        match &mut self.reader {
+            Reader::Records(capture) => {
+                let found = capture.next(files, into);
+                record_answer(capture.link_type(), found)
+            }
+            Reader::Blocks(capture) => {
+                let found = capture.next(files, into);
+                block_answer(capture.link(), found)
+            }
+        }
+    }
+}
+
+/// Whether the first octets of a capture, up to four, are the type of a section header.
+fn is_section(front: &[u8]) -> bool
+    ensures { result ≡ is_section front.now }
+{
+    front.len() == 4 && BigEndian::read_u32(front) == SECTION_HEADER
+}
+
+/// Begins to read a capture of the pcapng format or of the libpcap format. Octets of its front were put back.
+fn open<F: Files>(section: bool, counted: Counted, files: &mut F) -> Result<Capture, CaptureFault>
+    requires start { counted.taken ≡ 0 }
     ensures later { F.faults files.old ≤ F.faults files.new }
-    ensures possible { IsAtPacket (answered result) }
-    ensures slot { IfOk result (λ capture. capture.slot ≡ 2) }
+    ensures read { IsErrOf result Read → Rose (F.faults files.old) (F.faults files.new) }
+    ensures slot { IfOk result (λ capture. capture.slot ≡ counted.slot) }
+    ensures limit { IfOk result (λ capture. capture.limit ≡ counted.limit) }
     ensures end { IfOk result (λ capture. capture.end ≡ None) }
     ensures moment { IfOk result (λ capture. capture.moment ≡ 0) }
-    ensures within { IfOk result (λ capture. (capture.place ≤ capture.limit) × (capture.limit < 2 ^ 64)) }
+    ensures within { IfOk result (λ capture. capture.place ≤ capture.limit) }
 
-    ensures opened { IsTrue F.tells
-        → MatchResult result
-        (IsCaptureOpened limit (F.holds files.old) name.now (F.left files.new 2))
-        (EndsBefore (capture_stage limit (F.holds files.old) name.now)
-        (Rose (F.faults files.old) (F.faults files.new))) }
-    ensures others { OnlySlot F.tells F.left F.holds 2 files.old files.new }
+    ensures begins { IsTrue F.tells
+        → Begins
+        (captured_by section counted.limit (counted.back ++ F.left files.old counted.slot))
+        (λ capture. coming capture (F.left files.new counted.slot))
+        result }
+    ensures opened { F.opened files.new ≡ F.opened files.old }
+    ensures others { OnlySlot F.tells F.left F.holds counted.slot files.old files.new }
 {
-    open(files, CAPTURE_SLOT, name)?;
-    match Capture::begin(Counted::new(CAPTURE_SLOT, limit), files) {
-        Ok(capture) => Ok(capture),
-        Err(fault) => Err(refusal_of(fault)),
-    }
-}
-
-/// The capture's next packet, or None at its end. Its octets stand at the front of the buffer.
-///
-/// # Errors
-///
-/// `Outside` where the files failed, `Capture` where the capture has a fault, `Limit` where the limit is reached.
-#[inline(always)]
-pub(crate) fn next_packet<F: Files>(
-    files: &mut F,
-    capture: &mut Capture,
-    buffer: &mut [u8],
-) -> Result<Option<Caught>, Refusal>
-    requires room { longest_record ≤ length buffer.old }
-    requires open { capture.old.end ≡ None }
-    ensures possible { IsAtPacket (answered result) }
-    ensures later { F.faults files.old ≤ F.faults files.new }
-    ensures slot { capture.new.slot ≡ capture.old.slot }
-    ensures limit { capture.new.limit ≡ capture.old.limit }
-    ensures times { IfOk result (λ found. IfSome found (λ caught.
-        (capture.new.moment ≡ caught.moment) × (capture.old.moment ≤ capture.new.moment))) }
-    ensures open { IfOk result (λ found. IfSome found (λ _. capture.new.end ≡ None)) }
-    ensures grows { IfOk result (λ found. IfSome found (λ caught.
-        (capture.old.place < capture.new.place)
-        × (capture.new.place ≤ capture.new.limit)
-        × (caught.taken ≤ longest_record))) }
-
-    ensures gives { IsTrue F.tells
-        → MatchResult result
-        (Yields (coming capture.old (F.left files.old capture.old.slot))
-        (coming capture.new (F.left files.new capture.old.slot)) buffer.new)
-        (Ceases (coming capture.old (F.left files.old capture.old.slot))
-        (Rose (F.faults files.old) (F.faults files.new))) }
-    ensures others { OnlySlot F.tells F.left F.holds capture.old.slot files.old files.new }
-{
-    match capture.next(files, buffer) {
-        Ok(found) => Ok(found),
-        Err(fault) => Err(refusal_of(fault)),
-    }
-}
-
-/// The refusal for a capture's fault.
-fn refusal_of(fault: CaptureFault) -> Refusal
-    ensures result { result ≡ refused_by fault }
-    ensures possible { IsAtPacket (status_of result) }
-{
-    match fault {
-        CaptureFault::Read => Refusal::Outside,
-        CaptureFault::Limit => Refusal::Limit,
-        CaptureFault::Bad { .. } => Refusal::Capture,
+    if section {
+        match Ng::begin(counted, files) {
+            Ok(capture) => Ok(Capture {
+                reader: Reader::Blocks(capture),
+            }),
+            Err(fault) => Err(block_fault(fault)),
+        }
+    } else {
+        match Pcap::begin(counted, files) {
+            Ok(capture) => Ok(Capture {
+                reader: Reader::Records(capture),
+            }),
+            Err(fault) => Err(record_fault(fault)),
+        }
     }
 }

@@ -3,7 +3,7 @@
 ghost use Rattle.std.specs.Prelude.{◌≡◌, ◌≤◌, ◌<◌, ◌^◌, ◌⊎◌, List, None, true, IsTrue, IfOk, IfSome, MatchResult, length};
 ghost use Rattle.std.specs.Option.{is_some};
 ghost use Rattle.fs_base.specs.Outside.{Rose};
-ghost use Rattle.fs_capture.specs.Capture.{coming, recorded};
+ghost use Rattle.cmd_enforce.specs.Capture.{coming, recorded};
 ghost use Rattle.fs_pcap.specs.Head.{longest_record};
 ghost use Rattle.cmd_stages.specs.Play.{IsOpenOrDone};
 ghost use Rattle.cmd_stages.specs.Player.{Stands, due_item};
@@ -15,12 +15,13 @@ ghost use Rattle.fs_compile.specs.Mending.{AreOwn};
 ghost use Rattle.cmd_enforce.specs.Matcher.{StandsFor};
 ghost use Rattle.cmd_enforce.specs.Moments.{AnswersAt, BreaksOff, Follows, Judged, Judging, WroteJudged, judging, outcome, reached};
 
-use crate::capture::next_packet;
+use crate::capture::Capture;
+use crate::caught::Caught;
 use crate::following::Following;
 use crate::lines::{Lines, judge_packet};
+use crate::packets::next_packet;
 use cmd_stages::{Player, Refusal};
 use fs_base::{Files, Sink};
-use fs_capture::{Capture, Caught};
 use fs_desk::same_routes;
 use fs_pcap::LONGEST_RECORD;
 use std::alloc::Global;

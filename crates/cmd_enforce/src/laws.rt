@@ -2,7 +2,7 @@
 
 ghost use Rattle.std.specs.Prelude.{◌≡◌, ℕ, List};
 ghost use Rattle.fs_base.specs.declared.config.Config.{Config};
-ghost use Rattle.fs_capture.specs.Capture.{Recorded};
+ghost use Rattle.cmd_enforce.specs.Capture.{Recorded};
 ghost use Rattle.fs_rules.specs.Table.{Held};
 ghost use Rattle.fs_tape.specs.Tape.{Timed};
 ghost use Rattle.cmd_enforce.specs.Judge.{output_of};

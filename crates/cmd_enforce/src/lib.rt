@@ -1,14 +1,22 @@
 //! The command `enforce`: the packets of a capture under the rules that a tape holds at their moments.
 #![tactic(auto)]
 
+mod answer;
 mod capture;
+mod caught;
 mod command;
+mod fault;
 mod following;
 mod judge;
 mod laws;
 mod lines;
+mod packets;
+mod reader;
 mod walk;
 
+pub use capture::Capture;
+pub use caught::Caught;
 pub use command::{InputNames, enforce};
+pub use fault::{CaptureFault, CaptureReason};
 pub use laws::same_lines;
 pub use walk::drops;

@@ -13,8 +13,8 @@ use Rattle.fs_base.proofs.Grew.{Grew-refl}
 use Rattle.fs_input.specs.Records.{End, done, limited, bad}
 use Rattle.fs_base.specs.declared.config.Config.{Config}
 use Rattle.fs_conf.specs.Config.{config_of}
-use Rattle.fs_capture.specs.Capture.{Captured, Recorded, capture_of}
-use Rattle.fs_capture.specs.declared.fault.CaptureReason.{CaptureReason}
+use Rattle.cmd_enforce.specs.Capture.{Captured, Recorded, capture_of}
+use Rattle.cmd_enforce.specs.declared.fault.CaptureReason.{CaptureReason}
 use Rattle.fs_rules.specs.Table.{Held}
 use Rattle.fs_tape.specs.Tape.{Timed, tape_of}
 use Rattle.fs_tape.specs.Laws.{tape_text}

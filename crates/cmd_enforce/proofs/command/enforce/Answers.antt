@@ -5,7 +5,7 @@ use Rattle.cmd_enforce.specs.Moments.{AnswersAt, WroteJudged, packets_of}
 use Rattle.fs_base.specs.Outside.{Rose}
 use Rattle.fs_base.proofs.Grew.{Grew-refl}
 use Rattle.fs_base.specs.Sink.{Grew}
-use Rattle.fs_capture.specs.Capture.{Captured, coming, recorded}
+use Rattle.cmd_enforce.specs.Capture.{Captured, coming, recorded}
 use Rattle.cmd_stages.specs.Load.{Names}
 use Rattle.cmd_stages.specs.Play.{tape_stage}
 use Rattle.cmd_stages.specs.Refusal.{Found, answered}

@@ -1,7 +1,7 @@
 use Rattle.std.proofs.Common.{◌≡◌, ◌⊎◌, ◌∙◌, inr, ap, le_refl, refl, subst, sym}
 use Rattle.fs_base.specs.Outside.{Rose}
 use Rattle.fs_base.proofs.Grew.{Grew-refl}
-use Rattle.fs_capture.specs.Capture.{coming, recorded}
+use Rattle.cmd_enforce.specs.Capture.{coming, recorded}
 use Rattle.cmd_stages.specs.Player.{PlayerState, Stands}
 use Rattle.cmd_stages.specs.Refusal.{Found, answered}
 use Rattle.cmd_stages.specs.declared.refusal.Refusal.TheVariants.{Memory}

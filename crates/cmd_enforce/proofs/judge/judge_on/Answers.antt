@@ -1,6 +1,6 @@
 use Rattle.std.proofs.Common.{◌≡◌, ◌∙◌, inl, ℕ, refl, subst, sym, arith, rules, []}
 use Rattle.fs_input.specs.Records.{done}
-use Rattle.fs_capture.specs.Capture.{coming, packet_from}
+use Rattle.cmd_enforce.specs.Capture.{coming, packet_from}
 use Rattle.fs_base.specs.Outside.{Rose}
 use Rattle.cmd_stages.specs.Play.{until}
 use Rattle.cmd_stages.specs.Player.{Stands}

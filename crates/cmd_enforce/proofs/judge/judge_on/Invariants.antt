@@ -1,6 +1,6 @@
 use Rattle.std.proofs.Common.{◌≡◌, ◌≤◌, ◌-◌, length, IsTrue, None}
 use Rattle.std.specs.Prelude.{vec_capacity}
-use Rattle.fs_capture.specs.Capture.{coming}
+use Rattle.cmd_enforce.specs.Capture.{coming}
 use Rattle.fs_pcap.specs.Head.{longest_record}
 use Rattle.cmd_stages.specs.Player.{Stands}
 use Rattle.cmd_enforce.specs.Matcher.{HasRoom}

@@ -1,6 +1,6 @@
 use Rattle.std.proofs.Common.{◌≡◌, ◌∙◌, ◌∷◌, inl, inr, ap, refl, sym, arith, rules, le_trans}
 use Rattle.fs_base.specs.Parts.{with_part}
-use Rattle.fs_capture.specs.Capture.{coming, packet_from}
+use Rattle.cmd_enforce.specs.Capture.{coming, packet_from}
 use Rattle.cmd_stages.specs.Play.{until}
 use Rattle.cmd_stages.specs.Refusal.{status_of}
 use Rattle.cmd_stages.proofs.Stages.{answered_err, match_err, rose_earlier}

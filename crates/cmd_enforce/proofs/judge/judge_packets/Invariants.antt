@@ -1,5 +1,5 @@
 use Rattle.std.proofs.Common.{◌≡◌, ◌≤◌, ◌-◌, length, List, IsTrue, None}
-use Rattle.fs_capture.specs.Capture.{coming}
+use Rattle.cmd_enforce.specs.Capture.{coming}
 use Rattle.fs_pcap.specs.Head.{longest_record}
 use Rattle.fs_tape.specs.Tape.{Timed}
 use Rattle.cmd_stages.specs.Play.{IsOpenOrDone}

@@ -1,7 +1,7 @@
 //! The answers of both formats, as those of one capture.
 ghost use Rattle.std.specs.Prelude.{◌≡◌};
-ghost use Rattle.fs_capture.specs.Answer.{block_answer, fault_as, record_answer};
-ghost use Rattle.fs_capture.specs.declared.fault.CaptureReason.TheVariants.{Pcap, Pcapng};
+ghost use Rattle.cmd_enforce.specs.Answer.{block_answer, fault_as, record_answer};
+ghost use Rattle.cmd_enforce.specs.declared.fault.CaptureReason.TheVariants.{Pcap, Pcapng};
 
 use crate::caught::Caught;
 use crate::fault::{CaptureFault, CaptureReason};

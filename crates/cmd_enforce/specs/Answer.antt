@@ -10,9 +10,9 @@ use Rattle.fs_input.specs.declared.fault.Ended.{Ended}
 use Rattle.fs_input.specs.declared.fault.Ended.TheVariants.{Done, Stopped}
 use Rattle.fs_input.specs.declared.fault.Fault.{Fault}
 use Rattle.fs_input.specs.declared.fault.Fault.TheVariants.{Read, Limit, Bad}
-use Rattle.fs_capture.specs.declared.caught.Caught.{Caught}
-use Rattle.fs_capture.specs.declared.fault.CaptureReason.{CaptureReason}
-use Rattle.fs_capture.specs.declared.fault.CaptureReason.TheVariants.{Pcap, Pcapng}
+use Rattle.cmd_enforce.specs.declared.caught.Caught.{Caught}
+use Rattle.cmd_enforce.specs.declared.fault.CaptureReason.{CaptureReason}
+use Rattle.cmd_enforce.specs.declared.fault.CaptureReason.TheVariants.{Pcap, Pcapng}
 
 -- the same, with the reason as this capture has it
 module _ {R S : Type 0} (reason : R → S) where

@@ -14,10 +14,10 @@ use Rattle.fs_input.specs.NextRecord.{Grows as GrowsBy}
 use Rattle.fs_input.specs.Records.{End}
 use Rattle.fs_input.specs.declared.fault.Ended.{Ended}
 use Rattle.fs_input.specs.declared.fault.Fault.{Fault}
-use Rattle.fs_capture.specs.Answer.{end_as}
-use Rattle.fs_capture.specs.declared.caught.Caught.{Caught}
-use Rattle.fs_capture.specs.declared.fault.CaptureReason.{CaptureReason}
-use Rattle.fs_capture.specs.declared.fault.CaptureReason.TheVariants.{Pcap, Pcapng}
+use Rattle.cmd_enforce.specs.Answer.{end_as}
+use Rattle.cmd_enforce.specs.declared.caught.Caught.{Caught}
+use Rattle.cmd_enforce.specs.declared.fault.CaptureReason.{CaptureReason}
+use Rattle.cmd_enforce.specs.declared.fault.CaptureReason.TheVariants.{Pcap, Pcapng}
 
 -- A captured packet: the link type of its capture or interface, where it is one of the six that are read; its moment, in
 -- nanoseconds since the start of 1970, the greatest time of the packets up to and with it; and its captured octets.

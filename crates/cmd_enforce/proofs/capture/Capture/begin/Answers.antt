@@ -1,8 +1,8 @@
 use Rattle.std.proofs.Common.{rules, arith, ◌≤◌, length, sym, ap, ◌∙◌}
 use Rattle.std.proofs.lemmas.List.{length-drop, length-take}
-use Rattle.fs_capture.specs.Capture.{CaptureState, coming}
-use Rattle.fs_capture.proofs.Opened.{begins_as}
-use Rattle.fs_capture.proofs.capture.Capture.begin.Goals as goal
+use Rattle.cmd_enforce.specs.Capture.{CaptureState, coming}
+use Rattle.cmd_enforce.proofs.Opened.{begins_as}
+use Rattle.cmd_enforce.proofs.capture.Capture.begin.Goals as goal
 
 pub put_back-requires-clause-few : goal.put_back-requires-clause-few
 put_back-requires-clause-few g c =

@@ -7,8 +7,8 @@ use Rattle.fs_input.specs.Records.{End}
 use Rattle.fs_input.specs.declared.fault.Fault.{Fault}
 use Rattle.fs_input.proofs.Records.{head_filled}
 use Rattle.fs_input.specs.Opening.{Begins}
-use Rattle.fs_capture.specs.Capture.{Captured, captured_in, coming, is_section, captured_by}
-use Rattle.fs_capture.specs.declared.fault.CaptureReason.{CaptureReason}
+use Rattle.cmd_enforce.specs.Capture.{Captured, captured_in, coming, is_section, captured_by}
+use Rattle.cmd_enforce.specs.declared.fault.CaptureReason.{CaptureReason}
 
 -- what was filled and put back is what was left
 put_back_whole : (limit taken : ℕ) (left left' into : List ℕ) (count : ℕ) → Fills (window limit taken left) left left' into count

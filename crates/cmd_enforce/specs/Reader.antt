@@ -1,10 +1,10 @@
 -- What a capture shows, by its format.
 use Rattle.std.specs.Option.{option_map}
-use Rattle.fs_capture.specs.Answer.{ended_as}
-use Rattle.fs_capture.specs.Capture.{CaptureState, blocks, records}
-use Rattle.fs_capture.specs.declared.fault.CaptureReason.TheVariants.{Pcap, Pcapng}
-use Rattle.fs_capture.specs.declared.reader.Reader.{Reader}
-use Rattle.fs_capture.specs.declared.reader.Reader.TheVariants.{Records, Blocks}
+use Rattle.cmd_enforce.specs.Answer.{ended_as}
+use Rattle.cmd_enforce.specs.Capture.{CaptureState, blocks, records}
+use Rattle.cmd_enforce.specs.declared.fault.CaptureReason.TheVariants.{Pcap, Pcapng}
+use Rattle.cmd_enforce.specs.declared.reader.Reader.{Reader}
+use Rattle.cmd_enforce.specs.declared.reader.Reader.TheVariants.{Records, Blocks}
 
 abbrev pub state_of : Reader → CaptureState
 state_of (Records capture) = record {
