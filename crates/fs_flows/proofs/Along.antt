@@ -13,7 +13,7 @@ use Rattle.fs_base.proofs.Lists.{each, each_weaker, each_both, filter-append, fi
 use Rattle.fs_nlri.specs.Rule.{destination_prefix}
 use Rattle.fs_unicast.specs.Unicast.{Route}
 use Rattle.fs_flows.specs.Kept.{Kept}
-use Rattle.fs_flows.specs.Group.{mended, retested, is_related_kept}
+use Rattle.fs_flows.specs.Group.{mended, retested, is_related_kept, is_of_other}
 use Rattle.fs_flows.specs.Groups.{Entry, kept_in, IsTo, ArePlaced, AreInOrder, IsGrouped, with_group, keep_at}
 use Rattle.fs_flows.specs.Listed.{Listed, lists, is_among, StaysListed, IsAmong, IsListed, keep_along}
 use Rattle.fs_flows.proofs.Apart.{each_front, each_back}
@@ -142,16 +142,16 @@ still_one : (old now : Listed) (peer other : ℕ) (d : Option Prefix) → StaysB
 still_one old now peer other None stays n l = tt
 still_one old now peer other (Some p) stays n l = stays other p n l
 
-others_each : (old now : Listed) (peer : ℕ) (ks : List Kept) → StaysBut peer old now → AllByRecursion (IsListed old) ks → AllByRecursion (IsListed now) (filter (λ k. not (k.route.peer == peer)) ks)
+others_each : (old now : Listed) (peer : ℕ) (ks : List Kept) → StaysBut peer old now → AllByRecursion (IsListed old) ks → AllByRecursion (IsListed now) (filter (is_of_other peer) ks)
 others_each old now peer [] stays h = tt
 others_each old now peer (k ∷ ks) stays h = at (k.route.peer == peer) refl (others_each old now peer ks stays h.1) where
-  at : (b : Bool) → (k.route.peer == peer) ≡ b → AllByRecursion (IsListed now) (filter (λ k. not (k.route.peer == peer)) ks)
-      → AllByRecursion (IsListed now) (cond (not b) (k ∷ filter (λ k. not (k.route.peer == peer)) ks) (filter (λ k. not (k.route.peer == peer)) ks))
+  at : (b : Bool) → (k.route.peer == peer) ≡ b → AllByRecursion (IsListed now) (filter (is_of_other peer) ks)
+      → AllByRecursion (IsListed now) (cond (not b) (k ∷ filter (is_of_other peer) ks) (filter (is_of_other peer) ks))
   at true n ih = ih
   at false n ih = (still_one old now peer k.route.peer (destination_prefix k.route.rule) stays n h.0, ih)
 
 -- of the other peers
-pub listed_others : (old now : Listed) (peer : ℕ) (kept new : List Kept) → StaysBut peer old now → new ≡ filter (λ k. not (k.route.peer == peer)) kept → AllByRecursion (IsListed old) kept → AllByRecursion (IsListed now) new
+pub listed_others : (old now : Listed) (peer : ℕ) (kept new : List Kept) → StaysBut peer old now → new ≡ filter (is_of_other peer) kept → AllByRecursion (IsListed old) kept → AllByRecursion (IsListed now) new
 listed_others old now peer kept new stays e h = subst (AllByRecursion (IsListed now)) (sym e) (others_each old now peer kept stays h)
 
 -- the destinations of the peer's routes are those that are handed out

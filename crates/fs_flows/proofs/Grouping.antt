@@ -1,5 +1,5 @@
 -- That routes stay grouped.
-use Rattle.std.proofs.Common.{ℕ, ◌≡◌, ◌+◌, ◌≤◌, ◌<◌, ◌^◌, refl, sym, ap, subst, ◌∙◌, Bool, not, List, [], ◌∷◌, filter, map, length, Some, None, Ordering, Less, Equal, Greater, arith}
+use Rattle.std.proofs.Common.{ℕ, ◌≡◌, ◌+◌, ◌≤◌, ◌<◌, ◌^◌, refl, sym, ap, subst, ◌∙◌, Bool, List, [], ◌∷◌, filter, map, length, Some, None, Ordering, Less, Equal, Greater, arith}
 use Rattle.std.specs.List.{AllByRecursion}
 use Rattle.std.proofs.lemmas.List.{length-map}
 use Rattle.std.specs.Map.{keys_of}
@@ -15,11 +15,10 @@ use Rattle.fs_nlri.specs.Parts.{Ruled}
 use Rattle.fs_nlri.specs.Rule.{IsRule, destination_prefix}
 use Rattle.fs_validate.specs.Laws.{is_related}
 use Rattle.fs_flows.specs.Kept.{Kept}
-use Rattle.fs_flows.specs.Table.{is_key}
 use Rattle.fs_flows.specs.Changes.{Noted}
-use Rattle.fs_flows.specs.Group.{put_kept, mended, chosen}
+use Rattle.fs_flows.specs.Group.{put_kept, mended, chosen, is_other_key, HaveRules}
 use Rattle.fs_flows.specs.Groups.{Entry, kept_in, IsTo, ArePlaced, AreInOrder, IsSound, IsGrouped, put_entry, keep_at, keep_each}
-use Rattle.fs_flows.specs.Search.{Mends, MendsKept}
+use Rattle.fs_flows.specs.Search.{Mends, MendsKept, Moment}
 use Rattle.fs_flows.specs.Lending.{chosen_in}
 use Rattle.fs_flows.proofs.Puts.{put_entries, put_rest, put_placed, each_entry, length-put}
 use Rattle.fs_flows.proofs.Takes.{kept_each, placed_each, placed_at, sorted_at, parts_sorted, taken_kept, taken_rest, length-filter}
@@ -60,25 +59,25 @@ grouped_rest family k es rest new bound most h d sound g e m small = record {
   small = small;
 }
 
-pub grouped_taken : (rule : Ruled) (peer : ℕ) (p : Prefix) (es new : List Entry) (rest : List Kept) (bound : ℕ) → IsRule rule → destination_prefix rule ≡ Some p → AllByRecursion (λ k. IsRule k.route.rule) (kept_in es rest) → IsGrouped es rest bound
-    → new ≡ keep_at p (λ k. not (is_key rule peer k.route)) es → IsGrouped new rest bound
+pub grouped_taken : (rule : Ruled) (peer : ℕ) (p : Prefix) (es new : List Entry) (rest : List Kept) (bound : ℕ) → IsRule rule → destination_prefix rule ≡ Some p → HaveRules (kept_in es rest) → IsGrouped es rest bound
+    → new ≡ keep_at p (is_other_key rule peer) es → IsGrouped new rest bound
 grouped_taken rule peer p es new rest bound h d sound g e = record {
-  ordered = subst AreInOrder (sym e) (sorted_at p (λ k. not (is_key rule peer k.route)) es g.ordered);
-  placed = subst ArePlaced (sym e) (placed_at p (λ k. not (is_key rule peer k.route)) es g.placed);
+  ordered = subst AreInOrder (sym e) (sorted_at p (is_other_key rule peer) es g.ordered);
+  placed = subst ArePlaced (sym e) (placed_at p (is_other_key rule peer) es g.placed);
   bare = g.bare;
-  most = let a : length (kept_in new rest) ≡ length (filter (λ k. not (is_key rule peer k.route)) (kept_in es rest)) = ap length (ap (λ fs. kept_in fs rest) e ∙ taken_kept rule peer h p es rest d g.ordered g.placed g.bare sound) in
-      let b : length (filter (λ k. not (is_key rule peer k.route)) (kept_in es rest)) ≤ length (kept_in es rest) = length-filter (λ k. not (is_key rule peer k.route)) (kept_in es rest) in let c : length (kept_in es rest) ≤ bound = g.most in omega arith;
+  most = let a : length (kept_in new rest) ≡ length (filter (is_other_key rule peer) (kept_in es rest)) = ap length (ap (λ fs. kept_in fs rest) e ∙ taken_kept rule peer h p es rest d g.ordered g.placed g.bare sound) in
+      let b : length (filter (is_other_key rule peer) (kept_in es rest)) ≤ length (kept_in es rest) = length-filter (is_other_key rule peer) (kept_in es rest) in let c : length (kept_in es rest) ≤ bound = g.most in omega arith;
   small = g.small;
 }
 
-pub grouped_taken_rest : (rule : Ruled) (peer : ℕ) (es : List Entry) (rest new : List Kept) (bound : ℕ) → IsRule rule → destination_prefix rule ≡ None → AllByRecursion (λ k. IsRule k.route.rule) (kept_in es rest) → IsGrouped es rest bound
-    → new ≡ filter (λ k. not (is_key rule peer k.route)) rest → IsGrouped es new bound
+pub grouped_taken_rest : (rule : Ruled) (peer : ℕ) (es : List Entry) (rest new : List Kept) (bound : ℕ) → IsRule rule → destination_prefix rule ≡ None → HaveRules (kept_in es rest) → IsGrouped es rest bound
+    → new ≡ filter (is_other_key rule peer) rest → IsGrouped es new bound
 grouped_taken_rest rule peer es rest new bound h d sound g e = record {
   ordered = g.ordered;
   placed = g.placed;
-  bare = subst (AllByRecursion (IsTo None)) (sym e) (each_filtered (IsTo None) (λ k. not (is_key rule peer k.route)) rest g.bare);
-  most = let a : length (kept_in es new) ≡ length (filter (λ k. not (is_key rule peer k.route)) (kept_in es rest)) = ap length (ap (kept_in es) e ∙ taken_rest rule peer h es rest d g.placed sound) in
-      let b : length (filter (λ k. not (is_key rule peer k.route)) (kept_in es rest)) ≤ length (kept_in es rest) = length-filter (λ k. not (is_key rule peer k.route)) (kept_in es rest) in let c : length (kept_in es rest) ≤ bound = g.most in omega arith;
+  bare = subst (AllByRecursion (IsTo None)) (sym e) (each_filtered (IsTo None) (is_other_key rule peer) rest g.bare);
+  most = let a : length (kept_in es new) ≡ length (filter (is_other_key rule peer) (kept_in es rest)) = ap length (ap (kept_in es) e ∙ taken_rest rule peer h es rest d g.placed sound) in
+      let b : length (filter (is_other_key rule peer) (kept_in es rest)) ≤ length (kept_in es rest) = length-filter (is_other_key rule peer) (kept_in es rest) in let c : length (kept_in es rest) ≤ bound = g.most in omega arith;
   small = g.small;
 }
 
@@ -95,25 +94,27 @@ grouped_kept keeps es new rest left bound g ordered e f = record {
   small = g.small;
 }
 
-pub mends_kept : (unicast : List Route) (config : Config) (p : Prefix) (es new : List Entry) (rest : List Kept) (bound : ℕ) (noted more : Noted) (before after : ℕ) → IsGrouped es rest bound → Mends unicast config (is_related p) es new noted more before after
-    → MendsKept p unicast config (kept_in es rest) (kept_in new rest) noted more before after
-mends_kept unicast config p es new rest bound noted more before after g m = record {
-  kept = ap (λ fs. kept_in fs rest) m.entries ∙ mended_in unicast config p es rest g.placed g.bare;
-  stays = m.stays;
-  marked = marks_kept unicast config p es rest more g.placed g.bare m.marks;
-  later = m.later;
-  steps = omega (arith, m.steps, size_related unicast config p es rest g.placed);
-}
+module _ (unicast : List Route) (config : Config) (p : Prefix) {old new : Moment} (rest : List Kept) (bound : ℕ) (g : IsGrouped old.groups rest bound) (m : Mends unicast config (is_related p) old new) where
+  pub mends_kept : MendsKept p unicast config (kept_in old.groups rest) (kept_in new.groups rest) old.noted new.noted old.steps new.steps
+  mends_kept = record {
+    kept = ap (λ fs. kept_in fs rest) m.entries ∙ mended_in unicast config p old.groups rest g.placed g.bare;
+    stays = m.stays;
+    marked = marks_kept unicast config p old.groups rest new.noted g.placed g.bare m.marks;
+    later = m.later;
+    steps = omega (arith, m.steps, size_related unicast config p old.groups rest g.placed);
+  }
 
-pub grouped_mended : (unicast : List Route) (config : Config) (p : Prefix) (es new : List Entry) (rest : List Kept) (bound : ℕ) (noted more : Noted) (before after : ℕ) → IsGrouped es rest bound → Mends unicast config (is_related p) es new noted more before after → IsGrouped new rest bound
-grouped_mended unicast config p es new rest bound noted more before after g m = record {
-  ordered = mends_ordered unicast config (is_related p) es new noted more before after m g.ordered;
-  placed = mends_placed unicast config (is_related p) es new noted more before after m g.placed;
-  bare = g.bare;
-  most = let a : length (kept_in new rest) ≡ length (map (mended p unicast config) (kept_in es rest)) = ap length (mends_kept unicast config p es new rest bound noted more before after g m).kept in
-      let b : length (map (mended p unicast config) (kept_in es rest)) ≡ length (kept_in es rest) = length-map (kept_in es rest) (mended p unicast config) in let c : length (kept_in es rest) ≤ bound = g.most in omega arith;
-  small = g.small;
-}
+  pub grouped_mended : IsGrouped new.groups rest bound
+  grouped_mended = record {
+    ordered = mends_ordered unicast config (is_related p) m g.ordered;
+    placed = mends_placed unicast config (is_related p) m g.placed;
+    bare = g.bare;
+    most = let a : length (kept_in new.groups rest) ≡ length (map (mended p unicast config) before) = ap length mends_kept.kept in
+        let b : length (map (mended p unicast config) before) ≡ length before = length-map before (mended p unicast config) in let c : length before ≤ bound = g.most in omega arith;
+    small = g.small;
+  } where
+    before : List Kept
+    before = kept_in old.groups rest
 
 pub chosen_now : (family f : Family) (es : List Entry) (rest now : List Kept) (bound : ℕ) → IsGrouped es rest bound → kept_in es rest ≡ now → AllByRecursion (IsSound f) now → chosen_in family es rest ≡ chosen family now
 chosen_now family f es rest now bound g v sound = chosen_groups family f es rest g.ordered g.placed g.bare (subst (AllByRecursion (IsSound f)) (sym v) sound) ∙ ap (chosen family) v
