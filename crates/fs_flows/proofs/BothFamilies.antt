@@ -29,7 +29,7 @@ use Rattle.fs_flows.proofs.ChosenParts.{chosen-append}
 use Rattle.fs_flows.proofs.Changed.{any_back, any_front, each-filtered, each-put, left_back, left_front}
 use Rattle.fs_flows.proofs.Mending.{marked_families}
 use Rattle.fs_flows.proofs.Placing.{related-append}
-use Rattle.fs_flows.proofs.Puts.{put_left, put_right, sorted_front, sorted_back}
+use Rattle.fs_flows.proofs.PuttingInGroups.{put_left, put_right, sorted_front, sorted_back}
 
 before_each : (xs ys : List Kept) → AreOfFamilies xs ys → AllBefore xs ys
 before_each xs ys h = each_weaker (IsSound V4) (λ x. AllByRecursion (RuleBefore x) ys) (λ x s. each_weaker (IsSound V6) (RuleBefore x) (λ y t. families_before x y s t) ys h.second) xs h.first

@@ -16,8 +16,8 @@ use Rattle.fs_flows.specs.Group.{put_kept, AreSorted, routes_of, is_other_key}
 use Rattle.fs_flows.specs.Blocks.{flat, RuleBefore, AllBefore, AreCut, is_filled, AreFilled, IsCut, AreEachSorted, begins_by, begun, block_of, with_block, keep_blocks, cut_list, CanCut}
 use Rattle.fs_flows.proofs.Apart.{each_front, each_back, take_each, drop_each}
 use Rattle.fs_flows.proofs.Changed.{any_back, any_front, each-put, left_back, left_front, routes-put, sorted-put}
-use Rattle.fs_flows.proofs.Puts.{put_left, put_right, sorted_front, sorted_back}
-use Rattle.fs_flows.proofs.Takes.{empty, not_empty}
+use Rattle.fs_flows.proofs.PuttingInGroups.{put_left, put_right, sorted_front, sorted_back}
+use Rattle.fs_flows.proofs.TakingFromGroups.{empty, not_empty}
 
 -- Of a rule, the routes of earlier rules and those of later ones.
 abbrev pub IsAhead : Ruled → Kept → Type 0

@@ -24,7 +24,7 @@ use Rattle.fs_flows.specs.Groups.{Entry, kept_in, IsTo, ArePlaced, AreInOrder}
 use Rattle.fs_flows.specs.Search.{touched, size, Marks, Mends, MendsKept, Moment, moment}
 use Rattle.fs_flows.proofs.Apart.{each_front, each_back}
 use Rattle.fs_flows.proofs.Placing.{related-append}
-use Rattle.fs_flows.proofs.Takes.{other_keys}
+use Rattle.fs_flows.proofs.TakingFromGroups.{other_keys}
 
 -- a flag is down exactly where one fact holds, and so another
 pub told_as : {P Q : Type 0} (b : Bool) → (P → Q) → (Q → P) → (b ≡ false) ↔ P → (b ≡ false) ↔ Q

@@ -2,7 +2,7 @@ use Rattle.std.proofs.Common.{◌≡◌, true, false, sym, ◌∙◌, ap, length
 use Rattle.std.specs.BTreeMap.{is_at}
 use Rattle.std.specs.Map.{set_value, remove_entry}
 use Rattle.fs_base.specs.Prefix.{prefix_cmp}
-use Rattle.fs_flows.proofs.Takes.{taken_some, taken_all, taken_none}
+use Rattle.fs_flows.proofs.TakingFromGroups.{taken_some, taken_all, taken_none}
 use Rattle.fs_flows.proofs.groups.forget_at.Goals as goal
 use Rattle.fs_flows.specs.Group.{is_of_other}
 

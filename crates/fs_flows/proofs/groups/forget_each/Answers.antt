@@ -1,5 +1,5 @@
 use Rattle.std.proofs.Common.{rules}
-use Rattle.fs_flows.proofs.Takes.{retained}
+use Rattle.fs_flows.proofs.TakingFromGroups.{retained}
 use Rattle.fs_flows.proofs.groups.forget_each.Goals as goal
 use Rattle.fs_flows.specs.Group.{is_of_other}
 

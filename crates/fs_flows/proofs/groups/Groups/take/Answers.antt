@@ -2,23 +2,21 @@ use Rattle.std.proofs.Common.{sym, ap, subst, ◌∙◌, ◌≤◌, filter}
 use Rattle.std.specs.List.{list_any}
 use Rattle.fs_flows.specs.Table.{is_key}
 use Rattle.fs_flows.specs.Groups.{kept_in, AreNoShorter}
-use Rattle.fs_flows.proofs.Takes.{taken_kept, taken_held, taken_rest, held_rest, each_at}
+use Rattle.fs_flows.proofs.TakingFromGroups.{taken_kept, taken_held, taken_rest, held_rest, each_at}
 use Rattle.fs_flows.specs.Group.{AreSorted, routes_of, is_other_key, HaveRules}
-use Rattle.fs_flows.proofs.Puts.{sorted_groups, sorted_rest}
+use Rattle.fs_flows.proofs.PuttingInGroups.{sorted_groups, sorted_rest}
 use Rattle.fs_flows.proofs.Grouping.{grouped_taken, grouped_taken_rest}
 use Rattle.fs_flows.proofs.groups.Groups.take.Goals as goal
 
 pub invariant_of-self : goal.invariant_of-self
 invariant_of-self c = (
-  grouped_taken c.args.rule.now c.args.peer c.in-Some.destination c.self.inside.groups.entries c.take_at.new.groups.entries c.self.inside.rest c.self.inside.most c.destination_key.ensures.rule (sym c.destination_key.ensures.value ∙ c.in-Some.is)
-      (subst HaveRules (sym c.self.view_is) c.requires.rules) c.self.invariant.0 c.take_at.ensures.taken,
+  grouped_taken c.self.invariant.0 c.args.rule.now c.args.peer c.destination_key.ensures.rule (subst HaveRules (sym c.self.view_is) c.requires.rules) c.in-Some.destination (sym c.destination_key.ensures.value ∙ c.in-Some.is) c.take_at.ensures.taken,
   subst (AreNoShorter c.self.inside.shortest) (sym c.take_at.ensures.taken) (each_at (λ q. c.self.inside.shortest ≤ q.length) c.in-Some.destination (is_other_key c.args.rule.now c.args.peer) c.self.inside.groups.entries c.self.invariant.1),
 )
 
 pub invariant_of-self-in-None : goal.invariant_of-self-in-None
 invariant_of-self-in-None c = (
-  grouped_taken_rest c.args.rule.now c.args.peer c.self.inside.groups.entries c.self.inside.rest c.take.new.self c.self.inside.most c.destination_key.ensures.rule (sym c.destination_key.ensures.value ∙ c.in-None.is)
-      (subst HaveRules (sym c.self.view_is) c.requires.rules) c.self.invariant.0 c.take.ensures.taken,
+  grouped_taken_rest c.self.invariant.0 c.args.rule.now c.args.peer c.destination_key.ensures.rule (subst HaveRules (sym c.self.view_is) c.requires.rules) (sym c.destination_key.ensures.value ∙ c.in-None.is) c.take.ensures.taken,
   c.self.invariant.1,
 )
 
